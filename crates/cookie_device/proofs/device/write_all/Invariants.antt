@@ -1,0 +1,13 @@
+-- What is gone from `rest` was appended, and no call has failed.
+use Rattle.std.proofs.Common.{◌≡◌, ℕ, List, ◌++◌, length}
+use Rattle.std.specs.Io.KnownBytes.{Appends}
+use Rattle.cookie_device.proofs.device.write_all.Given as goal
+
+abbrev pub invariant-loop-rest : goal.invariant-loop-rest
+invariant-loop-rest g l =
+    (sent : List ℕ) × (l.fn.bytes ≡ sent ++ l.rest)
+    × Appends (g.W.Sink.contents l.initial.sink) (g.W.Sink.contents l.sink) sent
+    × (g.W.Sink.failed l.sink ≡ g.W.Sink.failed l.initial.sink)
+
+abbrev pub decreases-loop-rest : goal.decreases-loop-rest
+decreases-loop-rest g l = length l.rest

@@ -1,0 +1,4 @@
+pub mod Device
+pub mod Counted
+pub mod FillError
+pub mod Lines

@@ -1,0 +1,93 @@
+//! A reader or a writer of std, with the count of its failures.
+ghost use Rattle.std.specs.Prelude.{◌≡◌, ◌-◌, ◌^◌};
+ghost use Rattle.cookie_device.specs.Counted.{Tally};
+
+use crate::device::{DeviceFailed, Sink, Source};
+use std::io::{Read, Write};
+use std::marker::Model;
+
+/// A reader or a writer of std, with the count of the calls that failed.
+///
+/// Nothing is tried again, and a writer that takes no byte of some has failed.
+#[derive(Drop)]
+pub struct Counted<D> {
+    device: D,
+    failures: u64,
+    reads: u64,
+}
+
+impl<D> Model for Counted<D> {
+    ghost Value = { Tally D };
+
+    ghost view = { λ c. record { device = c.device; failures = c.failures; reads_left = c.reads } };
+}
+
+impl<D> Counted<D> {
+    /// No call has failed yet.
+    pub fn new(device: D) -> Counted<D>
+        ensures { result ≡ record { device = device; failures = 0; reads_left = 2 ^ 64 - 1 } }
+    {
+        Counted {
+            device,
+            failures: 0,
+            reads: u64::MAX,
+        }
+    }
+
+    /// The device alone.
+    pub fn into_inner(self) -> D
+        ensures { result ≡ self.device }
+    {
+        let Counted { device, .. } = self;
+        device
+    }
+}
+
+impl<R: Read> Source for Counted<R> {
+    ghost remaining = { λ s. R.remaining s.device };
+
+    ghost failed = { λ s. s.failures };
+
+    ghost reads_left = { λ s. s.reads_left };
+
+    fn read(&mut self, buf: &mut [u8]) -> Result<usize, DeviceFailed> {
+        if self.reads == 0 {
+            self.failures += 1;
+            return Err(DeviceFailed);
+        }
+        match self.device.read(buf) {
+            Ok(count) => {
+                self.reads -= 1;
+                Ok(count)
+            }
+            Err(_) => {
+                self.failures += 1;
+                Err(DeviceFailed)
+            }
+        }
+    }
+
+    fn failures(&self) -> u64 {
+        self.failures
+    }
+}
+
+impl<W: Write> Sink for Counted<W> {
+    ghost contents = { λ s. W.contents s.device };
+
+    ghost failed = { λ s. s.failures };
+
+    fn write(&mut self, buf: &[u8]) -> Result<usize, DeviceFailed> {
+        match self.device.write(buf) {
+            Ok(count) if count > 0 || buf.is_empty() => Ok(count),
+            _ => {
+                self.failures += 1;
+                Err(DeviceFailed)
+            }
+        }
+    }
+
+    fn failures(&self) -> u64 {
+        self.failures
+    }
+}

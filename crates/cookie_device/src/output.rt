@@ -1,0 +1,77 @@
+//! Text that is gathered before it goes out.
+ghost use Rattle.std.specs.Prelude.{◌≡◌, ◌+◌, ◌-◌, ◌^◌, ◌<◌, ◌≤◌, [], ◌++◌, length, IfOk, IsOk, OnOk, OnErr};
+ghost use Rattle.std.specs.Io.KnownBytes.{Appends};
+ghost use Rattle.cookie_device.specs.Device.{AppendsBeginning, CountsFailure, Sends};
+
+use crate::device::{DeviceFailed, Sink, write_all};
+use std::alloc::{AllocError, Global};
+use std::marker::Model;
+
+/// Text gathered for a sink. It takes memory once, as it is made.
+#[derive(Drop)]
+pub struct Output {
+    text: Vec<u8>,
+}
+
+impl Model for Output {
+    ghost use Rattle.std.specs.Prelude.{ℕ, ◌≤◌, List, vec_len, vec_capacity};
+
+    ghost Value = { List ℕ };
+
+    ghost view = { λ o. o.text.items };
+
+    ghost invariant = { λ o. (vec_len o.text ≤ 65_536) × (65_536 ≤ vec_capacity o.text) };
+}
+
+impl Output {
+    /// The most bytes that are gathered.
+    pub const LIMIT: usize = 65_536;
+
+    /// Nothing is gathered yet.
+    pub fn new(alloc: Global) -> Result<Output, AllocError>
+        ensures { IfOk result (λ output. output ≡ []) }
+    {
+        let text = Vec::with_capacity(alloc, Output::LIMIT)?;
+        Ok(Output { text })
+    }
+
+    /// Gathers `text`. Where it doesn't fit any more, what is gathered goes out first, and a text
+    /// that is longer than the limit goes out after it.
+    #[tactic(auto, using(crate::proofs::Appending::nothing_sent, crate::proofs::Appending::sent_beginning, crate::proofs::Appending::beginning_after, crate::proofs::Appending::longer_beginning))]
+    pub fn put<W: Sink>(&mut self, sink: &mut W, text: &[u8]) -> Result<(), DeviceFailed>
+        requires { W.failed sink.old < 2 ^ 64 - 1 }
+        ensures whole { OnOk result (Sends (W.contents sink.old) (W.contents sink.new)
+            (self.old ++ text.now) self.new) }
+        ensures part { AppendsBeginning (W.contents sink.old) (W.contents sink.new)
+            (self.old ++ text.now) }
+        ensures gathered { length self.old + length text.now ≤ Output.LIMIT
+            → IsOk result × (self.new ≡ self.old ++ text.now) }
+        ensures dropped { OnErr result (self.new ≡ []) }
+        ensures count { CountsFailure result (W.failed sink.old) (W.failed sink.new) }
+    {
+        if text.len() <= Output::LIMIT - self.text.len() {
+            self.text.extend_from_slice(text).unwrap();
+            return Ok(());
+        }
+        self.flush(sink)?;
+        if text.len() > Output::LIMIT {
+            return write_all(sink, text);
+        }
+        self.text.extend_from_slice(text).unwrap();
+        Ok(())
+    }
+
+    /// Writes what is gathered, which is none afterwards, also where a write failed.
+    pub fn flush<W: Sink>(&mut self, sink: &mut W) -> Result<(), DeviceFailed>
+        requires { W.failed sink.old < 2 ^ 64 - 1 }
+        ensures whole { OnOk result (Appends (W.contents sink.old) (W.contents sink.new) self.old) }
+        ensures part { AppendsBeginning (W.contents sink.old) (W.contents sink.new) self.old }
+        ensures empty { self.new ≡ [] }
+        ensures idle { self.old ≡ [] → IsOk result }
+        ensures count { CountsFailure result (W.failed sink.old) (W.failed sink.new) }
+    {
+        let outcome = write_all(sink, &self.text);
+        self.text.clear();
+        outcome
+    }
+}
