@@ -1,0 +1,28 @@
+-- One more attribute: it decides where it is accepted, else what the earlier ones gave stays.
+use Rattle.std.proofs.Common.{◌≡◌, ℕ, List, [], ◌∷◌, ◌++◌, map, Option, Some, None, refl, ap, ◌∙◌}
+use Rattle.std.specs.Borrow.{Bor}
+use Rattle.std.specs.List.{filter_map, cons_option}
+use Rattle.std.specs.Option.{option_or}
+use Rattle.std.proofs.lemmas.List.{map-append, append-nil}
+use Rattle.std.proofs.lemmas.List.Elements.{filter_map-append}
+use Rattle.cookie_raw.specs.Reading.{last, last_given, piece_gives}
+
+last-push : {T : Type 0} (xs : List T) (x : T) → last (xs ++ x ∷ []) ≡ Some x
+last-push [] x = refl
+last-push (y ∷ []) x = refl
+last-push (y ∷ z ∷ zs) x = last-push (z ∷ zs) x
+
+-- the last of a list that one item may go onto
+last-cons_option : {T : Type 0} (xs : List T) (o : Option T) → last (xs ++ cons_option o []) ≡ option_or o (last xs)
+last-cons_option xs None = ap last (append-nil xs)
+last-cons_option xs (Some x) = last-push xs x
+
+-- the attribute after these
+pub last_given-push : {T : Type 0} (from : List ℕ → List ℕ → Option T) (before : List (Bor (List ℕ))) (piece : Bor (List ℕ))
+    → last_given from (map (λ x. x.now) (before ++ piece ∷ []))
+    ≡ option_or (piece_gives from piece.now) (last_given from (map (λ x. x.now) before))
+last_given-push from before piece =
+    let pieces = map (λ (x : Bor (List ℕ)). x.now) before in
+    ap (last_given from) (map-append (λ (x : Bor (List ℕ)). x.now) before (piece ∷ []))
+    ∙ ap last (filter_map-append (piece_gives from) pieces (piece.now ∷ []))
+    ∙ last-cons_option (filter_map (piece_gives from) pieces) (piece_gives from piece.now)

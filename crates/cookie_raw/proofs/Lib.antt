@@ -1,0 +1,4 @@
+pub mod LastGiven
+pub mod Parts
+pub mod Pieces
+pub mod Slices

@@ -1,0 +1,105 @@
+-- What is read from a text stands in it as it is.
+use Rattle.std.proofs.Common.{◌≡◌, ℕ, Bool, true, false, List, [], ◌∷◌, length, Option, Some, None, refl, sym, ap, subst, arith, lit<}
+use Rattle.std.specs.Prelude.{◌==◌, if◌then◌else◌}
+use Rattle.std.specs.List.{AllByRecursion, before_first, after_first, filter_map, cons_option}
+use Rattle.std.specs.Option.{IfSome, option_map}
+use Rattle.std.specs.Str.{IsUtf8}
+use Rattle.std.specs.Str.Iter.{HasSubslice}
+use Rattle.std.proofs.lemmas.List.{append-nil}
+use Rattle.std.proofs.lemmas.List.Elements.{All-drop, recursion_from_All}
+use Rattle.cookie_words.specs.Texts.{pieces}
+use Rattle.cookie_words.specs.Texts.{without_dot}
+use Rattle.cookie_raw.specs.Reading.{is_equals, pair_of, attributes, name_of, value_of, last, last_given, piece_gives, domain_from, path_from}
+use Rattle.cookie_raw.proofs.Parts.{IsPart, itself_is_slice, slice_of_slice, before_is_part, after_is_part, pieces_are_parts, trim_is_part}
+
+-- the name that a part of a text gives
+name_is_slice : (text part : List ℕ) → IsPart text part → HasSubslice text (name_of part)
+name_is_slice text part h =
+    let before = before_is_part 61 part (lit< tt) h.utf8 in
+    let trimmed = trim_is_part (before_first is_equals part) before.utf8 in
+    slice_of_slice text part (name_of part) h.slice (slice_of_slice part (before_first is_equals part) (name_of part) before.slice trimmed.slice)
+
+-- the value that it gives
+value_is_slice : (text part : List ℕ) → IsPart text part → HasSubslice text (value_of part)
+value_is_slice text part h =
+    let after = after_is_part 61 part (lit< tt) h.utf8 in
+    let trimmed = trim_is_part (after_first is_equals part) after.utf8 in
+    slice_of_slice text part (value_of part) h.slice (slice_of_slice part (after_first is_equals part) (value_of part) after.slice trimmed.slice)
+
+-- the name of a cookie
+pub pair_name_is_slice : (text : List ℕ) → IsUtf8 text → HasSubslice text (name_of (pair_of text))
+pair_name_is_slice text utf8 = name_is_slice text (pair_of text) (before_is_part 59 text (lit< tt) utf8)
+
+-- the value of a cookie
+pub pair_value_is_slice : (text : List ℕ) → IsUtf8 text → HasSubslice text (value_of (pair_of text))
+pair_value_is_slice text utf8 = value_is_slice text (pair_of text) (before_is_part 59 text (lit< tt) utf8)
+
+-- where an attribute is accepted, it gives its value
+abbrev GivesValue : (List ℕ → List ℕ → Option (List ℕ)) → Type 0
+GivesValue from = (name value : List ℕ) → IfSome (from name value) (λ given. given ≡ value)
+
+-- a value that is given under a test
+given_under : (is_accepted : Bool) (value : List ℕ) → IfSome (if is_accepted then Some value else None) (λ given. given ≡ value)
+given_under true value = refl
+given_under false value = tt
+
+-- what is given, if it is that slice
+slice_where_given : (text value : List ℕ) (given : Option (List ℕ)) → HasSubslice text value → IfSome given (λ v. v ≡ value) → IfSome given (HasSubslice text)
+slice_where_given text value None h e = tt
+slice_where_given text value (Some v) h e = subst (HasSubslice text) (sym e) h
+
+-- one slice more, if there is one
+onto_slices : (text : List ℕ) (given : Option (List ℕ)) (more : List (List ℕ)) → IfSome given (HasSubslice text)
+    → AllByRecursion (HasSubslice text) more → AllByRecursion (HasSubslice text) (cons_option given more)
+onto_slices text None more h rest = rest
+onto_slices text (Some v) more h rest = (h, rest)
+
+-- what the parts of a text give
+given_are_slices : (text : List ℕ) (from : List ℕ → List ℕ → Option (List ℕ)) (parts : List (List ℕ)) → GivesValue from
+    → AllByRecursion (IsPart text) parts → AllByRecursion (HasSubslice text) (filter_map (piece_gives from) parts)
+given_are_slices text from [] gives h = tt
+given_are_slices text from (part ∷ parts) gives h =
+    onto_slices text (piece_gives from part) (filter_map (piece_gives from) parts)
+    (slice_where_given text (value_of part) (piece_gives from part) (value_is_slice text part h.0) (gives (name_of part) (value_of part)))
+    (given_are_slices text from parts gives h.1)
+
+-- the last of the slices
+last_is_slice : (text : List ℕ) (xs : List (List ℕ)) → AllByRecursion (HasSubslice text) xs → IfSome (last xs) (HasSubslice text)
+last_is_slice text [] h = tt
+last_is_slice text (x ∷ []) h = h.0
+last_is_slice text (x ∷ y ∷ ys) h = last_is_slice text (y ∷ ys) h.1
+
+-- what the last accepted attribute gives
+last_given_is_slice : (text : List ℕ) (from : List ℕ → List ℕ → Option (List ℕ)) → GivesValue from → IsUtf8 text
+    → IfSome (last_given from (attributes text)) (HasSubslice text)
+last_given_is_slice text from gives utf8 =
+    let parts = All-drop (IsPart text) 1 (pieces 59 text) (pieces_are_parts 59 (length text) text (lit< tt) (omega arith) utf8) in
+    last_is_slice text (filter_map (piece_gives from) (attributes text))
+    (given_are_slices text from (attributes text) gives (recursion_from_All (IsPart text) (attributes text) parts))
+
+-- a text with its first byte left out or not
+dropped_under : (b : ℕ) (bs : List ℕ) (is_dot : Bool) → HasSubslice (b ∷ bs) (if is_dot then bs else b ∷ bs)
+dropped_under b bs true = (b ∷ [], [], ap (λ l. b ∷ l) (sym (append-nil bs)))
+dropped_under b bs false = itself_is_slice (b ∷ bs)
+
+-- a text without one leading dot
+without_dot_is_slice : (xs : List ℕ) → HasSubslice xs (without_dot xs)
+without_dot_is_slice [] = itself_is_slice []
+without_dot_is_slice (b ∷ bs) = dropped_under b bs (b == 46)
+
+-- the same of a slice, if there is one
+slice_without_dot : (text : List ℕ) (domain : Option (List ℕ)) → IfSome domain (HasSubslice text)
+    → IfSome (option_map without_dot domain) (HasSubslice text)
+slice_without_dot text None h = tt
+slice_without_dot text (Some d) h = slice_of_slice text d (without_dot d) h (without_dot_is_slice d)
+
+-- its Domain
+pub domain_is_slice : (text : List ℕ) → IsUtf8 text
+    → IfSome (option_map without_dot (last_given domain_from (attributes text))) (HasSubslice text)
+domain_is_slice text utf8 =
+    slice_without_dot text (last_given domain_from (attributes text))
+    (last_given_is_slice text domain_from (λ name value. given_under _ value) utf8)
+
+-- its Path
+pub path_is_slice : (text : List ℕ) → IsUtf8 text → IfSome (last_given path_from (attributes text)) (HasSubslice text)
+path_is_slice text utf8 = last_given_is_slice text path_from (λ name value. given_under _ value) utf8

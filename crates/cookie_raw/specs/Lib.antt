@@ -1,0 +1,3 @@
+pub mod Raw
+pub mod Reading
+pub mod Slices

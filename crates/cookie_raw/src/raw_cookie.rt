@@ -1,0 +1,166 @@
+//! What a Set-Cookie text says, RFC 6265 5.2.
+ghost use Rattle.std.specs.Prelude.{◌≡◌, true, false, option_map, MatchOption, IfOk};
+ghost use Rattle.std.specs.Cow.{cow_str_bytes};
+ghost use Rattle.std.specs.Option.{option_copied};
+ghost use Rattle.cookie_raw.specs.Reading.{reading, pair_of, has_equals, name_of, value_of};
+ghost use Rattle.cookie_raw.specs.Slices.{HasSlices};
+
+use crate::attributes::Attributes;
+use crate::parse::RawCookieParseError;
+use cookie_words::without_dot;
+use std::alloc::{AllocError, Global};
+use std::borrow::CowStr;
+use std::marker::Model;
+
+/// A cookie as a Set-Cookie text says it, before any rule on domains, paths or dates.
+///
+/// A cookie that was parsed lends its parts from the text; [`into_owned`](Self::into_owned) copies them.
+#[derive(Drop)]
+pub struct RawCookie<'a> {
+    name: CowStr<'a>,
+    value: CowStr<'a>,
+    domain: Option<CowStr<'a>>,
+    path: Option<CowStr<'a>>,
+}
+
+impl<'a> Model for RawCookie<'a> {
+    ghost use Rattle.std.specs.Prelude.{option_map};
+    ghost use Rattle.std.specs.Cow.{cow_str_bytes};
+    ghost use Rattle.cookie_words.specs.Texts.{without_dot};
+    ghost use Rattle.cookie_raw.specs.Raw.{Raw};
+
+    ghost Value = { Raw };
+
+    ghost view = { λ c. record {
+      name = cow_str_bytes c.name;
+      value = cow_str_bytes c.value;
+      domain = option_map without_dot (option_map cow_str_bytes c.domain);
+      path = option_map cow_str_bytes c.path;
+    } };
+}
+
+// The part of a Set-Cookie text before its first `;`.
+fn pair(text: &str) -> &str
+    ensures { result.now ≡ pair_of text.now }
+{
+    match text.split_once(';') {
+        Some((pair, _)) => pair,
+        None => text,
+    }
+}
+
+// The two sides of the first `=`.
+fn name_and_value(pair: &str) -> Option<(&str, &str)>
+    ensures { MatchOption result (has_equals pair.now ≡ false)
+        (λ sides. (has_equals pair.now ≡ true) × (sides.0.now ≡ name_of pair.now) × (sides.1.now ≡ value_of pair.now)) }
+{
+    match pair.split_once('=') {
+        Some((name, value)) => Some((name.trim(), value.trim())),
+        None => None,
+    }
+}
+
+fn lent<'a>(part: Option<&'a str>) -> Option<CowStr<'a>>
+    ensures { option_map cow_str_bytes result ≡ option_copied part.entry }
+{
+    match part {
+        Some(text) => Some(CowStr::Borrowed(text)),
+        None => None,
+    }
+}
+
+fn owned(alloc: Global, part: CowStr<'_>) -> Result<CowStr<'static>, AllocError>
+    ensures { IfOk result (λ text. cow_str_bytes text ≡ cow_str_bytes part.entry) }
+{
+    Ok(CowStr::Owned(part.into_owned(alloc)?))
+}
+
+fn owned_part(
+    alloc: Global,
+    part: Option<CowStr<'_>>,
+) -> Result<Option<CowStr<'static>>, AllocError>
+    ensures { IfOk result (λ text. option_map cow_str_bytes text ≡ option_map cow_str_bytes part.entry) }
+{
+    match part {
+        Some(text) => Ok(Some(owned(alloc, text)?)),
+        None => Ok(None),
+    }
+}
+
+impl<'a> RawCookie<'a> {
+    /// Reads a Set-Cookie text, without taking memory: the parts are lent from the text.
+    ///
+    /// Quotation marks stay, and nothing is percent-decoded.
+    pub fn parse(text: &'a str) -> Result<RawCookie<'a>, RawCookieParseError>
+        ensures reading { result ≡ reading text.now }
+        ensures slices { IfOk result (HasSlices text.now) }
+    {
+        let Some((name, value)) = name_and_value(pair(text)) else {
+            return Err(RawCookieParseError::MissingPair);
+        };
+        if name.is_empty() {
+            return Err(RawCookieParseError::EmptyName);
+        }
+        let attributes = Attributes::of(text);
+        Ok(RawCookie {
+            name: CowStr::Borrowed(name),
+            value: CowStr::Borrowed(value),
+            domain: lent(attributes.domain),
+            path: lent(attributes.path),
+        })
+    }
+
+    /// The name.
+    pub fn name(&self) -> &str
+        ensures { result.now ≡ self.now.name }
+    {
+        self.name.as_str()
+    }
+
+    /// The value, with the quotation marks that it may have.
+    pub fn value(&self) -> &str
+        ensures { result.now ≡ self.now.value }
+    {
+        self.value.as_str()
+    }
+
+    /// The name and the value.
+    pub fn name_value(&self) -> (&str, &str)
+        ensures name { result.0.now ≡ self.now.name }
+        ensures value { result.1.now ≡ self.now.value }
+    {
+        (self.name.as_str(), self.value.as_str())
+    }
+
+    /// The Domain attribute, without one leading dot.
+    pub fn domain(&self) -> Option<&str>
+        ensures { option_copied result ≡ self.now.domain }
+    {
+        match &self.domain {
+            Some(domain) => Some(without_dot(domain.as_str())),
+            None => None,
+        }
+    }
+
+    /// The Path attribute as written, also where it does not begin with `/`.
+    pub fn path(&self) -> Option<&str>
+        ensures { option_copied result ≡ self.now.path }
+    {
+        match &self.path {
+            Some(path) => Some(path.as_str()),
+            None => None,
+        }
+    }
+
+    /// An equal cookie that lends nothing.
+    pub fn into_owned(self, alloc: Global) -> Result<RawCookie<'static>, AllocError>
+        ensures { IfOk result (λ owned. owned ≡ self.entry) }
+    {
+        Ok(RawCookie {
+            name: owned(alloc, self.name)?,
+            value: owned(alloc, self.value)?,
+            domain: owned_part(alloc, self.domain)?,
+            path: owned_part(alloc, self.path)?,
+        })
+    }
+}
