@@ -1,0 +1,59 @@
+-- The text that a moment is saved as, `2026-01-31T23:59:59Z`, with a fraction of the second or none.
+use Rattle.std.specs.Prelude.{ℕ, ◌+◌, ◌-◌, ◌*◌, ◌^◌, ◌==◌, Bool, ◌&&◌, List, [], ◌∷◌, length, drop, slice_index, slice_range, Option, Some, None, option_and_then, pos, bytes_eq, codes, nat_eq, if◌then◌else◌}
+use Rattle.std.specs.Char.{is_ascii_digit}
+use Rattle.std.specs.List.{list_all, starts_with, ends_with}
+use Rattle.std.specs.Str.Parse.{digits_value}
+use Rattle.cookie_words.specs.Moments.{Moment, is_within, is_day, is_time}
+
+infixl 10 ◌>>=◌
+-- a step of a `do` block, where the first `None` ends it
+abbrev ◌>>=◌ : {A B : Type 0} → Option A → (A → Option B) → Option B
+o >>= f = option_and_then f o
+
+-- the number that the digits at a place write, `count` of them
+unfoldable pub number_in : List ℕ → ℕ → ℕ → Option ℕ
+number_in text from count =
+    let part = slice_range text from (from + count) in
+    if (length part == count) && list_all is_ascii_digit part then Some (digits_value 10 part) else None
+
+-- `-`, `-`, `T`, `:`, `:` stand between the numbers
+unfoldable pub has_signs : List ℕ → Bool
+has_signs text =
+    bytes_eq
+    (slice_index text 4 ∷ slice_index text 7 ∷ slice_index text 10 ∷ slice_index text 13 ∷ slice_index text 16 ∷ [])
+    (codes "--T::")
+
+-- the nanoseconds that one to nine digits after the point write
+unfoldable pub nanoseconds_in : List ℕ → Option ℕ
+nanoseconds_in digits =
+    if is_within 1 9 (length digits) && list_all is_ascii_digit digits
+    then Some (digits_value 10 digits * 10 ^ (9 - length digits)) else None
+
+-- the nanoseconds of what follows the seconds: `Z`, or `.`, one to nine digits and `Z`
+unfoldable pub fraction_of : List ℕ → Option ℕ
+fraction_of rest =
+    if bytes_eq rest (codes "Z") then Some 0
+    else (if starts_with nat_eq rest (codes ".") && ends_with nat_eq rest (codes "Z")
+    then nanoseconds_in (slice_range rest 1 (length rest - 1)) else None)
+
+-- the moment that a text writes: RFC 3339's date-time in UTC
+unfoldable pub moment_at : List ℕ → Option Moment
+moment_at text = do
+  year ← number_in text 0 4
+  month ← number_in text 5 2
+  day ← number_in text 8 2
+  hour ← number_in text 11 2
+  minute ← number_in text 14 2
+  second ← number_in text 17 2
+  nanosecond ← fraction_of (drop 19 text)
+  if has_signs text && is_day (pos year) month day && is_time hour minute second
+      then Some (record {
+        year = pos year;
+        month = month;
+        day = day;
+        hour = hour;
+        minute = minute;
+        second = second;
+        nanosecond = nanosecond;
+      })
+      else None
