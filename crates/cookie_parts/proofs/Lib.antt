@@ -1,0 +1,4 @@
+pub mod Affixes
+pub mod Hosts
+pub mod Ipv4
+pub mod Paths

@@ -1,0 +1,23 @@
+-- The texts of the refusals and faults.
+use Rattle.std.specs.Prelude.{ℕ, List, codes}
+use Rattle.idna.specs.Errors.{errors_text}
+use Rattle.cookie_parts.specs.declared.cookie_error.CookieError.{CookieError}
+use Rattle.cookie_parts.specs.declared.cookie_error.CookieError.TheVariants.{NonHttpScheme, NonRelativeScheme, DomainMismatch, Expired, Parse, PublicSuffix, UnspecifiedDomain, Memory}
+use Rattle.cookie_parts.specs.declared.error.Error.{Error}
+use Rattle.cookie_parts.specs.declared.error.Error.TheVariants as Fault
+
+-- why a cookie was refused
+abbrev pub error_text : CookieError → List ℕ
+error_text NonHttpScheme = codes "request-uri is not an http scheme but HttpOnly attribute set"
+error_text NonRelativeScheme = codes "request-uri is not a relative scheme; cannot determine host"
+error_text DomainMismatch = codes "request-uri does not domain-match the cookie"
+error_text Expired = codes "attempted to utilize an Expired Cookie"
+error_text Parse = codes "unable to parse string as cookie::Cookie"
+error_text PublicSuffix = codes "domain-attribute value is a public suffix"
+error_text UnspecifiedDomain = codes "domain-attribute is not specified"
+error_text Memory = codes "out of memory"
+
+-- why a call that is not about one cookie failed: `idna` has words of its own
+abbrev pub fault_text : Error → List ℕ
+fault_text (Fault.Idna errors) = errors_text errors.fault
+fault_text Fault.Memory = codes "out of memory"

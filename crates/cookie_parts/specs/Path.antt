@@ -1,0 +1,62 @@
+-- The paths that a cookie is for, after RFC 6265 5.1.4.
+use Rattle.std.specs.Prelude.{◌≡◌, ℕ, ◌==◌, Bool, true, false, not, ◌&&◌, ◌||◌, List, [], ◌∷◌, ◌++◌, length, take, drop, nat_eq, codes, Option, Some, None, unwrap_or, ◌⊎◌, if◌then◌else◌}
+use Rattle.std.specs.List.{before_last, ends_with, list_any, starts_with}
+use Rattle.url.specs.Parts.{Parts, cannot_be_a_base}
+
+-- the path text, and whether a Path attribute set it
+pub record PathValue : Type 0 where
+  pub text : List ℕ
+  pub is_from_attribute : Bool
+
+-- the byte is `/`
+abbrev pub is_slash : ℕ → Bool
+is_slash b = b == 47
+
+-- the path begins with `/`
+abbrev pub is_absolute : List ℕ → Bool
+is_absolute path = starts_with nat_eq path (47 ∷ [])
+
+-- a path up to its last `/`, without it, but at least its first byte
+abbrev pub directory : List ℕ → List ℕ
+directory path =
+    if length (before_last is_slash path) == 0 then take 1 path else before_last is_slash path
+
+-- 5.1.4: the default-path of a URL
+abbrev pub default_path : Parts → List ℕ
+default_path url =
+    if cannot_be_a_base url || not (list_any is_slash url.path) then codes "/"
+    else directory url.path
+
+-- the default-path of a URL as the path of a cookie
+abbrev pub from_url : Parts → PathValue
+from_url url = record { text = default_path url; is_from_attribute = false }
+
+-- a Path attribute as the path of a cookie
+abbrev pub from_attribute : List ℕ → PathValue
+from_attribute path = record { text = path; is_from_attribute = true }
+
+-- a Path attribute as the path of a cookie, where it begins with `/`
+abbrev pub absolute_path : List ℕ → Option PathValue
+absolute_path path = if is_absolute path then Some (from_attribute path) else None
+
+-- 5.2.4: a Path attribute counts where it begins with `/`, and else the default-path does
+abbrev pub path_or_default : Option (List ℕ) → Parts → PathValue
+path_or_default None url = from_url url
+path_or_default (Some path) url = unwrap_or (absolute_path path) (from_url url)
+
+-- 5.1.4, path-match: the request path is the cookie's path and a rest, and the rest is empty,
+-- or the cookie's path ends with `/`, or the rest begins with `/`
+abbrev pub CoversPath : List ℕ → List ℕ → Type 0
+CoversPath path request = (rest : List ℕ) × (request ≡ path ++ rest)
+    × ((rest ≡ []) ⊎ (((front : List ℕ) × (path ≡ front ++ 47 ∷ [])) ⊎ ((more : List ℕ) × (rest ≡ 47 ∷ more))))
+
+-- the same as a test
+abbrev pub covers_path : List ℕ → List ℕ → Bool
+covers_path path request =
+    starts_with nat_eq request path
+    && ((length path == length request) || ends_with nat_eq path (47 ∷ [])
+    || starts_with nat_eq (drop (length path) request) (47 ∷ []))
+
+-- a cookie of this path is for the URL
+abbrev pub path_matches : List ℕ → Parts → Bool
+path_matches path url = not (cannot_be_a_base url) && covers_path path url.path

@@ -1,0 +1,20 @@
+-- What contracts see of the enums of this crate, which hold owned texts and `jiff`'s moments.
+use Rattle.std.specs.Prelude.{string_bytes}
+use Rattle.cookie_words.specs.Moments.{moment_of}
+use Rattle.cookie_parts.specs.Domain as Domain
+use Rattle.cookie_parts.specs.Domain.{DomainValue}
+use Rattle.cookie_parts.specs.Expiry as Expiry
+use Rattle.cookie_parts.specs.declared.cookie_domain.CookieDomain.{CookieDomain}
+use Rattle.cookie_parts.specs.declared.cookie_domain.CookieDomain.TheVariants.{HostOnly, Suffix, NotPresent, Empty}
+use Rattle.cookie_parts.specs.declared.cookie_expiration.CookieExpiration.{CookieExpiration}
+use Rattle.cookie_parts.specs.declared.cookie_expiration.CookieExpiration.TheVariants.{AtUtc, SessionEnd}
+
+abbrev pub domain_value : CookieDomain → DomainValue
+domain_value (HostOnly text) = Domain.HostOnly (string_bytes text)
+domain_value (Suffix text) = Domain.Suffix (string_bytes text)
+domain_value NotPresent = Domain.NotPresent
+domain_value Empty = Domain.Empty
+
+abbrev pub expiry_value : CookieExpiration → Expiry.Expiry
+expiry_value (AtUtc end) = Expiry.AtUtc (moment_of end)
+expiry_value SessionEnd = Expiry.SessionEnd

@@ -1,0 +1,140 @@
+//! The hosts that a cookie is for, RFC 6265 5.1.3 and 5.2.3.
+ghost use Rattle.std.specs.Prelude.{◌≡◌, ◌↔◌, ◌∷◌, Err, IsOk, IsTrue, None, Some, nat_eq};
+ghost use Rattle.std.specs.List.{ends_with};
+ghost use Rattle.std.specs.Option.{option_copied};
+ghost use Rattle.cookie_parts.specs.Cookie.{host_alone};
+ghost use Rattle.cookie_parts.specs.Domain as Domain;
+ghost use Rattle.cookie_parts.specs.Domain.{ascii_of, domain_from_attribute, domain_from_text, domain_matches, text_if_any, IsForHost};
+ghost use Rattle.cookie_parts.specs.Hosts.{covers, host_of};
+ghost use Rattle.cookie_parts.specs.Outcomes.{Gives, GivesAscii, GivesDomain};
+ghost use Rattle.cookie_parts.specs.Views.{domain_value};
+
+use crate::utils::is_host_name;
+use crate::{CookieError, Error, IdnaErrors};
+use cookie_raw::RawCookie;
+use cookie_words::without_dot;
+use idna::{AsciiDenyList, Errors, domain_to_ascii_cow};
+use std::alloc::Global;
+use std::borrow::CowStr;
+use url::Url;
+
+/// The hosts that a cookie is for.
+#[derive(Debug, Drop)]
+pub enum CookieDomain {
+    /// The host that the cookie came from, and no other.
+    HostOnly(String),
+    /// This host and every host below it.
+    Suffix(String),
+    /// There was no Domain attribute.
+    NotPresent,
+    /// The Domain attribute was empty.
+    Empty,
+}
+
+impl CookieDomain {
+    /// For the host of the URL alone. A URL without a host is refused `NonRelativeScheme`.
+    pub fn host_only(alloc: Global, url: &Url) -> Result<CookieDomain, CookieError>
+        ensures value { Gives domain_value result (host_alone (host_of url.now)) }
+        ensures without_host { host_of url.now ≡ None → result ≡ Err CookieError.NonRelativeScheme }
+    {
+        match url.host_str() {
+            Some(host) => match String::from_str(alloc, host) {
+                Ok(host) => Ok(CookieDomain::HostOnly(host)),
+                Err(_) => Err(CookieError::Memory),
+            },
+            None => Err(CookieError::NonRelativeScheme),
+        }
+    }
+
+    /// The domain that a text names: put to ASCII, and one leading dot dropped. Nothing, and a dot alone, is `Empty`.
+    /// `Idna` where the text is no domain name.
+    pub fn try_from_str(alloc: Global, domain: &str) -> Result<CookieDomain, Error>
+        ensures { GivesDomain result (domain_from_text domain.now) }
+    {
+        let ascii = to_ascii(alloc, domain)?;
+        let ascii = ascii.as_str();
+        if ascii.is_empty() || ascii == "." {
+            return Ok(CookieDomain::Empty);
+        }
+        suffix(alloc, without_dot(ascii))
+    }
+
+    /// The domain that the Domain attribute names. Without one it is `NotPresent`, and an empty one is `Empty`.
+    /// `Idna` where it is no domain name.
+    pub fn try_from_raw(alloc: Global, cookie: &RawCookie<'_>) -> Result<CookieDomain, Error>
+        ensures value { GivesDomain result (domain_from_attribute cookie.now.domain) }
+        ensures without_domain { cookie.now.domain ≡ None → IsOk result }
+    {
+        let Some(domain) = cookie.domain() else {
+            return Ok(CookieDomain::NotPresent);
+        };
+        let ascii = to_ascii(alloc, domain)?;
+        if ascii.as_str().is_empty() {
+            return Ok(CookieDomain::Empty);
+        }
+        suffix(alloc, ascii.as_str())
+    }
+
+    /// Whether the cookie is for the host of the URL.
+    pub fn matches(&self, url: &Url) -> bool
+        ensures value { result ≡ domain_matches (domain_value self.now) url.now }
+        ensures meaning { IsTrue result ↔ IsForHost (domain_value self.now) (host_of url.now) }
+    {
+        let Some(host) = url.host_str() else {
+            return false;
+        };
+        match self {
+            CookieDomain::HostOnly(domain) => domain.as_str() == host,
+            CookieDomain::Suffix(domain) => covers(domain.as_str(), host),
+            CookieDomain::NotPresent | CookieDomain::Empty => false,
+        }
+    }
+
+    /// The text of the domain, for the kinds that have one.
+    pub fn as_cow(&self) -> Option<&str>
+        ensures { option_copied result ≡ text_if_any (domain_value self.now) }
+    {
+        match self {
+            CookieDomain::HostOnly(domain) | CookieDomain::Suffix(domain) => Some(domain.as_str()),
+            CookieDomain::NotPresent | CookieDomain::Empty => None,
+        }
+    }
+}
+
+// In ASCII by UTS #46, without white space at its ends.
+#[tactic(auto, unfolding(crate::specs::Domain::ascii_of))]
+fn to_ascii(alloc: Global, domain: &str) -> Result<CowStr<'_>, Error>
+    ensures { GivesAscii result (ascii_of domain.now) }
+{
+    match domain_to_ascii_cow(alloc, domain.trim().as_bytes(), AsciiDenyList::EMPTY) {
+        Ok(ascii) => Ok(ascii),
+        Err(Errors::Invalid) => Err(Error::Idna(IdnaErrors::from(Errors::Invalid))),
+        Err(Errors::OutOfMemory) => Err(Error::Memory),
+    }
+}
+
+fn suffix(alloc: Global, domain: &str) -> Result<CookieDomain, Error>
+    ensures { GivesDomain result (Some (Domain.Suffix domain.now)) }
+{
+    match String::from_str(alloc, domain) {
+        Ok(domain) => Ok(CookieDomain::Suffix(domain)),
+        Err(_) => Err(Error::Memory),
+    }
+}
+
+// RFC 6265 5.1.3: the host is the domain, or a name that ends in a dot and the domain.
+fn covers(domain: &str, host: &str) -> bool
+    ensures { result ≡ covers domain.now host.now }
+{
+    host == domain || is_below(host, domain) && is_host_name(host)
+}
+
+// Whether the host ends in a dot and the domain.
+fn is_below(host: &str, domain: &str) -> bool
+    ensures { result ≡ ends_with nat_eq host.now (46 ∷ domain.now) }
+{
+    match host.strip_suffix(domain) {
+        Some(front) => front.ends_with('.'),
+        None => false,
+    }
+}

@@ -1,0 +1,58 @@
+//! Why a cookie was refused.
+ghost use Rattle.std.specs.Prelude.{◌≡◌};
+ghost use Rattle.cookie_parts.specs.Errors.{error_text};
+
+use std::fmt;
+
+/// Why a cookie was refused.
+#[derive(Clone, Copy, Debug, PartialEq, Eq)]
+pub enum CookieError {
+    /// The cookie is HttpOnly, and the scheme of the URL does not begin with `http`.
+    NonHttpScheme,
+    /// The URL has no host that the cookie could be for.
+    NonRelativeScheme,
+    /// The cookie's domain does not cover the host of the URL.
+    DomainMismatch,
+    /// The cookie has ended already, and there is none that it could end.
+    Expired,
+    /// The text is no cookie, or its domain is no domain name.
+    Parse,
+    /// The cookie's domain is a public suffix other than the host of the URL.
+    PublicSuffix,
+    /// The cookie is for no domain.
+    UnspecifiedDomain,
+    /// The allocator had no memory.
+    Memory,
+}
+
+impl CookieError {
+    /// The refusal in words.
+    pub fn text(&self) -> &'static str
+        ensures { result.now ≡ error_text self.now }
+    {
+        match self {
+            CookieError::NonHttpScheme =>
+                "request-uri is not an http scheme but HttpOnly attribute set",
+            CookieError::NonRelativeScheme =>
+                "request-uri is not a relative scheme; cannot determine host",
+            CookieError::DomainMismatch => "request-uri does not domain-match the cookie",
+            CookieError::Expired => "attempted to utilize an Expired Cookie",
+            CookieError::Parse => "unable to parse string as cookie::Cookie",
+            CookieError::PublicSuffix => "domain-attribute value is a public suffix",
+            CookieError::UnspecifiedDomain => "domain-attribute is not specified",
+            CookieError::Memory => "out of memory",
+        }
+    }
+}
+
+impl fmt::Display for CookieError {
+    ghost use Rattle.std.specs.Prelude.{Some};
+
+    ghost output = { λ e. Some (error_text e) };
+
+    fn fmt<W: fmt::Write>(&self, f: &mut fmt::Formatter<W>) -> fmt::Result {
+        f.write_str(self.text())
+    }
+}
+
+impl std::error::Error for CookieError {}

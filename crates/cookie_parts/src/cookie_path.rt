@@ -1,0 +1,109 @@
+//! The paths that a cookie is for, RFC 6265 5.1.4 and 5.2.4.
+ghost use Rattle.std.specs.Prelude.{◌≡◌, ◌==◌, ◌&&◌, ◌||◌, ◌∷◌, ◌↔◌, [], false, Some, drop, length, nat_eq, IfOk, IsTrue};
+ghost use Rattle.std.specs.List.{ends_with, starts_with};
+ghost use Rattle.url.specs.Parts.{cannot_be_a_base};
+ghost use Rattle.cookie_parts.specs.Path.{absolute_path, covers_path, default_path, directory, from_url, path_matches, path_or_default, CoversPath};
+
+use std::alloc::{AllocError, Global};
+use std::marker::Model;
+use url::Url;
+
+/// The paths that a cookie is for: this path and every path below it.
+#[derive(Debug, Drop)]
+pub struct CookiePath {
+    path: String,
+    from_attr: bool,
+}
+
+impl Model for CookiePath {
+    ghost use Rattle.std.specs.Prelude.{string_bytes};
+    ghost use Rattle.cookie_parts.specs.Path.{PathValue};
+
+    ghost Value = { PathValue };
+
+    ghost view = { λ p. record { text = string_bytes p.path; is_from_attribute = p.from_attr } };
+}
+
+impl CookiePath {
+    /// Whether the cookie is for the URL's path. No path is for a URL that cannot be a base.
+    pub fn matches(&self, url: &Url) -> bool
+        ensures value { result ≡ path_matches self.now.text url.now }
+        ensures meaning { IsTrue result
+            ↔ (cannot_be_a_base url.now ≡ false) × CoversPath self.now.text url.now.path }
+    {
+        !url.cannot_be_a_base() && covers(self.path.as_bytes(), url.path().as_bytes())
+    }
+
+    /// Whether a Path attribute set the path.
+    pub fn is_from_path_attr(&self) -> bool
+        ensures { result ≡ self.now.is_from_attribute }
+    {
+        self.from_attr
+    }
+
+    /// The default-path of the URL: its path up to the last `/`.
+    pub fn default_path(alloc: Global, url: &Url) -> Result<CookiePath, AllocError>
+        ensures { IfOk result (λ path. path ≡ from_url url.now) }
+    {
+        Ok(CookiePath {
+            path: String::from_str(alloc, default_path_of(url))?,
+            from_attr: false,
+        })
+    }
+
+    /// The path where it begins with `/`, and else the default-path of the URL.
+    pub fn new(alloc: Global, path: &str, url: &Url) -> Result<CookiePath, AllocError>
+        ensures { IfOk result (λ chosen. chosen ≡ path_or_default (Some path.now) url.now) }
+    {
+        match CookiePath::parse(alloc, path)? {
+            Some(path) => Ok(path),
+            None => CookiePath::default_path(alloc, url),
+        }
+    }
+
+    /// The path where it begins with `/`.
+    pub fn parse(alloc: Global, path: &str) -> Result<Option<CookiePath>, AllocError>
+        ensures { IfOk result (λ absolute. absolute ≡ absolute_path path.now) }
+    {
+        if !path.as_bytes().starts_with(b"/") {
+            return Ok(None);
+        }
+        Ok(Some(CookiePath {
+            path: String::from_str(alloc, path)?,
+            from_attr: true,
+        }))
+    }
+
+    /// The text of the path.
+    pub fn as_str(&self) -> &str
+        ensures { result.now ≡ self.now.text }
+    {
+        self.path.as_str()
+    }
+}
+
+// RFC 6265 5.1.4: the request path is the path and a rest, where the rest is empty, or the path ends with `/`, or the
+// rest begins with `/`.
+fn covers(path: &[u8], request: &[u8]) -> bool
+    ensures value { result ≡ covers_path path.now request.now }
+    ensures meaning { IsTrue result ↔ CoversPath path.now request.now }
+{
+    request.starts_with(path)
+        && (path.len() == request.len()
+            || path.ends_with(b"/")
+            || request[path.len()..].starts_with(b"/"))
+}
+
+// The default-path as a part of the URL.
+fn default_path_of(url: &Url) -> &str
+    ensures { result.now ≡ default_path url.now }
+{
+    if url.cannot_be_a_base() {
+        return "/";
+    }
+    match url.path().rfind('/') {
+        Some(0) => &url.path()[..1],
+        Some(at) => &url.path()[..at],
+        None => "/",
+    }
+}

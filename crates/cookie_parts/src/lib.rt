@@ -1,0 +1,23 @@
+//! The parts of a cookie, after RFC 6265 5.1.3, 5.1.4, 5.3 and 5.4: the domain, the path and the expiry, and the cookie
+//! that a Set-Cookie text makes when it comes from a URL.
+#![tactic(auto)]
+
+mod cookie;
+pub mod cookie_domain;
+mod cookie_error;
+mod cookie_expiration;
+pub mod cookie_path;
+mod error;
+mod store_action;
+pub mod utils;
+
+pub use cookie::{Cookie, CookieResult};
+pub use cookie_domain::CookieDomain;
+pub use cookie_error::CookieError;
+pub use cookie_expiration::CookieExpiration;
+pub use cookie_path::CookiePath;
+pub use error::{Error, IdnaErrors};
+pub use store_action::StoreAction;
+
+#[cfg(test)]
+mod tests;
