@@ -1,0 +1,84 @@
+-- The rows of a store: one list of cookies, each under its key.
+use Rattle.std.specs.Prelude.{ℕ, Bool, true, not, ◌&&◌, ◌||◌, List, [], ◌∷◌, bytes_eq, find, map, Option, if◌then◌else◌}
+use Rattle.std.specs.List.{list_any}
+use Rattle.cookie_parts.specs.Cookie.{Row}
+use Rattle.cookie_parts.specs.Domain.{domain_text}
+
+-- RFC 6265 5.3 step 11: what no two cookies of a store share
+pub record Key : Type 0 where
+  pub domain : List ℕ
+  pub path : List ℕ
+  pub name : List ℕ
+
+-- the key of a row
+abbrev pub key_of : Row → Key
+key_of cookie = record { domain = domain_text cookie.domain; path = cookie.path.text; name = cookie.raw.name }
+
+-- the keys are of one domain
+abbrev pub same_domain : Key → Key → Bool
+same_domain a b = bytes_eq a.domain b.domain
+
+-- of one domain and path
+abbrev pub same_group : Key → Key → Bool
+same_group a b = same_domain a b && bytes_eq a.path b.path
+
+-- the same
+abbrev pub same_key : Key → Key → Bool
+same_key a b = same_group a b && bytes_eq a.name b.name
+
+-- a row of this key's domain
+abbrev pub in_domain : Key → Row → Bool
+in_domain key row = same_domain key (key_of row)
+
+-- a row of its domain and path
+abbrev pub in_group : Key → Row → Bool
+in_group key row = same_group key (key_of row)
+
+-- the row of the key
+abbrev pub has_key : Key → Row → Bool
+has_key key row = same_key key (key_of row)
+
+-- the row of the key, if there is one
+abbrev pub row_of : Key → List Row → Option Row
+row_of key rows = find (has_key key) rows
+
+-- the list with y right after the last item that passes the test, or at the end where none does
+abbrev pub after_last : {T : Type 0} → (T → Bool) → List T → T → List T
+after_last test [] y = y ∷ []
+after_last test (x ∷ xs) y =
+    if test x && not (list_any test xs) then x ∷ y ∷ xs else x ∷ after_last test xs y
+
+-- the list with y in the place of the first item that passes the test
+abbrev pub replaced : {T : Type 0} → (T → Bool) → List T → T → List T
+replaced test [] y = []
+replaced test (x ∷ xs) y = if test x then y ∷ xs else x ∷ replaced test xs y
+
+-- a new row goes after the last row of its domain and path, else after the last of its domain, else last
+abbrev pub placed : List Row → Row → List Row
+placed rows cookie =
+    if list_any (in_group (key_of cookie)) rows then after_last (in_group (key_of cookie)) rows cookie
+    else after_last (in_domain (key_of cookie)) rows cookie
+
+-- the cookie takes the place of the row of its key, or is a new row
+abbrev pub put : List Row → Row → List Row
+put rows cookie =
+    if list_any (has_key (key_of cookie)) rows then replaced (has_key (key_of cookie)) rows cookie
+    else placed rows cookie
+
+-- no two items are alike
+abbrev pub differ : {T : Type 0} → (T → T → Bool) → List T → Bool
+differ alike [] = true
+differ alike (x ∷ xs) = not (list_any (alike x) xs) && differ alike xs
+
+-- items that are alike stand together: where the next item is not like this one, no later item is
+abbrev pub stand_together : {T : Type 0} → (T → T → Bool) → List T → Bool
+stand_together alike [] = true
+stand_together alike (x ∷ []) = true
+stand_together alike (x ∷ y ∷ ys) =
+    (alike x y || not (list_any (alike x) ys)) && stand_together alike (y ∷ ys)
+
+-- keys differ, rows of one domain stand together, and in them rows of one path
+abbrev pub are_rows : List Row → Bool
+are_rows rows =
+    let keys = map key_of rows in
+    differ same_key keys && (stand_together same_domain keys && stand_together same_group keys)
