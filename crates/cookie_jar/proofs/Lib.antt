@@ -1,0 +1,4 @@
+pub mod Lines
+pub mod PairTexts
+pub mod Progress
+pub mod Sending

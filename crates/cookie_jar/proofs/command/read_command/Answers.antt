@@ -1,0 +1,29 @@
+use Rattle.std.proofs.Common.{◌≡◌, ℕ, List, Option, None, option_and_then}
+use Rattle.std.specs.Str.{IsUtf8}
+use Rattle.std.proofs.lemmas.Bool.{false_from_ne_true}
+use Rattle.std.proofs.lemmas.Str.{IsUtf8-from_is_utf8, is_utf8-from_IsUtf8}
+use Rattle.cookie_jar.specs.Commands.{command_of, first_word, verb_command}
+use Rattle.cookie_jar.proofs.command.read_command.Goals as goal
+
+-- bytes that are no text are a bad line
+not_text : (line : List ℕ) → (IsUtf8 line → ⊥) → None ≡ command_of line
+unfolding command_of
+not_text line no_text = rw (false_from_ne_true _ (λ valid. no_text (IsUtf8-from_is_utf8 line valid)))
+
+-- the command of a text is that of its first word and the rest
+command_of_words : (line text : List ℕ) (words : Option (List ℕ × List ℕ)) → text ≡ line → IsUtf8 line → words ≡ first_word text
+    → option_and_then verb_command words ≡ command_of line
+unfolding command_of
+command_of_words line text words same valid cut = rw (is_utf8-from_IsUtf8 line valid, ← same, ← cut)
+
+pub returns-in_default : goal.returns-in_default
+returns-in_default c = not_text _ c.in_default.ensures.cases.0
+
+pub returns-in-Some : goal.returns-in-Some
+returns-in-Some c =
+    rw (← command_of_words c.args.line.now c.in-Ok.text.now _ c.in-Ok.ensures.cases.0 c.in-Ok.ensures.cases.1 c.in-Some.ensures)
+    c.verb_command.ensures
+
+pub returns-in-None : goal.returns-in-None
+returns-in-None c =
+    command_of_words c.args.line.now c.in-Ok.text.now _ c.in-Ok.ensures.cases.0 c.in-Ok.ensures.cases.1 c.in-None.ensures

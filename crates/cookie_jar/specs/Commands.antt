@@ -1,0 +1,49 @@
+-- What a line of a script asks for.
+use Rattle.std.specs.Prelude.{ℕ, ◌==◌, Bool, List, bytes_eq, codes, Option, Some, None, option_map, option_and_then, if◌then◌else◌}
+use Rattle.std.specs.List.{before_first, after_first, list_any}
+use Rattle.std.specs.Result.{result_ok}
+use Rattle.std.specs.Str.{is_utf8}
+use Rattle.url.specs.Parser.{parse_url}
+use Rattle.url.specs.Parts.{Parts}
+use Rattle.cookie_words.specs.Moments.{Moment}
+use Rattle.cookie_saved.specs.MomentText.{moment_at}
+
+-- `now MOMENT`, `set URL TEXT` and `get URL`
+pub data Command : Type 0 where
+  Now : Moment → Command
+  Set : Parts → List ℕ → Command
+  Get : Parts → Command
+
+-- the byte is a space
+abbrev pub is_space : ℕ → Bool
+is_space b = b == 32
+
+-- the first word of a text, and what follows the space after it, if there is a space
+abbrev pub first_word : List ℕ → Option (List ℕ × List ℕ)
+first_word text =
+    if list_any is_space text then Some (before_first is_space text, after_first is_space text)
+    else None
+
+-- the URL that a text writes
+unfoldable pub url_at : List ℕ → Option Parts
+url_at text = result_ok (parse_url None text)
+
+-- the text, where it holds no space
+abbrev pub one_word : List ℕ → Option (List ℕ)
+one_word text = if list_any is_space text then None else Some text
+
+-- the URL and the text of `set`, which is all after the space that follows the URL
+abbrev pub set_command : List ℕ × List ℕ → Option Command
+set_command words = option_map (λ url. Set url words.1) (url_at words.0)
+
+-- the command of a verb and what follows the space after it
+unfoldable pub verb_command : List ℕ × List ℕ → Option Command
+verb_command line =
+    if bytes_eq line.0 (codes "now") then option_map Now (moment_at line.1)
+    else (if bytes_eq line.0 (codes "set") then option_and_then set_command (first_word line.1)
+    else (if bytes_eq line.0 (codes "get") then option_map Get (option_and_then url_at (one_word line.1))
+    else None))
+
+-- the command of a line, and None for a bad line
+unfoldable pub command_of : List ℕ → Option Command
+command_of line = if is_utf8 line then option_and_then verb_command (first_word line) else None

@@ -1,0 +1,53 @@
+-- What the faults of the program say of it.
+use Rattle.std.specs.Prelude.{◌≡◌, ℕ, ◌+◌, List, ◌++◌, Option, Result, Ok, Err, codes}
+use Rattle.cookie_device.specs.Device.{Sends}
+use Rattle.cookie_device.specs.declared.lines.FillError.{FillError}
+use Rattle.cookie_device.specs.declared.lines.FillError.TheVariants as Fill
+use Rattle.cookie_jar.specs.declared.fault.MainFault.{MainFault}
+use Rattle.cookie_jar.specs.declared.fault.MainFault.TheVariants.{BadArguments, Run}
+use Rattle.cookie_jar.specs.declared.fault.RunFault.{RunFault}
+use Rattle.cookie_jar.specs.declared.fault.RunFault.TheVariants.{Read, Write, Memory}
+
+-- the exit status
+abbrev pub status_of : MainFault → ℕ
+status_of BadArguments = 2
+status_of (Run Read) = 1
+status_of (Run Write) = 1
+status_of (Run Memory) = 3
+
+-- why a script was not run to its end, in words
+abbrev pub run_fault_text : RunFault → List ℕ
+run_fault_text Read = codes "read failed"
+run_fault_text Write = codes "write failed"
+run_fault_text Memory = codes "out of memory"
+
+-- why the program failed, in words
+abbrev pub fault_text : MainFault → List ℕ
+fault_text BadArguments = codes "bad arguments"
+fault_text (Run fault) = run_fault_text fault
+
+-- the fault of a script whose source could not be read ahead
+abbrev pub fill_fault : FillError → RunFault
+fill_fault Fill.Read = Read
+fill_fault Fill.Memory = Memory
+
+-- `Write` raised the sink's count of failures by one, `Read` never comes, and everything else left the count
+abbrev pub CountsWrite : {T : Type 0} → Result T RunFault → ℕ → ℕ → Type 0
+CountsWrite (Ok _) old new = new ≡ old
+CountsWrite (Err Read) old new = ⊥
+CountsWrite (Err Write) old new = new ≡ old + 1
+CountsWrite (Err Memory) old new = new ≡ old
+
+-- `Read` raised the source's count of failures by one, `Write` the sink's, and everything else left both
+abbrev pub CountsFault : {T : Type 0} → Result T RunFault → ℕ → ℕ → ℕ → ℕ → Type 0
+CountsFault (Ok _) reads reads' writes writes' = (reads' ≡ reads) × (writes' ≡ writes)
+CountsFault (Err Read) reads reads' writes writes' = (reads' ≡ reads + 1) × (writes' ≡ writes)
+CountsFault (Err Write) reads reads' writes writes' = (reads' ≡ reads) × (writes' ≡ writes + 1)
+CountsFault (Err Memory) reads reads' writes writes' = (reads' ≡ reads) × (writes' ≡ writes)
+
+-- of a beginning of a text all but `rest` went out
+pub record SendsBeginning (old new : Option (List ℕ)) (text rest : List ℕ) : Type 0 where
+  pub beginning : List ℕ
+  pub more : List ℕ
+  pub split : text ≡ beginning ++ more
+  pub sends : Sends old new beginning rest

@@ -1,0 +1,4 @@
+pub mod Commands
+pub mod CommandViews
+pub mod Faults
+pub mod Script

@@ -1,0 +1,107 @@
+//! What a line of a script asks for.
+ghost use Rattle.std.specs.Prelude.{◌≡◌, option_and_then, option_map, IfOk};
+ghost use Rattle.cookie_saved.specs.MomentText.{moment_at};
+ghost use Rattle.cookie_jar.specs.Commands as Spec;
+ghost use Rattle.cookie_jar.specs.Commands.{command_of, first_word, one_word, set_command, url_at, verb_command};
+ghost use Rattle.cookie_jar.specs.CommandViews.{command_view, words_view};
+
+use cookie_store::saved::read_moment;
+use jiff::civil::DateTime;
+use std::alloc::{AllocError, Global};
+use url::{ParseError, Url};
+
+/// What a line of a script asks for.
+#[derive(Drop)]
+pub enum Command<'a> {
+    /// `now MOMENT`: the moment goes on.
+    Now(DateTime),
+    /// `set URL TEXT`: a Set-Cookie text comes from the URL.
+    Set(Url, &'a str),
+    /// `get URL`: the cookies of the URL.
+    Get(Url),
+}
+
+/// The command of a line, and None for a bad line.
+pub fn read_command(alloc: Global, line: &[u8]) -> Result<Option<Command<'_>>, AllocError>
+    ensures { IfOk result (λ command. option_map command_view command ≡ command_of line.now) }
+{
+    let Ok(text) = str::from_utf8(line) else {
+        return Ok(None);
+    };
+    match first_word(text) {
+        Some((verb, rest)) => verb_command(alloc, verb, rest),
+        None => Ok(None),
+    }
+}
+
+// The command of a verb and what follows the space after it.
+fn verb_command<'a>(
+    alloc: Global,
+    verb: &str,
+    rest: &'a str,
+) -> Result<Option<Command<'a>>, AllocError>
+    ensures { IfOk result (λ command. option_map command_view command ≡ verb_command (verb.now, rest.now)) }
+{
+    match verb {
+        "now" => Ok(now_command(rest)),
+        "set" => set_command(alloc, rest),
+        "get" => get_command(alloc, rest),
+        _ => Ok(None),
+    }
+}
+
+fn first_word(text: &str) -> Option<(&str, &str)>
+    ensures { option_map words_view result ≡ first_word text.now }
+{
+    text.split_once(' ')
+}
+
+// The URL of a text. Refusals that say nothing of the text count as want of memory.
+#[tactic(auto, unfolding(crate::specs::Commands::url_at))]
+fn read_url(alloc: Global, text: &str) -> Result<Option<Url>, AllocError>
+    ensures { IfOk result (λ url. url ≡ url_at text.now) }
+{
+    match Url::parse(alloc, text) {
+        Ok(url) => Ok(Some(url)),
+        Err(error) => match error {
+            ParseError::OutOfMemory | ParseError::Overflow => Err(AllocError),
+            _ => Ok(None),
+        },
+    }
+}
+
+fn now_command<'a>(text: &str) -> Option<Command<'a>>
+    ensures { option_map command_view result ≡ option_map Spec.Now (moment_at text.now) }
+{
+    match read_moment(text) {
+        Some(moment) => Some(Command::Now(moment)),
+        None => None,
+    }
+}
+
+// The URL, and after a space the text.
+fn set_command<'a>(alloc: Global, rest: &'a str) -> Result<Option<Command<'a>>, AllocError>
+    ensures { IfOk result (λ command. option_map command_view command ≡ option_and_then set_command (first_word rest.now)) }
+{
+    let Some((url, text)) = first_word(rest) else {
+        return Ok(None);
+    };
+    match read_url(alloc, url)? {
+        Some(url) => Ok(Some(Command::Set(url, text))),
+        None => Ok(None),
+    }
+}
+
+// The URL alone.
+fn get_command<'a>(alloc: Global, rest: &str) -> Result<Option<Command<'a>>, AllocError>
+    ensures { IfOk result (λ command. option_map command_view command
+        ≡ option_map Spec.Get (option_and_then url_at (one_word rest.now))) }
+{
+    if rest.as_bytes().contains(&b' ') {
+        return Ok(None);
+    }
+    match read_url(alloc, rest)? {
+        Some(url) => Ok(Some(Command::Get(url))),
+        None => Ok(None),
+    }
+}

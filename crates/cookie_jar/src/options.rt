@@ -1,0 +1,6 @@
+/// What the arguments of the program ask for.
+#[derive(Clone, Copy, Debug, PartialEq, Eq)]
+pub struct Options<'a> {
+    /// The file of a public suffix list.
+    pub suffixes: Option<&'a str>,
+}

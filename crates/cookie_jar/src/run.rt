@@ -1,0 +1,80 @@
+//! A script, from the bytes that come in to the bytes that go out.
+ghost use Rattle.std.specs.Prelude.{◌≡◌, ◌-◌, ◌^◌, ◌<◌, ◌++◌, Err, IfSome, OnOk};
+ghost use Rattle.std.specs.Str.Lines.{strip_carriage_return};
+ghost use Rattle.std.specs.Io.KnownBytes.{Appends};
+ghost use Rattle.cookie_device.specs.Device.{AppendsBeginning, Sends};
+ghost use Rattle.cookie_jar.specs.Faults.{CountsFault, SendsBeginning};
+ghost use Rattle.cookie_jar.specs.Script.{output_of};
+
+use crate::fault::RunFault;
+use crate::jar::Jar;
+use cookie_device::{LineBuffer, Output, Sink, Source};
+use std::alloc::Global;
+
+/// Runs the script that the source gives, and writes its answers to the sink. What is written is gathered, and goes out
+/// before the next read.
+pub fn run<R: Source, W: Sink>(alloc: Global, source: &mut R, sink: &mut W) -> Result<(), RunFault>
+    requires readable { R.failed source.old < 2 ^ 64 - 1 }
+    requires writable { W.failed sink.old < 2 ^ 64 - 1 }
+    ensures whole { OnOk result (IfSome (R.remaining source.old) (λ input.
+        Appends (W.contents sink.old) (W.contents sink.new) (output_of input))) }
+    ensures part { IfSome (R.remaining source.old) (λ input.
+        AppendsBeginning (W.contents sink.old) (W.contents sink.new) (output_of input)) }
+    ensures count { CountsFault result (R.failed source.old) (R.failed source.new) (W.failed sink.old) (W.failed sink.new) }
+{
+    let mut out = Output::new(alloc)?;
+    match answer_lines(alloc, source, &mut out, sink) {
+        Err(RunFault::Memory) => {
+            out.flush(sink)?;
+            Err(RunFault::Memory)
+        }
+        Err(fault) => Err(fault),
+        Ok(()) => Ok(out.flush(sink)?),
+    }
+}
+
+// Answers the lines that the source gives, up to its end.
+fn answer_lines<R: Source, W: Sink>(
+    alloc: Global,
+    source: &mut R,
+    out: &mut Output,
+    sink: &mut W,
+) -> Result<(), RunFault>
+    requires readable { R.failed source.old < 2 ^ 64 - 1 }
+    requires writable { W.failed sink.old < 2 ^ 64 - 1 }
+    ensures whole { OnOk result (IfSome (R.remaining source.old) (λ input.
+        Sends (W.contents sink.old) (W.contents sink.new) (out.old ++ output_of input) out.new)) }
+    ensures part { IfSome (R.remaining source.old) (λ input.
+        AppendsBeginning (W.contents sink.old) (W.contents sink.new) (out.old ++ output_of input)) }
+    ensures memory { result ≡ Err RunFault.Memory → IfSome (R.remaining source.old) (λ input.
+        SendsBeginning (W.contents sink.old) (W.contents sink.new) (out.old ++ output_of input) out.new) }
+    ensures count { CountsFault result (R.failed source.old) (R.failed source.new) (W.failed sink.old) (W.failed sink.new) }
+{
+    let mut input = LineBuffer::new(alloc);
+    let mut jar = Jar::new(alloc);
+    'lines: loop {
+        if let Some(end) = input.line_end() {
+            jar.answer(alloc, without_return(input.front(end)), out, sink)?;
+            input.pass(end + 1);
+        } else {
+            out.flush(sink)?;
+            if !input.fill(source)? {
+                break;
+            }
+        }
+    }
+    if input.rest().is_empty() {
+        return Ok(());
+    }
+    jar.answer(alloc, input.rest(), out, sink)
+}
+
+// A line without the carriage return before its line feed.
+fn without_return(line: &[u8]) -> &[u8]
+    ensures { result.now ≡ strip_carriage_return line.now }
+{
+    match line {
+        [front @ .., b'\r'] => front,
+        _ => line,
+    }
+}
