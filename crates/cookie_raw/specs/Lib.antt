@@ -1,3 +1,9 @@
+pub mod CookieDate
+pub mod CookieText
+pub mod DateSteps
+pub mod PlainCookie
 pub mod Raw
 pub mod Reading
+pub mod SameParts
 pub mod Slices
+pub mod Views

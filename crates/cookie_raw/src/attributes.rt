@@ -1,13 +1,26 @@
 //! The attributes of a Set-Cookie text, RFC 6265 5.2.
-ghost use Rattle.std.specs.Prelude.{◌≡◌, Option, None};
+ghost use Rattle.std.specs.Prelude.{◌≡◌, ◌<◌, min, length, pos, Some, None, true, option_map, IsTrue, if◌then◌else◌};
+ghost use Rattle.std.specs.Char.{is_ascii_digit};
+ghost use Rattle.std.specs.List.{list_all};
+ghost use Rattle.std.specs.Str.Parse.{digits_value};
 ghost use Rattle.std.specs.Option.{option_copied, option_or};
-ghost use Rattle.cookie_raw.specs.Reading.{attributes, name_of, value_of, domain_from, path_from, piece_gives, last_given};
+ghost use Rattle.jiff.specs.Words.{signed_nanos};
+ghost use Rattle.cookie_raw.specs.Reading.{age_of, attributes, domain_from, expires_from, http_only_from, is_named, last_given, max_age_from, name_of, path_from, piece_gives, same_site_from, secure_from, site_of, value_of};
+ghost use Rattle.cookie_raw.specs.Views.{ending};
 
-/// What the attributes of a text have given so far, each a part of that text.
+use crate::{Expiration, SameSite, read_date};
+use jiff::SignedDuration;
+
+/// What the attributes of a text have given so far, the texts each a part of that text.
 #[derive(Clone, Copy)]
 pub(crate) struct Attributes<'a> {
     pub(crate) domain: Option<&'a str>,
     pub(crate) path: Option<&'a str>,
+    pub(crate) secure: Option<bool>,
+    pub(crate) http_only: Option<bool>,
+    pub(crate) same_site: Option<SameSite>,
+    pub(crate) max_age: Option<SignedDuration>,
+    pub(crate) expires: Option<Expiration>,
 }
 
 // The two sides of the first `=`; without one the value is empty.
@@ -41,15 +54,118 @@ fn read_path<'a>(name: &str, value: &'a str) -> Option<&'a str>
     }
 }
 
+// A flag, which an attribute of that name sets, whatever its value.
+fn read_flag(flag: &str, name: &str) -> Option<bool>
+    ensures { result ≡ (if is_named flag.now name.now then Some true else None) }
+{
+    if name.eq_ignore_ascii_case(flag) {
+        Some(true)
+    } else {
+        None
+    }
+}
+
+#[tactic(auto, unfolding(crate::specs::Reading::site_of))]
+fn site(value: &str) -> Option<SameSite>
+    ensures { result ≡ site_of value.now }
+{
+    if value.eq_ignore_ascii_case("Strict") {
+        Some(SameSite::Strict)
+    } else if value.eq_ignore_ascii_case("Lax") {
+        Some(SameSite::Lax)
+    } else if value.eq_ignore_ascii_case("None") {
+        Some(SameSite::None)
+    } else {
+        None
+    }
+}
+
+fn read_same_site(name: &str, value: &str) -> Option<SameSite>
+    ensures { result ≡ same_site_from name.now value.now }
+{
+    if name.eq_ignore_ascii_case("SameSite") {
+        site(value)
+    } else {
+        None
+    }
+}
+
+// Whether the text is digits alone, or empty.
+fn is_digits(text: &str) -> bool
+    ensures { result ≡ list_all is_ascii_digit text.now }
+{
+    text.as_bytes().iter().all(|byte| byte.is_ascii_digit())
+}
+
+// The seconds that digits say, or as many as there are.
+fn seconds(digits: &str) -> i64
+    requires several { 0 < length digits.now }
+    requires digits { IsTrue (list_all is_ascii_digit digits.now) }
+    ensures { result ≡ pos (min (digits_value 10 digits.now) 9_223_372_036_854_775_807) }
+{
+    digits.parse().unwrap_or(i64::MAX)
+}
+
+fn age(value: &str) -> Option<SignedDuration>
+    ensures { option_map signed_nanos result ≡ age_of value.now }
+{
+    match value.strip_prefix('-') {
+        Some(digits) => {
+            if is_digits(digits) {
+                Some(SignedDuration::ZERO)
+            } else {
+                None
+            }
+        }
+        None => {
+            if !value.is_empty() && is_digits(value) {
+                Some(SignedDuration::from_secs(seconds(value)))
+            } else {
+                None
+            }
+        }
+    }
+}
+
+fn read_max_age(name: &str, value: &str) -> Option<SignedDuration>
+    ensures { option_map signed_nanos result ≡ max_age_from name.now value.now }
+{
+    if name.eq_ignore_ascii_case("Max-Age") {
+        age(value)
+    } else {
+        None
+    }
+}
+
+fn read_expires(name: &str, value: &str) -> Option<Expiration>
+    ensures { option_map ending result ≡ expires_from name.now value.now }
+{
+    if name.eq_ignore_ascii_case("Expires") {
+        read_date(value).map(Expiration::DateTime)
+    } else {
+        None
+    }
+}
+
 impl<'a> Attributes<'a> {
     /// The attributes of a whole Set-Cookie text.
     pub(crate) fn of(text: &'a str) -> Attributes<'a>
         ensures domain { option_copied result.domain ≡ last_given domain_from (attributes text.now) }
         ensures path { option_copied result.path ≡ last_given path_from (attributes text.now) }
+        ensures secure { result.secure ≡ last_given secure_from (attributes text.now) }
+        ensures http_only { result.http_only ≡ last_given http_only_from (attributes text.now) }
+        ensures same_site { result.same_site ≡ last_given same_site_from (attributes text.now) }
+        ensures max_age { option_map signed_nanos result.max_age ≡ last_given max_age_from (attributes text.now) }
+        ensures expires { option_map ending result.expires ≡ last_given expires_from (attributes text.now) }
     {
         let mut found = Attributes {
             domain: None,
             path: None,
+            secure: None,
+            http_only: None,
+            same_site: None,
+            max_age: None,
+            expires: None,
         };
         for piece in text.split(';').skip(1) {
             found.take(piece);
@@ -62,9 +178,21 @@ impl<'a> Attributes<'a> {
             ≡ option_or (piece_gives domain_from piece.now) (option_copied self.old.domain) }
         ensures path { option_copied self.new.path
             ≡ option_or (piece_gives path_from piece.now) (option_copied self.old.path) }
+        ensures secure { self.new.secure ≡ option_or (piece_gives secure_from piece.now) self.old.secure }
+        ensures http_only { self.new.http_only ≡ option_or (piece_gives http_only_from piece.now) self.old.http_only }
+        ensures same_site { self.new.same_site ≡ option_or (piece_gives same_site_from piece.now) self.old.same_site }
+        ensures max_age { option_map signed_nanos self.new.max_age
+            ≡ option_or (piece_gives max_age_from piece.now) (option_map signed_nanos self.old.max_age) }
+        ensures expires { option_map ending self.new.expires
+            ≡ option_or (piece_gives expires_from piece.now) (option_map ending self.old.expires) }
     {
         let (name, value) = name_and_value(piece);
         self.domain = read_domain(name, value).or(self.domain);
         self.path = read_path(name, value).or(self.path);
+        self.secure = read_flag("Secure", name).or(self.secure);
+        self.http_only = read_flag("HttpOnly", name).or(self.http_only);
+        self.same_site = read_same_site(name, value).or(self.same_site);
+        self.max_age = read_max_age(name, value).or(self.max_age);
+        self.expires = read_expires(name, value).or(self.expires);
     }
 }

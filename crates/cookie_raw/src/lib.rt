@@ -1,11 +1,23 @@
-//! Set-Cookie texts, read by RFC 6265 5.2 without copying.
+//! Set-Cookie texts and their dates, read and written by RFC 6265, without copying as they are read.
 #![tactic(auto)]
 
 mod attributes;
+mod builder;
+mod copies;
+mod date;
+mod expiration;
+pub mod laws;
 mod parse;
+mod plain;
+mod printing;
 mod raw_cookie;
+mod same_site;
 #[cfg(test)]
 mod tests;
 
+pub use builder::RawCookieBuilder;
+pub use date::read_date;
+pub use expiration::Expiration;
 pub use parse::RawCookieParseError;
 pub use raw_cookie::RawCookie;
+pub use same_site::SameSite;

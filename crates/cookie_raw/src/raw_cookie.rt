@@ -2,12 +2,15 @@
 ghost use Rattle.std.specs.Prelude.{◌≡◌, true, false, option_map, MatchOption, IfOk};
 ghost use Rattle.std.specs.Cow.{cow_str_bytes};
 ghost use Rattle.std.specs.Option.{option_copied};
+ghost use Rattle.jiff.specs.Words.{signed_nanos};
 ghost use Rattle.cookie_raw.specs.Reading.{reading, pair_of, has_equals, name_of, value_of};
 ghost use Rattle.cookie_raw.specs.Slices.{HasSlices};
+ghost use Rattle.cookie_raw.specs.Views.{ending};
 
 use crate::attributes::Attributes;
-use crate::parse::RawCookieParseError;
+use crate::{Expiration, RawCookieParseError, SameSite};
 use cookie_words::without_dot;
+use jiff::SignedDuration;
 use std::alloc::{AllocError, Global};
 use std::borrow::CowStr;
 use std::marker::Model;
@@ -17,17 +20,24 @@ use std::marker::Model;
 /// A cookie that was parsed lends its parts from the text; [`into_owned`](Self::into_owned) copies them.
 #[derive(Drop)]
 pub struct RawCookie<'a> {
-    name: CowStr<'a>,
-    value: CowStr<'a>,
-    domain: Option<CowStr<'a>>,
-    path: Option<CowStr<'a>>,
+    pub(crate) name: CowStr<'a>,
+    pub(crate) value: CowStr<'a>,
+    pub(crate) domain: Option<CowStr<'a>>,
+    pub(crate) path: Option<CowStr<'a>>,
+    pub(crate) secure: Option<bool>,
+    pub(crate) http_only: Option<bool>,
+    pub(crate) same_site: Option<SameSite>,
+    pub(crate) max_age: Option<SignedDuration>,
+    pub(crate) expires: Option<Expiration>,
 }
 
 impl<'a> Model for RawCookie<'a> {
     ghost use Rattle.std.specs.Prelude.{option_map};
     ghost use Rattle.std.specs.Cow.{cow_str_bytes};
     ghost use Rattle.cookie_words.specs.Texts.{without_dot};
+    ghost use Rattle.jiff.specs.Words.{signed_nanos};
     ghost use Rattle.cookie_raw.specs.Raw.{Raw};
+    ghost use Rattle.cookie_raw.specs.Views.{ending};
 
     ghost Value = { Raw };
 
@@ -36,6 +46,11 @@ impl<'a> Model for RawCookie<'a> {
       value = cow_str_bytes c.value;
       domain = option_map without_dot (option_map cow_str_bytes c.domain);
       path = option_map cow_str_bytes c.path;
+      secure = c.secure;
+      http_only = c.http_only;
+      same_site = c.same_site;
+      max_age = option_map signed_nanos c.max_age;
+      expires = option_map ending c.expires;
     } };
 }
 
@@ -107,6 +122,11 @@ impl<'a> RawCookie<'a> {
             value: CowStr::Borrowed(value),
             domain: lent(attributes.domain),
             path: lent(attributes.path),
+            secure: attributes.secure,
+            http_only: attributes.http_only,
+            same_site: attributes.same_site,
+            max_age: attributes.max_age,
+            expires: attributes.expires,
         })
     }
 
@@ -152,6 +172,41 @@ impl<'a> RawCookie<'a> {
         }
     }
 
+    /// Whether the cookie is for secure connections alone, where that was said.
+    pub fn secure(&self) -> Option<bool>
+        ensures { result ≡ self.now.secure }
+    {
+        self.secure
+    }
+
+    /// Whether the cookie is for HTTP alone, where that was said.
+    pub fn http_only(&self) -> Option<bool>
+        ensures { result ≡ self.now.http_only }
+    {
+        self.http_only
+    }
+
+    /// The SameSite attribute.
+    pub fn same_site(&self) -> Option<SameSite>
+        ensures { result ≡ self.now.same_site }
+    {
+        self.same_site
+    }
+
+    /// The Max-Age attribute.
+    pub fn max_age(&self) -> Option<SignedDuration>
+        ensures { option_map signed_nanos result ≡ self.now.max_age }
+    {
+        self.max_age
+    }
+
+    /// The Expires attribute.
+    pub fn expires(&self) -> Option<Expiration>
+        ensures { option_map ending result ≡ self.now.expires }
+    {
+        self.expires
+    }
+
     /// An equal cookie that lends nothing.
     pub fn into_owned(self, alloc: Global) -> Result<RawCookie<'static>, AllocError>
         ensures { IfOk result (λ owned. owned ≡ self.entry) }
@@ -161,6 +216,11 @@ impl<'a> RawCookie<'a> {
             value: owned(alloc, self.value)?,
             domain: owned_part(alloc, self.domain)?,
             path: owned_part(alloc, self.path)?,
+            secure: self.secure,
+            http_only: self.http_only,
+            same_site: self.same_site,
+            max_age: self.max_age,
+            expires: self.expires,
         })
     }
 }

@@ -1,6 +1,6 @@
 use Rattle.std.proofs.Common.{ap, ◌∙◌}
 use Rattle.std.proofs.lemmas.Iterator.Consumers.{YieldsList-end}
-use Rattle.cookie_raw.specs.Reading.{domain_from, path_from, last_given}
+use Rattle.cookie_raw.specs.Reading.{domain_from, expires_from, http_only_from, last_given, max_age_from, path_from, same_site_from, secure_from}
 use Rattle.cookie_raw.proofs.LastGiven.{last_given-push}
 use Rattle.cookie_raw.proofs.Pieces.{yields_attributes}
 use Rattle.cookie_raw.proofs.attributes.Attributes.of.Goals as goal
@@ -9,6 +9,11 @@ pub loop-piece-preserved : goal.loop-piece-preserved
 loop-piece-preserved c = record {
   domain = rw (c.take.ensures.domain, last_given-push domain_from c.loop-piece.yielded c.in-Some.piece, c.loop-piece.invariant.domain);
   path = rw (c.take.ensures.path, last_given-push path_from c.loop-piece.yielded c.in-Some.piece, c.loop-piece.invariant.path);
+  secure = rw (c.take.ensures.secure, last_given-push secure_from c.loop-piece.yielded c.in-Some.piece, c.loop-piece.invariant.secure);
+  http_only = rw (c.take.ensures.http_only, last_given-push http_only_from c.loop-piece.yielded c.in-Some.piece, c.loop-piece.invariant.http_only);
+  same_site = rw (c.take.ensures.same_site, last_given-push same_site_from c.loop-piece.yielded c.in-Some.piece, c.loop-piece.invariant.same_site);
+  max_age = rw (c.take.ensures.max_age, last_given-push max_age_from c.loop-piece.yielded c.in-Some.piece, c.loop-piece.invariant.max_age);
+  expires = rw (c.take.ensures.expires, last_given-push expires_from c.loop-piece.yielded c.in-Some.piece, c.loop-piece.invariant.expires);
 }
 
 pub returns-clause-domain : goal.returns-clause-domain
@@ -20,3 +25,28 @@ pub returns-clause-path : goal.returns-clause-path
 returns-clause-path c =
     let road = yields_attributes c.args.text.now c.split.ensures.text c.split.ensures.has_more c.split.ensures.pattern c.skip-piece-items.ensures.source c.skip-piece-items.ensures.count c.into_iter-piece-iterator.ensures.into_iter_gives in
     c.loop-piece.invariant.path ∙ ap (last_given path_from) (YieldsList-end road c.loop-piece.yielded _ c.loop-piece.yielded_by _ _ c.in-None.is c.next.ensures.steps).0
+
+pub returns-clause-secure : goal.returns-clause-secure
+returns-clause-secure c =
+    let road = yields_attributes c.args.text.now c.split.ensures.text c.split.ensures.has_more c.split.ensures.pattern c.skip-piece-items.ensures.source c.skip-piece-items.ensures.count c.into_iter-piece-iterator.ensures.into_iter_gives in
+    c.loop-piece.invariant.secure ∙ ap (last_given secure_from) (YieldsList-end road c.loop-piece.yielded _ c.loop-piece.yielded_by _ _ c.in-None.is c.next.ensures.steps).0
+
+pub returns-clause-http_only : goal.returns-clause-http_only
+returns-clause-http_only c =
+    let road = yields_attributes c.args.text.now c.split.ensures.text c.split.ensures.has_more c.split.ensures.pattern c.skip-piece-items.ensures.source c.skip-piece-items.ensures.count c.into_iter-piece-iterator.ensures.into_iter_gives in
+    c.loop-piece.invariant.http_only ∙ ap (last_given http_only_from) (YieldsList-end road c.loop-piece.yielded _ c.loop-piece.yielded_by _ _ c.in-None.is c.next.ensures.steps).0
+
+pub returns-clause-same_site : goal.returns-clause-same_site
+returns-clause-same_site c =
+    let road = yields_attributes c.args.text.now c.split.ensures.text c.split.ensures.has_more c.split.ensures.pattern c.skip-piece-items.ensures.source c.skip-piece-items.ensures.count c.into_iter-piece-iterator.ensures.into_iter_gives in
+    c.loop-piece.invariant.same_site ∙ ap (last_given same_site_from) (YieldsList-end road c.loop-piece.yielded _ c.loop-piece.yielded_by _ _ c.in-None.is c.next.ensures.steps).0
+
+pub returns-clause-max_age : goal.returns-clause-max_age
+returns-clause-max_age c =
+    let road = yields_attributes c.args.text.now c.split.ensures.text c.split.ensures.has_more c.split.ensures.pattern c.skip-piece-items.ensures.source c.skip-piece-items.ensures.count c.into_iter-piece-iterator.ensures.into_iter_gives in
+    c.loop-piece.invariant.max_age ∙ ap (last_given max_age_from) (YieldsList-end road c.loop-piece.yielded _ c.loop-piece.yielded_by _ _ c.in-None.is c.next.ensures.steps).0
+
+pub returns-clause-expires : goal.returns-clause-expires
+returns-clause-expires c =
+    let road = yields_attributes c.args.text.now c.split.ensures.text c.split.ensures.has_more c.split.ensures.pattern c.skip-piece-items.ensures.source c.skip-piece-items.ensures.count c.into_iter-piece-iterator.ensures.into_iter_gives in
+    c.loop-piece.invariant.expires ∙ ap (last_given expires_from) (YieldsList-end road c.loop-piece.yielded _ c.loop-piece.yielded_by _ _ c.in-None.is c.next.ensures.steps).0

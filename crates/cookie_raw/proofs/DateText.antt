@@ -1,0 +1,16 @@
+-- The text of a date, in the parts that are written one after the other.
+use Rattle.std.proofs.Common.{◌≡◌, ◌-◌, [], ◌++◌, codes, get_or, unsigned_abs, append_assoc}
+use Rattle.jiff_core.specs.Calendar.{days_from_civil, weekday_number}
+use Rattle.cookie_words.specs.Moments.{Moment}
+use Rattle.cookie_raw.specs.CookieDate.{month_names}
+use Rattle.cookie_raw.specs.CookieText.{date_text, day_names, four_digits, two_digits}
+
+-- the day, the month with the year, the time and the zone
+pub date_text_in_parts : (moment : Moment) → date_text moment
+    ≡ (get_or day_names (weekday_number (days_from_civil moment.year moment.month moment.day)) []
+    ++ codes ", " ++ two_digits moment.day)
+    ++ (codes " " ++ ((get_or month_names (moment.month - 1) [] ++ codes " " ++ four_digits (unsigned_abs moment.year))
+    ++ (codes " " ++ ((two_digits moment.hour ++ codes ":" ++ two_digits moment.minute ++ codes ":" ++ two_digits moment.second)
+    ++ codes " GMT"))))
+unfolding date_text
+date_text_in_parts moment = simp append_assoc

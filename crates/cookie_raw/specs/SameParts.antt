@@ -1,0 +1,65 @@
+-- Equality of raw cookies: that of the answers of all their accessors.
+use Rattle.std.specs.Prelude.{ℕ, Bool, ◌&&◌, List, nat_eq, ℤ, Option, Some, None}
+use Rattle.std.specs.Bool.{beq}
+use Rattle.std.specs.Cmp.{IsEquivalence, IsPartialEquivalence, and_equiv, on_equiv, int_eq_equiv, bool_eq_equiv, partial_equiv_from_equiv}
+use Rattle.std.specs.Cmp.Lexicographic.{nat_list_eq_equiv, on_texts_equal, options_equiv, pointwise}
+use Rattle.std.specs.Option.{option_eq}
+use Rattle.std.specs.Ordering.{int_eq, on}
+use Rattle.cookie_words.specs.Moments.{nanoseconds}
+use Rattle.cookie_raw.specs.CookieText.{site_text}
+use Rattle.cookie_raw.specs.Raw.{Raw, Ending, At, Session}
+use Rattle.cookie_raw.specs.declared.same_site.SameSite.{SameSite}
+
+abbrev same_text : List ℕ → List ℕ → Bool
+same_text = pointwise nat_eq
+
+-- the same kind
+abbrev pub same_site : SameSite → SameSite → Bool
+same_site = on site_text same_text
+
+-- the moment of an end on the scale of nanoseconds, if it is at one
+abbrev pub end_on_scale : Ending → Option ℤ
+end_on_scale (At moment) = Some (nanoseconds moment)
+end_on_scale Session = None
+
+-- both at the same moment, or both with the session
+abbrev pub same_ending : Ending → Ending → Bool
+same_ending = on end_on_scale (option_eq int_eq)
+
+-- the same texts
+abbrev pub same_texts : Raw → Raw → Bool
+same_texts a b =
+    same_text a.name b.name && (same_text a.value b.value
+    && (option_eq same_text a.domain b.domain && option_eq same_text a.path b.path))
+
+-- the same attributes of other kinds
+abbrev pub same_attributes : Raw → Raw → Bool
+same_attributes a b =
+    option_eq beq a.secure b.secure && (option_eq beq a.http_only b.http_only
+    && (option_eq same_site a.same_site b.same_site
+    && (option_eq int_eq a.max_age b.max_age && option_eq same_ending a.expires b.expires)))
+
+-- the same in all parts
+abbrev pub same_parts : Raw → Raw → Bool
+same_parts a b = same_texts a b && same_attributes a b
+
+same_texts_equiv : IsEquivalence same_texts
+same_texts_equiv =
+    and_equiv (on_texts_equal (λ c. c.name))
+    (and_equiv (on_texts_equal (λ c. c.value))
+    (and_equiv (on_equiv (λ c. c.domain) (options_equiv nat_list_eq_equiv)) (on_equiv (λ c. c.path) (options_equiv nat_list_eq_equiv))))
+
+same_attributes_equiv : IsEquivalence same_attributes
+same_attributes_equiv =
+    and_equiv (on_equiv (λ c. c.secure) (options_equiv bool_eq_equiv))
+    (and_equiv (on_equiv (λ c. c.http_only) (options_equiv bool_eq_equiv))
+    (and_equiv (on_equiv (λ c. c.same_site) (options_equiv (on_texts_equal site_text)))
+    (and_equiv (on_equiv (λ c. c.max_age) (options_equiv int_eq_equiv))
+    (on_equiv (λ c. c.expires) (options_equiv (on_equiv end_on_scale (options_equiv int_eq_equiv)))))))
+
+-- it is an equivalence
+pub same_parts_equiv : IsEquivalence same_parts
+same_parts_equiv = and_equiv same_texts_equiv same_attributes_equiv
+
+pub same_parts_per : IsPartialEquivalence same_parts
+same_parts_per = partial_equiv_from_equiv same_parts_equiv

@@ -1,0 +1,71 @@
+//! Copies of raw cookies, and their equality.
+ghost use Rattle.std.specs.Prelude.{◌≡◌, option_map};
+ghost use Rattle.std.specs.Option.{option_eq};
+ghost use Rattle.cookie_raw.specs.SameParts.{same_attributes, same_ending, same_texts};
+ghost use Rattle.cookie_raw.specs.Views.{ending};
+
+use crate::{Expiration, RawCookie};
+use std::alloc::AllocError;
+
+impl<'a> Clone for RawCookie<'a> {
+    ghost use Rattle.std.specs.Prelude.{◌≡◌};
+
+    ghost is_clone = { λ cookie copy. copy ≡ cookie };
+
+    fn clone(&self) -> Result<RawCookie<'a>, AllocError> {
+        Ok(RawCookie {
+            name: self.name.clone()?,
+            value: self.value.clone()?,
+            domain: self.domain.clone()?,
+            path: self.path.clone()?,
+            secure: self.secure,
+            http_only: self.http_only,
+            same_site: self.same_site,
+            max_age: self.max_age,
+            expires: self.expires,
+        })
+    }
+}
+
+impl<'a> PartialEq for RawCookie<'a> {
+    ghost use Rattle.cookie_raw.specs.SameParts.{same_parts, same_parts_per};
+
+    ghost eq = { same_parts };
+
+    ghost laws = { same_parts_per };
+
+    fn eq(&self, other: &RawCookie<'a>) -> bool {
+        has_same_texts(self, other) && has_same_attributes(self, other)
+    }
+}
+
+impl<'a> Eq for RawCookie<'a> {
+    ghost use Rattle.cookie_raw.specs.SameParts.{same_parts_equiv};
+
+    ghost laws = { same_parts_equiv };
+}
+
+fn has_same_texts(cookie: &RawCookie<'_>, other: &RawCookie<'_>) -> bool
+    ensures { result ≡ same_texts cookie.now other.now }
+{
+    cookie.name() == other.name()
+        && cookie.value() == other.value()
+        && cookie.domain() == other.domain()
+        && cookie.path() == other.path()
+}
+
+fn has_same_attributes(cookie: &RawCookie<'_>, other: &RawCookie<'_>) -> bool
+    ensures { result ≡ same_attributes cookie.now other.now }
+{
+    cookie.secure == other.secure
+        && cookie.http_only == other.http_only
+        && cookie.same_site == other.same_site
+        && cookie.max_age == other.max_age
+        && has_same_end(cookie.expires, other.expires)
+}
+
+fn has_same_end(expires: Option<Expiration>, other: Option<Expiration>) -> bool
+    ensures { result ≡ option_eq same_ending (option_map ending expires) (option_map ending other) }
+{
+    expires == other
+}

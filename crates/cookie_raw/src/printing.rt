@@ -1,0 +1,249 @@
+//! The text of a raw cookie, RFC 6265 4.1.1.
+ghost use Rattle.std.specs.Prelude.{◌≡◌, ◌-◌, ◌<◌, ◌++◌, false, [], codes, get_or, pos, ◌≤ℤ◌, unsigned_abs, option_map, option_and_then, unwrap_or, IfOk, string_bytes};
+ghost use Rattle.std.specs.Fmt.{WritesOnOk};
+ghost use Rattle.std.specs.Option.{option_copied};
+ghost use Rattle.jiff.specs.Words.{signed_nanos, monday_zero, weekday_of, IsBetween};
+ghost use Rattle.cookie_words.specs.Moments.{moment_of};
+ghost use Rattle.cookie_raw.specs.CookieDate.{month_names};
+ghost use Rattle.cookie_raw.specs.CookieText.{age_text, cookie_text, date_text, day_names, ending_text, flag, four_digits, is_for_all_sites, optional, site_text, two_digits};
+ghost use Rattle.cookie_raw.specs.Raw.{At};
+ghost use Rattle.cookie_raw.specs.Views.{ending};
+
+use crate::{Expiration, RawCookie, SameSite};
+use jiff::SignedDuration;
+use jiff::civil::{DateTime, Weekday};
+use std::alloc::{AllocError, Global};
+use std::fmt;
+
+/// Whether the cookie says that it is for other sites too.
+pub(crate) fn is_for_all_sites(same_site: Option<SameSite>) -> bool
+    ensures { result ≡ is_for_all_sites same_site }
+{
+    matches!(same_site, Some(SameSite::None))
+}
+
+fn site_name(same_site: SameSite) -> &'static str
+    ensures { result.now ≡ site_text same_site }
+{
+    match same_site {
+        SameSite::Strict => "Strict",
+        SameSite::Lax => "Lax",
+        SameSite::None => "None",
+    }
+}
+
+fn day_name(day: Weekday) -> &'static str
+    ensures { result.now ≡ get_or day_names (monday_zero day) [] }
+{
+    match day {
+        Weekday::Monday => "Mon",
+        Weekday::Tuesday => "Tue",
+        Weekday::Wednesday => "Wed",
+        Weekday::Thursday => "Thu",
+        Weekday::Friday => "Fri",
+        Weekday::Saturday => "Sat",
+        Weekday::Sunday => "Sun",
+    }
+}
+
+fn month_name(month: i8) -> &'static str
+    requires { IsBetween (pos 1) (pos 12) month }
+    ensures { result.now ≡ get_or month_names (unsigned_abs month - 1) [] }
+{
+    match month {
+        1 => "Jan",
+        2 => "Feb",
+        3 => "Mar",
+        4 => "Apr",
+        5 => "May",
+        6 => "Jun",
+        7 => "Jul",
+        8 => "Aug",
+        9 => "Sep",
+        10 => "Oct",
+        11 => "Nov",
+        _ => "Dec",
+    }
+}
+
+fn write_two_digits<W: fmt::Write>(f: &mut fmt::Formatter<W>, number: u8) -> fmt::Result
+    requires { number < 100 }
+    ensures { WritesOnOk W.write_str_gives f.old result (two_digits number) f.new }
+{
+    f.write_char((b'0' + number / 10) as char)?;
+    f.write_char((b'0' + number % 10) as char)
+}
+
+fn write_year<W: fmt::Write>(f: &mut fmt::Formatter<W>, year: i16) -> fmt::Result
+    requires { IsBetween (pos 0) (pos 9999) year }
+    ensures { WritesOnOk W.write_str_gives f.old result (four_digits (unsigned_abs year)) f.new }
+{
+    write_two_digits(f, (year / 100) as u8)?;
+    write_two_digits(f, (year % 100) as u8)
+}
+
+// The day of the week and of the month as `Tue, 03`.
+fn write_day<W: fmt::Write>(f: &mut fmt::Formatter<W>, date: DateTime) -> fmt::Result
+    ensures { WritesOnOk W.write_str_gives f.old result
+        (get_or day_names (weekday_of date.date) [] ++ codes ", " ++ two_digits date.date.day) f.new }
+{
+    f.write_str(day_name(date.weekday()))?;
+    f.write_str(", ")?;
+    write_two_digits(f, date.day() as u8)
+}
+
+// The month and the year as `Aug 2100`.
+fn write_month<W: fmt::Write>(f: &mut fmt::Formatter<W>, date: DateTime) -> fmt::Result
+    requires { pos 0 ≤ℤ date.date.year }
+    ensures { WritesOnOk W.write_str_gives f.old result
+        (get_or month_names (date.date.month - 1) [] ++ codes " " ++ four_digits (unsigned_abs date.date.year)) f.new }
+{
+    f.write_str(month_name(date.month()))?;
+    f.write_str(" ")?;
+    write_year(f, date.year())
+}
+
+// The time as `00:38:37`.
+fn write_clock<W: fmt::Write>(f: &mut fmt::Formatter<W>, date: DateTime) -> fmt::Result
+    ensures { WritesOnOk W.write_str_gives f.old result
+        (two_digits date.time.hour ++ codes ":" ++ two_digits date.time.minute
+        ++ codes ":" ++ two_digits date.time.second) f.new }
+{
+    write_two_digits(f, date.hour() as u8)?;
+    f.write_str(":")?;
+    write_two_digits(f, date.minute() as u8)?;
+    f.write_str(":")?;
+    write_two_digits(f, date.second() as u8)
+}
+
+// The day and the time as `Tue, 03 Aug 2100 00:38:37 GMT`.
+fn write_date<W: fmt::Write>(f: &mut fmt::Formatter<W>, date: DateTime) -> fmt::Result
+    requires { pos 0 ≤ℤ date.date.year }
+    ensures { WritesOnOk W.write_str_gives f.old result (date_text (moment_of date)) f.new }
+{
+    write_day(f, date)?;
+    f.write_str(" ")?;
+    write_month(f, date)?;
+    f.write_str(" ")?;
+    write_clock(f, date)?;
+    f.write_str(" GMT")
+}
+
+// An attribute that has no value, where it is set.
+fn write_flag<W: fmt::Write>(f: &mut fmt::Formatter<W>, label: &str, is_set: bool) -> fmt::Result
+    ensures { WritesOnOk W.write_str_gives f.old result (flag label.now is_set) f.new }
+{
+    if is_set { f.write_str(label) } else { Ok(()) }
+}
+
+// An attribute with its value, where it has one.
+fn write_part<W: fmt::Write>(
+    f: &mut fmt::Formatter<W>,
+    label: &str,
+    value: Option<&str>,
+) -> fmt::Result
+    ensures { WritesOnOk W.write_str_gives f.old result (optional label.now (option_copied value.entry)) f.new }
+{
+    match value {
+        Some(value) => write!(f, "{label}{value}"),
+        None => Ok(()),
+    }
+}
+
+fn write_site<W: fmt::Write>(f: &mut fmt::Formatter<W>, site: Option<SameSite>) -> fmt::Result
+    ensures { WritesOnOk W.write_str_gives f.old result
+        (optional (codes "; SameSite=") (option_map site_text site)) f.new }
+{
+    match site {
+        Some(site) => write!(f, "; SameSite={}", site_name(site)),
+        None => Ok(()),
+    }
+}
+
+fn write_age<W: fmt::Write>(f: &mut fmt::Formatter<W>, age: Option<SignedDuration>) -> fmt::Result
+    ensures { WritesOnOk W.write_str_gives f.old result
+        (optional (codes "; Max-Age=") (option_map age_text (option_map signed_nanos age))) f.new }
+{
+    match age {
+        Some(age) => write!(f, "; Max-Age={}", age.as_secs()),
+        None => Ok(()),
+    }
+}
+
+// Expires at a moment, where four digits can write its year.
+fn write_moment<W: fmt::Write>(f: &mut fmt::Formatter<W>, date: DateTime) -> fmt::Result
+    ensures { WritesOnOk W.write_str_gives f.old result
+        (optional (codes "; Expires=") (ending_text (At (moment_of date)))) f.new }
+{
+    if date.year() < 0 {
+        return Ok(());
+    }
+    f.write_str("; Expires=")?;
+    write_date(f, date)
+}
+
+fn write_ending<W: fmt::Write>(f: &mut fmt::Formatter<W>, expires: Expiration) -> fmt::Result
+    ensures { WritesOnOk W.write_str_gives f.old result
+        (optional (codes "; Expires=") (ending_text (ending expires))) f.new }
+{
+    match expires {
+        Expiration::DateTime(date) => write_moment(f, date),
+        Expiration::Session => Ok(()),
+    }
+}
+
+fn write_expires<W: fmt::Write>(
+    f: &mut fmt::Formatter<W>,
+    expires: Option<Expiration>,
+) -> fmt::Result
+    ensures { WritesOnOk W.write_str_gives f.old result
+        (optional (codes "; Expires=") (option_and_then ending_text (option_map ending expires))) f.new }
+{
+    match expires {
+        Some(expires) => write_ending(f, expires),
+        None => Ok(()),
+    }
+}
+
+// The name and the value, then HttpOnly, SameSite and Secure.
+fn write_pair<W: fmt::Write>(f: &mut fmt::Formatter<W>, cookie: &RawCookie<'_>) -> fmt::Result
+    ensures { WritesOnOk W.write_str_gives f.old result
+        (cookie.now.name ++ codes "=" ++ cookie.now.value
+        ++ flag (codes "; HttpOnly") (unwrap_or cookie.now.http_only false)
+        ++ optional (codes "; SameSite=") (option_map site_text cookie.now.same_site)
+        ++ flag (codes "; Secure") (unwrap_or cookie.now.secure (is_for_all_sites cookie.now.same_site))) f.new }
+{
+    let same_site = cookie.same_site();
+    let secure = cookie.secure().unwrap_or(is_for_all_sites(same_site));
+    write!(f, "{}={}", cookie.name(), cookie.value())?;
+    write_flag(f, "; HttpOnly", cookie.http_only().unwrap_or(false))?;
+    write_site(f, same_site)?;
+    write_flag(f, "; Secure", secure)
+}
+
+impl<'a> RawCookie<'a> {
+    /// The cookie as the value of a Set-Cookie header: name and value, then each attribute that there is, as
+    /// `a=1; HttpOnly; SameSite=Lax; Secure; Path=/; Domain=a.com; Max-Age=5; Expires=Tue, 03 Aug 2100 00:38:37 GMT`.
+    ///
+    /// Expires stands there at a moment of the years 0 to 9999.
+    pub fn to_text(&self, alloc: Global) -> Result<String, AllocError>
+        ensures { IfOk result (λ text. string_bytes text ≡ cookie_text self.now) }
+    {
+        self.to_string(alloc)
+    }
+}
+
+impl<'a> fmt::Display for RawCookie<'a> {
+    ghost use Rattle.std.specs.Prelude.{Some};
+    ghost use Rattle.cookie_raw.specs.CookieText.{cookie_text};
+
+    ghost output = { λ cookie. Some (cookie_text cookie) };
+
+    fn fmt<W: fmt::Write>(&self, f: &mut fmt::Formatter<W>) -> fmt::Result {
+        write_pair(f, self)?;
+        write_part(f, "; Path=", self.path())?;
+        write_part(f, "; Domain=", self.domain())?;
+        write_age(f, self.max_age())?;
+        write_expires(f, self.expires())
+    }
+}
