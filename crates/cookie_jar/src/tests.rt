@@ -13,7 +13,7 @@ use std::test::Fail;
 // A name, a script, and what it writes.
 type Row = (&'static str, &'static [u8], &'static str);
 
-const SCRIPTS: [Row; 9] = [
+const SCRIPTS: [Row; 13] = [
     (
         "a path",
         b"now 2026-01-01T00:00:00Z\n\
@@ -52,6 +52,49 @@ const SCRIPTS: [Row; 9] = [
           set data:x a=1\n",
         "bad line\nbad line\nbad line\nCookie:\n\
           refused: request-uri is not a relative scheme; cannot determine host\n",
+    ),
+    (
+        "a cookie that ends",
+        b"now 2026-01-01T00:00:00Z\n\
+          set http://example.com/ a=1; Max-Age=300\n\
+          set http://example.com/ a=2; Max-Age=0\n\
+          set http://example.com/ a=2; Max-Age=0\n\
+          get http://example.com/\n\
+          set http://example.com/ a=3\n\
+          get http://example.com/\n",
+        "inserted\nexpired existing\nrefused: attempted to utilize an Expired Cookie\nCookie:\n\
+          updated\nCookie: a=3\n",
+    ),
+    (
+        "an HttpOnly cookie until it has ended",
+        b"now 2026-01-01T00:00:00Z\n\
+          set http://example.com/ a=1; HttpOnly; Max-Age=60\n\
+          set ftp://example.com/ a=2\n\
+          now 2026-01-01T00:01:00Z\n\
+          set ftp://example.com/ a=2\n\
+          get ftp://example.com/\n",
+        "inserted\nrefused: request-uri is not an http scheme but HttpOnly attribute set\n\
+          updated\nCookie: a=2\n",
+    ),
+    (
+        "an age of zero before the epoch",
+        b"now 1969-12-31T23:59:00Z\n\
+          set http://example.com/ a=1\n\
+          set http://example.com/ a=2; Max-Age=0\n\
+          get http://example.com/\n\
+          now 1970-01-01T00:00:00Z\n\
+          get http://example.com/\n",
+        "inserted\nupdated\nCookie: a=2\nCookie:\n",
+    ),
+    (
+        "secure cookies",
+        b"now 2026-01-01T00:00:00Z\n\
+          set http://localhost/ s=1; Secure\n\
+          get http://localhost/\n\
+          set http://example.com/ t=1; Secure\n\
+          get http://example.com/\n\
+          get https://example.com/\n",
+        "inserted\nCookie: s=1\ninserted\nCookie:\nCookie: t=1\n",
     ),
     (
         "an empty text",

@@ -2,3 +2,4 @@ pub mod Affixes
 pub mod Hosts
 pub mod Ipv4
 pub mod Paths
+pub mod Scale

@@ -1,17 +1,20 @@
 -- Cookies, after RFC 6265 5.3 and 5.4.
-use Rattle.std.specs.Prelude.{ℕ, Bool, ◌&&◌, List, Option, Some, None, Result, Ok, Err, if◌then◌else◌}
+use Rattle.std.specs.Prelude.{ℕ, Bool, true, false, not, ◌&&◌, ◌||◌, List, Option, Some, None, unwrap_or, Result, Ok, Err, if◌then◌else◌}
+use Rattle.std.specs.Cmp.{IsEquivalence, and_equiv, on_equiv}
 use Rattle.std.specs.Result.{result_map_both}
 use Rattle.url.specs.Parts.{Parts}
-use Rattle.cookie_words.specs.Moments.{Moment}
-use Rattle.cookie_raw.specs.Raw.{Raw}
+use Rattle.cookie_words.specs.Moments.{Moment, epoch}
+use Rattle.cookie_words.specs.Texts.{without_dot}
+use Rattle.cookie_raw.specs.Raw.{Raw, Ending, At, pair}
+use Rattle.cookie_raw.specs.SameParts.{same_parts, same_parts_equiv}
 use Rattle.cookie_raw.specs.Reading.{reading}
-use Rattle.cookie_parts.specs.Domain.{DomainValue, domain_matches, domain_from_attribute}
+use Rattle.cookie_parts.specs.Domain.{DomainValue, domain_matches, domain_from_attribute, same_domain, same_domain_equiv}
 use Rattle.cookie_parts.specs.Domain as Domain
-use Rattle.cookie_parts.specs.Expiry.{Expiry, SessionEnd, is_by}
-use Rattle.cookie_parts.specs.Hosts.{host_of}
-use Rattle.cookie_parts.specs.Path.{PathValue, path_matches, path_or_default}
+use Rattle.cookie_parts.specs.Expiry.{Expiry, AtUtc, SessionEnd, expiry_of, is_by, same_expiry, same_expiry_equiv}
+use Rattle.cookie_parts.specs.Hosts.{host_of, is_http_scheme, is_secure}
+use Rattle.cookie_parts.specs.Path.{PathValue, path_matches, path_or_default, same_path, same_path_equiv}
 use Rattle.cookie_parts.specs.declared.cookie_error.CookieError.{CookieError}
-use Rattle.cookie_parts.specs.declared.cookie_error.CookieError.TheVariants.{NonRelativeScheme, DomainMismatch, Parse}
+use Rattle.cookie_parts.specs.declared.cookie_error.CookieError.TheVariants.{NonHttpScheme, NonRelativeScheme, DomainMismatch, Parse}
 
 -- what contracts see of a cookie
 pub record Row : Type 0 where
@@ -42,14 +45,28 @@ abbrev pub and_then : {S T E : Type 0} → Result S E → (S → Result T E) →
 and_then (Ok value) next = next value
 and_then (Err refusal) next = Err refusal
 
+-- the http-only-flag
+abbrev pub is_http_only : Raw → Bool
+is_http_only raw = unwrap_or raw.http_only false
+
+-- the secure-only-flag
+abbrev pub is_secure_only : Raw → Bool
+is_secure_only raw = unwrap_or raw.secure false
+
+-- an HttpOnly cookie and a URL whose scheme is not HTTP
+abbrev pub is_out_of_reach : Raw → Parts → Bool
+is_out_of_reach raw url = is_http_only raw && not (is_http_scheme url)
+
 -- 5.3: the cookie of a raw cookie that came from the URL at the moment, or why there is none
 unfoldable pub cookie_of : Raw → Parts → Moment → Result Row CookieError
-cookie_of raw url now = and_then (domain_at (domain_from_attribute raw.domain) url) (λ domain. Ok (record {
-  raw = raw;
-  domain = domain;
-  path = path_or_default raw.path url;
-  expires = SessionEnd;
-}))
+cookie_of raw url now =
+    if is_out_of_reach raw url then Err NonHttpScheme
+    else and_then (domain_at (domain_from_attribute raw.domain) url) (λ domain. Ok (record {
+      raw = raw;
+      domain = domain;
+      path = path_or_default raw.path url;
+      expires = expiry_of raw now;
+    }))
 
 -- 5.2: the raw cookie of a text, and `Parse` where it says none
 abbrev pub raw_cookie : List ℕ → Result Raw CookieError
@@ -65,4 +82,49 @@ is_expired now cookie = is_by now cookie.expires
 
 -- 5.4: the cookie is for the URL
 abbrev pub cookie_matches : Row → Parts → Bool
-cookie_matches cookie url = domain_matches cookie.domain url && path_matches cookie.path.text url
+cookie_matches cookie url =
+    domain_matches cookie.domain url && path_matches cookie.path.text url
+    && (not (is_secure_only cookie.raw) || is_secure url) && (not (is_http_only cookie.raw) || is_http_scheme url)
+
+-- the persistent-flag: the cookie ends at a moment
+abbrev pub is_persistent : Expiry → Bool
+is_persistent (AtUtc end) = true
+is_persistent SessionEnd = false
+
+-- the cookie, ended at the epoch
+abbrev pub ended : Row → Row
+ended cookie = record cookie { expires = AtUtc epoch }
+
+-- the same raw cookie, domain, path and end
+abbrev pub same_cookie : Row → Row → Bool
+same_cookie a b =
+    (same_parts a.raw b.raw && same_path a.path b.path)
+    && (same_domain a.domain b.domain && same_expiry a.expires b.expires)
+
+-- it is an equivalence
+pub same_cookie_equiv : IsEquivalence same_cookie
+same_cookie_equiv =
+    and_equiv (and_equiv (on_equiv (λ c. c.raw) same_parts_equiv) (on_equiv (λ c. c.path) same_path_equiv))
+    (and_equiv (on_equiv (λ c. c.domain) same_domain_equiv) (on_equiv (λ c. c.expires) same_expiry_equiv))
+
+-- the moment of an end, if it is at one
+abbrev pub said_end : Expiry → Option Ending
+said_end (AtUtc end) = Some (At end)
+said_end SessionEnd = None
+
+-- the domain that a cookie has for others than its own host
+abbrev pub said_domain : DomainValue → Option (List ℕ)
+said_domain (Domain.Suffix d) = Some (without_dot d)
+said_domain other = None
+
+-- the path, if a Path attribute set it
+abbrev pub said_path : PathValue → Option (List ℕ)
+said_path path = if path.is_from_attribute then Some path.text else None
+
+-- what a cookie says of itself as a raw cookie: name, value, and where it says so domain, path and end
+abbrev pub said : Row → Raw
+said cookie = record (pair cookie.raw.name cookie.raw.value) {
+  domain = said_domain cookie.domain;
+  path = said_path cookie.path;
+  expires = said_end cookie.expires;
+}

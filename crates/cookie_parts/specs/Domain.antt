@@ -1,11 +1,14 @@
 -- The hosts that a cookie is for, after RFC 6265 5.1.3 and 5.3 step 6.
-use Rattle.std.specs.Prelude.{◌≡◌, ℕ, ◌==◌, Bool, false, ◌||◌, List, [], bytes_eq, codes, length, Option, Some, None, option_map, if◌then◌else◌}
+use Rattle.std.specs.Prelude.{◌≡◌, ℕ, ◌==◌, Bool, false, ◌||◌, List, [], bytes_eq, codes, length, nat_eq, Option, Some, None, option_map, if◌then◌else◌}
+use Rattle.std.specs.Cmp.{IsEquivalence, and_equiv, on_equiv, nat_eq_equiv}
+use Rattle.std.specs.Cmp.Lexicographic.{on_texts_equal, pointwise}
+use Rattle.std.specs.Ordering.{eq_of_both, on}
 use Rattle.std.specs.Str.{trim}
 use Rattle.idna.specs.Uts46.{domain_to_ascii}
 use Rattle.idna.specs.declared.deny_list.TheConstants.AsciiDenyList.{EMPTY}
 use Rattle.url.specs.Parts.{Parts}
 use Rattle.cookie_words.specs.Texts.{without_dot}
-use Rattle.cookie_parts.specs.Hosts.{host_of, covers, Covers}
+use Rattle.cookie_parts.specs.Hosts.{host_of, covers, passes, Covers}
 
 -- for that one host, for every host that the domain covers, and for none: without a Domain attribute, and with an empty one
 pub data DomainValue : Type 0 where
@@ -21,10 +24,20 @@ domain_text (Suffix d) = d
 domain_text NotPresent = []
 domain_text Empty = []
 
--- a test of a value that there may be, false where there is none
-abbrev pub passes : {T : Type 0} → (T → Bool) → Option T → Bool
-passes test None = false
-passes test (Some x) = test x
+-- the place of the kind among the kinds
+abbrev pub kind_of : DomainValue → ℕ
+kind_of (HostOnly d) = 0
+kind_of (Suffix d) = 1
+kind_of NotPresent = 2
+kind_of Empty = 3
+
+-- the same kind and text
+abbrev pub same_domain : DomainValue → DomainValue → Bool
+same_domain = eq_of_both (on kind_of nat_eq) (on domain_text (pointwise nat_eq))
+
+-- it is an equivalence
+pub same_domain_equiv : IsEquivalence same_domain
+same_domain_equiv = and_equiv (on_equiv kind_of nat_eq_equiv) (on_texts_equal domain_text)
 
 -- the cookie is for this host
 abbrev pub is_for_host : DomainValue → List ℕ → Bool
@@ -36,6 +49,17 @@ is_for_host Empty host = false
 -- the URL has a host, and the cookie is for it
 abbrev pub domain_matches : DomainValue → Parts → Bool
 domain_matches domain url = passes (is_for_host domain) (host_of url)
+
+-- the domain names this host
+abbrev pub names_host : DomainValue → List ℕ → Bool
+names_host (HostOnly d) host = bytes_eq d host
+names_host (Suffix d) host = bytes_eq d host
+names_host NotPresent host = false
+names_host Empty host = false
+
+-- the URL has a host, and the domain names it
+abbrev pub host_is_identical : DomainValue → Parts → Bool
+host_is_identical domain url = passes (names_host domain) (host_of url)
 
 -- a text without white space at its ends, as a domain in ASCII by UTS #46, unless it is refused
 unfoldable pub ascii_of : List ℕ → Option (List ℕ)

@@ -1,5 +1,5 @@
 -- The texts of the refusals and faults.
-use Rattle.std.specs.Prelude.{ℕ, List, codes}
+use Rattle.std.specs.Prelude.{ℕ, List, codes, string_bytes}
 use Rattle.idna.specs.Errors.{errors_text}
 use Rattle.cookie_parts.specs.declared.cookie_error.CookieError.{CookieError}
 use Rattle.cookie_parts.specs.declared.cookie_error.CookieError.TheVariants.{NonHttpScheme, NonRelativeScheme, DomainMismatch, Expired, Parse, PublicSuffix, UnspecifiedDomain, Memory}
@@ -17,7 +17,11 @@ error_text PublicSuffix = codes "domain-attribute value is a public suffix"
 error_text UnspecifiedDomain = codes "domain-attribute is not specified"
 error_text Memory = codes "out of memory"
 
--- why a call that is not about one cookie failed: `idna` has words of its own
+-- why a call that is not about one cookie failed: `idna`, and the caller, have words of their own
 abbrev pub fault_text : Error → List ℕ
+fault_text (Fault.Cookie refusal) = error_text refusal
 fault_text (Fault.Idna errors) = errors_text errors.fault
+fault_text Fault.Io = codes "a read or a write failed"
+fault_text (Fault.Other text) = string_bytes text
 fault_text Fault.Memory = codes "out of memory"
+fault_text Fault.NotUtf8 = codes "a text is not UTF-8"

@@ -1,10 +1,18 @@
 -- Hosts, and which domains cover them.
-use Rattle.std.specs.Prelude.{◌≡◌, ℕ, ◌==◌, Bool, not, ◌&&◌, ◌||◌, nat_le, List, ◌∷◌, ◌++◌, length, bytes_eq, nat_eq, decimal, Option, option_map, IsTrue, ◌⊎◌}
-use Rattle.std.specs.List.{list_all, list_any, ends_with}
+use Rattle.std.specs.Prelude.{◌≡◌, ℕ, ◌==◌, Bool, false, not, ◌&&◌, ◌||◌, nat_le, List, [], ◌∷◌, ◌++◌, length, slice_index, bytes_eq, codes, nat_eq, decimal, Option, Some, None, option_map, IsTrue, ◌⊎◌}
+use Rattle.std.specs.List.{list_all, list_any, ends_with, starts_with}
+use Rattle.std.specs.Net.Addr.{ipv4_octets, ipv6_segments}
 use Rattle.std.specs.Str.Parse.{digits_value}
 use Rattle.url.specs.Host.{host_text}
+use Rattle.url.specs.declared.host.Host.{Host}
+use Rattle.url.specs.declared.host.Host.TheVariants.{Domain, Ipv4, Ipv6}
 use Rattle.url.specs.Parts.{Parts, nonempty_host}
 use Rattle.cookie_words.specs.Texts.{pieces}
+
+-- a test of a value that there may be, false where there is none
+abbrev pub passes : {T : Type 0} → (T → Bool) → Option T → Bool
+passes test None = false
+passes test (Some x) = test x
 
 -- the text of a URL's host, if it has one that is not empty
 abbrev pub host_of : Parts → Option (List ℕ)
@@ -30,3 +38,17 @@ Covers domain host = (domain ≡ host)
 -- the same as a test
 abbrev pub covers : List ℕ → List ℕ → Bool
 covers domain host = bytes_eq domain host || ends_with nat_eq host (46 ∷ domain) && is_host_name host
+
+-- the scheme begins with `http`
+unfoldable pub is_http_scheme : Parts → Bool
+is_http_scheme url = starts_with nat_eq url.scheme (codes "http")
+
+-- the host is this machine: `localhost`, an IPv4 address of 127.0.0.0/8, or the IPv6 address ::1
+abbrev pub is_loopback : Host (List ℕ) → Bool
+is_loopback (Domain name) = bytes_eq name (codes "localhost")
+is_loopback (Ipv4 address) = slice_index (ipv4_octets address) 0 == 127
+is_loopback (Ipv6 address) = bytes_eq (ipv6_segments address) (0 ∷ 0 ∷ 0 ∷ 0 ∷ 0 ∷ 0 ∷ 0 ∷ 1 ∷ [])
+
+-- RFC 6265 5.4: a secure protocol, which is `https`, or any within this machine
+unfoldable pub is_secure : Parts → Bool
+is_secure url = bytes_eq url.scheme (codes "https") || passes is_loopback (nonempty_host url)

@@ -22,9 +22,11 @@ abbrev pub GivesDomain : Result CookieDomain Error → Option DomainValue → Ty
 GivesDomain (Ok domain) answer = answer ≡ Some (domain_value domain)
 GivesDomain (Err (Fault.Idna fault)) answer = answer ≡ None
 GivesDomain (Err Fault.Memory) answer = ⊤
+GivesDomain (Err other) answer = ⊥
 
 -- the same of a domain name in ASCII
 abbrev pub GivesAscii : Result (CowStr Global) Error → Option (List ℕ) → Type 0
 GivesAscii (Ok text) answer = answer ≡ Some (cow_str_bytes text)
 GivesAscii (Err (Fault.Idna fault)) answer = answer ≡ None
 GivesAscii (Err Fault.Memory) answer = ⊤
+GivesAscii (Err other) answer = ⊥

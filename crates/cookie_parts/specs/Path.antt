@@ -1,5 +1,10 @@
 -- The paths that a cookie is for, after RFC 6265 5.1.4.
 use Rattle.std.specs.Prelude.{◌≡◌, ℕ, ◌==◌, Bool, true, false, not, ◌&&◌, ◌||◌, List, [], ◌∷◌, ◌++◌, length, take, drop, nat_eq, codes, Option, Some, None, unwrap_or, ◌⊎◌, if◌then◌else◌}
+use Rattle.std.specs.Bool.{beq}
+use Rattle.std.specs.Cmp.{IsEquivalence, and_equiv, on_equiv, bool_eq_equiv}
+use Rattle.std.specs.Cmp.Lexicographic.{on_texts_equal, pointwise, slice_cmp}
+use Rattle.std.specs.Ordering.{bool_cmp, eq_of_both, nat_cmp, on, then_cmp}
+use Rattle.std.specs.declared.cmp.Ordering.{Ordering}
 use Rattle.std.specs.List.{before_last, ends_with, list_any, starts_with}
 use Rattle.url.specs.Parts.{Parts, cannot_be_a_base}
 
@@ -60,3 +65,15 @@ covers_path path request =
 -- a cookie of this path is for the URL
 abbrev pub path_matches : List ℕ → Parts → Bool
 path_matches path url = not (cannot_be_a_base url) && covers_path path url.path
+
+-- the same text, and set by a Path attribute both or neither
+abbrev pub same_path : PathValue → PathValue → Bool
+same_path = eq_of_both (on (λ p. p.text) (pointwise nat_eq)) (on (λ p. p.is_from_attribute) beq)
+
+-- it is an equivalence
+pub same_path_equiv : IsEquivalence same_path
+same_path_equiv = and_equiv (on_texts_equal (λ p. p.text)) (on_equiv (λ p. p.is_from_attribute) bool_eq_equiv)
+
+-- ordered by the text, and then those that no Path attribute set come first
+abbrev pub compare_paths : PathValue → PathValue → Ordering
+compare_paths = then_cmp (on (λ p. p.text) (slice_cmp nat_cmp)) (on (λ p. p.is_from_attribute) bool_cmp)

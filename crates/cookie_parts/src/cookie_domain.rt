@@ -1,10 +1,10 @@
 //! The hosts that a cookie is for, RFC 6265 5.1.3 and 5.2.3.
-ghost use Rattle.std.specs.Prelude.{◌≡◌, ◌↔◌, ◌∷◌, Err, IsOk, IsTrue, None, Some, nat_eq};
+ghost use Rattle.std.specs.Prelude.{◌≡◌, ◌↔◌, ◌∷◌, Err, IfOk, IsOk, IsTrue, None, Some, nat_eq, string_bytes};
 ghost use Rattle.std.specs.List.{ends_with};
 ghost use Rattle.std.specs.Option.{option_copied};
 ghost use Rattle.cookie_parts.specs.Cookie.{host_alone};
 ghost use Rattle.cookie_parts.specs.Domain as Domain;
-ghost use Rattle.cookie_parts.specs.Domain.{ascii_of, domain_from_attribute, domain_from_text, domain_matches, text_if_any, IsForHost};
+ghost use Rattle.cookie_parts.specs.Domain.{ascii_of, domain_from_attribute, domain_from_text, domain_matches, domain_text, host_is_identical, text_if_any, IsForHost};
 ghost use Rattle.cookie_parts.specs.Hosts.{covers, host_of};
 ghost use Rattle.cookie_parts.specs.Outcomes.{Gives, GivesAscii, GivesDomain};
 ghost use Rattle.cookie_parts.specs.Views.{domain_value};
@@ -14,12 +14,12 @@ use crate::{CookieError, Error, IdnaErrors};
 use cookie_raw::RawCookie;
 use cookie_words::without_dot;
 use idna::{AsciiDenyList, Errors, domain_to_ascii_cow};
-use std::alloc::Global;
+use std::alloc::{AllocError, Global};
 use std::borrow::CowStr;
 use url::Url;
 
-/// The hosts that a cookie is for.
-#[derive(Debug, Drop)]
+/// The hosts that a cookie is for. Domains are ordered by their kinds, as they stand here, and then by their texts.
+#[derive(Debug, PartialEq, Eq, PartialOrd, Ord, Hash, Drop)]
 pub enum CookieDomain {
     /// The host that the cookie came from, and no other.
     HostOnly(String),
@@ -31,11 +31,28 @@ pub enum CookieDomain {
     Empty,
 }
 
+impl Clone for CookieDomain {
+    ghost use Rattle.std.specs.Prelude.{◌≡◌};
+    ghost use Rattle.cookie_parts.specs.Views.{domain_value};
+
+    ghost is_clone = { λ domain copy. domain_value copy ≡ domain_value domain };
+
+    fn clone(&self) -> Result<CookieDomain, AllocError> {
+        Ok(match self {
+            CookieDomain::HostOnly(domain) => CookieDomain::HostOnly(domain.clone()?),
+            CookieDomain::Suffix(domain) => CookieDomain::Suffix(domain.clone()?),
+            CookieDomain::NotPresent => CookieDomain::NotPresent,
+            CookieDomain::Empty => CookieDomain::Empty,
+        })
+    }
+}
+
 impl CookieDomain {
     /// For the host of the URL alone. A URL without a host is refused `NonRelativeScheme`.
     pub fn host_only(alloc: Global, url: &Url) -> Result<CookieDomain, CookieError>
         ensures value { Gives domain_value result (host_alone (host_of url.now)) }
         ensures without_host { host_of url.now ≡ None → result ≡ Err CookieError.NonRelativeScheme }
+        ensures matches { IfOk result (λ domain. IsTrue (domain_matches (domain_value domain) url.now)) }
     {
         match url.host_str() {
             Some(host) => match String::from_str(alloc, host) {
@@ -87,6 +104,27 @@ impl CookieDomain {
             CookieDomain::HostOnly(domain) => domain.as_str() == host,
             CookieDomain::Suffix(domain) => covers(domain.as_str(), host),
             CookieDomain::NotPresent | CookieDomain::Empty => false,
+        }
+    }
+
+    /// Whether the domain is the host of the URL; then it matches the URL.
+    pub fn host_is_identical(&self, url: &Url) -> bool
+        ensures value { result ≡ host_is_identical (domain_value self.now) url.now }
+        ensures matches { IsTrue result → IsTrue (domain_matches (domain_value self.now) url.now) }
+    {
+        match (self.as_cow(), url.host_str()) {
+            (Some(domain), Some(host)) => domain == host,
+            _ => false,
+        }
+    }
+
+    /// A copy of the text, empty for the kinds without one.
+    pub fn to_string_in(&self, alloc: Global) -> Result<String, AllocError>
+        ensures { IfOk result (λ text. string_bytes text ≡ domain_text (domain_value self.now)) }
+    {
+        match self.as_cow() {
+            Some(domain) => String::from_str(alloc, domain),
+            None => Ok(String::new(alloc)),
         }
     }
 

@@ -2,6 +2,7 @@
 ghost use Rattle.std.specs.Prelude.{◌≡◌};
 ghost use Rattle.cookie_parts.specs.Errors.{error_text};
 
+use cookie_raw::RawCookieParseError;
 use std::fmt;
 
 /// Why a cookie was refused.
@@ -56,3 +57,14 @@ impl fmt::Display for CookieError {
 }
 
 impl std::error::Error for CookieError {}
+
+impl From<RawCookieParseError> for CookieError {
+    ghost use Rattle.std.specs.Prelude.{◌≡◌};
+    ghost use Rattle.cookie_parts.specs.declared.cookie_error.CookieError.TheVariants.{Parse};
+
+    ghost from_gives = { λ _ refusal. refusal ≡ Parse };
+
+    fn from(_error: RawCookieParseError) -> CookieError {
+        CookieError::Parse
+    }
+}

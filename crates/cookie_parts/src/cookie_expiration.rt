@@ -1,10 +1,16 @@
 //! When a cookie ends, RFC 6265 5.3 step 3.
-ghost use Rattle.std.specs.Prelude.{◌≡◌};
-ghost use Rattle.cookie_words.specs.Moments.{moment_of};
-ghost use Rattle.cookie_parts.specs.Expiry.{is_by};
+ghost use Rattle.std.specs.Prelude.{◌≡◌, min, pos, ◌+ℤ◌, ◌≤ℤ◌, ◌<ℤ◌, IsTrue};
+ghost use Rattle.jiff.specs.Words.{signed_nanos};
+ghost use Rattle.cookie_words.specs.Moments.{epoch, moment_of, nanoseconds, Moment};
+ghost use Rattle.cookie_raw.specs.Reading.{of_seconds};
+ghost use Rattle.cookie_raw.specs.Views.{ending};
+ghost use Rattle.cookie_parts.specs.Expiry.{at_moment, by_latest, is_by, latest, of_age, of_ending};
 ghost use Rattle.cookie_parts.specs.Views.{expiry_value};
 
-use jiff::civil::DateTime;
+use cookie_raw::Expiration;
+use cookie_words::moments_are_on_the_scale;
+use jiff::SignedDuration;
+use jiff::civil::{DateTime, date};
 
 /// When a cookie ends, RFC 6265 5.3 step 3.
 #[derive(Clone, Copy, Debug)]
@@ -16,6 +22,42 @@ pub enum CookieExpiration {
 }
 
 impl CookieExpiration {
+    /// So many seconds from the moment on, as [`from_duration`](Self::from_duration) counts them.
+    pub fn from_secs(secs: u64, now: DateTime) -> CookieExpiration
+        ensures { expiry_value result ≡ of_age (of_seconds (min secs 9_223_372_036_854_775_807)) (moment_of now) }
+    {
+        let secs = i64::try_from(secs).unwrap_or(i64::MAX);
+        CookieExpiration::from_duration(SignedDuration::from_secs(secs), now)
+    }
+
+    /// After the duration from the moment on, but not after 9999-12-31T23:59:59. For a duration of zero or less it is
+    /// 1970-01-01T00:00:00.
+    pub fn from_duration(duration: SignedDuration, now: DateTime) -> CookieExpiration
+        ensures { expiry_value result ≡ of_age (signed_nanos duration) (moment_of now) }
+    {
+        if duration <= SignedDuration::ZERO {
+            return CookieExpiration::AtUtc(epoch());
+        }
+        CookieExpiration::AtUtc(after(now, duration))
+    }
+
+    /// At the moment, but not after 9999-12-31T23:59:59.
+    pub fn from_moment(moment: DateTime) -> CookieExpiration
+        ensures { expiry_value result ≡ at_moment (moment_of moment) }
+    {
+        CookieExpiration::AtUtc(no_later(moment))
+    }
+
+    /// What an Expires attribute says.
+    pub fn from_expiration(expiration: Expiration) -> CookieExpiration
+        ensures { expiry_value result ≡ of_ending (ending expiration) }
+    {
+        match expiration {
+            Expiration::DateTime(moment) => CookieExpiration::AtUtc(moment),
+            Expiration::Session => CookieExpiration::SessionEnd,
+        }
+    }
+
     /// Whether the cookie has ended at the moment.
     pub fn is_expired(&self, now: DateTime) -> bool
         ensures { result ≡ is_by (moment_of now) (expiry_value self.now) }
@@ -23,13 +65,86 @@ impl CookieExpiration {
         self.expires_by(&now)
     }
 
-    /// Whether the cookie ends at the moment or before it.
+    /// Whether the cookie ends at the moment or before it. Then it does so by every later moment.
     pub fn expires_by(&self, moment: &DateTime) -> bool
-        ensures { result ≡ is_by (moment_of moment.now) (expiry_value self.now) }
+        ensures value { result ≡ is_by (moment_of moment.now) (expiry_value self.now) }
+        ensures later { (later : Moment) → nanoseconds (moment_of moment.now) ≤ℤ nanoseconds later
+            → IsTrue result → IsTrue (is_by later (expiry_value self.now)) }
     {
         match self {
             CookieExpiration::AtUtc(end) => end <= moment,
             CookieExpiration::SessionEnd => false,
         }
+    }
+}
+
+impl PartialEq for CookieExpiration {
+    ghost use Rattle.cookie_parts.specs.Expiry.{same_expiry, same_expiry_equiv};
+    ghost use Rattle.cookie_parts.specs.Views.{expiry_value};
+    ghost use Rattle.std.specs.Ordering.{on};
+    ghost use Rattle.std.specs.Cmp.{on_equiv, partial_equiv_from_equiv};
+
+    ghost eq = { on expiry_value same_expiry };
+
+    ghost laws = { partial_equiv_from_equiv (on_equiv expiry_value same_expiry_equiv) };
+
+    // Fractions of a second do not count.
+    fn eq(&self, other: &CookieExpiration) -> bool {
+        match (self, other) {
+            (CookieExpiration::AtUtc(end), CookieExpiration::AtUtc(other)) => {
+                whole_seconds(*end) == whole_seconds(*other)
+            }
+            (CookieExpiration::SessionEnd, CookieExpiration::SessionEnd) => true,
+            _ => false,
+        }
+    }
+}
+
+impl Eq for CookieExpiration {
+    ghost use Rattle.cookie_parts.specs.Expiry.{same_expiry_equiv};
+    ghost use Rattle.cookie_parts.specs.Views.{expiry_value};
+    ghost use Rattle.std.specs.Cmp.{on_equiv};
+
+    ghost laws = { on_equiv expiry_value same_expiry_equiv };
+}
+
+// The moment without a fraction of a second.
+fn whole_seconds(moment: DateTime) -> DateTime
+    ensures { moment_of result ≡ record (moment_of moment) { nanosecond = 0 } }
+{
+    moment
+        .date()
+        .at(moment.hour(), moment.minute(), moment.second(), 0)
+}
+
+fn epoch() -> DateTime
+    ensures { moment_of result ≡ epoch }
+{
+    date(1970, 1, 1).at(0, 0, 0, 0)
+}
+
+fn latest() -> DateTime
+    ensures { moment_of result ≡ latest }
+{
+    date(9999, 12, 31).at(23, 59, 59, 0)
+}
+
+// The moment, or the latest one where that is later.
+fn no_later(moment: DateTime) -> DateTime
+    ensures { moment_of result ≡ by_latest (nanoseconds (moment_of moment)) }
+{
+    moments_are_on_the_scale();
+    moment.min(latest())
+}
+
+// The moment after a duration, or the latest one where that is later.
+fn after(now: DateTime, duration: SignedDuration) -> DateTime
+    requires { pos 0 <ℤ signed_nanos duration }
+    ensures { moment_of result ≡ by_latest (nanoseconds (moment_of now) +ℤ signed_nanos duration) }
+{
+    moments_are_on_the_scale();
+    match now.checked_add(duration) {
+        Ok(end) => end.min(latest()),
+        Err(_) => latest(),
     }
 }

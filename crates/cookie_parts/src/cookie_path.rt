@@ -1,10 +1,12 @@
 //! The paths that a cookie is for, RFC 6265 5.1.4 and 5.2.4.
-ghost use Rattle.std.specs.Prelude.{◌≡◌, ◌==◌, ◌&&◌, ◌||◌, ◌∷◌, ◌↔◌, [], false, Some, drop, length, nat_eq, IfOk, IsTrue};
+ghost use Rattle.std.specs.Prelude.{◌≡◌, ◌==◌, ◌&&◌, ◌||◌, ◌∷◌, ◌↔◌, [], false, Some, drop, length, nat_eq, string_bytes, IfOk, IsTrue};
 ghost use Rattle.std.specs.List.{ends_with, starts_with};
 ghost use Rattle.url.specs.Parts.{cannot_be_a_base};
 ghost use Rattle.cookie_parts.specs.Path.{absolute_path, covers_path, default_path, directory, from_url, path_matches, path_or_default, CoversPath};
 
 use std::alloc::{AllocError, Global};
+use std::cmp::Ordering;
+use std::hash::{Hash, Hasher};
 use std::marker::Model;
 use url::Url;
 
@@ -31,7 +33,7 @@ impl CookiePath {
         ensures meaning { IsTrue result
             ↔ (cannot_be_a_base url.now ≡ false) × CoversPath self.now.text url.now.path }
     {
-        !url.cannot_be_a_base() && covers(self.path.as_bytes(), url.path().as_bytes())
+        is_match(self.as_str(), url)
     }
 
     /// Whether a Path attribute set the path.
@@ -74,12 +76,122 @@ impl CookiePath {
         }))
     }
 
+    /// The text of the path, which is given up.
+    pub fn into_string(self) -> String
+        ensures { string_bytes result ≡ self.text }
+    {
+        let CookiePath { path, .. } = self;
+        path
+    }
+
+    /// A copy of the text of the path.
+    pub fn to_string_in(&self, alloc: Global) -> Result<String, AllocError>
+        ensures { IfOk result (λ text. string_bytes text ≡ self.now.text) }
+    {
+        String::from_str(alloc, self.as_str())
+    }
+
     /// The text of the path.
     pub fn as_str(&self) -> &str
         ensures { result.now ≡ self.now.text }
     {
         self.path.as_str()
     }
+}
+
+impl Clone for CookiePath {
+    ghost use Rattle.std.specs.Prelude.{◌≡◌};
+
+    ghost is_clone = { λ path copy. copy ≡ path };
+
+    fn clone(&self) -> Result<CookiePath, AllocError> {
+        Ok(CookiePath {
+            path: self.path.clone()?,
+            from_attr: self.from_attr,
+        })
+    }
+}
+
+impl PartialEq for CookiePath {
+    ghost use Rattle.std.specs.Cmp.Rules.{comparing};
+    ghost use Rattle.std.proofs.Common.{rules};
+    ghost use Rattle.cookie_parts.specs.Path.{same_path};
+
+    ghost eq = { same_path };
+
+    ghost laws = { Prim.search (comparing, rules) };
+
+    fn eq(&self, other: &CookiePath) -> bool {
+        self.path == other.path && self.from_attr == other.from_attr
+    }
+}
+
+impl Eq for CookiePath {
+    ghost use Rattle.std.specs.Cmp.Rules.{comparing};
+    ghost use Rattle.std.proofs.Common.{rules};
+
+    ghost laws = { Prim.search (comparing, rules) };
+}
+
+impl PartialOrd for CookiePath {
+    ghost use Rattle.std.specs.Cmp.{partial_order_from_own_ties};
+    ghost use Rattle.std.specs.Cmp.Rules.{comparing};
+    ghost use Rattle.std.specs.Ordering.{as_partial_cmp};
+    ghost use Rattle.std.proofs.Common.{rules};
+    ghost use Rattle.cookie_parts.specs.Path.{compare_paths};
+
+    ghost partial_cmp = { as_partial_cmp compare_paths };
+
+    ghost laws = { partial_order_from_own_ties (Prim.search (comparing, rules)) (Prim.search (comparing, rules)) };
+
+    fn partial_cmp(&self, other: &CookiePath) -> Option<Ordering> {
+        Some(self.cmp(other))
+    }
+}
+
+impl Ord for CookiePath {
+    ghost use Rattle.std.specs.Cmp.Rules.{comparing};
+    ghost use Rattle.std.proofs.Common.{rules};
+    ghost use Rattle.cookie_parts.specs.Path.{compare_paths};
+
+    ghost cmp = { compare_paths };
+
+    ghost total = { Prim.search (comparing, rules) };
+
+    ghost matches_partial_cmp = { Prim.search (comparing, rules) };
+
+    ghost matches_eq = { Prim.search (comparing, rules) };
+
+    fn cmp(&self, other: &CookiePath) -> Ordering {
+        self.as_str()
+            .cmp(other.as_str())
+            .then(self.from_attr.cmp(&other.from_attr))
+    }
+}
+
+impl Hash for CookiePath {
+    ghost use Rattle.std.specs.Cmp.Rules.{hashing};
+    ghost use Rattle.std.specs.Hash as fed;
+    ghost use Rattle.std.specs.Prelude.{◌++◌};
+    ghost use Rattle.std.proofs.Common.{rules};
+
+    ghost hash_input = { λ path. fed.str path.text ++ fed.bool path.is_from_attribute };
+
+    ghost respects_eq = { Prim.search (hashing, rules) };
+
+    fn hash<H: Hasher>(&self, state: &mut H) {
+        self.as_str().hash(state);
+        self.is_from_path_attr().hash(state);
+    }
+}
+
+/// Whether a cookie of this path is for the URL's path. No path is for a URL that cannot be a base.
+pub fn is_match(cookie_path: &str, request_url: &Url) -> bool
+    ensures value { result ≡ path_matches cookie_path.now request_url.now }
+    ensures meaning { IsTrue result
+        ↔ (cannot_be_a_base request_url.now ≡ false) × CoversPath cookie_path.now request_url.now.path }
+{
+    !request_url.cannot_be_a_base() && covers(cookie_path.as_bytes(), request_url.path().as_bytes())
 }
 
 // RFC 6265 5.1.4: the request path is the path and a rest, where the rest is empty, or the path ends with `/`, or the

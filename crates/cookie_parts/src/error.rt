@@ -1,4 +1,5 @@
 //! Why a call that is not about one cookie failed.
+use crate::CookieError;
 use std::fmt;
 
 /// The fault that `idna` found in a domain.
@@ -31,12 +32,20 @@ impl fmt::Display for IdnaErrors {
 impl std::error::Error for IdnaErrors {}
 
 /// Why a call that is not about one cookie failed.
-#[derive(Clone, Copy, Debug)]
+#[derive(Debug, Drop)]
 pub enum Error {
+    /// A cookie was refused.
+    Cookie(CookieError),
     /// `idna` refused a domain.
     Idna(IdnaErrors),
+    /// A reader or a writer failed.
+    Io,
+    /// What a caller's own function says.
+    Other(String),
     /// The allocator had no memory.
     Memory,
+    /// A text is no UTF-8.
+    NotUtf8,
 }
 
 impl fmt::Display for Error {
@@ -47,10 +56,17 @@ impl fmt::Display for Error {
 
     fn fmt<W: fmt::Write>(&self, f: &mut fmt::Formatter<W>) -> fmt::Result {
         match self {
+            Error::Cookie(refusal) => refusal.fmt(f),
             Error::Idna(fault) => fault.fmt(f),
+            Error::Io => f.write_str("a read or a write failed"),
+            Error::Other(text) => f.write_str(text.as_str()),
             Error::Memory => f.write_str("out of memory"),
+            Error::NotUtf8 => f.write_str("a text is not UTF-8"),
         }
     }
 }
 
 impl std::error::Error for Error {}
+
+/// What a call answers that is not about one cookie.
+pub type StoreResult<T> = Result<T, Error>;

@@ -16,7 +16,7 @@ pub use cookie_domain::CookieDomain;
 pub use cookie_error::CookieError;
 pub use cookie_expiration::CookieExpiration;
 pub use cookie_path::CookiePath;
-pub use error::{Error, IdnaErrors};
+pub use error::{Error, IdnaErrors, StoreResult};
 pub use store_action::StoreAction;
 
 #[cfg(test)]

@@ -1,7 +1,7 @@
--- What `after_last` and `replaced` leave of a list.
+-- What `after_last`, `replaced` and `changed` leave of a list.
 use Rattle.std.proofs.Common.{◌≡◌, Bool, true, false, ◌||◌, List, [], ◌∷◌, map, refl, arith}
 use Rattle.std.specs.List.{list_any}
-use Rattle.cookie_store.specs.Rows.{after_last, replaced}
+use Rattle.cookie_store.specs.Rows.{after_last, changed, replaced}
 
 -- whether the first item passes
 abbrev pub starts : {T : Type 0} → (T → Bool) → List T → Bool
@@ -31,3 +31,8 @@ map-after_last f test (x ∷ xs) y = grind (arith, list_any-map f test xs, map-a
 pub map-replaced : {A B : Type 0} (f : A → B) (test : A → Bool) (xs : List A) (y : A) → ((x : A) → test x ≡ true → f x ≡ f y) → map f (replaced test xs y) ≡ map f xs
 map-replaced f test [] y same = refl
 map-replaced f test (x ∷ xs) y same = grind (arith, same x, map-replaced f test xs y same)
+
+-- a function that has the same value of an item that was changed doesn't see the change
+pub map-changed : {A B : Type 0} (f : A → B) (test : A → Bool) (change : A → A) (xs : List A) → ((x : A) → f (change x) ≡ f x) → map f (changed test change xs) ≡ map f xs
+map-changed f test change [] same = refl
+map-changed f test change (x ∷ xs) same = grind (arith, same x, map-changed f test change xs same)

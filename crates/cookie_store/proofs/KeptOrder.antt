@@ -1,13 +1,13 @@
 -- What `put` keeps of the order of the rows.
-use Rattle.std.proofs.Common.{◌≡◌, Bool, true, false, ◌&&◌, List, map, bytes_eq, ◌∙◌, sym, subst}
+use Rattle.std.proofs.Common.{◌≡◌, Bool, true, false, ◌&&◌, List, map, bytes_eq, ◌∙◌, refl, sym, subst}
 use Rattle.std.specs.List.{list_any}
 use Rattle.std.specs.Cmp.{IsEquivalence}
 use Rattle.std.proofs.lemmas.Bool.{cond_both, and_parts, and_from}
 use Rattle.std.proofs.lemmas.Cmp.{nat_list_eq_equiv, on_equiv, and_equiv}
 use Rattle.std.proofs.lemmas.Slice.Eq.{bytes_eq-Decides}
-use Rattle.cookie_parts.specs.Cookie.{Row}
-use Rattle.cookie_store.specs.Rows.{Key, key_of, same_domain, same_group, same_key, in_domain, in_group, has_key, after_last, replaced, placed, put, differ, stand_together, are_rows}
-use Rattle.cookie_store.proofs.AfterLast.{list_any-map, map-after_last, map-replaced}
+use Rattle.cookie_parts.specs.Cookie.{Row, ended}
+use Rattle.cookie_store.specs.Rows.{Key, key_of, same_domain, same_group, same_key, in_domain, in_group, has_key, after_last, changed, replaced, placed, put, differ, stand_together, are_rows}
+use Rattle.cookie_store.proofs.AfterLast.{list_any-map, map-after_last, map-changed, map-replaced}
 use Rattle.cookie_store.proofs.StandTogether.{differ-after_last, together-after_like, together-after_any, together-after_unlike}
 
 -- the three tests of keys are equivalences
@@ -107,3 +107,7 @@ are_rows-put rows cookie h =
     cond_both (list_any (has_key key) rows) (replaced (has_key key) rows cookie) (placed rows cookie) (λ zs. are_rows zs ≡ true)
     (λ some. are_keys-replaced key_of rows cookie h)
     (λ new. are_rows-placed rows cookie new h)
+
+-- rows of which one was ended keep the order
+pub are_rows-ended : (test : Row → Bool) (rows : List Row) → are_rows rows ≡ true → are_rows (changed test ended rows) ≡ true
+are_rows-ended test rows h = subst (λ keys. are_keys keys ≡ true) (sym (map-changed key_of test ended rows (λ row. refl))) h

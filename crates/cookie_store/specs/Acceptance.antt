@@ -1,18 +1,24 @@
 -- What a store does with a cookie that came from a URL, after RFC 6265 5.3.
-use Rattle.std.specs.Prelude.{List, Option, Result, Ok, Err, is_some, if◌then◌else◌}
+use Rattle.std.specs.Prelude.{Bool, not, ◌&&◌, List, Option, Result, Ok, Err, is_some, ⊤, if◌then◌else◌}
 use Rattle.url.specs.Parts.{Parts}
-use Rattle.cookie_parts.specs.Cookie.{Row}
+use Rattle.cookie_words.specs.Moments.{Moment}
+use Rattle.cookie_parts.specs.Cookie.{Row, and_then, ended, is_expired, is_out_of_reach}
 use Rattle.cookie_parts.specs.Domain.{domain_matches}
+use Rattle.cookie_parts.specs.Hosts.{passes}
 use Rattle.cookie_parts.specs.declared.cookie_error.CookieError.{CookieError}
-use Rattle.cookie_parts.specs.declared.cookie_error.CookieError.TheVariants.{DomainMismatch}
+use Rattle.cookie_parts.specs.declared.cookie_error.CookieError.TheVariants.{NonHttpScheme, NonRelativeScheme, DomainMismatch, Expired, Parse, UnspecifiedDomain}
 use Rattle.cookie_parts.specs.declared.store_action.StoreAction.{StoreAction}
 use Rattle.cookie_parts.specs.declared.store_action.StoreAction.TheVariants.{Inserted, ExpiredExisting, UpdatedExisting}
-use Rattle.cookie_store.specs.Rows.{key_of, row_of, put}
+use Rattle.cookie_store.specs.Rows.{changed, has_key, key_of, row_of, put}
 
 -- the reply to an insertion, and the rows after it
 pub record Outcome : Type 0 where
   pub reply : Result StoreAction CookieError
   pub rows : List Row
+
+-- step 10: an HttpOnly cookie comes by HTTP alone, else `NonHttpScheme`
+abbrev pub by_scheme : Parts → Row → Result Row CookieError
+by_scheme url cookie = if is_out_of_reach cookie.raw url then Err NonHttpScheme else Ok cookie
 
 -- step 6: the cookie, if it is for the host that it comes from, else `DomainMismatch`
 abbrev pub by_domain : Parts → Row → Result Row CookieError
@@ -20,17 +26,31 @@ by_domain url cookie = if domain_matches cookie.domain url then Ok cookie else E
 
 -- the cookie that may enter the store, or why it may not, whatever is stored
 abbrev pub admitted : Parts → Row → Result Row CookieError
-admitted url cookie = by_domain url cookie
+admitted url cookie = and_then (by_scheme url cookie) (by_domain url)
 
--- step 11: the reply to a cookie that may enter, by the row of its key, if there is one
-abbrev pub reply_at : Option Row → Result StoreAction CookieError
-reply_at row = Ok (if is_some row then UpdatedExisting else Inserted)
+-- the row has not ended
+abbrev pub is_live : Moment → Row → Bool
+is_live now row = not (is_expired now row)
 
--- the rows that a reply leaves: a cookie that entered was put
+-- what is done with a cookie that is put, by the row of its key, if there is one
+abbrev pub put_action : Option Row → StoreAction
+put_action row = if is_some row then UpdatedExisting else Inserted
+
+-- step 11: the reply to a cookie that may enter, by the row of its key, if there is one: a row that has not ended is
+-- not touched by another protocol than HTTP if it is HttpOnly, and else ended by a cookie that has ended; no other
+-- cookie that has ended enters
+abbrev pub reply_at : Option Row → Row → Parts → Moment → Result StoreAction CookieError
+reply_at row cookie url now =
+    if passes (λ r. is_live now r && is_out_of_reach r.raw url) row then Err NonHttpScheme
+    else (if passes (is_live now) row && is_expired now cookie then Ok ExpiredExisting
+    else (if is_expired now cookie then Err Expired
+    else Ok (put_action row)))
+
+-- the rows that a reply leaves: a cookie that entered was put, or ended the row of its key
 abbrev pub rows_by : Result StoreAction CookieError → List Row → Row → List Row
 rows_by (Ok Inserted) rows cookie = put rows cookie
 rows_by (Ok UpdatedExisting) rows cookie = put rows cookie
-rows_by (Ok ExpiredExisting) rows cookie = rows
+rows_by (Ok ExpiredExisting) rows cookie = changed (has_key (key_of cookie)) ended rows
 rows_by (Err refusal) rows cookie = rows
 
 -- the reply, and the rows that it leaves
@@ -38,10 +58,23 @@ abbrev pub outcome_by : Result StoreAction CookieError → List Row → Row → 
 outcome_by reply rows cookie = record { reply = reply; rows = rows_by reply rows cookie }
 
 -- a refusal leaves the rows
-abbrev pub entered : Result Row CookieError → List Row → Outcome
-entered (Err refusal) rows = record { reply = Err refusal; rows = rows }
-entered (Ok cookie) rows = outcome_by (reply_at (row_of (key_of cookie) rows)) rows cookie
+abbrev pub entered : Result Row CookieError → Parts → Moment → List Row → Outcome
+entered (Err refusal) url now rows = record { reply = Err refusal; rows = rows }
+entered (Ok cookie) url now rows =
+    outcome_by (reply_at (row_of (key_of cookie) rows) cookie url now) rows cookie
 
--- 5.3: what becomes of a cookie from the URL
-abbrev pub accept : List Row → Row → Parts → Outcome
-accept rows cookie url = entered (admitted url cookie) rows
+-- 5.3: what becomes of a cookie from the URL at the moment
+unfoldable pub accept : List Row → Row → Parts → Moment → Outcome
+accept rows cookie url now = entered (admitted url cookie) url now rows
+
+-- 5.3: the same of a cookie that may have been refused as it was made, which leaves the rows
+abbrev pub received : List Row → Result Row CookieError → Parts → Moment → Outcome
+received rows (Err refusal) url now = record { reply = Err refusal; rows = rows }
+received rows (Ok cookie) url now = accept rows cookie url now
+
+-- why an insertion may be refused
+abbrev pub MayRefuse : CookieError → Type 0
+MayRefuse NonRelativeScheme = ⊥
+MayRefuse Parse = ⊥
+MayRefuse UnspecifiedDomain = ⊥
+MayRefuse other = ⊤

@@ -48,10 +48,14 @@ after_last test [] y = y ∷ []
 after_last test (x ∷ xs) y =
     if test x && not (list_any test xs) then x ∷ y ∷ xs else x ∷ after_last test xs y
 
+-- the list with its first item that passes the test changed
+abbrev pub changed : {T : Type 0} → (T → Bool) → (T → T) → List T → List T
+changed test change [] = []
+changed test change (x ∷ xs) = if test x then change x ∷ xs else x ∷ changed test change xs
+
 -- the list with y in the place of the first item that passes the test
 abbrev pub replaced : {T : Type 0} → (T → Bool) → List T → T → List T
-replaced test [] y = []
-replaced test (x ∷ xs) y = if test x then y ∷ xs else x ∷ replaced test xs y
+replaced test xs y = changed test (λ _. y) xs
 
 -- a new row goes after the last row of its domain and path, else after the last of its domain, else last
 abbrev pub placed : List Row → Row → List Row

@@ -2,15 +2,16 @@
 use Rattle.std.specs.Prelude.{◌≡◌, ℕ, List, [], ◌∷◌, Result, Ok, Err, ⊤}
 use Rattle.url.specs.Parts.{Parts}
 use Rattle.cookie_words.specs.Moments.{Moment}
-use Rattle.cookie_parts.specs.Cookie.{Row, and_then, cookie_at}
+use Rattle.cookie_parts.specs.Cookie.{Row, cookie_at}
 use Rattle.cookie_parts.specs.declared.cookie_error.CookieError.{CookieError}
 use Rattle.cookie_parts.specs.declared.cookie_error.CookieError.TheVariants.{Memory}
 use Rattle.cookie_parts.specs.declared.store_action.StoreAction.{StoreAction}
-use Rattle.cookie_store.specs.Acceptance.{Outcome, admitted, entered}
+use Rattle.cookie_store.specs.Acceptance.{Outcome, accept, received}
 
--- a Set-Cookie text that came from a URL at a moment
+-- a Set-Cookie text, and a cookie, that came from a URL at a moment
 pub data Call : Type 0 where
   Set : List ℕ → Parts → Moment → Call
+  Insert : Row → Parts → Moment → Call
 
 -- what a call answers
 pub data Reply : Type 0 where
@@ -27,7 +28,8 @@ stored outcome = record { reply = Stored outcome.reply; rows = outcome.rows }
 
 -- RFC 6265 5.3: what a call replies and leaves
 abbrev pub step : Call → List Row → Step
-step (Set text url now) rows = stored (entered (and_then (cookie_at text url now) (admitted url)) rows)
+step (Set text url now) rows = stored (received rows (cookie_at text url now) url now)
+step (Insert cookie url now) rows = stored (accept rows cookie url now)
 
 -- the replies to a list of calls, each from the rows that the one before it left
 abbrev pub replies : List Call → List Row → List Reply
@@ -44,3 +46,8 @@ abbrev pub IsReply : Result StoreAction CookieError → Reply → Type 0
 IsReply (Ok action) reply = reply ≡ Stored (Ok action)
 IsReply (Err Memory) reply = ⊤
 IsReply (Err refusal) reply = reply ≡ Stored (Err refusal)
+
+-- what holds unless memory ran out
+abbrev pub UnlessMemory : Result StoreAction CookieError → Type 0 → Type 0
+UnlessMemory (Err Memory) P = ⊤
+UnlessMemory result P = P

@@ -1,17 +1,31 @@
 //! Insertion, RFC 6265 5.3.
-ghost use Rattle.std.specs.Prelude.{◌≡◌, IsTrue, OnErr, OnOk};
+ghost use Rattle.std.specs.Prelude.{◌≡◌, ◌≢◌, Err, Ok, IfErr, IsTrue, OnErr};
+ghost use Rattle.std.specs.Option.{option_copied};
 ghost use Rattle.cookie_words.specs.Moments.{moment_of};
-ghost use Rattle.cookie_parts.specs.Cookie.{cookie_at};
+ghost use Rattle.cookie_parts.specs.Cookie.{cookie_at, cookie_of, is_out_of_reach};
 ghost use Rattle.cookie_parts.specs.Outcomes.{Gives};
-ghost use Rattle.cookie_store.specs.Acceptance.{accept};
+ghost use Rattle.cookie_parts.specs.declared.cookie_error.CookieError.TheVariants.{Memory};
+ghost use Rattle.cookie_parts.specs.declared.store_action.StoreAction.TheVariants.{Inserted};
+ghost use Rattle.cookie_store.specs.Acceptance.{accept, reply_at, MayRefuse};
 ghost use Rattle.cookie_store.specs.Rows.{are_rows};
-ghost use Rattle.cookie_store.specs.Runs.{IsReply, Stored};
+ghost use Rattle.cookie_store.specs.Runs.{IsReply, Stored, UnlessMemory};
 
 use crate::{InsertResult, rows};
-use cookie_parts::{Cookie, CookieError, CookieResult};
+use cookie_parts::utils::is_http_scheme;
+use cookie_parts::{Cookie, CookieError, CookieResult, StoreAction};
+use cookie_raw::RawCookie;
 use jiff::civil::DateTime;
 use std::alloc::Global;
 use url::Url;
+
+fn owned(alloc: Global, cookie: Cookie<'_>) -> CookieResult<'static>
+    ensures { Gives (λ cookie. cookie) result (Ok cookie.entry) }
+{
+    match cookie.into_owned(alloc) {
+        Ok(cookie) => Ok(cookie),
+        Err(_) => Err(CookieError::Memory),
+    }
+}
 
 /// The cookie of a text, with texts of its own.
 pub(crate) fn owned_cookie(
@@ -22,29 +36,87 @@ pub(crate) fn owned_cookie(
 ) -> CookieResult<'static>
     ensures { Gives (λ cookie. cookie) result (cookie_at text.now url.now (moment_of now)) }
 {
-    match Cookie::parse(alloc, text, url, now)?.into_owned(alloc) {
-        Ok(cookie) => Ok(cookie),
-        Err(_) => Err(CookieError::Memory),
+    owned(alloc, Cookie::parse(alloc, text, url, now)?)
+}
+
+/// The cookie of a raw cookie, with texts of its own.
+pub(crate) fn owned_raw_cookie(
+    alloc: Global,
+    raw: &RawCookie<'_>,
+    url: &Url,
+    now: DateTime,
+) -> CookieResult<'static>
+    ensures { Gives (λ cookie. cookie) result (cookie_of raw.now url.now (moment_of now)) }
+{
+    owned(alloc, Cookie::try_from_raw_cookie(alloc, raw, url, now)?)
+}
+
+// Whether the cookie is HttpOnly, and the scheme of the URL not HTTP.
+fn is_out_of_reach(cookie: &Cookie<'static>, url: &Url) -> bool
+    ensures { result ≡ is_out_of_reach cookie.now.raw url.now }
+{
+    cookie.raw().http_only().unwrap_or(false) && !is_http_scheme(url)
+}
+
+// The reply to a cookie that may enter, by the row of its key.
+fn reply_at(
+    row: Option<&Cookie<'static>>,
+    cookie: &Cookie<'static>,
+    url: &Url,
+    now: DateTime,
+) -> InsertResult
+    ensures value { result ≡ reply_at (option_copied row.entry) cookie.now url.now (moment_of now) }
+    ensures refusals { IfErr result (λ refusal. MayRefuse refusal × (refusal ≢ Memory)) }
+{
+    if let Some(row) = row
+        && !row.is_expired(now)
+    {
+        if is_out_of_reach(row, url) {
+            return Err(CookieError::NonHttpScheme);
+        }
+        if cookie.is_expired(now) {
+            return Ok(StoreAction::ExpiredExisting);
+        }
+    }
+    if cookie.is_expired(now) {
+        return Err(CookieError::Expired);
+    }
+    match row {
+        Some(_) => Ok(StoreAction::UpdatedExisting),
+        None => Ok(StoreAction::Inserted),
     }
 }
 
-/// What becomes of a cookie from the URL. A refusal, and want of memory, leave the rows.
+/// What becomes of a cookie from the URL at the moment. A refusal, and want of memory, leave the rows.
+#[tactic(auto, unfolding(crate::specs::Acceptance::accept))]
 pub(crate) fn accept(
     rows: &mut Vec<Cookie<'static>>,
     cookie: Cookie<'static>,
     url: &Url,
+    now: DateTime,
 ) -> InsertResult
     requires { IsTrue (are_rows rows.old.items) }
-    ensures reply { IsReply result (Stored (accept rows.old.items cookie.entry url.now).reply) }
-    ensures rows { OnOk result (rows.new.items ≡ (accept rows.old.items cookie.entry url.now).rows) }
+    ensures reply { IsReply result (Stored (accept rows.old.items cookie.entry url.now (moment_of now)).reply) }
+    ensures rows { UnlessMemory result (rows.new.items ≡ (accept rows.old.items cookie.entry url.now (moment_of now)).rows) }
     ensures refused { OnErr result (rows.new.items ≡ rows.old.items) }
+    ensures refusals { IfErr result MayRefuse }
+    ensures memory { result ≡ Err Memory → (accept rows.old.items cookie.entry url.now (moment_of now)).reply ≡ Ok Inserted }
     ensures in_order { IsTrue (are_rows rows.new.items) }
 {
+    if is_out_of_reach(&cookie, url) {
+        return Err(CookieError::NonHttpScheme);
+    }
     if !cookie.domain.matches(url) {
         return Err(CookieError::DomainMismatch);
     }
-    match rows::put(rows, cookie) {
-        Ok(action) => Ok(action),
-        Err(_) => Err(CookieError::Memory),
+    match reply_at(rows::row_of(rows.as_slice(), &cookie), &cookie, url, now)? {
+        StoreAction::ExpiredExisting => {
+            rows::end(rows, &cookie);
+            Ok(StoreAction::ExpiredExisting)
+        }
+        action => match rows::put(rows, cookie) {
+            Ok(()) => Ok(action),
+            Err(_) => Err(CookieError::Memory),
+        },
     }
 }

@@ -1,11 +1,12 @@
 //! The rows of a store, as one list.
-ghost use Rattle.std.specs.Prelude.{◌≡◌, ◌≤◌, insert, length, position, IfOk, IsTrue, Ok, OnErr, OnOk};
+ghost use Rattle.std.specs.Prelude.{◌≡◌, ◌≤◌, insert, length, position, IsTrue, None, OnErr, OnOk};
+ghost use Rattle.std.specs.Option.{option_copied};
+ghost use Rattle.cookie_parts.specs.Cookie.{ended};
 ghost use Rattle.cookie_parts.specs.Domain.{domain_text};
 ghost use Rattle.cookie_store.specs.Places.{EndsAt};
-ghost use Rattle.cookie_store.specs.Rows.{are_rows, has_key, in_domain, in_group, key_of, placed, put, row_of};
-ghost use Rattle.cookie_store.specs.Acceptance.{reply_at};
+ghost use Rattle.cookie_store.specs.Rows.{are_rows, changed, has_key, in_domain, in_group, key_of, placed, put, row_of};
 
-use cookie_parts::{Cookie, StoreAction};
+use cookie_parts::Cookie;
 use std::alloc::AllocError;
 
 fn domain_text<'a>(cookie: &'a Cookie<'static>) -> &'a str
@@ -73,26 +74,66 @@ fn position(rows: &[Cookie<'static>], cookie: &Cookie<'static>) -> Option<usize>
     rows.iter().position(|row| has_key(cookie, row))
 }
 
-/// Puts the cookie in the place of the row of its key, or where a new row goes. Want of memory leaves the rows.
+/// The row of the cookie's key, if there is one.
+pub(crate) fn row_of<'a>(
+    rows: &'a [Cookie<'static>],
+    cookie: &Cookie<'static>,
+) -> Option<&'a Cookie<'static>>
+    ensures { option_copied result ≡ row_of (key_of cookie.now) rows.now }
+{
+    rows.iter().find(|row| has_key(cookie, row))
+}
+
+fn has_texts(row: &Cookie<'static>, domain: &str, path: &str, name: &str) -> bool
+    ensures { result ≡ has_key (record { domain = domain.now; path = path.now; name = name.now }) row.now }
+{
+    domain == domain_text(row) && path == row.path.as_str() && name == row.name()
+}
+
+/// The row of this domain, path and name, if there is one.
+pub(crate) fn named<'a>(
+    rows: &'a [Cookie<'static>],
+    domain: &str,
+    path: &str,
+    name: &str,
+) -> Option<&'a Cookie<'static>>
+    ensures { option_copied result
+        ≡ row_of (record { domain = domain.now; path = path.now; name = name.now }) rows.now }
+{
+    rows.iter().find(|row| has_texts(row, domain, path, name))
+}
+
+/// Ends the row of the cookie's key.
+pub(crate) fn end(rows: &mut Vec<Cookie<'static>>, cookie: &Cookie<'static>)
+    requires { IsTrue (are_rows rows.old.items) }
+    ensures ended { rows.new.items ≡ changed (has_key (key_of cookie.now)) ended rows.old.items }
+    ensures rows { IsTrue (are_rows rows.new.items) }
+{
+    if let Some(at) = position(rows.as_slice(), cookie) {
+        rows[at].expire();
+    }
+}
+
+/// Puts the cookie in the place of the row of its key, or where a new row goes. Want of memory leaves the rows, and
+/// comes only where there is no such row.
 pub(crate) fn put(
     rows: &mut Vec<Cookie<'static>>,
     cookie: Cookie<'static>,
-) -> Result<StoreAction, AllocError>
+) -> Result<(), AllocError>
     requires { IsTrue (are_rows rows.old.items) }
-    ensures reply { IfOk result (λ action. Ok action ≡ reply_at (row_of (key_of cookie.entry) rows.old.items)) }
     ensures put { OnOk result (rows.new.items ≡ put rows.old.items cookie.entry) }
     ensures err { OnErr result (rows.new.items ≡ rows.old.items) }
+    ensures memory { OnErr result (row_of (key_of cookie.entry) rows.old.items ≡ None) }
     ensures rows { IsTrue (are_rows rows.new.items) }
 {
     match position(rows.as_slice(), &cookie) {
         Some(at) => {
             rows[at] = cookie;
-            Ok(StoreAction::UpdatedExisting)
         }
         None => {
             let at = place(rows.as_slice(), &cookie);
             rows.insert(at, cookie)?;
-            Ok(StoreAction::Inserted)
         }
     }
+    Ok(())
 }

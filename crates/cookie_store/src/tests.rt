@@ -1,5 +1,5 @@
-use crate::{Cookie, CookieError, CookieStore, InsertResult, StoreAction};
-use jiff::civil::DateTime;
+use crate::{Cookie, CookieError, CookieStore, InsertResult, RawCookie, StoreAction};
+use jiff::civil::{DateTime, date};
 use std::alloc::Global;
 use std::process::Abort;
 use std::test::Fail;
@@ -126,5 +126,127 @@ fn gives_in_the_order_of_insertion(rt: HostRuntime) -> Result<(), Fail> {
     }
     let header = given(rt.alloc(), &store, from, DateTime::MIN)?;
     assert_eq!(rt; header.as_str(), "c=3; a=1; b=2");
+    Ok(())
+}
+
+fn new_year() -> DateTime {
+    date(2026, 1, 1).at(0, 0, 0, 0)
+}
+
+// One after the other, from a store without cookies.
+const REPLIES: [Received; 8] = [
+    (
+        "http://example.com/foo/bar",
+        "c=v",
+        Ok(StoreAction::Inserted),
+    ),
+    ("data:x", "c=v", Err(CookieError::NonRelativeScheme)),
+    (
+        "ftp://example.com/",
+        "c=v; HttpOnly",
+        Err(CookieError::NonHttpScheme),
+    ),
+    (
+        "http://example.com/foo/bar",
+        "c=v; Max-Age=0",
+        Ok(StoreAction::ExpiredExisting),
+    ),
+    (
+        "http://example.com/foo/bar",
+        "c=v; Max-Age=-1",
+        Err(CookieError::Expired),
+    ),
+    (
+        "http://example.com/foo/bar",
+        "c=v",
+        Ok(StoreAction::UpdatedExisting),
+    ),
+    (
+        "http://example.com/foo/bar",
+        "c=v; Max-Age=-1",
+        Ok(StoreAction::ExpiredExisting),
+    ),
+    (
+        "http://example.com/foo/bar",
+        "c=v; Domain=bar.example.com",
+        Err(CookieError::DomainMismatch),
+    ),
+];
+
+// How a cookie comes into a store.
+#[derive(Clone, Copy, Debug)]
+enum Way {
+    Parse,
+    InsertRaw,
+    Insert,
+}
+
+fn reply_by(
+    way: Way,
+    alloc: Global,
+    store: &mut CookieStore,
+    received: &Received,
+) -> Result<InsertResult, Fail> {
+    let url = Url::parse(alloc, received.0)?;
+    Ok(match way {
+        Way::Parse => store.parse(received.1, &url, new_year()),
+        Way::InsertRaw => store.insert_raw(&RawCookie::parse(received.1)?, &url, new_year()),
+        Way::Insert => match Cookie::parse(alloc, received.1, &url, new_year()) {
+            Ok(cookie) => store.insert(cookie.into_owned(alloc)?, &url, new_year()),
+            Err(refusal) => Err(refusal),
+        },
+    })
+}
+
+fn replies_by(rt: &impl Abort, way: Way, alloc: Global) -> Result<(), Fail> {
+    let mut store = CookieStore::new(alloc);
+    for received in &REPLIES {
+        let reply = reply_by(way, alloc, &mut store, received)?;
+        assert_eq!(rt; reply, received.2, "at {received:?}, {way:?}");
+    }
+    let row = store.get_any("example.com", "/foo", "c");
+    assert!(rt;
+        row.is_some_and(|row| row.is_expired(new_year())),
+        "{way:?}"
+    );
+    assert!(rt; store.get_any("example.com", "/", "c").is_none(), "{way:?}");
+    assert!(rt;
+        store.get_any("bar.example.com", "/foo", "c").is_none(),
+        "{way:?}"
+    );
+    assert!(rt;
+        store.get_any("example.com", "/foo", "d").is_none(),
+        "{way:?}"
+    );
+    Ok(())
+}
+
+#[test]
+fn cookies_come_in_three_ways(rt: HostRuntime) -> Result<(), Fail> {
+    for way in [Way::Parse, Way::InsertRaw, Way::Insert] {
+        replies_by(&rt, way, rt.alloc())?;
+    }
+    Ok(())
+}
+
+const LOOPBACK: [&str; 6] = [
+    "http://localhost",
+    "http://localhost:1234",
+    "http://127.0.0.1",
+    "http://127.0.0.2",
+    "http://127.1.0.1",
+    "http://[::1]",
+];
+
+#[test]
+fn secure_cookies_stay_within_this_machine(rt: HostRuntime) -> Result<(), Fail> {
+    for from in LOOPBACK {
+        let url = Url::parse(rt.alloc(), from)?;
+        let mut store = CookieStore::new(rt.alloc());
+        let reply = store.parse("s=1; Secure", &url, new_year());
+        assert_eq!(rt; reply, Ok(StoreAction::Inserted), "at {from}");
+        let header = given(rt.alloc(), &store, from, new_year())?;
+        assert_eq!(rt; header.as_str(), "s=1", "at {from}");
+    }
     Ok(())
 }

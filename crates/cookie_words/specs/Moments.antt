@@ -1,5 +1,6 @@
 -- A moment is a date and a time of day in UTC, on the calendar that ISO 8601 extends to every year.
-use Rattle.std.specs.Prelude.{ℕ, ◌+◌, ◌*◌, Bool, ◌&&◌, nat_le, ℤ, pos, ◌+ℤ◌, ◌*ℤ◌}
+use Rattle.std.specs.Prelude.{ℕ, zero, suc, ◌+◌, ◌*◌, ◌/◌, ◌%◌, Bool, ◌&&◌, nat_le, ℤ, pos, ◌+ℤ◌, ◌-ℤ◌, ◌*ℤ◌, int_le, unsigned_abs, if◌then◌else◌}
+use Rattle.std.specs.Int.{int_div_euclid, int_rem_euclid}
 use Rattle.jiff_core.specs.Calendar.{days_in_month, days_from_civil}
 use Rattle.jiff_core.specs.declared.civil.datetime.DateTime.{DateTime}
 
@@ -33,6 +34,41 @@ unfoldable pub nanoseconds : Moment → ℤ
 nanoseconds m =
     days_from_civil m.year m.month m.day *ℤ pos 86_400_000_000_000
     +ℤ pos ((m.hour * 3600 + m.minute * 60 + m.second) * 1_000_000_000 + m.nanosecond)
+
+-- the greatest number from 1 to n that passes the test, and 0 where none does
+abbrev pub greatest : (ℕ → Bool) → ℕ → ℕ
+greatest test zero = 0
+greatest test (suc n) = if test (suc n) then suc n else greatest test n
+
+-- the last year from -9999 to 9999 that has begun by the day of this number
+abbrev pub year_of_day : ℤ → ℤ
+year_of_day day =
+    pos (greatest (λ n. int_le (days_from_civil (pos n -ℤ pos 10_000) 1 1) day) 19_999) -ℤ pos 10_000
+
+-- the last month of the year that has begun by then
+abbrev pub month_of_day : ℤ → ℤ → ℕ
+month_of_day year day = greatest (λ month. int_le (days_from_civil year month 1) day) 12
+
+-- the moment of a day and a time of so many nanoseconds
+abbrev pub moment_of_day : ℤ → ℕ → Moment
+moment_of_day day time =
+    let year = year_of_day day in
+    let month = month_of_day year day in
+    record {
+      year = year;
+      month = month;
+      day = unsigned_abs (day -ℤ days_from_civil year month 1) + 1;
+      hour = time / 3_600_000_000_000;
+      minute = time / 60_000_000_000 % 60;
+      second = time / 1_000_000_000 % 60;
+      nanosecond = time % 1_000_000_000;
+    }
+
+-- the moment so many nanoseconds from the epoch, of the years -9999 to 9999
+unfoldable pub moment_at : ℤ → Moment
+moment_at nanoseconds =
+    moment_of_day (int_div_euclid nanoseconds (pos 86_400_000_000_000))
+    (unsigned_abs (int_rem_euclid nanoseconds (pos 86_400_000_000_000)))
 
 -- the number lies from low to high, both included
 abbrev pub is_within : ℕ → ℕ → ℕ → Bool

@@ -2,7 +2,15 @@
 #![tactic(auto)]
 
 ghost use Rattle.std.specs.Prelude.{◌≡◌};
+ghost use Rattle.jiff_core.specs.declared.civil.datetime.DateTime.{DateTime};
+ghost use Rattle.cookie_words.specs.Moments.{moment_at, moment_of, nanoseconds};
 ghost use Rattle.cookie_words.specs.Texts.{without_dot};
+
+/// A moment of `jiff` is the one that lies its nanoseconds from the epoch.
+#[tactic(auto, using(crate::proofs::Calendar::moment_back))]
+pub fn moments_are_on_the_scale()
+    ensures { (moment : DateTime) → moment_at (nanoseconds (moment_of moment)) ≡ moment_of moment }
+{}
 
 /// The text without one leading dot.
 pub fn without_dot(text: &str) -> &str

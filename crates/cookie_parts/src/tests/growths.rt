@@ -43,7 +43,7 @@ fn is_domain_or_memory(domain: &Result<CookieDomain, Error>) -> bool {
     match domain {
         Ok(domain) => is_for(domain, &DOMAIN),
         Err(Error::Memory) => true,
-        Err(Error::Idna(_)) => false,
+        Err(_) => false,
     }
 }
 

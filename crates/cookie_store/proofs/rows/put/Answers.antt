@@ -1,14 +1,14 @@
-use Rattle.std.proofs.Common.{◌≡◌, ◌∙◌, Some, None, position, insert}
+use Rattle.std.proofs.Common.{◌≡◌, ◌∙◌, Some, None, Result, Ok, Err, OnErr, position, insert}
 use Rattle.cookie_store.specs.Rows.{has_key, key_of, placed}
 use Rattle.cookie_store.proofs.KeptOrder.{are_rows-put}
 use Rattle.cookie_store.proofs.Placed.{put-at, put-new}
-use Rattle.cookie_store.proofs.Positions.{find-position_some, find-position_none}
+use Rattle.cookie_store.proofs.Positions.{find-position_none}
 use Rattle.cookie_store.proofs.rows.put.Goals as goal
 
-pub returns-in-Some-clause-reply : goal.returns-in-Some-clause-reply
-returns-in-Some-clause-reply c =
-    let found : position (has_key (key_of c.args.cookie)) c.args.rows.now.items ≡ Some c.in-Some.at = cc in
-    rw (find-position_some _ _ _ found)
+-- what holds in any case holds after an error
+either_way : {T E P : Type 0} (r : Result T E) → P → OnErr r P
+either_way (Ok x) p = tt
+either_way (Err e) p = p
 
 pub returns-in-Some-clause-put : goal.returns-in-Some-clause-put
 returns-in-Some-clause-put c =
@@ -19,11 +19,6 @@ pub returns-in-Some-clause-rows : goal.returns-in-Some-clause-rows
 returns-in-Some-clause-rows c =
     let found : position (has_key (key_of c.args.cookie)) c.args.rows.now.items ≡ Some c.in-Some.at = cc in
     rw (put-at c.args.rows.now.items c.args.cookie c.in-Some.at found) (are_rows-put c.args.rows.now.items c.args.cookie c.requires)
-
-pub returns-in_ok-insert-in-None-clause-reply : goal.returns-in_ok-insert-in-None-clause-reply
-returns-in_ok-insert-in-None-clause-reply c =
-    let absent : position (has_key (key_of c.args.cookie)) c.args.rows.now.items ≡ None = cc in
-    rw (find-position_none _ _ absent)
 
 pub returns-in_ok-insert-in-None-clause-put : goal.returns-in_ok-insert-in-None-clause-put
 returns-in_ok-insert-in-None-clause-put c =
@@ -36,3 +31,8 @@ returns-in_ok-insert-in-None-clause-rows c =
     let absent : position (has_key (key_of c.args.cookie)) c.args.rows.now.items ≡ None = cc in
     let at_place : insert c.args.rows.now.items c.place-at.result c.args.cookie ≡ placed c.args.rows.now.items c.args.cookie = cc in
     rw (c.in_ok-insert-in-None.ensures.items ∙ at_place ∙ put-new c.args.rows.now.items c.args.cookie absent) (are_rows-put c.args.rows.now.items c.args.cookie c.requires)
+
+pub returns-in_err-insert-in-None-clause-memory : goal.returns-in_err-insert-in-None-clause-memory
+returns-in_err-insert-in-None-clause-memory c =
+    let absent : position (has_key (key_of c.args.cookie)) c.args.rows.now.items ≡ None = cc in
+    either_way c.from_residual.result (find-position_none (has_key (key_of c.args.cookie)) c.args.rows.now.items absent)
