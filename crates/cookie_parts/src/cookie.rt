@@ -21,7 +21,7 @@ use url::Url;
 pub type CookieResult<'a> = Result<Cookie<'a>, CookieError>;
 
 /// A cookie of a user agent: a raw cookie, the hosts and paths that it is for, and its end.
-#[derive(Drop)]
+#[derive(Debug, Drop)]
 pub struct Cookie<'a> {
     raw: RawCookie<'a>,
     /// The paths that it is for.

@@ -18,7 +18,7 @@ use std::marker::Model;
 /// A cookie as a Set-Cookie text says it, before any rule on domains, paths or dates.
 ///
 /// A cookie that was parsed lends its parts from the text; [`into_owned`](Self::into_owned) copies them.
-#[derive(Drop)]
+#[derive(Debug, Drop)]
 pub struct RawCookie<'a> {
     pub(crate) name: CowStr<'a>,
     pub(crate) value: CowStr<'a>,

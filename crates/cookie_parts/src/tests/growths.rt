@@ -1,5 +1,5 @@
 //! Each call that takes memory answers as it does with ample memory, or says that memory is wanting.
-use super::{Hosts, is_for};
+use super::{Hosts, domain_of, is_for};
 use crate::{Cookie, CookieDomain, CookieError, CookieExpiration, CookiePath, Error};
 use cookie_raw::RawCookie;
 use jiff::civil::DateTime;
@@ -149,6 +149,97 @@ fn into_owned(rt: HostRuntime) -> Result<(), Fail> {
     let _start: Vec<u8> = Vec::with_capacity(rt.alloc(), START)?;
     match cookie.into_owned(rt.alloc()) {
         Ok(owned) => assert!(rt; is_whole(&owned)),
+        Err(AllocError) => {}
+    }
+    Ok(())
+}
+
+#[test]
+fn clone_domain(rt: HostRuntime) -> Result<(), Fail> {
+    let domain = domain_of(rt.alloc(), &DOMAIN)?;
+    let _start: Vec<u8> = Vec::with_capacity(rt.alloc(), START)?;
+    match domain.clone() {
+        Ok(copy) => assert!(rt; is_for(&copy, &DOMAIN)),
+        Err(AllocError) => {}
+    }
+    assert!(rt; is_for(&domain, &DOMAIN));
+    Ok(())
+}
+
+#[test]
+fn text_of_a_domain(rt: HostRuntime) -> Result<(), Fail> {
+    let domain = domain_of(rt.alloc(), &DOMAIN)?;
+    let _start: Vec<u8> = Vec::with_capacity(rt.alloc(), START)?;
+    match domain.to_string_in(rt.alloc()) {
+        Ok(text) => assert_eq!(rt; text.as_str(), "xn--bcher-kva.example"),
+        Err(AllocError) => {}
+    }
+    Ok(())
+}
+
+#[test]
+fn clone_path(rt: HostRuntime) -> Result<(), Fail> {
+    let path = CookiePath::new(rt.alloc(), "/bar", &url(rt.alloc())?)?;
+    let _start: Vec<u8> = Vec::with_capacity(rt.alloc(), START)?;
+    match path.clone() {
+        Ok(copy) => assert!(rt; is_path(&copy, "/bar", true)),
+        Err(AllocError) => {}
+    }
+    assert!(rt; is_path(&path, "/bar", true));
+    Ok(())
+}
+
+#[test]
+fn text_of_a_path(rt: HostRuntime) -> Result<(), Fail> {
+    let path = CookiePath::default_path(rt.alloc(), &url(rt.alloc())?)?;
+    let _start: Vec<u8> = Vec::with_capacity(rt.alloc(), START)?;
+    match path.to_string_in(rt.alloc()) {
+        Ok(text) => assert_eq!(rt; text.as_str(), "/foo"),
+        Err(AllocError) => {}
+    }
+    Ok(())
+}
+
+#[test]
+fn clone(rt: HostRuntime) -> Result<(), Fail> {
+    let url = url(rt.alloc())?;
+    let cookie = Cookie::parse(rt.alloc(), TEXT, &url, DateTime::ZERO)?.into_owned(rt.alloc())?;
+    let _start: Vec<u8> = Vec::with_capacity(rt.alloc(), START)?;
+    match cookie.clone() {
+        Ok(copy) => assert!(rt; is_whole(&copy)),
+        Err(AllocError) => {}
+    }
+    assert!(rt; is_whole(&cookie));
+    Ok(())
+}
+
+#[test]
+fn try_from_raw_cookie(rt: HostRuntime) -> Result<(), Fail> {
+    let url = url(rt.alloc())?;
+    let raw = RawCookie::parse(TEXT)?.into_owned(rt.alloc())?;
+    let _start: Vec<u8> = Vec::with_capacity(rt.alloc(), START)?;
+    match Cookie::try_from_raw_cookie(rt.alloc(), &raw, &url, DateTime::ZERO) {
+        Ok(cookie) => assert!(rt; is_whole(&cookie)),
+        Err(refusal) => assert_eq!(rt; refusal, CookieError::Memory),
+    }
+    Ok(())
+}
+
+// What the cookie of `TEXT` says of itself.
+fn is_said(raw: &RawCookie<'_>) -> bool {
+    raw.name_value() == ("a", "1")
+        && raw.domain() == Some("xn--bcher-kva.example")
+        && raw.path() == Some("/foo")
+        && raw.expires().is_none()
+}
+
+#[test]
+fn into_raw(rt: HostRuntime) -> Result<(), Fail> {
+    let url = url(rt.alloc())?;
+    let cookie = Cookie::parse(rt.alloc(), TEXT, &url, DateTime::ZERO)?;
+    let _start: Vec<u8> = Vec::with_capacity(rt.alloc(), START)?;
+    match cookie.into_raw(rt.alloc()) {
+        Ok(raw) => assert!(rt; is_said(&raw)),
         Err(AllocError) => {}
     }
     Ok(())
