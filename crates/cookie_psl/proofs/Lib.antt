@@ -1,0 +1,16 @@
+pub mod AddedRules
+pub mod AddedTree
+pub mod BareLabels
+pub mod CopiedTree
+pub mod Counts
+pub mod FinalDot
+pub mod FirstSpace
+pub mod LabelsCut
+pub mod LabelsRead
+pub mod LastLabels
+pub mod LineMarks
+pub mod LinesRead
+pub mod LongestRules
+pub mod LongestTree
+pub mod Prevailing
+pub mod TreeRules

@@ -1,0 +1,133 @@
+-- The lines of a list, read one by one.
+use Rattle.std.proofs.Common.{◌≡◌, ℕ, suc, ◌+◌, ◌<◌, ◌≤◌, Bool, true, false, ◌||◌, List, [], ◌∷◌, ◌++◌, length, map, take, drop, get_or, Option, Some, None, Result, Ok, Err, refl, sym, ap, ◌∙◌, arith, take_all}
+use Rattle.std.specs.Bool.{⊤}
+use Rattle.std.specs.Borrow.{Bor}
+use Rattle.std.specs.List.{list_any}
+use Rattle.std.specs.Result.{is_ok}
+use Rattle.std.proofs.lemmas.Bool.{false≢true}
+use Rattle.std.proofs.lemmas.List.{get_or-map, length-map, length-take-le, take-append-drop, take_more}
+use Rattle.std.proofs.lemmas.List.Folds.{list_any-append}
+use Rattle.std.proofs.Math.Seq.{drop-cons}
+use Rattle.cookie_psl.specs.Lists.{GivesList, TakesLine, with_rule}
+use Rattle.cookie_psl.specs.declared.error.ListError.{ListError}
+use Rattle.cookie_psl.specs.declared.error.ListError.TheVariants.{BadRule, Memory}
+use Rattle.cookie_psl.specs.Reading.{line_rule, rules_of, with_line}
+use Rattle.cookie_psl.specs.Rules.{Rule, RuleList, SameRules}
+
+-- one rule more at the end, if there is one
+abbrev pub then_rule : RuleList → Option Rule → RuleList
+then_rule rules None = rules
+then_rule rules (Some rule) = rules ++ rule ∷ []
+
+-- the same of rules that were read
+abbrev then_read : Option Rule → Result RuleList ℕ → Result RuleList ℕ
+then_read read (Ok rules) = Ok (then_rule rules read)
+then_read read (Err bad) = Err bad
+
+-- a rule in front stays there
+rule_in_front : (rule : Rule) (rules : RuleList) (read : Option Rule) → rule ∷ then_rule rules read ≡ then_rule (rule ∷ rules) read
+rule_in_front rule rules None = refl
+rule_in_front rule rules (Some last) = refl
+
+-- a line before those that were read, with one line more at the end
+line_before : (number : ℕ) (said : Option (Option Rule)) (more longer : Result RuleList ℕ) (rules : RuleList) (read : Option Rule)
+    → with_line number said more ≡ Ok rules → ((rest : RuleList) → more ≡ Ok rest → longer ≡ Ok (then_rule rest read))
+    → with_line number said longer ≡ Ok (then_rule rules read)
+line_before number None more longer rules read e next = absurd (false≢true (ap is_ok e))
+line_before number (Some None) more longer rules read e next = next rules e
+line_before number (Some (Some rule)) (Ok rest) longer rules read e next =
+    ap (with_line number (Some (Some rule))) (next rest refl) ∙ ap (λ rs. Ok rs) (rule_in_front rule rest read) ∙ ap (then_read read) e
+line_before number (Some (Some rule)) (Err bad) longer rules read e next = absurd (false≢true (ap is_ok e))
+
+-- the last line
+last_line : (number : ℕ) (read : Option Rule) → with_line number (Some read) (Ok []) ≡ Ok (then_rule [] read)
+last_line number None = refl
+last_line number (Some rule) = refl
+
+-- one more line, which is not bad
+pub rules_of-push : (number : ℕ) (before : List (List ℕ)) (line : List ℕ) (rules : RuleList) (read : Option Rule)
+    → rules_of number before ≡ Ok rules → line_rule line ≡ Some read → rules_of number (before ++ line ∷ []) ≡ Ok (then_rule rules read)
+rules_of-push number [] line rules read e h =
+    ap (λ said. with_line number said (Ok [])) h ∙ last_line number read ∙ ap (then_read read) e
+rules_of-push number (first ∷ before) line rules read e h =
+    line_before number (line_rule first) (rules_of (number + 1) before) (rules_of (number + 1) (before ++ line ∷ [])) rules read e
+    (λ rest good. rules_of-push (number + 1) before line rest read good h)
+
+-- a line before a bad one
+line_before_bad : (number bad : ℕ) (said : Option (Option Rule)) (more longer : Result RuleList ℕ) (rules : RuleList)
+    → with_line number said more ≡ Ok rules → ((rest : RuleList) → more ≡ Ok rest → longer ≡ Err bad)
+    → with_line number said longer ≡ Err bad
+line_before_bad number bad None more longer rules e next = absurd (false≢true (ap is_ok e))
+line_before_bad number bad (Some None) more longer rules e next = next rules e
+line_before_bad number bad (Some (Some rule)) (Ok rest) longer rules e next = ap (with_line number (Some (Some rule))) (next rest refl)
+line_before_bad number bad (Some (Some rule)) (Err other) longer rules e next = absurd (false≢true (ap is_ok e))
+
+-- the first bad line
+pub rules_of-bad : (number : ℕ) (before after : List (List ℕ)) (line : List ℕ) (rules : RuleList)
+    → rules_of number before ≡ Ok rules → line_rule line ≡ None → rules_of number (before ++ line ∷ after) ≡ Err (number + length before)
+rules_of-bad number [] after line rules e h =
+    ap (λ said. with_line number said (rules_of (number + 1) after)) h ∙ ap (λ n. Err n) (omega arith)
+rules_of-bad number (first ∷ before) after line rules e h =
+    line_before_bad number (number + length (first ∷ before)) (line_rule first) (rules_of (number + 1) before) (rules_of (number + 1) (before ++ line ∷ after)) rules e
+    (λ rest good. rules_of-bad (number + 1) before after line rest good h ∙ ap (λ n. Err n) (omega arith))
+
+-- either of two tests
+either : (a b : Bool) → (a || b) ≡ (b || (a || false))
+either true true = refl
+either true false = refl
+either false true = refl
+either false false = refl
+
+-- a rule stands anywhere
+pub same_with_rule : (held rules : RuleList) (read : Option Rule) → SameRules held rules → SameRules (with_rule read held) (then_rule rules read)
+same_with_rule held rules None same = same
+same_with_rule held rules (Some rule) same = λ test.
+    ap (λ b. test rule || b) (same test) ∙ either (test rule) (list_any test rules) ∙ sym (list_any-append test rules (rule ∷ []))
+
+-- the texts of lines
+abbrev pub texts : List (Bor (List ℕ)) → List (List ℕ)
+texts lines = map (λ line. line.now) lines
+
+-- the lines up to one, and that one
+up_to_line : (lines : List (Bor (List ℕ))) (i : ℕ) (d : Bor (List ℕ)) → i < length lines
+    → take (i + 1) (texts lines) ≡ take i (texts lines) ++ (get_or lines i d).now ∷ []
+up_to_line lines i d h =
+    let within : i < length (texts lines) = omega (arith, length-map lines (λ (line : Bor (List ℕ)). line.now)) in
+    take_more (texts lines) i d.now within ∙ ap (λ line. take i (texts lines) ++ line ∷ []) (get_or-map (λ line. line.now) lines i d d.now h)
+
+-- all lines, with one of them in their midst
+at_line : (lines : List (Bor (List ℕ))) (i : ℕ) (d : Bor (List ℕ)) → i < length lines
+    → texts lines ≡ take i (texts lines) ++ (get_or lines i d).now ∷ drop (suc i) (texts lines)
+at_line lines i d h =
+    let within : i < length (texts lines) = omega (arith, length-map lines (λ (line : Bor (List ℕ)). line.now)) in
+    sym (take-append-drop i (texts lines)) ∙ ap (λ rest. take i (texts lines) ++ rest) (drop-cons (texts lines) i d.now within)
+    ∙ ap (λ line. take i (texts lines) ++ line ∷ drop (suc i) (texts lines)) (get_or-map (λ line. line.now) lines i d d.now h)
+
+-- the rules of one line more
+pub rules_up_to : (lines : List (Bor (List ℕ))) (i : ℕ) (d : Bor (List ℕ)) (rules : RuleList) (read : Option Rule) → i < length lines
+    → rules_of 1 (take i (texts lines)) ≡ Ok rules → line_rule (get_or lines i d).now ≡ Some read
+    → rules_of 1 (take (i + 1) (texts lines)) ≡ Ok (then_rule rules read)
+rules_up_to lines i d rules read within e h =
+    ap (rules_of 1) (up_to_line lines i d within) ∙ rules_of-push 1 (take i (texts lines)) (get_or lines i d).now rules read e h
+
+-- a bad line after good ones
+pub bad_at : (lines : List (Bor (List ℕ))) (i : ℕ) (d : Bor (List ℕ)) (rules : RuleList) → i < length lines
+    → rules_of 1 (take i (texts lines)) ≡ Ok rules → line_rule (get_or lines i d).now ≡ None → rules_of 1 (texts lines) ≡ Err (i + 1)
+bad_at lines i d rules within e h =
+    let at : i ≤ length (texts lines) = omega (arith, length-map lines (λ (line : Bor (List ℕ)). line.now)) in
+    ap (rules_of 1) (at_line lines i d within)
+    ∙ rules_of-bad 1 (take i (texts lines)) (drop (suc i) (texts lines)) (get_or lines i d).now rules e h
+    ∙ ap (λ n. Err n) (omega (arith, length-take-le i (texts lines) at))
+
+-- all lines were read
+pub rules_of_all : (lines : List (Bor (List ℕ))) (i : ℕ) (rules : RuleList) → length lines ≤ i
+    → rules_of 1 (take i (texts lines)) ≡ Ok rules → rules_of 1 (texts lines) ≡ Ok rules
+rules_of_all lines i rules h e =
+    let at : length (texts lines) ≤ i = omega (arith, length-map lines (λ (line : Bor (List ℕ)). line.now)) in
+    ap (rules_of 1) (sym (take_all i (texts lines) at)) ∙ e
+
+-- what is answered at a line that was not taken
+pub not_taken : (error : ListError) (said : Option (Option Rule)) (number : ℕ) (old new : RuleList) (answer : Result RuleList ℕ)
+    → TakesLine {T = ⊤} (Err error) said number old new → (said ≡ None → answer ≡ Err number) → GivesList (Err error) answer
+not_taken (BadRule line) said number old new answer (bad, e) first = first bad ∙ ap (λ n. Err n) (sym e)
+not_taken Memory said number old new answer h first = tt

@@ -1,0 +1,155 @@
+-- The most labels of a matching rule of a tree, from the trees that the last label leads to.
+use Rattle.std.proofs.Common.{◌≡◌, ℕ, ◌+◌, ◌≤◌, List, [], ◌∷◌, ◌++◌, length, refl, ap, sym, ◌∙◌, true, false, Bool, cond, Option, Some, None, String, Box, box_value, option_map, string_bytes, string_cmp, bytes_eq}
+use Rattle.std.specs.BTreeMap.{is_at}
+use Rattle.std.specs.Cmp.Lexicographic.{slice_cmp}
+use Rattle.std.specs.List.{AllByRecursion}
+use Rattle.std.specs.List.Sorted.{IsStrictlySortedBy}
+use Rattle.std.specs.Map.{keys_of, lookup}
+use Rattle.std.specs.Ordering.{is_eq, nat_cmp}
+use Rattle.std.specs.declared.alloc.Global.{Global}
+use Rattle.std.specs.declared.cmp.Ordering.TheVariants.{Less}
+use Rattle.std.proofs.lemmas.Map.Keys.{sorted_head, sorted_tail}
+use Rattle.std.proofs.lemmas.Map.Text.{is_eq-slice_cmp, text_cmp}
+use Rattle.std.proofs.lemmas.Slice.Eq.{bytes_eq-Decides}
+use Rattle.cookie_psl.specs.Rules.{greater, longest}
+use Rattle.cookie_psl.specs.Tree.{label_rules, tree_rules, with_label, ends_here}
+use Rattle.cookie_psl.specs.declared.tree.Node.{Node}
+use Rattle.cookie_psl.specs.declared.tree.Node.TheOpen.{Node-F}
+use Rattle.cookie_psl.specs.declared.tree.Node.TheViews.{out-Node}
+use Rattle.cookie_psl.proofs.Counts.{greater-none, greater-more}
+use Rattle.cookie_psl.proofs.LongestRules.{longest-append, longest-with_label, longest-with_label-none, longest-ends_here, longest-le, greater-le}
+use Rattle.cookie_psl.proofs.TreeRules.{any_rules, level_rules, rules_out}
+
+-- the most labels in a tree that may be there
+abbrev pub longest_in : Bool → Option Node → List (List ℕ) → Option ℕ
+longest_in is_exception None labels = None
+longest_in is_exception (Some node) labels = longest is_exception (tree_rules node) labels
+
+-- tests that follow from one another are the same
+same_test : (a b : Bool) → (a ≡ true → b ≡ true) → (b ≡ true → a ≡ true) → a ≡ b
+same_test true b there back = sym (there refl)
+same_test false true there back = back refl
+same_test false false there back = refl
+
+-- a label is a key as a look-up tells it
+own_test : (own label : List ℕ) → bytes_eq own label ≡ is_eq (slice_cmp nat_cmp label own)
+own_test own label =
+    same_test (bytes_eq own label) (bytes_eq label own)
+    (λ is. (bytes_eq-Decides label own).1 (sym ((bytes_eq-Decides own label).0 is)))
+    (λ is. (bytes_eq-Decides own label).1 (sym ((bytes_eq-Decides label own).0 is)))
+    ∙ sym (is_eq-slice_cmp label own)
+
+-- past its own key a label leads to no tree
+none_past : (is_exception : Bool) (own : String Global) (kids : List (String Global × Node)) (label : List ℕ) (labels : List (List ℕ)) →
+    AllByRecursion (λ key. string_cmp own key ≡ Less) (keys_of kids) → label ≡ string_bytes own → longest is_exception (label_rules kids) (label ∷ labels) ≡ None
+none_past is_exception own [] label labels above same = refl
+none_past is_exception own (kid ∷ kids) label labels above same =
+    longest-append is_exception (with_label (Some (string_bytes kid.0)) (tree_rules kid.1)) (label_rules kids) (label ∷ labels)
+    ∙ ap (λ first. greater first (longest is_exception (label_rules kids) (label ∷ labels)))
+    (longest-with_label is_exception (Some (string_bytes kid.0)) (tree_rules kid.1) label labels
+    ∙ ap (λ test. cond test (option_map (λ n. n + 1) (longest is_exception (tree_rules kid.1) labels)) None)
+    (own_test (string_bytes kid.0) label ∙ ap (λ bytes. is_eq (slice_cmp nat_cmp bytes (string_bytes kid.0))) same ∙ ap is_eq above.0))
+    ∙ none_past is_exception own kids label labels above.1 same
+
+-- the first tree is the one, or another
+pick : (is_first is_exception : Bool) (kid : Node) (found : Option Node) (labels : List (List ℕ)) (others : Option ℕ) →
+    (is_first ≡ true → others ≡ None) → others ≡ option_map (λ n. n + 1) (longest_in is_exception found labels) →
+    greater (cond is_first (option_map (λ n. n + 1) (longest is_exception (tree_rules kid) labels)) None) others
+    ≡ option_map (λ n. n + 1) (longest_in is_exception (cond is_first (Some kid) found) labels)
+pick true is_exception kid found labels others none is =
+    ap (greater (option_map (λ n. n + 1) (longest is_exception (tree_rules kid) labels))) (none refl)
+    ∙ greater-none (option_map (λ n. n + 1) (longest is_exception (tree_rules kid) labels))
+pick false is_exception kid found labels others none is = is
+
+-- under labels in order it is one more than in the tree of the last label
+longest-labels : (is_exception : Bool) (kids : List (String Global × Node)) (label : List ℕ) (labels : List (List ℕ)) → IsStrictlySortedBy string_cmp (keys_of kids) →
+    longest is_exception (label_rules kids) (label ∷ labels) ≡ option_map (λ n. n + 1) (longest_in is_exception (lookup (is_at (text_cmp label)) kids) labels)
+longest-labels is_exception [] label labels sorted = refl
+longest-labels is_exception (kid ∷ kids) label labels sorted =
+    longest-append is_exception (with_label (Some (string_bytes kid.0)) (tree_rules kid.1)) (label_rules kids) (label ∷ labels)
+    ∙ ap (λ first. greater first (longest is_exception (label_rules kids) (label ∷ labels)))
+    (longest-with_label is_exception (Some (string_bytes kid.0)) (tree_rules kid.1) label labels
+    ∙ ap (λ test. cond test (option_map (λ n. n + 1) (longest is_exception (tree_rules kid.1) labels)) None) (own_test (string_bytes kid.0) label))
+    ∙ pick (is_at (text_cmp label) kid.0) is_exception kid.1 (lookup (is_at (text_cmp label)) kids) labels (longest is_exception (label_rules kids) (label ∷ labels))
+    (λ is. none_past is_exception kid.0 kids label labels (sorted_head string_cmp kid.0 (keys_of kids) sorted)
+    ((bytes_eq-Decides label (string_bytes kid.0)).0 (sym (is_eq-slice_cmp label (string_bytes kid.0)) ∙ is)))
+    (longest-labels is_exception kids label labels (sorted_tail string_cmp kid.0 (keys_of kids) sorted))
+
+-- under labels nothing matches a domain without labels
+longest-labels-none : (is_exception : Bool) (kids : List (String Global × Node)) → longest is_exception (label_rules kids) [] ≡ None
+longest-labels-none is_exception [] = refl
+longest-labels-none is_exception (kid ∷ kids) =
+    longest-append is_exception (with_label (Some (string_bytes kid.0)) (tree_rules kid.1)) (label_rules kids) []
+    ∙ ap (λ first. greater first (longest is_exception (label_rules kids) [])) (longest-with_label-none is_exception (Some (string_bytes kid.0)) (tree_rules kid.1))
+    ∙ longest-labels-none is_exception kids
+
+-- under `*` it is one more than in the tree there
+longest-any : (is_exception : Bool) (any : Option (Box Node Global)) (label : List ℕ) (labels : List (List ℕ)) →
+    longest is_exception (any_rules any) (label ∷ labels) ≡ option_map (λ n. n + 1) (longest_in is_exception (option_map box_value any) labels)
+longest-any is_exception None label labels = refl
+longest-any is_exception (Some any) label labels = longest-with_label is_exception None (tree_rules any.value) label labels
+
+-- under `*` nothing matches a domain without labels
+longest-any-none : (is_exception : Bool) (any : Option (Box Node Global)) → longest is_exception (any_rules any) [] ≡ None
+longest-any-none is_exception None = refl
+longest-any-none is_exception (Some any) = longest-with_label-none is_exception None (tree_rules any.value)
+
+-- at a level it is the greatest of those under labels, under `*` and at the level
+longest-parts : (is_exception : Bool) (node : Node-F Node) (domain : List (List ℕ)) →
+    longest is_exception (level_rules node) domain
+    ≡ greater (greater (longest is_exception (label_rules node.kids.entries) domain) (longest is_exception (any_rules node.any) domain))
+    (cond (cond is_exception node.is_exception node.is_rule) (Some 0) None)
+longest-parts is_exception node domain =
+    longest-append is_exception (label_rules node.kids.entries ++ any_rules node.any) (ends_here node.is_rule node.is_exception) domain
+    ∙ ap (λ below. greater below (longest is_exception (ends_here node.is_rule node.is_exception) domain))
+    (longest-append is_exception (label_rules node.kids.entries) (any_rules node.any) domain)
+    ∙ ap (greater (greater (longest is_exception (label_rules node.kids.entries) domain) (longest is_exception (any_rules node.any) domain)))
+    (longest-ends_here is_exception node.is_rule node.is_exception domain)
+
+-- for a domain without labels it is what ends at the level
+pub longest-level-none : (is_exception : Bool) (node : Node-F Node) →
+    longest is_exception (level_rules node) [] ≡ cond (cond is_exception node.is_exception node.is_rule) (Some 0) None
+longest-level-none is_exception node =
+    longest-parts is_exception node []
+    ∙ ap (λ below. greater below (cond (cond is_exception node.is_exception node.is_rule) (Some 0) None))
+    (ap (λ first. greater first (longest is_exception (any_rules node.any) [])) (longest-labels-none is_exception node.kids.entries) ∙ longest-any-none is_exception node.any)
+
+-- for a domain with labels it is one more than in the trees that the last one leads to, or what ends at the level
+pub longest-level : (is_exception : Bool) (node : Node-F Node) (label : List ℕ) (labels : List (List ℕ)) → IsStrictlySortedBy string_cmp (keys_of node.kids.entries) →
+    longest is_exception (level_rules node) (label ∷ labels)
+    ≡ greater (option_map (λ n. n + 1) (greater (longest_in is_exception (lookup (is_at (text_cmp label)) node.kids.entries) labels) (longest_in is_exception (option_map box_value node.any) labels)))
+    (cond (cond is_exception node.is_exception node.is_rule) (Some 0) None)
+longest-level is_exception node label labels sorted =
+    longest-parts is_exception node (label ∷ labels)
+    ∙ ap (λ below. greater below (cond (cond is_exception node.is_exception node.is_rule) (Some 0) None))
+    (ap (λ first. greater first (longest is_exception (any_rules node.any) (label ∷ labels))) (longest-labels is_exception node.kids.entries label labels sorted)
+    ∙ ap (greater (option_map (λ n. n + 1) (longest_in is_exception (lookup (is_at (text_cmp label)) node.kids.entries) labels))) (longest-any is_exception node.any label labels)
+    ∙ greater-more (longest_in is_exception (lookup (is_at (text_cmp label)) node.kids.entries) labels) (longest_in is_exception (option_map box_value node.any) labels))
+
+-- the same of a tree, by the counts of the trees below it
+pub longest-found : (is_exception : Bool) (node : Node) (label : List ℕ) (labels : List (List ℕ)) (by_label by_any : Option ℕ) →
+    IsStrictlySortedBy string_cmp (keys_of (out-Node node).kids.entries) →
+    by_label ≡ longest_in is_exception (lookup (is_at (text_cmp label)) (out-Node node).kids.entries) labels →
+    by_any ≡ longest_in is_exception (option_map box_value (out-Node node).any) labels →
+    longest is_exception (tree_rules node) (label ∷ labels)
+    ≡ greater (option_map (λ n. n + 1) (greater by_label by_any)) (cond (cond is_exception (out-Node node).is_exception (out-Node node).is_rule) (Some 0) None)
+longest-found is_exception node label labels by_label by_any sorted is_label is_any =
+    ap (λ rules. longest is_exception rules (label ∷ labels)) (rules_out node)
+    ∙ longest-level is_exception (out-Node node) label labels sorted
+    ∙ ap (λ found. greater (option_map (λ n. n + 1) (greater found (longest_in is_exception (option_map box_value (out-Node node).any) labels)))
+    (cond (cond is_exception (out-Node node).is_exception (out-Node node).is_rule) (Some 0) None)) (sym is_label)
+    ∙ ap (λ found. greater (option_map (λ n. n + 1) (greater by_label found))
+    (cond (cond is_exception (out-Node node).is_exception (out-Node node).is_rule) (Some 0) None)) (sym is_any)
+
+-- a tree that may be there has no more labels to offer than the domain
+longest_in-le : (is_exception : Bool) (node : Option Node) (labels : List (List ℕ)) (n : ℕ) → longest_in is_exception node labels ≡ Some n → n ≤ length labels
+longest_in-le is_exception None labels n is = cc
+longest_in-le is_exception (Some node) labels n is = longest-le is_exception (tree_rules node) labels n is
+
+-- nor have two
+pub found-le : (is_exception : Bool) (node any : Option Node) (labels : List (List ℕ)) (by_label by_any : Option ℕ) (n : ℕ) →
+    by_label ≡ longest_in is_exception node labels → by_any ≡ longest_in is_exception any labels → greater by_label by_any ≡ Some n → n ≤ length labels
+found-le is_exception node any labels by_label by_any n is_label is_any is =
+    greater-le by_label by_any n (length labels)
+    (λ m same. longest_in-le is_exception node labels m (sym is_label ∙ same))
+    (λ m same. longest_in-le is_exception any labels m (sym is_any ∙ same)) is

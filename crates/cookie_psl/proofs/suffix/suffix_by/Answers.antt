@@ -1,0 +1,61 @@
+use Rattle.std.proofs.Common.{◌≡◌, ℕ, ◌++◌, Bool, true, false, List, length, drop, Option, Some, None, sym, ap, ◌∙◌}
+use Rattle.std.specs.Prelude.{◌==◌}
+use Rattle.cookie_psl.specs.Rules.{by_exception, by_rule, labels_of, last_labels, longest, prevailing, suffix_of, without_final_dot, Prevailing, RuleList, SuffixValue}
+use Rattle.cookie_psl.proofs.suffix.suffix_by.Goals as goal
+
+-- the suffix that a prevailing rule gives
+abbrev suffix_from : List ℕ → Prevailing → SuffixValue
+suffix_from domain found = record {
+  text = last_labels found.count (without_final_dot domain) ++ drop (length (without_final_dot domain)) domain;
+  is_known = found.is_known;
+}
+
+-- nothing has no suffix
+suffix_of-empty : (rules : RuleList) (domain : List ℕ) → (length (without_final_dot domain) == 0) ≡ true → suffix_of rules domain ≡ None
+unfolding suffix_of
+suffix_of-empty rules domain h = rw h
+
+-- all else has one
+suffix_of-some : (rules : RuleList) (domain : List ℕ) → (length (without_final_dot domain) == 0) ≡ false
+    → suffix_of rules domain ≡ Some (suffix_from domain (prevailing rules (labels_of (without_final_dot domain))))
+unfolding suffix_of
+suffix_of-some rules domain h = rw h
+
+-- suffixes of the same parts are the same
+same_parts : (a b : SuffixValue) → a.text ≡ b.text → a.is_known ≡ b.is_known → a ≡ b
+same_parts a b e h =
+    let suffix : List ℕ → Bool → SuffixValue = λ text is_known. record { text = text; is_known = is_known } in
+    ap (λ text. suffix text a.is_known) e ∙ ap (λ is_known. suffix b.text is_known) h
+
+-- the greatest counts say which rule prevails
+prevailing_by : (rules : RuleList) (labels : List (List ℕ)) (exception rule : Option ℕ) → exception ≡ longest true rules labels
+    → rule ≡ longest false rules labels → by_exception exception (by_rule rule) ≡ prevailing rules labels
+prevailing_by rules labels exception rule e h =
+    ap (λ n. by_exception n (by_rule rule)) e ∙ ap (λ n. by_exception (longest true rules labels) (by_rule n)) h
+
+-- the suffix of a domain that is not empty, by the greatest counts
+suffix_of-found : (rules : RuleList) (domain : List ℕ) (exception rule : Option ℕ) (value : SuffixValue)
+    → (length (without_final_dot domain) == 0) ≡ false
+    → exception ≡ longest true rules (labels_of (without_final_dot domain))
+    → rule ≡ longest false rules (labels_of (without_final_dot domain))
+    → value ≡ suffix_from domain (by_exception exception (by_rule rule)) → Some value ≡ suffix_of rules domain
+suffix_of-found rules domain exception rule value h e g same =
+    ap Some (same ∙ ap (suffix_from domain) (prevailing_by rules (labels_of (without_final_dot domain)) exception rule e g))
+    ∙ sym (suffix_of-some rules domain h)
+
+pub returns-then-is_empty-clause-value : goal.returns-then-is_empty-clause-value
+returns-then-is_empty-clause-value c = λ rules _ _.
+    sym (suffix_of-empty rules c.args.domain.now
+    (sym (ap (λ xs. length xs == 0) c.bare.ensures) ∙ sym c.is_empty.ensures ∙ c.if-is_empty.true))
+
+pub returns-clause-value : goal.returns-clause-value
+returns-clause-value c = λ rules exception rule.
+    let domain = c.args.domain.now in
+    let bare = without_final_dot domain in
+    let value : SuffixValue = record { text = c.from_labels.result.now; is_known = c.chosen-count.result.1 } in
+    suffix_of-found rules domain c.args.exception c.args.rule value
+    (sym (ap (λ xs. length xs == 0) c.bare.ensures) ∙ sym c.is_empty.ensures ∙ c.if-is_empty.false)
+    exception rule
+    (same_parts value (suffix_from domain (by_exception c.args.exception (by_rule c.args.rule)))
+    (c.from_labels.ensures.value ∙ ap (λ count. last_labels count bare ++ drop (length bare) domain) c.chosen-count.ensures.count)
+    c.chosen-count.ensures.is_known)

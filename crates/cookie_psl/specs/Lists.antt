@@ -1,0 +1,23 @@
+-- What contracts see of a list.
+use Rattle.std.specs.Prelude.{◌≡◌, ℕ, ◌∷◌, Option, Some, None, Result, Ok, Err, ⊤}
+use Rattle.cookie_psl.specs.Rules.{Rule, RuleList, SameRules}
+use Rattle.cookie_psl.specs.declared.error.ListError.{ListError}
+use Rattle.cookie_psl.specs.declared.error.ListError.TheVariants.{BadRule, Memory}
+use Rattle.cookie_psl.specs.declared.list.List.{List}
+
+-- unless memory ran out, a list with the rules of the text, or the number of its first bad line
+abbrev pub GivesList : Result List ListError → Result RuleList ℕ → Type 0
+GivesList (Ok list) answer = (rules : RuleList) × (answer ≡ Ok rules) × SameRules list rules
+GivesList (Err (BadRule line)) answer = answer ≡ Err line
+GivesList (Err Memory) answer = ⊤
+
+-- the rules with one more, if there is one
+abbrev pub with_rule : Option Rule → RuleList → RuleList
+with_rule None rules = rules
+with_rule (Some rule) rules = rule ∷ rules
+
+-- unless memory ran out, the rules with what the line says, or its number where it is bad
+abbrev pub TakesLine : {T : Type 0} → Result T ListError → Option (Option Rule) → ℕ → RuleList → RuleList → Type 0
+TakesLine (Ok _) answer number old new = (read : Option Rule) × (answer ≡ Some read) × SameRules new (with_rule read old)
+TakesLine (Err (BadRule line)) answer number old new = (answer ≡ None) × (line ≡ number)
+TakesLine (Err Memory) answer number old new = ⊤

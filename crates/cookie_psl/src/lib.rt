@@ -1,0 +1,15 @@
+//! Public suffixes, by the list and the algorithm of publicsuffix.org.
+#![tactic(auto)]
+
+mod error;
+pub mod laws;
+mod list;
+mod reading;
+mod suffix;
+#[cfg(test)]
+mod tests;
+mod tree;
+
+pub use error::ListError;
+pub use list::List;
+pub use suffix::Suffix;

@@ -1,0 +1,123 @@
+//! What a line of a public suffix list says.
+ghost use Rattle.std.specs.Prelude.{◌≡◌};
+ghost use Rattle.cookie_words.specs.Texts.{pieces};
+ghost use Rattle.cookie_psl.specs.ReadRules.{label_text, label_texts, marked_rule, rule_view, Gives, GivesLine};
+ghost use Rattle.cookie_psl.specs.Reading.{label_from, labels_from, line_rule, read_part, rule_from};
+
+use idna::{Errors, domain_to_ascii};
+use std::alloc::{AllocFailed, Global};
+
+/// The most labels that a rule may have.
+const MOST_LABELS: usize = 127;
+
+/// A rule as a line says it.
+#[derive(Drop)]
+pub(crate) struct ReadRule {
+    /// Its labels from the first to the last, where `None` is the label `*`.
+    pub(crate) labels: Vec<Option<String>>,
+    /// Whether it is an exception.
+    pub(crate) is_exception: bool,
+}
+
+/// Why a line was not read.
+#[derive(Clone, Copy, Debug)]
+pub(crate) enum LineFault {
+    /// The line is no rule.
+    Bad,
+    /// The allocator had no memory.
+    Memory,
+}
+
+impl From<Errors> for LineFault {
+    ghost use Rattle.cookie_psl.specs.ReadRules.{label_fault};
+
+    ghost from_gives = { λ error fault. fault ≡ label_fault error };
+
+    fn from(error: Errors) -> LineFault {
+        match error {
+            Errors::Invalid => LineFault::Bad,
+            Errors::OutOfMemory => LineFault::Memory,
+        }
+    }
+}
+
+impl<T: Drop> From<AllocFailed<T>> for LineFault {
+    ghost use Rattle.cookie_psl.specs.declared.reading.LineFault.TheVariants.{Memory};
+
+    ghost from_gives = { λ _ fault. fault ≡ Memory };
+
+    fn from(_error: AllocFailed<T>) -> LineFault {
+        LineFault::Memory
+    }
+}
+
+/// The rule that the line says, or nothing where it is empty or a comment.
+#[tactic(auto, unfolding(crate::specs::Reading::line_rule))]
+pub(crate) fn read_line(alloc: Global, line: &str) -> Result<Option<ReadRule>, LineFault>
+    ensures { GivesLine result (line_rule line.now) }
+{
+    let part = read_part(line);
+    if part.is_empty() || part.starts_with("//") {
+        return Ok(None);
+    }
+    Ok(Some(read_marked(alloc, part)?))
+}
+
+// A line is read up to its first white space.
+fn read_part(line: &str) -> &str
+    ensures { result.now ≡ read_part line.now }
+{
+    match line.split_once(char::is_whitespace) {
+        Some((part, _)) => part,
+        None => line,
+    }
+}
+
+// A leading `!` marks an exception.
+fn read_marked(alloc: Global, part: &str) -> Result<ReadRule, LineFault>
+    ensures { Gives rule_view result (marked_rule part.now) }
+{
+    match part.strip_prefix('!') {
+        Some(text) => read_rule(alloc, text, true),
+        None => read_rule(alloc, part, false),
+    }
+}
+
+#[tactic(auto, unfolding(crate::specs::Reading::rule_from))]
+fn read_rule(alloc: Global, text: &str, is_exception: bool) -> Result<ReadRule, LineFault>
+    ensures { Gives rule_view result (rule_from is_exception text.now) }
+{
+    let labels = read_labels(alloc, text)?;
+    if labels.len() > MOST_LABELS || is_exception && labels.len() == 1 {
+        return Err(LineFault::Bad);
+    }
+    Ok(ReadRule {
+        labels,
+        is_exception,
+    })
+}
+
+fn read_labels(alloc: Global, text: &str) -> Result<Vec<Option<String>>, LineFault>
+    ensures { Gives label_texts result (labels_from (pieces 46 text.now)) }
+{
+    let mut labels = Vec::new(alloc);
+    for label in text.split('.') {
+        labels.push(read_label(alloc, label)?)?;
+    }
+    Ok(labels)
+}
+
+// `None` is the label `*`.
+#[tactic(auto, unfolding(crate::specs::Reading::label_from))]
+fn read_label(alloc: Global, label: &str) -> Result<Option<String>, LineFault>
+    ensures { Gives label_text result (label_from label.now) }
+{
+    if label == "*" {
+        return Ok(None);
+    }
+    let ascii = domain_to_ascii(alloc, label)?;
+    if ascii.is_empty() || ascii.as_bytes().contains(&b'.') {
+        return Err(LineFault::Bad);
+    }
+    Ok(Some(ascii))
+}
