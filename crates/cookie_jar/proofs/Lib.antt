@@ -1,4 +1,6 @@
 pub mod Lines
+pub mod OtherWords
 pub mod PairTexts
 pub mod Progress
 pub mod Sending
+pub mod RowLines

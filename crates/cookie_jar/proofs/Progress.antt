@@ -4,29 +4,31 @@ use Rattle.std.specs.Io.KnownBytes.{Appends, IsAtEnd, Keeps, prepend_known}
 use Rattle.std.specs.Str.Lines.{lines, lines_of_parts, strip_carriage_return}
 use Rattle.std.proofs.KnownBytes.{Appends-trans}
 use Rattle.cookie_device.specs.Device.{AppendsBeginning, Sends}
+use Rattle.cookie_psl.specs.Rules.{RuleList}
 use Rattle.cookie_jar.specs.Faults.{SendsBeginning}
 use Rattle.cookie_jar.specs.Script.{State, start, turn, outputs, output_of}
 use Rattle.cookie_jar.proofs.Lines.{lines-found, lines-last}
 use Rattle.cookie_jar.proofs.Sending.{nothing_part, nothing_put, part_longer, part_then, put_then}
 
--- Of the output for the input, `done` was put: `before` and it went out, but for what is gathered. The bytes at hand and
+-- Of the output, `done` was put: `before` and it went out, but for what is gathered. The bytes at hand and
 -- what the source has left are still to be answered, from this state on.
-pub record Progress (input at_hand : List ℕ) (rest : Option (List ℕ)) (state : State) (old new : Option (List ℕ)) (before gathered : List ℕ) : Type 0 where
+pub record Progress (output at_hand : List ℕ) (rest : Option (List ℕ)) (state : State) (old new : Option (List ℕ)) (before gathered : List ℕ) : Type 0 where
   pub done : List ℕ
   pub left : List ℕ
   pub known : prepend_known at_hand rest ≡ Some left
-  pub split : output_of input ≡ done ++ outputs (lines left) state
+  pub split : output ≡ done ++ outputs (lines left) state
   pub sends : Sends old new (before ++ done) gathered
 
 -- at first all is left
-pub begun : (rest : Option (List ℕ)) (a : Option (List ℕ)) (before : List ℕ) → IfSome rest (λ input. Progress input [] rest start a a before before)
-begun None a before = tt
-begun (Some input) a before = record { done = []; left = input; known = refl; split = refl; sends = nothing_put a before }
+pub begun : (suffixes : Option RuleList) (rest : Option (List ℕ)) (a : Option (List ℕ)) (before : List ℕ)
+    → IfSome rest (λ input. Progress (output_of suffixes input) [] rest (start suffixes) a a before before)
+begun suffixes None a before = tt
+begun suffixes (Some input) a before = record { done = []; left = input; known = refl; split = refl; sends = nothing_put a before }
 
 -- the output, where the next line is known
-next_line : (input at_hand line : List ℕ) (more : List (List ℕ)) (done left : List ℕ) (state : State) → output_of input ≡ done ++ outputs (lines left) state
-    → lines left ≡ line ∷ more → output_of input ≡ (done ++ (turn line state).text) ++ outputs more (turn line state).state
-next_line input at_hand line more done left state split first =
+next_line : (output at_hand line : List ℕ) (more : List (List ℕ)) (done left : List ℕ) (state : State) → output ≡ done ++ outputs (lines left) state
+    → lines left ≡ line ∷ more → output ≡ (done ++ (turn line state).text) ++ outputs more (turn line state).state
+next_line output at_hand line more done left state split first =
     split ∙ ap (λ ls. done ++ outputs ls state) first ∙ sym (append_assoc done (turn line state).text (outputs more (turn line state).state))
 
 -- the lines that are left, where a line was found at hand
@@ -38,23 +40,23 @@ left_lines at_hand left (Some more) end known found =
     (more, refl, ap lines (sym same) ∙ lines-found at_hand more end found)
 
 -- a line that was found is answered
-pub answered : (input at_hand line : List ℕ) (rest : Option (List ℕ)) (state : State) (old new then : Option (List ℕ)) (before g h : List ℕ) (end : ℕ)
-    → Progress input at_hand rest state old new before g → position (λ b. eqb b 10) at_hand ≡ Some end → line ≡ strip_carriage_return (take end at_hand)
-    → Sends new then (g ++ (turn line state).text) h → Progress input (drop (end + 1) at_hand) rest (turn line state).state old then before h
-answered input at_hand line rest state old new then before g h end p found is sends =
+pub answered : (output at_hand line : List ℕ) (rest : Option (List ℕ)) (state : State) (old new then : Option (List ℕ)) (before g h : List ℕ) (end : ℕ)
+    → Progress output at_hand rest state old new before g → position (λ b. eqb b 10) at_hand ≡ Some end → line ≡ strip_carriage_return (take end at_hand)
+    → Sends new then (g ++ (turn line state).text) h → Progress output (drop (end + 1) at_hand) rest (turn line state).state old then before h
+answered output at_hand line rest state old new then before g h end p found is sends =
     let (more, known, ls) = left_lines at_hand p.left rest end p.known found in
     record {
       done = p.done ++ (turn line state).text;
       left = drop (end + 1) at_hand ++ more;
       known = ap (prepend_known (drop (end + 1) at_hand)) known;
-      split = next_line input at_hand line (lines (drop (end + 1) at_hand ++ more)) p.done p.left state p.split (ls ∙ ap (λ l. l ∷ lines (drop (end + 1) at_hand ++ more)) (sym is));
+      split = next_line output at_hand line (lines (drop (end + 1) at_hand ++ more)) p.done p.left state p.split (ls ∙ ap (λ l. l ∷ lines (drop (end + 1) at_hand ++ more)) (sym is));
       sends = put_then old new then before p.done (turn line state).text g h p.sends sends;
     }
 
 -- what was gathered goes out
-pub flushed : (input at_hand : List ℕ) (rest : Option (List ℕ)) (state : State) (old new then : Option (List ℕ)) (before g h : List ℕ)
-    → Progress input at_hand rest state old new before g → Appends new then g → h ≡ [] → Progress input at_hand rest state old then before h
-flushed input at_hand rest state old new then before g h p whole empty = record {
+pub flushed : (output at_hand : List ℕ) (rest : Option (List ℕ)) (state : State) (old new then : Option (List ℕ)) (before g h : List ℕ)
+    → Progress output at_hand rest state old new before g → Appends new then g → h ≡ [] → Progress output at_hand rest state old then before h
+flushed output at_hand rest state old new then before g h p whole empty = record {
   done = p.done;
   left = p.left;
   known = p.known;
@@ -72,9 +74,9 @@ kept_known (Some x) None left known kept = absurd kept
 kept_known (Some x) (Some y) left known kept = ap Some kept ∙ known
 
 -- more is read ahead
-pub read_ahead : (input at_hand more : List ℕ) (rest less : Option (List ℕ)) (state : State) (old new : Option (List ℕ)) (before g : List ℕ)
-    → Progress input at_hand rest state old new before g → Keeps (prepend_known at_hand rest) (prepend_known more less) → Progress input more less state old new before g
-read_ahead input at_hand more rest less state old new before g p kept = record {
+pub read_ahead : (output at_hand more : List ℕ) (rest less : Option (List ℕ)) (state : State) (old new : Option (List ℕ)) (before g : List ℕ)
+    → Progress output at_hand rest state old new before g → Keeps (prepend_known at_hand rest) (prepend_known more less) → Progress output more less state old new before g
+read_ahead output at_hand more rest less state old new before g p kept = record {
   done = p.done;
   left = p.left;
   known = kept_known (prepend_known at_hand rest) (prepend_known more less) p.left p.known kept;
@@ -95,10 +97,10 @@ last_lines : (at_hand left : List ℕ) (rest : Option (List ℕ)) → prepend_kn
 last_lines at_hand left rest known end none = ap lines (all_at_hand at_hand left rest known end) ∙ lines-last at_hand none
 
 -- the output, where the last line is known
-last_line : (input at_hand : List ℕ) (rest : Option (List ℕ)) (state : State) (old new : Option (List ℕ)) (before g : List ℕ) (last : List (List ℕ))
-    → Progress input at_hand rest state old new before g → IsAtEnd rest → position (λ b. eqb b 10) at_hand ≡ None → lines_of_parts (at_hand ∷ []) ≡ last
-    → (done : List ℕ) × (output_of input ≡ done ++ outputs last state) × Sends old new (before ++ done) g
-last_line input at_hand rest state old new before g last p end none same =
+last_line : (output at_hand : List ℕ) (rest : Option (List ℕ)) (state : State) (old new : Option (List ℕ)) (before g : List ℕ) (last : List (List ℕ))
+    → Progress output at_hand rest state old new before g → IsAtEnd rest → position (λ b. eqb b 10) at_hand ≡ None → lines_of_parts (at_hand ∷ []) ≡ last
+    → (done : List ℕ) × (output ≡ done ++ outputs last state) × Sends old new (before ++ done) g
+last_line output at_hand rest state old new before g last p end none same =
     (p.done, p.split ∙ ap (λ ls. p.done ++ outputs ls state) (last_lines at_hand p.left rest p.known end none ∙ same), p.sends)
 
 nothing_last : (n : ℕ) (x : List ℕ) → n ≡ 0 → cond (eqb n 0) [] (x ∷ []) ≡ []
@@ -108,53 +110,53 @@ something_last : (n : ℕ) (x : List ℕ) → n ≢ 0 → cond (eqb n 0) [] (x �
 something_last n x h = rw (ne_eqb n 0 h)
 
 -- nothing is left to answer
-pub finished : (input at_hand : List ℕ) (rest : Option (List ℕ)) (state : State) (old new : Option (List ℕ)) (before g : List ℕ)
-    → Progress input at_hand rest state old new before g → IsAtEnd rest → position (λ b. eqb b 10) at_hand ≡ None → length at_hand ≡ 0
-    → Sends old new (before ++ output_of input) g
-finished input at_hand rest state old new before g p end none empty =
-    let (done, split, sends) = last_line input at_hand rest state old new before g [] p end none (nothing_last (length at_hand) at_hand empty) in
+pub finished : (output at_hand : List ℕ) (rest : Option (List ℕ)) (state : State) (old new : Option (List ℕ)) (before g : List ℕ)
+    → Progress output at_hand rest state old new before g → IsAtEnd rest → position (λ b. eqb b 10) at_hand ≡ None → length at_hand ≡ 0
+    → Sends old new (before ++ output) g
+finished output at_hand rest state old new before g p end none empty =
+    let (done, split, sends) = last_line output at_hand rest state old new before g [] p end none (nothing_last (length at_hand) at_hand empty) in
     subst (λ (text : List ℕ). Sends old new (before ++ text) g) (sym (split ∙ append-nil done)) sends
 
 -- the output ends with the answer to the last line
-last_answer : (input at_hand : List ℕ) (rest : Option (List ℕ)) (state : State) (old new : Option (List ℕ)) (before g : List ℕ)
-    → Progress input at_hand rest state old new before g → IsAtEnd rest → position (λ b. eqb b 10) at_hand ≡ None → length at_hand ≢ 0
-    → (done : List ℕ) × (output_of input ≡ done ++ (turn at_hand state).text) × Sends old new (before ++ done) g
-last_answer input at_hand rest state old new before g p end none some =
-    let (done, split, sends) = last_line input at_hand rest state old new before g (at_hand ∷ []) p end none (something_last (length at_hand) at_hand some) in
+last_answer : (output at_hand : List ℕ) (rest : Option (List ℕ)) (state : State) (old new : Option (List ℕ)) (before g : List ℕ)
+    → Progress output at_hand rest state old new before g → IsAtEnd rest → position (λ b. eqb b 10) at_hand ≡ None → length at_hand ≢ 0
+    → (done : List ℕ) × (output ≡ done ++ (turn at_hand state).text) × Sends old new (before ++ done) g
+last_answer output at_hand rest state old new before g p end none some =
+    let (done, split, sends) = last_line output at_hand rest state old new before g (at_hand ∷ []) p end none (something_last (length at_hand) at_hand some) in
     (done, split ∙ ap (λ text. done ++ text) (append-nil (turn at_hand state).text), sends)
 
 -- the last line is answered
-pub last_answered : (input at_hand : List ℕ) (rest : Option (List ℕ)) (state : State) (old new then : Option (List ℕ)) (before g h : List ℕ)
-    → Progress input at_hand rest state old new before g → IsAtEnd rest → position (λ b. eqb b 10) at_hand ≡ None → length at_hand ≢ 0
-    → Sends new then (g ++ (turn at_hand state).text) h → Sends old then (before ++ output_of input) h
-last_answered input at_hand rest state old new then before g h p end none some sends =
-    let (done, split, sent) = last_answer input at_hand rest state old new before g p end none some in
+pub last_answered : (output at_hand : List ℕ) (rest : Option (List ℕ)) (state : State) (old new then : Option (List ℕ)) (before g h : List ℕ)
+    → Progress output at_hand rest state old new before g → IsAtEnd rest → position (λ b. eqb b 10) at_hand ≡ None → length at_hand ≢ 0
+    → Sends new then (g ++ (turn at_hand state).text) h → Sends old then (before ++ output) h
+last_answered output at_hand rest state old new then before g h p end none some sends =
+    let (done, split, sent) = last_answer output at_hand rest state old new before g p end none some in
     subst (λ (text : List ℕ). Sends old then (before ++ text) h) (sym split) (put_then old new then before done (turn at_hand state).text g h sent sends)
 
 -- and where it was not, a beginning went out
-pub last_part : (input at_hand : List ℕ) (rest : Option (List ℕ)) (state : State) (old new then : Option (List ℕ)) (before g : List ℕ)
-    → Progress input at_hand rest state old new before g → IsAtEnd rest → position (λ b. eqb b 10) at_hand ≡ None → length at_hand ≢ 0
-    → AppendsBeginning new then (g ++ (turn at_hand state).text) → AppendsBeginning old then (before ++ output_of input)
-last_part input at_hand rest state old new then before g p end none some part =
-    let (done, split, sent) = last_answer input at_hand rest state old new before g p end none some in
+pub last_part : (output at_hand : List ℕ) (rest : Option (List ℕ)) (state : State) (old new then : Option (List ℕ)) (before g : List ℕ)
+    → Progress output at_hand rest state old new before g → IsAtEnd rest → position (λ b. eqb b 10) at_hand ≡ None → length at_hand ≢ 0
+    → AppendsBeginning new then (g ++ (turn at_hand state).text) → AppendsBeginning old then (before ++ output)
+last_part output at_hand rest state old new then before g p end none some part =
+    let (done, split, sent) = last_answer output at_hand rest state old new before g p end none some in
     subst (λ (text : List ℕ). AppendsBeginning old then (before ++ text)) (sym split) (part_then old new then before done (turn at_hand state).text g sent part)
 
 -- a beginning of the answer to a line that was found is one of the output
-pub line_part : (input at_hand line : List ℕ) (rest : Option (List ℕ)) (state : State) (old new then : Option (List ℕ)) (before g : List ℕ) (end : ℕ)
-    → Progress input at_hand rest state old new before g → position (λ b. eqb b 10) at_hand ≡ Some end → line ≡ strip_carriage_return (take end at_hand)
-    → AppendsBeginning new then (g ++ (turn line state).text) → AppendsBeginning old then (before ++ output_of input)
-line_part input at_hand line rest state old new then before g end p found is part =
+pub line_part : (output at_hand line : List ℕ) (rest : Option (List ℕ)) (state : State) (old new then : Option (List ℕ)) (before g : List ℕ) (end : ℕ)
+    → Progress output at_hand rest state old new before g → position (λ b. eqb b 10) at_hand ≡ Some end → line ≡ strip_carriage_return (take end at_hand)
+    → AppendsBeginning new then (g ++ (turn line state).text) → AppendsBeginning old then (before ++ output)
+line_part output at_hand line rest state old new then before g end p found is part =
     let (more, known, ls) = left_lines at_hand p.left rest end p.known found in
     let others = lines (drop (end + 1) at_hand ++ more) in
-    let split = next_line input at_hand line others p.done p.left state p.split (ls ∙ ap (λ l. l ∷ others) (sym is)) in
+    let split = next_line output at_hand line others p.done p.left state p.split (ls ∙ ap (λ l. l ∷ others) (sym is)) in
     subst (λ (text : List ℕ). AppendsBeginning old then (before ++ text)) (sym split)
     (part_longer old then before (p.done ++ (turn line state).text) (outputs others (turn line state).state)
     (part_then old new then before p.done (turn line state).text g p.sends part))
 
 -- so is a beginning of what was gathered
-pub flush_part : (input at_hand : List ℕ) (rest : Option (List ℕ)) (state : State) (old new then : Option (List ℕ)) (before g : List ℕ)
-    → Progress input at_hand rest state old new before g → AppendsBeginning new then g → AppendsBeginning old then (before ++ output_of input)
-flush_part input at_hand rest state old new then before g p part =
+pub flush_part : (output at_hand : List ℕ) (rest : Option (List ℕ)) (state : State) (old new then : Option (List ℕ)) (before g : List ℕ)
+    → Progress output at_hand rest state old new before g → AppendsBeginning new then g → AppendsBeginning old then (before ++ output)
+flush_part output at_hand rest state old new then before g p part =
     let more = outputs (lines p.left) state in
     let now : AppendsBeginning new then (g ++ []) = subst (AppendsBeginning new then) (sym (append-nil g)) part in
     let all : AppendsBeginning old then (before ++ (p.done ++ [])) = part_then old new then before p.done [] g p.sends now in
@@ -162,15 +164,15 @@ flush_part input at_hand rest state old new then before g p part =
     subst (λ (text : List ℕ). AppendsBeginning old then (before ++ text)) (sym p.split) (part_longer old then before p.done more done)
 
 -- so is what went out so far
-pub part_so_far : (input at_hand : List ℕ) (rest : Option (List ℕ)) (state : State) (old new : Option (List ℕ)) (before g : List ℕ)
-    → Progress input at_hand rest state old new before g → AppendsBeginning old new (before ++ output_of input)
-part_so_far input at_hand rest state old new before g p =
-    flush_part input at_hand rest state old new new before g p (nothing_part new g)
+pub part_so_far : (output at_hand : List ℕ) (rest : Option (List ℕ)) (state : State) (old new : Option (List ℕ)) (before g : List ℕ)
+    → Progress output at_hand rest state old new before g → AppendsBeginning old new (before ++ output)
+part_so_far output at_hand rest state old new before g p =
+    flush_part output at_hand rest state old new new before g p (nothing_part new g)
 
 -- where there is no memory, what was put so far is a beginning, and nothing of it is lost
-pub out_of_memory : (input at_hand : List ℕ) (rest : Option (List ℕ)) (state : State) (old new then : Option (List ℕ)) (before g h : List ℕ)
-    → Progress input at_hand rest state old new before g → Sends new then g h → SendsBeginning old then (before ++ output_of input) h
-out_of_memory input at_hand rest state old new then before g h p sends = record {
+pub out_of_memory : (output at_hand : List ℕ) (rest : Option (List ℕ)) (state : State) (old new then : Option (List ℕ)) (before g h : List ℕ)
+    → Progress output at_hand rest state old new before g → Sends new then g h → SendsBeginning old then (before ++ output) h
+out_of_memory output at_hand rest state old new then before g h p sends = record {
   beginning = before ++ p.done;
   more = outputs (lines p.left) state;
   split = ap (λ text. before ++ text) p.split ∙ sym (append_assoc before p.done (outputs (lines p.left) state));

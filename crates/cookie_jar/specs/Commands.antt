@@ -7,12 +7,16 @@ use Rattle.url.specs.Parser.{parse_url}
 use Rattle.url.specs.Parts.{Parts}
 use Rattle.cookie_words.specs.Moments.{Moment}
 use Rattle.cookie_saved.specs.MomentText.{moment_at}
+use Rattle.cookie_store.specs.Rows.{Key, key_at}
 
--- `now MOMENT`, `set URL TEXT` and `get URL`
+-- `now MOMENT`, `set URL TEXT`, `get URL`, `list`, `remove DOMAIN PATH NAME` and `clear`
 pub data Command : Type 0 where
   Now : Moment → Command
   Set : Parts → List ℕ → Command
   Get : Parts → Command
+  ListRows : Command
+  Remove : Key → Command
+  Clear : Command
 
 -- the byte is a space
 abbrev pub is_space : ℕ → Bool
@@ -36,14 +40,31 @@ one_word text = if list_any is_space text then None else Some text
 abbrev pub set_command : List ℕ × List ℕ → Option Command
 set_command words = option_map (λ url. Set url words.1) (url_at words.0)
 
+-- the domain, the path and the name of `remove`, which is all after the space that follows the path
+abbrev pub remove_command : List ℕ × List ℕ → Option Command
+remove_command words = option_map (λ others. Remove (key_at words.0 others.0 others.1)) (first_word words.1)
+
 -- the command of a verb and what follows the space after it
 unfoldable pub verb_command : List ℕ × List ℕ → Option Command
 verb_command line =
     if bytes_eq line.0 (codes "now") then option_map Now (moment_at line.1)
     else (if bytes_eq line.0 (codes "set") then option_and_then set_command (first_word line.1)
     else (if bytes_eq line.0 (codes "get") then option_map Get (option_and_then url_at (one_word line.1))
-    else None))
+    else (if bytes_eq line.0 (codes "remove") then option_and_then remove_command (first_word line.1)
+    else None)))
+
+-- the command that is one word
+unfoldable pub lone_command : List ℕ → Option Command
+lone_command word =
+    if bytes_eq word (codes "list") then Some ListRows
+    else (if bytes_eq word (codes "clear") then Some Clear
+    else None)
+
+-- the command of a text, by its first word and what follows, if it has more than one
+abbrev pub text_command : List ℕ → Option (List ℕ × List ℕ) → Option Command
+text_command text None = lone_command text
+text_command text (Some words) = verb_command words
 
 -- the command of a line, and None for a bad line
 unfoldable pub command_of : List ℕ → Option Command
-command_of line = if is_utf8 line then option_and_then verb_command (first_word line) else None
+command_of line = if is_utf8 line then text_command line (first_word line) else None

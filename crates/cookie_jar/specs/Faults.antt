@@ -1,16 +1,18 @@
 -- What the faults of the program say of it.
-use Rattle.std.specs.Prelude.{◌≡◌, ℕ, ◌+◌, List, ◌++◌, Option, Result, Ok, Err, codes}
+use Rattle.std.specs.Prelude.{◌≡◌, ℕ, ◌+◌, List, ◌++◌, Option, Result, Ok, Err, codes, decimal}
 use Rattle.cookie_device.specs.Device.{Sends}
 use Rattle.cookie_device.specs.declared.lines.FillError.{FillError}
 use Rattle.cookie_device.specs.declared.lines.FillError.TheVariants as Fill
 use Rattle.cookie_jar.specs.declared.fault.MainFault.{MainFault}
-use Rattle.cookie_jar.specs.declared.fault.MainFault.TheVariants.{BadArguments, Run}
+use Rattle.cookie_jar.specs.declared.fault.MainFault.TheVariants.{BadArguments, CannotReadList, BadRule, Run}
 use Rattle.cookie_jar.specs.declared.fault.RunFault.{RunFault}
 use Rattle.cookie_jar.specs.declared.fault.RunFault.TheVariants.{Read, Write, Memory}
 
 -- the exit status
 abbrev pub status_of : MainFault → ℕ
 status_of BadArguments = 2
+status_of CannotReadList = 2
+status_of (BadRule line) = 2
 status_of (Run Read) = 1
 status_of (Run Write) = 1
 status_of (Run Memory) = 3
@@ -24,6 +26,8 @@ run_fault_text Memory = codes "out of memory"
 -- why the program failed, in words
 abbrev pub fault_text : MainFault → List ℕ
 fault_text BadArguments = codes "bad arguments"
+fault_text CannotReadList = codes "cannot read list"
+fault_text (BadRule line) = codes "bad rule in line " ++ decimal line
 fault_text (Run fault) = run_fault_text fault
 
 -- the fault of a script whose source could not be read ahead

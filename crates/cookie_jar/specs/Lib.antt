@@ -1,4 +1,6 @@
+pub mod Arguments
 pub mod Commands
 pub mod CommandViews
 pub mod Faults
 pub mod Script
+pub mod Suffixes

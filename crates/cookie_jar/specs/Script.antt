@@ -2,22 +2,25 @@
 use Rattle.std.specs.Prelude.{ℕ, List, [], ◌∷◌, ◌++◌, codes, flat_map, Option, Some, None, Ok, Err}
 use Rattle.std.specs.Str.Lines.{lines}
 use Rattle.cookie_words.specs.Moments.{Moment, epoch}
+use Rattle.cookie_psl.specs.Rules.{RuleList}
 use Rattle.cookie_parts.specs.Cookie.{Row}
+use Rattle.cookie_parts.specs.Domain.{domain_text}
 use Rattle.cookie_parts.specs.Errors.{error_text}
 use Rattle.cookie_parts.specs.declared.store_action.StoreAction.TheVariants.{Inserted, ExpiredExisting, UpdatedExisting}
 use Rattle.cookie_store.specs.Given.{given}
 use Rattle.cookie_store.specs.Runs as Runs
-use Rattle.cookie_store.specs.Runs.{Reply, Stored, Step, step}
-use Rattle.cookie_jar.specs.Commands.{Command, Now, Set, Get, command_of}
+use Rattle.cookie_store.specs.Runs.{Reply, Stored, Removed, Cleared, Step, step}
+use Rattle.cookie_jar.specs.Commands.{Command, Now, Set, Get, ListRows, Remove, Clear, command_of}
 
--- the rows of the store, and the moment that the script has come to
+-- the rows of the store, its public suffix list if there is one, and the moment that the script has come to
 pub record State : Type 0 where
   pub rows : List Row
+  pub suffixes : Option RuleList
   pub moment : Moment
 
--- a script begins with an empty store, at the epoch
-abbrev pub start : State
-start = record { rows = []; moment = epoch }
+-- a script begins with an empty store under the list, if there is one, at the epoch
+abbrev pub start : Option RuleList → State
+start suffixes = record { rows = []; suffixes = suffixes; moment = epoch }
 
 -- what a line writes, and the state after it
 pub record Turn : Type 0 where
@@ -30,6 +33,9 @@ reply_text (Stored (Ok Inserted)) = codes "inserted"
 reply_text (Stored (Ok ExpiredExisting)) = codes "expired existing"
 reply_text (Stored (Ok UpdatedExisting)) = codes "updated"
 reply_text (Stored (Err refusal)) = codes "refused: " ++ error_text refusal
+reply_text (Removed (Some row)) = codes "removed"
+reply_text (Removed None) = codes "none"
+reply_text Cleared = codes "cleared"
 
 -- a cookie in a Cookie header, RFC 6265 4.2.1
 abbrev pub pair_text : Row → List ℕ
@@ -45,16 +51,28 @@ header_text (cookie ∷ cookies) =
 abbrev pub line_text : List ℕ → List ℕ
 line_text text = text ++ 10 ∷ []
 
+-- a text and a space
+abbrev pub word_text : List ℕ → List ℕ
+word_text text = text ++ codes " "
+
+-- the domain, the path and the name of a row, parted by one space, as a line
+abbrev pub row_line : Row → List ℕ
+row_line row = word_text (domain_text row.domain) ++ word_text row.path.text ++ line_text row.raw.name
+
 -- what a step of the store writes, and the state after it
-abbrev pub stored_turn : Step → Moment → Turn
-stored_turn step now = record { text = line_text (reply_text step.reply); state = record { rows = step.rows; moment = now } }
+abbrev pub stored_turn : Step → State → Turn
+stored_turn step state = record { text = line_text (reply_text step.reply); state = record state { rows = step.rows } }
 
 -- what a command writes and leaves, and `bad line` for none
 unfoldable pub command_turn : Option Command → State → Turn
 command_turn None state = record { text = line_text (codes "bad line"); state = state }
 command_turn (Some (Now moment)) state = record { text = []; state = record state { moment = moment } }
-command_turn (Some (Set url text)) state = stored_turn (step (Runs.Set text url state.moment) state.rows) state.moment
+command_turn (Some (Set url text)) state =
+    stored_turn (step state.suffixes (Runs.Set text url state.moment) state.rows) state
 command_turn (Some (Get url)) state = record { text = line_text (header_text (given url state.moment state.rows)); state = state }
+command_turn (Some ListRows) state = record { text = flat_map row_line state.rows; state = state }
+command_turn (Some (Remove key)) state = stored_turn (step state.suffixes (Runs.Remove key) state.rows) state
+command_turn (Some Clear) state = stored_turn (step state.suffixes Runs.Clear state.rows) state
 
 -- what a line writes and leaves
 abbrev pub turn : List ℕ → State → Turn
@@ -65,6 +83,6 @@ abbrev pub outputs : List (List ℕ) → State → List ℕ
 outputs [] state = []
 outputs (line ∷ more) state = (turn line state).text ++ outputs more (turn line state).state
 
--- what a script writes: it is read line by line, from the start
-abbrev pub output_of : List ℕ → List ℕ
-output_of input = outputs (lines input) start
+-- what a script writes under a public suffix list, if there is one: it is read line by line, from the start
+abbrev pub output_of : Option RuleList → List ℕ → List ℕ
+output_of suffixes input = outputs (lines input) (start suffixes)

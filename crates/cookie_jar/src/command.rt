@@ -2,7 +2,7 @@
 ghost use Rattle.std.specs.Prelude.{◌≡◌, option_and_then, option_map, IfOk};
 ghost use Rattle.cookie_saved.specs.MomentText.{moment_at};
 ghost use Rattle.cookie_jar.specs.Commands as Spec;
-ghost use Rattle.cookie_jar.specs.Commands.{command_of, first_word, one_word, set_command, url_at, verb_command};
+ghost use Rattle.cookie_jar.specs.Commands.{command_of, first_word, lone_command, one_word, remove_command, set_command, url_at, verb_command};
 ghost use Rattle.cookie_jar.specs.CommandViews.{command_view, words_view};
 
 use cookie_store::saved::read_moment;
@@ -19,6 +19,12 @@ pub enum Command<'a> {
     Set(Url, &'a str),
     /// `get URL`: the cookies of the URL.
     Get(Url),
+    /// `list`: all cookies, whether they have ended or not.
+    ListRows,
+    /// `remove DOMAIN PATH NAME`: the cookie of this domain, path and name goes.
+    Remove(&'a str, &'a str, &'a str),
+    /// `clear`: all cookies go.
+    Clear,
 }
 
 /// The command of a line, and None for a bad line.
@@ -30,7 +36,18 @@ pub fn read_command(alloc: Global, line: &[u8]) -> Result<Option<Command<'_>>, A
     };
     match first_word(text) {
         Some((verb, rest)) => verb_command(alloc, verb, rest),
-        None => Ok(None),
+        None => Ok(lone_command(text)),
+    }
+}
+
+// The command that is one word.
+fn lone_command<'a>(word: &str) -> Option<Command<'a>>
+    ensures { option_map command_view result ≡ lone_command word.now }
+{
+    match word {
+        "list" => Some(Command::ListRows),
+        "clear" => Some(Command::Clear),
+        _ => None,
     }
 }
 
@@ -46,6 +63,7 @@ fn verb_command<'a>(
         "now" => Ok(now_command(rest)),
         "set" => set_command(alloc, rest),
         "get" => get_command(alloc, rest),
+        "remove" => Ok(remove_command(rest)),
         _ => Ok(None),
     }
 }
@@ -104,4 +122,13 @@ fn get_command<'a>(alloc: Global, rest: &str) -> Result<Option<Command<'a>>, All
         Some(url) => Ok(Some(Command::Get(url))),
         None => Ok(None),
     }
+}
+
+// The domain, the path, and after a space the name.
+fn remove_command<'a>(rest: &'a str) -> Option<Command<'a>>
+    ensures { option_map command_view result ≡ option_and_then remove_command (first_word rest.now) }
+{
+    let (domain, rest) = first_word(rest)?;
+    let (path, name) = first_word(rest)?;
+    Some(Command::Remove(domain, path, name))
 }

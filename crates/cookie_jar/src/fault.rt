@@ -71,17 +71,22 @@ impl fmt::Display for RunFault {
 pub enum MainFault {
     /// The arguments are not those of the program.
     BadArguments,
+    /// The file of the public suffix list could not be read, or is not UTF-8.
+    CannotReadList,
+    /// This line of the public suffix list, counted from 1, is the first that is no rule.
+    BadRule(usize),
     /// The script was not run to its end.
     Run(RunFault),
 }
 
 impl MainFault {
-    /// The exit status: 1 where a read or a write failed, 2 for bad arguments, 3 where there was no memory.
+    /// The exit status: 1 where a read or a write of the script failed, 2 for bad arguments and a list that cannot
+    /// be read or has a bad rule, 3 where there was no memory.
     pub fn status(&self) -> u8
         ensures { result ≡ status_of self.now }
     {
         match self {
-            MainFault::BadArguments => 2,
+            MainFault::BadArguments | MainFault::CannotReadList | MainFault::BadRule(_) => 2,
             MainFault::Run(RunFault::Read | RunFault::Write) => 1,
             MainFault::Run(RunFault::Memory) => 3,
         }
@@ -97,6 +102,8 @@ impl fmt::Display for MainFault {
     fn fmt<W: fmt::Write>(&self, f: &mut fmt::Formatter<W>) -> fmt::Result {
         match self {
             MainFault::BadArguments => f.write_str("bad arguments"),
+            MainFault::CannotReadList => f.write_str("cannot read list"),
+            MainFault::BadRule(line) => write!(f, "bad rule in line {line}"),
             MainFault::Run(fault) => fault.fmt(f),
         }
     }

@@ -8,8 +8,9 @@ ghost use Rattle.cookie_jar.specs.Script.{command_turn, start, turn};
 
 use crate::command::{Command, read_command};
 use crate::fault::RunFault;
-use crate::reply::{put_header, put_line, put_reply};
+use crate::reply::{put_header, put_line, put_reply, put_rows, removed_text};
 use cookie_device::{Output, Sink};
+use cookie_store::psl::List;
 use cookie_store::{CookieError, CookieStore};
 use jiff::civil::{DateTime, date};
 use std::alloc::Global;
@@ -29,16 +30,16 @@ impl Model for Jar {
 
     ghost Value = { State };
 
-    ghost view = { λ j. record { rows = j.store.rows; moment = moment_of j.moment } };
+    ghost view = { λ j. record { rows = j.store.rows; suffixes = j.store.suffixes; moment = moment_of j.moment } };
 }
 
 impl Jar {
-    /// An empty store, at the epoch.
-    pub fn new(alloc: Global) -> Jar
-        ensures { result ≡ start }
+    /// An empty store under the list, if there is one, at the epoch.
+    pub fn new(alloc: Global, list: Option<List>) -> Jar
+        ensures { result ≡ start list }
     {
         Jar {
-            store: CookieStore::new(alloc),
+            store: CookieStore::new_with_public_suffix(alloc, list),
             moment: date(1970, 1, 1).at(0, 0, 0, 0),
         }
     }
@@ -88,6 +89,15 @@ impl Jar {
             }
             Command::Set(url, text) => self.set(&url, text, out, sink),
             Command::Get(url) => self.get(&url, out, sink),
+            Command::ListRows => Ok(put_rows(out, sink, self.store.iter_any())?),
+            Command::Remove(domain, path, name) => {
+                let removed = self.store.remove(domain, path, name);
+                Ok(put_line(out, sink, removed_text(removed))?)
+            }
+            Command::Clear => {
+                self.store.clear();
+                Ok(put_line(out, sink, "cleared")?)
+            }
         }
     }
 

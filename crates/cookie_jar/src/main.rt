@@ -1,6 +1,7 @@
 //! The program `cookie_jar`: runs a script of cookies that come and of URLs that ask for them.
 //!
 //! Each line of standard input is `now MOMENT`, `set URL TEXT` or `get URL`; the answers go to standard output.
+//! With `--suffixes FILE` the store obeys the public suffix list of that file.
 #![tactic(auto)]
 
 mod arguments;
@@ -10,11 +11,13 @@ mod jar;
 mod options;
 mod reply;
 mod run;
+mod suffixes;
 
 use cookie_store::device::Counted;
+use cookie_store::psl::List;
 use fault::{MainFault, RunFault};
 use std::process::ExitCode;
-use std::{env, io};
+use std::{env, fs, io};
 
 fn main(rt: HostRuntime) -> ExitCode {
     match script(&rt) {
@@ -32,10 +35,13 @@ fn script(rt: &HostRuntime) -> Result<(), MainFault> {
         .skip(1)
         .collect(rt.alloc())
         .map_err(|_| MainFault::Run(RunFault::Memory))?;
-    let _options = arguments::options(words.as_slice())?;
+    let list = match arguments::options(words.as_slice())?.suffixes {
+        Some(file) => Some(read_list(rt, file)?),
+        None => None,
+    };
     let mut source = Counted::new(rt.stdin());
     let mut sink = Counted::new(rt.stdout());
-    run::run(rt.alloc(), &mut source, &mut sink).map_err(MainFault::Run)
+    run::run(rt.alloc(), &mut source, &mut sink, list).map_err(MainFault::Run)
 }
 
 // Why the arguments could not be read: one that is no UTF-8 is a bad one.
@@ -43,6 +49,20 @@ fn words_fault(error: io::Error) -> MainFault {
     match error.kind() {
         io::ErrorKind::OutOfMemory => MainFault::Run(RunFault::Memory),
         _ => MainFault::BadArguments,
+    }
+}
+
+// The public suffix list of a file.
+fn read_list(rt: &HostRuntime, file: &str) -> Result<List, MainFault> {
+    let bytes = fs::read(rt, file).map_err(list_fault)?;
+    suffixes::list_of(rt.alloc(), bytes.as_slice())
+}
+
+// Why the file of the list could not be read.
+fn list_fault(error: io::Error) -> MainFault {
+    match error.kind() {
+        io::ErrorKind::OutOfMemory => MainFault::Run(RunFault::Memory),
+        _ => MainFault::CannotReadList,
     }
 }
 

@@ -9,21 +9,27 @@ ghost use Rattle.cookie_jar.specs.Script.{output_of};
 use crate::fault::RunFault;
 use crate::jar::Jar;
 use cookie_device::{LineBuffer, Output, Sink, Source};
+use cookie_store::psl::List;
 use std::alloc::Global;
 
 /// Runs the script that the source gives, and writes its answers to the sink. What is written is gathered, and goes out
-/// before the next read.
-pub fn run<R: Source, W: Sink>(alloc: Global, source: &mut R, sink: &mut W) -> Result<(), RunFault>
+/// before the next read. The store obeys the public suffix list, if there is one.
+pub fn run<R: Source, W: Sink>(
+    alloc: Global,
+    source: &mut R,
+    sink: &mut W,
+    list: Option<List>,
+) -> Result<(), RunFault>
     requires readable { R.failed source.old < 2 ^ 64 - 1 }
     requires writable { W.failed sink.old < 2 ^ 64 - 1 }
     ensures whole { OnOk result (IfSome (R.remaining source.old) (λ input.
-        Appends (W.contents sink.old) (W.contents sink.new) (output_of input))) }
+        Appends (W.contents sink.old) (W.contents sink.new) (output_of list input))) }
     ensures part { IfSome (R.remaining source.old) (λ input.
-        AppendsBeginning (W.contents sink.old) (W.contents sink.new) (output_of input)) }
+        AppendsBeginning (W.contents sink.old) (W.contents sink.new) (output_of list input)) }
     ensures count { CountsFault result (R.failed source.old) (R.failed source.new) (W.failed sink.old) (W.failed sink.new) }
 {
     let mut out = Output::new(alloc)?;
-    match answer_lines(alloc, source, &mut out, sink) {
+    match answer_lines(alloc, source, &mut out, sink, list) {
         Err(RunFault::Memory) => {
             out.flush(sink)?;
             Err(RunFault::Memory)
@@ -39,19 +45,20 @@ fn answer_lines<R: Source, W: Sink>(
     source: &mut R,
     out: &mut Output,
     sink: &mut W,
+    list: Option<List>,
 ) -> Result<(), RunFault>
     requires readable { R.failed source.old < 2 ^ 64 - 1 }
     requires writable { W.failed sink.old < 2 ^ 64 - 1 }
     ensures whole { OnOk result (IfSome (R.remaining source.old) (λ input.
-        Sends (W.contents sink.old) (W.contents sink.new) (out.old ++ output_of input) out.new)) }
+        Sends (W.contents sink.old) (W.contents sink.new) (out.old ++ output_of list input) out.new)) }
     ensures part { IfSome (R.remaining source.old) (λ input.
-        AppendsBeginning (W.contents sink.old) (W.contents sink.new) (out.old ++ output_of input)) }
+        AppendsBeginning (W.contents sink.old) (W.contents sink.new) (out.old ++ output_of list input)) }
     ensures memory { result ≡ Err RunFault.Memory → IfSome (R.remaining source.old) (λ input.
-        SendsBeginning (W.contents sink.old) (W.contents sink.new) (out.old ++ output_of input) out.new) }
+        SendsBeginning (W.contents sink.old) (W.contents sink.new) (out.old ++ output_of list input) out.new) }
     ensures count { CountsFault result (R.failed source.old) (R.failed source.new) (W.failed sink.old) (W.failed sink.new) }
 {
     let mut input = LineBuffer::new(alloc);
-    let mut jar = Jar::new(alloc);
+    let mut jar = Jar::new(alloc, list);
     'lines: loop {
         if let Some(end) = input.line_end() {
             jar.answer(alloc, without_return(input.front(end)), out, sink)?;

@@ -2,6 +2,7 @@ use crate::arguments;
 use crate::fault::{MainFault, RunFault};
 use crate::options::Options;
 use crate::run::run;
+use crate::suffixes::list_of;
 use cookie_device::Counted;
 use std::alloc::Global;
 use std::cell::Cell;
@@ -13,7 +14,7 @@ use std::test::Fail;
 // A name, a script, and what it writes.
 type Row = (&'static str, &'static [u8], &'static str);
 
-const SCRIPTS: [Row; 13] = [
+const SCRIPTS: [Row; 17] = [
     (
         "a path",
         b"now 2026-01-01T00:00:00Z\n\
@@ -59,11 +60,12 @@ const SCRIPTS: [Row; 13] = [
           set http://example.com/ a=1; Max-Age=300\n\
           set http://example.com/ a=2; Max-Age=0\n\
           set http://example.com/ a=2; Max-Age=0\n\
+          list\n\
           get http://example.com/\n\
           set http://example.com/ a=3\n\
           get http://example.com/\n",
-        "inserted\nexpired existing\nrefused: attempted to utilize an Expired Cookie\nCookie:\n\
-          updated\nCookie: a=3\n",
+        "inserted\nexpired existing\nrefused: attempted to utilize an Expired Cookie\n\
+          example.com / a\nCookie:\nupdated\nCookie: a=3\n",
     ),
     (
         "an HttpOnly cookie until it has ended",
@@ -97,6 +99,57 @@ const SCRIPTS: [Row; 13] = [
         "inserted\nCookie: s=1\ninserted\nCookie:\nCookie: t=1\n",
     ),
     (
+        "rows of one domain and path",
+        b"now 2026-01-01T00:00:00Z\n\
+          set http://a.com/ x=1\n\
+          set http://b.com/ y=1\n\
+          set http://a.com/ z=1; Path=/p\n\
+          set http://a.com/ w=1\n\
+          list\n",
+        "inserted\ninserted\ninserted\ninserted\n\
+          a.com / x\na.com / w\na.com /p z\nb.com / y\n",
+    ),
+    (
+        "rows that are removed",
+        b"now 2026-01-01T00:00:00Z\n\
+          set http://a.com/ x=1\n\
+          set http://b.com/ y=1\n\
+          set http://a.com/ z=1; Path=/p\n\
+          set http://a.com/ w=1\n\
+          set http://a.com/ v=1\n\
+          remove a.com / x\n\
+          list\n\
+          remove a.com / w\n\
+          remove a.com / v\n\
+          remove a.com /p z\n\
+          remove a.com / x\n\
+          set http://a.com/ x=1\n\
+          list\n\
+          get http://a.com/\n",
+        "inserted\ninserted\ninserted\ninserted\ninserted\n\
+          removed\na.com / w\na.com / v\na.com /p z\nb.com / y\n\
+          removed\nremoved\nremoved\nnone\ninserted\nb.com / y\na.com / x\nCookie: x=1\n",
+    ),
+    (
+        "an IPv6 host",
+        b"now 2026-01-01T00:00:00Z\n\
+          set http://[::ffff:1.2.3.4]/ a=1\n\
+          list\n\
+          get http://[::ffff:1.2.3.4]/\n",
+        "inserted\n[::ffff:102:304] / a\nCookie: a=1\n",
+    ),
+    (
+        "all that is cleared, and a name with a space",
+        b"set http://a.com/ x y=1\n\
+          remove a.com / x y\n\
+          list\n\
+          set http://a.com/ z=1\n\
+          clear\n\
+          list\n\
+          get http://a.com/\n",
+        "inserted\nremoved\ninserted\ncleared\nCookie:\n",
+    ),
+    (
         "an empty text",
         b"set http://example.com/ \n",
         "refused: unable to parse string as cookie::Cookie\n",
@@ -116,7 +169,7 @@ const HOSTS: &[u8] = b"now 2026-01-01T00:00:00Z\n\
 const HOSTS_OUTPUT: &str = "inserted\ninserted\ninserted\ninserted\nupdated\n\
     Cookie: x=2; w=1; z=1\nCookie: y=1\n";
 
-const BAD_LINES: [(&str, &[u8]); 12] = [
+const BAD_LINES: [(&str, &[u8]); 15] = [
     ("empty", b"\n"),
     ("a word too many", b"get http://a.com/ x\n"),
     ("get alone", b"get\n"),
@@ -124,9 +177,12 @@ const BAD_LINES: [(&str, &[u8]); 12] = [
     ("now alone", b"now\n"),
     ("a word after the moment", b"now 2026-01-01T00:00:00Z x\n"),
     ("a capital letter", b"Get http://a.com/\n"),
-    ("list", b"list\n"),
-    ("remove", b"remove a.com / x\n"),
-    ("clear", b"clear\n"),
+    ("a space after list", b"list \n"),
+    ("a word after list", b"list a.com\n"),
+    ("a word after clear", b"clear a.com\n"),
+    ("remove alone", b"remove\n"),
+    ("a domain alone", b"remove a.com\n"),
+    ("a name too few", b"remove a.com /\n"),
     ("no UTF-8", b"\xff\n"),
     ("no UTF-8 in a text", b"set http://a.com/ a=\xff\n"),
 ];
@@ -134,7 +190,7 @@ const BAD_LINES: [(&str, &[u8]); 12] = [
 fn output(alloc: Global, script: &[u8]) -> Result<Vec<u8>, Fail> {
     let mut source = Counted::new(script);
     let mut sink = Counted::new(Vec::new(alloc));
-    run(alloc, &mut source, &mut sink)?;
+    run(alloc, &mut source, &mut sink, None)?;
     Ok(sink.into_inner())
 }
 
@@ -213,7 +269,7 @@ fn each_read_fails(rt: &impl Abort, alloc: Global, most: usize) -> Result<(), Fa
     for fails_at in 0..1_000 {
         let mut source = Counted::new(Fake::new(HOSTS, most, fails_at));
         let mut sink = Counted::new(Vec::new(alloc));
-        let outcome = run(alloc, &mut source, &mut sink);
+        let outcome = run(alloc, &mut source, &mut sink, None);
         let written = sink.into_inner();
         if source.into_inner().calls <= fails_at {
             assert_eq!(rt; outcome, Ok(()), "by {most}");
@@ -244,7 +300,7 @@ fn a_failed_write_ends_the_script(rt: HostRuntime) -> Result<(), Fail> {
     for fails_at in 0..1_000 {
         let mut source = Counted::new(HOSTS);
         let mut sink = Counted::new(Fake::new(Vec::new(rt.alloc()), 1, fails_at));
-        let outcome = run(rt.alloc(), &mut source, &mut sink);
+        let outcome = run(rt.alloc(), &mut source, &mut sink, None);
         let fake = sink.into_inner();
         if fake.calls <= fails_at {
             assert_eq!(rt; outcome, Ok(()));
@@ -266,7 +322,7 @@ fn a_writer_that_takes_nothing_has_failed(rt: HostRuntime) {
     let mut source = Counted::new(HOSTS);
     let mut sink = Counted::new(Fake::new(Vec::new(rt.alloc()), 0, NEVER));
     assert_eq!(rt;
-        run(rt.alloc(), &mut source, &mut sink),
+        run(rt.alloc(), &mut source, &mut sink, None),
         Err(RunFault::Write)
     );
     assert_eq!(rt; sink.into_inner().inner.as_slice(), [].as_slice());
@@ -327,7 +383,7 @@ fn answers_are_out_before_the_next_read(rt: HostRuntime) -> Result<(), Fail> {
         calls: 0,
     });
     let mut sink = Counted::new(CountingWriter { out: &out });
-    run(rt.alloc(), &mut source, &mut sink)?;
+    run(rt.alloc(), &mut source, &mut sink, None)?;
     // The answers are of 0, 9, 12, 9 and 8 bytes, and the last line has no line feed.
     let reader = source.into_inner();
     assert_eq!(rt; reader.calls, 6);
@@ -344,7 +400,7 @@ fn answers_go_out_together(rt: HostRuntime) -> Result<(), Fail> {
     }
     let mut source = Counted::new(Fake::new(script.as_slice(), 4_096, NEVER));
     let mut sink = Counted::new(Fake::new(Vec::new(rt.alloc()), NEVER, NEVER));
-    run(rt.alloc(), &mut source, &mut sink)?;
+    run(rt.alloc(), &mut source, &mut sink, None)?;
     let written = sink.into_inner();
     // The script has 18,000 bytes, and the last read finds its end.
     assert_eq!(rt; source.into_inner().calls, 6);
@@ -353,11 +409,74 @@ fn answers_go_out_together(rt: HostRuntime) -> Result<(), Fail> {
     Ok(())
 }
 
+// Of every kind of rule.
+const LIST: &[u8] = b"// a comment\ncom\n*.ck\n!www.ck\n\n*.www.ck\n";
+
+const UNDER_A_LIST: &[u8] = b"now 2026-01-01T00:00:00Z\n\
+    set http://a.com/ x=1; Domain=com\n\
+    set http://a.com./ x=1; Domain=com.\n\
+    set http://com/ x=1; Domain=com\n\
+    get http://a.com/\n\
+    get http://com/\n";
+
+const OUTPUT_UNDER_A_LIST: &str = "refused: domain-attribute value is a public suffix\n\
+    refused: domain-attribute value is a public suffix\n\
+    inserted\nCookie:\nCookie: x=1\n";
+
 #[test]
-fn there_are_no_options(rt: HostRuntime) -> Result<(), Fail> {
-    assert_eq!(rt; arguments::options(&[]), Ok(Options { suffixes: None }));
-    let words = [String::from_str(rt.alloc(), "--help")?];
-    assert_eq!(rt; arguments::options(&words), Err(MainFault::BadArguments));
+fn obeys_a_public_suffix_list(rt: HostRuntime) -> Result<(), Fail> {
+    let list = list_of(rt.alloc(), LIST)?;
+    let mut source = Counted::new(UNDER_A_LIST);
+    let mut sink = Counted::new(Vec::new(rt.alloc()));
+    run(rt.alloc(), &mut source, &mut sink, Some(list))?;
+    assert_eq!(rt; str::from_utf8(&sink.into_inner())?, OUTPUT_UNDER_A_LIST);
+    Ok(())
+}
+
+const BAD_LISTS: [(&[u8], MainFault); 3] = [
+    (b"com\n!com\n", MainFault::BadRule(2)),
+    (b"com\n\xff\n", MainFault::CannotReadList),
+    (b"a..b\n\xff\n", MainFault::CannotReadList),
+];
+
+#[test]
+fn tells_what_is_no_list(rt: HostRuntime) {
+    for (bytes, fault) in &BAD_LISTS {
+        let told = list_of(rt.alloc(), bytes).err();
+        assert_eq!(rt; told, Some(*fault), "at {bytes:?}");
+    }
+}
+
+// Words, and the file that they name, or None where they are bad.
+const WORDS: [(&[&str], Option<Option<&str>>); 7] = [
+    (&[], Some(None)),
+    (&["--suffixes", "list.dat"], Some(Some("list.dat"))),
+    (&["--suffixes", "--suffixes"], Some(Some("--suffixes"))),
+    (&["--suffixes"], None),
+    (&["--suffixes", "a", "b"], None),
+    (&["--suffixes=a"], None),
+    (&["--help"], None),
+];
+
+#[test]
+fn the_list_is_the_only_option(rt: HostRuntime) -> Result<(), Fail> {
+    for (words, wanted) in &WORDS {
+        let mut owned = Vec::new(rt.alloc());
+        for word in *words {
+            owned.push(String::from_str(rt.alloc(), word)?)?;
+        }
+        let wanted = match wanted {
+            Some(suffixes) => Ok(Options {
+                suffixes: *suffixes,
+            }),
+            None => Err(MainFault::BadArguments),
+        };
+        assert_eq!(rt;
+            arguments::options(owned.as_slice()),
+            wanted,
+            "at {words:?}"
+        );
+    }
     Ok(())
 }
 
@@ -365,6 +484,8 @@ fn there_are_no_options(rt: HostRuntime) -> Result<(), Fail> {
 fn faults_have_a_status_and_a_text(rt: HostRuntime) -> Result<(), Fail> {
     let rows = [
         (MainFault::BadArguments, 2, "bad arguments"),
+        (MainFault::CannotReadList, 2, "cannot read list"),
+        (MainFault::BadRule(17), 2, "bad rule in line 17"),
         (MainFault::Run(RunFault::Read), 1, "read failed"),
         (MainFault::Run(RunFault::Write), 1, "write failed"),
         (MainFault::Run(RunFault::Memory), 3, "out of memory"),
@@ -378,8 +499,10 @@ fn faults_have_a_status_and_a_text(rt: HostRuntime) -> Result<(), Fail> {
 }
 
 mod growths {
-    use crate::fault::RunFault;
+    use super::LIST;
+    use crate::fault::{MainFault, RunFault};
     use crate::run::run;
+    use crate::suffixes::list_of;
     use cookie_device::Counted;
     use std::test::Fail;
 
@@ -394,11 +517,15 @@ mod growths {
         set http://b\xc3\xbccher.example/ d=1; Domain=B\xc3\x9cCHER.example\n\
         fly\n\
         get http://a.com/p/q\n\
-        get http://xn--bcher-kva.example/";
+        list\n\
+        remove a.com /p z\n\
+        get http://xn--bcher-kva.example/\n\
+        clear";
 
     const OUTPUT: &str = "inserted\ninserted\nupdated\n\
         refused: request-uri does not domain-match the cookie\n\
-        inserted\nbad line\nCookie: x=2; z=1\nCookie: d=1\n";
+        inserted\nbad line\nCookie: x=2; z=1\n\
+        a.com / x\na.com /p z\nxn--bcher-kva.example / d\nremoved\nCookie: d=1\ncleared\n";
 
     #[test]
     fn a_script(rt: HostRuntime) -> Result<(), Fail> {
@@ -406,7 +533,7 @@ mod growths {
         let mut source = Counted::new(SCRIPT);
         let mut sink = Counted::new(room.as_mut_slice());
         let _start: Vec<u8> = Vec::with_capacity(rt.alloc(), START)?;
-        let outcome = run(rt.alloc(), &mut source, &mut sink);
+        let outcome = run(rt.alloc(), &mut source, &mut sink, None);
         let left = sink.into_inner().len();
         let written = &room[..room.len().saturating_sub(left)];
         match outcome {
@@ -416,6 +543,19 @@ mod growths {
                 assert!(rt; OUTPUT.as_bytes().starts_with(written));
                 assert!(rt; written.is_empty() || written.ends_with(b"\n"));
             }
+        }
+        Ok(())
+    }
+
+    #[test]
+    fn a_list(rt: HostRuntime) -> Result<(), Fail> {
+        let _start: Vec<u8> = Vec::with_capacity(rt.alloc(), START)?;
+        match list_of(rt.alloc(), LIST) {
+            Ok(list) => {
+                let suffix = list.suffix("a.www.ck").map(|suffix| suffix.as_str());
+                assert_eq!(rt; suffix, Some("ck"));
+            }
+            Err(fault) => assert_eq!(rt; fault, MainFault::Run(RunFault::Memory)),
         }
         Ok(())
     }

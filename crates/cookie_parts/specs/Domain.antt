@@ -8,6 +8,7 @@ use Rattle.idna.specs.Uts46.{domain_to_ascii}
 use Rattle.idna.specs.declared.deny_list.TheConstants.AsciiDenyList.{EMPTY}
 use Rattle.url.specs.Parts.{Parts}
 use Rattle.cookie_words.specs.Texts.{without_dot}
+use Rattle.cookie_psl.specs.Rules.{RuleList, listed}
 use Rattle.cookie_parts.specs.Hosts.{host_of, covers, passes, Covers}
 
 -- for that one host, for every host that the domain covers, and for none: without a Domain attribute, and with an empty one
@@ -89,6 +90,10 @@ text_if_any (HostOnly d) = Some d
 text_if_any (Suffix d) = Some d
 text_if_any NotPresent = None
 text_if_any Empty = None
+
+-- the domain has a text, and that is a public suffix by the rules
+abbrev pub is_public_suffix : RuleList → DomainValue → Bool
+is_public_suffix rules domain = passes (listed rules) (text_if_any domain)
 
 -- 5.1.3: the cookie is for the host, if there is one
 abbrev pub IsForHost : DomainValue → Option (List ℕ) → Type 0

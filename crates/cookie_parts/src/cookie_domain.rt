@@ -2,15 +2,17 @@
 ghost use Rattle.std.specs.Prelude.{◌≡◌, ◌↔◌, ◌∷◌, Err, IfOk, IsOk, IsTrue, None, Some, nat_eq, string_bytes};
 ghost use Rattle.std.specs.List.{ends_with};
 ghost use Rattle.std.specs.Option.{option_copied};
+ghost use Rattle.cookie_psl.specs.Rules.{listed};
 ghost use Rattle.cookie_parts.specs.Cookie.{host_alone};
 ghost use Rattle.cookie_parts.specs.Domain as Domain;
-ghost use Rattle.cookie_parts.specs.Domain.{ascii_of, domain_from_attribute, domain_from_text, domain_matches, domain_text, host_is_identical, text_if_any, IsForHost};
+ghost use Rattle.cookie_parts.specs.Domain.{ascii_of, domain_from_attribute, domain_from_text, domain_matches, domain_text, host_is_identical, is_public_suffix, text_if_any, IsForHost};
 ghost use Rattle.cookie_parts.specs.Hosts.{covers, host_of};
 ghost use Rattle.cookie_parts.specs.Outcomes.{Gives, GivesAscii, GivesDomain};
 ghost use Rattle.cookie_parts.specs.Views.{domain_value};
 
 use crate::utils::is_host_name;
 use crate::{CookieError, Error, IdnaErrors};
+use cookie_psl::List;
 use cookie_raw::RawCookie;
 use cookie_words::without_dot;
 use idna::{AsciiDenyList, Errors, domain_to_ascii_cow};
@@ -118,6 +120,16 @@ impl CookieDomain {
         }
     }
 
+    /// Whether the domain is a public suffix on the list: a listed rule says that the whole of its text is one.
+    pub fn is_public_suffix(&self, list: &List) -> bool
+        ensures { result ≡ is_public_suffix list.now (domain_value self.now) }
+    {
+        match self.as_cow() {
+            Some(domain) => is_listed(list, domain),
+            None => false,
+        }
+    }
+
     /// A copy of the text, empty for the kinds without one.
     pub fn to_string_in(&self, alloc: Global) -> Result<String, AllocError>
         ensures { IfOk result (λ text. string_bytes text ≡ domain_text (domain_value self.now)) }
@@ -157,6 +169,17 @@ fn suffix(alloc: Global, domain: &str) -> Result<CookieDomain, Error>
     match String::from_str(alloc, domain) {
         Ok(domain) => Ok(CookieDomain::Suffix(domain)),
         Err(_) => Err(Error::Memory),
+    }
+}
+
+// Whether the domain is its own public suffix, by a listed rule.
+#[tactic(auto, unfolding(cookie_psl::specs::Rules::listed))]
+fn is_listed(list: &List, domain: &str) -> bool
+    ensures { result ≡ listed list.now domain.now }
+{
+    match list.suffix(domain) {
+        Some(suffix) => suffix.is_known() && suffix.as_str() == domain,
+        None => false,
     }
 }
 

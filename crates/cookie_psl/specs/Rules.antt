@@ -84,6 +84,15 @@ suffix_of rules domain =
     if length bare == 0 then None
     else Some (record { text = last_labels found.count bare ++ drop (length bare) domain; is_known = found.is_known })
 
+-- the suffix is the whole text, and a listed rule says so
+abbrev pub is_whole : List ℕ → Option SuffixValue → Bool
+is_whole text None = false
+is_whole text (Some suffix) = suffix.is_known && bytes_eq suffix.text text
+
+-- the text is a public suffix by the rules
+unfoldable pub listed : RuleList → List ℕ → Bool
+listed rules text = is_whole text (suffix_of rules text)
+
 -- lists that hold the same rules, in any order and however often
 abbrev pub SameRules : RuleList → RuleList → Type 0
 SameRules a b = (test : Rule → Bool) → list_any test a ≡ list_any test b

@@ -4,3 +4,12 @@ pub mod KeptOrder
 pub mod Ends
 pub mod Positions
 pub mod Placed
+pub mod Removed
+pub mod Filtered
+pub mod RowsOfKeys
+pub mod AcceptanceOfKeys
+pub mod RunsOfKeys
+pub mod RelatedCalls
+pub mod CallsOfKey
+pub mod Built
+pub mod LongerRuns

@@ -39,7 +39,7 @@ none_of None h = refl
 none_of (Some x) h = absurd (true≢false h)
 
 -- the place that `position` gives, and that there is one
-position_first : {T : Type 0} (test : T → Bool) (xs : List T) (at : ℕ) → position test xs ≡ Some at → (at ≡ position_or_len test xs) × (list_any test xs ≡ true)
+pub position_first : {T : Type 0} (test : T → Bool) (xs : List T) (at : ℕ) → position test xs ≡ Some at → (at ≡ position_or_len test xs) × (list_any test xs ≡ true)
 position_first test xs at h = grind (arith, first-within test xs)
 
 -- where `position` gives a place, an item passes

@@ -8,7 +8,7 @@ use Rattle.cookie_store.specs.Rows.{after_last, differ, stand_together}
 use Rattle.cookie_store.proofs.AfterLast.{starts, list_any-after_last, starts-after_last}
 
 -- where an item passes, the first one does
-abbrev begins : {T : Type 0} → (T → Bool) → List T → Bool
+abbrev pub begins : {T : Type 0} → (T → Bool) → List T → Bool
 begins p xs = starts p xs || not (list_any p xs)
 
 -- the step of `stand_together`
@@ -17,11 +17,11 @@ stand_together-cons alike x [] = refl
 stand_together-cons alike x (y ∷ ys) = grind arith
 
 -- what a list that stands together says of its first item and of the rest
-together-parts : {T : Type 0} (alike : T → T → Bool) (x : T) (xs : List T) → stand_together alike (x ∷ xs) ≡ true → (begins (alike x) xs ≡ true) × (stand_together alike xs ≡ true)
+pub together-parts : {T : Type 0} (alike : T → T → Bool) (x : T) (xs : List T) → stand_together alike (x ∷ xs) ≡ true → (begins (alike x) xs ≡ true) × (stand_together alike xs ≡ true)
 together-parts alike x xs h = and_parts _ _ (rw stand_together-cons at h)
 
 -- and back
-together-from : {T : Type 0} (alike : T → T → Bool) (x : T) (xs : List T) → begins (alike x) xs ≡ true → stand_together alike xs ≡ true → stand_together alike (x ∷ xs) ≡ true
+pub together-from : {T : Type 0} (alike : T → T → Bool) (x : T) (xs : List T) → begins (alike x) xs ≡ true → stand_together alike xs ≡ true → stand_together alike (x ∷ xs) ≡ true
 together-from alike x xs first rest = rw stand_together-cons (and_from _ _ first rest)
 
 -- y changes nothing where it doesn't pass or another item does
@@ -30,7 +30,7 @@ begins-after_last p test [] y seen h = grind arith
 begins-after_last p test (x ∷ xs) y seen h = grind (arith, starts-after_last p test x xs y, list_any-after_last p test (x ∷ xs) y)
 
 -- items that are alike are followed alike
-begins_congr : {T : Type 0} {alike : T → T → Bool} → IsEquivalence alike → (x y : T) (xs : List T) → alike x y ≡ true → begins (alike x) xs ≡ begins (alike y) xs
+pub begins_congr : {T : Type 0} {alike : T → T → Bool} → IsEquivalence alike → (x y : T) (xs : List T) → alike x y ≡ true → begins (alike x) xs ≡ begins (alike y) xs
 begins_congr laws x y [] e = refl
 begins_congr laws x y (z ∷ zs) e = grind (arith, laws.congr x y z e, list_any_congr laws x y zs e)
 

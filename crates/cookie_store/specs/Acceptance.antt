@@ -2,14 +2,15 @@
 use Rattle.std.specs.Prelude.{Bool, not, ◌&&◌, List, Option, Result, Ok, Err, is_some, ⊤, if◌then◌else◌}
 use Rattle.url.specs.Parts.{Parts}
 use Rattle.cookie_words.specs.Moments.{Moment}
+use Rattle.cookie_psl.specs.Rules.{RuleList}
 use Rattle.cookie_parts.specs.Cookie.{Row, and_then, ended, is_expired, is_out_of_reach}
-use Rattle.cookie_parts.specs.Domain.{domain_matches}
+use Rattle.cookie_parts.specs.Domain.{DomainValue, HostOnly, domain_matches, domain_text, host_is_identical, is_public_suffix}
 use Rattle.cookie_parts.specs.Hosts.{passes}
 use Rattle.cookie_parts.specs.declared.cookie_error.CookieError.{CookieError}
-use Rattle.cookie_parts.specs.declared.cookie_error.CookieError.TheVariants.{NonHttpScheme, NonRelativeScheme, DomainMismatch, Expired, Parse, UnspecifiedDomain}
+use Rattle.cookie_parts.specs.declared.cookie_error.CookieError.TheVariants.{NonHttpScheme, NonRelativeScheme, DomainMismatch, Expired, Parse, PublicSuffix, UnspecifiedDomain}
 use Rattle.cookie_parts.specs.declared.store_action.StoreAction.{StoreAction}
 use Rattle.cookie_parts.specs.declared.store_action.StoreAction.TheVariants.{Inserted, ExpiredExisting, UpdatedExisting}
-use Rattle.cookie_store.specs.Rows.{changed, has_key, key_of, row_of, put}
+use Rattle.cookie_store.specs.Rows.{changed, has_key, is_live, key_of, row_of, put}
 
 -- the reply to an insertion, and the rows after it
 pub record Outcome : Type 0 where
@@ -20,17 +21,25 @@ pub record Outcome : Type 0 where
 abbrev pub by_scheme : Parts → Row → Result Row CookieError
 by_scheme url cookie = if is_out_of_reach cookie.raw url then Err NonHttpScheme else Ok cookie
 
+-- there is a list, and the domain is a public suffix on it
+abbrev pub is_listed : Option RuleList → DomainValue → Bool
+is_listed suffixes domain = passes (λ rules. is_public_suffix rules domain) suffixes
+
+-- step 5: a cookie whose domain is a public suffix is for that very host alone, and no other host may set it, else
+-- `PublicSuffix`
+abbrev pub by_list : Option RuleList → Parts → Row → Result Row CookieError
+by_list suffixes url cookie =
+    if not (is_listed suffixes cookie.domain) then Ok cookie
+    else (if host_is_identical cookie.domain url then Ok (record cookie { domain = HostOnly (domain_text cookie.domain) })
+    else Err PublicSuffix)
+
 -- step 6: the cookie, if it is for the host that it comes from, else `DomainMismatch`
 abbrev pub by_domain : Parts → Row → Result Row CookieError
 by_domain url cookie = if domain_matches cookie.domain url then Ok cookie else Err DomainMismatch
 
 -- the cookie that may enter the store, or why it may not, whatever is stored
-abbrev pub admitted : Parts → Row → Result Row CookieError
-admitted url cookie = and_then (by_scheme url cookie) (by_domain url)
-
--- the row has not ended
-abbrev pub is_live : Moment → Row → Bool
-is_live now row = not (is_expired now row)
+abbrev pub admitted : Option RuleList → Parts → Row → Result Row CookieError
+admitted suffixes url cookie = and_then (and_then (by_scheme url cookie) (by_list suffixes url)) (by_domain url)
 
 -- what is done with a cookie that is put, by the row of its key, if there is one
 abbrev pub put_action : Option Row → StoreAction
@@ -63,14 +72,14 @@ entered (Err refusal) url now rows = record { reply = Err refusal; rows = rows }
 entered (Ok cookie) url now rows =
     outcome_by (reply_at (row_of (key_of cookie) rows) cookie url now) rows cookie
 
--- 5.3: what becomes of a cookie from the URL at the moment
-unfoldable pub accept : List Row → Row → Parts → Moment → Outcome
-accept rows cookie url now = entered (admitted url cookie) url now rows
+-- 5.3: what becomes of a cookie from the URL at the moment, in a store under a list, if there is one
+unfoldable pub accept : Option RuleList → List Row → Row → Parts → Moment → Outcome
+accept suffixes rows cookie url now = entered (admitted suffixes url cookie) url now rows
 
 -- 5.3: the same of a cookie that may have been refused as it was made, which leaves the rows
-abbrev pub received : List Row → Result Row CookieError → Parts → Moment → Outcome
-received rows (Err refusal) url now = record { reply = Err refusal; rows = rows }
-received rows (Ok cookie) url now = accept rows cookie url now
+abbrev pub received : Option RuleList → List Row → Result Row CookieError → Parts → Moment → Outcome
+received suffixes rows (Err refusal) url now = record { reply = Err refusal; rows = rows }
+received suffixes rows (Ok cookie) url now = accept suffixes rows cookie url now
 
 -- why an insertion may be refused
 abbrev pub MayRefuse : CookieError → Type 0

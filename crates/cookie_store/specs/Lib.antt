@@ -1,6 +1,9 @@
 pub mod Acceptance
+pub mod Building
+pub mod CallViews
 pub mod Contents
 pub mod Given
 pub mod Places
+pub mod Related
 pub mod Rows
 pub mod Runs

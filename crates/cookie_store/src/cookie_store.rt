@@ -1,19 +1,27 @@
 //! The store.
-ghost use Rattle.std.specs.Prelude.{◌≡◌, [], map, Err, Ok, IfErr, IfOk, IsTrue, OnErr};
+ghost use Rattle.std.specs.Prelude.{◌≡◌, ◌≢◌, [], is_some, map, Err, None, Ok, Some, IfErr, IfOk, IsTrue, OnErr, OnOk, ◌⊎◌};
+ghost use Rattle.std.specs.Iterator.{IsFinite};
 ghost use Rattle.std.specs.Option.{option_copied};
 ghost use Rattle.cookie_words.specs.Moments.{moment_of};
 ghost use Rattle.cookie_parts.specs.Cookie.{cookie_of};
 ghost use Rattle.cookie_parts.specs.declared.cookie_error.CookieError.TheVariants.{Memory};
 ghost use Rattle.cookie_parts.specs.declared.store_action.StoreAction.TheVariants.{Inserted};
 ghost use Rattle.cookie_store.specs.Acceptance.{received, MayRefuse};
+ghost use Rattle.cookie_store.specs.Building.{Builds, FailsFirst};
+ghost use Rattle.cookie_store.specs.CallViews.{call_view, name_and_value, reply_view, MayWant, StopsAfter};
 ghost use Rattle.cookie_store.specs.Given.{given};
-ghost use Rattle.cookie_store.specs.Rows.{are_rows, row_of};
-ghost use Rattle.cookie_store.specs.Runs.{step, Insert, IsReply, Set, Stored, UnlessMemory};
+ghost use Rattle.cookie_store.specs.Rows.{are_rows, if_live, key_at, live_rows, row_of};
+ghost use Rattle.cookie_store.specs.Runs.{replies, rows_after, step, Clear, Insert, IsReply, Remove, Removed, Set, Stored, UnlessMemory};
 
+use crate::building::build;
+use crate::call::{Call, Reply, Stopped, stored};
 use crate::insertion::{accept, owned_cookie, owned_raw_cookie};
+use crate::iter::{IterAny, IterUnexpired};
 use crate::matching::given;
-use crate::rows::named;
-use cookie_parts::{Cookie, CookieError, StoreAction};
+use crate::request::{RequestCookies, RequestValues};
+use crate::rows;
+use cookie_parts::{Cookie, CookieError, Error, StoreAction};
+use cookie_psl::List;
 use cookie_raw::RawCookie;
 use jiff::civil::DateTime;
 use std::alloc::{AllocError, Global};
@@ -24,11 +32,13 @@ use url::Url;
 pub type InsertResult = Result<StoreAction, CookieError>;
 
 /// The cookies of a user agent, RFC 6265 5.3, in the order in which they were inserted, where cookies of one domain
-/// stand together, and among them cookies of one path.
+/// stand together, and among them cookies of one path. Under a public suffix list, no cookie enters for all hosts below a
+/// public suffix.
 #[derive(Drop)]
 pub struct CookieStore {
     alloc: Global,
     rows: Vec<Cookie<'static>>,
+    suffixes: Option<List>,
 }
 
 impl Model for CookieStore {
@@ -38,36 +48,91 @@ impl Model for CookieStore {
 
     ghost Value = { Contents };
 
-    ghost view = { λ s. record { rows = s.rows.items } };
+    ghost view = { λ s. record { rows = s.rows.items; suffixes = s.suffixes } };
 
     ghost invariant = { λ s. IsTrue (are_rows s.rows.items) };
 }
 
+impl Clone for CookieStore {
+    ghost use Rattle.std.specs.Prelude.{◌≡◌};
+
+    ghost is_clone = { λ store copy. copy ≡ store };
+
+    fn clone(&self) -> Result<CookieStore, AllocError> {
+        Ok(CookieStore {
+            alloc: self.alloc,
+            rows: self.rows.clone()?,
+            suffixes: self.suffixes.clone()?,
+        })
+    }
+}
+
 impl CookieStore {
-    /// A store without cookies.
+    /// A store without cookies, and without a public suffix list.
     pub fn new(alloc: Global) -> CookieStore
-        ensures { result.rows ≡ [] }
+        ensures { result ≡ record { rows = []; suffixes = None } }
+    {
+        CookieStore::new_with_public_suffix(alloc, None)
+    }
+
+    /// A store without cookies, and without a public suffix list.
+    pub fn default(alloc: Global) -> CookieStore
+        ensures { result ≡ record { rows = []; suffixes = None } }
+    {
+        CookieStore::new(alloc)
+    }
+
+    /// A store without cookies, under the public suffix list if there is one.
+    pub fn new_with_public_suffix(alloc: Global, suffixes: Option<List>) -> CookieStore
+        ensures { result ≡ record { rows = []; suffixes = suffixes } }
     {
         CookieStore {
             alloc,
             rows: Vec::new(alloc),
+            suffixes,
         }
     }
 
-    /// A store without cookies.
-    pub fn default(alloc: Global) -> CookieStore
-        ensures { result.rows ≡ [] }
+    /// The same store, under this public suffix list from now on. The cookies that it holds stay.
+    pub fn with_suffix_list(self, suffixes: List) -> CookieStore
+        ensures { result ≡ record self { suffixes = Some suffixes } }
     {
-        CookieStore::new(alloc)
+        CookieStore {
+            suffixes: Some(suffixes),
+            ..self
+        }
+    }
+
+    /// A store of the cookies that the iterator gives, each in the place of an earlier one of its domain, path and name, without a
+    /// public suffix list. Those that have ended are passed over unless `include_expired`. Answers the first error that the
+    /// iterator gives, or `Memory`.
+    pub fn from_cookies<I: Iterator<Item = Result<Cookie<'static>, Error>> + Drop>(
+        alloc: Global,
+        cookies: I,
+        include_expired: bool,
+        now: DateTime,
+    ) -> Result<CookieStore, Error>
+        requires can { I.can_next cookies }
+        requires ends { IsFinite (I.remaining cookies) }
+        ensures built { IfOk result (λ store. Builds I.next_gives cookies include_expired (moment_of now) store.rows) }
+        ensures suffixes { IfOk result (λ store. store.suffixes ≡ None) }
+        ensures failed { IfErr result (λ error. (error ≡ Error.Memory) ⊎ FailsFirst I.next_gives cookies error) }
+    {
+        let rows = build(alloc, cookies, include_expired, now)?;
+        Ok(CookieStore {
+            alloc,
+            rows,
+            suffixes: None,
+        })
     }
 
     /// Takes the cookie of a Set-Cookie text that came from the URL at the moment: the cookie that
     /// [`Cookie::parse`] makes, as [`insert`](Self::insert) takes it. A refusal, and want of memory, leave the store as it was.
     pub fn parse(&mut self, text: &str, url: &Url, now: DateTime) -> InsertResult
         ensures reply { IsReply result
-            (step (Set text.now url.now (moment_of now)) self.old.rows).reply }
+            (step self.old.suffixes (Set text.now url.now (moment_of now)) self.old.rows).reply }
         ensures rows { UnlessMemory result
-            (self.new ≡ record self.old { rows = (step (Set text.now url.now (moment_of now)) self.old.rows).rows }) }
+            (self.new ≡ record self.old { rows = (step self.old.suffixes (Set text.now url.now (moment_of now)) self.old.rows).rows }) }
         ensures refused { OnErr result (self.new ≡ self.old) }
     {
         let cookie = owned_cookie(self.alloc, text, url, now)?;
@@ -75,31 +140,32 @@ impl CookieStore {
     }
 
     /// Takes a cookie that came from the URL at the moment. In this order: `NonHttpScheme` where it is HttpOnly and the
-    /// scheme not HTTP; `DomainMismatch` where it is not for the URL's host; and where a cookie of its domain, path and
-    /// name is stored that has not ended, `NonHttpScheme` where that one is HttpOnly and the scheme not HTTP, and
-    /// `ExpiredExisting` where the new one has ended, so that the stored one ends; `Expired` where it has ended; else it
-    /// takes the place of the stored one, `UpdatedExisting`, or is `Inserted`. `Memory` comes only where it would be
+    /// scheme not HTTP; `PublicSuffix` where its domain is a public suffix on the store's list and not the URL's host (where
+    /// it is, the cookie is for that host alone); `DomainMismatch` where it is not for the URL's host; and where a cookie of
+    /// its domain, path and name is stored that has not ended, `NonHttpScheme` where that one is HttpOnly and the scheme not
+    /// HTTP, and `ExpiredExisting` where the new one has ended, so that the stored one ends; `Expired` where it has ended;
+    /// else it takes the place of the stored one, `UpdatedExisting`, or is `Inserted`. `Memory` comes only where it would be
     /// inserted. A refusal leaves the store as it was.
     pub fn insert(&mut self, cookie: Cookie<'static>, url: &Url, now: DateTime) -> InsertResult
         ensures reply { IsReply result
-            (step (Insert cookie.entry url.now (moment_of now)) self.old.rows).reply }
+            (step self.old.suffixes (Insert cookie.entry url.now (moment_of now)) self.old.rows).reply }
         ensures rows { UnlessMemory result
-            (self.new ≡ record self.old { rows = (step (Insert cookie.entry url.now (moment_of now)) self.old.rows).rows }) }
+            (self.new ≡ record self.old { rows = (step self.old.suffixes (Insert cookie.entry url.now (moment_of now)) self.old.rows).rows }) }
         ensures refused { OnErr result (self.new ≡ self.old) }
         ensures refusals { IfErr result MayRefuse }
         ensures memory { result ≡ Err Memory
-            → (step (Insert cookie.entry url.now (moment_of now)) self.old.rows).reply ≡ Stored (Ok Inserted) }
+            → (step self.old.suffixes (Insert cookie.entry url.now (moment_of now)) self.old.rows).reply ≡ Stored (Ok Inserted) }
     {
-        accept(&mut self.rows, cookie, url, now)
+        accept(self.suffixes.as_ref(), &mut self.rows, cookie, url, now)
     }
 
     /// Takes the cookie of a raw cookie that came from the URL at the moment: the cookie that
     /// [`Cookie::try_from_raw_cookie`] makes, as [`insert`](Self::insert) takes it.
     pub fn insert_raw(&mut self, raw: &RawCookie<'_>, url: &Url, now: DateTime) -> InsertResult
         ensures reply { IsReply result (Stored
-            (received self.old.rows (cookie_of raw.now url.now (moment_of now)) url.now (moment_of now)).reply) }
+            (received self.old.suffixes self.old.rows (cookie_of raw.now url.now (moment_of now)) url.now (moment_of now)).reply) }
         ensures rows { UnlessMemory result (self.new ≡ record self.old {
-          rows = (received self.old.rows (cookie_of raw.now url.now (moment_of now)) url.now (moment_of now)).rows;
+          rows = (received self.old.suffixes self.old.rows (cookie_of raw.now url.now (moment_of now)) url.now (moment_of now)).rows;
         }) }
         ensures refused { OnErr result (self.new ≡ self.old) }
     {
@@ -110,9 +176,76 @@ impl CookieStore {
     /// The stored cookie of this domain, path and name, whether it has ended or not.
     pub fn get_any(&self, domain: &str, path: &str, name: &str) -> Option<&Cookie<'static>>
         ensures { option_copied result
-            ≡ row_of (record { domain = domain.now; path = path.now; name = name.now }) self.now.rows }
+            ≡ row_of (key_at domain.now path.now name.now) self.now.rows }
     {
-        named(self.rows.as_slice(), domain, path, name)
+        rows::named(self.rows.as_slice(), domain, path, name)
+    }
+
+    /// The stored cookie of this domain, path and name, if it has not ended.
+    pub fn get(
+        &self,
+        domain: &str,
+        path: &str,
+        name: &str,
+        now: DateTime,
+    ) -> Option<&Cookie<'static>>
+        ensures { option_copied result
+            ≡ if_live (moment_of now) (row_of (key_at domain.now path.now name.now) self.now.rows) }
+    {
+        let cookie = self.get_any(domain, path, name)?;
+        if cookie.is_expired(now) {
+            None
+        } else {
+            Some(cookie)
+        }
+    }
+
+    /// Whether a cookie of this domain, path and name is stored, whether it has ended or not.
+    pub fn contains_any(&self, domain: &str, path: &str, name: &str) -> bool
+        ensures { result ≡ is_some (row_of (key_at domain.now path.now name.now) self.now.rows) }
+    {
+        self.get_any(domain, path, name).is_some()
+    }
+
+    /// Whether a cookie of this domain, path and name is stored that has not ended.
+    pub fn contains(&self, domain: &str, path: &str, name: &str, now: DateTime) -> bool
+        ensures { result
+            ≡ is_some (if_live (moment_of now) (row_of (key_at domain.now path.now name.now) self.now.rows)) }
+    {
+        self.get(domain, path, name, now).is_some()
+    }
+
+    /// The stored cookies, whether they have ended or not, in the store's order.
+    pub fn iter_any(&self) -> IterAny<'_>
+        ensures { result ≡ self.now.rows }
+    {
+        IterAny::new(self.rows.as_slice())
+    }
+
+    /// The stored cookies that have not ended by the moment, in the store's order.
+    pub fn iter_unexpired(&self, now: DateTime) -> IterUnexpired<'_>
+        ensures { result ≡ live_rows (moment_of now) self.now.rows }
+    {
+        IterUnexpired::new(self.rows.as_slice(), now)
+    }
+
+    /// Removes the cookie of this domain, path and name, whether it has ended or not, and answers it. The others keep their
+    /// order.
+    pub fn remove(&mut self, domain: &str, path: &str, name: &str) -> Option<Cookie<'static>>
+        ensures reply { Removed result
+            ≡ (step self.old.suffixes (Remove (key_at domain.now path.now name.now)) self.old.rows).reply }
+        ensures rows { self.new ≡ record self.old {
+          rows = (step self.old.suffixes (Remove (key_at domain.now path.now name.now)) self.old.rows).rows;
+        } }
+    {
+        rows::remove(&mut self.rows, domain, path, name)
+    }
+
+    /// Removes all cookies. The public suffix list stays.
+    pub fn clear(&mut self)
+        ensures { self.new ≡ record self.old { rows = (step self.old.suffixes Clear self.old.rows).rows } }
+    {
+        self.rows.clear();
     }
 
     /// The cookies that are given for the URL at the moment, RFC 6265 5.4, in the store's order.
@@ -122,5 +255,87 @@ impl CookieStore {
         ensures in_order { IsTrue (are_rows self.now.rows) }
     {
         given(self.alloc, self.rows.as_slice(), url, now)
+    }
+
+    /// The names and values of the cookies that are given for the URL at the moment, in the store's order.
+    pub fn get_request_values(
+        &self,
+        url: &Url,
+        now: DateTime,
+    ) -> Result<RequestValues<'_>, AllocError>
+        ensures { IfOk result (λ values. values ≡ map name_and_value (given url.now (moment_of now) self.now.rows)) }
+    {
+        Ok(RequestValues::new(self.matches(url, now)?))
+    }
+
+    /// The raw cookies of the cookies that are given for the URL at the moment, in the store's order.
+    #[deprecated(note = "use `get_request_values`")]
+    pub fn get_request_cookies(
+        &self,
+        url: &Url,
+        now: DateTime,
+    ) -> Result<RequestCookies<'_>, AllocError>
+        ensures { IfOk result (λ cookies. cookies ≡ map (λ c. c.raw) (given url.now (moment_of now) self.now.rows)) }
+    {
+        Ok(RequestCookies::new(self.matches(url, now)?))
+    }
+
+    /// Does what a call asks. Want of memory leaves the store as it was; `Remove` and `Clear` want none, and `Insert` only where
+    /// the cookie would be inserted.
+    pub fn apply(&mut self, call: Call) -> Result<Reply, AllocError>
+        ensures reply { IfOk result (λ reply.
+            reply_view reply ≡ (step self.old.suffixes (call_view call) self.old.rows).reply) }
+        ensures never_memory { IfOk result (λ reply. reply_view reply ≢ Stored (Err Memory)) }
+        ensures rows { OnOk result (self.new ≡ record self.old {
+          rows = (step self.old.suffixes (call_view call) self.old.rows).rows;
+        }) }
+        ensures refused { OnErr result (self.new ≡ self.old) }
+        ensures memory { OnErr result
+            (MayWant (call_view call) (step self.old.suffixes (call_view call) self.old.rows).reply) }
+    {
+        match call {
+            Call::Set { text, url, now } => stored(self.parse(text.as_str(), &url, now)),
+            Call::Insert { cookie, url, now } => stored(self.insert(cookie, &url, now)),
+            Call::Remove { domain, path, name } => Ok(Reply::Removed(self.remove(
+                domain.as_str(),
+                path.as_str(),
+                name.as_str(),
+            ))),
+            Call::Clear => {
+                self.clear();
+                Ok(Reply::Cleared)
+            }
+        }
+    }
+
+    /// Does what the calls ask, one after the other, and answers their replies. The room for all replies is made before the
+    /// first call. Where memory runs out, the calls before stand.
+    pub fn apply_all(&mut self, calls: Vec<Call>) -> Result<Vec<Reply>, Stopped>
+        ensures replies { IfOk result (λ told.
+            map reply_view told.items ≡ replies self.old.suffixes (map call_view calls.items) self.old.rows) }
+        ensures rows { OnOk result (self.new ≡ record self.old {
+          rows = rows_after self.old.suffixes (map call_view calls.items) self.old.rows;
+        }) }
+        ensures stopped { IfErr result (λ stopped. StopsAfter stopped (map call_view calls.items) self.old self.new) }
+    {
+        let Ok(mut told) = Vec::with_capacity(self.alloc, calls.len()) else {
+            return Err(Stopped {
+                replies: Vec::new(self.alloc),
+                count: 0,
+            });
+        };
+        for call in calls {
+            match self.apply(call) {
+                Ok(reply) => told.push(reply).unwrap(),
+                Err(AllocError) => {
+                    let count = told.len();
+                    return Err(Stopped {
+                        replies: told,
+                        count,
+                    });
+                }
+            }
+        }
+        Ok(told)
     }
 }

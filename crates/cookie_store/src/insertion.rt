@@ -1,21 +1,25 @@
 //! Insertion, RFC 6265 5.3.
-ghost use Rattle.std.specs.Prelude.{◌≡◌, ◌≢◌, Err, Ok, IfErr, IsTrue, OnErr};
+ghost use Rattle.std.specs.Prelude.{◌≡◌, ◌≢◌, Err, Ok, IfErr, IfSome, IsTrue, OnErr};
 ghost use Rattle.std.specs.Option.{option_copied};
 ghost use Rattle.cookie_words.specs.Moments.{moment_of};
 ghost use Rattle.cookie_parts.specs.Cookie.{cookie_at, cookie_of, is_out_of_reach};
+ghost use Rattle.cookie_parts.specs.Domain.{text_if_any, HostOnly};
 ghost use Rattle.cookie_parts.specs.Outcomes.{Gives};
+ghost use Rattle.cookie_parts.specs.Views.{domain_value};
 ghost use Rattle.cookie_parts.specs.declared.cookie_error.CookieError.TheVariants.{Memory};
 ghost use Rattle.cookie_parts.specs.declared.store_action.StoreAction.TheVariants.{Inserted};
-ghost use Rattle.cookie_store.specs.Acceptance.{accept, reply_at, MayRefuse};
+ghost use Rattle.cookie_store.specs.Acceptance.{accept, admitted, by_list, reply_at, MayRefuse};
 ghost use Rattle.cookie_store.specs.Rows.{are_rows};
 ghost use Rattle.cookie_store.specs.Runs.{IsReply, Stored, UnlessMemory};
 
 use crate::{InsertResult, rows};
 use cookie_parts::utils::is_http_scheme;
-use cookie_parts::{Cookie, CookieError, CookieResult, StoreAction};
+use cookie_parts::{Cookie, CookieDomain, CookieError, CookieResult, StoreAction};
+use cookie_psl::List;
 use cookie_raw::RawCookie;
 use jiff::civil::DateTime;
 use std::alloc::Global;
+use std::mem;
 use url::Url;
 
 fn owned(alloc: Global, cookie: Cookie<'_>) -> CookieResult<'static>
@@ -58,6 +62,51 @@ fn is_out_of_reach(cookie: &Cookie<'static>, url: &Url) -> bool
     cookie.raw().http_only().unwrap_or(false) && !is_http_scheme(url)
 }
 
+// The same domain, for that host alone.
+fn for_that_host(domain: CookieDomain) -> CookieDomain
+    ensures { IfSome (text_if_any (domain_value domain)) (λ text. domain_value result ≡ HostOnly text) }
+{
+    match domain {
+        CookieDomain::Suffix(host) => CookieDomain::HostOnly(host),
+        domain => domain,
+    }
+}
+
+// A cookie whose domain is a public suffix is for that very host alone, and no other host may set it.
+fn by_list(suffixes: Option<&List>, cookie: Cookie<'static>, url: &Url) -> CookieResult<'static>
+    ensures value { result ≡ by_list (option_copied suffixes.entry) url.now cookie.entry }
+    ensures refusals { IfErr result (λ refusal. refusal ≡ CookieError.PublicSuffix) }
+{
+    let Some(list) = suffixes else {
+        return Ok(cookie);
+    };
+    if !cookie.domain.is_public_suffix(list) {
+        return Ok(cookie);
+    }
+    if !cookie.domain.host_is_identical(url) {
+        return Err(CookieError::PublicSuffix);
+    }
+    let mut cookie = cookie;
+    let domain = mem::replace(&mut cookie.domain, CookieDomain::Empty);
+    cookie.domain = for_that_host(domain);
+    Ok(cookie)
+}
+
+// The cookie that may enter, or why it may not, whatever is stored.
+fn admitted(suffixes: Option<&List>, cookie: Cookie<'static>, url: &Url) -> CookieResult<'static>
+    ensures value { result ≡ admitted (option_copied suffixes.entry) url.now cookie.entry }
+    ensures refusals { IfErr result (λ refusal. MayRefuse refusal × (refusal ≢ Memory)) }
+{
+    if is_out_of_reach(&cookie, url) {
+        return Err(CookieError::NonHttpScheme);
+    }
+    let cookie = by_list(suffixes, cookie, url)?;
+    if !cookie.domain.matches(url) {
+        return Err(CookieError::DomainMismatch);
+    }
+    Ok(cookie)
+}
+
 // The reply to a cookie that may enter, by the row of its key.
 fn reply_at(
     row: Option<&Cookie<'static>>,
@@ -87,28 +136,27 @@ fn reply_at(
     }
 }
 
-/// What becomes of a cookie from the URL at the moment. A refusal, and want of memory, leave the rows.
+/// What becomes of a cookie from the URL at the moment, under the list. A refusal, and want of memory, leave the rows.
 #[tactic(auto, unfolding(crate::specs::Acceptance::accept))]
 pub(crate) fn accept(
+    suffixes: Option<&List>,
     rows: &mut Vec<Cookie<'static>>,
     cookie: Cookie<'static>,
     url: &Url,
     now: DateTime,
 ) -> InsertResult
     requires { IsTrue (are_rows rows.old.items) }
-    ensures reply { IsReply result (Stored (accept rows.old.items cookie.entry url.now (moment_of now)).reply) }
-    ensures rows { UnlessMemory result (rows.new.items ≡ (accept rows.old.items cookie.entry url.now (moment_of now)).rows) }
+    ensures reply { IsReply result (Stored
+        (accept (option_copied suffixes.entry) rows.old.items cookie.entry url.now (moment_of now)).reply) }
+    ensures rows { UnlessMemory result (rows.new.items
+        ≡ (accept (option_copied suffixes.entry) rows.old.items cookie.entry url.now (moment_of now)).rows) }
     ensures refused { OnErr result (rows.new.items ≡ rows.old.items) }
     ensures refusals { IfErr result MayRefuse }
-    ensures memory { result ≡ Err Memory → (accept rows.old.items cookie.entry url.now (moment_of now)).reply ≡ Ok Inserted }
+    ensures memory { result ≡ Err Memory
+        → (accept (option_copied suffixes.entry) rows.old.items cookie.entry url.now (moment_of now)).reply ≡ Ok Inserted }
     ensures in_order { IsTrue (are_rows rows.new.items) }
 {
-    if is_out_of_reach(&cookie, url) {
-        return Err(CookieError::NonHttpScheme);
-    }
-    if !cookie.domain.matches(url) {
-        return Err(CookieError::DomainMismatch);
-    }
+    let cookie = admitted(suffixes, cookie, url)?;
     match reply_at(rows::row_of(rows.as_slice(), &cookie), &cookie, url, now)? {
         StoreAction::ExpiredExisting => {
             rows::end(rows, &cookie);

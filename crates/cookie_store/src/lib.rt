@@ -1,19 +1,28 @@
 //! A cookie store, after RFC 6265.
 #![tactic(auto)]
 
+mod building;
+mod call;
 mod cookie_store;
 pub mod device;
 mod insertion;
+mod iter;
+pub mod laws;
 mod matching;
+mod request;
 mod rows;
 #[cfg(test)]
 mod tests;
 
+pub use call::{Call, Reply, Stopped};
 pub use cookie_parts::{
     Cookie, CookieDomain, CookieError, CookieExpiration, CookiePath, CookieResult, Error,
     IdnaErrors, StoreAction, cookie_domain, cookie_path, utils,
 };
+pub use cookie_psl as psl;
 pub use cookie_raw as raw;
 pub use cookie_raw::{RawCookie, RawCookieParseError};
 pub use cookie_saved as saved;
 pub use cookie_store::{CookieStore, InsertResult};
+pub use iter::{IterAny, IterUnexpired};
+pub use request::{RequestCookies, RequestValues};

@@ -4,7 +4,7 @@ ghost use Rattle.std.specs.Option.{option_copied};
 ghost use Rattle.cookie_parts.specs.Cookie.{ended};
 ghost use Rattle.cookie_parts.specs.Domain.{domain_text};
 ghost use Rattle.cookie_store.specs.Places.{EndsAt};
-ghost use Rattle.cookie_store.specs.Rows.{are_rows, changed, has_key, in_domain, in_group, key_of, placed, put, row_of};
+ghost use Rattle.cookie_store.specs.Rows.{are_rows, changed, has_key, in_domain, in_group, key_at, key_of, placed, put, removed, row_of};
 
 use cookie_parts::Cookie;
 use std::alloc::AllocError;
@@ -85,7 +85,7 @@ pub(crate) fn row_of<'a>(
 }
 
 fn has_texts(row: &Cookie<'static>, domain: &str, path: &str, name: &str) -> bool
-    ensures { result ≡ has_key (record { domain = domain.now; path = path.now; name = name.now }) row.now }
+    ensures { result ≡ has_key (key_at domain.now path.now name.now) row.now }
 {
     domain == domain_text(row) && path == row.path.as_str() && name == row.name()
 }
@@ -98,7 +98,7 @@ pub(crate) fn named<'a>(
     name: &str,
 ) -> Option<&'a Cookie<'static>>
     ensures { option_copied result
-        ≡ row_of (record { domain = domain.now; path = path.now; name = name.now }) rows.now }
+        ≡ row_of (key_at domain.now path.now name.now) rows.now }
 {
     rows.iter().find(|row| has_texts(row, domain, path, name))
 }
@@ -136,4 +136,28 @@ pub(crate) fn put(
         }
     }
     Ok(())
+}
+
+/// Takes out the row of this domain, path and name, if there is one. The others keep their order.
+pub(crate) fn remove(
+    rows: &mut Vec<Cookie<'static>>,
+    domain: &str,
+    path: &str,
+    name: &str,
+) -> Option<Cookie<'static>>
+    requires { IsTrue (are_rows rows.old.items) }
+    ensures value { result ≡ row_of (key_at domain.now path.now name.now) rows.old.items }
+    ensures removed { rows.new.items ≡ removed (has_key (key_at domain.now path.now name.now)) rows.old.items }
+    ensures rows { IsTrue (are_rows rows.new.items) }
+{
+    let at = place_named(rows.as_slice(), domain, path, name)?;
+    Some(rows.remove(at))
+}
+
+// The place of the row of this domain, path and name, if there is one.
+fn place_named(rows: &[Cookie<'static>], domain: &str, path: &str, name: &str) -> Option<usize>
+    ensures { result ≡ position (has_key (key_at domain.now path.now name.now)) rows.now }
+{
+    rows.iter()
+        .position(|row| has_texts(row, domain, path, name))
 }

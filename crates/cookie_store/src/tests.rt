@@ -5,7 +5,11 @@ use std::process::Abort;
 use std::test::Fail;
 use url::Url;
 
+mod built;
+mod calls;
 mod growths;
+mod rows;
+mod suffixes;
 
 // A URL, a text that comes from it, and the reply.
 type Received = (&'static str, &'static str, InsertResult);

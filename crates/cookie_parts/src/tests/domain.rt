@@ -1,5 +1,6 @@
 use super::{Hosts, domain_of, hash_of, is_for};
 use crate::{CookieDomain, CookieError, Error};
+use cookie_psl::List;
 use cookie_raw::RawCookie;
 use std::alloc::Global;
 use std::cmp::Ordering;
@@ -190,5 +191,32 @@ fn domains_are_in_order(rt: HostRuntime) -> Result<(), Fail> {
             "{first:?} and {second:?}"
         );
     }
+    Ok(())
+}
+
+const LIST: &str = "com\n*.ck\n!www.ck\n*.www.ck\n";
+
+const PUBLIC_SUFFIXES: [(&str, bool); 8] = [
+    ("com", true),
+    ("com.", true),
+    ("a.com", false),
+    ("zz", false),
+    ("foo.ck", true),
+    ("ck", false),
+    ("www.ck", false),
+    ("", false),
+];
+
+#[test]
+fn a_listed_domain_is_a_public_suffix(rt: HostRuntime) -> Result<(), Fail> {
+    let list = List::from_text(rt.alloc(), LIST)?;
+    for (text, wanted) in &PUBLIC_SUFFIXES {
+        let host = CookieDomain::HostOnly(String::from_str(rt.alloc(), text)?);
+        assert_eq!(rt; host.is_public_suffix(&list), *wanted, "at {host:?}");
+        let suffix = CookieDomain::Suffix(String::from_str(rt.alloc(), text)?);
+        assert_eq!(rt; suffix.is_public_suffix(&list), *wanted, "at {suffix:?}");
+    }
+    assert!(rt; !CookieDomain::NotPresent.is_public_suffix(&list));
+    assert!(rt; !CookieDomain::Empty.is_public_suffix(&list));
     Ok(())
 }

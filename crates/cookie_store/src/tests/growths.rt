@@ -1,6 +1,9 @@
 //! Each call that takes memory answers as it does with ample memory, or says that memory is wanting.
+use super::built::items;
+use super::calls::{Asked, CALLS, all_calls, are_told, call};
+use super::rows::{all_listed, store_under_com};
 use super::{given, header, new_year};
-use crate::{Cookie, CookieError, CookieStore, InsertResult, RawCookie, StoreAction};
+use crate::{Cookie, CookieError, CookieStore, Error, InsertResult, RawCookie, Reply, StoreAction};
 use std::alloc::{AllocError, Global};
 use std::process::Abort;
 use std::test::Fail;
@@ -126,22 +129,188 @@ fn insert(rt: HostRuntime) -> Result<(), Fail> {
     Ok(())
 }
 
+// A store of five rows, so that their list has grown, and what it gives below.
+fn store_of_five(alloc: Global, url: &Url) -> Result<CookieStore, Fail> {
+    let mut store = store_of_rows(alloc, url)?;
+    store.parse("t=1", url, new_year())?;
+    Ok(store)
+}
+
+const GIVEN_OF_FIVE: &str = "x=1; z=1; y=1; u=1; t=1";
+
 #[test]
 fn matches(rt: HostRuntime) -> Result<(), Fail> {
     let url = Url::parse(rt.alloc(), FROM)?;
-    let mut store = store_of_rows(rt.alloc(), &url)?;
-    store.parse("t=1", &url, new_year())?;
+    let store = store_of_five(rt.alloc(), &url)?;
     let _start: Vec<u8> = Vec::with_capacity(rt.alloc(), START)?;
     let outcome = store.matches(&url, new_year());
     let _end: Vec<u8> = Vec::with_capacity(rt.alloc(), END)?;
     match outcome {
         Ok(cookies) => {
             let header = header(rt.alloc(), cookies.as_slice())?;
-            assert_eq!(rt; header.as_str(), "x=1; z=1; y=1; u=1; t=1");
+            assert_eq!(rt; header.as_str(), GIVEN_OF_FIVE);
         }
         Err(AllocError) => {}
     }
     let header = given(rt.alloc(), &store, FROM, new_year())?;
-    assert_eq!(rt; header.as_str(), "x=1; z=1; y=1; u=1; t=1");
+    assert_eq!(rt; header.as_str(), GIVEN_OF_FIVE);
     Ok(())
+}
+
+#[test]
+fn get_request_values(rt: HostRuntime) -> Result<(), Fail> {
+    let url = Url::parse(rt.alloc(), FROM)?;
+    let store = store_of_five(rt.alloc(), &url)?;
+    let _start: Vec<u8> = Vec::with_capacity(rt.alloc(), START)?;
+    let outcome = store.get_request_values(&url, new_year());
+    let _end: Vec<u8> = Vec::with_capacity(rt.alloc(), END)?;
+    match outcome {
+        Ok(values) => {
+            let values: Vec<(&str, &str)> = values.collect(rt.alloc())?;
+            let wanted = [("x", "1"), ("z", "1"), ("y", "1"), ("u", "1"), ("t", "1")];
+            assert_eq!(rt; values.as_slice(), wanted.as_slice());
+        }
+        Err(AllocError) => {}
+    }
+    let header = given(rt.alloc(), &store, FROM, new_year())?;
+    assert_eq!(rt; header.as_str(), GIVEN_OF_FIVE);
+    Ok(())
+}
+
+#[test]
+#[allow(deprecated)]
+fn get_request_cookies(rt: HostRuntime) -> Result<(), Fail> {
+    let url = Url::parse(rt.alloc(), FROM)?;
+    let store = store_of_five(rt.alloc(), &url)?;
+    let _start: Vec<u8> = Vec::with_capacity(rt.alloc(), START)?;
+    let outcome = store.get_request_cookies(&url, new_year());
+    let _end: Vec<u8> = Vec::with_capacity(rt.alloc(), END)?;
+    match outcome {
+        Ok(cookies) => {
+            let mut names = String::new(rt.alloc());
+            for cookie in cookies {
+                names.push_str(cookie.name())?;
+            }
+            assert_eq!(rt; names.as_str(), "xzyut");
+        }
+        Err(AllocError) => {}
+    }
+    let header = given(rt.alloc(), &store, FROM, new_year())?;
+    assert_eq!(rt; header.as_str(), GIVEN_OF_FIVE);
+    Ok(())
+}
+
+#[test]
+fn clone(rt: HostRuntime) -> Result<(), Fail> {
+    let url = Url::parse(rt.alloc(), FROM)?;
+    let mut store = store_under_com(rt.alloc())?;
+    for text in &ROWS {
+        store.parse(text, &url, new_year())?;
+    }
+    let _start: Vec<u8> = Vec::with_capacity(rt.alloc(), START)?;
+    let outcome: Result<CookieStore, AllocError> = store.clone();
+    let _end: Vec<u8> = Vec::with_capacity(rt.alloc(), END)?;
+    match outcome {
+        Ok(mut copy) => {
+            let header = given(rt.alloc(), &copy, FROM, new_year())?;
+            assert_eq!(rt; header.as_str(), GIVEN);
+            let reply = copy.parse("s=1; Domain=com", &url, new_year());
+            assert_eq!(rt; reply, Err(CookieError::PublicSuffix));
+        }
+        Err(AllocError) => {}
+    }
+    let header = given(rt.alloc(), &store, FROM, new_year())?;
+    assert_eq!(rt; header.as_str(), GIVEN);
+    Ok(())
+}
+
+#[test]
+fn from_cookies(rt: HostRuntime) -> Result<(), Fail> {
+    let came = [
+        ("http://a.com/", "x=1"),
+        ("http://b.com/", "y=1"),
+        ("http://a.com/", "z=1; Path=/p"),
+        ("http://a.com/", "w=1"),
+        ("http://b.com/", "v=1"),
+    ];
+    let items = items(rt.alloc(), &came)?.into_iter();
+    let _start: Vec<u8> = Vec::with_capacity(rt.alloc(), START)?;
+    let outcome = CookieStore::from_cookies(rt.alloc(), items, false, new_year());
+    let _end: Vec<u8> = Vec::with_capacity(rt.alloc(), END)?;
+    match outcome {
+        Ok(store) => {
+            let listed = all_listed(rt.alloc(), &store)?;
+            let wanted = "a.com / x, a.com / w, a.com /p z, b.com / y, b.com / v";
+            assert_eq!(rt; listed.as_str(), wanted);
+            Ok(())
+        }
+        Err(Error::Memory) => Ok(()),
+        Err(error) => Err(Fail::from(error)),
+    }
+}
+
+// What became of a cookie, by the reply to its call.
+fn stored(outcome: Result<Reply, AllocError>) -> Result<InsertResult, Fail> {
+    match outcome {
+        Ok(Reply::Stored(Err(CookieError::Memory))) => Err(Fail::from("memory is no reply")),
+        Ok(Reply::Stored(reply)) => Ok(reply),
+        Ok(_) => Err(Fail::from("no reply to a cookie")),
+        Err(AllocError) => Ok(Err(CookieError::Memory)),
+    }
+}
+
+// The reply to a call for a store of four rows.
+fn applied(
+    rt: &impl Abort,
+    alloc: Global,
+    asked: &Asked,
+    case: &(&'static str, InsertResult, &'static str),
+) -> Result<InsertResult, Fail> {
+    let url = Url::parse(alloc, FROM)?;
+    let mut store = store_of_rows(alloc, &url)?;
+    let call = call(alloc, asked)?;
+    let _start: Vec<u8> = Vec::with_capacity(alloc, START)?;
+    let outcome = store.apply(call);
+    let _end: Vec<u8> = Vec::with_capacity(alloc, END)?;
+    let reply = stored(outcome)?;
+    is_answered(rt, alloc, &store, reply, case)?;
+    Ok(reply)
+}
+
+// For a cookie, memory is wanted only where it would be inserted.
+#[test]
+fn apply(rt: HostRuntime) -> Result<(), Fail> {
+    for case in &CASES {
+        let (text, wanted, _) = *case;
+        let is_new = wanted == Ok(StoreAction::Inserted);
+        let of_text = (Asked::Set(FROM, text, wanted), true);
+        let of_cookie = (Asked::Insert(FROM, text, wanted), is_new);
+        for (asked, may_want) in [of_text, of_cookie] {
+            let reply = applied(&rt, rt.alloc(), &asked, case)?;
+            let is_wanting = reply == Err(CookieError::Memory);
+            assert!(rt; may_want || !is_wanting, "at {asked:?}");
+        }
+    }
+    Ok(())
+}
+
+#[test]
+fn apply_all(rt: HostRuntime) -> Result<(), Fail> {
+    let mut store = store_under_com(rt.alloc())?;
+    let calls = all_calls(rt.alloc())?;
+    let _start: Vec<u8> = Vec::with_capacity(rt.alloc(), START)?;
+    let outcome = store.apply_all(calls);
+    let _end: Vec<u8> = Vec::with_capacity(rt.alloc(), END)?;
+    let replies = match outcome {
+        Ok(replies) => {
+            assert_eq!(rt; replies.len(), CALLS.len());
+            replies
+        }
+        Err(stopped) => {
+            assert_eq!(rt; stopped.replies.len(), stopped.count);
+            assert!(rt; stopped.count < CALLS.len());
+            stopped.replies
+        }
+    };
+    are_told(&rt, rt.alloc(), &store, &CALLS, replies.as_slice())
 }

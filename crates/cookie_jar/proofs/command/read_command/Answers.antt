@@ -1,8 +1,8 @@
-use Rattle.std.proofs.Common.{◌≡◌, ℕ, List, Option, None, option_and_then}
+use Rattle.std.proofs.Common.{◌≡◌, ℕ, List, Option, None}
 use Rattle.std.specs.Str.{IsUtf8}
 use Rattle.std.proofs.lemmas.Bool.{false_from_ne_true}
 use Rattle.std.proofs.lemmas.Str.{IsUtf8-from_is_utf8, is_utf8-from_IsUtf8}
-use Rattle.cookie_jar.specs.Commands.{command_of, first_word, verb_command}
+use Rattle.cookie_jar.specs.Commands.{command_of, first_word, text_command}
 use Rattle.cookie_jar.proofs.command.read_command.Goals as goal
 
 -- bytes that are no text are a bad line
@@ -12,7 +12,7 @@ not_text line no_text = rw (false_from_ne_true _ (λ valid. no_text (IsUtf8-from
 
 -- the command of a text is that of its first word and the rest
 command_of_words : (line text : List ℕ) (words : Option (List ℕ × List ℕ)) → text ≡ line → IsUtf8 line → words ≡ first_word text
-    → option_and_then verb_command words ≡ command_of line
+    → text_command text words ≡ command_of line
 unfolding command_of
 command_of_words line text words same valid cut = rw (is_utf8-from_IsUtf8 line valid, ← same, ← cut)
 
@@ -26,4 +26,5 @@ returns-in-Some c =
 
 pub returns-in-None : goal.returns-in-None
 returns-in-None c =
-    command_of_words c.args.line.now c.in-Ok.text.now _ c.in-Ok.ensures.cases.0 c.in-Ok.ensures.cases.1 c.in-None.ensures
+    rw (← command_of_words c.args.line.now c.in-Ok.text.now _ c.in-Ok.ensures.cases.0 c.in-Ok.ensures.cases.1 c.in-None.ensures)
+    c.lone_command.ensures

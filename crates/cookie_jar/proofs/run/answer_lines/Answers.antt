@@ -4,6 +4,7 @@ use Rattle.std.proofs.lemmas.Bool.{eqb-true, false≢true}
 use Rattle.std.proofs.lemmas.Option.{IfSome_then}
 use Rattle.std.proofs.lemmas.Result.{err_from_is_err_and, on_ok_weaker}
 use Rattle.cookie_device.specs.Device.{Sends}
+use Rattle.cookie_jar.specs.Script.{output_of}
 use Rattle.cookie_jar.proofs.Progress.{begun, answered, flushed, read_ahead, finished, last_answered, last_part, line_part, flush_part, part_so_far, out_of_memory}
 use Rattle.cookie_jar.proofs.Sending.{nothing_put}
 use Rattle.cookie_jar.proofs.run.answer_lines.Goals as goal
@@ -12,14 +13,14 @@ pub lines-init : goal.lines-init
 lines-init g c = record {
   reads = refl;
   writes = refl;
-  progress = rw (c.new-input.ensures, c.new-jar.ensures) (begun (g.R.Source.remaining c.args.source.now) (g.W.Sink.contents c.args.sink.now) c.args.out.now);
+  progress = rw (c.new-input.ensures, c.new-jar.ensures) (begun c.args.list (g.R.Source.remaining c.args.source.now) (g.W.Sink.contents c.args.sink.now) c.args.out.now);
 }
 
 pub returns-in_err-answer-clause-part : goal.returns-in_err-answer-clause-part
 returns-in_err-answer-clause-part g c =
     let line : c.without_return.result.now ≡ strip_carriage_return (take c.in-Some.end c.lines.input) = c.without_return.ensures ∙ ap strip_carriage_return c.front.ensures in
     IfSome_then (g.R.Source.remaining c.args.source.now) c.lines.invariant.progress
-    (λ input p. line_part input _ _ _ _ _ _ _ _ _ c.in-Some.end p (sym c.in-Some.ensures.first) line c.in_err-answer.ensures.part)
+    (λ input p. line_part (output_of c.args.list input) _ _ _ _ _ _ _ _ _ c.in-Some.end p (sym c.in-Some.ensures.first) line c.in_err-answer.ensures.part)
 
 pub returns-in_err-answer-clause-memory : goal.returns-in_err-answer-clause-memory
 returns-in_err-answer-clause-memory g c =
@@ -28,7 +29,7 @@ returns-in_err-answer-clause-memory g c =
     let same : q.0 ≡ c.in_err-answer.field-0.0 = q.2 in
     let is = q.1 in
     IfSome_then (g.R.Source.remaining c.args.source.now) c.lines.invariant.progress
-    (λ input p. out_of_memory input _ _ _ _ _ _ _ _ _ p (c.in_err-answer.ensures.memory cc))
+    (λ input p. out_of_memory (output_of c.args.list input) _ _ _ _ _ _ _ _ _ p (c.in_err-answer.ensures.memory cc))
 
 pub lines-preserved-in-Some : goal.lines-preserved-in-Some
 lines-preserved-in-Some g c =
@@ -39,18 +40,18 @@ lines-preserved-in-Some g c =
       progress =
           rw (c.pass.ensures, c.in_ok-answer.ensures.state)
           (IfSome_then (g.R.Source.remaining c.args.source.now) c.lines.invariant.progress
-          (λ input p. answered input _ _ _ _ _ _ _ _ _ _ c.in-Some.end p (sym c.in-Some.ensures.first) line c.in_ok-answer.ensures.whole));
+          (λ input p. answered (output_of c.args.list input) _ _ _ _ _ _ _ _ _ _ c.in-Some.end p (sym c.in-Some.ensures.first) line c.in_ok-answer.ensures.whole));
     }
 
 pub returns-in_err-flush-clause-part : goal.returns-in_err-flush-clause-part
 returns-in_err-flush-clause-part g c =
     IfSome_then (g.R.Source.remaining c.args.source.now) c.lines.invariant.progress
-    (λ input p. flush_part input _ _ _ _ _ _ _ _ p c.in_err-flush.ensures.part)
+    (λ input p. flush_part (output_of c.args.list input) _ _ _ _ _ _ _ _ p c.in_err-flush.ensures.part)
 
 pub returns-in_err-fill-clause-part : goal.returns-in_err-fill-clause-part
 returns-in_err-fill-clause-part g c =
     IfSome_then (g.R.Source.remaining c.args.source.now) c.lines.invariant.progress
-    (λ input p. part_so_far input _ _ _ _ _ _ _ (flushed input _ _ _ _ _ _ _ _ _ p c.in_ok-flush.ensures.whole c.in_ok-flush.ensures.empty))
+    (λ input p. part_so_far (output_of c.args.list input) _ _ _ _ _ _ _ (flushed (output_of c.args.list input) _ _ _ _ _ _ _ _ _ p c.in_ok-flush.ensures.whole c.in_ok-flush.ensures.empty))
 
 pub returns-in_err-fill-clause-memory : goal.returns-in_err-fill-clause-memory
 returns-in_err-fill-clause-memory g c =
@@ -58,7 +59,7 @@ returns-in_err-fill-clause-memory g c =
     let sent : Sends (g.W.Sink.contents c.flush.new.sink) (g.W.Sink.contents c.flush.new.sink) c.flush.new.self c.flush.new.self
     = rw c.in_ok-flush.ensures.empty (nothing_put (g.W.Sink.contents c.flush.new.sink) []) in
     IfSome_then (g.R.Source.remaining c.args.source.now) c.lines.invariant.progress
-    (λ input p. out_of_memory input _ _ _ _ _ _ _ _ _ (flushed input _ _ _ _ _ _ _ _ _ p c.in_ok-flush.ensures.whole c.in_ok-flush.ensures.empty) sent)
+    (λ input p. out_of_memory (output_of c.args.list input) _ _ _ _ _ _ _ _ _ (flushed (output_of c.args.list input) _ _ _ _ _ _ _ _ _ p c.in_ok-flush.ensures.whole c.in_ok-flush.ensures.empty) sent)
 
 pub lines-preserved : goal.lines-preserved
 lines-preserved g c = record {
@@ -67,8 +68,8 @@ lines-preserved g c = record {
   progress =
       IfSome_then (g.R.Source.remaining c.args.source.now) c.lines.invariant.progress
       (λ input p.
-      read_ahead input _ _ _ _ _ _ _ _ _
-      (flushed input _ _ _ _ _ _ _ _ _ p c.in_ok-flush.ensures.whole c.in_ok-flush.ensures.empty) c.in_ok-fill.ensures.bytes);
+      read_ahead (output_of c.args.list input) _ _ _ _ _ _ _ _ _
+      (flushed (output_of c.args.list input) _ _ _ _ _ _ _ _ _ p c.in_ok-flush.ensures.whole c.in_ok-flush.ensures.empty) c.in_ok-fill.ensures.bytes);
 }
 
 pub returns-then-is_empty-clause-whole : goal.returns-then-is_empty-clause-whole
@@ -78,15 +79,15 @@ returns-then-is_empty-clause-whole g c =
     let empty : length c.fill.new.self ≡ 0 = ap length (sym c.rest.ensures) ∙ eqb-true (length c.rest.result.now) 0 (sym c.if-is_empty.ensures) in
     IfSome_then (g.R.Source.remaining c.args.source.now) c.lines.invariant.progress
     (λ input p.
-    finished input c.fill.new.self _ _ _ _ _ _
-    (read_ahead input _ _ _ _ _ _ _ _ _
-    (flushed input _ _ _ _ _ _ _ _ _ p c.in_ok-flush.ensures.whole c.in_ok-flush.ensures.empty) c.in_ok-fill.ensures.bytes)
+    finished (output_of c.args.list input) c.fill.new.self _ _ _ _ _ _
+    (read_ahead (output_of c.args.list input) _ _ _ _ _ _ _ _ _
+    (flushed (output_of c.args.list input) _ _ _ _ _ _ _ _ _ p c.in_ok-flush.ensures.whole c.in_ok-flush.ensures.empty) c.in_ok-fill.ensures.bytes)
     end.1 none empty)
 
 pub returns-then-is_empty-clause-part : goal.returns-then-is_empty-clause-part
 returns-then-is_empty-clause-part g c =
     IfSome_then (g.R.Source.remaining c.args.source.now) c.lines.invariant.progress
-    (λ input p. part_so_far input _ _ _ _ _ _ _ (flushed input _ _ _ _ _ _ _ _ _ p c.in_ok-flush.ensures.whole c.in_ok-flush.ensures.empty))
+    (λ input p. part_so_far (output_of c.args.list input) _ _ _ _ _ _ _ (flushed (output_of c.args.list input) _ _ _ _ _ _ _ _ _ p c.in_ok-flush.ensures.whole c.in_ok-flush.ensures.empty))
 
 pub returns-clause-whole : goal.returns-clause-whole
 returns-clause-whole g c =
@@ -98,9 +99,9 @@ returns-clause-whole g c =
     (λ whole.
     IfSome_then (g.R.Source.remaining c.args.source.now) c.lines.invariant.progress
     (λ input p.
-    last_answered input c.fill.new.self _ _ _ _ _ _ _ _
-    (read_ahead input _ _ _ _ _ _ _ _ _
-    (flushed input _ _ _ _ _ _ _ _ _ p c.in_ok-flush.ensures.whole c.in_ok-flush.ensures.empty) c.in_ok-fill.ensures.bytes)
+    last_answered (output_of c.args.list input) c.fill.new.self _ _ _ _ _ _ _ _
+    (read_ahead (output_of c.args.list input) _ _ _ _ _ _ _ _ _
+    (flushed (output_of c.args.list input) _ _ _ _ _ _ _ _ _ p c.in_ok-flush.ensures.whole c.in_ok-flush.ensures.empty) c.in_ok-fill.ensures.bytes)
     end.1 none some whole))
     answer
 
@@ -112,9 +113,9 @@ returns-clause-part g c =
     let part = rw c.rest-2.ensures at c.answer-2.ensures.part in
     IfSome_then (g.R.Source.remaining c.args.source.now) c.lines.invariant.progress
     (λ input p.
-    last_part input c.fill.new.self _ _ _ _ _ _ _
-    (read_ahead input _ _ _ _ _ _ _ _ _
-    (flushed input _ _ _ _ _ _ _ _ _ p c.in_ok-flush.ensures.whole c.in_ok-flush.ensures.empty) c.in_ok-fill.ensures.bytes)
+    last_part (output_of c.args.list input) c.fill.new.self _ _ _ _ _ _ _
+    (read_ahead (output_of c.args.list input) _ _ _ _ _ _ _ _ _
+    (flushed (output_of c.args.list input) _ _ _ _ _ _ _ _ _ p c.in_ok-flush.ensures.whole c.in_ok-flush.ensures.empty) c.in_ok-fill.ensures.bytes)
     end.1 none some part)
 
 pub returns-clause-memory : goal.returns-clause-memory
@@ -122,5 +123,5 @@ returns-clause-memory g c =
     λ wants.
     IfSome_then (g.R.Source.remaining c.args.source.now) c.lines.invariant.progress
     (λ input p.
-    out_of_memory input _ _ _ _ _ _ _ _ _
-    (flushed input _ _ _ _ _ _ _ _ _ p c.in_ok-flush.ensures.whole c.in_ok-flush.ensures.empty) (c.answer-2.ensures.memory wants))
+    out_of_memory (output_of c.args.list input) _ _ _ _ _ _ _ _ _
+    (flushed (output_of c.args.list input) _ _ _ _ _ _ _ _ _ p c.in_ok-flush.ensures.whole c.in_ok-flush.ensures.empty) (c.answer-2.ensures.memory wants))

@@ -1,5 +1,6 @@
 -- No call has failed, and of the output for the input so much was put as the lines passed say.
 use Rattle.std.proofs.Common.{◌≡◌, ◌+◌, ◌*◌, IfSome, length}
+use Rattle.cookie_jar.specs.Script.{output_of}
 use Rattle.cookie_jar.proofs.Progress.{Progress}
 use Rattle.cookie_jar.proofs.run.answer_lines.Given as goal
 
@@ -8,7 +9,7 @@ invariant-lines g l = record {
   reads : g.R.Source.failed l.source ≡ g.R.Source.failed l.initial.source;
   writes : g.W.Sink.failed l.sink ≡ g.W.Sink.failed l.initial.sink;
   progress : IfSome (g.R.Source.remaining l.initial.source) (λ input.
-      Progress input l.input (g.R.Source.remaining l.source) l.jar (g.W.Sink.contents l.initial.sink) (g.W.Sink.contents l.sink) l.initial.out l.out);
+      Progress (output_of l.fn.list input) l.input (g.R.Source.remaining l.source) l.jar (g.W.Sink.contents l.initial.sink) (g.W.Sink.contents l.sink) l.initial.out l.out);
 }
 
 -- a read brings at most 4,096 bytes

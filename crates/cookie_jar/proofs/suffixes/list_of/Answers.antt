@@ -1,0 +1,31 @@
+use Rattle.std.proofs.Common.{◌≡◌, ◌∙◌, ap, ℕ, List, Err}
+use Rattle.std.specs.Result.{result_map_both}
+use Rattle.std.specs.Str.{IsUtf8}
+use Rattle.std.proofs.lemmas.Bool.{false_from_ne_true}
+use Rattle.std.proofs.lemmas.Str.{IsUtf8-from_is_utf8, is_utf8-from_IsUtf8}
+use Rattle.cookie_psl.specs.Reading.{rules_from}
+use Rattle.cookie_jar.specs.Suffixes.{list_at}
+use Rattle.cookie_jar.specs.declared.fault.MainFault.TheVariants.{CannotReadList, BadRule}
+use Rattle.cookie_jar.proofs.suffixes.list_of.Goals as goal
+
+-- bytes that are no text are no list
+not_text : (bytes : List ℕ) → (IsUtf8 bytes → ⊥) → list_at bytes ≡ Err CannotReadList
+unfolding list_at
+not_text bytes no_text = rw (false_from_ne_true _ (λ valid. no_text (IsUtf8-from_is_utf8 bytes valid)))
+
+-- a text has the rules that it says, or a bad one
+of_text : (bytes text : List ℕ) → text ≡ bytes → IsUtf8 bytes → list_at bytes ≡ result_map_both (λ rules. rules) BadRule (rules_from text)
+unfolding list_at
+of_text bytes text same valid = rw (is_utf8-from_IsUtf8 bytes valid, same)
+
+pub returns-in_default : goal.returns-in_default
+returns-in_default c = not_text _ c.in_default.ensures.cases.0
+
+pub returns-in-Ok-from_text : goal.returns-in-Ok-from_text
+returns-in-Ok-from_text c =
+    let (rules, read, same) = c.in-Ok-from_text.ensures in
+    (rules, of_text c.args.bytes.now _ c.in-Ok.ensures.cases.0 c.in-Ok.ensures.cases.1 ∙ ap (result_map_both (λ rules. rules) BadRule) read, same)
+
+pub returns-in-Err-BadRule : goal.returns-in-Err-BadRule
+returns-in-Err-BadRule c =
+    of_text c.args.bytes.now _ c.in-Ok.ensures.cases.0 c.in-Ok.ensures.cases.1 ∙ ap (result_map_both (λ rules. rules) BadRule) (rw c.in-Err-BadRule.field-0-is at c.in-Err-BadRule.ensures)

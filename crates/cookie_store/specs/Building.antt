@@ -1,0 +1,17 @@
+-- Stores that are built from what an iterator gives.
+use Rattle.std.specs.Prelude.{◌≡◌, Bool, List, map, Option, Some, Result, Ok, Err}
+use Rattle.std.specs.Iterator.{Drains, YieldsThen}
+use Rattle.cookie_words.specs.Moments.{Moment}
+use Rattle.cookie_parts.specs.Cookie.{Row}
+use Rattle.cookie_parts.specs.declared.error.Error.{Error}
+use Rattle.cookie_store.specs.Rows.{built}
+
+-- the items are cookies, and these are the rows that are built from them
+abbrev pub Builds : {S : Type 0} → (S → Option (Result Row Error) → S → Type 0) → S → Bool → Moment → List Row → Type 0
+Builds steps items include_expired now rows =
+    (cookies : List Row) × Drains steps items (map Ok cookies) × (rows ≡ built include_expired now cookies)
+
+-- the first item that is no cookie is this error
+abbrev pub FailsFirst : {S : Type 0} → (S → Option (Result Row Error) → S → Type 0) → S → Error → Type 0
+FailsFirst {S} steps items error =
+    (cookies : List Row) × (rest : S) × YieldsThen steps items (map Ok cookies) (Some (Err error)) rest

@@ -1,0 +1,46 @@
+-- What contracts see of calls and replies, and of the pairs of a request.
+use Rattle.std.specs.Prelude.{◌≡◌, ℕ, List, take, length, map, Ok, string_bytes, ⊤}
+use Rattle.std.specs.Borrow.{Bor}
+use Rattle.cookie_words.specs.Moments.{moment_of}
+use Rattle.cookie_parts.specs.Cookie.{Row}
+use Rattle.cookie_parts.specs.declared.store_action.StoreAction.TheVariants.{Inserted}
+use Rattle.cookie_store.specs.Contents.{Contents}
+use Rattle.cookie_store.specs.Rows.{key_at}
+use Rattle.cookie_store.specs.Runs as Runs
+use Rattle.cookie_store.specs.Runs.{replies, rows_after}
+use Rattle.cookie_store.specs.declared.call as Declared
+use Rattle.cookie_store.specs.declared.call.Call.TheVariants.{Set, Insert, Remove, Clear}
+use Rattle.cookie_store.specs.declared.call.Reply.TheVariants.{Stored, Removed, Cleared}
+
+abbrev pub call_view : Declared.Call.Call → Runs.Call
+call_view (Set text url now) = Runs.Set (string_bytes text) url (moment_of now)
+call_view (Insert cookie url now) = Runs.Insert cookie url (moment_of now)
+call_view (Remove domain path name) = Runs.Remove (key_at (string_bytes domain) (string_bytes path) (string_bytes name))
+call_view Clear = Runs.Clear
+
+abbrev pub reply_view : Declared.Reply.Reply → Runs.Reply
+reply_view (Stored result) = Runs.Stored result
+reply_view (Removed cookie) = Runs.Removed cookie
+reply_view Cleared = Runs.Cleared
+
+-- which calls may want memory: a text that comes, and a cookie that would be inserted
+abbrev pub MayWant : Runs.Call → Runs.Reply → Type 0
+MayWant (Runs.Set text url now) reply = ⊤
+MayWant (Runs.Insert cookie url now) reply = reply ≡ Runs.Stored (Ok Inserted)
+MayWant (Runs.Remove key) reply = ⊥
+MayWant Runs.Clear reply = ⊥
+
+-- the first calls stand, so many of them, and the replies are theirs
+abbrev pub StopsAfter : Declared.Stopped.Stopped → List Runs.Call → Contents → Contents → Type 0
+StopsAfter stopped calls old new =
+    (stopped.count ≡ length stopped.replies.items)
+    × (map reply_view stopped.replies.items ≡ replies old.suffixes (take stopped.count calls) old.rows)
+    × (new ≡ record old { rows = rows_after old.suffixes (take stopped.count calls) old.rows })
+
+-- a cookie's name and value
+abbrev pub name_and_value : Row → List ℕ × List ℕ
+name_and_value cookie = (cookie.raw.name, cookie.raw.value)
+
+-- two texts that are lent
+abbrev pub lent_pair : Bor (List ℕ) × Bor (List ℕ) → List ℕ × List ℕ
+lent_pair pair = (pair.0.now, pair.1.now)

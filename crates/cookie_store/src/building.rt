@@ -1,0 +1,53 @@
+//! Rows that are built from cookies, one after the other.
+ghost use Rattle.std.specs.Prelude.{◌≡◌, ◌∷◌, [], IfErr, IfOk, IsTrue, OnOk, ◌⊎◌};
+ghost use Rattle.std.specs.Iterator.{IsFinite};
+ghost use Rattle.cookie_words.specs.Moments.{moment_of};
+ghost use Rattle.cookie_store.specs.Building.{Builds, FailsFirst};
+ghost use Rattle.cookie_store.specs.Rows.{are_rows, included, put_all};
+
+use crate::rows;
+use cookie_parts::{Cookie, Error};
+use jiff::civil::DateTime;
+use std::alloc::{AllocError, Global};
+
+/// Puts the cookies one after the other, all or those that have not ended.
+pub(crate) fn build<I: Iterator<Item = Result<Cookie<'static>, Error>> + Drop>(
+    alloc: Global,
+    cookies: I,
+    include_expired: bool,
+    now: DateTime,
+) -> Result<Vec<Cookie<'static>>, Error>
+    requires can { I.can_next cookies }
+    requires ends { IsFinite (I.remaining cookies) }
+    ensures built { IfOk result (λ rows. Builds I.next_gives cookies include_expired (moment_of now) rows.items) }
+    ensures failed { IfErr result (λ error. (error ≡ Error.Memory) ⊎ FailsFirst I.next_gives cookies error) }
+    ensures in_order { IfOk result (λ rows. IsTrue (are_rows rows.items)) }
+{
+    let mut built = Vec::new(alloc);
+    for item in cookies {
+        let cookie = item?;
+        match take(&mut built, cookie, include_expired, now) {
+            Ok(()) => {}
+            Err(_) => return Err(Error::Memory),
+        }
+    }
+    Ok(built)
+}
+
+// Puts one more cookie, unless it has ended and is to be passed over.
+fn take(
+    rows: &mut Vec<Cookie<'static>>,
+    cookie: Cookie<'static>,
+    include_expired: bool,
+    now: DateTime,
+) -> Result<(), AllocError>
+    requires { IsTrue (are_rows rows.old.items) }
+    ensures taken { OnOk result (rows.new.items
+        ≡ put_all rows.old.items (included include_expired (moment_of now) (cookie.entry ∷ []))) }
+    ensures in_order { IsTrue (are_rows rows.new.items) }
+{
+    if include_expired || !cookie.is_expired(now) {
+        return rows::put(rows, cookie);
+    }
+    Ok(())
+}

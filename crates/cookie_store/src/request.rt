@@ -1,0 +1,93 @@
+//! The cookies of a request.
+ghost use Rattle.std.specs.Prelude.{◌≡◌, map};
+ghost use Rattle.cookie_store.specs.CallViews.{name_and_value};
+
+use cookie_parts::Cookie;
+use cookie_raw::RawCookie;
+use std::marker::Model;
+use std::vec::IntoIter;
+
+/// The names and values of the cookies of a request, in the store's order.
+#[derive(Drop)]
+pub struct RequestValues<'a> {
+    cookies: IntoIter<&'a Cookie<'static>>,
+}
+
+impl<'a> Model for RequestValues<'a> {
+    ghost use Rattle.std.specs.Prelude.{ℕ, List, map};
+    ghost use Rattle.std.specs.Vec.Iter.{into_iter_items};
+    ghost use Rattle.cookie_store.specs.CallViews.{name_and_value};
+
+    ghost Value = { List (List ℕ × List ℕ) };
+
+    ghost view = { λ values. map name_and_value (map (λ cookie. cookie.now) (into_iter_items values.cookies)) };
+}
+
+impl<'a> RequestValues<'a> {
+    /// Of these cookies.
+    pub(crate) fn new(cookies: Vec<&'a Cookie<'static>>) -> RequestValues<'a>
+        ensures { result ≡ map name_and_value (map (λ cookie. cookie.now) cookies.entry.items) }
+    {
+        RequestValues {
+            cookies: cookies.into_iter(),
+        }
+    }
+}
+
+impl<'a> Iterator for RequestValues<'a> {
+    type Item = (&'a str, &'a str);
+
+    ghost use Rattle.std.specs.Iterator.{YieldsFirstBy, item_count};
+    ghost use Rattle.cookie_store.specs.CallViews.{lent_pair};
+
+    ghost next_gives = { YieldsFirstBy lent_pair (λ pairs. pairs) };
+
+    ghost remaining = { item_count (λ pairs. pairs) };
+
+    fn next(&mut self) -> Option<(&'a str, &'a str)> {
+        let cookie = self.cookies.next()?;
+        Some((cookie.name(), cookie.value()))
+    }
+}
+
+/// The raw cookies of the cookies of a request, in the store's order.
+#[derive(Drop)]
+pub struct RequestCookies<'a> {
+    cookies: IntoIter<&'a Cookie<'static>>,
+}
+
+impl<'a> Model for RequestCookies<'a> {
+    ghost use Rattle.std.specs.Prelude.{List, map};
+    ghost use Rattle.std.specs.Vec.Iter.{into_iter_items};
+    ghost use Rattle.cookie_raw.specs.Raw.{Raw};
+
+    ghost Value = { List Raw };
+
+    ghost view = { λ cookies. map (λ cookie. cookie.raw) (map (λ cookie. cookie.now) (into_iter_items cookies.cookies)) };
+}
+
+impl<'a> RequestCookies<'a> {
+    /// Of these cookies.
+    pub(crate) fn new(cookies: Vec<&'a Cookie<'static>>) -> RequestCookies<'a>
+        ensures { result ≡ map (λ cookie. cookie.raw) (map (λ cookie. cookie.now) cookies.entry.items) }
+    {
+        RequestCookies {
+            cookies: cookies.into_iter(),
+        }
+    }
+}
+
+impl<'a> Iterator for RequestCookies<'a> {
+    type Item = &'a RawCookie<'static>;
+
+    ghost use Rattle.std.specs.Iterator.{YieldsFirstRef, item_count};
+
+    ghost next_gives = { YieldsFirstRef (λ cookies. cookies) };
+
+    ghost remaining = { item_count (λ cookies. cookies) };
+
+    fn next(&mut self) -> Option<&'a RawCookie<'static>> {
+        let cookie = self.cookies.next()?;
+        Some(cookie.raw())
+    }
+}
