@@ -1,16 +1,13 @@
 -- The lines of a text whose front was read ahead.
-use Rattle.std.proofs.Common.{◌≡◌, ℕ, ◌+◌, ◌<◌, ◌≤◌, false, cond, eqb, ltb, List, [], ◌∷◌, ◌++◌, Some, None, length, get_or, take, drop, position, sym, ap, ◌∙◌, refl, append_assoc, take-append-drop, arith, drop-cons, add-one}
+use Rattle.std.proofs.Common.{◌≡◌, ℕ, ◌+◌, ◌<◌, false, eqb, List, [], ◌∷◌, ◌++◌, Some, None, length, get_or, take, drop, position, sym, ap, ◌∙◌, refl, append_assoc, take-append-drop, arith, drop-cons, add-one}
 use Rattle.std.specs.List.{slice_split, All}
-use Rattle.std.specs.Str.Lines.{lines, lines_of_parts, strip_carriage_return}
-use Rattle.std.proofs.lemmas.Bool.Decides.{nat_tests}
+use Rattle.std.specs.Str.Lines.{lines_of_parts, strip_carriage_return}
 use Rattle.std.proofs.lemmas.List.{get_or-take, length-take}
 use Rattle.std.proofs.lemmas.List.Sums.{fails_before_first}
 use Rattle.std.proofs.lemmas.List.Splits.{slice_split_at, slice_split_none, length-slice_split}
 use Rattle.std.proofs.lemmas.List.Quantifiers.{position-Some}
-
--- a search that found nothing went to the end
-length-none : (n len : ℕ) → cond (ltb n len) (Some n) None ≡ None → len ≤ n
-length-none n len none = grind (arith, nat_tests)
+use Rattle.cookie_device.specs.Lines.{EndsLine, IsLastLine}
+use Rattle.cookie_device.proofs.Scanning.{length-none}
 
 -- the line feed that was found, and what stands about it
 line-split : (bytes : List ℕ) (end : ℕ) → position (λ b. eqb b 10) bytes ≡ Some end → bytes ≡ take end bytes ++ get_or bytes end 0 ∷ drop (end + 1) bytes
@@ -42,13 +39,12 @@ lines_of_parts-cons x [] some = absurd (omega arith)
 lines_of_parts-cons x (y ∷ more) some = refl
 
 -- the line that was found comes first, whatever stands behind the bytes at hand
-pub lines-found : (bytes more : List ℕ) (end : ℕ) → position (λ b. eqb b 10) bytes ≡ Some end
-    → lines (bytes ++ more) ≡ strip_carriage_return (take end bytes) ∷ lines (drop (end + 1) bytes ++ more)
-lines-found bytes more end found =
+pub EndsLine-found : (bytes : List ℕ) (end : ℕ) → position (λ b. eqb b 10) bytes ≡ Some end → EndsLine bytes end
+EndsLine-found bytes end found = λ more.
     let pieces = slice_split (λ b. eqb b 10) (drop (end + 1) bytes ++ more) in
     ap lines_of_parts (slice_split-line bytes more end found)
     ∙ lines_of_parts-cons (take end bytes) pieces (omega (arith, length-slice_split (λ b. eqb b 10) (drop (end + 1) bytes ++ more)))
 
 -- bytes without a line feed are the last line, unless there are none
-pub lines-last : (bytes : List ℕ) → position (λ b. eqb b 10) bytes ≡ None → lines bytes ≡ lines_of_parts (bytes ∷ [])
-lines-last bytes none = ap lines_of_parts (slice_split-last bytes none)
+pub IsLastLine-none : (bytes : List ℕ) → position (λ b. eqb b 10) bytes ≡ None → IsLastLine bytes
+IsLastLine-none bytes none = ap lines_of_parts (slice_split-last bytes none)

@@ -1,5 +1,5 @@
 //! What a reader and a writer are to the crates above.
-ghost use Rattle.std.specs.Prelude.{◌≡◌, ℕ, ◌-◌, ◌^◌, ◌<◌, ◌≤◌, List, [], None, Option, length, IfOk, IsOk, OnOk};
+ghost use Rattle.std.specs.Prelude.{◌≡◌, ℕ, ◌-◌, ◌^◌, ◌<◌, ◌≤◌, List, [], ◌∷◌, ◌++◌, None, Option, length, IfOk, IsOk, OnOk};
 ghost use Rattle.std.specs.Io.{ReadsAtMost, WritesAtMost};
 ghost use Rattle.std.specs.Io.KnownBytes.{Appends, ReadConsumes, WriteAppends};
 ghost use Rattle.cookie_device.specs.Device.{AppendsBeginning, CountsFailure};
@@ -68,4 +68,16 @@ pub fn write_all<W: Sink>(sink: &mut W, bytes: &[u8]) -> Result<(), DeviceFailed
         rest = &rest[taken..];
     }
     Ok(())
+}
+
+/// Writes `text` and a line feed.
+#[tactic(auto, using(crate::proofs::Appending::longer_beginning, crate::proofs::Appending::beginning_after))]
+pub fn write_line<W: Sink>(sink: &mut W, text: &[u8]) -> Result<(), DeviceFailed>
+    requires { W.failed sink.old < 2 ^ 64 - 1 }
+    ensures whole { OnOk result (Appends (W.contents sink.old) (W.contents sink.new) (text.now ++ 10 ∷ [])) }
+    ensures part { AppendsBeginning (W.contents sink.old) (W.contents sink.new) (text.now ++ 10 ∷ []) }
+    ensures count { CountsFailure result (W.failed sink.old) (W.failed sink.new) }
+{
+    write_all(sink, text)?;
+    write_all(sink, b"\n")
 }

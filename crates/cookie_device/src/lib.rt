@@ -9,7 +9,7 @@ mod lines;
 mod output;
 
 pub use counted::Counted;
-pub use device::{DeviceFailed, Sink, Source, write_all};
+pub use device::{DeviceFailed, Sink, Source, write_all, write_line};
 pub use lines::{FillError, LineBuffer};
 pub use output::Output;
 

@@ -2,7 +2,9 @@
 ghost use Rattle.std.specs.Prelude.{◌≡◌, ◌==◌, ◌+◌, ◌-◌, ◌^◌, ◌<◌, ◌≤◌, [], None, false, length, take, drop, position, IsTrue, IfSome, IfOk, OnOk, OnErr, vec_len};
 ghost use Rattle.std.specs.Io.{StartsWith};
 ghost use Rattle.std.specs.Io.KnownBytes.{IsAtEnd, Keeps, prepend_known};
+ghost use Rattle.std.specs.Str.Lines.{strip_carriage_return};
 ghost use Rattle.cookie_device.specs.FillError.{CountsRead};
+ghost use Rattle.cookie_device.specs.Lines.{EndsLine, IsLastLine};
 
 use crate::device::{DeviceFailed, Source};
 use std::alloc::{AllocError, Global};
@@ -76,22 +78,24 @@ impl LineBuffer {
         }
     }
 
-    /// The place of the first line feed at hand.
+    /// The place of the first line feed at hand, which ends a line.
     pub fn line_end(&self) -> Option<usize>
         ensures first { result ≡ position (λ b. b == 10) self.now }
         ensures within { IfSome result (λ end. end < length self.now) }
         ensures fits { length self.now < 2 ^ 63 }
+        ensures line { IfSome result (EndsLine self.now) }
+        ensures last { result ≡ None → IsLastLine self.now }
     {
         let place = first_line_feed(&self.bytes[self.scanned..])?;
         Some(self.scanned - self.start + place)
     }
 
-    /// The bytes at hand that stand before `end`.
-    pub fn front(&self, end: usize) -> &[u8]
+    /// The line that ends at `end`: the bytes at hand that stand before, without a carriage return at their end.
+    pub fn line(&self, end: usize) -> &[u8]
         requires { end ≤ length self.now }
-        ensures { result.now ≡ take end self.now }
+        ensures { result.now ≡ strip_carriage_return (take end self.now) }
     {
-        &self.bytes[self.start..self.start + end]
+        without_return(&self.bytes[self.start..self.start + end])
     }
 
     /// All bytes at hand.
@@ -145,6 +149,16 @@ fn first_line_feed(bytes: &[u8]) -> Option<usize>
     ensures { result ≡ position (λ b. b == 10) bytes.now }
 {
     bytes.iter().position(|b| *b == b'\n')
+}
+
+// A line without the carriage return before its line feed.
+fn without_return(line: &[u8]) -> &[u8]
+    ensures { result.now ≡ strip_carriage_return line.now }
+{
+    match line {
+        [front @ .., b'\r'] => front,
+        _ => line,
+    }
 }
 
 // Moves what stands from `start` on to the front.

@@ -1,4 +1,6 @@
-use crate::{Counted, DeviceFailed, FillError, LineBuffer, Output, Sink, Source, write_all};
+use crate::{
+    Counted, DeviceFailed, FillError, LineBuffer, Output, Sink, Source, write_all, write_line,
+};
 use std::alloc::Global;
 use std::io;
 use std::io::{Read, Write};
@@ -51,7 +53,7 @@ impl<T: Write> Write for Fake<T> {
     }
 }
 
-// What stands between the line feeds, each with '|' behind it. A read that failed is tried again.
+// The lines that a line feed ends, each with '|' behind it, and the last bytes. A read that failed is tried again.
 fn cut<R: Read + Drop>(
     rt: &impl Abort,
     alloc: Global,
@@ -61,7 +63,7 @@ fn cut<R: Read + Drop>(
     let mut lines = Vec::new(alloc);
     for _ in 0..100_000 {
         if let Some(end) = buffer.line_end() {
-            lines.extend_from_slice(buffer.front(end))?;
+            lines.extend_from_slice(buffer.line(end))?;
             lines.push(b'|')?;
             buffer.pass(end + 1);
             continue;
@@ -84,7 +86,7 @@ fn lines_come_whole(rt: HostRuntime) -> Result<(), Fail> {
         (b"one", b"one"),
         (b"\n", b"|"),
         (b"one\n", b"one|"),
-        (b"one\n\ntwo\r\nlast", b"one||two\r|last"),
+        (b"one\n\ntwo\r\nlast\r", b"one||two|last\r"),
         (b"\n\n\nx\n", b"|||x|"),
     ];
     for (input, want) in cases {
@@ -154,6 +156,18 @@ fn a_write_goes_on_until_all_is_out(rt: HostRuntime) -> Result<(), Fail> {
         );
         let written = sink.into_inner().inner;
         assert_eq!(rt; written.as_slice(), &text[..out], "{most} {fails_at}");
+    }
+    Ok(())
+}
+
+#[test]
+fn a_line_goes_out_with_its_line_feed(rt: HostRuntime) -> Result<(), Fail> {
+    for most in [1, 2, 100] {
+        let mut sink = Counted::new(Fake::new(Vec::new(rt.alloc()), most, 0));
+        write_line(&mut sink, b"abc")?;
+        write_line(&mut sink, b"")?;
+        let written = sink.into_inner().inner;
+        assert_eq!(rt; written.as_slice(), b"abc\n\n".as_slice(), "by {most}");
     }
     Ok(())
 }

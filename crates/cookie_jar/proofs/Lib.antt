@@ -1,4 +1,3 @@
-pub mod Lines
 pub mod OtherWords
 pub mod PairTexts
 pub mod Progress

@@ -1,13 +1,13 @@
 -- A script in its course: what was answered, what is left of the input, and what went out.
-use Rattle.std.proofs.Common.{◌≡◌, ◌≢◌, ℕ, ◌+◌, cond, eqb, ne_eqb, subst, List, [], ◌∷◌, ◌++◌, Option, Some, None, IfSome, length, take, drop, position, refl, sym, ap, ◌∙◌, append_assoc, append-nil}
+use Rattle.std.proofs.Common.{◌≡◌, ◌≢◌, ℕ, ◌+◌, cond, eqb, ne_eqb, subst, List, [], ◌∷◌, ◌++◌, Option, Some, None, IfSome, length, take, drop, refl, sym, ap, ◌∙◌, append_assoc, append-nil}
 use Rattle.std.specs.Io.KnownBytes.{Appends, IsAtEnd, Keeps, prepend_known}
 use Rattle.std.specs.Str.Lines.{lines, lines_of_parts, strip_carriage_return}
 use Rattle.std.proofs.KnownBytes.{Appends-trans}
 use Rattle.cookie_device.specs.Device.{AppendsBeginning, Sends}
+use Rattle.cookie_device.specs.Lines.{EndsLine, IsLastLine}
 use Rattle.cookie_psl.specs.Rules.{RuleList}
 use Rattle.cookie_jar.specs.Faults.{SendsBeginning}
 use Rattle.cookie_jar.specs.Script.{State, start, turn, outputs, output_of}
-use Rattle.cookie_jar.proofs.Lines.{lines-found, lines-last}
 use Rattle.cookie_jar.proofs.Sending.{nothing_part, nothing_put, part_longer, part_then, put_then}
 
 -- Of the output, `done` was put: `before` and it went out, but for what is gathered. The bytes at hand and
@@ -32,19 +32,19 @@ next_line output at_hand line more done left state split first =
     split ∙ ap (λ ls. done ++ outputs ls state) first ∙ sym (append_assoc done (turn line state).text (outputs more (turn line state).state))
 
 -- the lines that are left, where a line was found at hand
-left_lines : (at_hand left : List ℕ) (rest : Option (List ℕ)) (end : ℕ) → prepend_known at_hand rest ≡ Some left → position (λ b. eqb b 10) at_hand ≡ Some end
+left_lines : (at_hand left : List ℕ) (rest : Option (List ℕ)) (end : ℕ) → prepend_known at_hand rest ≡ Some left → EndsLine at_hand end
     → (more : List ℕ) × (rest ≡ Some more) × (lines left ≡ strip_carriage_return (take end at_hand) ∷ lines (drop (end + 1) at_hand ++ more))
-left_lines at_hand left None end known found = cc
-left_lines at_hand left (Some more) end known found =
+left_lines at_hand left None end known ends = cc
+left_lines at_hand left (Some more) end known ends =
     let same : at_hand ++ more ≡ left = cc in
-    (more, refl, ap lines (sym same) ∙ lines-found at_hand more end found)
+    (more, refl, ap lines (sym same) ∙ ends more)
 
 -- a line that was found is answered
 pub answered : (output at_hand line : List ℕ) (rest : Option (List ℕ)) (state : State) (old new then : Option (List ℕ)) (before g h : List ℕ) (end : ℕ)
-    → Progress output at_hand rest state old new before g → position (λ b. eqb b 10) at_hand ≡ Some end → line ≡ strip_carriage_return (take end at_hand)
+    → Progress output at_hand rest state old new before g → EndsLine at_hand end → line ≡ strip_carriage_return (take end at_hand)
     → Sends new then (g ++ (turn line state).text) h → Progress output (drop (end + 1) at_hand) rest (turn line state).state old then before h
-answered output at_hand line rest state old new then before g h end p found is sends =
-    let (more, known, ls) = left_lines at_hand p.left rest end p.known found in
+answered output at_hand line rest state old new then before g h end p ends is sends =
+    let (more, known, ls) = left_lines at_hand p.left rest end p.known ends in
     record {
       done = p.done ++ (turn line state).text;
       left = drop (end + 1) at_hand ++ more;
@@ -91,17 +91,17 @@ all_at_hand at_hand left (Some more) known end =
     let same : at_hand ++ more ≡ left = cc in
     sym same ∙ ap (λ xs. at_hand ++ xs) end ∙ append-nil at_hand
 
--- and without a line feed they are the last line, unless there are none
-last_lines : (at_hand left : List ℕ) (rest : Option (List ℕ)) → prepend_known at_hand rest ≡ Some left → IsAtEnd rest → position (λ b. eqb b 10) at_hand ≡ None
+-- and they are the last line, unless there are none
+last_lines : (at_hand left : List ℕ) (rest : Option (List ℕ)) → prepend_known at_hand rest ≡ Some left → IsAtEnd rest → IsLastLine at_hand
     → lines left ≡ lines_of_parts (at_hand ∷ [])
-last_lines at_hand left rest known end none = ap lines (all_at_hand at_hand left rest known end) ∙ lines-last at_hand none
+last_lines at_hand left rest known end last = ap lines (all_at_hand at_hand left rest known end) ∙ last
 
 -- the output, where the last line is known
 last_line : (output at_hand : List ℕ) (rest : Option (List ℕ)) (state : State) (old new : Option (List ℕ)) (before g : List ℕ) (last : List (List ℕ))
-    → Progress output at_hand rest state old new before g → IsAtEnd rest → position (λ b. eqb b 10) at_hand ≡ None → lines_of_parts (at_hand ∷ []) ≡ last
+    → Progress output at_hand rest state old new before g → IsAtEnd rest → IsLastLine at_hand → lines_of_parts (at_hand ∷ []) ≡ last
     → (done : List ℕ) × (output ≡ done ++ outputs last state) × Sends old new (before ++ done) g
-last_line output at_hand rest state old new before g last p end none same =
-    (p.done, p.split ∙ ap (λ ls. p.done ++ outputs ls state) (last_lines at_hand p.left rest p.known end none ∙ same), p.sends)
+last_line output at_hand rest state old new before g last p end one same =
+    (p.done, p.split ∙ ap (λ ls. p.done ++ outputs ls state) (last_lines at_hand p.left rest p.known end one ∙ same), p.sends)
 
 nothing_last : (n : ℕ) (x : List ℕ) → n ≡ 0 → cond (eqb n 0) [] (x ∷ []) ≡ []
 nothing_last n x e = rw e
@@ -111,42 +111,42 @@ something_last n x h = rw (ne_eqb n 0 h)
 
 -- nothing is left to answer
 pub finished : (output at_hand : List ℕ) (rest : Option (List ℕ)) (state : State) (old new : Option (List ℕ)) (before g : List ℕ)
-    → Progress output at_hand rest state old new before g → IsAtEnd rest → position (λ b. eqb b 10) at_hand ≡ None → length at_hand ≡ 0
+    → Progress output at_hand rest state old new before g → IsAtEnd rest → IsLastLine at_hand → length at_hand ≡ 0
     → Sends old new (before ++ output) g
-finished output at_hand rest state old new before g p end none empty =
-    let (done, split, sends) = last_line output at_hand rest state old new before g [] p end none (nothing_last (length at_hand) at_hand empty) in
+finished output at_hand rest state old new before g p end one empty =
+    let (done, split, sends) = last_line output at_hand rest state old new before g [] p end one (nothing_last (length at_hand) at_hand empty) in
     subst (λ (text : List ℕ). Sends old new (before ++ text) g) (sym (split ∙ append-nil done)) sends
 
 -- the output ends with the answer to the last line
 last_answer : (output at_hand : List ℕ) (rest : Option (List ℕ)) (state : State) (old new : Option (List ℕ)) (before g : List ℕ)
-    → Progress output at_hand rest state old new before g → IsAtEnd rest → position (λ b. eqb b 10) at_hand ≡ None → length at_hand ≢ 0
+    → Progress output at_hand rest state old new before g → IsAtEnd rest → IsLastLine at_hand → length at_hand ≢ 0
     → (done : List ℕ) × (output ≡ done ++ (turn at_hand state).text) × Sends old new (before ++ done) g
-last_answer output at_hand rest state old new before g p end none some =
-    let (done, split, sends) = last_line output at_hand rest state old new before g (at_hand ∷ []) p end none (something_last (length at_hand) at_hand some) in
+last_answer output at_hand rest state old new before g p end one some =
+    let (done, split, sends) = last_line output at_hand rest state old new before g (at_hand ∷ []) p end one (something_last (length at_hand) at_hand some) in
     (done, split ∙ ap (λ text. done ++ text) (append-nil (turn at_hand state).text), sends)
 
 -- the last line is answered
 pub last_answered : (output at_hand : List ℕ) (rest : Option (List ℕ)) (state : State) (old new then : Option (List ℕ)) (before g h : List ℕ)
-    → Progress output at_hand rest state old new before g → IsAtEnd rest → position (λ b. eqb b 10) at_hand ≡ None → length at_hand ≢ 0
+    → Progress output at_hand rest state old new before g → IsAtEnd rest → IsLastLine at_hand → length at_hand ≢ 0
     → Sends new then (g ++ (turn at_hand state).text) h → Sends old then (before ++ output) h
-last_answered output at_hand rest state old new then before g h p end none some sends =
-    let (done, split, sent) = last_answer output at_hand rest state old new before g p end none some in
+last_answered output at_hand rest state old new then before g h p end one some sends =
+    let (done, split, sent) = last_answer output at_hand rest state old new before g p end one some in
     subst (λ (text : List ℕ). Sends old then (before ++ text) h) (sym split) (put_then old new then before done (turn at_hand state).text g h sent sends)
 
 -- and where it was not, a beginning went out
 pub last_part : (output at_hand : List ℕ) (rest : Option (List ℕ)) (state : State) (old new then : Option (List ℕ)) (before g : List ℕ)
-    → Progress output at_hand rest state old new before g → IsAtEnd rest → position (λ b. eqb b 10) at_hand ≡ None → length at_hand ≢ 0
+    → Progress output at_hand rest state old new before g → IsAtEnd rest → IsLastLine at_hand → length at_hand ≢ 0
     → AppendsBeginning new then (g ++ (turn at_hand state).text) → AppendsBeginning old then (before ++ output)
-last_part output at_hand rest state old new then before g p end none some part =
-    let (done, split, sent) = last_answer output at_hand rest state old new before g p end none some in
+last_part output at_hand rest state old new then before g p end one some part =
+    let (done, split, sent) = last_answer output at_hand rest state old new before g p end one some in
     subst (λ (text : List ℕ). AppendsBeginning old then (before ++ text)) (sym split) (part_then old new then before done (turn at_hand state).text g sent part)
 
 -- a beginning of the answer to a line that was found is one of the output
 pub line_part : (output at_hand line : List ℕ) (rest : Option (List ℕ)) (state : State) (old new then : Option (List ℕ)) (before g : List ℕ) (end : ℕ)
-    → Progress output at_hand rest state old new before g → position (λ b. eqb b 10) at_hand ≡ Some end → line ≡ strip_carriage_return (take end at_hand)
+    → Progress output at_hand rest state old new before g → EndsLine at_hand end → line ≡ strip_carriage_return (take end at_hand)
     → AppendsBeginning new then (g ++ (turn line state).text) → AppendsBeginning old then (before ++ output)
-line_part output at_hand line rest state old new then before g end p found is part =
-    let (more, known, ls) = left_lines at_hand p.left rest end p.known found in
+line_part output at_hand line rest state old new then before g end p ends is part =
+    let (more, known, ls) = left_lines at_hand p.left rest end p.known ends in
     let others = lines (drop (end + 1) at_hand ++ more) in
     let split = next_line output at_hand line others p.done p.left state p.split (ls ∙ ap (λ l. l ∷ others) (sym is)) in
     subst (λ (text : List ℕ). AppendsBeginning old then (before ++ text)) (sym split)

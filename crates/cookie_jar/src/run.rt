@@ -1,6 +1,5 @@
 //! A script, from the bytes that come in to the bytes that go out.
 ghost use Rattle.std.specs.Prelude.{◌≡◌, ◌-◌, ◌^◌, ◌<◌, ◌++◌, Err, IfSome, OnOk};
-ghost use Rattle.std.specs.Str.Lines.{strip_carriage_return};
 ghost use Rattle.std.specs.Io.KnownBytes.{Appends};
 ghost use Rattle.cookie_device.specs.Device.{AppendsBeginning, Sends};
 ghost use Rattle.cookie_jar.specs.Faults.{CountsFault, SendsBeginning};
@@ -61,7 +60,7 @@ fn answer_lines<R: Source, W: Sink>(
     let mut jar = Jar::new(alloc, list);
     'lines: loop {
         if let Some(end) = input.line_end() {
-            jar.answer(alloc, without_return(input.front(end)), out, sink)?;
+            jar.answer(alloc, input.line(end), out, sink)?;
             input.pass(end + 1);
         } else {
             out.flush(sink)?;
@@ -74,14 +73,4 @@ fn answer_lines<R: Source, W: Sink>(
         return Ok(());
     }
     jar.answer(alloc, input.rest(), out, sink)
-}
-
-// A line without the carriage return before its line feed.
-fn without_return(line: &[u8]) -> &[u8]
-    ensures { result.now ≡ strip_carriage_return line.now }
-{
-    match line {
-        [front @ .., b'\r'] => front,
-        _ => line,
-    }
 }

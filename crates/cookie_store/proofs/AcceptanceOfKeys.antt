@@ -13,7 +13,7 @@ use Rattle.cookie_store.specs.Acceptance.{Outcome, by_scheme, is_listed, by_list
 use Rattle.cookie_store.proofs.RowsOfKeys.{KeepsPlaces, passing, row_of-passing, rows_by-passing, rows_by-other}
 
 -- the cookie has the key, if there is one
-abbrev HasKey : Key → Result Row CookieError → Type 0
+abbrev pub HasKey : Key → Result Row CookieError → Type 0
 HasKey key (Ok cookie) = key_of cookie ≡ key
 HasKey key (Err refusal) = Unit {0}
 
@@ -38,7 +38,7 @@ by_domain-HasKey key url cookie same =
     cond_both (domain_matches cookie.domain url) (Ok cookie) (Err DomainMismatch) (HasKey key) (λ _. same) (λ _. tt)
 
 -- a cookie that may enter has the key that it came with
-admitted-HasKey : (suffixes : Option RuleList) (url : Parts) (cookie : Row) → HasKey (key_of cookie) (admitted suffixes url cookie)
+pub admitted-HasKey : (suffixes : Option RuleList) (url : Parts) (cookie : Row) → HasKey (key_of cookie) (admitted suffixes url cookie)
 admitted-HasKey suffixes url cookie =
     let key = key_of cookie in
     and_then-HasKey key (and_then (by_scheme url cookie) (by_list suffixes url)) (by_domain url)

@@ -10,11 +10,11 @@ use Rattle.cookie_psl.specs.Rules.{RuleList}
 use Rattle.cookie_parts.specs.Cookie.{Row}
 use Rattle.cookie_parts.specs.Domain.{DomainValue, HostOnly, Suffix, NotPresent, Empty, domain_text, is_for_host}
 use Rattle.cookie_parts.specs.Hosts.{host_of, passes}
-use Rattle.cookie_parts.proofs.Affixes.{Decides-ends_with}
 use Rattle.cookie_store.specs.Given.{given, is_given}
 use Rattle.cookie_store.specs.Rows.{Key, key_of, in_domain, in_group, after_last}
 use Rattle.cookie_store.specs.Runs.{Call, replies, rows_after}
 use Rattle.cookie_store.specs.Related.{after_dots, is_related, passes_or_none, concerns, left, replies_to}
+use Rattle.cookie_store.proofs.CoveredHosts.{front-ends_with}
 use Rattle.cookie_store.proofs.Filtered.{filter-within, list_any-kept, after_last-kept}
 use Rattle.cookie_store.proofs.RowsOfKeys.{KeepsPlaces, passing, cond_alike}
 use Rattle.cookie_store.proofs.RunsOfKeys.{IsOfKeys, same_rows, same_replies}
@@ -63,7 +63,7 @@ after_dots-has domain (b ∷ front) =
 -- a domain that covers a host is the host, or follows one of its dots
 below-related : (domain host : List ℕ) → ends_with nat_eq host (46 ∷ domain) ≡ true → list_any (bytes_eq domain) (after_dots host) ≡ true
 below-related domain host below =
-    let split = (Decides-ends_with host (46 ∷ domain)).0 below in
+    let split = front-ends_with host (46 ∷ domain) below in
     subst (λ text. list_any (bytes_eq domain) (after_dots text) ≡ true) (sym split.1) (after_dots-has domain split.0)
 
 -- a cookie for a host has such a domain

@@ -1,5 +1,5 @@
 -- What a store does with a cookie that came from a URL, after RFC 6265 5.3.
-use Rattle.std.specs.Prelude.{Bool, not, ◌&&◌, List, Option, Result, Ok, Err, is_some, ⊤, if◌then◌else◌}
+use Rattle.std.specs.Prelude.{◌≡◌, Bool, not, ◌&&◌, List, Option, Result, Ok, Err, is_some, ⊤, ◌⊎◌, if◌then◌else◌}
 use Rattle.url.specs.Parts.{Parts}
 use Rattle.cookie_words.specs.Moments.{Moment}
 use Rattle.cookie_psl.specs.Rules.{RuleList}
@@ -80,6 +80,10 @@ accept suffixes rows cookie url now = entered (admitted suffixes url cookie) url
 abbrev pub received : Option RuleList → List Row → Result Row CookieError → Parts → Moment → Outcome
 received suffixes rows (Err refusal) url now = record { reply = Err refusal; rows = rows }
 received suffixes rows (Ok cookie) url now = accept suffixes rows cookie url now
+
+-- a cookie was put
+abbrev pub IsPut : Result StoreAction CookieError → Type 0
+IsPut reply = (reply ≡ Ok Inserted) ⊎ (reply ≡ Ok UpdatedExisting)
 
 -- why an insertion may be refused
 abbrev pub MayRefuse : CookieError → Type 0

@@ -1,9 +1,13 @@
 pub mod Acceptance
 pub mod Building
 pub mod CallViews
+pub mod Confinement
 pub mod Contents
 pub mod Given
+pub mod Loading
 pub mod Places
 pub mod Related
+pub mod Responses
 pub mod Rows
 pub mod Runs
+pub mod Saving

@@ -34,8 +34,8 @@ pub(crate) fn build<I: Iterator<Item = Result<Cookie<'static>, Error>> + Drop>(
     Ok(built)
 }
 
-// Puts one more cookie, unless it has ended and is to be passed over.
-fn take(
+/// Puts one more cookie, unless it has ended and is to be passed over.
+pub(crate) fn take(
     rows: &mut Vec<Cookie<'static>>,
     cookie: Cookie<'static>,
     include_expired: bool,

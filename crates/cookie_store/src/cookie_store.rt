@@ -1,5 +1,7 @@
 //! The store.
-ghost use Rattle.std.specs.Prelude.{◌≡◌, ◌≢◌, [], is_some, map, Err, None, Ok, Some, IfErr, IfOk, IsTrue, OnErr, OnOk, ◌⊎◌};
+ghost use Rattle.std.specs.Prelude.{◌≡◌, ◌≢◌, ◌+◌, ◌-◌, ◌^◌, ◌<◌, [], ◌∷◌, false, is_some, map, true, Err, None, Ok, Some, IfErr, IfOk, IsTrue, OnErr, OnOk, ◌⊎◌};
+ghost use Rattle.std.specs.Fn.{FnReturnsAt};
+ghost use Rattle.std.specs.Io.KnownBytes.{IsAtEnd};
 ghost use Rattle.std.specs.Iterator.{IsFinite};
 ghost use Rattle.std.specs.Option.{option_copied};
 ghost use Rattle.cookie_words.specs.Moments.{moment_of};
@@ -10,20 +12,28 @@ ghost use Rattle.cookie_store.specs.Acceptance.{received, MayRefuse};
 ghost use Rattle.cookie_store.specs.Building.{Builds, FailsFirst};
 ghost use Rattle.cookie_store.specs.CallViews.{call_view, name_and_value, reply_view, MayWant, StopsAfter};
 ghost use Rattle.cookie_store.specs.Given.{given};
-ghost use Rattle.cookie_store.specs.Rows.{are_rows, if_live, key_at, live_rows, row_of};
+ghost use Rattle.cookie_store.specs.Loading.{BuildsFrom, RefusesText};
+ghost use Rattle.cookie_store.specs.Responses.{TakesAll, TakesSome};
+ghost use Rattle.cookie_store.specs.Rows.{are_rows, if_live, included, key_at, live_rows, put_all, row_of};
 ghost use Rattle.cookie_store.specs.Runs.{replies, rows_after, step, Clear, Insert, IsReply, Remove, Removed, Set, Stored, UnlessMemory};
+ghost use Rattle.cookie_store.specs.Saving.{saved_rows, StopsAtRow, StopsWithinRow, WritesRows};
 
-use crate::building::build;
+use crate::building::{build, take};
 use crate::call::{Call, Reply, Stopped, stored};
 use crate::insertion::{accept, owned_cookie, owned_raw_cookie};
 use crate::iter::{IterAny, IterUnexpired};
+use crate::loading::load_store;
 use crate::matching::given;
 use crate::request::{RequestCookies, RequestValues};
+use crate::response::{log_arrival, log_refusal};
 use crate::rows;
-use cookie_parts::{Cookie, CookieError, Error, StoreAction};
+use crate::saving::{save_all, save_persistent};
+use cookie_device::{Sink, Source};
+use cookie_parts::{Cookie, CookieError, Error, StoreAction, StoreResult};
 use cookie_psl::List;
 use cookie_raw::RawCookie;
 use jiff::civil::DateTime;
+use log::Log;
 use std::alloc::{AllocError, Global};
 use std::marker::Model;
 use url::Url;
@@ -173,6 +183,32 @@ impl CookieStore {
         self.insert(cookie, url, now)
     }
 
+    /// Takes the cookies of a response that came from the URL at the moment, one after the other, as
+    /// [`insert_raw`](Self::insert_raw) takes them. The logger is told of each, at the level debug, of a secure one only its
+    /// name, and why one is refused, which is passed over. Where memory runs out, the cookies before stand.
+    pub fn store_response_cookies<L: Log, I: Iterator<Item = RawCookie<'static>> + Drop>(
+        &mut self,
+        logger: &L,
+        cookies: I,
+        url: &Url,
+        now: DateTime,
+    ) -> Result<(), AllocError>
+        requires can { I.can_next cookies }
+        requires ends { IsFinite (I.remaining cookies) }
+        ensures taken { OnOk result (TakesAll I.next_gives cookies url.now (moment_of now) self.old self.new) }
+        ensures stopped { OnErr result (TakesSome I.next_gives cookies url.now (moment_of now) self.old self.new) }
+    {
+        for raw in cookies {
+            log_arrival(logger, &raw);
+            match self.insert_raw(&raw, url, now) {
+                Ok(_) => {}
+                Err(CookieError::Memory) => return Err(AllocError),
+                Err(refusal) => log_refusal(logger, refusal),
+            }
+        }
+        Ok(())
+    }
+
     /// The stored cookie of this domain, path and name, whether it has ended or not.
     pub fn get_any(&self, domain: &str, path: &str, name: &str) -> Option<&Cookie<'static>>
         ensures { option_copied result
@@ -278,6 +314,110 @@ impl CookieStore {
         ensures { IfOk result (λ cookies. cookies ≡ map (λ c. c.raw) (given url.now (moment_of now) self.now.rows)) }
     {
         Ok(RequestCookies::new(self.matches(url, now)?))
+    }
+
+    /// Writes, for each cookie that has not ended by the moment and ends at one, what the function says of it and a line
+    /// feed, in the store's order. The first error that the function answers, or `Io` where the writer failed, ends this;
+    /// the lines of the cookies before are written then. It takes no memory.
+    pub fn save<W: Sink, F: Fn(&Cookie<'_>) -> Result<String, Error>>(
+        &self,
+        writer: &mut W,
+        cookie_to_string: F,
+        now: DateTime,
+    ) -> StoreResult<()>
+        requires callable { F.IsAlwaysCallable cookie_to_string }
+        requires writable { W.failed writer.old < 2 ^ 64 - 1 }
+        ensures whole { OnOk result (WritesRows (FnReturnsAt F.Fn cookie_to_string)
+            (saved_rows (moment_of now) self.now.rows) (W.contents writer.old) (W.contents writer.new)) }
+        ensures count { OnOk result (W.failed writer.new ≡ W.failed writer.old) }
+        ensures stopped { IfErr result (λ error.
+            (StopsAtRow (FnReturnsAt F.Fn cookie_to_string) error (saved_rows (moment_of now) self.now.rows)
+            (W.contents writer.old) (W.contents writer.new) × (W.failed writer.new ≡ W.failed writer.old))
+            ⊎ (StopsWithinRow (FnReturnsAt F.Fn cookie_to_string) (saved_rows (moment_of now) self.now.rows)
+            (W.contents writer.old) (W.contents writer.new)
+            × (error ≡ Error.Io) × (W.failed writer.new ≡ W.failed writer.old + 1))) }
+    {
+        save_persistent(self.rows.as_slice(), writer, cookie_to_string, now)
+    }
+
+    /// The same of all cookies, also those that have ended and those that end with the session.
+    pub fn save_incl_expired_and_nonpersistent<
+        W: Sink,
+        F: Fn(&Cookie<'_>) -> Result<String, Error>,
+    >(&self, writer: &mut W, cookie_to_string: F) -> StoreResult<()>
+        requires callable { F.IsAlwaysCallable cookie_to_string }
+        requires writable { W.failed writer.old < 2 ^ 64 - 1 }
+        ensures whole { OnOk result (WritesRows (FnReturnsAt F.Fn cookie_to_string) self.now.rows
+            (W.contents writer.old) (W.contents writer.new)) }
+        ensures count { OnOk result (W.failed writer.new ≡ W.failed writer.old) }
+        ensures stopped { IfErr result (λ error.
+            (StopsAtRow (FnReturnsAt F.Fn cookie_to_string) error self.now.rows
+            (W.contents writer.old) (W.contents writer.new) × (W.failed writer.new ≡ W.failed writer.old))
+            ⊎ (StopsWithinRow (FnReturnsAt F.Fn cookie_to_string) self.now.rows
+            (W.contents writer.old) (W.contents writer.new)
+            × (error ≡ Error.Io) × (W.failed writer.new ≡ W.failed writer.old + 1))) }
+    {
+        save_all(self.rows.as_slice(), writer, cookie_to_string)
+    }
+
+    /// A store of the cookies that the function makes of the reader's lines, each in the place of an earlier one of its
+    /// domain, path and name, without a public suffix list. Those that have ended are passed over. A line ends with a line
+    /// feed, of which a carriage return before is a part, and the last line may go without. Answers `Io` where the reader
+    /// failed, `NotUtf8` at a line that is no UTF-8, the first error that the function answers, or `Memory`.
+    pub fn load<R: Source, F: Fn(&str) -> Result<Cookie<'_>, Error>>(
+        alloc: Global,
+        reader: &mut R,
+        cookie_from_str: F,
+        now: DateTime,
+    ) -> StoreResult<CookieStore>
+        requires callable { F.IsAlwaysCallable cookie_from_str }
+        requires readable { R.failed reader.old < 2 ^ 64 - 1 }
+        ensures built { IfOk result (λ store. BuildsFrom (FnReturnsAt F.Fn cookie_from_str) (R.remaining reader.old)
+            false (moment_of now) store.rows) }
+        ensures suffixes { IfOk result (λ store. store.suffixes ≡ None) }
+        ensures read { OnOk result (IsAtEnd (R.remaining reader.new) × (R.failed reader.new ≡ R.failed reader.old)) }
+        ensures failed { IfErr result (λ error.
+            ((error ≡ Error.Io) × (R.failed reader.new ≡ R.failed reader.old + 1))
+            ⊎ ((R.failed reader.new ≡ R.failed reader.old)
+            × ((error ≡ Error.Memory) ⊎ RefusesText (FnReturnsAt F.Fn cookie_from_str) error (R.remaining reader.old)))) }
+    {
+        load_store(alloc, reader, cookie_from_str, false, now)
+    }
+
+    /// The same, where cookies that have ended are kept. The moment is not looked at.
+    pub fn load_all<R: Source, F: Fn(&str) -> Result<Cookie<'_>, Error>>(
+        alloc: Global,
+        reader: &mut R,
+        cookie_from_str: F,
+        now: DateTime,
+    ) -> StoreResult<CookieStore>
+        requires callable { F.IsAlwaysCallable cookie_from_str }
+        requires readable { R.failed reader.old < 2 ^ 64 - 1 }
+        ensures built { IfOk result (λ store. BuildsFrom (FnReturnsAt F.Fn cookie_from_str) (R.remaining reader.old)
+            true (moment_of now) store.rows) }
+        ensures suffixes { IfOk result (λ store. store.suffixes ≡ None) }
+        ensures read { OnOk result (IsAtEnd (R.remaining reader.new) × (R.failed reader.new ≡ R.failed reader.old)) }
+        ensures failed { IfErr result (λ error.
+            ((error ≡ Error.Io) × (R.failed reader.new ≡ R.failed reader.old + 1))
+            ⊎ ((R.failed reader.new ≡ R.failed reader.old)
+            × ((error ≡ Error.Memory) ⊎ RefusesText (FnReturnsAt F.Fn cookie_from_str) error (R.remaining reader.old)))) }
+    {
+        load_store(alloc, reader, cookie_from_str, true, now)
+    }
+
+    /// Puts a cookie, unless it has ended and is to be passed over.
+    pub(crate) fn put(
+        &mut self,
+        cookie: Cookie<'_>,
+        include_expired: bool,
+        now: DateTime,
+    ) -> Result<(), AllocError>
+        ensures { OnOk result (self.new ≡ record self.old {
+          rows = put_all self.old.rows (included include_expired (moment_of now) (cookie.entry ∷ []));
+        }) }
+    {
+        let cookie = cookie.into_owned(self.alloc)?;
+        take(&mut self.rows, cookie, include_expired, now)
     }
 
     /// Does what a call asks. Want of memory leaves the store as it was; `Remove` and `Clear` want none, and `Insert` only where

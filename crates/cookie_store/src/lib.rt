@@ -8,16 +8,19 @@ pub mod device;
 mod insertion;
 mod iter;
 pub mod laws;
+mod loading;
 mod matching;
 mod request;
+mod response;
 mod rows;
+mod saving;
 #[cfg(test)]
 mod tests;
 
 pub use call::{Call, Reply, Stopped};
 pub use cookie_parts::{
     Cookie, CookieDomain, CookieError, CookieExpiration, CookiePath, CookieResult, Error,
-    IdnaErrors, StoreAction, cookie_domain, cookie_path, utils,
+    IdnaErrors, StoreAction, StoreResult, cookie_domain, cookie_path, utils,
 };
 pub use cookie_psl as psl;
 pub use cookie_raw as raw;

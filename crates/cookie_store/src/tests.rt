@@ -7,8 +7,12 @@ use url::Url;
 
 mod built;
 mod calls;
+mod fakes;
 mod growths;
+mod loaded;
+mod responses;
 mod rows;
+mod saved;
 mod suffixes;
 
 // A URL, a text that comes from it, and the reply.

@@ -7,7 +7,7 @@ use std::test::Fail;
 use url::Url;
 
 // A URL, and the text of a cookie that came from it.
-type Came = (&'static str, &'static str);
+pub(super) type Came = (&'static str, &'static str);
 
 type Item = Result<Cookie<'static>, Error>;
 

@@ -1,10 +1,16 @@
 //! Each call that takes memory answers as it does with ample memory, or says that memory is wanting.
 use super::built::items;
 use super::calls::{Asked, CALLS, all_calls, are_told, call};
+use super::loaded::cookie_of;
+use super::responses::raw_cookies;
 use super::rows::{all_listed, store_under_com};
+use super::saved::{LASTING, store_of};
 use super::{given, header, new_year};
+use crate::device::{Counted, Source};
 use crate::{Cookie, CookieError, CookieStore, Error, InsertResult, RawCookie, Reply, StoreAction};
+use log::sink::Discard;
 use std::alloc::{AllocError, Global};
+use std::io::Cursor;
 use std::process::Abort;
 use std::test::Fail;
 use url::Url;
@@ -313,4 +319,157 @@ fn apply_all(rt: HostRuntime) -> Result<(), Fail> {
         }
     };
     are_told(&rt, rt.alloc(), &store, &CALLS, replies.as_slice())
+}
+
+// The texts of a response, of which one is refused, and what the store of four rows gives after none of them, one, two ..
+const RESPONSE: [&str; 4] = [
+    "t=1",
+    "s=1; Max-Age=0",
+    "y=2; Domain=example.com; Path=/",
+    "w=1; Domain=b.example.com; Path=/",
+];
+
+const AFTER: [&str; 5] = [
+    GIVEN,
+    "x=1; z=1; y=1; u=1; t=1",
+    "x=1; z=1; y=1; u=1; t=1",
+    "x=1; z=1; y=2; u=1; t=1",
+    "x=1; w=1; z=1; y=2; u=1; t=1",
+];
+
+// The store gives what it must after so many cookies.
+fn gives_after(
+    rt: &impl Abort,
+    alloc: Global,
+    store: &CookieStore,
+    count: usize,
+    after: &[&'static str],
+) -> Result<(), Fail> {
+    let Some(wanted) = after.get(count) else {
+        return Err(Fail::from("more cookies were taken than came"));
+    };
+    let header = given(alloc, store, FROM, new_year())?;
+    assert_eq!(rt; header.as_str(), *wanted, "after {count} cookies");
+    Ok(())
+}
+
+// The cookies stand that came before the one for which memory was wanting.
+#[test]
+fn store_response_cookies(rt: HostRuntime) -> Result<(), Fail> {
+    let url = Url::parse(rt.alloc(), FROM)?;
+    let mut store = store_of_rows(rt.alloc(), &url)?;
+    let mut cookies = raw_cookies(rt.alloc(), &RESPONSE)?.into_iter();
+    let _start: Vec<u8> = Vec::with_capacity(rt.alloc(), START)?;
+    let outcome = store.store_response_cookies(&Discard, &mut cookies, &url, new_year());
+    let _end: Vec<u8> = Vec::with_capacity(rt.alloc(), END)?;
+    let came = RESPONSE.len().saturating_sub(cookies.len());
+    let stored = match outcome {
+        Ok(()) => came,
+        Err(AllocError) => came.saturating_sub(1),
+    };
+    assert!(rt;
+        stored == RESPONSE.len() || outcome.is_err(),
+        "{stored} cookies"
+    );
+    gives_after(&rt, rt.alloc(), &store, stored, &AFTER)
+}
+
+// The name of a row, or an empty text where memory is wanting.
+fn name_or_none(alloc: Global, row: &Cookie<'_>) -> Result<String, Error> {
+    match String::from_str(alloc, row.name()) {
+        Ok(name) => Ok(name),
+        Err(AllocError) => Ok(String::new(alloc)),
+    }
+}
+
+fn line_feeds(text: &[u8]) -> usize {
+    text.iter().filter(|b| **b == b'\n').count()
+}
+
+// The memory that is wanting is what the function asks for, which does without.
+#[test]
+fn save(rt: HostRuntime) -> Result<(), Fail> {
+    let alloc = rt.alloc();
+    let store = store_of(alloc, &LASTING)?;
+    let mut writer = Counted::new(Cursor::new([0; 16]));
+    let _start: Vec<u8> = Vec::with_capacity(alloc, START)?;
+    let outcome = store.save(&mut writer, |row| name_or_none(alloc, row), new_year());
+    let _end: Vec<u8> = Vec::with_capacity(alloc, END)?;
+    outcome?;
+    let written = writer.into_inner().into_inner();
+    assert_eq!(rt; line_feeds(&written), LASTING.len());
+    Ok(())
+}
+
+#[test]
+fn save_incl_expired_and_nonpersistent(rt: HostRuntime) -> Result<(), Fail> {
+    let alloc = rt.alloc();
+    let store = store_of(alloc, &LASTING)?;
+    let mut writer = Counted::new(Cursor::new([0; 16]));
+    let _start: Vec<u8> = Vec::with_capacity(alloc, START)?;
+    let outcome = store.save_incl_expired_and_nonpersistent(
+        &mut writer,
+        |row| name_or_none(alloc, row),
+    );
+    let _end: Vec<u8> = Vec::with_capacity(alloc, END)?;
+    outcome?;
+    let written = writer.into_inner().into_inner();
+    assert_eq!(rt; line_feeds(&written), LASTING.len());
+    Ok(())
+}
+
+// The lines of the store of five rows.
+const LINES: &[u8] = b"x=1; Domain=b.example.com; Path=/\n\
+    z=1; Domain=b.example.com; Path=/p\n\
+    y=1; Domain=example.com; Path=/\n\
+    u=1; Domain=example.com; Path=/p\n\
+    t=1\n";
+
+// What the loaded store gives, or None where memory was wanting.
+fn loaded(alloc: Global, outcome: Result<CookieStore, Error>) -> Result<Option<String>, Fail> {
+    match outcome {
+        Ok(store) => Ok(Some(given(alloc, &store, FROM, new_year())?)),
+        Err(Error::Memory) => Ok(None),
+        Err(error) => Err(Fail::from(error)),
+    }
+}
+
+#[test]
+fn load(rt: HostRuntime) -> Result<(), Fail> {
+    let alloc = rt.alloc();
+    let url = &Url::parse(alloc, FROM)?;
+    let mut reader = Counted::new(LINES);
+    let _start: Vec<u8> = Vec::with_capacity(alloc, START)?;
+    let outcome = CookieStore::load(
+        alloc,
+        &mut reader,
+        move |line| cookie_of(alloc, line, url),
+        new_year(),
+    );
+    let _end: Vec<u8> = Vec::with_capacity(alloc, END)?;
+    assert_eq!(rt; reader.failures(), 0);
+    if let Some(header) = loaded(alloc, outcome)? {
+        assert_eq!(rt; header.as_str(), GIVEN_OF_FIVE);
+    }
+    Ok(())
+}
+
+#[test]
+fn load_all(rt: HostRuntime) -> Result<(), Fail> {
+    let alloc = rt.alloc();
+    let url = &Url::parse(alloc, FROM)?;
+    let mut reader = Counted::new(LINES);
+    let _start: Vec<u8> = Vec::with_capacity(alloc, START)?;
+    let outcome = CookieStore::load_all(
+        alloc,
+        &mut reader,
+        move |line| cookie_of(alloc, line, url),
+        new_year(),
+    );
+    let _end: Vec<u8> = Vec::with_capacity(alloc, END)?;
+    assert_eq!(rt; reader.failures(), 0);
+    if let Some(header) = loaded(alloc, outcome)? {
+        assert_eq!(rt; header.as_str(), GIVEN_OF_FIVE);
+    }
+    Ok(())
 }

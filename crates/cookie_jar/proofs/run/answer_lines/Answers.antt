@@ -1,9 +1,9 @@
-use Rattle.std.proofs.Common.{◌≡◌, ◌≢◌, ◌∙◌, [], eqb, eq-eqb, length, None, position, take, sym, ap, refl}
-use Rattle.std.specs.Str.Lines.{strip_carriage_return}
+use Rattle.std.proofs.Common.{◌≡◌, ◌≢◌, ◌∙◌, [], eq-eqb, length, subst, sym, ap, refl}
 use Rattle.std.proofs.lemmas.Bool.{eqb-true, false≢true}
 use Rattle.std.proofs.lemmas.Option.{IfSome_then}
 use Rattle.std.proofs.lemmas.Result.{err_from_is_err_and, on_ok_weaker}
 use Rattle.cookie_device.specs.Device.{Sends}
+use Rattle.cookie_device.specs.Lines.{IsLastLine}
 use Rattle.cookie_jar.specs.Script.{output_of}
 use Rattle.cookie_jar.proofs.Progress.{begun, answered, flushed, read_ahead, finished, last_answered, last_part, line_part, flush_part, part_so_far, out_of_memory}
 use Rattle.cookie_jar.proofs.Sending.{nothing_put}
@@ -18,9 +18,8 @@ lines-init g c = record {
 
 pub returns-in_err-answer-clause-part : goal.returns-in_err-answer-clause-part
 returns-in_err-answer-clause-part g c =
-    let line : c.without_return.result.now ≡ strip_carriage_return (take c.in-Some.end c.lines.input) = c.without_return.ensures ∙ ap strip_carriage_return c.front.ensures in
     IfSome_then (g.R.Source.remaining c.args.source.now) c.lines.invariant.progress
-    (λ input p. line_part (output_of c.args.list input) _ _ _ _ _ _ _ _ _ c.in-Some.end p (sym c.in-Some.ensures.first) line c.in_err-answer.ensures.part)
+    (λ input p. line_part (output_of c.args.list input) _ _ _ _ _ _ _ _ _ c.in-Some.end p c.in-Some.ensures.line c.line.ensures c.in_err-answer.ensures.part)
 
 pub returns-in_err-answer-clause-memory : goal.returns-in_err-answer-clause-memory
 returns-in_err-answer-clause-memory g c =
@@ -33,14 +32,13 @@ returns-in_err-answer-clause-memory g c =
 
 pub lines-preserved-in-Some : goal.lines-preserved-in-Some
 lines-preserved-in-Some g c =
-    let line : c.without_return.result.now ≡ strip_carriage_return (take c.in-Some.end c.lines.input) = c.without_return.ensures ∙ ap strip_carriage_return c.front.ensures in
     record {
       reads = c.lines.invariant.reads;
       writes = c.in_ok-answer.ensures.count ∙ c.lines.invariant.writes;
       progress =
           rw (c.pass.ensures, c.in_ok-answer.ensures.state)
           (IfSome_then (g.R.Source.remaining c.args.source.now) c.lines.invariant.progress
-          (λ input p. answered (output_of c.args.list input) _ _ _ _ _ _ _ _ _ _ c.in-Some.end p (sym c.in-Some.ensures.first) line c.in_ok-answer.ensures.whole));
+          (λ input p. answered (output_of c.args.list input) _ _ _ _ _ _ _ _ _ _ c.in-Some.end p c.in-Some.ensures.line c.line.ensures c.in_ok-answer.ensures.whole));
     }
 
 pub returns-in_err-flush-clause-part : goal.returns-in_err-flush-clause-part
@@ -75,14 +73,14 @@ lines-preserved g c = record {
 pub returns-then-is_empty-clause-whole : goal.returns-then-is_empty-clause-whole
 returns-then-is_empty-clause-whole g c =
     let end = c.in_ok-fill.ensures.end c.if-not-branch.true in
-    let none : position (λ b. eqb b 10) c.fill.new.self ≡ None = ap (position (λ b. eqb b 10)) end.0 ∙ sym c.line_end.ensures.first ∙ c.in_default.is in
+    let one : IsLastLine c.fill.new.self = subst IsLastLine (sym end.0) (c.line_end.ensures.last c.in_default.is) in
     let empty : length c.fill.new.self ≡ 0 = ap length (sym c.rest.ensures) ∙ eqb-true (length c.rest.result.now) 0 (sym c.if-is_empty.ensures) in
     IfSome_then (g.R.Source.remaining c.args.source.now) c.lines.invariant.progress
     (λ input p.
     finished (output_of c.args.list input) c.fill.new.self _ _ _ _ _ _
     (read_ahead (output_of c.args.list input) _ _ _ _ _ _ _ _ _
     (flushed (output_of c.args.list input) _ _ _ _ _ _ _ _ _ p c.in_ok-flush.ensures.whole c.in_ok-flush.ensures.empty) c.in_ok-fill.ensures.bytes)
-    end.1 none empty)
+    end.1 one empty)
 
 pub returns-then-is_empty-clause-part : goal.returns-then-is_empty-clause-part
 returns-then-is_empty-clause-part g c =
@@ -92,7 +90,7 @@ returns-then-is_empty-clause-part g c =
 pub returns-clause-whole : goal.returns-clause-whole
 returns-clause-whole g c =
     let end = c.in_ok-fill.ensures.end c.if-not-branch.true in
-    let none : position (λ b. eqb b 10) c.fill.new.self ≡ None = ap (position (λ b. eqb b 10)) end.0 ∙ sym c.line_end.ensures.first ∙ c.in_default.is in
+    let one : IsLastLine c.fill.new.self = subst IsLastLine (sym end.0) (c.line_end.ensures.last c.in_default.is) in
     let some : length c.fill.new.self ≢ 0 = λ e. false≢true (c.if-is_empty.ensures ∙ eq-eqb (length c.rest.result.now) 0 (ap length c.rest.ensures ∙ e)) in
     let answer = rw c.rest-2.ensures at c.answer-2.ensures.whole in
     on_ok_weaker c.answer-2.result
@@ -102,13 +100,13 @@ returns-clause-whole g c =
     last_answered (output_of c.args.list input) c.fill.new.self _ _ _ _ _ _ _ _
     (read_ahead (output_of c.args.list input) _ _ _ _ _ _ _ _ _
     (flushed (output_of c.args.list input) _ _ _ _ _ _ _ _ _ p c.in_ok-flush.ensures.whole c.in_ok-flush.ensures.empty) c.in_ok-fill.ensures.bytes)
-    end.1 none some whole))
+    end.1 one some whole))
     answer
 
 pub returns-clause-part : goal.returns-clause-part
 returns-clause-part g c =
     let end = c.in_ok-fill.ensures.end c.if-not-branch.true in
-    let none : position (λ b. eqb b 10) c.fill.new.self ≡ None = ap (position (λ b. eqb b 10)) end.0 ∙ sym c.line_end.ensures.first ∙ c.in_default.is in
+    let one : IsLastLine c.fill.new.self = subst IsLastLine (sym end.0) (c.line_end.ensures.last c.in_default.is) in
     let some : length c.fill.new.self ≢ 0 = λ e. false≢true (c.if-is_empty.ensures ∙ eq-eqb (length c.rest.result.now) 0 (ap length c.rest.ensures ∙ e)) in
     let part = rw c.rest-2.ensures at c.answer-2.ensures.part in
     IfSome_then (g.R.Source.remaining c.args.source.now) c.lines.invariant.progress
@@ -116,7 +114,7 @@ returns-clause-part g c =
     last_part (output_of c.args.list input) c.fill.new.self _ _ _ _ _ _ _
     (read_ahead (output_of c.args.list input) _ _ _ _ _ _ _ _ _
     (flushed (output_of c.args.list input) _ _ _ _ _ _ _ _ _ p c.in_ok-flush.ensures.whole c.in_ok-flush.ensures.empty) c.in_ok-fill.ensures.bytes)
-    end.1 none some part)
+    end.1 one some part)
 
 pub returns-clause-memory : goal.returns-clause-memory
 returns-clause-memory g c =

@@ -1,0 +1,94 @@
+use Rattle.std.proofs.Common.{◌∙◌, [], ◌∷◌, ◌++◌, IfSome, ap, refl, inr}
+use Rattle.std.specs.Fn.{FnReturnsAt}
+use Rattle.std.proofs.lemmas.Option.{IfSome_then}
+use Rattle.std.proofs.lemmas.Result.{err_from_is_err_and}
+use Rattle.cookie_words.specs.Moments.{moment_of}
+use Rattle.cookie_store.specs.Contents.{Contents}
+use Rattle.cookie_store.proofs.LoadedLines.{Ended, ended, begun, built_none, passed, next_comes, last_comes, refused_text, finished, last_made, taken_built}
+use Rattle.cookie_store.proofs.loading.load_store.Goals as goal
+use Rattle.cookie_store.proofs.loading.load_store.Goals.{then-not-is_empty+in_ok-take_line-2, else-not-is_empty}
+
+pub lines-init : goal.lines-init
+lines-init g c = record {
+  reads = refl;
+  suffixes = ap (λ (store : Contents). store.suffixes) c.new-store.ensures;
+  loaded = (
+    [],
+    ap (λ (store : Contents). store.rows) c.new-store.ensures ∙ built_none c.args.include_expired (moment_of c.args.now),
+    rw c.new-input.ensures (begun (FnReturnsAt g.F.Fn c.args.cookie_of) (g.R.Source.remaining c.args.source.now)),
+  );
+}
+
+pub returns-in_err-take_line-clause-failed : goal.returns-in_err-take_line-clause-failed
+returns-in_err-take_line-clause-failed g c =
+    let p = err_from_is_err_and c.from_residual.result c.from_residual.ensures.1 in
+    let (cookies, are_built, known) = c.lines.invariant.loaded in
+    let makes = FnReturnsAt g.F.Fn c.args.cookie_of in
+    rw (p.1, p.2)
+    (inr (
+      c.lines.invariant.reads,
+      refused_text makes _ c.line.result.now (g.R.Source.remaining c.args.source.now)
+          (IfSome_then (g.R.Source.remaining c.args.source.now) known
+          (λ text l. next_comes makes text _ _ _ cookies c.in-Some.end l c.in-Some.ensures.line c.line.ensures))
+          c.in_err-take_line.ensures.refused,
+    ))
+
+pub lines-preserved-in-Some : goal.lines-preserved-in-Some
+lines-preserved-in-Some g c =
+    let (cookies, are_built, known) = c.lines.invariant.loaded in
+    let makes = FnReturnsAt g.F.Fn c.args.cookie_of in
+    let (cookie, makes_it, built_now) = taken_built makes _ _ _ _ _ cookies c.in_ok-take_line.ensures.taken are_built in
+    record {
+      reads = c.lines.invariant.reads;
+      suffixes = c.in_ok-take_line.ensures.suffixes ∙ c.lines.invariant.suffixes;
+      loaded = (
+        cookies ++ cookie ∷ [],
+        built_now,
+        IfSome_then (g.R.Source.remaining c.args.source.now) known
+            (λ text l. passed makes text _ _ _ _ cookies cookie c.in-Some.end l c.in-Some.ensures.line c.line.ensures c.pass.ensures makes_it),
+      );
+    }
+
+pub returns-in_err-take_line-2-clause-failed : goal.returns-in_err-take_line-2-clause-failed
+returns-in_err-take_line-2-clause-failed g c =
+    let p = err_from_is_err_and c.from_residual-in_err-take_line-2.result c.from_residual-in_err-take_line-2.ensures.1 in
+    let (cookies, are_built, known) = c.lines.invariant.loaded in
+    let makes = FnReturnsAt g.F.Fn c.args.cookie_of in
+    let one = c.line_end.ensures.last c.in_default.is in
+    let end = c.in-Ok-false.ensures.end c.in-Ok-false.field-0-test in
+    let some = rw c.rest.ensures at c.if-not-is_empty.ensures in
+    let refuses = rw c.rest-then-not-is_empty.ensures at c.in_err-take_line-2.ensures.refused in
+    rw (p.1, p.2)
+    (inr (
+      c.in-Ok-false.ensures.count ∙ c.lines.invariant.reads,
+      refused_text makes _ c.fill.new.self (g.R.Source.remaining c.args.source.now)
+          (IfSome_then (g.R.Source.remaining c.args.source.now) known
+          (λ text l. last_comes makes text _ cookies (ended makes text _ _ _ _ cookies l c.in-Ok-false.ensures.bytes end one) some))
+          refuses,
+    ))
+
+pub returns-clause-built : goal.returns-clause-built
+returns-clause-built g c =
+    let (cookies, are_built, known) = c.lines.invariant.loaded in
+    let makes = FnReturnsAt g.F.Fn c.args.cookie_of in
+    let one = c.line_end.ensures.last c.in_default.is in
+    let end = c.in-Ok-false.ensures.end c.in-Ok-false.field-0-test in
+    let all : IfSome (g.R.Source.remaining c.args.source.now) (λ text. Ended makes text c.fill.new.self cookies)
+    = IfSome_then (g.R.Source.remaining c.args.source.now) known
+    (λ text l. ended makes text _ _ _ _ cookies l c.in-Ok-false.ensures.bytes end one) in
+    elim c.if-not-is_empty.branch [
+      | then-not-is_empty+in_ok-take_line-2 w ↦
+          let takes = rw w.rest-then-not-is_empty.ensures at w.in_ok-take_line-2.ensures.taken in
+          let (cookie, makes_it, built_now) = taken_built makes _ _ _ _ _ cookies takes are_built in
+          let some = rw c.rest.ensures at w.if-not-is_empty.ensures in (
+            cookies ++ cookie ∷ [],
+            ap (λ (store : Contents). store.rows) w.store-is ∙ built_now,
+            IfSome_then (g.R.Source.remaining c.args.source.now) all (λ text e. last_made makes text _ cookies cookie e some makes_it),
+          )
+      | else-not-is_empty w ↦
+          let empty = rw c.rest.ensures at w.if-not-is_empty.ensures in (
+            cookies,
+            ap (λ (store : Contents). store.rows) w.store-is ∙ are_built,
+            IfSome_then (g.R.Source.remaining c.args.source.now) all (λ text e. finished makes text _ cookies e empty),
+          )
+    ]

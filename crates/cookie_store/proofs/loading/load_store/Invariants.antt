@@ -1,0 +1,21 @@
+-- No read has failed, and of the lines passed cookies are made, from which the rows of the store are built.
+use Rattle.std.proofs.Common.{◌≡◌, ◌+◌, ◌*◌, List, None, IfSome, length}
+use Rattle.std.specs.Fn.{FnReturnsAt}
+use Rattle.cookie_words.specs.Moments.{moment_of}
+use Rattle.cookie_parts.specs.Cookie.{Row}
+use Rattle.cookie_store.specs.Rows.{built}
+use Rattle.cookie_store.proofs.LoadedLines.{Loaded}
+use Rattle.cookie_store.proofs.loading.load_store.Given as goal
+
+abbrev pub invariant-lines : goal.invariant-lines
+invariant-lines g l = record {
+  reads : g.R.Source.failed l.source ≡ g.R.Source.failed l.initial.source;
+  suffixes : l.store.suffixes ≡ None;
+  loaded : (cookies : List Row) × (l.store.rows ≡ built l.include_expired (moment_of l.now) cookies)
+      × IfSome (g.R.Source.remaining l.initial.source) (λ text.
+      Loaded (FnReturnsAt g.F.Fn l.cookie_of) text l.input (g.R.Source.remaining l.source) cookies);
+}
+
+-- a read brings at most 4,096 bytes
+abbrev pub decreases-lines : goal.decreases-lines
+decreases-lines g l = 4097 * g.R.Source.reads_left l.source + length l.input

@@ -1,0 +1,13 @@
+-- A line was written for each row so far that is saved, and no call has failed.
+use Rattle.std.proofs.Common.{◌≡◌, take}
+use Rattle.std.specs.Fn.{FnReturnsAt}
+use Rattle.cookie_words.specs.Moments.{moment_of}
+use Rattle.cookie_store.specs.Saving.{saved_rows, WritesRows}
+use Rattle.cookie_store.proofs.saving.save_persistent.Given as goal
+
+abbrev pub invariant-loop-row : goal.invariant-loop-row
+invariant-loop-row g l = record {
+  lines : WritesRows (FnReturnsAt g.F.Fn l.text_of) (saved_rows (moment_of l.now) (take l.row-index l.rows))
+      (g.W.Sink.contents l.initial.sink) (g.W.Sink.contents l.sink);
+  count : g.W.Sink.failed l.sink ≡ g.W.Sink.failed l.initial.sink;
+}

@@ -1,0 +1,41 @@
+-- Rows that are made of lines, through a function that may answer a cookie for a line, or an error.
+use Rattle.std.specs.Prelude.{◌≡◌, ℕ, Bool, false, List, [], ◌∷◌, ◌++◌, Option, Result, Ok, Err, IfSome, IsTrue, ◌⊎◌}
+use Rattle.std.specs.List.{AllZip}
+use Rattle.std.specs.Str.{is_utf8}
+use Rattle.std.specs.Str.Lines.{lines}
+use Rattle.cookie_words.specs.Moments.{Moment}
+use Rattle.cookie_parts.specs.Cookie.{Row}
+use Rattle.cookie_parts.specs.declared.error.Error.{Error}
+use Rattle.cookie_parts.specs.declared.error.Error.TheVariants.{NotUtf8}
+use Rattle.cookie_store.specs.Rows.{built, included, put_all}
+
+module _ (makes : List ℕ → Result Row Error → Type 0) where
+  -- the line is UTF-8, and the function may make this cookie of it
+  abbrev pub MakesCookie : List ℕ → Row → Type 0
+  MakesCookie line cookie = IsTrue (is_utf8 line) × makes line (Ok cookie)
+
+  -- the line is refused: it is no UTF-8, or the function refuses it
+  abbrev pub RefusesLine : Error → List ℕ → Type 0
+  RefusesLine error line = ((is_utf8 line ≡ false) × (error ≡ NotUtf8)) ⊎ (IsTrue (is_utf8 line) × makes line (Err error))
+
+  -- cookies that the function may make of these lines, one of each
+  abbrev pub AreCookies : List (List ℕ) → List Row → Type 0
+  AreCookies texts cookies = AllZip MakesCookie texts cookies
+
+  -- a line is refused, which is the first such line of the text, where that is known
+  abbrev pub RefusesText : Error → Option (List ℕ) → Type 0
+  RefusesText error known =
+      (line : List ℕ) × RefusesLine error line
+      × IfSome known (λ text. (before after : List (List ℕ)) × (cookies : List Row)
+      × (lines text ≡ before ++ line ∷ after) × AreCookies before cookies)
+
+  -- a cookie that the function may make of the line is put, unless it has ended and is to be passed over
+  abbrev pub TakesLine : List ℕ → Bool → Moment → List Row → List Row → Type 0
+  TakesLine line include_expired now old new =
+      (cookie : Row) × MakesCookie line cookie × (new ≡ put_all old (included include_expired now (cookie ∷ [])))
+
+  -- rows that are built from the cookies of the lines of a text, where that is known
+  abbrev pub BuildsFrom : Option (List ℕ) → Bool → Moment → List Row → Type 0
+  BuildsFrom known include_expired now rows =
+      (cookies : List Row) × (rows ≡ built include_expired now cookies)
+      × IfSome known (λ text. AreCookies (lines text) cookies)

@@ -1,0 +1,36 @@
+-- The cookies of a response.
+use Rattle.std.specs.Prelude.{◌≡◌, ℕ, ◌++◌, List, codes, Option, Some, if◌then◌else◌}
+use Rattle.std.specs.Iterator.{Drains, YieldsThen}
+use Rattle.std.specs.List.{fold}
+use Rattle.url.specs.Parts.{Parts}
+use Rattle.cookie_words.specs.Moments.{Moment}
+use Rattle.cookie_raw.specs.CookieText.{cookie_text}
+use Rattle.cookie_raw.specs.Raw.{Raw}
+use Rattle.cookie_psl.specs.Rules.{RuleList}
+use Rattle.cookie_parts.specs.Cookie.{Row, cookie_of, is_secure_only}
+use Rattle.cookie_store.specs.Acceptance.{received}
+use Rattle.cookie_store.specs.Contents.{Contents}
+
+-- the rows after raw cookies that came from the URL at the moment, one after the other; a refusal leaves the rows
+abbrev pub rows_after_response : Option RuleList → Parts → Moment → List Raw → List Row → List Row
+rows_after_response suffixes url now raws rows =
+    fold (λ before raw. (received suffixes before (cookie_of raw url now) url now).rows) rows raws
+
+-- the store took these raw cookies
+abbrev pub Takes : Parts → Moment → List Raw → Contents → Contents → Type 0
+Takes url now raws old new = new ≡ record old { rows = rows_after_response old.suffixes url now raws old.rows }
+
+-- it took all items
+abbrev pub TakesAll : {S : Type 0} → (S → Option Raw → S → Type 0) → S → Parts → Moment → Contents → Contents → Type 0
+TakesAll steps items url now old new = (raws : List Raw) × Drains steps items raws × Takes url now raws old new
+
+-- it took the items before one
+abbrev pub TakesSome : {S : Type 0} → (S → Option Raw → S → Type 0) → S → Parts → Moment → Contents → Contents → Type 0
+TakesSome {S} steps items url now old new =
+    (raws : List Raw) × (next : Raw) × (rest : S) × YieldsThen steps items raws (Some next) rest × Takes url now raws old new
+
+-- what is logged as a raw cookie comes: of a secure one the name alone
+abbrev pub arrival_text : Raw → List ℕ
+arrival_text raw =
+    if is_secure_only raw then codes "inserting secure cookie '" ++ raw.name ++ codes "'"
+    else codes "inserting Set-Cookie '" ++ cookie_text raw ++ codes "'"

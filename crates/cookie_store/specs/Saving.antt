@@ -1,0 +1,58 @@
+-- Rows that are saved as lines, through a function that may answer a text for a row, or an error.
+use Rattle.std.specs.Prelude.{◌≡◌, ℕ, Bool, ◌&&◌, List, [], ◌∷◌, ◌++◌, flat_map, filter, string_bytes, Option, Result, Ok, Err}
+use Rattle.std.specs.Io.KnownBytes.{Appends}
+use Rattle.std.specs.List.{AllZip}
+use Rattle.std.specs.declared.alloc.Global.{Global}
+use Rattle.std.specs.declared.string.String.{String}
+use Rattle.cookie_words.specs.Moments.{Moment}
+use Rattle.cookie_device.specs.Device.{AppendsBeginning}
+use Rattle.cookie_parts.specs.Cookie.{Row, is_persistent}
+use Rattle.cookie_parts.specs.declared.error.Error.{Error}
+use Rattle.cookie_store.specs.Rows.{is_live}
+
+-- the row has not ended by the moment, and ends at one
+abbrev pub is_saved : Moment → Row → Bool
+is_saved now row = is_live now row && is_persistent row.expires
+
+-- the rows that are saved at a moment
+abbrev pub saved_rows : Moment → List Row → List Row
+saved_rows now rows = filter (is_saved now) rows
+
+-- a text and a line feed
+abbrev pub line_text : String Global → List ℕ
+line_text text = string_bytes text ++ 10 ∷ []
+
+-- texts as lines
+abbrev pub lines_text : List (String Global) → List ℕ
+lines_text texts = flat_map line_text texts
+
+module _ (says : Row → Result (String Global) Error → Type 0) where
+  -- texts that the function may answer for these rows, one for each
+  abbrev pub AreTexts : List Row → List (String Global) → Type 0
+  AreTexts rows texts = AllZip (λ row text. says row (Ok text)) rows texts
+
+  -- a line was written for the row
+  abbrev pub WritesRow : Row → Option (List ℕ) → Option (List ℕ) → Type 0
+  WritesRow row old new = (text : String Global) × says row (Ok text) × Appends old new (line_text text)
+
+  -- a beginning of a line was written for the row
+  abbrev pub BeginsRow : Row → Option (List ℕ) → Option (List ℕ) → Type 0
+  BeginsRow row old new = (text : String Global) × says row (Ok text) × AppendsBeginning old new (line_text text)
+
+  -- a line was written for each row, in their order, and nothing else
+  abbrev pub WritesRows : List Row → Option (List ℕ) → Option (List ℕ) → Type 0
+  WritesRows rows old new = (texts : List (String Global)) × AreTexts rows texts × Appends old new (lines_text texts)
+
+  -- the function refused a row: the lines of the rows before it were written, and nothing of this one
+  abbrev pub StopsAtRow : Error → List Row → Option (List ℕ) → Option (List ℕ) → Type 0
+  StopsAtRow error rows old new =
+      (before : List Row) × (row : Row) × (after : List Row) × (rows ≡ before ++ row ∷ after)
+      × says row (Err error) × WritesRows before old new
+
+  -- the lines of the rows before one were written, and a beginning of its own
+  abbrev pub StopsWithinRow : List Row → Option (List ℕ) → Option (List ℕ) → Type 0
+  StopsWithinRow rows old new =
+      (before : List Row) × (row : Row) × (after : List Row) × (rows ≡ before ++ row ∷ after)
+      × (texts : List (String Global)) × AreTexts before texts
+      × (text : String Global) × says row (Ok text)
+      × (part : List ℕ) × (rest : List ℕ) × (line_text text ≡ part ++ rest) × Appends old new (lines_text texts ++ part)
