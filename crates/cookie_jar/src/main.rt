@@ -1,6 +1,7 @@
 //! The program `cookie_jar`: runs a script of cookies that come and of URLs that ask for them.
 //!
-//! Each line of standard input is `now MOMENT`, `set URL TEXT` or `get URL`; the answers go to standard output.
+//! Each line of standard input is `now MOMENT`, `set URL TEXT`, `get URL`, `list`, `remove DOMAIN PATH NAME` or `clear`; the
+//! answers go to standard output.
 //! With `--suffixes FILE` the store obeys the public suffix list of that file.
 #![tactic(auto)]
 
