@@ -1,5 +1,5 @@
 -- What contracts see of calls and replies, and of the pairs of a request.
-use Rattle.std.specs.Prelude.{◌≡◌, ℕ, List, take, length, map, Ok, string_bytes, ⊤}
+use Rattle.std.specs.Prelude.{◌≡◌, ℕ, List, take, length, map, slice_get, Some, Ok, ◌⊎◌, string_bytes, ⊤}
 use Rattle.std.specs.Borrow.{Bor}
 use Rattle.cookie_words.specs.Moments.{moment_of}
 use Rattle.cookie_parts.specs.Cookie.{Row}
@@ -7,7 +7,7 @@ use Rattle.cookie_parts.specs.declared.store_action.StoreAction.TheVariants.{Ins
 use Rattle.cookie_store.specs.Contents.{Contents}
 use Rattle.cookie_store.specs.Rows.{key_at}
 use Rattle.cookie_store.specs.Runs as Runs
-use Rattle.cookie_store.specs.Runs.{replies, rows_after}
+use Rattle.cookie_store.specs.Runs.{replies, rows_after, step}
 use Rattle.cookie_store.specs.declared.call as Declared
 use Rattle.cookie_store.specs.declared.call.Call.TheVariants.{Set, Insert, Remove, Clear}
 use Rattle.cookie_store.specs.declared.call.Reply.TheVariants.{Stored, Removed, Cleared}
@@ -36,6 +36,12 @@ StopsAfter stopped calls old new =
     (stopped.count ≡ length stopped.replies.items)
     × (map reply_view stopped.replies.items ≡ replies old.suffixes (take stopped.count calls) old.rows)
     × (new ≡ record old { rows = rows_after old.suffixes (take stopped.count calls) old.rows })
+
+-- memory ran out for the replies, before the first call, or in the call that comes next, which may want it
+abbrev pub StopsAt : ℕ → List Runs.Call → Contents → Type 0
+StopsAt count calls store =
+    (count ≡ 0)
+    ⊎ ((call : Runs.Call) × (slice_get calls count ≡ Some call) × MayWant call (step store.suffixes call store.rows).reply)
 
 -- a cookie's name and value
 abbrev pub name_and_value : Row → List ℕ × List ℕ

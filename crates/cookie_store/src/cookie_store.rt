@@ -10,7 +10,7 @@ ghost use Rattle.cookie_parts.specs.declared.cookie_error.CookieError.TheVariant
 ghost use Rattle.cookie_parts.specs.declared.store_action.StoreAction.TheVariants.{Inserted};
 ghost use Rattle.cookie_store.specs.Acceptance.{received, MayRefuse};
 ghost use Rattle.cookie_store.specs.Building.{Builds, FailsFirst};
-ghost use Rattle.cookie_store.specs.CallViews.{call_view, name_and_value, reply_view, MayWant, StopsAfter};
+ghost use Rattle.cookie_store.specs.CallViews.{call_view, name_and_value, reply_view, MayWant, StopsAfter, StopsAt};
 ghost use Rattle.cookie_store.specs.Given.{given};
 ghost use Rattle.cookie_store.specs.Loading.{BuildsFrom, RefusesText};
 ghost use Rattle.cookie_store.specs.Responses.{TakesAll, TakesSome};
@@ -457,6 +457,7 @@ impl CookieStore {
           rows = rows_after self.old.suffixes (map call_view calls.items) self.old.rows;
         }) }
         ensures stopped { IfErr result (λ stopped. StopsAfter stopped (map call_view calls.items) self.old self.new) }
+        ensures wanting { IfErr result (λ stopped. StopsAt stopped.count (map call_view calls.items) self.new) }
     {
         let Ok(mut told) = Vec::with_capacity(self.alloc, calls.len()) else {
             return Err(Stopped {
