@@ -1,8 +1,8 @@
 -- What contracts see of calls and replies, and of the pairs of a request.
-use Rattle.std.specs.Prelude.{◌≡◌, ℕ, List, take, length, map, slice_get, Some, Ok, ◌⊎◌, string_bytes, ⊤}
+use Rattle.std.specs.Prelude.{◌≡◌, ℕ, List, take, length, map, slice_get, Some, Ok, IsOk, ◌⊎◌, string_bytes}
 use Rattle.std.specs.Borrow.{Bor}
 use Rattle.cookie_words.specs.Moments.{moment_of}
-use Rattle.cookie_parts.specs.Cookie.{Row}
+use Rattle.cookie_parts.specs.Cookie.{Row, raw_cookie}
 use Rattle.cookie_parts.specs.declared.store_action.StoreAction.TheVariants.{Inserted}
 use Rattle.cookie_store.specs.Contents.{Contents}
 use Rattle.cookie_store.specs.Rows.{key_at}
@@ -23,9 +23,9 @@ reply_view (Stored result) = Runs.Stored result
 reply_view (Removed cookie) = Runs.Removed cookie
 reply_view Cleared = Runs.Cleared
 
--- which calls may want memory: a text that comes, and a cookie that would be inserted
+-- which calls may want memory: a text that is a cookie, and a cookie that would be inserted
 abbrev pub MayWant : Runs.Call → Runs.Reply → Type 0
-MayWant (Runs.Set text url now) reply = ⊤
+MayWant (Runs.Set text url now) reply = IsOk (raw_cookie text)
 MayWant (Runs.Insert cookie url now) reply = reply ≡ Runs.Stored (Ok Inserted)
 MayWant (Runs.Remove key) reply = ⊥
 MayWant Runs.Clear reply = ⊥
