@@ -1,5 +1,5 @@
 -- Cookies, after RFC 6265 5.3 and 5.4.
-use Rattle.std.specs.Prelude.{ℕ, Bool, true, false, not, ◌&&◌, ◌||◌, List, Option, Some, None, unwrap_or, Result, Ok, Err, if◌then◌else◌}
+use Rattle.std.specs.Prelude.{ℕ, Bool, true, false, not, ◌&&◌, ◌||◌, List, Option, Some, None, is_none, unwrap_or, Result, Ok, Err, if◌then◌else◌}
 use Rattle.std.specs.Cmp.{IsEquivalence, and_equiv, on_equiv}
 use Rattle.std.specs.Result.{result_map_both}
 use Rattle.url.specs.Parts.{Parts}
@@ -8,6 +8,7 @@ use Rattle.cookie_words.specs.Texts.{without_dot}
 use Rattle.cookie_raw.specs.Raw.{Raw, Ending, At, pair}
 use Rattle.cookie_raw.specs.SameParts.{same_parts, same_parts_equiv}
 use Rattle.cookie_raw.specs.Reading.{reading}
+use Rattle.cookie_raw.specs.declared.parse.RawCookieParseError.{RawCookieParseError}
 use Rattle.cookie_parts.specs.Domain.{DomainValue, domain_matches, domain_from_attribute, same_domain, same_domain_equiv}
 use Rattle.cookie_parts.specs.Domain as Domain
 use Rattle.cookie_parts.specs.Expiry.{Expiry, AtUtc, SessionEnd, expiry_of, is_by, same_expiry, same_expiry_equiv}
@@ -71,6 +72,17 @@ cookie_of raw url now =
 -- 5.2: the raw cookie of a text, and `Parse` where it says none
 abbrev pub raw_cookie : List ℕ → Result Raw CookieError
 raw_cookie text = result_map_both (λ raw. raw) (λ _. Parse) (reading text)
+
+-- the refusal of a raw cookie that takes neither a domain in ASCII nor a path, if there is one
+abbrev pub early_refusal : Raw → Parts → Option CookieError
+early_refusal raw url =
+    if is_out_of_reach raw url then Some NonHttpScheme
+    else (if is_none raw.domain && is_none (host_of url) then Some NonRelativeScheme else None)
+
+-- the same of the reading of a Set-Cookie text
+abbrev pub early : Result Raw RawCookieParseError → Parts → Option CookieError
+early (Ok raw) url = early_refusal raw url
+early (Err refusal) url = Some Parse
 
 -- the cookie of a Set-Cookie text that came from the URL at the moment, or why there is none
 abbrev pub cookie_at : List ℕ → Parts → Moment → Result Row CookieError

@@ -1,14 +1,15 @@
 //! A cookie with its hosts, its paths and its end, RFC 6265 5.3 and 5.4.
-ghost use Rattle.std.specs.Prelude.{◌≡◌, false, unwrap_or, Err, IfOk, IsOk, MatchResult};
+ghost use Rattle.std.specs.Prelude.{◌≡◌, ◌&&◌, false, is_none, true, unwrap_or, Err, IfOk, MatchResult, Some};
 ghost use Rattle.std.specs.Option.{option_or};
 ghost use Rattle.cookie_words.specs.Moments.{moment_of};
-ghost use Rattle.cookie_parts.specs.Cookie.{cookie_at, cookie_matches, cookie_of, domain_at, ended, is_expired, is_out_of_reach, is_persistent, raw_cookie, said, said_domain, said_end, said_path};
+ghost use Rattle.cookie_raw.specs.Reading.{reading};
+ghost use Rattle.cookie_parts.specs.Cookie.{cookie_at, cookie_matches, cookie_of, domain_at, early, early_refusal, ended, is_expired, is_out_of_reach, is_persistent, said, said_domain, said_end, said_path};
 ghost use Rattle.cookie_parts.specs.Domain.{domain_from_attribute};
 ghost use Rattle.cookie_parts.specs.Expiry.{expiry_of};
+ghost use Rattle.cookie_parts.specs.Hosts.{host_of};
 ghost use Rattle.cookie_parts.specs.Outcomes.{Gives};
 ghost use Rattle.cookie_parts.specs.Path.{path_or_default};
 ghost use Rattle.cookie_parts.specs.Views.{domain_value, expiry_value};
-ghost use Rattle.cookie_parts.specs.declared.cookie_error.CookieError.TheVariants.{Memory};
 
 use crate::utils::{is_http_scheme, is_secure};
 use crate::{CookieDomain, CookieError, CookieExpiration, CookiePath, Error};
@@ -49,11 +50,12 @@ impl<'a> Model for Cookie<'a> {
 }
 
 impl<'a> Cookie<'a> {
-    /// The cookie of a Set-Cookie text that came from the URL at the moment. `Parse` where the text is no cookie, which wants no
-    /// memory, else as [`try_from_raw_cookie`](Self::try_from_raw_cookie).
+    /// The cookie of a Set-Cookie text that came from the URL at the moment. `Parse` where the text is no cookie, else as
+    /// [`try_from_raw_cookie`](Self::try_from_raw_cookie). `Parse` of such a text wants no memory, nor do `NonHttpScheme` and
+    /// `NonRelativeScheme`, the latter where no domain is named.
     pub fn parse(alloc: Global, text: &'a str, url: &Url, now: DateTime) -> CookieResult<'a>
         ensures value { Gives (λ cookie. cookie) result (cookie_at text.now url.now (moment_of now)) }
-        ensures memory { result ≡ Err Memory → IsOk (raw_cookie text.now) }
+        ensures early { (refusal : CookieError) → early (reading text.now) url.now ≡ Some refusal → result ≡ Err refusal }
     {
         match RawCookie::parse(text) {
             Ok(raw) => Cookie::from_raw_cookie(alloc, raw, url, now),
@@ -85,7 +87,8 @@ impl<'a> Cookie<'a> {
         url: &Url,
         now: DateTime,
     ) -> CookieResult<'a>
-        ensures { Gives (λ cookie. cookie) result (cookie_of raw.entry url.now (moment_of now)) }
+        ensures value { Gives (λ cookie. cookie) result (cookie_of raw.entry url.now (moment_of now)) }
+        ensures early { (refusal : CookieError) → early_refusal raw.entry url.now ≡ Some refusal → result ≡ Err refusal }
     {
         if is_out_of_reach(&raw, url) {
             return Err(CookieError::NonHttpScheme);
@@ -293,7 +296,8 @@ fn expiry_at(raw: &RawCookie<'_>, now: DateTime) -> CookieExpiration
 
 // The domain that the cookie names, if it may, or else the host of the URL alone.
 fn domain_at(alloc: Global, raw: &RawCookie<'_>, url: &Url) -> Result<CookieDomain, CookieError>
-    ensures { Gives domain_value result (domain_at (domain_from_attribute raw.now.domain) url.now) }
+    ensures value { Gives domain_value result (domain_at (domain_from_attribute raw.now.domain) url.now) }
+    ensures early { is_none raw.now.domain && is_none (host_of url.now) ≡ true → result ≡ Err CookieError.NonRelativeScheme }
 {
     match CookieDomain::try_from_raw(alloc, raw) {
         Ok(CookieDomain::NotPresent | CookieDomain::Empty) => CookieDomain::host_only(alloc, url),

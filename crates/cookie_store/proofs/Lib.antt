@@ -5,6 +5,7 @@ pub mod Built
 pub mod CallsOfKey
 pub mod Confined
 pub mod CoveredHosts
+pub mod EarlyRefusals
 pub mod Ends
 pub mod Filtered
 pub mod FoundRows

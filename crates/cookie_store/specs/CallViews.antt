@@ -1,8 +1,9 @@
 -- What contracts see of calls and replies, and of the pairs of a request.
-use Rattle.std.specs.Prelude.{◌≡◌, ℕ, List, take, length, map, slice_get, Some, Ok, IsOk, ◌⊎◌, string_bytes}
+use Rattle.std.specs.Prelude.{◌≡◌, ℕ, List, take, length, map, slice_get, Some, None, Ok, ◌<◌, ◌⊎◌, string_bytes}
 use Rattle.std.specs.Borrow.{Bor}
 use Rattle.cookie_words.specs.Moments.{moment_of}
-use Rattle.cookie_parts.specs.Cookie.{Row, raw_cookie}
+use Rattle.cookie_raw.specs.Reading.{reading}
+use Rattle.cookie_parts.specs.Cookie.{Row, early}
 use Rattle.cookie_parts.specs.declared.store_action.StoreAction.TheVariants.{Inserted}
 use Rattle.cookie_store.specs.Contents.{Contents}
 use Rattle.cookie_store.specs.Rows.{key_at}
@@ -23,9 +24,9 @@ reply_view (Stored result) = Runs.Stored result
 reply_view (Removed cookie) = Runs.Removed cookie
 reply_view Cleared = Runs.Cleared
 
--- which calls may want memory: a text that is a cookie, and a cookie that would be inserted
+-- which calls may want memory: a text that is not refused early, and a cookie that would be inserted
 abbrev pub MayWant : Runs.Call → Runs.Reply → Type 0
-MayWant (Runs.Set text url now) reply = IsOk (raw_cookie text)
+MayWant (Runs.Set text url now) reply = early (reading text) url ≡ None
 MayWant (Runs.Insert cookie url now) reply = reply ≡ Runs.Stored (Ok Inserted)
 MayWant (Runs.Remove key) reply = ⊥
 MayWant Runs.Clear reply = ⊥
@@ -37,10 +38,10 @@ StopsAfter stopped calls old new =
     × (map reply_view stopped.replies.items ≡ replies old.suffixes (take stopped.count calls) old.rows)
     × (new ≡ record old { rows = rows_after old.suffixes (take stopped.count calls) old.rows })
 
--- memory ran out for the replies, before the first call, or in the call that comes next, which may want it
+-- memory ran out for the replies of some calls, before the first one, or in the call that comes next, which may want it
 abbrev pub StopsAt : ℕ → List Runs.Call → Contents → Type 0
 StopsAt count calls store =
-    (count ≡ 0)
+    ((count ≡ 0) × (0 < length calls))
     ⊎ ((call : Runs.Call) × (slice_get calls count ≡ Some call) × MayWant call (step store.suffixes call store.rows).reply)
 
 -- a cookie's name and value

@@ -1,11 +1,12 @@
 //! The store.
-ghost use Rattle.std.specs.Prelude.{◌≡◌, ◌≢◌, ◌+◌, ◌-◌, ◌^◌, ◌<◌, [], ◌∷◌, false, is_some, map, true, Err, None, Ok, Some, IfErr, IfOk, IsOk, IsTrue, OnErr, OnOk, ◌⊎◌};
+ghost use Rattle.std.specs.Prelude.{◌≡◌, ◌≢◌, ◌+◌, ◌-◌, ◌^◌, ◌<◌, [], ◌∷◌, false, is_some, map, true, Err, None, Ok, Some, IfErr, IfOk, IsTrue, OnErr, OnOk, ◌⊎◌};
 ghost use Rattle.std.specs.Fn.{FnReturnsAt};
 ghost use Rattle.std.specs.Io.KnownBytes.{IsAtEnd};
 ghost use Rattle.std.specs.Iterator.{IsFinite};
 ghost use Rattle.std.specs.Option.{option_copied};
 ghost use Rattle.cookie_words.specs.Moments.{moment_of};
-ghost use Rattle.cookie_parts.specs.Cookie.{cookie_of, raw_cookie};
+ghost use Rattle.cookie_raw.specs.Reading.{reading};
+ghost use Rattle.cookie_parts.specs.Cookie.{cookie_of, early};
 ghost use Rattle.cookie_parts.specs.declared.cookie_error.CookieError.TheVariants.{Memory};
 ghost use Rattle.cookie_parts.specs.declared.store_action.StoreAction.TheVariants.{Inserted};
 ghost use Rattle.cookie_store.specs.Acceptance.{received, MayRefuse};
@@ -137,15 +138,15 @@ impl CookieStore {
     }
 
     /// Takes the cookie of a Set-Cookie text that came from the URL at the moment: the cookie that
-    /// [`Cookie::parse`] makes, as [`insert`](Self::insert) takes it. A refusal, and want of memory, leave the store as it was; a
-    /// text that is no cookie wants none.
+    /// [`Cookie::parse`] makes, as [`insert`](Self::insert) takes it. A refusal, and want of memory, leave the store as it was. A
+    /// text that is no cookie wants none, nor one that is out of the URL's reach, or names no domain and comes from no host.
     pub fn parse(&mut self, text: &str, url: &Url, now: DateTime) -> InsertResult
         ensures reply { IsReply result
             (step self.old.suffixes (Set text.now url.now (moment_of now)) self.old.rows).reply }
         ensures rows { UnlessMemory result
             (self.new ≡ record self.old { rows = (step self.old.suffixes (Set text.now url.now (moment_of now)) self.old.rows).rows }) }
         ensures refused { OnErr result (self.new ≡ self.old) }
-        ensures memory { result ≡ Err Memory → IsOk (raw_cookie text.now) }
+        ensures early { (refusal : CookieError) → early (reading text.now) url.now ≡ Some refusal → result ≡ Err refusal }
     {
         let cookie = owned_cookie(self.alloc, text, url, now)?;
         self.insert(cookie, url, now)
@@ -422,8 +423,8 @@ impl CookieStore {
         take(&mut self.rows, cookie, include_expired, now)
     }
 
-    /// Does what a call asks. Want of memory leaves the store as it was; `Remove` and `Clear` want none, `Set` only where the text is
-    /// a cookie, and `Insert` only where the cookie would be inserted.
+    /// Does what a call asks. Want of memory leaves the store as it was; `Remove` and `Clear` want none, `Set` only as
+    /// [`parse`](Self::parse) does, and `Insert` only where the cookie would be inserted.
     pub fn apply(&mut self, call: Call) -> Result<Reply, AllocError>
         ensures reply { IfOk result (λ reply.
             reply_view reply ≡ (step self.old.suffixes (call_view call) self.old.rows).reply) }

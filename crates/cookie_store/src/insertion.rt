@@ -1,8 +1,9 @@
 //! Insertion, RFC 6265 5.3.
-ghost use Rattle.std.specs.Prelude.{◌≡◌, ◌≢◌, Err, Ok, IfErr, IfSome, IsOk, IsTrue, OnErr};
+ghost use Rattle.std.specs.Prelude.{◌≡◌, ◌≢◌, Err, Ok, Some, IfErr, IfSome, IsTrue, OnErr};
 ghost use Rattle.std.specs.Option.{option_copied};
 ghost use Rattle.cookie_words.specs.Moments.{moment_of};
-ghost use Rattle.cookie_parts.specs.Cookie.{cookie_at, cookie_of, is_out_of_reach, raw_cookie};
+ghost use Rattle.cookie_raw.specs.Reading.{reading};
+ghost use Rattle.cookie_parts.specs.Cookie.{cookie_at, cookie_of, early, is_out_of_reach};
 ghost use Rattle.cookie_parts.specs.Domain.{text_if_any, HostOnly};
 ghost use Rattle.cookie_parts.specs.Outcomes.{Gives};
 ghost use Rattle.cookie_parts.specs.Views.{domain_value};
@@ -39,7 +40,7 @@ pub(crate) fn owned_cookie(
     now: DateTime,
 ) -> CookieResult<'static>
     ensures value { Gives (λ cookie. cookie) result (cookie_at text.now url.now (moment_of now)) }
-    ensures memory { result ≡ Err Memory → IsOk (raw_cookie text.now) }
+    ensures early { (refusal : CookieError) → early (reading text.now) url.now ≡ Some refusal → result ≡ Err refusal }
 {
     owned(alloc, Cookie::parse(alloc, text, url, now)?)
 }

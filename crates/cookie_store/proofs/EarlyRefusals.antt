@@ -1,0 +1,22 @@
+-- An early refusal is no want of memory.
+use Rattle.std.proofs.Common.{◌≡◌, ◌≢◌, arith, refl, Option, Result, Ok, Err, Some, None}
+use Rattle.url.specs.Parts.{Parts}
+use Rattle.cookie_raw.specs.Raw.{Raw}
+use Rattle.cookie_raw.specs.declared.parse.RawCookieParseError.{RawCookieParseError}
+use Rattle.cookie_parts.specs.Cookie.{early}
+use Rattle.cookie_parts.specs.declared.cookie_error.CookieError.{CookieError}
+use Rattle.cookie_parts.specs.declared.cookie_error.CookieError.TheVariants.{Memory}
+
+not_memory : (read : Result Raw RawCookieParseError) (url : Parts) → early read url ≢ Some Memory
+not_memory (Ok raw) url = grind arith
+not_memory (Err refusal) url = grind arith
+
+none_of : {T : Type 0} (refusal : Option CookieError) (result : Result T CookieError) → refusal ≢ Some Memory
+    → ((r : CookieError) → refusal ≡ Some r → result ≡ Err r) → result ≡ Err Memory → refusal ≡ None
+none_of None result never told want = refl
+none_of (Some r) result never told want = grind (arith, never, told r refl, want)
+
+-- where memory is wanted no early refusal came
+pub want_is_not_early : {T : Type 0} (read : Result Raw RawCookieParseError) (url : Parts) (result : Result T CookieError)
+    → ((r : CookieError) → early read url ≡ Some r → result ≡ Err r) → result ≡ Err Memory → early read url ≡ None
+want_is_not_early read url result told want = none_of (early read url) result (not_memory read url) told want
