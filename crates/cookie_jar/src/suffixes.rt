@@ -1,4 +1,6 @@
 //! The public suffix list of a file.
+ghost use Rattle.std.specs.Prelude.{◌≡◌, false, Err};
+ghost use Rattle.std.specs.Str.{is_utf8};
 ghost use Rattle.cookie_jar.specs.Suffixes.{list_at, GivesList};
 
 use crate::fault::{MainFault, RunFault};
@@ -9,7 +11,8 @@ use std::alloc::Global;
 /// line that is no rule.
 #[tactic(auto, unfolding(crate::specs::Suffixes::list_at))]
 pub fn list_of(alloc: Global, bytes: &[u8]) -> Result<List, MainFault>
-    ensures { GivesList result (list_at bytes.now) }
+    ensures value { GivesList result (list_at bytes.now) }
+    ensures utf8 { is_utf8 bytes.now ≡ false → result ≡ Err MainFault.CannotReadList }
 {
     let Ok(text) = str::from_utf8(bytes) else {
         return Err(MainFault::CannotReadList);
