@@ -1,6 +1,7 @@
 -- What a line of a script asks for.
-use Rattle.std.specs.Prelude.{ℕ, ◌==◌, Bool, List, bytes_eq, codes, Option, Some, None, option_map, option_and_then, if◌then◌else◌}
+use Rattle.std.specs.Prelude.{ℕ, ◌==◌, Bool, true, false, ◌&&◌, List, bytes_eq, codes, Option, Some, None, is_some, option_map, option_and_then, if◌then◌else◌}
 use Rattle.std.specs.List.{before_first, after_first, list_any}
+use Rattle.std.specs.Option.{option_map_or}
 use Rattle.std.specs.Result.{result_ok}
 use Rattle.std.specs.Str.{is_utf8}
 use Rattle.url.specs.Parser.{parse_url}
@@ -68,3 +69,23 @@ text_command text (Some words) = verb_command words
 -- the command of a line, and None for a bad line
 unfoldable pub command_of : List ℕ → Option Command
 command_of line = if is_utf8 line then text_command line (first_word line) else None
+
+-- what follows the verb has a URL to read: it is a URL and a text after `set`, and one word after `get`
+unfoldable pub verb_may_want : List ℕ × List ℕ → Bool
+verb_may_want line =
+    if bytes_eq line.0 (codes "set") then is_some (first_word line.1)
+    else (if bytes_eq line.0 (codes "get") then is_some (one_word line.1)
+    else false)
+
+-- a line may want memory where it has a URL to read, whether it can be read or not
+unfoldable pub may_want : List ℕ → Bool
+may_want line = is_utf8 line && option_map_or verb_may_want (first_word line) false
+
+-- a command may want memory where it has a URL
+abbrev pub command_may_want : Command → Bool
+command_may_want (Now moment) = false
+command_may_want (Set url text) = true
+command_may_want (Get url) = true
+command_may_want ListRows = false
+command_may_want (Remove key) = false
+command_may_want Clear = false

@@ -1,8 +1,8 @@
 //! What a line of a script asks for.
-ghost use Rattle.std.specs.Prelude.{◌≡◌, option_and_then, option_map, IfOk};
+ghost use Rattle.std.specs.Prelude.{◌≡◌, option_and_then, option_map, IfOk, IsSome, IsTrue, OnErr};
 ghost use Rattle.cookie_saved.specs.MomentText.{moment_at};
 ghost use Rattle.cookie_jar.specs.Commands as Spec;
-ghost use Rattle.cookie_jar.specs.Commands.{command_of, first_word, lone_command, one_word, remove_command, set_command, url_at, verb_command};
+ghost use Rattle.cookie_jar.specs.Commands.{command_of, first_word, lone_command, may_want, one_word, remove_command, set_command, url_at, verb_command, verb_may_want};
 ghost use Rattle.cookie_jar.specs.CommandViews.{command_view, words_view};
 
 use cookie_store::saved::read_moment;
@@ -29,7 +29,8 @@ pub enum Command<'a> {
 
 /// The command of a line, and None for a bad line.
 pub fn read_command(alloc: Global, line: &[u8]) -> Result<Option<Command<'_>>, AllocError>
-    ensures { IfOk result (λ command. option_map command_view command ≡ command_of line.now) }
+    ensures value { IfOk result (λ command. option_map command_view command ≡ command_of line.now) }
+    ensures memory { OnErr result (IsTrue (may_want line.now)) }
 {
     let Ok(text) = str::from_utf8(line) else {
         return Ok(None);
@@ -57,7 +58,8 @@ fn verb_command<'a>(
     verb: &str,
     rest: &'a str,
 ) -> Result<Option<Command<'a>>, AllocError>
-    ensures { IfOk result (λ command. option_map command_view command ≡ verb_command (verb.now, rest.now)) }
+    ensures value { IfOk result (λ command. option_map command_view command ≡ verb_command (verb.now, rest.now)) }
+    ensures memory { OnErr result (IsTrue (verb_may_want (verb.now, rest.now))) }
 {
     match verb {
         "now" => Ok(now_command(rest)),
@@ -99,7 +101,8 @@ fn now_command<'a>(text: &str) -> Option<Command<'a>>
 
 // The URL, and after a space the text.
 fn set_command<'a>(alloc: Global, rest: &'a str) -> Result<Option<Command<'a>>, AllocError>
-    ensures { IfOk result (λ command. option_map command_view command ≡ option_and_then set_command (first_word rest.now)) }
+    ensures value { IfOk result (λ command. option_map command_view command ≡ option_and_then set_command (first_word rest.now)) }
+    ensures memory { OnErr result (IsSome (first_word rest.now)) }
 {
     let Some((url, text)) = first_word(rest) else {
         return Ok(None);
@@ -112,8 +115,9 @@ fn set_command<'a>(alloc: Global, rest: &'a str) -> Result<Option<Command<'a>>, 
 
 // The URL alone.
 fn get_command<'a>(alloc: Global, rest: &str) -> Result<Option<Command<'a>>, AllocError>
-    ensures { IfOk result (λ command. option_map command_view command
+    ensures value { IfOk result (λ command. option_map command_view command
         ≡ option_map Spec.Get (option_and_then url_at (one_word rest.now))) }
+    ensures memory { OnErr result (IsSome (one_word rest.now)) }
 {
     if rest.as_bytes().contains(&b' ') {
         return Ok(None);

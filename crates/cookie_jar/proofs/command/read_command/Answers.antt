@@ -1,8 +1,8 @@
-use Rattle.std.proofs.Common.{◌≡◌, ℕ, List, Option, None}
+use Rattle.std.proofs.Common.{◌≡◌, ℕ, List, Option, Some, None}
 use Rattle.std.specs.Str.{IsUtf8}
 use Rattle.std.proofs.lemmas.Bool.{false_from_ne_true}
 use Rattle.std.proofs.lemmas.Str.{IsUtf8-from_is_utf8, is_utf8-from_IsUtf8}
-use Rattle.cookie_jar.specs.Commands.{command_of, first_word, text_command}
+use Rattle.cookie_jar.specs.Commands.{command_of, first_word, may_want, text_command, verb_may_want}
 use Rattle.cookie_jar.proofs.command.read_command.Goals as goal
 
 -- bytes that are no text are a bad line
@@ -16,15 +16,26 @@ command_of_words : (line text : List ℕ) (words : Option (List ℕ × List ℕ)
 unfolding command_of
 command_of_words line text words same valid cut = rw (is_utf8-from_IsUtf8 line valid, ← same, ← cut)
 
-pub returns-in_default : goal.returns-in_default
-returns-in_default c = not_text _ c.in_default.ensures.cases.0
+-- a text may want memory where its first word and the rest may
+may_want_of_words : (line text : List ℕ) (words : List ℕ × List ℕ) → text ≡ line → IsUtf8 line → Some words ≡ first_word text
+    → may_want line ≡ verb_may_want words
+unfolding may_want
+may_want_of_words line text words same valid cut = rw (is_utf8-from_IsUtf8 line valid, ← same, ← cut)
 
-pub returns-in-Some : goal.returns-in-Some
-returns-in-Some c =
+pub returns-in_default-clause-value : goal.returns-in_default-clause-value
+returns-in_default-clause-value c = not_text _ c.in_default.ensures.cases.0
+
+pub returns-in-Some-clause-value : goal.returns-in-Some-clause-value
+returns-in-Some-clause-value c =
     rw (← command_of_words c.args.line.now c.in-Ok.text.now _ c.in-Ok.ensures.cases.0 c.in-Ok.ensures.cases.1 c.in-Some.ensures)
-    c.verb_command.ensures
+    c.verb_command.ensures.value
 
-pub returns-in-None : goal.returns-in-None
-returns-in-None c =
+pub returns-in-None-clause-value : goal.returns-in-None-clause-value
+returns-in-None-clause-value c =
     rw (← command_of_words c.args.line.now c.in-Ok.text.now _ c.in-Ok.ensures.cases.0 c.in-Ok.ensures.cases.1 c.in-None.ensures)
     c.lone_command.ensures
+
+pub returns-in-Some-clause-memory : goal.returns-in-Some-clause-memory
+returns-in-Some-clause-memory c =
+    rw (may_want_of_words c.args.line.now c.in-Ok.text.now _ c.in-Ok.ensures.cases.0 c.in-Ok.ensures.cases.1 c.in-Some.ensures)
+    c.verb_command.ensures.memory

@@ -1,5 +1,5 @@
 use Rattle.std.proofs.Common.{◌≡◌, ℕ, List, None, codes}
-use Rattle.cookie_jar.specs.Commands.{verb_command}
+use Rattle.cookie_jar.specs.Commands.{verb_command, verb_may_want}
 use Rattle.cookie_jar.proofs.OtherWords.{differ}
 use Rattle.cookie_jar.proofs.command.verb_command.Goals as goal
 
@@ -10,22 +10,30 @@ unfolding verb_command
 no_command verb rest not_now not_set not_get not_remove =
     rw (differ verb (codes "now") not_now, differ verb (codes "set") not_set, differ verb (codes "get") not_get, differ verb (codes "remove") not_remove)
 
-pub returns-in-now : goal.returns-in-now
+pub returns-in-now-clause-value : goal.returns-in-now-clause-value
 unfolding verb_command
-returns-in-now c = rw c.in-now.is c.now_command.ensures
+returns-in-now-clause-value c = rw c.in-now.is c.now_command.ensures
 
-pub returns-in-set : goal.returns-in-set
+pub returns-in-set-clause-value : goal.returns-in-set-clause-value
 unfolding verb_command
-returns-in-set c = rw c.in-set.is c.set_command.ensures
+returns-in-set-clause-value c = rw c.in-set.is c.set_command.ensures.value
 
-pub returns-in-get : goal.returns-in-get
+pub returns-in-get-clause-value : goal.returns-in-get-clause-value
 unfolding verb_command
-returns-in-get c = rw c.in-get.is c.get_command.ensures
+returns-in-get-clause-value c = rw c.in-get.is c.get_command.ensures.value
 
-pub returns-in-remove : goal.returns-in-remove
+pub returns-in-remove-clause-value : goal.returns-in-remove-clause-value
 unfolding verb_command
-returns-in-remove c = rw c.in-remove.is c.remove_command.ensures
+returns-in-remove-clause-value c = rw c.in-remove.is c.remove_command.ensures
 
-pub returns-in_default : goal.returns-in_default
-returns-in_default c =
+pub returns-in_default-clause-value : goal.returns-in_default-clause-value
+returns-in_default-clause-value c =
     no_command c.args.verb.now c.args.rest.now c.in_default.not-now c.in_default.not-set c.in_default.not-get c.in_default.not-remove
+
+pub returns-in-set-clause-memory : goal.returns-in-set-clause-memory
+unfolding verb_may_want
+returns-in-set-clause-memory c = rw c.in-set.is c.set_command.ensures.memory
+
+pub returns-in-get-clause-memory : goal.returns-in-get-clause-memory
+unfolding verb_may_want
+returns-in-get-clause-memory c = rw c.in-get.is c.get_command.ensures.memory
