@@ -3,3 +3,4 @@ pub mod PairTexts
 pub mod Progress
 pub mod Sending
 pub mod RowLines
+pub mod Wanting

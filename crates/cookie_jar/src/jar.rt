@@ -1,8 +1,9 @@
 //! The state of a script, and the answers to its lines.
-ghost use Rattle.std.specs.Prelude.{◌≡◌, ◌++◌, ◌-◌, ◌^◌, ◌<◌, Err, OnOk, Some};
+ghost use Rattle.std.specs.Prelude.{◌≡◌, ◌++◌, ◌-◌, ◌^◌, ◌<◌, Err, IsTrue, OnOk, Some};
 ghost use Rattle.cookie_device.specs.Device.{AppendsBeginning, Sends};
 ghost use Rattle.cookie_jar.specs.CommandViews.{command_view};
 ghost use Rattle.cookie_jar.specs.Commands as Spec;
+ghost use Rattle.cookie_jar.specs.Commands.{command_may_want, may_want};
 ghost use Rattle.cookie_jar.specs.Faults.{CountsWrite};
 ghost use Rattle.cookie_jar.specs.Script.{command_turn, start, turn};
 
@@ -44,8 +45,9 @@ impl Jar {
         }
     }
 
-    /// Answers a line. Where there is no memory, nothing of the answer is gathered.
-    #[tactic(auto, using(crate::proofs::Sending::nothing_part), unfolding(crate::specs::Script::command_turn))]
+    /// Answers a line. Where there is no memory, nothing of the answer is gathered, and the state stays. Where a write
+    /// failed, the state is that after the line.
+    #[tactic(auto, using(crate::proofs::Sending::nothing_part, crate::proofs::Wanting::line_wants), unfolding(crate::specs::Script::command_turn))]
     pub fn answer<W: Sink>(
         &mut self,
         alloc: Global,
@@ -58,6 +60,9 @@ impl Jar {
         ensures whole { OnOk result (Sends (W.contents sink.old) (W.contents sink.new) (out.old ++ (turn line.now self.old).text) out.new) }
         ensures part { AppendsBeginning (W.contents sink.old) (W.contents sink.new) (out.old ++ (turn line.now self.old).text) }
         ensures memory { result ≡ Err RunFault.Memory → Sends (W.contents sink.old) (W.contents sink.new) out.old out.new }
+        ensures wants { result ≡ Err RunFault.Memory → IsTrue (may_want line.now) }
+        ensures kept { result ≡ Err RunFault.Memory → self.new ≡ self.old }
+        ensures unsent { result ≡ Err RunFault.Write → self.new ≡ (turn line.now self.old).state }
         ensures count { CountsWrite result (W.failed sink.old) (W.failed sink.new) }
     {
         match read_command(alloc, line)? {
@@ -80,6 +85,10 @@ impl Jar {
         ensures part { AppendsBeginning (W.contents sink.old) (W.contents sink.new)
             (out.old ++ (command_turn (Some (command_view command.entry)) self.old).text) }
         ensures memory { result ≡ Err RunFault.Memory → Sends (W.contents sink.old) (W.contents sink.new) out.old out.new }
+        ensures wants { result ≡ Err RunFault.Memory → IsTrue (command_may_want (command_view command.entry)) }
+        ensures kept { result ≡ Err RunFault.Memory → self.new ≡ self.old }
+        ensures unsent { result ≡ Err RunFault.Write
+            → self.new ≡ (command_turn (Some (command_view command.entry)) self.old).state }
         ensures count { CountsWrite result (W.failed sink.old) (W.failed sink.new) }
     {
         match command {
@@ -116,6 +125,9 @@ impl Jar {
         ensures part { AppendsBeginning (W.contents sink.old) (W.contents sink.new)
             (out.old ++ (command_turn (Some (Spec.Set url.now text.now)) self.old).text) }
         ensures memory { result ≡ Err RunFault.Memory → Sends (W.contents sink.old) (W.contents sink.new) out.old out.new }
+        ensures kept { result ≡ Err RunFault.Memory → self.new ≡ self.old }
+        ensures unsent { result ≡ Err RunFault.Write
+            → self.new ≡ (command_turn (Some (Spec.Set url.now text.now)) self.old).state }
         ensures count { CountsWrite result (W.failed sink.old) (W.failed sink.new) }
     {
         let reply = match self.store.parse(text, url, self.moment) {
