@@ -1,5 +1,5 @@
 //! The state of a script, and the answers to its lines.
-ghost use Rattle.std.specs.Prelude.{◌≡◌, ◌++◌, ◌-◌, ◌^◌, ◌<◌, Err, IsTrue, OnOk, Some};
+ghost use Rattle.std.specs.Prelude.{◌≡◌, ◌++◌, ◌-◌, ◌^◌, ◌<◌, [], Err, IsTrue, OnOk, Some};
 ghost use Rattle.cookie_device.specs.Device.{AppendsBeginning, Sends};
 ghost use Rattle.cookie_jar.specs.CommandViews.{command_view};
 ghost use Rattle.cookie_jar.specs.Commands as Spec;
@@ -46,7 +46,7 @@ impl Jar {
     }
 
     /// Answers a line. Where there is no memory, nothing of the answer is gathered, and the state stays. Where a write
-    /// failed, the state is that after the line.
+    /// failed, the state is that after the line, and nothing stays gathered.
     #[tactic(auto, using(crate::proofs::Sending::nothing_part, crate::proofs::Wanting::line_wants), unfolding(crate::specs::Script::command_turn))]
     pub fn answer<W: Sink>(
         &mut self,
@@ -63,6 +63,7 @@ impl Jar {
         ensures wants { result ≡ Err RunFault.Memory → IsTrue (may_want line.now) }
         ensures kept { result ≡ Err RunFault.Memory → self.new ≡ self.old }
         ensures unsent { result ≡ Err RunFault.Write → self.new ≡ (turn line.now self.old).state }
+        ensures dropped { result ≡ Err RunFault.Write → out.new ≡ [] }
         ensures count { CountsWrite result (W.failed sink.old) (W.failed sink.new) }
     {
         match read_command(alloc, line)? {
@@ -89,6 +90,7 @@ impl Jar {
         ensures kept { result ≡ Err RunFault.Memory → self.new ≡ self.old }
         ensures unsent { result ≡ Err RunFault.Write
             → self.new ≡ (command_turn (Some (command_view command.entry)) self.old).state }
+        ensures dropped { result ≡ Err RunFault.Write → out.new ≡ [] }
         ensures count { CountsWrite result (W.failed sink.old) (W.failed sink.new) }
     {
         match command {
@@ -128,6 +130,7 @@ impl Jar {
         ensures kept { result ≡ Err RunFault.Memory → self.new ≡ self.old }
         ensures unsent { result ≡ Err RunFault.Write
             → self.new ≡ (command_turn (Some (Spec.Set url.now text.now)) self.old).state }
+        ensures dropped { result ≡ Err RunFault.Write → out.new ≡ [] }
         ensures count { CountsWrite result (W.failed sink.old) (W.failed sink.new) }
     {
         let reply = match self.store.parse(text, url, self.moment) {
@@ -145,6 +148,7 @@ impl Jar {
         ensures part { AppendsBeginning (W.contents sink.old) (W.contents sink.new)
             (out.old ++ (command_turn (Some (Spec.Get url.now)) self.now).text) }
         ensures memory { result ≡ Err RunFault.Memory → Sends (W.contents sink.old) (W.contents sink.new) out.old out.new }
+        ensures dropped { result ≡ Err RunFault.Write → out.new ≡ [] }
         ensures count { CountsWrite result (W.failed sink.old) (W.failed sink.new) }
     {
         let cookies = self.store.matches(url, self.moment)?;

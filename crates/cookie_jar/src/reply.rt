@@ -1,5 +1,5 @@
 //! The texts of the answers, put into the output.
-ghost use Rattle.std.specs.Prelude.{◌≡◌, ◌++◌, ◌∷◌, ◌-◌, ◌^◌, ◌<◌, [], codes, flat_map, map, OnOk};
+ghost use Rattle.std.specs.Prelude.{◌≡◌, ◌++◌, ◌∷◌, ◌-◌, ◌^◌, ◌<◌, [], codes, flat_map, map, OnErr, OnOk};
 ghost use Rattle.cookie_device.specs.Device.{AppendsBeginning, CountsFailure, Sends};
 ghost use Rattle.cookie_parts.specs.Domain.{domain_text};
 ghost use Rattle.cookie_store.specs.Runs.{Removed, Stored};
@@ -15,6 +15,7 @@ pub fn put_line<W: Sink>(out: &mut Output, sink: &mut W, text: &str) -> Result<(
         (out.old ++ line_text text.now) out.new) }
     ensures part { AppendsBeginning (W.contents sink.old) (W.contents sink.new)
         (out.old ++ line_text text.now) }
+    ensures dropped { OnErr result (out.new ≡ []) }
     ensures count { CountsFailure result (W.failed sink.old) (W.failed sink.new) }
 {
     out.put(sink, text.as_bytes())?;
@@ -32,6 +33,7 @@ pub fn put_reply<W: Sink>(
         (out.old ++ line_text (reply_text (Stored reply))) out.new) }
     ensures part { AppendsBeginning (W.contents sink.old) (W.contents sink.new)
         (out.old ++ line_text (reply_text (Stored reply))) }
+    ensures dropped { OnErr result (out.new ≡ []) }
     ensures count { CountsFailure result (W.failed sink.old) (W.failed sink.new) }
 {
     match reply {
@@ -74,6 +76,7 @@ pub fn put_rows<W: Sink>(
         (out.old ++ flat_map row_line rows.entry) out.new) }
     ensures part { AppendsBeginning (W.contents sink.old) (W.contents sink.new)
         (out.old ++ flat_map row_line rows.entry) }
+    ensures dropped { OnErr result (out.new ≡ []) }
     ensures count { CountsFailure result (W.failed sink.old) (W.failed sink.new) }
 {
     for row in rows {
@@ -92,6 +95,7 @@ fn put_row<W: Sink>(
         (out.old ++ row_line row.now) out.new) }
     ensures part { AppendsBeginning (W.contents sink.old) (W.contents sink.new)
         (out.old ++ row_line row.now) }
+    ensures dropped { OnErr result (out.new ≡ []) }
     ensures count { CountsFailure result (W.failed sink.old) (W.failed sink.new) }
 {
     put_word(out, sink, domain_text(row))?;
@@ -121,6 +125,7 @@ fn put_word<W: Sink>(out: &mut Output, sink: &mut W, text: &str) -> Result<(), D
         (out.old ++ word_text text.now) out.new) }
     ensures part { AppendsBeginning (W.contents sink.old) (W.contents sink.new)
         (out.old ++ word_text text.now) }
+    ensures dropped { OnErr result (out.new ≡ []) }
     ensures count { CountsFailure result (W.failed sink.old) (W.failed sink.new) }
 {
     out.put(sink, text.as_bytes())?;
@@ -138,6 +143,7 @@ pub fn put_header<W: Sink>(
         (out.old ++ line_text (header_text (map (λ c. c.now) cookies.now))) out.new) }
     ensures part { AppendsBeginning (W.contents sink.old) (W.contents sink.new)
         (out.old ++ line_text (header_text (map (λ c. c.now) cookies.now))) }
+    ensures dropped { OnErr result (out.new ≡ []) }
     ensures count { CountsFailure result (W.failed sink.old) (W.failed sink.new) }
 {
     let [first, others @ ..] = cookies else {
@@ -160,6 +166,7 @@ fn put_pairs<W: Sink>(
         (out.old ++ flat_map (λ c. codes "; " ++ pair_text c) (map (λ c. c.now) cookies.now)) out.new) }
     ensures part { AppendsBeginning (W.contents sink.old) (W.contents sink.new)
         (out.old ++ flat_map (λ c. codes "; " ++ pair_text c) (map (λ c. c.now) cookies.now)) }
+    ensures dropped { OnErr result (out.new ≡ []) }
     ensures count { CountsFailure result (W.failed sink.old) (W.failed sink.new) }
 {
     for cookie in cookies {
@@ -179,6 +186,7 @@ fn put_pair<W: Sink>(
         (out.old ++ pair_text cookie.now) out.new) }
     ensures part { AppendsBeginning (W.contents sink.old) (W.contents sink.new)
         (out.old ++ pair_text cookie.now) }
+    ensures dropped { OnErr result (out.new ≡ []) }
     ensures count { CountsFailure result (W.failed sink.old) (W.failed sink.new) }
 {
     out.put(sink, cookie.name().as_bytes())?;
