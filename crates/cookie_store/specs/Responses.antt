@@ -24,10 +24,14 @@ Takes url now raws old new = new ≡ record old { rows = rows_after_response old
 abbrev pub TakesAll : {S : Type 0} → (S → Option Raw → S → Type 0) → S → Parts → Moment → Contents → Contents → Type 0
 TakesAll steps items url now old new = (raws : List Raw) × Drains steps items raws × Takes url now raws old new
 
--- it took the items before one
+-- it took the items before one, and these are left after that one
+abbrev pub TakesUntil : {S : Type 0} → (S → Option Raw → S → Type 0) → S → S → Parts → Moment → Contents → Contents → Type 0
+TakesUntil steps items rest url now old new =
+    (raws : List Raw) × (next : Raw) × YieldsThen steps items raws (Some next) rest × Takes url now raws old new
+
+-- the same, wherever it stopped
 abbrev pub TakesSome : {S : Type 0} → (S → Option Raw → S → Type 0) → S → Parts → Moment → Contents → Contents → Type 0
-TakesSome {S} steps items url now old new =
-    (raws : List Raw) × (next : Raw) × (rest : S) × YieldsThen steps items raws (Some next) rest × Takes url now raws old new
+TakesSome {S} steps items url now old new = (rest : S) × TakesUntil steps items rest url now old new
 
 -- what is logged as a raw cookie comes: of a secure one the name alone
 abbrev pub arrival_text : Raw → List ℕ

@@ -26,7 +26,7 @@ use crate::iter::{IterAny, IterUnexpired};
 use crate::loading::load_store;
 use crate::matching::given;
 use crate::request::{RequestCookies, RequestValues};
-use crate::response::{log_arrival, log_refusal};
+use crate::response::store_each;
 use crate::rows;
 use crate::saving::{save_all, save_persistent};
 use cookie_device::{Sink, Source};
@@ -192,7 +192,7 @@ impl CookieStore {
     pub fn store_response_cookies<L: Log, I: Iterator<Item = RawCookie<'static>> + Drop>(
         &mut self,
         logger: &L,
-        cookies: I,
+        mut cookies: I,
         url: &Url,
         now: DateTime,
     ) -> Result<(), AllocError>
@@ -201,15 +201,7 @@ impl CookieStore {
         ensures taken { OnOk result (TakesAll I.next_gives cookies url.now (moment_of now) self.old self.new) }
         ensures stopped { OnErr result (TakesSome I.next_gives cookies url.now (moment_of now) self.old self.new) }
     {
-        for raw in cookies {
-            log_arrival(logger, &raw);
-            match self.insert_raw(&raw, url, now) {
-                Ok(_) => {}
-                Err(CookieError::Memory) => return Err(AllocError),
-                Err(refusal) => log_refusal(logger, refusal),
-            }
-        }
-        Ok(())
+        store_each(self, logger, &mut cookies, url, now)
     }
 
     /// The stored cookie of this domain, path and name, whether it has ended or not.

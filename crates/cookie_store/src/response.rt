@@ -1,8 +1,17 @@
-//! What is logged of the cookies of a response.
+//! The cookies of a response, and what is logged of them.
+ghost use Rattle.std.specs.Prelude.{OnErr, OnOk};
+ghost use Rattle.std.specs.Iterator.{IsFinite};
+ghost use Rattle.cookie_words.specs.Moments.{moment_of};
+ghost use Rattle.cookie_store.specs.Responses.{TakesAll, TakesUntil};
+
+use crate::CookieStore;
 use cookie_parts::CookieError;
 use cookie_raw::RawCookie;
+use jiff::civil::DateTime;
 use log::{Log, debug};
+use std::alloc::AllocError;
 use std::fmt;
+use url::Url;
 
 // A raw cookie as it comes: of a secure one, only the name is shown.
 #[derive(Drop)]
@@ -25,12 +34,37 @@ impl<'a> fmt::Display for Arrival<'a> {
     }
 }
 
-/// Logs that a cookie came.
-pub(crate) fn log_arrival<L: Log>(logger: &L, raw: &RawCookie<'static>) {
+/// Stores the cookies that are left, one after the other. Where memory runs out, the cookies before stand.
+pub(crate) fn store_each<L: Log, I: Iterator<Item = RawCookie<'static>>>(
+    store: &mut CookieStore,
+    logger: &L,
+    cookies: &mut I,
+    url: &Url,
+    now: DateTime,
+) -> Result<(), AllocError>
+    requires can { I.can_next cookies.old }
+    requires ends { IsFinite (I.remaining cookies.old) }
+    ensures taken { OnOk result (TakesAll I.next_gives cookies.old url.now (moment_of now) store.old store.new) }
+    ensures stopped { OnErr result
+        (TakesUntil I.next_gives cookies.old cookies.new url.now (moment_of now) store.old store.new) }
+{
+    while let Some(raw) = cookies.next() {
+        log_arrival(logger, &raw);
+        match store.insert_raw(&raw, url, now) {
+            Ok(_) => {}
+            Err(CookieError::Memory) => return Err(AllocError),
+            Err(refusal) => log_refusal(logger, refusal),
+        }
+    }
+    Ok(())
+}
+
+// Logs that a cookie came.
+fn log_arrival<L: Log>(logger: &L, raw: &RawCookie<'static>) {
     debug!(logger; "{}", Arrival { raw });
 }
 
-/// Logs why a cookie was refused.
-pub(crate) fn log_refusal<L: Log>(logger: &L, refusal: CookieError) {
+// Logs why a cookie was refused.
+fn log_refusal<L: Log>(logger: &L, refusal: CookieError) {
     debug!(logger; "unable to store Set-Cookie: {refusal}");
 }

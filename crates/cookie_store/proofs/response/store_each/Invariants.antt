@@ -1,0 +1,11 @@
+-- The store took all items so far.
+use Rattle.cookie_words.specs.Moments.{moment_of}
+use Rattle.cookie_store.specs.Responses.{Takes}
+use Rattle.cookie_store.proofs.response.store_each.Given as goal
+
+abbrev pub invariant-loop-raw : goal.invariant-loop-raw
+invariant-loop-raw g l = record {
+  can : (goal.iterator-loop-raw g).can_next l.cookies;
+  ends : (goal.iterator-loop-raw g).is_finite l.cookies;
+  taken : Takes l.url (moment_of l.now) l.yielded l.fn.store l.store;
+}
