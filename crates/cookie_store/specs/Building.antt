@@ -1,10 +1,10 @@
 -- Stores that are built from what an iterator gives.
-use Rattle.std.specs.Prelude.{◌≡◌, Bool, List, map, Option, Some, Result, Ok, Err}
+use Rattle.std.specs.Prelude.{◌≡◌, Bool, List, [], ◌∷◌, map, Option, Some, None, Result, Ok, Err}
 use Rattle.std.specs.Iterator.{Drains, YieldsThen}
 use Rattle.cookie_words.specs.Moments.{Moment}
 use Rattle.cookie_parts.specs.Cookie.{Row}
 use Rattle.cookie_parts.specs.declared.error.Error.{Error}
-use Rattle.cookie_store.specs.Rows.{built}
+use Rattle.cookie_store.specs.Rows.{built, included, key_of, row_of}
 
 -- the items are cookies, and these are the rows that are built from them
 abbrev pub Builds : {S : Type 0} → (S → Option (Result Row Error) → S → Type 0) → S → Bool → Moment → List Row → Type 0
@@ -15,3 +15,14 @@ Builds steps items include_expired now rows =
 abbrev pub FailsFirst : {S : Type 0} → (S → Option (Result Row Error) → S → Type 0) → S → Error → Type 0
 FailsFirst {S} steps items error =
     (cookies : List Row) × (rest : S) × YieldsThen steps items (map Ok cookies) (Some (Err error)) rest
+
+-- the cookie would be a new row: it is not passed over, and no row has its key
+abbrev pub IsNewRow : Bool → Moment → List Row → Row → Type 0
+IsNewRow include_expired now rows cookie =
+    (included include_expired now (cookie ∷ []) ≡ cookie ∷ []) × (row_of (key_of cookie) rows ≡ None)
+
+-- the items are cookies, and then comes one that would be a new row beside those that are built from them
+abbrev pub WantsRoom : {S : Type 0} → (S → Option (Result Row Error) → S → Type 0) → S → Bool → Moment → Type 0
+WantsRoom {S} steps items include_expired now =
+    (cookies : List Row) × (next : Row) × (rest : S) × YieldsThen steps items (map Ok cookies) (Some (Ok next)) rest
+    × IsNewRow include_expired now (built include_expired now cookies) next

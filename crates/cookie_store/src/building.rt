@@ -1,8 +1,8 @@
 //! Rows that are built from cookies, one after the other.
-ghost use Rattle.std.specs.Prelude.{◌≡◌, ◌∷◌, [], IfErr, IfOk, IsTrue, OnOk, ◌⊎◌};
+ghost use Rattle.std.specs.Prelude.{◌≡◌, ◌∷◌, [], IfErr, IfOk, IsTrue, OnErr, OnOk, ◌⊎◌};
 ghost use Rattle.std.specs.Iterator.{IsFinite};
 ghost use Rattle.cookie_words.specs.Moments.{moment_of};
-ghost use Rattle.cookie_store.specs.Building.{Builds, FailsFirst};
+ghost use Rattle.cookie_store.specs.Building.{Builds, FailsFirst, IsNewRow, WantsRoom};
 ghost use Rattle.cookie_store.specs.Rows.{are_rows, included, put_all};
 
 use crate::rows;
@@ -20,7 +20,9 @@ pub(crate) fn build<I: Iterator<Item = Result<Cookie<'static>, Error>> + Drop>(
     requires can { I.can_next cookies }
     requires ends { IsFinite (I.remaining cookies) }
     ensures built { IfOk result (λ rows. Builds I.next_gives cookies include_expired (moment_of now) rows.items) }
-    ensures failed { IfErr result (λ error. (error ≡ Error.Memory) ⊎ FailsFirst I.next_gives cookies error) }
+    ensures failed { IfErr result (λ error.
+        ((error ≡ Error.Memory) × WantsRoom I.next_gives cookies include_expired (moment_of now))
+        ⊎ FailsFirst I.next_gives cookies error) }
     ensures in_order { IfOk result (λ rows. IsTrue (are_rows rows.items)) }
 {
     let mut built = Vec::new(alloc);
@@ -34,7 +36,8 @@ pub(crate) fn build<I: Iterator<Item = Result<Cookie<'static>, Error>> + Drop>(
     Ok(built)
 }
 
-/// Puts one more cookie, unless it has ended and is to be passed over.
+/// Puts one more cookie, unless it has ended and is to be passed over. Want of memory leaves the rows, and comes only where the
+/// cookie would be a new row.
 pub(crate) fn take(
     rows: &mut Vec<Cookie<'static>>,
     cookie: Cookie<'static>,
@@ -44,6 +47,8 @@ pub(crate) fn take(
     requires { IsTrue (are_rows rows.old.items) }
     ensures taken { OnOk result (rows.new.items
         ≡ put_all rows.old.items (included include_expired (moment_of now) (cookie.entry ∷ []))) }
+    ensures refused { OnErr result (rows.new.items ≡ rows.old.items) }
+    ensures memory { OnErr result (IsNewRow include_expired (moment_of now) rows.old.items cookie.entry) }
     ensures in_order { IsTrue (are_rows rows.new.items) }
 {
     if include_expired || !cookie.is_expired(now) {

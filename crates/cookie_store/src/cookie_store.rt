@@ -10,7 +10,7 @@ ghost use Rattle.cookie_parts.specs.Cookie.{cookie_of, early};
 ghost use Rattle.cookie_parts.specs.declared.cookie_error.CookieError.TheVariants.{Memory};
 ghost use Rattle.cookie_parts.specs.declared.store_action.StoreAction.TheVariants.{Inserted};
 ghost use Rattle.cookie_store.specs.Acceptance.{received, MayRefuse};
-ghost use Rattle.cookie_store.specs.Building.{Builds, FailsFirst};
+ghost use Rattle.cookie_store.specs.Building.{Builds, FailsFirst, WantsRoom};
 ghost use Rattle.cookie_store.specs.CallViews.{call_view, name_and_value, reply_view, MayWant, StopsAfter, StopsAt};
 ghost use Rattle.cookie_store.specs.Given.{given};
 ghost use Rattle.cookie_store.specs.Loading.{BuildsFrom, RefusesText};
@@ -116,7 +116,7 @@ impl CookieStore {
 
     /// A store of the cookies that the iterator gives, each in the place of an earlier one of its domain, path and name, without a
     /// public suffix list. Those that have ended are passed over unless `include_expired`. Answers the first error that the
-    /// iterator gives, or `Memory`.
+    /// iterator gives, or `Memory`, which comes only where a cookie would enter and take no earlier one's place.
     pub fn from_cookies<I: Iterator<Item = Result<Cookie<'static>, Error>> + Drop>(
         alloc: Global,
         cookies: I,
@@ -127,7 +127,9 @@ impl CookieStore {
         requires ends { IsFinite (I.remaining cookies) }
         ensures built { IfOk result (λ store. Builds I.next_gives cookies include_expired (moment_of now) store.rows) }
         ensures suffixes { IfOk result (λ store. store.suffixes ≡ None) }
-        ensures failed { IfErr result (λ error. (error ≡ Error.Memory) ⊎ FailsFirst I.next_gives cookies error) }
+        ensures failed { IfErr result (λ error.
+            ((error ≡ Error.Memory) × WantsRoom I.next_gives cookies include_expired (moment_of now))
+            ⊎ FailsFirst I.next_gives cookies error) }
     {
         let rows = build(alloc, cookies, include_expired, now)?;
         Ok(CookieStore {
