@@ -402,16 +402,17 @@ impl CookieStore {
         load_store(alloc, reader, cookie_from_str, true, now)
     }
 
-    /// Puts a cookie, unless it has ended and is to be passed over.
+    /// Puts a cookie, unless it has ended and is to be passed over. Want of memory leaves the store as it was.
     pub(crate) fn put(
         &mut self,
         cookie: Cookie<'_>,
         include_expired: bool,
         now: DateTime,
     ) -> Result<(), AllocError>
-        ensures { OnOk result (self.new ≡ record self.old {
+        ensures taken { OnOk result (self.new ≡ record self.old {
           rows = put_all self.old.rows (included include_expired (moment_of now) (cookie.entry ∷ []));
         }) }
+        ensures refused { OnErr result (self.new ≡ self.old) }
     {
         let cookie = cookie.into_owned(self.alloc)?;
         take(&mut self.rows, cookie, include_expired, now)

@@ -1,5 +1,5 @@
 //! Stores that are made of lines.
-ghost use Rattle.std.specs.Prelude.{◌≡◌, ◌-◌, ◌+◌, ◌^◌, ◌<◌, ◌⊎◌, IfErr, IfOk, None, OnOk};
+ghost use Rattle.std.specs.Prelude.{◌≡◌, ◌-◌, ◌+◌, ◌^◌, ◌<◌, ◌⊎◌, IfErr, IfOk, None, OnErr, OnOk};
 ghost use Rattle.std.specs.Fn.{FnReturnsAt};
 ghost use Rattle.std.specs.Io.KnownBytes.{IsAtEnd};
 ghost use Rattle.cookie_words.specs.Moments.{moment_of};
@@ -57,7 +57,8 @@ pub(crate) fn load_store<R: Source, F: Fn(&str) -> Result<Cookie<'_>, Error>>(
     Ok(store)
 }
 
-// Puts the cookie that the function makes of the line, unless it has ended and is to be passed over.
+// Puts the cookie that the function makes of the line, unless it has ended and is to be passed over. An error leaves the store as
+// it was.
 fn take_line<F: Fn(&str) -> Result<Cookie<'_>, Error>>(
     store: &mut CookieStore,
     line: &[u8],
@@ -71,6 +72,7 @@ fn take_line<F: Fn(&str) -> Result<Cookie<'_>, Error>>(
     ensures suffixes { OnOk result (store.new.suffixes ≡ store.old.suffixes) }
     ensures refused { IfErr result (λ error.
         (error ≡ Error.Memory) ⊎ RefusesLine (FnReturnsAt F.Fn cookie_of.now) error line.now) }
+    ensures kept { OnErr result (store.new ≡ store.old) }
 {
     let cookie = made_of(line, cookie_of)?;
     match store.put(cookie, include_expired, now) {
