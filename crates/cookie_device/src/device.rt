@@ -1,5 +1,5 @@
 //! What a reader and a writer are to the crates above.
-ghost use Rattle.std.specs.Prelude.{◌≡◌, ℕ, ◌-◌, ◌^◌, ◌<◌, ◌≤◌, List, [], ◌∷◌, ◌++◌, None, Option, length, IfOk, IsOk, OnOk};
+ghost use Rattle.std.specs.Prelude.{◌≡◌, ℕ, ◌+◌, ◌-◌, ◌^◌, ◌<◌, List, [], ◌∷◌, ◌++◌, None, Option, length, IfOk, IsOk, OnErr, OnOk};
 ghost use Rattle.std.specs.Io.{ReadsAtMost, WritesAtMost};
 ghost use Rattle.std.specs.Io.KnownBytes.{Appends, ReadConsumes, WriteAppends};
 ghost use Rattle.cookie_device.specs.Device.{AppendsBeginning, CountsFailure};
@@ -25,8 +25,8 @@ pub trait Source {
         ensures bound { ReadsAtMost result buf.new }
         ensures bytes { ReadConsumes (remaining self.old) (remaining self.new) result buf.new }
         ensures count { CountsFailure result (failed self.old) (failed self.new) }
-        ensures fewer { OnOk result (reads_left self.new < reads_left self.old) }
-        ensures no_more { reads_left self.new ≤ reads_left self.old };
+        ensures fewer { OnOk result (reads_left self.old ≡ reads_left self.new + 1) }
+        ensures as_many { OnErr result (reads_left self.new ≡ reads_left self.old) };
 
     /// How many calls have failed.
     fn failures(&self) -> u64

@@ -131,8 +131,8 @@ impl LineBuffer {
         ensures err { OnErr result (self.new ≡ self.old) }
 
         ensures count { CountsRead result (R.failed source.old) (R.failed source.new) }
-        ensures fewer { OnOk result (R.reads_left source.new < R.reads_left source.old) }
-        ensures no_more { R.reads_left source.new ≤ R.reads_left source.old }
+        ensures fewer { OnOk result (R.reads_left source.old ≡ R.reads_left source.new + 1) }
+        ensures as_many { OnErr result (R.reads_left source.new ≡ R.reads_left source.old) }
     {
         remove_front(&mut self.bytes, self.start);
         self.start = 0;
