@@ -1,3 +1,4 @@
 pub mod Appending
 pub mod LineEnds
 pub mod Scanning
+pub mod Turns

@@ -1,5 +1,5 @@
 //! A script, from the bytes that come in to the bytes that go out.
-ghost use Rattle.std.specs.Prelude.{◌≡◌, ◌-◌, ◌^◌, ◌<◌, ◌++◌, Err, IfSome, OnOk};
+ghost use Rattle.std.specs.Prelude.{◌≡◌, ◌+◌, ◌-◌, ◌^◌, ◌<◌, ◌≤◌, ◌++◌, Err, IfSome, OnOk, length};
 ghost use Rattle.std.specs.Io.KnownBytes.{Appends};
 ghost use Rattle.cookie_device.specs.Device.{AppendsBeginning, Sends};
 ghost use Rattle.cookie_jar.specs.Faults.{CountsFault, SendsBeginning};
@@ -26,6 +26,8 @@ pub fn run<R: Source, W: Sink>(
     ensures part { IfSome (R.remaining source.old) (λ input.
         AppendsBeginning (W.contents sink.old) (W.contents sink.new) (output_of list input)) }
     ensures count { CountsFault result (R.failed source.old) (R.failed source.new) (W.failed sink.old) (W.failed sink.new) }
+    ensures reads { IfSome (R.remaining source.old) (λ input.
+        R.reads_left source.old ≤ R.reads_left source.new + length input + 1) }
 {
     let mut out = Output::new(alloc)?;
     match answer_lines(alloc, source, &mut out, sink, list) {
@@ -55,6 +57,8 @@ fn answer_lines<R: Source, W: Sink>(
     ensures memory { result ≡ Err RunFault.Memory → IfSome (R.remaining source.old) (λ input.
         SendsBeginning (W.contents sink.old) (W.contents sink.new) (out.old ++ output_of list input) out.new) }
     ensures count { CountsFault result (R.failed source.old) (R.failed source.new) (W.failed sink.old) (W.failed sink.new) }
+    ensures reads { IfSome (R.remaining source.old) (λ input.
+        R.reads_left source.old ≤ R.reads_left source.new + length input + 1) }
 {
     let mut input = LineBuffer::new(alloc);
     let mut jar = Jar::new(alloc, list);

@@ -1,5 +1,5 @@
 //! The store.
-ghost use Rattle.std.specs.Prelude.{◌≡◌, ◌≢◌, ◌+◌, ◌-◌, ◌^◌, ◌<◌, [], ◌∷◌, false, is_some, map, true, Err, None, Ok, Some, IfErr, IfOk, IsTrue, OnErr, OnOk, ◌⊎◌};
+ghost use Rattle.std.specs.Prelude.{◌≡◌, ◌≢◌, ◌+◌, ◌-◌, ◌^◌, ◌<◌, ◌≤◌, [], ◌∷◌, false, is_some, length, map, true, Err, None, Ok, Some, IfErr, IfOk, IfSome, IsTrue, OnErr, OnOk, ◌⊎◌};
 ghost use Rattle.std.specs.Fn.{FnReturnsAt};
 ghost use Rattle.std.specs.Io.KnownBytes.{IsAtEnd};
 ghost use Rattle.std.specs.Iterator.{IsFinite};
@@ -377,6 +377,8 @@ impl CookieStore {
             ((error ≡ Error.Io) × (R.failed reader.new ≡ R.failed reader.old + 1))
             ⊎ ((R.failed reader.new ≡ R.failed reader.old)
             × ((error ≡ Error.Memory) ⊎ RefusesText (FnReturnsAt F.Fn cookie_from_str) error (R.remaining reader.old)))) }
+        ensures reads { IfSome (R.remaining reader.old) (λ input.
+            R.reads_left reader.old ≤ R.reads_left reader.new + length input + 1) }
     {
         load_store(alloc, reader, cookie_from_str, false, now)
     }
@@ -398,6 +400,8 @@ impl CookieStore {
             ((error ≡ Error.Io) × (R.failed reader.new ≡ R.failed reader.old + 1))
             ⊎ ((R.failed reader.new ≡ R.failed reader.old)
             × ((error ≡ Error.Memory) ⊎ RefusesText (FnReturnsAt F.Fn cookie_from_str) error (R.remaining reader.old)))) }
+        ensures reads { IfSome (R.remaining reader.old) (λ input.
+            R.reads_left reader.old ≤ R.reads_left reader.new + length input + 1) }
     {
         load_store(alloc, reader, cookie_from_str, true, now)
     }

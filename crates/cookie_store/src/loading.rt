@@ -1,5 +1,5 @@
 //! Stores that are made of lines.
-ghost use Rattle.std.specs.Prelude.{◌≡◌, ◌-◌, ◌+◌, ◌^◌, ◌<◌, ◌⊎◌, IfErr, IfOk, None, OnErr, OnOk};
+ghost use Rattle.std.specs.Prelude.{◌≡◌, ◌-◌, ◌+◌, ◌^◌, ◌<◌, ◌≤◌, ◌⊎◌, IfErr, IfOk, IfSome, None, OnErr, OnOk, length};
 ghost use Rattle.std.specs.Fn.{FnReturnsAt};
 ghost use Rattle.std.specs.Io.KnownBytes.{IsAtEnd};
 ghost use Rattle.cookie_words.specs.Moments.{moment_of};
@@ -29,6 +29,8 @@ pub(crate) fn load_store<R: Source, F: Fn(&str) -> Result<Cookie<'_>, Error>>(
         ((error ≡ Error.Io) × (R.failed source.new ≡ R.failed source.old + 1))
         ⊎ ((R.failed source.new ≡ R.failed source.old)
         × ((error ≡ Error.Memory) ⊎ RefusesText (FnReturnsAt F.Fn cookie_of) error (R.remaining source.old)))) }
+    ensures reads { IfSome (R.remaining source.old) (λ input.
+        R.reads_left source.old ≤ R.reads_left source.new + length input + 1) }
 {
     let mut input = LineBuffer::new(alloc);
     let mut store = CookieStore::new(alloc);

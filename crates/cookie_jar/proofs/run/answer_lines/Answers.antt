@@ -4,6 +4,7 @@ use Rattle.std.proofs.lemmas.Option.{IfSome_then}
 use Rattle.std.proofs.lemmas.Result.{err_from_is_err_and, on_ok_weaker}
 use Rattle.cookie_device.specs.Device.{Sends}
 use Rattle.cookie_device.specs.Lines.{IsLastLine}
+use Rattle.cookie_device.proofs.Turns.{none_read, byte_came}
 use Rattle.cookie_jar.specs.Script.{output_of}
 use Rattle.cookie_jar.proofs.Progress.{begun, answered, flushed, read_ahead, finished, last_answered, last_part, line_part, flush_part, part_so_far, out_of_memory}
 use Rattle.cookie_jar.proofs.Sending.{nothing_put}
@@ -14,6 +15,7 @@ lines-init g c = record {
   reads = refl;
   writes = refl;
   progress = rw (c.new-input.ensures, c.new-jar.ensures) (begun c.args.list (g.R.Source.remaining c.args.source.now) (g.W.Sink.contents c.args.sink.now) c.args.out.now);
+  turns = none_read (g.R.Source.remaining c.args.source.now) (g.R.Source.reads_left c.args.source.now);
 }
 
 pub returns-in_err-answer-clause-part : goal.returns-in_err-answer-clause-part
@@ -39,6 +41,7 @@ lines-preserved-in-Some g c =
           rw (c.pass.ensures, c.in_ok-answer.ensures.state)
           (IfSome_then (g.R.Source.remaining c.args.source.now) c.lines.invariant.progress
           (λ input p. answered (output_of c.args.list input) _ _ _ _ _ _ _ _ _ _ c.in-Some.end p c.in-Some.ensures.line c.line.ensures c.in_ok-answer.ensures.whole));
+      turns = c.lines.invariant.turns;
     }
 
 pub returns-in_err-flush-clause-part : goal.returns-in_err-flush-clause-part
@@ -68,6 +71,9 @@ lines-preserved g c = record {
       (λ input p.
       read_ahead (output_of c.args.list input) _ _ _ _ _ _ _ _ _
       (flushed (output_of c.args.list input) _ _ _ _ _ _ _ _ _ p c.in_ok-flush.ensures.whole c.in_ok-flush.ensures.empty) c.in_ok-fill.ensures.bytes);
+  turns =
+      IfSome_then (g.R.Source.remaining c.args.source.now) c.lines.invariant.turns
+      (λ input gave. byte_came input _ _ _ _ _ _ _ gave c.in_ok-fill.ensures.bytes (c.in_ok-fill.ensures.came c.if-not-branch.false) c.in_ok-fill.ensures.fewer);
 }
 
 pub returns-then-is_empty-clause-whole : goal.returns-then-is_empty-clause-whole

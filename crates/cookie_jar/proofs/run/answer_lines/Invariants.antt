@@ -1,5 +1,6 @@
--- No call has failed, and of the output for the input so much was put as the lines passed say.
+-- No call has failed, each read brought a byte, and of the output for the input so much was put as the lines passed say.
 use Rattle.std.proofs.Common.{◌≡◌, ◌+◌, ◌*◌, IfSome, length}
+use Rattle.cookie_device.proofs.Turns.{EachReadGave}
 use Rattle.cookie_jar.specs.Script.{output_of}
 use Rattle.cookie_jar.proofs.Progress.{Progress}
 use Rattle.cookie_jar.proofs.run.answer_lines.Given as goal
@@ -10,6 +11,8 @@ invariant-lines g l = record {
   writes : g.W.Sink.failed l.sink ≡ g.W.Sink.failed l.initial.sink;
   progress : IfSome (g.R.Source.remaining l.initial.source) (λ input.
       Progress (output_of l.fn.list input) l.input (g.R.Source.remaining l.source) l.jar (g.W.Sink.contents l.initial.sink) (g.W.Sink.contents l.sink) l.initial.out l.out);
+  turns : IfSome (g.R.Source.remaining l.initial.source) (λ input.
+      EachReadGave input (g.R.Source.remaining l.source) (g.R.Source.reads_left l.initial.source) (g.R.Source.reads_left l.source));
 }
 
 -- a read brings at most 4,096 bytes

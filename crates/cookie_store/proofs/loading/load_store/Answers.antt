@@ -1,8 +1,9 @@
-use Rattle.std.proofs.Common.{◌∙◌, [], ◌∷◌, ◌++◌, IfSome, ap, refl, inr}
+use Rattle.std.proofs.Common.{◌∙◌, [], ◌∷◌, ◌++◌, IfSome, ap, refl, inr, rules}
 use Rattle.std.specs.Fn.{FnReturnsAt}
 use Rattle.std.proofs.lemmas.Option.{IfSome_then}
 use Rattle.std.proofs.lemmas.Result.{err_from_is_err_and}
 use Rattle.cookie_words.specs.Moments.{moment_of}
+use Rattle.cookie_device.proofs.Turns.{none_read, byte_came}
 use Rattle.cookie_store.specs.Contents.{Contents}
 use Rattle.cookie_store.proofs.LoadedLines.{Ended, ended, begun, built_none, passed, next_comes, last_comes, refused_text, finished, last_made, taken_built}
 use Rattle.cookie_store.proofs.loading.load_store.Goals as goal
@@ -17,6 +18,7 @@ lines-init g c = record {
     ap (λ (store : Contents). store.rows) c.new-store.ensures ∙ built_none c.args.include_expired (moment_of c.args.now),
     rw c.new-input.ensures (begun (FnReturnsAt g.F.Fn c.args.cookie_of) (g.R.Source.remaining c.args.source.now)),
   );
+  turns = none_read (g.R.Source.remaining c.args.source.now) (g.R.Source.reads_left c.args.source.now);
 }
 
 pub returns-in_err-take_line-clause-failed : goal.returns-in_err-take_line-clause-failed
@@ -47,6 +49,19 @@ lines-preserved-in-Some g c =
         IfSome_then (g.R.Source.remaining c.args.source.now) known
             (λ text l. passed makes text _ _ _ _ cookies cookie c.in-Some.end l c.in-Some.ensures.line c.line.ensures c.pass.ensures makes_it),
       );
+      turns = c.lines.invariant.turns;
+    }
+
+pub lines-preserved : goal.lines-preserved
+lines-preserved g c =
+    let came = c.in-Ok-true.ensures.came c.in-Ok-true.field-0-test in
+    record {
+      reads = c.in-Ok-true.ensures.count ∙ c.lines.invariant.reads;
+      suffixes = c.lines.invariant.suffixes;
+      loaded = search rules;
+      turns =
+          IfSome_then (g.R.Source.remaining c.args.source.now) c.lines.invariant.turns
+          (λ input gave. byte_came input _ _ _ _ _ _ _ gave c.in-Ok-true.ensures.bytes came c.in-Ok-true.ensures.fewer);
     }
 
 pub returns-in_err-take_line-2-clause-failed : goal.returns-in_err-take_line-2-clause-failed
