@@ -73,7 +73,9 @@ lines-preserved g c = record {
       (flushed (output_of c.args.list input) _ _ _ _ _ _ _ _ _ p c.in_ok-flush.ensures.whole c.in_ok-flush.ensures.empty) c.in_ok-fill.ensures.bytes);
   turns =
       IfSome_then (g.R.Source.remaining c.args.source.now) c.lines.invariant.turns
-      (λ input gave. byte_came input _ _ _ _ _ _ _ gave c.in_ok-fill.ensures.bytes (c.in_ok-fill.ensures.came c.if-not-branch.false) c.in_ok-fill.ensures.fewer);
+      (λ input gave.
+      byte_came input _ _ _ _ _ _ _ gave c.in_ok-fill.ensures.bytes (c.in_ok-fill.ensures.came c.if-not-branch.false)
+      c.in_ok-fill.ensures.fewer);
 }
 
 pub returns-then-is_empty-clause-whole : goal.returns-then-is_empty-clause-whole

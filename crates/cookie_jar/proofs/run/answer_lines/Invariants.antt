@@ -12,7 +12,8 @@ invariant-lines g l = record {
   progress : IfSome (g.R.Source.remaining l.initial.source) (λ input.
       Progress (output_of l.fn.list input) l.input (g.R.Source.remaining l.source) l.jar (g.W.Sink.contents l.initial.sink) (g.W.Sink.contents l.sink) l.initial.out l.out);
   turns : IfSome (g.R.Source.remaining l.initial.source) (λ input.
-      EachReadGave input (g.R.Source.remaining l.source) (g.R.Source.reads_left l.initial.source) (g.R.Source.reads_left l.source));
+      EachReadGave input (g.R.Source.remaining l.source) (g.R.Source.reads_left l.initial.source)
+      (g.R.Source.reads_left l.source));
 }
 
 -- a read brings at most 4,096 bytes

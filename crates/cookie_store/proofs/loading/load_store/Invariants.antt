@@ -17,7 +17,8 @@ invariant-lines g l = record {
       × IfSome (g.R.Source.remaining l.initial.source) (λ text.
       Loaded (FnReturnsAt g.F.Fn l.cookie_of) text l.input (g.R.Source.remaining l.source) cookies);
   turns : IfSome (g.R.Source.remaining l.initial.source) (λ input.
-      EachReadGave input (g.R.Source.remaining l.source) (g.R.Source.reads_left l.initial.source) (g.R.Source.reads_left l.source));
+      EachReadGave input (g.R.Source.remaining l.source) (g.R.Source.reads_left l.initial.source)
+      (g.R.Source.reads_left l.source));
 }
 
 -- a read brings at most 4,096 bytes
