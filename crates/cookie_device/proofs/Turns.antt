@@ -3,7 +3,7 @@ use Rattle.std.proofs.Common.{◌≡◌, ℕ, ◌+◌, ◌<◌, ◌≤◌, List,
 use Rattle.std.proofs.lemmas.List.{length-append}
 use Rattle.std.specs.Io.KnownBytes.{Keeps, prepend_known}
 
--- Of the input this is left, and since then each read that took one of the turns brought a byte at least.
+-- Of the input this is left, and each read that took one of the turns brought a byte of it at least.
 pub record EachReadGave (input : List ℕ) (rest : Option (List ℕ)) (old new : ℕ) : Type 0 where
   pub left : List ℕ
   pub known : rest ≡ Some left
@@ -30,8 +30,3 @@ pub byte_came : (input at_hand more : List ℕ) (rest less : Option (List ℕ)) 
 byte_came input at_hand more rest less old new after gave kept longer one =
     let (now, known, fewer) = fewer_left at_hand more gave.left less (rw gave.known at kept) longer in
     record { left = now; known = known; count = (let count = gave.count in omega arith) }
-
--- so with one read more there were no more reads than bytes, and one
-pub reads_within : (input : List ℕ) (rest : Option (List ℕ)) (old new after : ℕ)
-    → EachReadGave input rest old new → new ≤ after + 1 → old ≤ after + length input + 1
-reads_within input rest old new after gave one = let count = gave.count in omega arith
