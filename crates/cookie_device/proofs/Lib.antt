@@ -1,4 +1,4 @@
 pub mod Appending
+pub mod Lengths
 pub mod LineEnds
 pub mod Scanning
-pub mod Turns

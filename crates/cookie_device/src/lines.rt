@@ -1,5 +1,5 @@
 //! Lines that are cut from a source as it is read.
-ghost use Rattle.std.specs.Prelude.{◌≡◌, ◌==◌, ◌+◌, ◌-◌, ◌^◌, ◌<◌, ◌≤◌, [], None, false, length, take, drop, position, IsTrue, IfSome, IfOk, OnOk, OnErr, vec_len};
+ghost use Rattle.std.specs.Prelude.{◌≡◌, ◌==◌, ℕ, ◌+◌, ◌-◌, ◌^◌, ◌<◌, ◌≤◌, List, [], None, Some, false, length, take, drop, position, IsTrue, IfSome, IfOk, OnOk, OnErr, vec_len};
 ghost use Rattle.std.specs.Io.{StartsWith};
 ghost use Rattle.std.specs.Io.KnownBytes.{IsAtEnd, Keeps, prepend_known};
 ghost use Rattle.std.specs.Str.Lines.{strip_carriage_return};
@@ -115,6 +115,7 @@ impl LineBuffer {
     }
 
     /// Reads once, and says whether a byte came. Without one, the source is at its end.
+    #[tactic(auto, using(crate::proofs::Lengths::kept_lengths))]
     pub fn fill<R: Source>(&mut self, source: &mut R) -> Result<bool, FillError>
         requires no_line { position (λ b. b == 10) self.old ≡ None }
         requires countable { R.failed source.old < 2 ^ 64 - 1 }
@@ -123,6 +124,8 @@ impl LineBuffer {
         ensures bytes { Keeps (prepend_known self.old (R.remaining source.old))
             (prepend_known self.new (R.remaining source.new)) }
         ensures at_hand { StartsWith self.new self.old }
+        ensures moved { IfSome (R.remaining source.old) (λ text. (left : List ℕ) × (R.remaining source.new ≡ Some left)
+            × (length text + length self.old ≡ length left + length self.new)) }
         ensures bound { length self.new ≤ length self.old + LineBuffer.READ_LIMIT }
 
         ensures came { IfOk result (λ came. IsTrue came → length self.old < length self.new) }

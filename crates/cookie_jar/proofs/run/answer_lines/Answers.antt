@@ -1,10 +1,9 @@
-use Rattle.std.proofs.Common.{◌≡◌, ◌≢◌, ◌∙◌, [], eq-eqb, length, subst, sym, ap, refl}
+use Rattle.std.proofs.Common.{◌≡◌, ◌≢◌, ◌∙◌, [], arith, eq-eqb, length, subst, sym, ap, refl, rules}
 use Rattle.std.proofs.lemmas.Bool.{eqb-true, false≢true}
 use Rattle.std.proofs.lemmas.Option.{IfSome_then}
 use Rattle.std.proofs.lemmas.Result.{err_from_is_err_and, on_ok_weaker}
 use Rattle.cookie_device.specs.Device.{Sends}
 use Rattle.cookie_device.specs.Lines.{IsLastLine}
-use Rattle.cookie_device.proofs.Turns.{none_read, byte_came}
 use Rattle.cookie_jar.specs.Script.{output_of}
 use Rattle.cookie_jar.proofs.Progress.{begun, answered, flushed, read_ahead, finished, last_answered, last_part, line_part, flush_part, part_so_far, out_of_memory}
 use Rattle.cookie_jar.proofs.Sending.{nothing_put}
@@ -15,7 +14,7 @@ lines-init g c = record {
   reads = refl;
   writes = refl;
   progress = rw (c.new-input.ensures, c.new-jar.ensures) (begun c.args.list (g.R.Source.remaining c.args.source.now) (g.W.Sink.contents c.args.sink.now) c.args.out.now);
-  turns = none_read (g.R.Source.remaining c.args.source.now) (g.R.Source.reads_left c.args.source.now);
+  turns = search rules;
 }
 
 pub returns-in_err-answer-clause-part : goal.returns-in_err-answer-clause-part
@@ -74,8 +73,11 @@ lines-preserved g c = record {
   turns =
       IfSome_then (g.R.Source.remaining c.args.source.now) c.lines.invariant.turns
       (λ input gave.
-      byte_came input _ _ _ _ _ _ _ gave c.in_ok-fill.ensures.bytes (c.in_ok-fill.ensures.came c.if-not-branch.false)
-      c.in_ok-fill.ensures.fewer);
+      let (left, known, count) = gave in
+      let (less, is, moved) = rw known at c.in_ok-fill.ensures.moved in
+      let longer = c.in_ok-fill.ensures.came c.if-not-branch.false in
+      let one = c.in_ok-fill.ensures.fewer in
+      (less, is, omega arith));
 }
 
 pub returns-then-is_empty-clause-whole : goal.returns-then-is_empty-clause-whole

@@ -1,6 +1,5 @@
 -- No call has failed, each read brought a byte, and of the output for the input so much was put as the lines passed say.
-use Rattle.std.proofs.Common.{◌≡◌, ◌+◌, ◌*◌, IfSome, length}
-use Rattle.cookie_device.proofs.Turns.{EachReadGave}
+use Rattle.std.proofs.Common.{◌≡◌, ◌+◌, ◌*◌, ◌≤◌, ℕ, List, Some, IfSome, length}
 use Rattle.cookie_jar.specs.Script.{output_of}
 use Rattle.cookie_jar.proofs.Progress.{Progress}
 use Rattle.cookie_jar.proofs.run.answer_lines.Given as goal
@@ -11,9 +10,8 @@ invariant-lines g l = record {
   writes : g.W.Sink.failed l.sink ≡ g.W.Sink.failed l.initial.sink;
   progress : IfSome (g.R.Source.remaining l.initial.source) (λ input.
       Progress (output_of l.fn.list input) l.input (g.R.Source.remaining l.source) l.jar (g.W.Sink.contents l.initial.sink) (g.W.Sink.contents l.sink) l.initial.out l.out);
-  turns : IfSome (g.R.Source.remaining l.initial.source) (λ input.
-      EachReadGave input (g.R.Source.remaining l.source) (g.R.Source.reads_left l.initial.source)
-      (g.R.Source.reads_left l.source));
+  turns : IfSome (g.R.Source.remaining l.initial.source) (λ input. (left : List ℕ) × (g.R.Source.remaining l.source ≡ Some left)
+      × (g.R.Source.reads_left l.initial.source + length left ≤ g.R.Source.reads_left l.source + length input));
 }
 
 -- a read brings at most 4,096 bytes

@@ -1,9 +1,8 @@
-use Rattle.std.proofs.Common.{◌∙◌, [], ◌∷◌, ◌++◌, IfSome, ap, refl, inr, rules}
+use Rattle.std.proofs.Common.{◌∙◌, [], ◌∷◌, ◌++◌, IfSome, ap, arith, refl, inr, rules}
 use Rattle.std.specs.Fn.{FnReturnsAt}
 use Rattle.std.proofs.lemmas.Option.{IfSome_then}
 use Rattle.std.proofs.lemmas.Result.{err_from_is_err_and}
 use Rattle.cookie_words.specs.Moments.{moment_of}
-use Rattle.cookie_device.proofs.Turns.{none_read, byte_came}
 use Rattle.cookie_store.specs.Contents.{Contents}
 use Rattle.cookie_store.proofs.LoadedLines.{Ended, ended, begun, built_none, passed, next_comes, last_comes, refused_text, finished, last_made, taken_built}
 use Rattle.cookie_store.proofs.loading.load_store.Goals as goal
@@ -18,7 +17,7 @@ lines-init g c = record {
     ap (λ (store : Contents). store.rows) c.new-store.ensures ∙ built_none c.args.include_expired (moment_of c.args.now),
     rw c.new-input.ensures (begun (FnReturnsAt g.F.Fn c.args.cookie_of) (g.R.Source.remaining c.args.source.now)),
   );
-  turns = none_read (g.R.Source.remaining c.args.source.now) (g.R.Source.reads_left c.args.source.now);
+  turns = search rules;
 }
 
 pub returns-in_err-take_line-clause-failed : goal.returns-in_err-take_line-clause-failed
@@ -61,7 +60,11 @@ lines-preserved g c =
       loaded = search rules;
       turns =
           IfSome_then (g.R.Source.remaining c.args.source.now) c.lines.invariant.turns
-          (λ input gave. byte_came input _ _ _ _ _ _ _ gave c.in-Ok-true.ensures.bytes came c.in-Ok-true.ensures.fewer);
+          (λ input gave.
+          let (left, known, count) = gave in
+          let (less, is, moved) = rw known at c.in-Ok-true.ensures.moved in
+          let one = c.in-Ok-true.ensures.fewer in
+          (less, is, omega arith));
     }
 
 pub returns-in_err-take_line-2-clause-failed : goal.returns-in_err-take_line-2-clause-failed

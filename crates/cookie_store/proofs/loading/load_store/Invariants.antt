@@ -1,9 +1,8 @@
 -- No read has failed, each brought a byte, and of the lines passed cookies are made, from which the rows of the store are
 -- built.
-use Rattle.std.proofs.Common.{◌≡◌, ◌+◌, ◌*◌, List, None, IfSome, length}
+use Rattle.std.proofs.Common.{◌≡◌, ◌+◌, ◌*◌, ◌≤◌, ℕ, List, None, Some, IfSome, length}
 use Rattle.std.specs.Fn.{FnReturnsAt}
 use Rattle.cookie_words.specs.Moments.{moment_of}
-use Rattle.cookie_device.proofs.Turns.{EachReadGave}
 use Rattle.cookie_parts.specs.Cookie.{Row}
 use Rattle.cookie_store.specs.Rows.{built}
 use Rattle.cookie_store.proofs.LoadedLines.{Loaded}
@@ -16,9 +15,8 @@ invariant-lines g l = record {
   loaded : (cookies : List Row) × (l.store.rows ≡ built l.include_expired (moment_of l.now) cookies)
       × IfSome (g.R.Source.remaining l.initial.source) (λ text.
       Loaded (FnReturnsAt g.F.Fn l.cookie_of) text l.input (g.R.Source.remaining l.source) cookies);
-  turns : IfSome (g.R.Source.remaining l.initial.source) (λ input.
-      EachReadGave input (g.R.Source.remaining l.source) (g.R.Source.reads_left l.initial.source)
-      (g.R.Source.reads_left l.source));
+  turns : IfSome (g.R.Source.remaining l.initial.source) (λ input. (left : List ℕ) × (g.R.Source.remaining l.source ≡ Some left)
+      × (g.R.Source.reads_left l.initial.source + length left ≤ g.R.Source.reads_left l.source + length input));
 }
 
 -- a read brings at most 4,096 bytes

@@ -1,0 +1,14 @@
+-- How many known bytes are left.
+use Rattle.std.proofs.Common.{◌≡◌, ◌+◌, ℕ, List, ◌++◌, Option, Some, None, IfSome, length, refl, sym, ap, ◌∙◌, arith}
+use Rattle.std.proofs.lemmas.List.{length-append}
+use Rattle.std.specs.Io.KnownBytes.{Keeps, prepend_known}
+
+-- what is more at hand is no longer left
+pub kept_lengths : (at_hand more : List ℕ) (rest less : Option (List ℕ)) → Keeps (prepend_known at_hand rest) (prepend_known more less)
+    → IfSome rest (λ text. (left : List ℕ) × (less ≡ Some left) × (length text + length at_hand ≡ length left + length more))
+kept_lengths at_hand more None less kept = tt
+kept_lengths at_hand more (Some text) None kept = absurd kept
+kept_lengths at_hand more (Some text) (Some left) kept =
+    let same : length more + length left ≡ length at_hand + length text
+    = sym (length-append more left) ∙ ap length kept ∙ length-append at_hand text in
+    (left, refl, omega arith)
