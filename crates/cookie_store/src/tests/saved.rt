@@ -5,7 +5,8 @@ use super::new_year;
 use crate::device::{Counted, Sink};
 use crate::{Cookie, CookieStore, Error};
 use jiff::civil::{DateTime, date};
-use std::alloc::Global;
+use std::alloc::{AllocError, Global};
+use std::cell::RefCell;
 use std::process::Abort;
 use std::test::Fail;
 
@@ -16,12 +17,13 @@ pub(super) enum Which {
     At(DateTime),
 }
 
-// How saving ends, how many writes failed, and what is written.
+// How saving ends, how many writes failed, what is written, and the names of the rows whose text was asked for, as lines.
 #[derive(Drop)]
 struct Saved {
     outcome: Result<(), Error>,
     failures: u64,
     written: String,
+    asked: String,
 }
 
 // A store of the cookies, also of those that have ended.
@@ -30,15 +32,32 @@ pub(super) fn store_of(alloc: Global, came: &[Came]) -> Result<CookieStore, Fail
     Ok(CookieStore::from_cookies(alloc, items, true, new_year())?)
 }
 
-// A row's name, or as an error the one that is refused.
-fn name_of(alloc: Global, row: &Cookie<'_>, refused: &str) -> Result<String, Error> {
-    let Ok(name) = String::from_str(alloc, row.name()) else {
-        return Err(Error::Memory);
-    };
-    if name.as_str() == refused {
-        Err(Error::Other(name))
-    } else {
-        Ok(name)
+// Answers a row's name, or as an error the one that is refused, and writes each down.
+#[derive(Drop)]
+struct Names {
+    alloc: Global,
+    refused: &'static str,
+    asked: RefCell<String>,
+}
+
+impl Names {
+    fn note(&self, name: &str) -> Result<(), AllocError> {
+        if let Ok(mut asked) = self.asked.try_borrow_mut() {
+            asked.push_str(name)?;
+            asked.push('\n')?;
+        }
+        Ok(())
+    }
+
+    fn text_of(&self, row: &Cookie<'_>) -> Result<String, Error> {
+        let Ok(()) = self.note(row.name()) else {
+            return Err(Error::Memory);
+        };
+        match String::from_str(self.alloc, row.name()) {
+            Ok(name) if name.as_str() == self.refused => Err(Error::Other(name)),
+            Ok(name) => Ok(name),
+            Err(AllocError) => Err(Error::Memory),
+        }
     }
 }
 
@@ -47,19 +66,27 @@ fn save_names(
     alloc: Global,
     store: &CookieStore,
     which: &Which,
-    refused: &str,
+    refused: &'static str,
     fake: Fake<Vec<u8>>,
 ) -> Result<Saved, Fail> {
-    let mut writer = Counted::new(fake);
-    let text_of = move |row: &Cookie<'_>| name_of(alloc, row, refused);
-    let outcome = match which {
-        Which::All => store.save_incl_expired_and_nonpersistent(&mut writer, text_of),
-        Which::At(now) => store.save(&mut writer, text_of, *now),
+    let names = Names {
+        alloc,
+        refused,
+        asked: RefCell::new(String::new(alloc)),
     };
+    let mut writer = Counted::new(fake);
+    let outcome = match which {
+        Which::All => {
+            store.save_incl_expired_and_nonpersistent(&mut writer, |row| names.text_of(row))
+        }
+        Which::At(now) => store.save(&mut writer, |row| names.text_of(row), *now),
+    };
+    let Names { asked, .. } = names;
     Ok(Saved {
         outcome,
         failures: writer.failures(),
         written: String::from_utf8(writer.into_inner().inner)?,
+        asked: asked.into_inner(),
     })
 }
 
@@ -71,20 +98,26 @@ pub(super) const LASTING: [Came; 3] = [
     (FROM, "c=1; Max-Age=300"),
 ];
 
-// The name that is refused, and what is written.
-const REFUSED: [(&str, &str); 4] = [("", "a\nb\nc\n"), ("a", ""), ("b", "a\n"), ("c", "a\nb\n")];
+// The name that is refused, what is written, and the rows whose text is asked for.
+const REFUSED: [(&str, &str, &str); 4] = [
+    ("", "a\nb\nc\n", "a\nb\nc\n"),
+    ("a", "", "a\n"),
+    ("b", "a\n", "a\nb\n"),
+    ("c", "a\nb\n", "a\nb\nc\n"),
+];
 
 #[test]
 fn the_first_refusal_ends_the_saving(rt: HostRuntime) -> Result<(), Fail> {
     let store = store_of(rt.alloc(), &LASTING)?;
     for which in &[Which::All, Which::At(new_year())] {
-        for (refused, wanted) in &REFUSED {
+        for (refused, wanted, rows) in &REFUSED {
             let fake = Fake::new(Vec::new(rt.alloc()), usize::MAX, 0);
             let Saved {
                 outcome,
                 failures,
                 written,
-            } = save_names(rt.alloc(), &store, which, refused, fake)?;
+                asked,
+            } = save_names(rt.alloc(), &store, which, *refused, fake)?;
             match outcome {
                 Ok(()) => assert_eq!(rt; *refused, "", "{which:?}"),
                 Err(Error::Other(text)) => assert_eq!(rt; text.as_str(), *refused, "{which:?}"),
@@ -96,6 +129,7 @@ fn the_first_refusal_ends_the_saving(rt: HostRuntime) -> Result<(), Fail> {
                 *wanted,
                 "refusing `{refused}`, {which:?}"
             );
+            assert_eq!(rt; asked.as_str(), *rows, "refusing `{refused}`, {which:?}");
         }
     }
     Ok(())
@@ -126,6 +160,7 @@ fn rows_are_saved_in_order(rt: HostRuntime) -> Result<(), Fail> {
         let saved = save_names(rt.alloc(), &store, which, "", fake)?;
         saved.outcome?;
         assert_eq!(rt; saved.written.as_str(), *wanted, "{which:?}");
+        assert_eq!(rt; saved.asked.as_str(), *wanted, "{which:?}");
     }
     Ok(())
 }
@@ -158,6 +193,7 @@ fn each_write_fails(
             outcome,
             failures,
             written,
+            ..
         } = save_names(alloc, store, which, "", fake)?;
         let is_whole = written.as_str() == WHOLE;
         let is_part = is_beginning(written.as_str(), fails_at.saturating_sub(1), most);
