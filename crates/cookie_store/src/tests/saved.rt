@@ -36,7 +36,7 @@ pub(super) fn store_of(alloc: Global, came: &[Came]) -> Result<CookieStore, Fail
 #[derive(Drop)]
 struct Names {
     alloc: Global,
-    refused: &'static str,
+    refused: String,
     asked: RefCell<String>,
 }
 
@@ -54,7 +54,7 @@ impl Names {
             return Err(Error::Memory);
         };
         match String::from_str(self.alloc, row.name()) {
-            Ok(name) if name.as_str() == self.refused => Err(Error::Other(name)),
+            Ok(name) if name == self.refused => Err(Error::Other(name)),
             Ok(name) => Ok(name),
             Err(AllocError) => Err(Error::Memory),
         }
@@ -66,12 +66,12 @@ fn save_names(
     alloc: Global,
     store: &CookieStore,
     which: &Which,
-    refused: &'static str,
+    refused: &str,
     fake: Fake<Vec<u8>>,
 ) -> Result<Saved, Fail> {
     let names = Names {
         alloc,
-        refused,
+        refused: String::from_str(alloc, refused)?,
         asked: RefCell::new(String::new(alloc)),
     };
     let mut writer = Counted::new(fake);
@@ -117,7 +117,7 @@ fn the_first_refusal_ends_the_saving(rt: HostRuntime) -> Result<(), Fail> {
                 failures,
                 written,
                 asked,
-            } = save_names(rt.alloc(), &store, which, *refused, fake)?;
+            } = save_names(rt.alloc(), &store, which, refused, fake)?;
             match outcome {
                 Ok(()) => assert_eq!(rt; *refused, "", "{which:?}"),
                 Err(Error::Other(text)) => assert_eq!(rt; text.as_str(), *refused, "{which:?}"),
