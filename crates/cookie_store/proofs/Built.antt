@@ -3,7 +3,7 @@ use Rattle.std.proofs.Common.{◌≡◌, ◌∙◌, ap, sym, refl, Bool, true, f
 use Rattle.std.proofs.lemmas.List.Elements.{filter-append}
 use Rattle.cookie_words.specs.Moments.{Moment}
 use Rattle.cookie_parts.specs.Cookie.{Row}
-use Rattle.cookie_store.specs.Rows.{built, included, put, put_all}
+use Rattle.cookie_laws.specs.Rows.{built, included, put, put_all}
 
 -- cookies, and then others
 put_all_append : (rows xs ys : List Row) → put_all rows (xs ++ ys) ≡ put_all (put_all rows xs) ys

@@ -9,7 +9,7 @@ use Rattle.cookie_parts.specs.Cookie.{Row}
 use Rattle.cookie_parts.specs.declared.error.Error.{Error}
 use Rattle.cookie_parts.specs.declared.error.Error.TheVariants.{Memory}
 use Rattle.cookie_store.specs.Loading.{AreCookies, MakesCookie, RefusesLine, RefusesText, TakesLine}
-use Rattle.cookie_store.specs.Rows.{built, included, put_all}
+use Rattle.cookie_laws.specs.Rows.{built, included, put_all}
 use Rattle.cookie_store.proofs.Built.{built_more}
 use Rattle.cookie_store.proofs.Pairs.{AllZip-more}
 

@@ -2,7 +2,7 @@
 use Rattle.std.proofs.Common.{◌≡◌, ap, refl, List, [], ◌∷◌, ◌++◌, Option}
 use Rattle.cookie_psl.specs.Rules.{RuleList}
 use Rattle.cookie_parts.specs.Cookie.{Row}
-use Rattle.cookie_store.specs.Runs.{Call, replies, rows_after, step}
+use Rattle.cookie_laws.specs.Runs.{Call, replies, rows_after, step}
 
 -- the rows
 pub rows_after_more : (suffixes : Option RuleList) (calls : List Call) (call : Call) (rows : List Row)

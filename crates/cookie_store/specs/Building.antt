@@ -4,7 +4,7 @@ use Rattle.std.specs.Iterator.{Drains, YieldsThen}
 use Rattle.cookie_words.specs.Moments.{Moment}
 use Rattle.cookie_parts.specs.Cookie.{Row}
 use Rattle.cookie_parts.specs.declared.error.Error.{Error}
-use Rattle.cookie_store.specs.Rows.{built, included, key_of, row_of}
+use Rattle.cookie_laws.specs.Rows.{built, included, key_of, row_of}
 
 -- the items are cookies, and these are the rows that are built from them
 abbrev pub Builds : {S : Type 0} → (S → Option (Result Row Error) → S → Type 0) → S → Bool → Moment → List Row → Type 0

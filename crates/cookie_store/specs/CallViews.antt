@@ -6,9 +6,9 @@ use Rattle.cookie_raw.specs.Reading.{reading}
 use Rattle.cookie_parts.specs.Cookie.{Row, early}
 use Rattle.cookie_parts.specs.declared.store_action.StoreAction.TheVariants.{Inserted}
 use Rattle.cookie_store.specs.Contents.{Contents}
-use Rattle.cookie_store.specs.Rows.{key_at}
-use Rattle.cookie_store.specs.Runs as Runs
-use Rattle.cookie_store.specs.Runs.{replies, rows_after, step}
+use Rattle.cookie_laws.specs.Rows.{key_at}
+use Rattle.cookie_laws.specs.Runs as Runs
+use Rattle.cookie_laws.specs.Runs.{replies, rows_after, step}
 use Rattle.cookie_store.specs.declared.call as Declared
 use Rattle.cookie_store.specs.declared.call.Call.TheVariants.{Set, Insert, Remove, Clear}
 use Rattle.cookie_store.specs.declared.call.Reply.TheVariants.{Stored, Removed, Cleared}

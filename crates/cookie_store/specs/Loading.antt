@@ -7,7 +7,7 @@ use Rattle.cookie_words.specs.Moments.{Moment}
 use Rattle.cookie_parts.specs.Cookie.{Row}
 use Rattle.cookie_parts.specs.declared.error.Error.{Error}
 use Rattle.cookie_parts.specs.declared.error.Error.TheVariants.{NotUtf8}
-use Rattle.cookie_store.specs.Rows.{built, included, put_all}
+use Rattle.cookie_laws.specs.Rows.{built, included, put_all}
 
 module _ (makes : List ℕ → Result Row Error → Type 0) where
   -- the line is UTF-8, and the function may make this cookie of it

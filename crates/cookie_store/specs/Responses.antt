@@ -8,7 +8,7 @@ use Rattle.cookie_raw.specs.CookieText.{cookie_text}
 use Rattle.cookie_raw.specs.Raw.{Raw}
 use Rattle.cookie_psl.specs.Rules.{RuleList}
 use Rattle.cookie_parts.specs.Cookie.{Row, cookie_of, is_secure_only}
-use Rattle.cookie_store.specs.Acceptance.{received}
+use Rattle.cookie_laws.specs.Acceptance.{received}
 use Rattle.cookie_store.specs.Contents.{Contents}
 
 -- the rows after raw cookies that came from the URL at the moment, one after the other; a refusal leaves the rows

@@ -8,7 +8,7 @@ use Rattle.cookie_words.specs.Moments.{Moment}
 use Rattle.cookie_device.specs.Device.{AppendsBeginning}
 use Rattle.cookie_parts.specs.Cookie.{Row, is_persistent}
 use Rattle.cookie_parts.specs.declared.error.Error.{Error}
-use Rattle.cookie_store.specs.Rows.{is_live}
+use Rattle.cookie_laws.specs.Rows.{is_live}
 
 -- the row has not ended by the moment, and ends at one
 abbrev pub is_saved : Moment → Row → Bool

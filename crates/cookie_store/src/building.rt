@@ -3,7 +3,7 @@ ghost use Rattle.std.specs.Prelude.{◌≡◌, ◌∷◌, [], IfErr, IfOk, IsTru
 ghost use Rattle.std.specs.Iterator.{IsFinite};
 ghost use Rattle.cookie_words.specs.Moments.{moment_of};
 ghost use Rattle.cookie_store.specs.Building.{Builds, FailsFirst, IsNewRow, WantsRoom};
-ghost use Rattle.cookie_store.specs.Rows.{are_rows, included, put_all};
+ghost use Rattle.cookie_laws.specs.Rows.{are_rows, included, put_all};
 
 use crate::rows;
 use cookie_parts::{Cookie, Error};

@@ -2,7 +2,7 @@
 ghost use Rattle.std.specs.Prelude.{◌≡◌, ◌≢◌, Err, IfOk, OnErr};
 ghost use Rattle.cookie_parts.specs.declared.cookie_error.CookieError.TheVariants.{Memory};
 ghost use Rattle.cookie_store.specs.CallViews.{reply_view};
-ghost use Rattle.cookie_store.specs.Runs as Runs;
+ghost use Rattle.cookie_laws.specs.Runs as Runs;
 
 use crate::InsertResult;
 use cookie_parts::{Cookie, CookieError};

@@ -9,14 +9,14 @@ ghost use Rattle.cookie_raw.specs.Reading.{reading};
 ghost use Rattle.cookie_parts.specs.Cookie.{cookie_of, early};
 ghost use Rattle.cookie_parts.specs.declared.cookie_error.CookieError.TheVariants.{Memory};
 ghost use Rattle.cookie_parts.specs.declared.store_action.StoreAction.TheVariants.{Inserted};
-ghost use Rattle.cookie_store.specs.Acceptance.{received, MayRefuse};
+ghost use Rattle.cookie_laws.specs.Acceptance.{received, MayRefuse};
 ghost use Rattle.cookie_store.specs.Building.{Builds, FailsFirst, WantsRoom};
 ghost use Rattle.cookie_store.specs.CallViews.{call_view, name_and_value, reply_view, MayWant, StopsAfter, StopsAt};
-ghost use Rattle.cookie_store.specs.Given.{given};
+ghost use Rattle.cookie_laws.specs.Given.{given};
 ghost use Rattle.cookie_store.specs.Loading.{BuildsFrom, RefusesText};
 ghost use Rattle.cookie_store.specs.Responses.{TakesAll, TakesSome};
-ghost use Rattle.cookie_store.specs.Rows.{are_rows, if_live, included, key_at, live_rows, put_all, row_of};
-ghost use Rattle.cookie_store.specs.Runs.{replies, rows_after, step, Clear, Insert, IsReply, Remove, Removed, Set, Stored, UnlessMemory};
+ghost use Rattle.cookie_laws.specs.Rows.{are_rows, if_live, included, key_at, live_rows, put_all, row_of};
+ghost use Rattle.cookie_laws.specs.Runs.{replies, rows_after, step, Clear, Insert, IsReply, Remove, Removed, Set, Stored, UnlessMemory};
 ghost use Rattle.cookie_store.specs.Saving.{saved_rows, StopsAtRow, StopsWithinRow, WritesRows};
 
 use crate::building::{build, take};
@@ -55,7 +55,7 @@ pub struct CookieStore {
 impl Model for CookieStore {
     ghost use Rattle.std.specs.Prelude.{IsTrue};
     ghost use Rattle.cookie_store.specs.Contents.{Contents};
-    ghost use Rattle.cookie_store.specs.Rows.{are_rows};
+    ghost use Rattle.cookie_laws.specs.Rows.{are_rows};
 
     ghost Value = { Contents };
 

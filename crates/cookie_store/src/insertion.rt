@@ -9,9 +9,9 @@ ghost use Rattle.cookie_parts.specs.Outcomes.{Gives};
 ghost use Rattle.cookie_parts.specs.Views.{domain_value};
 ghost use Rattle.cookie_parts.specs.declared.cookie_error.CookieError.TheVariants.{Memory};
 ghost use Rattle.cookie_parts.specs.declared.store_action.StoreAction.TheVariants.{Inserted};
-ghost use Rattle.cookie_store.specs.Acceptance.{accept, admitted, by_list, reply_at, MayRefuse};
-ghost use Rattle.cookie_store.specs.Rows.{are_rows};
-ghost use Rattle.cookie_store.specs.Runs.{IsReply, Stored, UnlessMemory};
+ghost use Rattle.cookie_laws.specs.Acceptance.{accept, admitted, by_list, reply_at, MayRefuse};
+ghost use Rattle.cookie_laws.specs.Rows.{are_rows};
+ghost use Rattle.cookie_laws.specs.Runs.{IsReply, Stored, UnlessMemory};
 
 use crate::{InsertResult, rows};
 use cookie_parts::utils::is_http_scheme;

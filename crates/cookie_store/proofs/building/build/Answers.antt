@@ -1,7 +1,7 @@
 use Rattle.std.proofs.Common.{◌∙◌, ap, sym, [], ◌∷◌, ◌++◌, Ok, map}
 use Rattle.std.proofs.lemmas.List.{map-append}
 use Rattle.cookie_words.specs.Moments.{moment_of}
-use Rattle.cookie_store.specs.Rows.{included, put_all}
+use Rattle.cookie_laws.specs.Rows.{included, put_all}
 use Rattle.cookie_store.proofs.Built.{built_more}
 use Rattle.cookie_store.proofs.building.build.Goals as goal
 

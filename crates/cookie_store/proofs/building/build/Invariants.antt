@@ -2,7 +2,7 @@
 use Rattle.std.proofs.Common.{◌≡◌, List, IsTrue, Ok, map}
 use Rattle.cookie_words.specs.Moments.{moment_of}
 use Rattle.cookie_parts.specs.Cookie.{Row}
-use Rattle.cookie_store.specs.Rows.{are_rows, built}
+use Rattle.cookie_laws.specs.Rows.{are_rows, built}
 use Rattle.cookie_store.proofs.building.build.Given as goal
 
 abbrev pub invariant-loop-item : goal.invariant-loop-item

@@ -2,7 +2,7 @@ use Rattle.std.proofs.Common.{string_bytes, sym, subst}
 use Rattle.std.proofs.lemmas.Result.{on_err_weaker}
 use Rattle.cookie_raw.specs.Reading.{reading}
 use Rattle.cookie_store.specs.CallViews.{call_view, MayWant}
-use Rattle.cookie_store.specs.Runs.{step}
+use Rattle.cookie_laws.specs.Runs.{step}
 use Rattle.cookie_store.specs.declared.call.Call.{Call}
 use Rattle.cookie_store.proofs.EarlyRefusals.{want_is_not_early}
 use Rattle.cookie_store.proofs.cookie_store.CookieStore.apply.Goals as goal

@@ -3,7 +3,7 @@ use Rattle.std.proofs.Math.Nat.{le_trans}
 use Rattle.std.proofs.lemmas.List.{length-append, map-append}
 use Rattle.cookie_store.specs.CallViews.{call_view, reply_view}
 use Rattle.cookie_store.specs.Contents.{Contents}
-use Rattle.cookie_store.specs.Runs.{Reply, replies, rows_after, step}
+use Rattle.cookie_laws.specs.Runs.{Reply, replies, rows_after, step}
 use Rattle.cookie_store.proofs.LongerRuns.{replies_more, rows_after_more}
 use Rattle.cookie_store.proofs.cookie_store.CookieStore.apply_all.Goals as goal
 

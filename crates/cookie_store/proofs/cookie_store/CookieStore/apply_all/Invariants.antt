@@ -3,7 +3,7 @@ use Rattle.std.proofs.Common.{◌≡◌, ◌++◌, ◌≤◌, length, map}
 use Rattle.std.specs.Vec.{vec_capacity, vec_len}
 use Rattle.std.specs.Vec.Iter.{into_iter_items}
 use Rattle.cookie_store.specs.CallViews.{call_view, reply_view}
-use Rattle.cookie_store.specs.Runs.{replies, rows_after}
+use Rattle.cookie_laws.specs.Runs.{replies, rows_after}
 use Rattle.cookie_store.proofs.cookie_store.CookieStore.apply_all.Given as goal
 
 abbrev pub invariant-loop-call : goal.invariant-loop-call

@@ -1,0 +1,146 @@
+-- What is given after calls came from the host that it is given for, or is for all hosts that a domain covers.
+use Rattle.std.proofs.Common.{◌≡◌, ℕ, Bool, true, false, not, List, [], Option, Some, None, Result, Ok, Err, IfOk, ◌⊎◌, inl, inr, ◌∙◌, refl, sym, ap, subst}
+use Rattle.std.specs.List.{All}
+use Rattle.std.specs.Str.{bytes_eq}
+use Rattle.std.proofs.lemmas.Bool.{and_parts, cond_both, not-true}
+use Rattle.std.proofs.lemmas.List.Elements.{All-filter, All-nil, filter_passes}
+use Rattle.std.proofs.lemmas.Slice.Eq.{bytes_eq-Decides}
+use Rattle.url.specs.Parts.{Parts}
+use Rattle.cookie_words.specs.Moments.{Moment}
+use Rattle.cookie_psl.specs.Rules.{RuleList}
+use Rattle.cookie_parts.specs.Cookie.{Row, and_then, cookie_at}
+use Rattle.cookie_parts.specs.Domain.{DomainValue, HostOnly, Suffix, NotPresent, Empty, domain_matches, domain_text, host_is_identical}
+use Rattle.cookie_parts.specs.Hosts.{covers, host_of, passes}
+use Rattle.cookie_parts.specs.declared.cookie_error.CookieError.{CookieError}
+use Rattle.cookie_parts.specs.declared.cookie_error.CookieError.TheVariants.{DomainMismatch, PublicSuffix}
+use Rattle.cookie_laws.specs.Acceptance.{admitted, by_domain, by_list, by_scheme, is_listed}
+use Rattle.cookie_laws.specs.Confinement.{Accepts, Brings, HaveOneHost, IsConfined, IsShared, IsUnlisted, SameButExpiry}
+use Rattle.cookie_laws.specs.Given.{given, is_given}
+use Rattle.cookie_laws.specs.Runs.{Call, Set, Insert, Remove, Clear, rows_after}
+use Rattle.cookie_laws.proofs.AcceptedRows.{All-rows_after}
+use Rattle.cookie_laws.proofs.CoveredHosts.{Covers-covers}
+
+-- where the cookie is for all hosts that a domain covers, that is no public suffix on the list
+abbrev SharesUnlisted : Option RuleList → Row → Type 0
+SharesUnlisted suffixes cookie = (domain : List ℕ) → cookie.domain ≡ Suffix domain → IsUnlisted suffixes domain
+
+-- the cookie may come from this URL
+record MayCome (suffixes : Option RuleList) (url : Parts) (cookie : Row) : Type 0 where
+  matches : domain_matches cookie.domain url ≡ true
+  shares : SharesUnlisted suffixes cookie
+
+-- what holds of the cookie that was made, if one was
+IfOk_at : (P : Row → Type 0) (made : Result Row CookieError) (cookie : Row) → IfOk made P → made ≡ Ok cookie → P cookie
+IfOk_at P made cookie holds is = subst (λ r. IfOk r P) is holds
+
+-- what a step after another gives
+and_then-IfOk : (P : Row → Type 0) (made : Result Row CookieError) (next : Row → Result Row CookieError)
+    → ((cookie : Row) → made ≡ Ok cookie → IfOk (next cookie) P) → IfOk (and_then made next) P
+and_then-IfOk P (Ok cookie) next after = after cookie refl
+and_then-IfOk P (Err refusal) next after = tt
+
+-- the list lets no public suffix through that hosts share
+by_list-shares : (suffixes : Option RuleList) (url : Parts) (cookie : Row) → IfOk (by_list suffixes url cookie) (SharesUnlisted suffixes)
+by_list-shares suffixes url cookie =
+    let own : Row = record cookie { domain = HostOnly (domain_text cookie.domain) } in
+    cond_both (not (is_listed suffixes cookie.domain)) (Ok cookie) _ (λ r. IfOk r (SharesUnlisted suffixes))
+    (λ free domain is. sym (ap (is_listed suffixes) is) ∙ not-true _ free)
+    (λ _. cond_both (host_is_identical cookie.domain url) (Ok own) (Err PublicSuffix) (λ r. IfOk r (SharesUnlisted suffixes))
+    (λ _ domain is. cc) (λ _. tt))
+
+-- the host lets through what is for it
+by_domain-MayCome : (suffixes : Option RuleList) (url : Parts) (cookie : Row) → SharesUnlisted suffixes cookie → IfOk (by_domain url cookie) (MayCome suffixes url)
+by_domain-MayCome suffixes url cookie shares =
+    cond_both (domain_matches cookie.domain url) (Ok cookie) (Err DomainMismatch) (λ r. IfOk r (MayCome suffixes url))
+    (λ matches. record { matches = matches; shares = shares }) (λ _. tt)
+
+-- a cookie that may enter may come from its URL
+admitted-MayCome : (suffixes : Option RuleList) (url : Parts) (cookie : Row) → IfOk (admitted suffixes url cookie) (MayCome suffixes url)
+admitted-MayCome suffixes url cookie =
+    let made = and_then (by_scheme url cookie) (by_list suffixes url) in
+    let shares : IfOk made (SharesUnlisted suffixes) = and_then-IfOk (SharesUnlisted suffixes) (by_scheme url cookie) (by_list suffixes url) (λ passed _. by_list-shares suffixes url passed) in
+    and_then-IfOk (MayCome suffixes url) made (by_domain url)
+    (λ passed is. by_domain-MayCome suffixes url passed (IfOk_at (SharesUnlisted suffixes) made passed shares is))
+
+-- so may the cookie that a call brings
+Brings-MayCome : (suffixes : Option RuleList) (call : Call) (from : Parts) (cookie : Row) → Brings suffixes call from cookie → MayCome suffixes from cookie
+Brings-MayCome suffixes (Set text url now) from cookie brings =
+    let may : MayCome suffixes url cookie = IfOk_at (MayCome suffixes url) (and_then (cookie_at text url now) (admitted suffixes url)) cookie
+    (and_then-IfOk (MayCome suffixes url) (cookie_at text url now) (admitted suffixes url) (λ made _. admitted-MayCome suffixes url made))
+    brings.1 in
+    subst (λ place. MayCome suffixes place cookie) (sym brings.0) may
+Brings-MayCome suffixes (Insert given url now) from cookie brings =
+    let may : MayCome suffixes url cookie = IfOk_at (MayCome suffixes url) (admitted suffixes url given) cookie (admitted-MayCome suffixes url given) brings.1 in
+    subst (λ place. MayCome suffixes place cookie) (sym brings.0) may
+Brings-MayCome suffixes (Remove key) from cookie brings = absurd brings
+Brings-MayCome suffixes Clear from cookie brings = absurd brings
+
+-- a call of the run put the row, expiry aside
+abbrev WasAccepted : Option RuleList → List Call → Row → Type 0
+WasAccepted suffixes calls row =
+    (place : ℕ) × (from : Parts) × (accepted : Row) × Accepts suffixes calls [] place from accepted × SameButExpiry accepted row
+
+-- each row was
+rows-accepted : (suffixes : Option RuleList) (calls : List Call) → All (WasAccepted suffixes calls) (rows_after suffixes calls [])
+rows-accepted suffixes calls =
+    All-rows_after (WasAccepted suffixes calls) (λ row was. (was.0, was.1, was.2, was.3, was.4)) suffixes calls []
+    (λ place from cookie accepts. (place, from, cookie, accepts, (refl, refl, refl)))
+    (All-nil (WasAccepted suffixes calls))
+
+-- there is a value that passes
+passes-value : {T : Type 0} (test : T → Bool) (value : Option T) → passes test value ≡ true → (x : T) × (value ≡ Some x) × (test x ≡ true)
+passes-value test None is = cc
+passes-value test (Some x) is = (x, refl, is)
+
+-- the host of a URL that a cookie for one host alone is for
+own_host : (host : List ℕ) (url : Parts) → domain_matches (HostOnly host) url ≡ true → host_of url ≡ Some host
+own_host host url is =
+    let found = passes-value (bytes_eq host) (host_of url) is in
+    found.1 ∙ ap Some (sym ((bytes_eq-Decides host found.0).0 found.2))
+
+-- a cookie that is for the hosts of two URLs is for one host, or they share it
+hosts_of : (suffixes : Option RuleList) (cookie : Row) (a b : Parts) (domain : DomainValue) → cookie.domain ≡ domain → SharesUnlisted suffixes cookie
+    → domain_matches domain a ≡ true → domain_matches domain b ≡ true → HaveOneHost a b ⊎ IsShared suffixes cookie a b
+hosts_of suffixes cookie a b (HostOnly host) is shares first second = inl (host, own_host host a first, own_host host b second)
+hosts_of suffixes cookie a b (Suffix domain) is shares first second =
+    let at_a = passes-value (covers domain) (host_of a) first in
+    let at_b = passes-value (covers domain) (host_of b) second in
+    inr (
+      domain,
+      is,
+      shares domain is,
+      (at_a.0, at_a.1, Covers-covers domain at_a.0 at_a.2),
+      (at_b.0, at_b.1, Covers-covers domain at_b.0 at_b.2),
+    )
+hosts_of suffixes cookie a b NotPresent is shares first second =
+    let found = passes-value (λ _. false) (host_of a) first in
+    cc found.2
+hosts_of suffixes cookie a b Empty is shares first second =
+    let found = passes-value (λ _. false) (host_of a) first in
+    cc found.2
+
+-- a row that is given is for the host of the URL
+given-matches : (url : Parts) (now : Moment) (row : Row) → is_given url now row ≡ true → domain_matches row.domain url ≡ true
+given-matches url now row is =
+    let matches = (and_parts _ _ (and_parts _ _ (and_parts _ _ is).0).0).1 in
+    (and_parts _ _ (and_parts _ _ (and_parts _ _ matches).0).0).0
+
+-- a row that was put and is given is confined
+row-confined : (suffixes : Option RuleList) (url : Parts) (now : Moment) (calls : List Call) (row : Row)
+    → WasAccepted suffixes calls row → is_given url now row ≡ true → IsConfined suffixes calls url row
+row-confined suffixes url now calls row was is =
+    let from = was.1 in
+    let accepted = was.2 in
+    let same : accepted.domain ≡ row.domain = was.4.1 in
+    let may = Brings-MayCome suffixes was.3.0.0 from accepted was.3.0.2 in
+    let first : domain_matches row.domain from ≡ true = sym (ap (λ domain. domain_matches domain from) same) ∙ may.matches in
+    let shares = λ (domain : List ℕ) (suffix : row.domain ≡ Suffix domain). may.shares domain (same ∙ suffix) in
+    (was.0, from, accepted, was.3, was.4, hosts_of suffixes row from url row.domain refl shares first (given-matches url now row is))
+
+-- what is given after calls from no rows is confined
+pub given-confined : (suffixes : Option RuleList) (url : Parts) (now : Moment) (calls : List Call)
+    → All (IsConfined suffixes calls url) (given url now (rows_after suffixes calls []))
+given-confined suffixes url now calls k d within =
+    let rows = rows_after suffixes calls [] in
+    let was = All-filter (is_given url now) (WasAccepted suffixes calls) rows (rows-accepted suffixes calls) k d within in
+    row-confined suffixes url now calls _ was (filter_passes (is_given url now) rows k d within)

@@ -1,0 +1,11 @@
+pub mod AcceptanceOfKeys
+pub mod AcceptedRows
+pub mod CallsOfKey
+pub mod ConfinedRows
+pub mod CoveredHosts
+pub mod Filtered
+pub mod FoundRows
+pub mod RelatedCalls
+pub mod RowsOfKeys
+pub mod RunsOfKeys
+pub mod SingleInsertions

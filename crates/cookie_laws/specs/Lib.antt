@@ -1,0 +1,6 @@
+pub mod Acceptance
+pub mod Confinement
+pub mod Given
+pub mod Related
+pub mod Rows
+pub mod Runs

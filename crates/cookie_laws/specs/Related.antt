@@ -1,0 +1,59 @@
+-- Which calls of a run touch what is given for a URL, and which touch the row of a key.
+use Rattle.std.specs.Prelude.{ℕ, ◌==◌, Bool, true, false, ◌||◌, List, [], ◌∷◌, bytes_eq, filter, Option, Some, None, option_map, if◌then◌else◌}
+use Rattle.std.specs.List.{list_any}
+use Rattle.std.specs.Result.{result_ok}
+use Rattle.url.specs.Parts.{Parts}
+use Rattle.cookie_psl.specs.Rules.{RuleList}
+use Rattle.cookie_parts.specs.Cookie.{Row, cookie_at}
+use Rattle.cookie_parts.specs.Hosts.{host_of, passes}
+use Rattle.cookie_laws.specs.Rows.{Key, key_of, same_key}
+use Rattle.cookie_laws.specs.Runs.{Call, Set, Insert, Remove, Clear, Reply, step}
+
+-- the texts that follow the dots of a text
+abbrev pub after_dots : List ℕ → List (List ℕ)
+after_dots [] = []
+after_dots (b ∷ bs) = if b == 46 then bs ∷ after_dots bs else after_dots bs
+
+-- a domain is related to a URL if it is the URL's host, or follows one of the host's dots
+abbrev pub is_related : Parts → List ℕ → Bool
+is_related url domain = passes (λ host. list_any (bytes_eq domain) (host ∷ after_dots host)) (host_of url)
+
+-- the key that a call is for; a text that makes no cookie is for none, and neither is `Clear`
+abbrev pub call_key : Call → Option Key
+call_key (Set text url now) = option_map key_of (result_ok (cookie_at text url now))
+call_key (Insert cookie url now) = Some (key_of cookie)
+call_key (Remove key) = Some key
+call_key Clear = None
+
+-- a test of a value that there may be, true where there is none
+abbrev pub passes_or_none : {T : Type 0} → (T → Bool) → Option T → Bool
+passes_or_none test None = true
+passes_or_none test (Some x) = test x
+
+-- a call is for a domain that is related to the URL, or for no key
+abbrev pub concerns : Parts → Call → Bool
+concerns url call = passes_or_none (λ key. is_related url key.domain) (call_key call)
+
+-- the calls without those for domains that are not related to the URL
+abbrev pub left : Parts → List Call → List Call
+left url calls = filter (concerns url) calls
+
+-- the call is `Clear`
+abbrev pub is_clear : Call → Bool
+is_clear Clear = true
+is_clear other = false
+
+-- a call is for the key, or `Clear`
+abbrev pub is_of_key : Key → Call → Bool
+is_of_key key call = is_clear call || passes (same_key key) (call_key call)
+
+-- the calls for the key, and `Clear`
+abbrev pub of_key : Key → List Call → List Call
+of_key key calls = filter (is_of_key key) calls
+
+-- in the run of all calls, the replies to those that pass the test
+abbrev pub replies_to : (Call → Bool) → Option RuleList → List Call → List Row → List Reply
+replies_to test suffixes [] rows = []
+replies_to test suffixes (call ∷ calls) rows =
+    if test call then (step suffixes call rows).reply ∷ replies_to test suffixes calls (step suffixes call rows).rows
+    else replies_to test suffixes calls (step suffixes call rows).rows

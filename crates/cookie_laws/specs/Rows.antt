@@ -1,0 +1,148 @@
+-- The rows of a store: one list of cookies, each under its key.
+use Rattle.std.specs.Prelude.{◌≡◌, ℕ, Bool, true, not, ◌&&◌, ◌||◌, List, [], ◌∷◌, bytes_eq, filter, find, map, Option, Some, None, if◌then◌else◌}
+use Rattle.std.specs.Cmp.{IsEquivalence}
+use Rattle.std.specs.List.{list_any}
+use Rattle.std.proofs.lemmas.Bool.{and_parts}
+use Rattle.std.proofs.lemmas.Cmp.{nat_list_eq_equiv, on_equiv, and_equiv}
+use Rattle.std.proofs.lemmas.Slice.Eq.{bytes_eq-Decides}
+use Rattle.cookie_words.specs.Moments.{Moment}
+use Rattle.cookie_parts.specs.Cookie.{Row, is_expired}
+use Rattle.cookie_parts.specs.Domain.{domain_text}
+
+-- RFC 6265 5.3 step 11: what no two cookies of a store share
+pub record Key : Type 0 where
+  pub domain : List ℕ
+  pub path : List ℕ
+  pub name : List ℕ
+
+-- the key of this domain, path and name
+abbrev pub key_at : List ℕ → List ℕ → List ℕ → Key
+key_at domain path name = record { domain = domain; path = path; name = name }
+
+-- the key of a row
+abbrev pub key_of : Row → Key
+key_of cookie = record { domain = domain_text cookie.domain; path = cookie.path.text; name = cookie.raw.name }
+
+-- the keys are of one domain
+abbrev pub same_domain : Key → Key → Bool
+same_domain a b = bytes_eq a.domain b.domain
+
+-- of one domain and path
+abbrev pub same_group : Key → Key → Bool
+same_group a b = same_domain a b && bytes_eq a.path b.path
+
+-- the same
+abbrev pub same_key : Key → Key → Bool
+same_key a b = same_group a b && bytes_eq a.name b.name
+
+-- each of the three is an equivalence
+pub same_domain_equiv : IsEquivalence same_domain
+same_domain_equiv = on_equiv (λ (k : Key). k.domain) nat_list_eq_equiv
+
+pub same_group_equiv : IsEquivalence same_group
+same_group_equiv = and_equiv same_domain_equiv (on_equiv (λ (k : Key). k.path) nat_list_eq_equiv)
+
+pub same_key_equiv : IsEquivalence same_key
+same_key_equiv = and_equiv same_group_equiv (on_equiv (λ (k : Key). k.name) nat_list_eq_equiv)
+
+-- keys that pass as the same are equal
+pub same_key-true : (a b : Key) → same_key a b ≡ true → a ≡ b
+same_key-true a b h =
+    let named : (same_group a b ≡ true) × (bytes_eq a.name b.name ≡ true) = and_parts _ _ h in
+    let group : (same_domain a b ≡ true) × (bytes_eq a.path b.path ≡ true) = and_parts _ _ named.0 in
+    let domain : a.domain ≡ b.domain = (bytes_eq-Decides a.domain b.domain).0 group.0 in
+    let path : a.path ≡ b.path = (bytes_eq-Decides a.path b.path).0 group.1 in
+    let name : a.name ≡ b.name = (bytes_eq-Decides a.name b.name).0 named.1 in
+    λ i. record { domain = domain i; path = path i; name = name i }
+
+-- a row of this key's domain
+abbrev pub in_domain : Key → Row → Bool
+in_domain key row = same_domain key (key_of row)
+
+-- a row of its domain and path
+abbrev pub in_group : Key → Row → Bool
+in_group key row = same_group key (key_of row)
+
+-- the row of the key
+abbrev pub has_key : Key → Row → Bool
+has_key key row = same_key key (key_of row)
+
+-- the row of the key, if there is one
+abbrev pub row_of : Key → List Row → Option Row
+row_of key rows = find (has_key key) rows
+
+-- the row has not ended
+abbrev pub is_live : Moment → Row → Bool
+is_live now row = not (is_expired now row)
+
+-- the row, if there is one and it has not ended
+abbrev pub if_live : Moment → Option Row → Option Row
+if_live now None = None
+if_live now (Some row) = if is_live now row then Some row else None
+
+-- the rows that have not ended
+abbrev pub live_rows : Moment → List Row → List Row
+live_rows now rows = filter (is_live now) rows
+
+-- the list with y right after the last item that passes the test, or at the end where none does
+abbrev pub after_last : {T : Type 0} → (T → Bool) → List T → T → List T
+after_last test [] y = y ∷ []
+after_last test (x ∷ xs) y =
+    if test x && not (list_any test xs) then x ∷ y ∷ xs else x ∷ after_last test xs y
+
+-- the list with its first item that passes the test changed
+abbrev pub changed : {T : Type 0} → (T → Bool) → (T → T) → List T → List T
+changed test change [] = []
+changed test change (x ∷ xs) = if test x then change x ∷ xs else x ∷ changed test change xs
+
+-- the list with y in the place of the first item that passes the test
+abbrev pub replaced : {T : Type 0} → (T → Bool) → List T → T → List T
+replaced test xs y = changed test (λ _. y) xs
+
+-- the list without its first item that passes the test
+abbrev pub removed : {T : Type 0} → (T → Bool) → List T → List T
+removed test [] = []
+removed test (x ∷ xs) = if test x then xs else x ∷ removed test xs
+
+-- a new row goes after the last row of its domain and path, else after the last of its domain, else last
+abbrev pub placed : List Row → Row → List Row
+placed rows cookie =
+    if list_any (in_group (key_of cookie)) rows then after_last (in_group (key_of cookie)) rows cookie
+    else after_last (in_domain (key_of cookie)) rows cookie
+
+-- the cookie takes the place of the row of its key, or is a new row
+abbrev pub put : List Row → Row → List Row
+put rows cookie =
+    if list_any (has_key (key_of cookie)) rows then replaced (has_key (key_of cookie)) rows cookie
+    else placed rows cookie
+
+-- the rows after these cookies were put, one after the other
+abbrev pub put_all : List Row → List Row → List Row
+put_all rows [] = rows
+put_all rows (cookie ∷ cookies) = put_all (put rows cookie) cookies
+
+-- of cookies, all or those that have not ended
+abbrev pub included : Bool → Moment → List Row → List Row
+included include_expired now cookies = if include_expired then cookies else live_rows now cookies
+
+-- the rows that are built from cookies, of which those that have ended may be passed over
+abbrev pub built : Bool → Moment → List Row → List Row
+built include_expired now cookies = put_all [] (included include_expired now cookies)
+
+-- no two items are alike
+abbrev pub differ : {T : Type 0} → (T → T → Bool) → List T → Bool
+differ alike [] = true
+differ alike (x ∷ xs) = not (list_any (alike x) xs) && differ alike xs
+
+-- items that are alike stand together: where the next item is not like this one, no later item is
+abbrev pub stand_together : {T : Type 0} → (T → T → Bool) → List T → Bool
+stand_together alike [] = true
+stand_together alike (x ∷ []) = true
+stand_together alike (x ∷ y ∷ ys) =
+    (alike x y || not (list_any (alike x) ys)) && stand_together alike (y ∷ ys)
+
+-- keys differ, rows of one domain stand together, and in them rows of one path
+abbrev pub are_rows : List Row → Bool
+are_rows rows =
+    let keys = map key_of rows in
+    differ same_key keys && (stand_together same_domain keys && stand_together same_group keys)

@@ -1,0 +1,66 @@
+//! The definitions of a cookie store, and the laws that follow from them.
+//!
+//! What stands here is about lists of rows and of calls alone: `specs/` says what rows are, what becomes of a cookie that comes, what
+//! a run of calls leaves and what is given of it, and each function below is a law over all of them. A store meets these
+//! definitions by its contracts, so the laws hold of each.
+#![tactic(auto)]
+
+ghost use Rattle.cookie_parts.specs.Cookie.{Row, ended, is_out_of_reach};
+ghost use Rattle.cookie_parts.specs.Domain.{domain_text, HostOnly};
+ghost use Rattle.cookie_parts.specs.declared.store_action.StoreAction.TheVariants.{ExpiredExisting};
+ghost use Rattle.cookie_psl.specs.Rules.{RuleList};
+ghost use Rattle.cookie_laws.specs.Acceptance.{accept, admitted, is_listed, IsPut};
+ghost use Rattle.cookie_laws.specs.Confinement.{IsConfined};
+ghost use Rattle.cookie_laws.specs.Given.{given};
+ghost use Rattle.cookie_laws.specs.Related.{concerns, is_of_key, left, of_key, replies_to};
+ghost use Rattle.cookie_laws.specs.Rows.{changed, has_key, is_live, key_of, row_of, Key};
+ghost use Rattle.cookie_laws.specs.Runs.{Call, replies, rows_after};
+ghost use Rattle.cookie_words.specs.Moments.{Moment};
+ghost use Rattle.std.specs.List.{All};
+ghost use Rattle.std.specs.Prelude.{◌≡◌, [], true, List, Ok, Option, Some};
+ghost use Rattle.url.specs.Parts.{Parts};
+
+/// Calls for domains that are not related to a URL change nothing in what is given for it, nor in the replies to the others.
+pub fn isolated()
+    ensures given { (suffixes : Option RuleList) (url : Parts) (now : Moment) (calls : List Call) (rows : List Row)
+        → given url now (rows_after suffixes calls rows) ≡ given url now (rows_after suffixes (left url calls) rows) }
+    ensures replies { (suffixes : Option RuleList) (url : Parts) (calls : List Call) (rows : List Row)
+        → replies_to (concerns url) suffixes calls rows ≡ replies suffixes (left url calls) rows }
+{}
+
+/// The row of a key, and the replies to the calls for it, depend on the begun rows, the list, the calls for that key and `Clear` alone.
+pub fn per_key()
+    ensures row { (suffixes : Option RuleList) (key : Key) (calls : List Call) (rows : List Row)
+        → row_of key (rows_after suffixes calls rows) ≡ row_of key (rows_after suffixes (of_key key calls) rows) }
+    ensures replies { (suffixes : Option RuleList) (key : Key) (calls : List Call) (rows : List Row)
+        → replies_to (is_of_key key) suffixes calls rows ≡ replies suffixes (of_key key calls) rows }
+{}
+
+/// What is given after calls from no rows was accepted by one of them, expiry aside, from the same host, or is for all hosts
+/// that a domain covers which is no public suffix on the list, and that covers both hosts.
+pub fn confined()
+    ensures { (suffixes : Option RuleList) (url : Parts) (now : Moment) (calls : List Call)
+        → All (IsConfined suffixes calls url) (given url now (rows_after suffixes calls [])) }
+{}
+
+/// A cookie that is put is the row of its key, and where its domain is a public suffix on the list, it is for that host alone.
+pub fn listed_is_for_its_host()
+    ensures { (suffixes : Option RuleList) (rows : List Row) (cookie : Row) (url : Parts) (now : Moment)
+        → IsPut (accept suffixes rows cookie url now).reply → (entered : Row) × (admitted suffixes url cookie ≡ Ok entered)
+        × (row_of (key_of cookie) (accept suffixes rows cookie url now).rows ≡ Some entered)
+        × (is_listed suffixes entered.domain ≡ true → entered.domain ≡ HostOnly (domain_text entered.domain)) }
+{}
+
+/// An insertion that ends a row changes nothing else.
+pub fn ends_one_row()
+    ensures { (suffixes : Option RuleList) (rows : List Row) (cookie : Row) (url : Parts) (now : Moment)
+        → (accept suffixes rows cookie url now).reply ≡ Ok ExpiredExisting
+        → (accept suffixes rows cookie url now).rows ≡ changed (has_key (key_of cookie)) ended rows }
+{}
+
+/// No insertion from a scheme that is not HTTP replaces or ends a row that is HttpOnly and has not ended.
+pub fn guarded()
+    ensures { (suffixes : Option RuleList) (rows : List Row) (cookie : Row) (url : Parts) (now : Moment) (key : Key) (row : Row)
+        → row_of key rows ≡ Some row → is_live now row ≡ true → is_out_of_reach row.raw url ≡ true
+        → row_of key (accept suffixes rows cookie url now).rows ≡ Some row }
+{}

@@ -1,0 +1,7 @@
+pub mod AfterLast
+pub mod Ends
+pub mod KeptOrder
+pub mod Placed
+pub mod Positions
+pub mod Removed
+pub mod StandTogether

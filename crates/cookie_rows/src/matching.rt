@@ -1,0 +1,44 @@
+//! The cookies of a URL, RFC 6265 5.4.
+ghost use Rattle.std.specs.Prelude.{◌≡◌, ◌&&◌, [], bytes_eq, codes, map, not, IfOk};
+ghost use Rattle.cookie_words.specs.Moments.{moment_of};
+ghost use Rattle.cookie_parts.specs.Domain.{domain_text};
+ghost use Rattle.cookie_laws.specs.Given.{given, is_given};
+
+use cookie_parts::Cookie;
+use jiff::civil::DateTime;
+use std::alloc::{AllocError, Global};
+use url::Url;
+
+// The cookie has not ended and is for the URL, its domain is a name, and its path begins with `/`.
+fn is_given(cookie: &Cookie<'static>, url: &Url, now: DateTime) -> bool
+    ensures { result ≡ is_given url.now (moment_of now) cookie.now }
+{
+    !cookie.is_expired(now)
+        && cookie.matches(url)
+        && has_name(cookie)
+        && cookie.path.as_str().as_bytes().starts_with(b"/")
+}
+
+// Whether the cookie's domain is more than nothing and a dot.
+fn has_name(cookie: &Cookie<'static>) -> bool
+    ensures { result ≡ (not (bytes_eq (domain_text cookie.now.domain) []) && not (bytes_eq (domain_text cookie.now.domain) (codes "."))) }
+{
+    match cookie.domain.as_cow() {
+        Some(domain) => !domain.is_empty() && domain != ".",
+        None => false,
+    }
+}
+
+/// The rows that are given for the URL, in their order.
+pub(crate) fn given<'a>(
+    alloc: Global,
+    rows: &'a [Cookie<'static>],
+    url: &Url,
+    now: DateTime,
+) -> Result<Vec<&'a Cookie<'static>>, AllocError>
+    ensures { IfOk result (λ cookies. map (λ c. c.now) cookies.items ≡ given url.now (moment_of now) rows.now) }
+{
+    rows.iter()
+        .filter(|cookie| is_given(cookie, url, now))
+        .collect(alloc)
+}

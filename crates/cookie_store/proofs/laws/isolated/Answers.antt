@@ -1,5 +1,0 @@
-use Rattle.cookie_store.proofs.RelatedCalls.{same_given, same_related_replies}
-use Rattle.cookie_store.proofs.laws.isolated.Goals as goal
-
-pub returns : goal.returns
-returns c = record { given = same_given; replies = same_related_replies }
