@@ -15,12 +15,12 @@ fn is_given(cookie: &Cookie<'static>, url: &Url, now: DateTime) -> bool
 {
     !cookie.is_expired(now)
         && cookie.matches(url)
-        && has_name(cookie)
+        && has_domain_name(cookie)
         && cookie.path.as_str().as_bytes().starts_with(b"/")
 }
 
-// Whether the cookie's domain is more than nothing and a dot.
-fn has_name(cookie: &Cookie<'static>) -> bool
+// Whether the domain of the cookie is a name: neither nothing nor a dot.
+fn has_domain_name(cookie: &Cookie<'static>) -> bool
     ensures { result ≡ (not (bytes_eq (domain_text cookie.now.domain) []) && not (bytes_eq (domain_text cookie.now.domain) (codes "."))) }
 {
     match cookie.domain.as_cow() {

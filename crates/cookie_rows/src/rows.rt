@@ -1,13 +1,139 @@
-//! The rows of a store, as one list.
-ghost use Rattle.std.specs.Prelude.{◌≡◌, ◌≤◌, insert, length, position, IsTrue, None, OnErr, OnOk};
+//! The rows, as one list.
+ghost use Rattle.std.specs.Prelude.{◌≡◌, ◌≤◌, [], insert, length, map, position, IfOk, IsTrue, None, OnErr, OnOk};
 ghost use Rattle.std.specs.Option.{option_copied};
+ghost use Rattle.cookie_words.specs.Moments.{moment_of};
 ghost use Rattle.cookie_parts.specs.Cookie.{ended};
 ghost use Rattle.cookie_parts.specs.Domain.{domain_text};
+ghost use Rattle.cookie_laws.specs.Given.{given};
+ghost use Rattle.cookie_laws.specs.Rows.{are_rows, changed, has_key, in_domain, in_group, key_at, key_of, live_rows, placed, put, removed, row_of};
 ghost use Rattle.cookie_rows.specs.Places.{EndsAt};
-ghost use Rattle.cookie_laws.specs.Rows.{are_rows, changed, has_key, in_domain, in_group, key_at, key_of, placed, put, removed, row_of};
 
+use crate::iter::{IterAny, IterUnexpired};
+use crate::matching::given;
 use cookie_parts::Cookie;
-use std::alloc::AllocError;
+use jiff::civil::DateTime;
+use std::alloc::{AllocError, Global};
+use std::marker::Model;
+use url::Url;
+
+/// The rows of a store, RFC 6265 5.3, in the order in which they came, where rows of one domain stand together, and among them
+/// rows of one path. No two have the same domain, path and name.
+#[derive(Drop)]
+pub struct Rows {
+    rows: Vec<Cookie<'static>>,
+}
+
+impl Model for Rows {
+    ghost use Rattle.std.specs.Prelude.{IsTrue, List};
+    ghost use Rattle.cookie_parts.specs.Cookie.{Row};
+    ghost use Rattle.cookie_laws.specs.Rows.{are_rows};
+
+    ghost Value = { List Row };
+
+    ghost view = { λ r. r.rows.items };
+
+    ghost invariant = { λ r. IsTrue (are_rows r.rows.items) };
+}
+
+impl Clone for Rows {
+    ghost use Rattle.std.specs.Prelude.{◌≡◌};
+
+    ghost is_clone = { λ rows copy. copy ≡ rows };
+
+    fn clone(&self) -> Result<Rows, AllocError> {
+        Ok(Rows {
+            rows: self.rows.clone()?,
+        })
+    }
+}
+
+impl Rows {
+    /// No rows.
+    pub fn new(alloc: Global) -> Rows
+        ensures { result ≡ [] }
+    {
+        Rows {
+            rows: Vec::new(alloc),
+        }
+    }
+
+    /// The row of this domain, path and name, if there is one.
+    pub fn named(&self, domain: &str, path: &str, name: &str) -> Option<&Cookie<'static>>
+        ensures { option_copied result ≡ row_of (key_at domain.now path.now name.now) self.now }
+    {
+        self.rows
+            .iter()
+            .find(|row| has_texts(row, domain, path, name))
+    }
+
+    /// The row of the cookie's domain, path and name, if there is one.
+    pub fn row_of(&self, cookie: &Cookie<'static>) -> Option<&Cookie<'static>>
+        ensures { option_copied result ≡ row_of (key_of cookie.now) self.now }
+    {
+        self.rows.iter().find(|row| has_key(cookie, row))
+    }
+
+    /// All rows, in their order.
+    pub fn iter(&self) -> IterAny<'_>
+        ensures { result ≡ self.now }
+    {
+        IterAny::new(self.rows.as_slice())
+    }
+
+    /// The rows that have not ended by the moment, in their order.
+    pub fn iter_unexpired(&self, now: DateTime) -> IterUnexpired<'_>
+        ensures { result ≡ live_rows (moment_of now) self.now }
+    {
+        IterUnexpired::new(self.rows.as_slice(), now)
+    }
+
+    /// The rows that are given for the URL at the moment, RFC 6265 5.4, in their order.
+    pub fn given(
+        &self,
+        alloc: Global,
+        url: &Url,
+        now: DateTime,
+    ) -> Result<Vec<&Cookie<'static>>, AllocError>
+        ensures given { IfOk result
+            (λ cookies. map (λ c. c.now) cookies.items ≡ given url.now (moment_of now) self.now) }
+        ensures in_order { IsTrue (are_rows self.now) }
+    {
+        given(alloc, self.rows.as_slice(), url, now)
+    }
+
+    /// Puts the cookie in the place of the row of its domain, path and name, or where a new row goes: after the last row of
+    /// its domain and path, else after the last of its domain, else last. Want of memory leaves the rows, and comes only where
+    /// there is no such row.
+    pub fn put(&mut self, cookie: Cookie<'static>) -> Result<(), AllocError>
+        ensures put { OnOk result (self.new ≡ put self.old cookie.entry) }
+        ensures err { OnErr result (self.new ≡ self.old) }
+        ensures memory { OnErr result (row_of (key_of cookie.entry) self.old ≡ None) }
+    {
+        put(&mut self.rows, cookie)
+    }
+
+    /// Ends the row of the cookie's domain, path and name, if there is one.
+    pub fn end(&mut self, cookie: &Cookie<'static>)
+        ensures { self.new ≡ changed (has_key (key_of cookie.now)) ended self.old }
+    {
+        end(&mut self.rows, cookie);
+    }
+
+    /// Takes out the row of this domain, path and name, if there is one. The others keep their order.
+    pub fn remove(&mut self, domain: &str, path: &str, name: &str) -> Option<Cookie<'static>>
+        ensures value { result ≡ row_of (key_at domain.now path.now name.now) self.old }
+        ensures removed { self.new ≡ removed (has_key (key_at domain.now path.now name.now)) self.old }
+    {
+        remove(&mut self.rows, domain, path, name)
+    }
+
+    /// Takes out all rows.
+    pub fn clear(&mut self)
+        ensures { self.new ≡ [] }
+    {
+        self.rows.clear();
+    }
+}
 
 fn domain_text<'a>(cookie: &'a Cookie<'static>) -> &'a str
     ensures { result.now ≡ domain_text cookie.now.domain }
@@ -74,37 +200,14 @@ fn position(rows: &[Cookie<'static>], cookie: &Cookie<'static>) -> Option<usize>
     rows.iter().position(|row| has_key(cookie, row))
 }
 
-/// The row of the cookie's key, if there is one.
-pub(crate) fn row_of<'a>(
-    rows: &'a [Cookie<'static>],
-    cookie: &Cookie<'static>,
-) -> Option<&'a Cookie<'static>>
-    ensures { option_copied result ≡ row_of (key_of cookie.now) rows.now }
-{
-    rows.iter().find(|row| has_key(cookie, row))
-}
-
 fn has_texts(row: &Cookie<'static>, domain: &str, path: &str, name: &str) -> bool
     ensures { result ≡ has_key (key_at domain.now path.now name.now) row.now }
 {
     domain == domain_text(row) && path == row.path.as_str() && name == row.name()
 }
 
-/// The row of this domain, path and name, if there is one.
-pub(crate) fn named<'a>(
-    rows: &'a [Cookie<'static>],
-    domain: &str,
-    path: &str,
-    name: &str,
-) -> Option<&'a Cookie<'static>>
-    ensures { option_copied result
-        ≡ row_of (key_at domain.now path.now name.now) rows.now }
-{
-    rows.iter().find(|row| has_texts(row, domain, path, name))
-}
-
-/// Ends the row of the cookie's key.
-pub(crate) fn end(rows: &mut Vec<Cookie<'static>>, cookie: &Cookie<'static>)
+// Ends the row of the cookie's key.
+fn end(rows: &mut Vec<Cookie<'static>>, cookie: &Cookie<'static>)
     requires { IsTrue (are_rows rows.old.items) }
     ensures ended { rows.new.items ≡ changed (has_key (key_of cookie.now)) ended rows.old.items }
     ensures rows { IsTrue (are_rows rows.new.items) }
@@ -114,9 +217,8 @@ pub(crate) fn end(rows: &mut Vec<Cookie<'static>>, cookie: &Cookie<'static>)
     }
 }
 
-/// Puts the cookie in the place of the row of its key, or where a new row goes. Want of memory leaves the rows, and
-/// comes only where there is no such row.
-pub(crate) fn put(
+// Puts the cookie in the place of the row of its key, or where a new row goes.
+fn put(
     rows: &mut Vec<Cookie<'static>>,
     cookie: Cookie<'static>,
 ) -> Result<(), AllocError>
@@ -138,8 +240,8 @@ pub(crate) fn put(
     Ok(())
 }
 
-/// Takes out the row of this domain, path and name, if there is one. The others keep their order.
-pub(crate) fn remove(
+// Takes out the row of this domain, path and name, if there is one.
+fn remove(
     rows: &mut Vec<Cookie<'static>>,
     domain: &str,
     path: &str,
