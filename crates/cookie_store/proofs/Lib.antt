@@ -4,3 +4,4 @@ pub mod LoadedLines
 pub mod LongerRuns
 pub mod Pairs
 pub mod SavedLines
+pub mod Walked

@@ -1,5 +1,5 @@
--- Lines that are written of some rows and of one row more, and the rows that are saved up to one and after it.
-use Rattle.std.proofs.Common.{◌≡◌, ℕ, ◌+◌, ◌<◌, Bool, true, false, List, [], ◌∷◌, ◌++◌, length, get_or, take, drop, Option, Result, Ok, Err, ◌⊎◌, inl, inr, sym, ap, subst, ◌∙◌, append-nil, take-append-drop, arith}
+-- Lines that are written of some rows and of one row more.
+use Rattle.std.proofs.Common.{◌≡◌, ℕ, ◌+◌, ◌<◌, Bool, true, false, List, [], ◌∷◌, ◌++◌, length, get_or, take, drop, Option, Result, Ok, Err, ◌⊎◌, inl, inr, refl, sym, ap, subst, ◌∙◌, append-nil, take-append-drop, arith}
 use Rattle.std.specs.List.{filter}
 use Rattle.std.specs.declared.alloc.Global.{Global}
 use Rattle.std.specs.declared.string.String.{String}
@@ -14,52 +14,19 @@ use Rattle.cookie_parts.specs.declared.error.Error.TheVariants.{Io}
 use Rattle.cookie_store.specs.Saving.{is_saved, line_text, lines_text, BeginsRow, StopsAtRow, StopsWithinRow, WritesRow, WritesRows}
 use Rattle.cookie_store.proofs.Pairs.{AllZip-more}
 
--- the items before one, itself and those after it
-pub split_around : {A : Type 0} (xs : List A) (i : ℕ) (x : A) → i < length xs → x ≡ get_or xs i x → xs ≡ take i xs ++ x ∷ drop (i + 1) xs
-split_around xs i x within is =
-    sym (take-append-drop i xs) ∙ ap (λ l. take i xs ++ l) (drop_more xs i x within)
-    ∙ ap (λ y. take i xs ++ y ∷ drop (i + 1) xs) (sym is)
-
--- the items up to one, and itself
-pub front_more : {A : Type 0} (xs : List A) (i : ℕ) (x : A) → i < length xs → x ≡ get_or xs i x → take (i + 1) xs ≡ take i xs ++ x ∷ []
-front_more xs i x within is = take_more xs i x within ∙ ap (λ y. take i xs ++ y ∷ []) (sym is)
+-- a filter that all items pass keeps them all
+pub filter-all : {A : Type 0} (xs : List A) → filter (λ x. true) xs ≡ xs
+filter-all [] = refl
+filter-all (x ∷ xs) = ap (λ ys. x ∷ ys) (filter-all xs)
 
 -- of items, one of which passes, a filter keeps it among the others that it keeps
-filter_around : {A : Type 0} (p : A → Bool) (before : List A) (x : A) (after : List A) → p x ≡ true
+pub filter_around : {A : Type 0} (p : A → Bool) (before : List A) (x : A) (after : List A) → p x ≡ true
     → filter p (before ++ x ∷ after) ≡ filter p before ++ x ∷ filter p after
 filter_around p before x after passes = filter-append p before (x ∷ after) ∙ grind arith
 
 -- and leaves one out that does not pass
-filter_past : {A : Type 0} (p : A → Bool) (before : List A) (x : A) → p x ≡ false → filter p (before ++ x ∷ []) ≡ filter p before
+pub filter_past : {A : Type 0} (p : A → Bool) (before : List A) (x : A) → p x ≡ false → filter p (before ++ x ∷ []) ≡ filter p before
 filter_past p before x fails = grind (arith, filter-append p before (x ∷ []), append-nil (filter p before))
-
--- the items that a filter keeps before one, this one if it passes, and those that it keeps after it
-pub kept_around : {A : Type 0} (p : A → Bool) (xs : List A) (i : ℕ) (x : A) → i < length xs → x ≡ get_or xs i x → p x ≡ true
-    → filter p xs ≡ filter p (take i xs) ++ x ∷ filter p (drop (i + 1) xs)
-kept_around p xs i x within is passes =
-    ap (filter p) (split_around xs i x within is) ∙ filter_around p (take i xs) x (drop (i + 1) xs) passes
-
--- the items that a filter keeps up to one, if this one passes
-pub kept_more : {A : Type 0} (p : A → Bool) (xs : List A) (i : ℕ) (x : A) → i < length xs → x ≡ get_or xs i x → p x ≡ true
-    → filter p (take (i + 1) xs) ≡ filter p (take i xs) ++ x ∷ []
-kept_more p xs i x within is passes = ap (filter p) (front_more xs i x within is) ∙ filter_around p (take i xs) x [] passes
-
--- and if it does not
-pub kept_past : {A : Type 0} (p : A → Bool) (xs : List A) (i : ℕ) (x : A) → i < length xs → x ≡ get_or xs i x → p x ≡ false
-    → filter p (take (i + 1) xs) ≡ filter p (take i xs)
-kept_past p xs i x within is fails = ap (filter p) (front_more xs i x within is) ∙ filter_past p (take i xs) x fails
-
--- a row that ends at a moment, and has not ended, is saved
-pub saved_where : (now : Moment) (row : Row) → true ≡ is_persistent row.expires → false ≡ is_expired now row → is_saved now row ≡ true
-saved_where now row ends lives = grind arith
-
--- one that has ended is not
-pub unsaved_where_expired : (now : Moment) (row : Row) → true ≡ is_expired now row → is_saved now row ≡ false
-unsaved_where_expired now row expired = grind arith
-
--- nor one that ends with the session
-pub unsaved_where_session : (now : Moment) (row : Row) → false ≡ is_persistent row.expires → is_saved now row ≡ false
-unsaved_where_session now row ends = grind arith
 
 module _ (says : Row → Result (String Global) Error → Type 0) where
   -- no line, of no row

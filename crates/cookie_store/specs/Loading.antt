@@ -1,12 +1,12 @@
 -- Rows that are made of lines, through a function that may answer a cookie for a line, or an error.
-use Rattle.std.specs.Prelude.{◌≡◌, ℕ, Bool, false, List, [], ◌∷◌, ◌++◌, Option, Result, Ok, Err, IfSome, IsTrue, ◌⊎◌}
+use Rattle.std.specs.Prelude.{◌≡◌, ℕ, ◌+◌, ◌≤◌, length, Bool, false, List, [], ◌∷◌, ◌++◌, Option, Result, Ok, Err, IfSome, IsTrue, ◌⊎◌}
 use Rattle.std.specs.List.{AllZip}
 use Rattle.std.specs.Str.{is_utf8}
 use Rattle.std.specs.Str.Lines.{lines}
 use Rattle.cookie_words.specs.Moments.{Moment}
 use Rattle.cookie_parts.specs.Cookie.{Row}
 use Rattle.cookie_parts.specs.declared.error.Error.{Error}
-use Rattle.cookie_parts.specs.declared.error.Error.TheVariants.{NotUtf8}
+use Rattle.cookie_parts.specs.declared.error.Error.TheVariants.{Io, Memory, NotUtf8}
 use Rattle.cookie_laws.specs.Rows.{built, included, put_all}
 
 module _ (makes : List ℕ → Result Row Error → Type 0) where
@@ -39,3 +39,13 @@ module _ (makes : List ℕ → Result Row Error → Type 0) where
   BuildsFrom known include_expired now rows =
       (cookies : List Row) × (rows ≡ built include_expired now cookies)
       × IfSome known (λ text. AreCookies (lines text) cookies)
+
+  -- a read failed, which raised the count of failures by one; or memory ran out, or a line is refused
+  abbrev pub FailsToLoad : Error → Option (List ℕ) → ℕ → ℕ → Type 0
+  FailsToLoad error known failures failures' =
+      ((error ≡ Io) × (failures' ≡ failures + 1))
+      ⊎ ((failures' ≡ failures) × ((error ≡ Memory) ⊎ RefusesText error known))
+
+-- of a text that is known, at most one read more succeeded than it has bytes
+abbrev pub ReadsEachOnce : Option (List ℕ) → ℕ → ℕ → Type 0
+ReadsEachOnce known reads_left reads_left' = IfSome known (λ text. reads_left ≤ reads_left' + length text + 1)

@@ -1,5 +1,5 @@
 -- Rows that are saved as lines, through a function that may answer a text for a row, or an error.
-use Rattle.std.specs.Prelude.{◌≡◌, ℕ, Bool, ◌&&◌, List, [], ◌∷◌, ◌++◌, flat_map, filter, string_bytes, Option, Result, Ok, Err}
+use Rattle.std.specs.Prelude.{◌≡◌, ℕ, ◌+◌, Bool, true, ◌&&◌, ◌⊎◌, List, [], ◌∷◌, ◌++◌, flat_map, filter, string_bytes, Option, Some, None, Result, Ok, Err}
 use Rattle.std.specs.Io.KnownBytes.{Appends}
 use Rattle.std.specs.List.{AllZip}
 use Rattle.std.specs.declared.alloc.Global.{Global}
@@ -8,6 +8,7 @@ use Rattle.cookie_words.specs.Moments.{Moment}
 use Rattle.cookie_device.specs.Device.{AppendsBeginning}
 use Rattle.cookie_parts.specs.Cookie.{Row, is_persistent}
 use Rattle.cookie_parts.specs.declared.error.Error.{Error}
+use Rattle.cookie_parts.specs.declared.error.Error.TheVariants.{Io}
 use Rattle.cookie_laws.specs.Rows.{is_live}
 
 -- the row has not ended by the moment, and ends at one
@@ -17,6 +18,11 @@ is_saved now row = is_live now row && is_persistent row.expires
 -- the rows that are saved at a moment
 abbrev pub saved_rows : Moment → List Row → List Row
 saved_rows now rows = filter (is_saved now) rows
+
+-- the row is among those that are saved at a moment, or among all where there is none
+abbrev pub is_among : Option Moment → Row → Bool
+is_among None = λ row. true
+is_among (Some now) = is_saved now
 
 -- a text and a line feed
 abbrev pub line_text : String Global → List ℕ
@@ -56,3 +62,9 @@ module _ (says : Row → Result (String Global) Error → Type 0) where
       × (texts : List (String Global)) × AreTexts before texts
       × (text : String Global) × says row (Ok text)
       × (part : List ℕ) × (rest : List ℕ) × (line_text text ≡ part ++ rest) × Appends old new (lines_text texts ++ part)
+
+  -- the function refused a row, or a write failed within the line of one, which raised the count of failures by one
+  abbrev pub FailsToSave : Error → List Row → Option (List ℕ) → Option (List ℕ) → ℕ → ℕ → Type 0
+  FailsToSave error rows old new failures failures' =
+      (StopsAtRow error rows old new × (failures' ≡ failures))
+      ⊎ (StopsWithinRow rows old new × (error ≡ Io) × (failures' ≡ failures + 1))

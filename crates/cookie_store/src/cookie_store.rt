@@ -1,5 +1,5 @@
 //! The store.
-ghost use Rattle.std.specs.Prelude.{◌≡◌, ◌≢◌, ◌+◌, ◌-◌, ◌^◌, ◌<◌, ◌≤◌, [], ◌∷◌, false, is_some, length, map, true, Err, None, Ok, Some, IfErr, IfOk, IfSome, IsTrue, OnErr, OnOk, ◌⊎◌};
+ghost use Rattle.std.specs.Prelude.{◌≡◌, ◌≢◌, ◌-◌, ◌^◌, ◌<◌, [], false, is_some, map, true, Err, None, Ok, Some, IfErr, IfOk, IsTrue, OnErr, OnOk, ◌⊎◌};
 ghost use Rattle.std.specs.Fn.{FnReturnsAt};
 ghost use Rattle.std.specs.Io.KnownBytes.{IsAtEnd};
 ghost use Rattle.std.specs.Iterator.{IsFinite};
@@ -13,26 +13,24 @@ ghost use Rattle.cookie_laws.specs.Acceptance.{received, MayRefuse};
 ghost use Rattle.cookie_store.specs.Building.{Builds, FailsFirst, WantsRoom};
 ghost use Rattle.cookie_store.specs.CallViews.{call_view, name_and_value, reply_view, MayWant, StopsAfter, StopsAt};
 ghost use Rattle.cookie_laws.specs.Given.{given};
-ghost use Rattle.cookie_store.specs.Loading.{BuildsFrom, RefusesText};
+ghost use Rattle.cookie_store.specs.Loading.{BuildsFrom, FailsToLoad, ReadsEachOnce};
 ghost use Rattle.cookie_store.specs.Responses.{TakesAll, TakesSome};
-ghost use Rattle.cookie_laws.specs.Rows.{are_rows, if_live, included, key_at, live_rows, put_all, row_of};
+ghost use Rattle.cookie_laws.specs.Rows.{are_rows, if_live, key_at, live_rows, row_of};
 ghost use Rattle.cookie_laws.specs.Runs.{replies, rows_after, step, Clear, Insert, IsReply, Remove, Removed, Set, Stored, UnlessMemory};
-ghost use Rattle.cookie_store.specs.Saving.{saved_rows, StopsAtRow, StopsWithinRow, WritesRows};
+ghost use Rattle.cookie_store.specs.Saving.{saved_rows, FailsToSave, WritesRows};
 
-use crate::building::{build, take};
+use crate::building::build;
 use crate::call::{Call, Reply, Stopped, stored};
 use crate::insertion::{accept, owned_cookie, owned_raw_cookie};
-use crate::iter::{IterAny, IterUnexpired};
-use crate::loading::load_store;
-use crate::matching::given;
+use crate::loading::load_rows;
 use crate::request::{RequestCookies, RequestValues};
 use crate::response::store_each;
-use crate::rows;
-use crate::saving::{save_all, save_persistent};
+use crate::saving::save_rows;
 use cookie_device::{Sink, Source};
 use cookie_parts::{Cookie, CookieError, Error, StoreAction, StoreResult};
 use cookie_psl::List;
 use cookie_raw::RawCookie;
+use cookie_rows::{IterAny, IterUnexpired, Rows};
 use jiff::civil::DateTime;
 use log::Log;
 use std::alloc::{AllocError, Global};
@@ -48,20 +46,16 @@ pub type InsertResult = Result<StoreAction, CookieError>;
 #[derive(Drop)]
 pub struct CookieStore {
     alloc: Global,
-    rows: Vec<Cookie<'static>>,
+    rows: Rows,
     suffixes: Option<List>,
 }
 
 impl Model for CookieStore {
-    ghost use Rattle.std.specs.Prelude.{IsTrue};
     ghost use Rattle.cookie_store.specs.Contents.{Contents};
-    ghost use Rattle.cookie_laws.specs.Rows.{are_rows};
 
     ghost Value = { Contents };
 
-    ghost view = { λ s. record { rows = s.rows.items; suffixes = s.suffixes } };
-
-    ghost invariant = { λ s. IsTrue (are_rows s.rows.items) };
+    ghost view = { λ s. record { rows = s.rows; suffixes = s.suffixes } };
 }
 
 impl Clone for CookieStore {
@@ -99,7 +93,7 @@ impl CookieStore {
     {
         CookieStore {
             alloc,
-            rows: Vec::new(alloc),
+            rows: Rows::new(alloc),
             suffixes,
         }
     }
@@ -132,11 +126,7 @@ impl CookieStore {
             ⊎ FailsFirst I.next_gives cookies error) }
     {
         let rows = build(alloc, cookies, include_expired, now)?;
-        Ok(CookieStore {
-            alloc,
-            rows,
-            suffixes: None,
-        })
+        Ok(store_of(alloc, rows))
     }
 
     /// Takes the cookie of a Set-Cookie text that came from the URL at the moment: the cookie that
@@ -211,7 +201,7 @@ impl CookieStore {
         ensures { option_copied result
             ≡ row_of (key_at domain.now path.now name.now) self.now.rows }
     {
-        rows::named(self.rows.as_slice(), domain, path, name)
+        self.rows.named(domain, path, name)
     }
 
     /// The stored cookie of this domain, path and name, if it has not ended.
@@ -252,14 +242,14 @@ impl CookieStore {
     pub fn iter_any(&self) -> IterAny<'_>
         ensures { result ≡ self.now.rows }
     {
-        IterAny::new(self.rows.as_slice())
+        self.rows.iter()
     }
 
     /// The stored cookies that have not ended by the moment, in the store's order.
     pub fn iter_unexpired(&self, now: DateTime) -> IterUnexpired<'_>
         ensures { result ≡ live_rows (moment_of now) self.now.rows }
     {
-        IterUnexpired::new(self.rows.as_slice(), now)
+        self.rows.iter_unexpired(now)
     }
 
     /// Removes the cookie of this domain, path and name, whether it has ended or not, and answers it. The others keep their
@@ -271,7 +261,7 @@ impl CookieStore {
           rows = (step self.old.suffixes (Remove (key_at domain.now path.now name.now)) self.old.rows).rows;
         } }
     {
-        rows::remove(&mut self.rows, domain, path, name)
+        self.rows.remove(domain, path, name)
     }
 
     /// Removes all cookies. The public suffix list stays.
@@ -287,7 +277,7 @@ impl CookieStore {
             (λ cookies. map (λ c. c.now) cookies.items ≡ given url.now (moment_of now) self.now.rows) }
         ensures in_order { IsTrue (are_rows self.now.rows) }
     {
-        given(self.alloc, self.rows.as_slice(), url, now)
+        self.rows.given(self.alloc, url, now)
     }
 
     /// The names and values of the cookies that are given for the URL at the moment, in the store's order.
@@ -327,14 +317,11 @@ impl CookieStore {
         ensures whole { OnOk result (WritesRows (FnReturnsAt F.Fn cookie_to_string)
             (saved_rows (moment_of now) self.now.rows) (W.contents writer.old) (W.contents writer.new)) }
         ensures count { OnOk result (W.failed writer.new ≡ W.failed writer.old) }
-        ensures stopped { IfErr result (λ error.
-            (StopsAtRow (FnReturnsAt F.Fn cookie_to_string) error (saved_rows (moment_of now) self.now.rows)
-            (W.contents writer.old) (W.contents writer.new) × (W.failed writer.new ≡ W.failed writer.old))
-            ⊎ (StopsWithinRow (FnReturnsAt F.Fn cookie_to_string) (saved_rows (moment_of now) self.now.rows)
-            (W.contents writer.old) (W.contents writer.new)
-            × (error ≡ Error.Io) × (W.failed writer.new ≡ W.failed writer.old + 1))) }
+        ensures stopped { IfErr result (λ error. FailsToSave (FnReturnsAt F.Fn cookie_to_string) error
+            (saved_rows (moment_of now) self.now.rows)
+            (W.contents writer.old) (W.contents writer.new) (W.failed writer.old) (W.failed writer.new)) }
     {
-        save_persistent(self.rows.as_slice(), writer, cookie_to_string, now)
+        save_rows(&self.rows, writer, cookie_to_string, Some(now))
     }
 
     /// The same of all cookies, also those that have ended and those that end with the session.
@@ -347,14 +334,10 @@ impl CookieStore {
         ensures whole { OnOk result (WritesRows (FnReturnsAt F.Fn cookie_to_string) self.now.rows
             (W.contents writer.old) (W.contents writer.new)) }
         ensures count { OnOk result (W.failed writer.new ≡ W.failed writer.old) }
-        ensures stopped { IfErr result (λ error.
-            (StopsAtRow (FnReturnsAt F.Fn cookie_to_string) error self.now.rows
-            (W.contents writer.old) (W.contents writer.new) × (W.failed writer.new ≡ W.failed writer.old))
-            ⊎ (StopsWithinRow (FnReturnsAt F.Fn cookie_to_string) self.now.rows
-            (W.contents writer.old) (W.contents writer.new)
-            × (error ≡ Error.Io) × (W.failed writer.new ≡ W.failed writer.old + 1))) }
+        ensures stopped { IfErr result (λ error. FailsToSave (FnReturnsAt F.Fn cookie_to_string) error self.now.rows
+            (W.contents writer.old) (W.contents writer.new) (W.failed writer.old) (W.failed writer.new)) }
     {
-        save_all(self.rows.as_slice(), writer, cookie_to_string)
+        save_rows(&self.rows, writer, cookie_to_string, None)
     }
 
     /// A store of the cookies that the function makes of the reader's lines, each in the place of an earlier one of its
@@ -373,14 +356,12 @@ impl CookieStore {
             false (moment_of now) store.rows) }
         ensures suffixes { IfOk result (λ store. store.suffixes ≡ None) }
         ensures read { OnOk result (IsAtEnd (R.remaining reader.new) × (R.failed reader.new ≡ R.failed reader.old)) }
-        ensures failed { IfErr result (λ error.
-            ((error ≡ Error.Io) × (R.failed reader.new ≡ R.failed reader.old + 1))
-            ⊎ ((R.failed reader.new ≡ R.failed reader.old)
-            × ((error ≡ Error.Memory) ⊎ RefusesText (FnReturnsAt F.Fn cookie_from_str) error (R.remaining reader.old)))) }
-        ensures reads { IfSome (R.remaining reader.old) (λ input.
-            R.reads_left reader.old ≤ R.reads_left reader.new + length input + 1) }
+        ensures failed { IfErr result (λ error. FailsToLoad (FnReturnsAt F.Fn cookie_from_str) error
+            (R.remaining reader.old) (R.failed reader.old) (R.failed reader.new)) }
+        ensures reads { ReadsEachOnce (R.remaining reader.old) (R.reads_left reader.old) (R.reads_left reader.new) }
     {
-        load_store(alloc, reader, cookie_from_str, false, now)
+        let rows = load_rows(alloc, reader, cookie_from_str, false, now)?;
+        Ok(store_of(alloc, rows))
     }
 
     /// The same, where cookies that have ended are kept. The moment is not looked at.
@@ -396,30 +377,12 @@ impl CookieStore {
             true (moment_of now) store.rows) }
         ensures suffixes { IfOk result (λ store. store.suffixes ≡ None) }
         ensures read { OnOk result (IsAtEnd (R.remaining reader.new) × (R.failed reader.new ≡ R.failed reader.old)) }
-        ensures failed { IfErr result (λ error.
-            ((error ≡ Error.Io) × (R.failed reader.new ≡ R.failed reader.old + 1))
-            ⊎ ((R.failed reader.new ≡ R.failed reader.old)
-            × ((error ≡ Error.Memory) ⊎ RefusesText (FnReturnsAt F.Fn cookie_from_str) error (R.remaining reader.old)))) }
-        ensures reads { IfSome (R.remaining reader.old) (λ input.
-            R.reads_left reader.old ≤ R.reads_left reader.new + length input + 1) }
+        ensures failed { IfErr result (λ error. FailsToLoad (FnReturnsAt F.Fn cookie_from_str) error
+            (R.remaining reader.old) (R.failed reader.old) (R.failed reader.new)) }
+        ensures reads { ReadsEachOnce (R.remaining reader.old) (R.reads_left reader.old) (R.reads_left reader.new) }
     {
-        load_store(alloc, reader, cookie_from_str, true, now)
-    }
-
-    /// Puts a cookie, unless it has ended and is to be passed over. Want of memory leaves the store as it was.
-    pub(crate) fn put(
-        &mut self,
-        cookie: Cookie<'_>,
-        include_expired: bool,
-        now: DateTime,
-    ) -> Result<(), AllocError>
-        ensures taken { OnOk result (self.new ≡ record self.old {
-          rows = put_all self.old.rows (included include_expired (moment_of now) (cookie.entry ∷ []));
-        }) }
-        ensures refused { OnErr result (self.new ≡ self.old) }
-    {
-        let cookie = cookie.into_owned(self.alloc)?;
-        take(&mut self.rows, cookie, include_expired, now)
+        let rows = load_rows(alloc, reader, cookie_from_str, true, now)?;
+        Ok(store_of(alloc, rows))
     }
 
     /// Does what a call asks. Want of memory leaves the store as it was; `Remove` and `Clear` want none, `Set` only as
@@ -480,5 +443,16 @@ impl CookieStore {
             }
         }
         Ok(told)
+    }
+}
+
+// A store of these rows, without a public suffix list.
+fn store_of(alloc: Global, rows: Rows) -> CookieStore
+    ensures { result ≡ record { rows = rows; suffixes = None } }
+{
+    CookieStore {
+        alloc,
+        rows,
+        suffixes: None,
     }
 }

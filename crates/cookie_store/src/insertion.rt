@@ -1,5 +1,5 @@
 //! Insertion, RFC 6265 5.3.
-ghost use Rattle.std.specs.Prelude.{◌≡◌, ◌≢◌, Err, Ok, Some, IfErr, IfSome, IsTrue, OnErr};
+ghost use Rattle.std.specs.Prelude.{◌≡◌, ◌≢◌, Err, Ok, Some, IfErr, IfSome, OnErr};
 ghost use Rattle.std.specs.Option.{option_copied};
 ghost use Rattle.cookie_words.specs.Moments.{moment_of};
 ghost use Rattle.cookie_raw.specs.Reading.{reading};
@@ -10,14 +10,14 @@ ghost use Rattle.cookie_parts.specs.Views.{domain_value};
 ghost use Rattle.cookie_parts.specs.declared.cookie_error.CookieError.TheVariants.{Memory};
 ghost use Rattle.cookie_parts.specs.declared.store_action.StoreAction.TheVariants.{Inserted};
 ghost use Rattle.cookie_laws.specs.Acceptance.{accept, admitted, by_list, reply_at, MayRefuse};
-ghost use Rattle.cookie_laws.specs.Rows.{are_rows};
 ghost use Rattle.cookie_laws.specs.Runs.{IsReply, Stored, UnlessMemory};
 
-use crate::{InsertResult, rows};
+use crate::InsertResult;
 use cookie_parts::utils::is_http_scheme;
 use cookie_parts::{Cookie, CookieDomain, CookieError, CookieResult, StoreAction};
 use cookie_psl::List;
 use cookie_raw::RawCookie;
+use cookie_rows::Rows;
 use jiff::civil::DateTime;
 use std::alloc::Global;
 use std::mem;
@@ -139,32 +139,30 @@ fn reply_at(
 }
 
 /// What becomes of a cookie from the URL at the moment, under the list. A refusal, and want of memory, leave the rows.
-#[tactic(auto, unfolding(crate::specs::Acceptance::accept))]
+#[tactic(auto, unfolding(cookie_laws::specs::Acceptance::accept))]
 pub(crate) fn accept(
     suffixes: Option<&List>,
-    rows: &mut Vec<Cookie<'static>>,
+    rows: &mut Rows,
     cookie: Cookie<'static>,
     url: &Url,
     now: DateTime,
 ) -> InsertResult
-    requires { IsTrue (are_rows rows.old.items) }
     ensures reply { IsReply result (Stored
-        (accept (option_copied suffixes.entry) rows.old.items cookie.entry url.now (moment_of now)).reply) }
-    ensures rows { UnlessMemory result (rows.new.items
-        ≡ (accept (option_copied suffixes.entry) rows.old.items cookie.entry url.now (moment_of now)).rows) }
-    ensures refused { OnErr result (rows.new.items ≡ rows.old.items) }
+        (accept (option_copied suffixes.entry) rows.old cookie.entry url.now (moment_of now)).reply) }
+    ensures rows { UnlessMemory result (rows.new
+        ≡ (accept (option_copied suffixes.entry) rows.old cookie.entry url.now (moment_of now)).rows) }
+    ensures refused { OnErr result (rows.new ≡ rows.old) }
     ensures refusals { IfErr result MayRefuse }
     ensures memory { result ≡ Err Memory
-        → (accept (option_copied suffixes.entry) rows.old.items cookie.entry url.now (moment_of now)).reply ≡ Ok Inserted }
-    ensures in_order { IsTrue (are_rows rows.new.items) }
+        → (accept (option_copied suffixes.entry) rows.old cookie.entry url.now (moment_of now)).reply ≡ Ok Inserted }
 {
     let cookie = admitted(suffixes, cookie, url)?;
-    match reply_at(rows::row_of(rows.as_slice(), &cookie), &cookie, url, now)? {
+    match reply_at(rows.row_of(&cookie), &cookie, url, now)? {
         StoreAction::ExpiredExisting => {
-            rows::end(rows, &cookie);
+            rows.end(&cookie);
             Ok(StoreAction::ExpiredExisting)
         }
-        action => match rows::put(rows, cookie) {
+        action => match rows.put(cookie) {
             Ok(()) => Ok(action),
             Err(_) => Err(CookieError::Memory),
         },

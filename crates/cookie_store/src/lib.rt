@@ -6,18 +6,15 @@ mod call;
 mod cookie_store;
 pub mod device;
 mod insertion;
-mod iter;
-pub mod laws;
 mod loading;
-mod matching;
 mod request;
 mod response;
-mod rows;
 mod saving;
 #[cfg(test)]
 mod tests;
 
 pub use call::{Call, Reply, Stopped};
+pub use cookie_laws as laws;
 pub use cookie_parts::{
     Cookie, CookieDomain, CookieError, CookieExpiration, CookiePath, CookieResult, Error,
     IdnaErrors, StoreAction, StoreResult, cookie_domain, cookie_path, utils,
@@ -25,7 +22,7 @@ pub use cookie_parts::{
 pub use cookie_psl as psl;
 pub use cookie_raw as raw;
 pub use cookie_raw::{RawCookie, RawCookieParseError};
+pub use cookie_rows::{IterAny, IterUnexpired};
 pub use cookie_saved as saved;
 pub use cookie_store::{CookieStore, InsertResult};
-pub use iter::{IterAny, IterUnexpired};
 pub use request::{RequestCookies, RequestValues};

@@ -1,48 +1,41 @@
-//! Stores that are made of lines.
-ghost use Rattle.std.specs.Prelude.{◌≡◌, ◌-◌, ◌+◌, ◌^◌, ◌<◌, ◌≤◌, ◌⊎◌, IfErr, IfOk, IfSome, None, OnErr, OnOk, length};
+//! Rows that are made of lines.
+ghost use Rattle.std.specs.Prelude.{◌≡◌, ◌-◌, ◌^◌, ◌<◌, ◌∷◌, [], ◌⊎◌, IfErr, IfOk, OnErr, OnOk};
 ghost use Rattle.std.specs.Fn.{FnReturnsAt};
 ghost use Rattle.std.specs.Io.KnownBytes.{IsAtEnd};
 ghost use Rattle.cookie_words.specs.Moments.{moment_of};
-ghost use Rattle.cookie_store.specs.Loading.{BuildsFrom, MakesCookie, RefusesLine, RefusesText, TakesLine};
+ghost use Rattle.cookie_laws.specs.Rows.{included, put_all};
+ghost use Rattle.cookie_store.specs.Loading.{BuildsFrom, FailsToLoad, MakesCookie, ReadsEachOnce, RefusesLine, TakesLine};
 
-use crate::CookieStore;
+use crate::building::take;
 use cookie_device::{FillError, LineBuffer, Source};
 use cookie_parts::{Cookie, Error};
+use cookie_rows::Rows;
 use jiff::civil::DateTime;
-use std::alloc::Global;
+use std::alloc::{AllocError, Global};
 
-/// A store of the cookies that the function makes of the lines of the source, all or those that have not ended.
-pub(crate) fn load_store<R: Source, F: Fn(&str) -> Result<Cookie<'_>, Error>>(
+/// The rows of the cookies that the function makes of the lines of the source, all or those that have not ended.
+pub(crate) fn load_rows<R: Source, F: Fn(&str) -> Result<Cookie<'_>, Error>>(
     alloc: Global,
     source: &mut R,
     cookie_of: F,
     include_expired: bool,
     now: DateTime,
-) -> Result<CookieStore, Error>
+) -> Result<Rows, Error>
     requires callable { F.IsAlwaysCallable cookie_of }
     requires readable { R.failed source.old < 2 ^ 64 - 1 }
-    ensures built { IfOk result (λ store. BuildsFrom (FnReturnsAt F.Fn cookie_of) (R.remaining source.old)
-        include_expired (moment_of now) store.rows) }
-    ensures suffixes { IfOk result (λ store. store.suffixes ≡ None) }
+    ensures built { IfOk result (λ rows. BuildsFrom (FnReturnsAt F.Fn cookie_of) (R.remaining source.old)
+        include_expired (moment_of now) rows) }
     ensures read { OnOk result (IsAtEnd (R.remaining source.new) × (R.failed source.new ≡ R.failed source.old)) }
-    ensures failed { IfErr result (λ error.
-        ((error ≡ Error.Io) × (R.failed source.new ≡ R.failed source.old + 1))
-        ⊎ ((R.failed source.new ≡ R.failed source.old)
-        × ((error ≡ Error.Memory) ⊎ RefusesText (FnReturnsAt F.Fn cookie_of) error (R.remaining source.old)))) }
-    ensures reads { IfSome (R.remaining source.old) (λ input.
-        R.reads_left source.old ≤ R.reads_left source.new + length input + 1) }
+    ensures failed { IfErr result (λ error. FailsToLoad (FnReturnsAt F.Fn cookie_of) error (R.remaining source.old)
+        (R.failed source.old) (R.failed source.new)) }
+    ensures reads { ReadsEachOnce (R.remaining source.old) (R.reads_left source.old) (R.reads_left source.new) }
 {
     let mut input = LineBuffer::new(alloc);
-    let mut store = CookieStore::new(alloc);
+    let mut rows = Rows::new(alloc);
     'lines: loop {
         if let Some(end) = input.line_end() {
-            take_line(
-                &mut store,
-                input.line(end),
-                &cookie_of,
-                include_expired,
-                now,
-            )?;
+            let line = input.line(end);
+            take_line(&mut rows, alloc, line, &cookie_of, include_expired, now)?;
             input.pass(end + 1);
         } else {
             match input.fill(source) {
@@ -53,16 +46,17 @@ pub(crate) fn load_store<R: Source, F: Fn(&str) -> Result<Cookie<'_>, Error>>(
             }
         }
     }
-    if !input.rest().is_empty() {
-        take_line(&mut store, input.rest(), &cookie_of, include_expired, now)?;
+    let line = input.rest();
+    if !line.is_empty() {
+        take_line(&mut rows, alloc, line, &cookie_of, include_expired, now)?;
     }
-    Ok(store)
+    Ok(rows)
 }
 
-// Puts the cookie that the function makes of the line, unless it has ended and is to be passed over. An error leaves the store as
-// it was.
+// Puts the cookie that the function makes of the line, unless it has ended and is to be passed over. An error leaves the rows.
 fn take_line<F: Fn(&str) -> Result<Cookie<'_>, Error>>(
-    store: &mut CookieStore,
+    rows: &mut Rows,
+    alloc: Global,
     line: &[u8],
     cookie_of: &F,
     include_expired: bool,
@@ -70,17 +64,31 @@ fn take_line<F: Fn(&str) -> Result<Cookie<'_>, Error>>(
 ) -> Result<(), Error>
     requires callable { F.IsAlwaysCallable cookie_of.now }
     ensures taken { OnOk result (TakesLine (FnReturnsAt F.Fn cookie_of.now) line.now include_expired (moment_of now)
-        store.old.rows store.new.rows) }
-    ensures suffixes { OnOk result (store.new.suffixes ≡ store.old.suffixes) }
+        rows.old rows.new) }
     ensures refused { IfErr result (λ error.
         (error ≡ Error.Memory) ⊎ RefusesLine (FnReturnsAt F.Fn cookie_of.now) error line.now) }
-    ensures kept { OnErr result (store.new ≡ store.old) }
+    ensures kept { OnErr result (rows.new ≡ rows.old) }
 {
     let cookie = made_of(line, cookie_of)?;
-    match store.put(cookie, include_expired, now) {
+    match take_owned(rows, alloc, cookie, include_expired, now) {
         Ok(()) => Ok(()),
         Err(_) => Err(Error::Memory),
     }
+}
+
+// Puts the cookie with texts of its own, unless it has ended and is to be passed over. Want of memory leaves the rows.
+fn take_owned(
+    rows: &mut Rows,
+    alloc: Global,
+    cookie: Cookie<'_>,
+    include_expired: bool,
+    now: DateTime,
+) -> Result<(), AllocError>
+    ensures taken { OnOk result (rows.new
+        ≡ put_all rows.old (included include_expired (moment_of now) (cookie.entry ∷ []))) }
+    ensures refused { OnErr result (rows.new ≡ rows.old) }
+{
+    take(rows, cookie.into_owned(alloc)?, include_expired, now)
 }
 
 // The cookie that the function makes of the line.

@@ -1,62 +1,47 @@
 //! Rows that are saved as lines.
-ghost use Rattle.std.specs.Prelude.{◌≡◌, ◌-◌, ◌+◌, ◌^◌, ◌<◌, ◌⊎◌, Err, IfErr, OnOk};
+ghost use Rattle.std.specs.Prelude.{◌≡◌, ◌-◌, ◌+◌, ◌^◌, ◌<◌, ◌⊎◌, Err, filter, option_map, IfErr, OnOk};
 ghost use Rattle.std.specs.Fn.{FnReturnsAt};
 ghost use Rattle.std.specs.Io.KnownBytes.{Keeps};
 ghost use Rattle.cookie_words.specs.Moments.{moment_of};
-ghost use Rattle.cookie_store.specs.Saving.{saved_rows, BeginsRow, StopsAtRow, StopsWithinRow, WritesRow, WritesRows};
+ghost use Rattle.cookie_store.specs.Saving.{is_among, BeginsRow, FailsToSave, WritesRow, WritesRows};
 
 use cookie_device::{Sink, write_line};
 use cookie_parts::{Cookie, Error};
+use cookie_rows::Rows;
 use jiff::civil::DateTime;
 
-/// Writes what the function says of each row and a line feed: of the rows that have not ended by the moment and end at
-/// one.
-pub(crate) fn save_persistent<W: Sink, F: Fn(&Cookie<'_>) -> Result<String, Error>>(
-    rows: &[Cookie<'static>],
+/// Writes what the function says of each row and a line feed: of those that are saved at the moment, or of all where there is none.
+pub(crate) fn save_rows<W: Sink, F: Fn(&Cookie<'_>) -> Result<String, Error>>(
+    rows: &Rows,
     sink: &mut W,
     text_of: F,
-    now: DateTime,
+    now: Option<DateTime>,
 ) -> Result<(), Error>
     requires callable { F.IsAlwaysCallable text_of }
     requires writable { W.failed sink.old < 2 ^ 64 - 1 }
-    ensures whole { OnOk result (WritesRows (FnReturnsAt F.Fn text_of) (saved_rows (moment_of now) rows.now)
+    ensures whole { OnOk result (WritesRows (FnReturnsAt F.Fn text_of) (filter (is_among (option_map moment_of now)) rows.now)
         (W.contents sink.old) (W.contents sink.new)) }
     ensures count { OnOk result (W.failed sink.new ≡ W.failed sink.old) }
-    ensures stopped { IfErr result (λ error.
-        (StopsAtRow (FnReturnsAt F.Fn text_of) error (saved_rows (moment_of now) rows.now)
-        (W.contents sink.old) (W.contents sink.new) × (W.failed sink.new ≡ W.failed sink.old))
-        ⊎ (StopsWithinRow (FnReturnsAt F.Fn text_of) (saved_rows (moment_of now) rows.now)
-        (W.contents sink.old) (W.contents sink.new)
-        × (error ≡ Error.Io) × (W.failed sink.new ≡ W.failed sink.old + 1))) }
+    ensures stopped { IfErr result (λ error. FailsToSave (FnReturnsAt F.Fn text_of) error
+        (filter (is_among (option_map moment_of now)) rows.now)
+        (W.contents sink.old) (W.contents sink.new) (W.failed sink.old) (W.failed sink.new)) }
 {
-    for row in rows {
-        if row.is_persistent() && !row.is_expired(now) {
+    for row in rows.iter() {
+        if is_among(row, &now) {
             save_row(row, sink, &text_of)?;
         }
     }
     Ok(())
 }
 
-/// Writes what the function says of each row and a line feed.
-pub(crate) fn save_all<W: Sink, F: Fn(&Cookie<'_>) -> Result<String, Error>>(
-    rows: &[Cookie<'static>],
-    sink: &mut W,
-    text_of: F,
-) -> Result<(), Error>
-    requires callable { F.IsAlwaysCallable text_of }
-    requires writable { W.failed sink.old < 2 ^ 64 - 1 }
-    ensures whole { OnOk result (WritesRows (FnReturnsAt F.Fn text_of) rows.now (W.contents sink.old) (W.contents sink.new)) }
-    ensures count { OnOk result (W.failed sink.new ≡ W.failed sink.old) }
-    ensures stopped { IfErr result (λ error.
-        (StopsAtRow (FnReturnsAt F.Fn text_of) error rows.now (W.contents sink.old) (W.contents sink.new)
-        × (W.failed sink.new ≡ W.failed sink.old))
-        ⊎ (StopsWithinRow (FnReturnsAt F.Fn text_of) rows.now (W.contents sink.old) (W.contents sink.new)
-        × (error ≡ Error.Io) × (W.failed sink.new ≡ W.failed sink.old + 1))) }
+// Whether the row is saved at the moment: it has not ended, and ends at one. All are where there is no moment.
+fn is_among(row: &Cookie<'static>, now: &Option<DateTime>) -> bool
+    ensures { result ≡ is_among (option_map moment_of now.now) row.now }
 {
-    for row in rows {
-        save_row(row, sink, &text_of)?;
+    match now {
+        Some(now) => !row.is_expired(*now) && row.is_persistent(),
+        None => true,
     }
-    Ok(())
 }
 
 // Writes what the function says of the row, and a line feed.

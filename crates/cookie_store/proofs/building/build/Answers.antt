@@ -7,13 +7,12 @@ use Rattle.cookie_store.proofs.building.build.Goals as goal
 
 pub loop-item-preserved : goal.loop-item-preserved
 loop-item-preserved g c =
-    let (can, ends, in_order, (cookies, are_cookies, are_built)) = c.loop-item.invariant in
+    let (can, ends, (cookies, are_cookies, are_built)) = c.loop-item.invariant in
     let cookie = c.in_ok-cookie.cookie in
     let now = moment_of c.args.now in
     let progress = c.in-Some.ensures.goes.on ends in (
       progress.0,
       progress.1,
-      c.take.ensures.in_order,
       (
         cookies ++ cookie ∷ [],
         ap (λ items. items ++ c.in-Some.item ∷ []) are_cookies

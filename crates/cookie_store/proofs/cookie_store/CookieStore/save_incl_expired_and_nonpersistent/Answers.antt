@@ -1,7 +1,12 @@
 use Rattle.std.proofs.Common.{ap, sym, ◌∙◌}
 use Rattle.cookie_store.specs.Contents.{Contents}
+use Rattle.cookie_store.proofs.SavedLines.{filter-all}
 use Rattle.cookie_store.proofs.cookie_store.CookieStore.save_incl_expired_and_nonpersistent.Goals as goal
+
+pub returns-clause-whole : goal.returns-clause-whole
+returns-clause-whole g c =
+    rw (sym (filter-all _ ∙ ap (λ (s : Contents). s.rows) c.self.view_is)) c.save_rows.ensures.whole
 
 pub returns-clause-stopped : goal.returns-clause-stopped
 returns-clause-stopped g c =
-    rw (sym (c.as_slice.ensures.value ∙ ap (λ (s : Contents). s.rows) c.self.view_is)) c.save_all.ensures.stopped
+    rw (sym (filter-all _ ∙ ap (λ (s : Contents). s.rows) c.self.view_is)) c.save_rows.ensures.stopped

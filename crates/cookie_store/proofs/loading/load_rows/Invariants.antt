@@ -1,18 +1,16 @@
--- No read has failed, each brought a byte, and of the lines passed cookies are made, from which the rows of the store are
--- built.
+-- No read has failed, each brought a byte, and of the lines passed cookies are made, from which the rows are built.
 use Rattle.std.proofs.Common.{◌≡◌, ◌+◌, ◌*◌, ◌≤◌, ℕ, List, None, Some, IfSome, length}
 use Rattle.std.specs.Fn.{FnReturnsAt}
 use Rattle.cookie_words.specs.Moments.{moment_of}
 use Rattle.cookie_parts.specs.Cookie.{Row}
 use Rattle.cookie_laws.specs.Rows.{built}
 use Rattle.cookie_store.proofs.LoadedLines.{Loaded}
-use Rattle.cookie_store.proofs.loading.load_store.Given as goal
+use Rattle.cookie_store.proofs.loading.load_rows.Given as goal
 
 abbrev pub invariant-lines : goal.invariant-lines
 invariant-lines g l = record {
   reads : g.R.Source.failed l.source ≡ g.R.Source.failed l.initial.source;
-  suffixes : l.store.suffixes ≡ None;
-  loaded : (cookies : List Row) × (l.store.rows ≡ built l.include_expired (moment_of l.now) cookies)
+  loaded : (cookies : List Row) × (l.rows ≡ built l.include_expired (moment_of l.now) cookies)
       × IfSome (g.R.Source.remaining l.initial.source) (λ text.
       Loaded (FnReturnsAt g.F.Fn l.cookie_of) text l.input (g.R.Source.remaining l.source) cookies);
   turns : IfSome (g.R.Source.remaining l.initial.source) (λ input. (left : List ℕ) × (g.R.Source.remaining l.source ≡ Some left)

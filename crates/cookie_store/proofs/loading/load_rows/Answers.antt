@@ -3,18 +3,16 @@ use Rattle.std.specs.Fn.{FnReturnsAt}
 use Rattle.std.proofs.lemmas.Option.{IfSome_then}
 use Rattle.std.proofs.lemmas.Result.{err_from_is_err_and}
 use Rattle.cookie_words.specs.Moments.{moment_of}
-use Rattle.cookie_store.specs.Contents.{Contents}
 use Rattle.cookie_store.proofs.LoadedLines.{Ended, ended, begun, built_none, passed, next_comes, last_comes, refused_text, finished, last_made, taken_built}
-use Rattle.cookie_store.proofs.loading.load_store.Goals as goal
-use Rattle.cookie_store.proofs.loading.load_store.Goals.{then-not-is_empty+in_ok-take_line-2, else-not-is_empty}
+use Rattle.cookie_store.proofs.loading.load_rows.Goals as goal
+use Rattle.cookie_store.proofs.loading.load_rows.Goals.{then-not-is_empty+in_ok-take_line-2, else-not-is_empty}
 
 pub lines-init : goal.lines-init
 lines-init g c = record {
   reads = refl;
-  suffixes = ap (λ (store : Contents). store.suffixes) c.new-store.ensures;
   loaded = (
     [],
-    ap (λ (store : Contents). store.rows) c.new-store.ensures ∙ built_none c.args.include_expired (moment_of c.args.now),
+    c.new-rows.ensures ∙ built_none c.args.include_expired (moment_of c.args.now),
     rw c.new-input.ensures (begun (FnReturnsAt g.F.Fn c.args.cookie_of) (g.R.Source.remaining c.args.source.now)),
   );
   turns = search rules;
@@ -28,9 +26,9 @@ returns-in_err-take_line-clause-failed g c =
     rw (p.1, p.2)
     (inr (
       c.lines.invariant.reads,
-      refused_text makes _ c.line.result.now (g.R.Source.remaining c.args.source.now)
+      refused_text makes _ c.line-line.result.now (g.R.Source.remaining c.args.source.now)
           (IfSome_then (g.R.Source.remaining c.args.source.now) known
-          (λ text l. next_comes makes text _ _ _ cookies c.in-Some.end l c.in-Some.ensures.line c.line.ensures))
+          (λ text l. next_comes makes text _ _ _ cookies c.in-Some.end l c.in-Some.ensures.line c.line-line.ensures))
           c.in_err-take_line.ensures.refused,
     ))
 
@@ -41,12 +39,11 @@ lines-preserved-in-Some g c =
     let (cookie, makes_it, built_now) = taken_built makes _ _ _ _ _ cookies c.in_ok-take_line.ensures.taken are_built in
     record {
       reads = c.lines.invariant.reads;
-      suffixes = c.in_ok-take_line.ensures.suffixes ∙ c.lines.invariant.suffixes;
       loaded = (
         cookies ++ cookie ∷ [],
         built_now,
         IfSome_then (g.R.Source.remaining c.args.source.now) known
-            (λ text l. passed makes text _ _ _ _ cookies cookie c.in-Some.end l c.in-Some.ensures.line c.line.ensures c.pass.ensures makes_it),
+            (λ text l. passed makes text _ _ _ _ cookies cookie c.in-Some.end l c.in-Some.ensures.line c.line-line.ensures c.pass.ensures makes_it),
       );
       turns = c.lines.invariant.turns;
     }
@@ -56,7 +53,6 @@ lines-preserved g c =
     let came = c.in-Ok-true.ensures.came c.in-Ok-true.field-0-test in
     record {
       reads = c.in-Ok-true.ensures.count ∙ c.lines.invariant.reads;
-      suffixes = c.lines.invariant.suffixes;
       loaded = search rules;
       turns =
           IfSome_then (g.R.Source.remaining c.args.source.now) c.lines.invariant.turns
@@ -74,8 +70,8 @@ returns-in_err-take_line-2-clause-failed g c =
     let makes = FnReturnsAt g.F.Fn c.args.cookie_of in
     let one = c.line_end.ensures.last c.in_default.is in
     let end = c.in-Ok-false.ensures.end c.in-Ok-false.field-0-test in
-    let some = rw c.rest.ensures at c.if-not-is_empty.ensures in
-    let refuses = rw c.rest-then-not-is_empty.ensures at c.in_err-take_line-2.ensures.refused in
+    let some = rw c.rest-line.ensures at c.if-not-is_empty.ensures in
+    let refuses = rw c.rest-line.ensures at c.in_err-take_line-2.ensures.refused in
     rw (p.1, p.2)
     (inr (
       c.in-Ok-false.ensures.count ∙ c.lines.invariant.reads,
@@ -96,17 +92,17 @@ returns-clause-built g c =
     (λ text l. ended makes text _ _ _ _ cookies l c.in-Ok-false.ensures.bytes end one) in
     elim c.if-not-is_empty.branch [
       | then-not-is_empty+in_ok-take_line-2 w ↦
-          let takes = rw w.rest-then-not-is_empty.ensures at w.in_ok-take_line-2.ensures.taken in
+          let takes = rw c.rest-line.ensures at w.in_ok-take_line-2.ensures.taken in
           let (cookie, makes_it, built_now) = taken_built makes _ _ _ _ _ cookies takes are_built in
-          let some = rw c.rest.ensures at w.if-not-is_empty.ensures in (
+          let some = rw c.rest-line.ensures at w.if-not-is_empty.ensures in (
             cookies ++ cookie ∷ [],
-            ap (λ (store : Contents). store.rows) w.store-is ∙ built_now,
+            w.rows-is ∙ built_now,
             IfSome_then (g.R.Source.remaining c.args.source.now) all (λ text e. last_made makes text _ cookies cookie e some makes_it),
           )
       | else-not-is_empty w ↦
-          let empty = rw c.rest.ensures at w.if-not-is_empty.ensures in (
+          let empty = rw c.rest-line.ensures at w.if-not-is_empty.ensures in (
             cookies,
-            ap (λ (store : Contents). store.rows) w.store-is ∙ are_built,
+            w.rows-is ∙ are_built,
             IfSome_then (g.R.Source.remaining c.args.source.now) all (λ text e. finished makes text _ cookies e empty),
           )
     ]

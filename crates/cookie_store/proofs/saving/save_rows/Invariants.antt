@@ -1,13 +1,14 @@
 -- A line was written for each row so far that is saved, and no call has failed.
-use Rattle.std.proofs.Common.{◌≡◌, take}
+use Rattle.std.proofs.Common.{◌≡◌, ◌++◌, filter, map, option_map}
 use Rattle.std.specs.Fn.{FnReturnsAt}
 use Rattle.cookie_words.specs.Moments.{moment_of}
-use Rattle.cookie_store.specs.Saving.{saved_rows, WritesRows}
-use Rattle.cookie_store.proofs.saving.save_persistent.Given as goal
+use Rattle.cookie_store.specs.Saving.{is_among, WritesRows}
+use Rattle.cookie_store.proofs.saving.save_rows.Given as goal
 
 abbrev pub invariant-loop-row : goal.invariant-loop-row
 invariant-loop-row g l = record {
-  lines : WritesRows (FnReturnsAt g.F.Fn l.text_of) (saved_rows (moment_of l.now) (take l.row-index l.rows))
+  lines : WritesRows (FnReturnsAt g.F.Fn l.text_of) (filter (is_among (option_map moment_of l.now)) (map (λ c. c.now) l.yielded))
       (g.W.Sink.contents l.initial.sink) (g.W.Sink.contents l.sink);
   count : g.W.Sink.failed l.sink ≡ g.W.Sink.failed l.initial.sink;
+  rest : map (λ c. c.now) l.yielded ++ l.row-iterator ≡ l.rows;
 }
