@@ -1,4 +1,5 @@
 pub mod AfterLast
+pub mod Built
 pub mod Ends
 pub mod KeptOrder
 pub mod Placed

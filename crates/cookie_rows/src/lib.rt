@@ -4,7 +4,9 @@
 
 mod iter;
 mod matching;
+mod request;
 mod rows;
 
 pub use iter::{IterAny, IterUnexpired};
+pub use request::{RequestCookies, RequestValues};
 pub use rows::Rows;

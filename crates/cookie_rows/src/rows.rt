@@ -1,16 +1,20 @@
 //! The rows, as one list.
-ghost use Rattle.std.specs.Prelude.{◌≡◌, ◌≤◌, [], insert, length, map, position, IfOk, IsTrue, None, OnErr, OnOk};
+ghost use Rattle.std.specs.Prelude.{◌≡◌, ◌≤◌, [], ◌∷◌, insert, length, map, position, IfErr, IfOk, IsTrue, None, OnErr, OnOk, ◌⊎◌};
+ghost use Rattle.std.specs.Iterator.{IsFinite};
 ghost use Rattle.std.specs.Option.{option_copied};
 ghost use Rattle.cookie_words.specs.Moments.{moment_of};
 ghost use Rattle.cookie_parts.specs.Cookie.{ended};
 ghost use Rattle.cookie_parts.specs.Domain.{domain_text};
 ghost use Rattle.cookie_laws.specs.Given.{given};
-ghost use Rattle.cookie_laws.specs.Rows.{are_rows, changed, has_key, in_domain, in_group, key_at, key_of, live_rows, placed, put, removed, row_of};
+ghost use Rattle.cookie_laws.specs.Rows.{are_rows, changed, has_key, in_domain, in_group, included, key_at, key_of, live_rows, placed, put, put_all, removed, row_of};
+ghost use Rattle.cookie_rows.specs.Building.{Builds, FailsFirst, IsNewRow, TakesCookie, WantsRoom};
 ghost use Rattle.cookie_rows.specs.Places.{EndsAt};
+ghost use Rattle.cookie_rows.specs.Requests.{name_and_value};
 
 use crate::iter::{IterAny, IterUnexpired};
 use crate::matching::given;
-use cookie_parts::Cookie;
+use crate::request::{RequestCookies, RequestValues};
+use cookie_parts::{Cookie, Error};
 use jiff::civil::DateTime;
 use std::alloc::{AllocError, Global};
 use std::marker::Model;
@@ -57,6 +61,32 @@ impl Rows {
         }
     }
 
+    /// The rows of the cookies that the iterator gives, put one after the other, all or those that have not ended. Answers the
+    /// first error that the iterator gives, or `Memory`, which comes only where a cookie would be a new row.
+    pub fn from_cookies<I: Iterator<Item = Result<Cookie<'static>, Error>> + Drop>(
+        alloc: Global,
+        cookies: I,
+        include_expired: bool,
+        now: DateTime,
+    ) -> Result<Rows, Error>
+        requires can { I.can_next cookies }
+        requires ends { IsFinite (I.remaining cookies) }
+        ensures built { IfOk result (λ rows. Builds I.next_gives cookies include_expired (moment_of now) rows) }
+        ensures failed { IfErr result (λ error.
+            ((error ≡ Error.Memory) × WantsRoom I.next_gives cookies include_expired (moment_of now))
+            ⊎ FailsFirst I.next_gives cookies error) }
+    {
+        let mut built = Rows::new(alloc);
+        for item in cookies {
+            let cookie = item?;
+            match built.take(cookie, include_expired, now) {
+                Ok(()) => {}
+                Err(_) => return Err(Error::Memory),
+            }
+        }
+        Ok(built)
+    }
+
     /// The row of this domain, path and name, if there is one.
     pub fn named(&self, domain: &str, path: &str, name: &str) -> Option<&Cookie<'static>>
         ensures { option_copied result ≡ row_of (key_at domain.now path.now name.now) self.now }
@@ -101,6 +131,30 @@ impl Rows {
         given(alloc, self.rows.as_slice(), url, now)
     }
 
+    /// The names and values of the rows that are given for the URL at the moment, in their order.
+    pub fn request_values(
+        &self,
+        alloc: Global,
+        url: &Url,
+        now: DateTime,
+    ) -> Result<RequestValues<'_>, AllocError>
+        ensures { IfOk result (λ values. values ≡ map name_and_value (given url.now (moment_of now) self.now)) }
+    {
+        Ok(RequestValues::new(self.given(alloc, url, now)?))
+    }
+
+    /// The raw cookies of the rows that are given for the URL at the moment, in their order.
+    pub fn request_cookies(
+        &self,
+        alloc: Global,
+        url: &Url,
+        now: DateTime,
+    ) -> Result<RequestCookies<'_>, AllocError>
+        ensures { IfOk result (λ cookies. cookies ≡ map (λ row. row.raw) (given url.now (moment_of now) self.now)) }
+    {
+        Ok(RequestCookies::new(self.given(alloc, url, now)?))
+    }
+
     /// Puts the cookie in the place of the row of its domain, path and name, or where a new row goes: after the last row of
     /// its domain and path, else after the last of its domain, else last. Want of memory leaves the rows, and comes only where
     /// there is no such row.
@@ -110,6 +164,26 @@ impl Rows {
         ensures memory { OnErr result (row_of (key_of cookie.entry) self.old ≡ None) }
     {
         put(&mut self.rows, cookie)
+    }
+
+    /// Puts the cookie, unless it has ended and is to be passed over: rows that were built from cookies are built from these and
+    /// this one then. Want of memory leaves the rows, and comes only where the cookie would be a new row.
+    pub fn take(
+        &mut self,
+        cookie: Cookie<'static>,
+        include_expired: bool,
+        now: DateTime,
+    ) -> Result<(), AllocError>
+        ensures taken { OnOk result (self.new
+            ≡ put_all self.old (included include_expired (moment_of now) (cookie.entry ∷ []))) }
+        ensures built { OnOk result (TakesCookie include_expired (moment_of now) cookie.entry self.old self.new) }
+        ensures refused { OnErr result (self.new ≡ self.old) }
+        ensures memory { OnErr result (IsNewRow include_expired (moment_of now) self.old cookie.entry) }
+    {
+        if include_expired || !cookie.is_expired(now) {
+            return self.put(cookie);
+        }
+        Ok(())
     }
 
     /// Ends the row of the cookie's domain, path and name, if there is one.
@@ -218,10 +292,7 @@ fn end(rows: &mut Vec<Cookie<'static>>, cookie: &Cookie<'static>)
 }
 
 // Puts the cookie in the place of the row of its key, or where a new row goes.
-fn put(
-    rows: &mut Vec<Cookie<'static>>,
-    cookie: Cookie<'static>,
-) -> Result<(), AllocError>
+fn put(rows: &mut Vec<Cookie<'static>>, cookie: Cookie<'static>) -> Result<(), AllocError>
     requires { IsTrue (are_rows rows.old.items) }
     ensures put { OnOk result (rows.new.items ≡ put rows.old.items cookie.entry) }
     ensures err { OnErr result (rows.new.items ≡ rows.old.items) }

@@ -1,4 +1,3 @@
-pub mod Built
 pub mod EarlyRefusals
 pub mod LoadedLines
 pub mod LongerRuns

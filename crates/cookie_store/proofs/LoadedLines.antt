@@ -9,8 +9,7 @@ use Rattle.cookie_parts.specs.Cookie.{Row}
 use Rattle.cookie_parts.specs.declared.error.Error.{Error}
 use Rattle.cookie_parts.specs.declared.error.Error.TheVariants.{Memory}
 use Rattle.cookie_store.specs.Loading.{AreCookies, MakesCookie, RefusesLine, RefusesText, TakesLine}
-use Rattle.cookie_laws.specs.Rows.{built, included, put_all}
-use Rattle.cookie_store.proofs.Built.{built_more}
+use Rattle.cookie_laws.specs.Rows.{built}
 use Rattle.cookie_store.proofs.Pairs.{AllZip-more}
 
 -- no rows are built from no cookies
@@ -59,8 +58,7 @@ module _ (makes : List ℕ → Result Row Error → Type 0) where
   taken_built line include_expired now old new cookies (cookie, makes_it, taken) are_built = (
     cookie,
     makes_it,
-    taken ∙ ap (λ rows. put_all rows (included include_expired now (cookie ∷ []))) are_built
-        ∙ built_more include_expired now cookies cookie,
+    taken cookies are_built,
   )
 
   -- The lines `done` of the text were passed, and these cookies are made of them. The other lines are those of the bytes at

@@ -1,6 +1,5 @@
 -- What contracts see of calls and replies, and of the pairs of a request.
 use Rattle.std.specs.Prelude.{◌≡◌, ℕ, List, take, length, map, slice_get, Some, None, Ok, ◌<◌, ◌⊎◌, string_bytes}
-use Rattle.std.specs.Borrow.{Bor}
 use Rattle.cookie_words.specs.Moments.{moment_of}
 use Rattle.cookie_raw.specs.Reading.{reading}
 use Rattle.cookie_parts.specs.Cookie.{Row, early}
@@ -43,11 +42,3 @@ abbrev pub StopsAt : ℕ → List Runs.Call → Contents → Type 0
 StopsAt count calls store =
     ((count ≡ 0) × (0 < length calls))
     ⊎ ((call : Runs.Call) × (slice_get calls count ≡ Some call) × MayWant call (step store.suffixes call store.rows).reply)
-
--- a cookie's name and value
-abbrev pub name_and_value : Row → List ℕ × List ℕ
-name_and_value cookie = (cookie.raw.name, cookie.raw.value)
-
--- two texts that are lent
-abbrev pub lent_pair : Bor (List ℕ) × Bor (List ℕ) → List ℕ × List ℕ
-lent_pair pair = (pair.0.now, pair.1.now)

@@ -4,7 +4,8 @@ pub use Rattle.cookie_laws.specs.Given
 pub use Rattle.cookie_laws.specs.Related
 pub use Rattle.cookie_laws.specs.Rows
 pub use Rattle.cookie_laws.specs.Runs
-pub mod Building
+pub use Rattle.cookie_rows.specs.Building
+pub use Rattle.cookie_rows.specs.Requests
 pub mod CallViews
 pub mod Contents
 pub mod Loading

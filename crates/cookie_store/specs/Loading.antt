@@ -7,7 +7,8 @@ use Rattle.cookie_words.specs.Moments.{Moment}
 use Rattle.cookie_parts.specs.Cookie.{Row}
 use Rattle.cookie_parts.specs.declared.error.Error.{Error}
 use Rattle.cookie_parts.specs.declared.error.Error.TheVariants.{Io, Memory, NotUtf8}
-use Rattle.cookie_laws.specs.Rows.{built, included, put_all}
+use Rattle.cookie_laws.specs.Rows.{built}
+use Rattle.cookie_rows.specs.Building.{TakesCookie}
 
 module _ (makes : List ℕ → Result Row Error → Type 0) where
   -- the line is UTF-8, and the function may make this cookie of it
@@ -29,10 +30,10 @@ module _ (makes : List ℕ → Result Row Error → Type 0) where
       × IfSome known (λ text. (before after : List (List ℕ)) × (cookies : List Row)
       × (lines text ≡ before ++ line ∷ after) × AreCookies before cookies)
 
-  -- a cookie that the function may make of the line is put, unless it has ended and is to be passed over
+  -- the rows took a cookie that the function may make of the line
   abbrev pub TakesLine : List ℕ → Bool → Moment → List Row → List Row → Type 0
   TakesLine line include_expired now old new =
-      (cookie : Row) × MakesCookie line cookie × (new ≡ put_all old (included include_expired now (cookie ∷ [])))
+      (cookie : Row) × MakesCookie line cookie × TakesCookie include_expired now cookie old new
 
   -- rows that are built from the cookies of the lines of a text, where that is known
   abbrev pub BuildsFrom : Option (List ℕ) → Bool → Moment → List Row → Type 0

@@ -10,8 +10,9 @@ ghost use Rattle.cookie_parts.specs.Cookie.{cookie_of, early};
 ghost use Rattle.cookie_parts.specs.declared.cookie_error.CookieError.TheVariants.{Memory};
 ghost use Rattle.cookie_parts.specs.declared.store_action.StoreAction.TheVariants.{Inserted};
 ghost use Rattle.cookie_laws.specs.Acceptance.{received, MayRefuse};
-ghost use Rattle.cookie_store.specs.Building.{Builds, FailsFirst, WantsRoom};
-ghost use Rattle.cookie_store.specs.CallViews.{call_view, name_and_value, reply_view, MayWant, StopsAfter, StopsAt};
+ghost use Rattle.cookie_rows.specs.Building.{Builds, FailsFirst, WantsRoom};
+ghost use Rattle.cookie_rows.specs.Requests.{name_and_value};
+ghost use Rattle.cookie_store.specs.CallViews.{call_view, reply_view, MayWant, StopsAfter, StopsAt};
 ghost use Rattle.cookie_laws.specs.Given.{given};
 ghost use Rattle.cookie_store.specs.Loading.{BuildsFrom, FailsToLoad, ReadsEachOnce};
 ghost use Rattle.cookie_store.specs.Responses.{TakesAll, TakesSome};
@@ -19,18 +20,16 @@ ghost use Rattle.cookie_laws.specs.Rows.{are_rows, if_live, key_at, live_rows, r
 ghost use Rattle.cookie_laws.specs.Runs.{replies, rows_after, step, Clear, Insert, IsReply, Remove, Removed, Set, Stored, UnlessMemory};
 ghost use Rattle.cookie_store.specs.Saving.{saved_rows, FailsToSave, WritesRows};
 
-use crate::building::build;
 use crate::call::{Call, Reply, Stopped, stored};
 use crate::insertion::{accept, owned_cookie, owned_raw_cookie};
 use crate::loading::load_rows;
-use crate::request::{RequestCookies, RequestValues};
 use crate::response::store_each;
 use crate::saving::save_rows;
 use cookie_device::{Sink, Source};
 use cookie_parts::{Cookie, CookieError, Error, StoreAction, StoreResult};
 use cookie_psl::List;
 use cookie_raw::RawCookie;
-use cookie_rows::{IterAny, IterUnexpired, Rows};
+use cookie_rows::{IterAny, IterUnexpired, RequestCookies, RequestValues, Rows};
 use jiff::civil::DateTime;
 use log::Log;
 use std::alloc::{AllocError, Global};
@@ -125,7 +124,7 @@ impl CookieStore {
             ((error ≡ Error.Memory) × WantsRoom I.next_gives cookies include_expired (moment_of now))
             ⊎ FailsFirst I.next_gives cookies error) }
     {
-        let rows = build(alloc, cookies, include_expired, now)?;
+        let rows = Rows::from_cookies(alloc, cookies, include_expired, now)?;
         Ok(store_of(alloc, rows))
     }
 
@@ -288,7 +287,7 @@ impl CookieStore {
     ) -> Result<RequestValues<'_>, AllocError>
         ensures { IfOk result (λ values. values ≡ map name_and_value (given url.now (moment_of now) self.now.rows)) }
     {
-        Ok(RequestValues::new(self.matches(url, now)?))
+        self.rows.request_values(self.alloc, url, now)
     }
 
     /// The raw cookies of the cookies that are given for the URL at the moment, in the store's order.
@@ -300,7 +299,7 @@ impl CookieStore {
     ) -> Result<RequestCookies<'_>, AllocError>
         ensures { IfOk result (λ cookies. cookies ≡ map (λ c. c.raw) (given url.now (moment_of now) self.now.rows)) }
     {
-        Ok(RequestCookies::new(self.matches(url, now)?))
+        self.rows.request_cookies(self.alloc, url, now)
     }
 
     /// Writes, for each cookie that has not ended by the moment and ends at one, what the function says of it and a line

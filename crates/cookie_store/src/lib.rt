@@ -1,13 +1,11 @@
 //! A cookie store, after RFC 6265.
 #![tactic(auto)]
 
-mod building;
 mod call;
 mod cookie_store;
 pub mod device;
 mod insertion;
 mod loading;
-mod request;
 mod response;
 mod saving;
 #[cfg(test)]
@@ -22,7 +20,6 @@ pub use cookie_parts::{
 pub use cookie_psl as psl;
 pub use cookie_raw as raw;
 pub use cookie_raw::{RawCookie, RawCookieParseError};
-pub use cookie_rows::{IterAny, IterUnexpired};
+pub use cookie_rows::{IterAny, IterUnexpired, RequestCookies, RequestValues};
 pub use cookie_saved as saved;
 pub use cookie_store::{CookieStore, InsertResult};
-pub use request::{RequestCookies, RequestValues};

@@ -1,17 +1,15 @@
 //! Rows that are made of lines.
-ghost use Rattle.std.specs.Prelude.{◌≡◌, ◌-◌, ◌^◌, ◌<◌, ◌∷◌, [], ◌⊎◌, IfErr, IfOk, OnErr, OnOk};
+ghost use Rattle.std.specs.Prelude.{◌≡◌, ◌-◌, ◌^◌, ◌<◌, ◌⊎◌, IfErr, IfOk, OnErr, OnOk};
 ghost use Rattle.std.specs.Fn.{FnReturnsAt};
 ghost use Rattle.std.specs.Io.KnownBytes.{IsAtEnd};
 ghost use Rattle.cookie_words.specs.Moments.{moment_of};
-ghost use Rattle.cookie_laws.specs.Rows.{included, put_all};
 ghost use Rattle.cookie_store.specs.Loading.{BuildsFrom, FailsToLoad, MakesCookie, ReadsEachOnce, RefusesLine, TakesLine};
 
-use crate::building::take;
 use cookie_device::{FillError, LineBuffer, Source};
 use cookie_parts::{Cookie, Error};
 use cookie_rows::Rows;
 use jiff::civil::DateTime;
-use std::alloc::{AllocError, Global};
+use std::alloc::Global;
 
 /// The rows of the cookies that the function makes of the lines of the source, all or those that have not ended.
 pub(crate) fn load_rows<R: Source, F: Fn(&str) -> Result<Cookie<'_>, Error>>(
@@ -70,25 +68,13 @@ fn take_line<F: Fn(&str) -> Result<Cookie<'_>, Error>>(
     ensures kept { OnErr result (rows.new ≡ rows.old) }
 {
     let cookie = made_of(line, cookie_of)?;
-    match take_owned(rows, alloc, cookie, include_expired, now) {
+    let Ok(cookie) = cookie.into_owned(alloc) else {
+        return Err(Error::Memory);
+    };
+    match rows.take(cookie, include_expired, now) {
         Ok(()) => Ok(()),
         Err(_) => Err(Error::Memory),
     }
-}
-
-// Puts the cookie with texts of its own, unless it has ended and is to be passed over. Want of memory leaves the rows.
-fn take_owned(
-    rows: &mut Rows,
-    alloc: Global,
-    cookie: Cookie<'_>,
-    include_expired: bool,
-    now: DateTime,
-) -> Result<(), AllocError>
-    ensures taken { OnOk result (rows.new
-        ≡ put_all rows.old (included include_expired (moment_of now) (cookie.entry ∷ []))) }
-    ensures refused { OnErr result (rows.new ≡ rows.old) }
-{
-    take(rows, cookie.into_owned(alloc)?, include_expired, now)
 }
 
 // The cookie that the function makes of the line.

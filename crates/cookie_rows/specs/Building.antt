@@ -1,5 +1,5 @@
 -- Stores that are built from what an iterator gives.
-use Rattle.std.specs.Prelude.{◌≡◌, Bool, List, [], ◌∷◌, map, Option, Some, None, Result, Ok, Err}
+use Rattle.std.specs.Prelude.{◌≡◌, Bool, List, [], ◌∷◌, ◌++◌, map, Option, Some, None, Result, Ok, Err}
 use Rattle.std.specs.Iterator.{Drains, YieldsThen}
 use Rattle.cookie_words.specs.Moments.{Moment}
 use Rattle.cookie_parts.specs.Cookie.{Row}
@@ -26,3 +26,8 @@ abbrev pub WantsRoom : {S : Type 0} → (S → Option (Result Row Error) → S �
 WantsRoom {S} steps items include_expired now =
     (cookies : List Row) × (next : Row) × (rest : S) × YieldsThen steps items (map Ok cookies) (Some (Ok next)) rest
     × IsNewRow include_expired now (built include_expired now cookies) next
+
+-- rows that were built from cookies are built from these and this one
+abbrev pub TakesCookie : Bool → Moment → Row → List Row → List Row → Type 0
+TakesCookie include_expired now cookie old new =
+    (cookies : List Row) → old ≡ built include_expired now cookies → new ≡ built include_expired now (cookies ++ cookie ∷ [])

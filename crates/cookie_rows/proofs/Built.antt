@@ -3,6 +3,7 @@ use Rattle.std.proofs.Common.{◌≡◌, ◌∙◌, ap, sym, refl, Bool, true, f
 use Rattle.std.proofs.lemmas.List.Elements.{filter-append}
 use Rattle.cookie_words.specs.Moments.{Moment}
 use Rattle.cookie_parts.specs.Cookie.{Row}
+use Rattle.cookie_rows.specs.Building.{TakesCookie}
 use Rattle.cookie_laws.specs.Rows.{built, included, put, put_all}
 
 -- cookies, and then others
@@ -23,3 +24,11 @@ pub built_more : (include_expired : Bool) (now : Moment) (cookies : List Row) (c
 built_more include_expired now cookies cookie =
     sym (put_all_append [] (included include_expired now cookies) (included include_expired now (cookie ∷ [])))
     ∙ ap (put_all []) (sym (included_append include_expired now cookies (cookie ∷ [])))
+
+-- a cookie that counts, where it is put
+pub takes_put : (include_expired : Bool) (now : Moment) (cookie : Row) (old new : List Row)
+    → included include_expired now (cookie ∷ []) ≡ cookie ∷ [] → new ≡ put old cookie
+    → TakesCookie include_expired now cookie old new
+takes_put include_expired now cookie old new counts is = λ cookies are_built.
+    is ∙ ap (λ rows. put rows cookie) are_built ∙ ap (put_all (built include_expired now cookies)) (sym counts)
+    ∙ built_more include_expired now cookies cookie

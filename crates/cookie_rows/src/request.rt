@@ -1,6 +1,6 @@
 //! The cookies of a request.
 ghost use Rattle.std.specs.Prelude.{◌≡◌, map};
-ghost use Rattle.cookie_store.specs.CallViews.{name_and_value};
+ghost use Rattle.cookie_rows.specs.Requests.{name_and_value};
 
 use cookie_parts::Cookie;
 use cookie_raw::RawCookie;
@@ -16,7 +16,7 @@ pub struct RequestValues<'a> {
 impl<'a> Model for RequestValues<'a> {
     ghost use Rattle.std.specs.Prelude.{ℕ, List, map};
     ghost use Rattle.std.specs.Vec.Iter.{into_iter_items};
-    ghost use Rattle.cookie_store.specs.CallViews.{name_and_value};
+    ghost use Rattle.cookie_rows.specs.Requests.{name_and_value};
 
     ghost Value = { List (List ℕ × List ℕ) };
 
@@ -38,7 +38,7 @@ impl<'a> Iterator for RequestValues<'a> {
     type Item = (&'a str, &'a str);
 
     ghost use Rattle.std.specs.Iterator.{YieldsFirstBy, item_count};
-    ghost use Rattle.cookie_store.specs.CallViews.{lent_pair};
+    ghost use Rattle.cookie_rows.specs.Requests.{lent_pair};
 
     ghost next_gives = { YieldsFirstBy lent_pair (λ pairs. pairs) };
 

@@ -1,9 +1,7 @@
 use Rattle.std.proofs.Common.{◌∙◌, ap, sym, [], ◌∷◌, ◌++◌, Ok, map}
 use Rattle.std.proofs.lemmas.List.{map-append}
 use Rattle.cookie_words.specs.Moments.{moment_of}
-use Rattle.cookie_laws.specs.Rows.{included, put_all}
-use Rattle.cookie_store.proofs.Built.{built_more}
-use Rattle.cookie_store.proofs.building.build.Goals as goal
+use Rattle.cookie_rows.proofs.rows.Rows.from_cookies.Goals as goal
 
 pub loop-item-preserved : goal.loop-item-preserved
 loop-item-preserved g c =
@@ -18,8 +16,6 @@ loop-item-preserved g c =
         ap (λ items. items ++ c.in-Some.item ∷ []) are_cookies
             ∙ ap (λ item. map Ok cookies ++ item ∷ []) c.in_ok-cookie.was
             ∙ sym (map-append Ok cookies (cookie ∷ [])),
-        c.in-Ok.ensures.taken
-            ∙ ap (λ rows. put_all rows (included c.args.include_expired now (cookie ∷ []))) are_built
-            ∙ built_more c.args.include_expired now cookies cookie,
+        c.in-Ok.ensures.built cookies are_built,
       ),
     )

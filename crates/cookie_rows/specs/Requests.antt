@@ -1,0 +1,12 @@
+-- What contracts see of the cookies of a request.
+use Rattle.std.specs.Prelude.{ℕ, List}
+use Rattle.std.specs.Borrow.{Bor}
+use Rattle.cookie_parts.specs.Cookie.{Row}
+
+-- a cookie's name and value
+abbrev pub name_and_value : Row → List ℕ × List ℕ
+name_and_value cookie = (cookie.raw.name, cookie.raw.value)
+
+-- two texts that are lent
+abbrev pub lent_pair : Bor (List ℕ) × Bor (List ℕ) → List ℕ × List ℕ
+lent_pair pair = (pair.0.now, pair.1.now)
