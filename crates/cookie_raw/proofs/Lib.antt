@@ -1,7 +1,6 @@
 pub mod Ages
 pub mod AgesBack
 pub mod AsciiTexts
-pub mod DateBounds
 pub mod DateForms
 pub mod DateMonths
 pub mod DateNumbers
