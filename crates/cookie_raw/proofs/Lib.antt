@@ -19,4 +19,5 @@ pub mod PrintedAttributes
 pub mod PrintedTokens
 pub mod PrintedWords
 pub mod ReadsBack
+pub mod Sides
 pub mod Slices
