@@ -51,12 +51,16 @@ is_for_host Empty host = false
 abbrev pub domain_matches : DomainValue → Parts → Bool
 domain_matches domain url = passes (is_for_host domain) (host_of url)
 
+-- the text, for the kinds that have one
+abbrev pub text_if_any : DomainValue → Option (List ℕ)
+text_if_any (HostOnly d) = Some d
+text_if_any (Suffix d) = Some d
+text_if_any NotPresent = None
+text_if_any Empty = None
+
 -- the domain names this host
 abbrev pub names_host : DomainValue → List ℕ → Bool
-names_host (HostOnly d) host = bytes_eq d host
-names_host (Suffix d) host = bytes_eq d host
-names_host NotPresent host = false
-names_host Empty host = false
+names_host domain host = passes (λ text. bytes_eq text host) (text_if_any domain)
 
 -- the URL has a host, and the domain names it
 abbrev pub host_is_identical : DomainValue → Parts → Bool
@@ -83,13 +87,6 @@ suffix_of ascii = if length ascii == 0 then Empty else Suffix ascii
 abbrev pub domain_from_attribute : Option (List ℕ) → Option DomainValue
 domain_from_attribute None = Some NotPresent
 domain_from_attribute (Some text) = option_map suffix_of (ascii_of text)
-
--- the text, for the kinds that have one
-abbrev pub text_if_any : DomainValue → Option (List ℕ)
-text_if_any (HostOnly d) = Some d
-text_if_any (Suffix d) = Some d
-text_if_any NotPresent = None
-text_if_any Empty = None
 
 -- the domain has a text, and that is a public suffix by the rules
 abbrev pub is_public_suffix : RuleList → DomainValue → Bool

@@ -11,10 +11,11 @@ ghost use Rattle.cookie_parts.specs.Outcomes.{Gives};
 ghost use Rattle.cookie_parts.specs.Path.{path_or_default};
 ghost use Rattle.cookie_parts.specs.Views.{domain_value, expiry_value};
 
+use crate::cookie_expiration::epoch;
 use crate::utils::{is_http_scheme, is_secure};
 use crate::{CookieDomain, CookieError, CookieExpiration, CookiePath, Error};
 use cookie_raw::{Expiration, RawCookie, RawCookieBuilder};
-use jiff::civil::{DateTime, date};
+use jiff::civil::DateTime;
 use std::alloc::{AllocError, Global};
 use std::marker::Model;
 use url::Url;
@@ -135,6 +136,13 @@ impl<'a> Cookie<'a> {
             && (!is_set(self.raw.http_only()) || is_http_scheme(url))
     }
 
+    /// Whether the cookie is HttpOnly, and the scheme of the URL not HTTP.
+    pub fn is_out_of_reach(&self, url: &Url) -> bool
+        ensures { result ≡ is_out_of_reach self.now.raw url.now }
+    {
+        is_out_of_reach(&self.raw, url)
+    }
+
     /// Whether the cookie ends at a moment, and not with the session.
     pub fn is_persistent(&self) -> bool
         ensures { result ≡ is_persistent self.now.expires }
@@ -149,7 +157,7 @@ impl<'a> Cookie<'a> {
     pub fn expire(&mut self)
         ensures { self.new ≡ ended self.old }
     {
-        self.expires = CookieExpiration::AtUtc(date(1970, 1, 1).at(0, 0, 0, 0));
+        self.expires = CookieExpiration::AtUtc(epoch());
     }
 
     /// Whether the cookie has ended at the moment.
@@ -183,6 +191,14 @@ impl<'a> Cookie<'a> {
             expires,
         })
     }
+
+    /// What the cookie says of itself as a raw cookie: its name and value, Expires where it ends at a moment, Path where
+    /// a Path attribute set it, and Domain where it is for more than one host. All else is dropped.
+    pub fn into_raw(self, alloc: Global) -> Result<RawCookie<'static>, AllocError>
+        ensures { IfOk result (λ raw. raw ≡ said self.entry) }
+    {
+        said(alloc, self)
+    }
 }
 
 impl<'a> Clone for Cookie<'a> {
@@ -213,16 +229,6 @@ impl<'a> PartialEq for Cookie<'a> {
             && self.path == other.path
             && self.domain == other.domain
             && self.expires == other.expires
-    }
-}
-
-impl<'a> Cookie<'a> {
-    /// What the cookie says of itself as a raw cookie: its name and value, Expires where it ends at a moment, Path where
-    /// a Path attribute set it, and Domain where it is for more than one host. All else is dropped.
-    pub fn into_raw(self, alloc: Global) -> Result<RawCookie<'static>, AllocError>
-        ensures { IfOk result (λ raw. raw ≡ said self.entry) }
-    {
-        said(alloc, self)
     }
 }
 

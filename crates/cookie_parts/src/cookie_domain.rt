@@ -134,10 +134,14 @@ impl CookieDomain {
     pub fn to_string_in(&self, alloc: Global) -> Result<String, AllocError>
         ensures { IfOk result (λ text. string_bytes text ≡ domain_text (domain_value self.now)) }
     {
-        match self.as_cow() {
-            Some(domain) => String::from_str(alloc, domain),
-            None => Ok(String::new(alloc)),
-        }
+        String::from_str(alloc, self.as_str())
+    }
+
+    /// The text of the domain, empty for the kinds without one.
+    pub fn as_str(&self) -> &str
+        ensures { result.now ≡ domain_text (domain_value self.now) }
+    {
+        self.as_cow().unwrap_or("")
     }
 
     /// The text of the domain, for the kinds that have one.

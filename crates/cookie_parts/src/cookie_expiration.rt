@@ -117,7 +117,8 @@ fn whole_seconds(moment: DateTime) -> DateTime
         .at(moment.hour(), moment.minute(), moment.second(), 0)
 }
 
-fn epoch() -> DateTime
+/// 1970-01-01T00:00:00.
+pub(crate) fn epoch() -> DateTime
     ensures { moment_of result ≡ epoch }
 {
     date(1970, 1, 1).at(0, 0, 0, 0)

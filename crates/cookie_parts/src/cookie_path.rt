@@ -1,8 +1,7 @@
 //! The paths that a cookie is for, RFC 6265 5.1.4 and 5.2.4.
-ghost use Rattle.std.specs.Prelude.{◌≡◌, ◌==◌, ◌&&◌, ◌||◌, ◌∷◌, ◌↔◌, [], false, Some, drop, length, nat_eq, string_bytes, IfOk, IsTrue};
-ghost use Rattle.std.specs.List.{ends_with, starts_with};
+ghost use Rattle.std.specs.Prelude.{◌≡◌, ◌↔◌, false, Some, string_bytes, IfOk, IsTrue};
 ghost use Rattle.url.specs.Parts.{cannot_be_a_base};
-ghost use Rattle.cookie_parts.specs.Path.{absolute_path, covers_path, default_path, directory, from_url, path_matches, path_or_default, CoversPath};
+ghost use Rattle.cookie_parts.specs.Path.{absolute_path, covers_path, default_path, from_url, path_matches, path_or_default, CoversPath};
 
 use std::alloc::{AllocError, Global};
 use std::cmp::Ordering;

@@ -1,15 +1,10 @@
 -- The labels of a rule, read one by one.
 use Rattle.std.proofs.Common.{◌≡◌, ℕ, ◌<◌, zero, suc, List, [], ◌∷◌, ◌++◌, length, get_or, Option, Some, None, Err, refl, ap, sym, ◌∙◌, arith}
-use Rattle.std.specs.Option.{option_and_then}
+use Rattle.cookie_words.specs.Steps.{◌>>=◌}
 use Rattle.cookie_psl.specs.ReadRules.{Gives}
 use Rattle.cookie_psl.specs.Reading.{label_from, labels_from}
 use Rattle.cookie_psl.specs.declared.reading.LineFault.{LineFault}
 use Rattle.cookie_psl.specs.declared.reading.LineFault.TheVariants.{Bad, Memory}
-
-infixl 10 ◌>>=◌
--- a step of a `do` block, where the first `None` ends it
-abbrev ◌>>=◌ : {A B : Type 0} → Option A → (A → Option B) → Option B
-o >>= f = option_and_then f o
 
 -- a label that is read after others
 abbrev and_label : Option (List (Option (List ℕ))) → Option (Option (List ℕ)) → Option (List (Option (List ℕ)))

@@ -1,12 +1,14 @@
 -- The lines of a list, read one by one.
-use Rattle.std.proofs.Common.{◌≡◌, ℕ, suc, ◌+◌, ◌<◌, ◌≤◌, Bool, true, false, ◌||◌, List, [], ◌∷◌, ◌++◌, length, map, take, drop, get_or, Option, Some, None, Result, Ok, Err, refl, sym, ap, ◌∙◌, arith, take_all}
+use Rattle.std.proofs.Common.{◌≡◌, ℕ, suc, ◌+◌, ◌<◌, Bool, true, false, ◌||◌, List, [], ◌∷◌, ◌++◌, length, map, take, drop, get_or, Option, Some, None, Result, Ok, Err, refl, sym, ap, ◌∙◌, arith}
 use Rattle.std.specs.Bool.{⊤}
 use Rattle.std.specs.Borrow.{Bor}
-use Rattle.std.specs.List.{list_any}
+use Rattle.std.specs.List.{enumerate_from, list_any, take-map}
 use Rattle.std.specs.Result.{is_ok}
 use Rattle.std.proofs.lemmas.Bool.{false≢true}
-use Rattle.std.proofs.lemmas.List.{get_or-map, length-map, length-take-le, take-append-drop, take_more}
+use Rattle.std.proofs.lemmas.List.{length-take-le, take-append-drop}
 use Rattle.std.proofs.lemmas.List.Folds.{list_any-append}
+use Rattle.std.proofs.lemmas.List.FromFn.{get_or-enumerate_from, length-enumerate_from}
+use Rattle.std.proofs.lemmas.Simd.{map-map}
 use Rattle.std.proofs.Math.Seq.{drop-cons}
 use Rattle.cookie_psl.specs.Lists.{GivesList, TakesLine, with_rule}
 use Rattle.cookie_psl.specs.declared.error.ListError.{ListError}
@@ -84,47 +86,54 @@ same_with_rule held rules None same = same
 same_with_rule held rules (Some rule) same = λ test.
     ap (λ b. test rule || b) (same test) ∙ either (test rule) (list_any test rules) ∙ sym (list_any-append test rules (rule ∷ []))
 
--- the texts of lines
-abbrev pub texts : List (Bor (List ℕ)) → List (List ℕ)
-texts lines = map (λ line. line.now) lines
+-- the texts of lines with their places
+abbrev pub texts : List (ℕ × Bor (List ℕ)) → List (List ℕ)
+texts lines = map (λ line. line.1.now) lines
 
--- the lines up to one, and that one
-up_to_line : (lines : List (Bor (List ℕ))) (i : ℕ) (d : Bor (List ℕ)) → i < length lines
-    → take (i + 1) (texts lines) ≡ take i (texts lines) ++ (get_or lines i d).now ∷ []
-up_to_line lines i d h =
-    let within : i < length (texts lines) = omega (arith, length-map lines (λ (line : Bor (List ℕ)). line.now)) in
-    take_more (texts lines) i d.now within ∙ ap (λ line. take i (texts lines) ++ line ∷ []) (get_or-map (λ line. line.now) lines i d d.now h)
+-- lines without the places that they were given
+without_places : (n : ℕ) (lines : List (List ℕ)) → map (λ line. line.1) (enumerate_from n lines) ≡ lines
+without_places n [] = refl
+without_places n (line ∷ lines) = ap (λ more. line ∷ more) (without_places (n + 1) lines)
 
--- all lines, with one of them in their midst
-at_line : (lines : List (Bor (List ℕ))) (i : ℕ) (d : Bor (List ℕ)) → i < length lines
-    → texts lines ≡ take i (texts lines) ++ (get_or lines i d).now ∷ drop (suc i) (texts lines)
-at_line lines i d h =
-    let within : i < length (texts lines) = omega (arith, length-map lines (λ (line : Bor (List ℕ)). line.now)) in
-    sym (take-append-drop i (texts lines)) ∙ ap (λ rest. take i (texts lines) ++ rest) (drop-cons (texts lines) i d.now within)
-    ∙ ap (λ line. take i (texts lines) ++ line ∷ drop (suc i) (texts lines)) (get_or-map (λ line. line.now) lines i d d.now h)
+-- the first lines, walked with their places
+first_texts : (walked : List (ℕ × Bor (List ℕ))) (count : ℕ) (lines : List (List ℕ))
+    → map (λ line. (line.0, line.1.now)) walked ≡ take count (enumerate_from 0 lines) → texts walked ≡ take count lines
+first_texts walked count lines e =
+    sym (map-map (λ line. line.1) (λ line. (line.0, line.1.now)) walked) ∙ ap (map (λ line. line.1)) e
+    ∙ sym (take-map (λ line. line.1) count (enumerate_from 0 lines)) ∙ ap (take count) (without_places 0 lines)
 
--- the rules of one line more
-pub rules_up_to : (lines : List (Bor (List ℕ))) (i : ℕ) (d : Bor (List ℕ)) (rules : RuleList) (read : Option Rule) → i < length lines
-    → rules_of 1 (take i (texts lines)) ≡ Ok rules → line_rule (get_or lines i d).now ≡ Some read
-    → rules_of 1 (take (i + 1) (texts lines)) ≡ Ok (then_rule rules read)
-rules_up_to lines i d rules read within e h =
-    ap (rules_of 1) (up_to_line lines i d within) ∙ rules_of-push 1 (take i (texts lines)) (get_or lines i d).now rules read e h
+-- all lines
+pub all_texts : (walked : List (ℕ × Bor (List ℕ))) (lines : List (List ℕ))
+    → map (λ line. (line.0, line.1.now)) walked ≡ enumerate_from 0 lines → texts walked ≡ lines
+all_texts walked lines e =
+    sym (map-map (λ line. line.1) (λ line. (line.0, line.1.now)) walked) ∙ ap (map (λ line. line.1)) e ∙ without_places 0 lines
+
+-- lines with one of them in their midst
+at_line : (lines : List (List ℕ)) (i : ℕ) (d : List ℕ) → i < length lines
+    → lines ≡ take i lines ++ get_or lines i d ∷ drop (suc i) lines
+at_line lines i d within =
+    sym (take-append-drop i lines) ∙ ap (λ rest. take i lines ++ rest) (drop-cons lines i d within)
 
 -- a bad line after good ones
-pub bad_at : (lines : List (Bor (List ℕ))) (i : ℕ) (d : Bor (List ℕ)) (rules : RuleList) → i < length lines
-    → rules_of 1 (take i (texts lines)) ≡ Ok rules → line_rule (get_or lines i d).now ≡ None → rules_of 1 (texts lines) ≡ Err (i + 1)
+bad_at : (lines : List (List ℕ)) (i : ℕ) (d : List ℕ) (rules : RuleList) → i < length lines
+    → rules_of 1 (take i lines) ≡ Ok rules → line_rule (get_or lines i d) ≡ None → rules_of 1 lines ≡ Err (i + 1)
 bad_at lines i d rules within e h =
-    let at : i ≤ length (texts lines) = omega (arith, length-map lines (λ (line : Bor (List ℕ)). line.now)) in
     ap (rules_of 1) (at_line lines i d within)
-    ∙ rules_of-bad 1 (take i (texts lines)) (drop (suc i) (texts lines)) (get_or lines i d).now rules e h
-    ∙ ap (λ n. Err n) (omega (arith, length-take-le i (texts lines) at))
+    ∙ rules_of-bad 1 (take i lines) (drop (suc i) lines) (get_or lines i d) rules e h
+    ∙ ap (λ n. Err n) (omega (arith, length-take-le i lines (omega arith)))
 
--- all lines were read
-pub rules_of_all : (lines : List (Bor (List ℕ))) (i : ℕ) (rules : RuleList) → length lines ≤ i
-    → rules_of 1 (take i (texts lines)) ≡ Ok rules → rules_of 1 (texts lines) ≡ Ok rules
-rules_of_all lines i rules h e =
-    let at : length (texts lines) ≤ i = omega (arith, length-map lines (λ (line : Bor (List ℕ)). line.now)) in
-    ap (rules_of 1) (sym (take_all i (texts lines) at)) ∙ e
+-- the first bad line, walked with its place
+pub bad_next : (walked : List (ℕ × Bor (List ℕ))) (place : ℕ) (line : List ℕ) (lines : List (List ℕ)) (rules : RuleList)
+    → map (λ line. (line.0, line.1.now)) walked ≡ take (length walked) (enumerate_from 0 lines)
+    → length walked < length (enumerate_from 0 lines) → (place, line) ≡ get_or (enumerate_from 0 lines) (length walked) (place, line)
+    → rules_of 1 (texts walked) ≡ Ok rules → line_rule line ≡ None → rules_of 1 lines ≡ Err (place + 1)
+bad_next walked place line lines rules so_far more next good bad =
+    let within : length walked < length lines = omega (arith, length-enumerate_from 0 lines) in
+    let start : 0 + length walked ≡ length walked = omega arith in
+    let here = next ∙ get_or-enumerate_from 0 lines (length walked) (place, line) within ∙ ap (λ n. (n, get_or lines (length walked) line)) start in
+    bad_at lines (length walked) line rules within (ap (rules_of 1) (sym (first_texts walked (length walked) lines so_far)) ∙ good)
+    (ap (λ numbered. line_rule numbered.1) (sym here) ∙ bad)
+    ∙ ap (λ numbered. Err (numbered.0 + 1)) (sym here)
 
 -- what is answered at a line that was not taken
 pub not_taken : (error : ListError) (said : Option (Option Rule)) (number : ℕ) (old new : RuleList) (answer : Result RuleList ℕ)

@@ -1,5 +1,6 @@
 -- The most labels of a matching rule of a tree, from the trees that the last label leads to.
-use Rattle.std.proofs.Common.{◌≡◌, ℕ, ◌+◌, ◌≤◌, List, [], ◌∷◌, ◌++◌, length, refl, ap, sym, ◌∙◌, true, false, Bool, cond, Option, Some, None, String, Box, box_value, option_map, string_bytes, string_cmp, bytes_eq}
+use Rattle.std.proofs.Common.{◌≡◌, ℕ, ◌+◌, ◌≤◌, List, [], ◌∷◌, ◌++◌, length, refl, ap, sym, ◌∙◌, true, false, Bool, cond, Option, Some, None, is_some, String, Box, box_value, arith, option_map, string_bytes, string_cmp, bytes_eq}
+use Rattle.std.specs.Bool.{then_some}
 use Rattle.std.specs.BTreeMap.{is_at}
 use Rattle.std.specs.Cmp.Lexicographic.{slice_cmp}
 use Rattle.std.specs.List.{AllByRecursion}
@@ -8,6 +9,7 @@ use Rattle.std.specs.Map.{keys_of, lookup}
 use Rattle.std.specs.Ordering.{is_eq, nat_cmp}
 use Rattle.std.specs.declared.alloc.Global.{Global}
 use Rattle.std.specs.declared.cmp.Ordering.TheVariants.{Less}
+use Rattle.std.proofs.lemmas.Bool.{false≢true}
 use Rattle.std.proofs.lemmas.Map.Keys.{sorted_head, sorted_tail}
 use Rattle.std.proofs.lemmas.Map.Text.{is_eq-slice_cmp, text_cmp}
 use Rattle.std.proofs.lemmas.Slice.Eq.{bytes_eq-Decides}
@@ -106,6 +108,14 @@ longest-parts is_exception node domain =
     ∙ ap (greater (greater (longest is_exception (label_rules node.kids.entries) domain) (longest is_exception (any_rules node.any) domain)))
     (longest-ends_here is_exception node.is_rule node.is_exception domain)
 
+-- where there are no trees below, it is what ends at the level
+nothing_below : (is_exception : Bool) (kids : List (String Global × Node)) (any : Option (Box Node Global)) (here : Option ℕ) (domain : List (List ℕ)) →
+    length kids ≡ 0 → is_some any ≡ false →
+    greater (greater (longest is_exception (label_rules kids) domain) (longest is_exception (any_rules any) domain)) here ≡ here
+nothing_below is_exception [] None here domain no_kids no_any = refl
+nothing_below is_exception (kid ∷ kids) any here domain no_kids no_any = absurd (omega arith)
+nothing_below is_exception [] (Some any) here domain no_kids no_any = absurd (false≢true (sym no_any))
+
 -- for a domain without labels it is what ends at the level
 pub longest-level-none : (is_exception : Bool) (node : Node-F Node) →
     longest is_exception (level_rules node) [] ≡ cond (cond is_exception node.is_exception node.is_rule) (Some 0) None
@@ -125,6 +135,20 @@ longest-level is_exception node label labels sorted =
     (ap (λ first. greater first (longest is_exception (any_rules node.any) (label ∷ labels))) (longest-labels is_exception node.kids.entries label labels sorted)
     ∙ ap (greater (option_map (λ n. n + 1) (longest_in is_exception (lookup (is_at (text_cmp label)) node.kids.entries) labels))) (longest-any is_exception node.any label labels)
     ∙ greater-more (longest_in is_exception (lookup (is_at (text_cmp label)) node.kids.entries) labels) (longest_in is_exception (option_map box_value node.any) labels))
+
+-- no labels, where a rule ends
+pub ends_count : (ends own : Bool) → ends ≡ own → then_some {T = ℕ} ends 0 ≡ cond own (Some 0) None
+ends_count true own same = ap (λ test. cond test (Some 0) None) same
+ends_count false own same = ap (λ test. cond test (Some 0) None) same
+
+-- of a leaf it is what ends there
+pub longest-leaf : (is_exception : Bool) (node : Node) (domain : List (List ℕ)) →
+    length (out-Node node).kids.entries ≡ 0 → is_some (out-Node node).any ≡ false →
+    longest is_exception (tree_rules node) domain ≡ cond (cond is_exception (out-Node node).is_exception (out-Node node).is_rule) (Some 0) None
+longest-leaf is_exception node domain no_kids no_any =
+    ap (λ rules. longest is_exception rules domain) (rules_out node)
+    ∙ longest-parts is_exception (out-Node node) domain
+    ∙ nothing_below is_exception (out-Node node).kids.entries (out-Node node).any (cond (cond is_exception (out-Node node).is_exception (out-Node node).is_rule) (Some 0) None) domain no_kids no_any
 
 -- the same of a tree, by the counts of the trees below it
 pub longest-found : (is_exception : Bool) (node : Node) (label : List ℕ) (labels : List (List ℕ)) (by_label by_any : Option ℕ) →

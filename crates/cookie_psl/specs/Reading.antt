@@ -4,13 +4,9 @@ use Rattle.std.specs.Char.{is_whitespace}
 use Rattle.std.specs.List.{before_first, list_any, starts_with}
 use Rattle.idna.specs.Uts46.{domain_to_ascii}
 use Rattle.idna.specs.declared.deny_list.TheConstants.AsciiDenyList.{EMPTY}
+use Rattle.cookie_words.specs.Steps.{◌>>=◌}
 use Rattle.cookie_words.specs.Texts.{pieces}
 use Rattle.cookie_psl.specs.Rules.{Rule, RuleList}
-
-infixl 10 ◌>>=◌
--- a step of a `do` block, where the first `None` ends it
-abbrev ◌>>=◌ : {A B : Type 0} → Option A → (A → Option B) → Option B
-o >>= f = option_and_then f o
 
 -- a line is read up to its first white space
 abbrev pub read_part : List ℕ → List ℕ

@@ -1,7 +1,6 @@
 //! A public suffix list, after publicsuffix.org.
-ghost use Rattle.std.specs.Prelude.{◌≡◌, [], map, option_map, IfOk, IfSome};
+ghost use Rattle.std.specs.Prelude.{◌≡◌, [], option_map, IfSome};
 ghost use Rattle.std.specs.Str.Iter.{HasSubslice};
-ghost use Rattle.cookie_words.specs.Texts.{pieces};
 ghost use Rattle.cookie_psl.specs.Lists.{GivesList, TakesLine};
 ghost use Rattle.cookie_psl.specs.Reading.{line_rule, rules_from};
 ghost use Rattle.cookie_psl.specs.Rules.{suffix_of};
@@ -61,13 +60,8 @@ impl List {
         ensures { GivesList result (rules_from text.now) }
     {
         let mut list = List::new(alloc);
-        let Ok(lines) = lines_of(alloc, text) else {
-            return Err(ListError::Memory);
-        };
-        for (index, line) in lines.iter().enumerate() {
-            if let Err(error) = list.take(alloc, line, index + 1) {
-                return Err(error);
-            }
+        for (index, line) in text.split('\n').enumerate() {
+            list.take(alloc, line, index + 1)?;
         }
         Ok(list)
     }
@@ -102,10 +96,4 @@ impl List {
             Err(LineFault::Memory) => Err(ListError::Memory),
         }
     }
-}
-
-fn lines_of(alloc: Global, text: &str) -> Result<Vec<&str>, AllocError>
-    ensures { IfOk result (λ lines. map (λ line. line.now) lines.items ≡ pieces 10 text.now) }
-{
-    text.split('\n').collect(alloc)
 }

@@ -1,5 +1,5 @@
 //! The rules of a list as a tree of labels, from the last label of a rule to its first.
-ghost use Rattle.std.specs.Prelude.{◌≡◌, ◌+◌, ◌^◌, ◌<◌, ◌∷◌, [], box_value, length, option_map, IfOk, OnOk, if◌then◌else◌};
+ghost use Rattle.std.specs.Prelude.{◌≡◌, ◌^◌, ◌<◌, ◌∷◌, [], box_value, length, option_map, IfOk, OnOk, if◌then◌else◌};
 ghost use Rattle.cookie_psl.specs.Rules as rules;
 ghost use Rattle.cookie_psl.specs.Rules.{SameRules, labels_of};
 ghost use Rattle.cookie_psl.specs.Tree.{label_rules, labels_left, rule_of, rules_in, tree_rules};
@@ -129,17 +129,14 @@ fn longest_within(node: &Node, is_exception: bool, domain: Option<&str>) -> Opti
     requires { length (labels_left domain) < 2 ^ 64 }
     ensures { result ≡ rules.longest is_exception (tree_rules node.now) (labels_left domain.entry) }
 {
-    let here = if ends_rule(node, is_exception) {
-        Some(0)
-    } else {
-        None
-    };
+    let here = ends_rule(node, is_exception).then_some(0);
     let Some(domain) = domain else {
         return here;
     };
+    if node.kids.len() == 0 && node.any.is_none() {
+        return here;
+    }
     let (front, label) = cut_last(domain);
-    // `iter` says that the labels differ.
-    let _ = node.kids.iter();
     let by_label = match node.kids.get(label) {
         Some(kid) => longest_within(kid, is_exception, front),
         None => None,

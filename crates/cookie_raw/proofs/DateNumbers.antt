@@ -1,22 +1,14 @@
 -- The numbers of a date, of a few digits each.
-use Rattle.std.proofs.Common.{◌≡◌, ℕ, ◌+◌, ◌*◌, ◌^◌, ◌<◌, ◌≤◌, Bool, true, List, take, arith, add-one, get_or-take}
+use Rattle.std.proofs.Common.{◌≡◌, ℕ, ◌+◌, ◌^◌, ◌<◌, ◌≤◌, Bool, true, List, take, arith, get_or-take}
 use Rattle.std.specs.Char.{is_ascii_digit, digit_value}
 use Rattle.std.specs.Int.{IsInRange}
-use Rattle.std.specs.List.{AllPass, prefix_len}
-use Rattle.std.proofs.Math.Nat.{pow-le-pow_right, pow-suc}
+use Rattle.std.specs.List.{list_all, prefix_len}
+use Rattle.std.proofs.Math.Nat.{pow-le-pow_right}
 use Rattle.std.proofs.lemmas.Bool.Decides.{nat_tests}
 use Rattle.std.proofs.lemmas.List.Elements.{All-from_get_or}
 use Rattle.std.proofs.lemmas.List.Folds.{length-prefix_len}
-use Rattle.std.proofs.lemmas.List.Sums.{prefix_len_passes}
+use Rattle.std.proofs.lemmas.List.Sums.{list_all-from_AllPass, prefix_len_passes}
 use Rattle.std.proofs.lemmas.Str.{digit_value_digit}
-
--- the next power is ten times as much
-pub power_more : (n : ℕ) → 10 ^ (n + 1) ≡ 10 ^ n * 10
-power_more n = rw add-one (pow-suc 10 n)
-
--- a power of ten up to the fourth
-pub power_below : (n : ℕ) → n ≤ 4 → 10 ^ n ≤ 10_000
-power_below n few = pow-le-pow_right (omega arith) few
 
 -- a number below a power is below each larger one
 pub below_larger_power : (value few many : ℕ) → value < 10 ^ few → few ≤ many → value < 10 ^ many
@@ -25,10 +17,11 @@ below_larger_power value few many small more =
     omega arith
 
 -- the elements up to the first that fails all pass
-pub prefix_passes : (test : ℕ → Bool) (xs : List ℕ) → AllPass test (take (prefix_len test xs) xs)
+pub prefix_passes : (test : ℕ → Bool) (xs : List ℕ) → list_all test (take (prefix_len test xs) xs) ≡ true
 prefix_passes test xs =
-    All-from_get_or (λ x. test x ≡ true) (take (prefix_len test xs) xs) 0
-    (λ i l. let within : i < prefix_len test xs = omega (arith, length-prefix_len test xs) in rw get_or-take (prefix_len_passes test xs i 0 within))
+    list_all-from_AllPass test (take (prefix_len test xs) xs)
+    (All-from_get_or (λ x. test x ≡ true) (take (prefix_len test xs) xs) 0
+    (λ i l. let within : i < prefix_len test xs = omega (arith, length-prefix_len test xs) in rw get_or-take (prefix_len_passes test xs i 0 within)))
 
 -- a digit and its value
 pub digit_weighs : (digit : ℕ) → is_ascii_digit digit ≡ true → (digit_value digit + 48 ≡ digit) × (digit ≤ 57)

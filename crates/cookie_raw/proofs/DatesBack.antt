@@ -4,7 +4,7 @@ use Rattle.std.specs.Prelude.{◌==◌}
 use Rattle.std.proofs.lemmas.Bool.{false≢true, cond-true, and_parts, and_from, eqb-true, leb-true, le-leb}
 use Rattle.jiff_core.specs.Calendar.{days_in_month, days_from_civil, weekday_number}
 use Rattle.jiff_core.proofs.CalendarLemmas.{days_in_month_bounds, weekday_number_bound}
-use Rattle.cookie_words.specs.Moments.{Moment, is_within, is_day, is_time}
+use Rattle.cookie_words.specs.Moments.{Moment, is_within, is_day, is_time, moment_of_fields}
 use Rattle.cookie_raw.specs.CookieDate.{Clock, tokens, time_of, month_names, parts_of, moment_of_parts, cookie_date}
 use Rattle.cookie_raw.specs.CookieText.{day_names, two_digits, four_digits, date_text}
 use Rattle.cookie_raw.specs.PlainCookie.{is_plain_moment, is_plain_text}
@@ -20,23 +20,11 @@ token_parts : (weekday day_token month_token year_token clock_token rest : List 
 token_parts weekday day_token month_token year_token clock_token rest day month year clock a b c d e =
     simp (a.time, a.day, a.month, a.year, b.time, b.day, b.month, c.time, c.month, c.year, d.time, d.year, e)
 
--- a moment in whole seconds of a year from 0 on
-abbrev moment_at : ℕ → ℕ → ℕ → ℕ → ℕ → ℕ → Moment
-moment_at year month day hour minute second = record {
-  year = pos year;
-  month = month;
-  day = day;
-  hour = hour;
-  minute = minute;
-  second = second;
-  nanosecond = 0;
-}
-
--- what holds of each such moment, if a cookie-date may have its year, the calendar its day and a clock its time
+-- what holds of each moment in whole seconds, if a cookie-date may have its year, the calendar its day and a clock its time
 abbrev HoldsInSeconds : (Moment → Type 0) → Type 0
 HoldsInSeconds P =
     (year month day hour minute second : ℕ) → is_within 1601 9999 year ≡ true → is_day (pos year) month day ≡ true → is_time hour minute second ≡ true
-    → P (moment_at year month day hour minute second)
+    → P (moment_of_fields year month day hour minute second 0)
 
 -- holds of the fields of each plain moment
 of_fields : (P : Moment → Type 0) → HoldsInSeconds P → (year : ℤ) (month day hour minute second nanosecond : ℕ)
@@ -91,7 +79,7 @@ small_parts year month day hour minute second h k l =
     }
 
 -- the words of the date of a moment
-printed_words : (year month day hour minute second : ℕ) → date_text (moment_at year month day hour minute second)
+printed_words : (year month day hour minute second : ℕ) → date_text (moment_of_fields year month day hour minute second 0)
     ≡ date_of_words (weekday_of year month day) (two_digits day) (get_or month_names (month - 1) []) (four_digits year) (clock_text hour minute second)
 unfolding date_text
 printed_words year month day hour minute second =
@@ -99,7 +87,7 @@ printed_words year month day hour minute second =
 
 -- the parts that the tokens of such a date say
 printed_parts : (year month day hour minute second : ℕ) → HasSmallParts year month day hour minute second
-    → parts_of (tokens (date_text (moment_at year month day hour minute second)))
+    → parts_of (tokens (date_text (moment_of_fields year month day hour minute second 0)))
     ≡ record { time = Some (record { hour = hour; minute = minute; second = second }); day = Some day; month = Some month; year = Some year }
 printed_parts year month day hour minute second small =
     let weekday = weekday_number_bound (days_from_civil (pos year) month day) in
@@ -117,10 +105,10 @@ printed_parts year month day hour minute second small =
 -- parts that are on the calendar and on a clock make their moment
 moment_from_parts : (year month day hour minute second : ℕ) → 1601 ≤ year → is_day (pos year) month day ≡ true → is_time hour minute second ≡ true
     → moment_of_parts (record { time = Some (record { hour = hour; minute = minute; second = second }); day = Some day; month = Some month; year = Some year })
-    ≡ Some (moment_at year month day hour minute second)
+    ≡ Some (moment_of_fields year month day hour minute second 0)
 unfolding moment_of_parts
 moment_from_parts year month day hour minute second h k l =
-    cond-true (nat_le 1601 year && is_day (pos year) month day && is_time hour minute second) (Some (moment_at year month day hour minute second)) None
+    cond-true (nat_le 1601 year && is_day (pos year) month day && is_time hour minute second) (Some (moment_of_fields year month day hour minute second 0)) None
     (and_from (nat_le 1601 year && is_day (pos year) month day) (is_time hour minute second)
     (and_from (nat_le 1601 year) (is_day (pos year) month day) (le-leb 1601 year h) k) l)
 

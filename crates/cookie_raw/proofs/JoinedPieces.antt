@@ -28,7 +28,7 @@ counted : (p : ℕ → Bool) (x : ℕ) (xs : List ℕ) (n : ℕ) → p x ≡ fal
 counted p x xs n h e = rw (h, e)
 
 -- where no byte passes, the place is the end
-no_place : (p : ℕ → Bool) (text : List ℕ) → list_any p text ≡ false → position_or_len p text ≡ length text
+pub no_place : (p : ℕ → Bool) (text : List ℕ) → list_any p text ≡ false → position_or_len p text ≡ length text
 no_place p [] h = refl
 no_place p (x ∷ xs) h =
     let parts = or_parts (p x) (list_any p xs) h in

@@ -1,7 +1,6 @@
 pub mod Ages
 pub mod AgesBack
 pub mod AsciiTexts
-pub mod DateBounds
 pub mod DateForms
 pub mod DateMonths
 pub mod DateNumbers
@@ -20,4 +19,5 @@ pub mod PrintedAttributes
 pub mod PrintedTokens
 pub mod PrintedWords
 pub mod ReadsBack
+pub mod Sides
 pub mod Slices

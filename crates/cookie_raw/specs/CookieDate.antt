@@ -1,15 +1,11 @@
 -- The cookie-date, after RFC 6265 5.1.1.
-use Rattle.std.specs.Prelude.{ℕ, suc, ◌+◌, ◌==◌, Bool, not, ◌&&◌, ◌||◌, List, [], ◌∷◌, length, take, drop, filter, filter_map, position, codes, nat_eq, nat_le, Option, Some, None, is_some, option_map, option_and_then, pos, if◌then◌else◌}
+use Rattle.std.specs.Prelude.{ℕ, suc, ◌+◌, ◌==◌, Bool, not, ◌&&◌, ◌||◌, List, [], ◌∷◌, length, take, drop, filter, filter_map, position, codes, nat_eq, nat_le, Option, Some, None, is_some, option_map, pos, if◌then◌else◌}
 use Rattle.std.specs.Char.{is_ascii_digit}
 use Rattle.std.specs.List.{prefix_len, slice_split, starts_with}
 use Rattle.std.specs.Str.{str_eq_ignore_ascii_case}
 use Rattle.std.specs.Str.Parse.{digits_value}
-use Rattle.cookie_words.specs.Moments.{Moment, is_within, is_day, is_time}
-
-infixl 10 ◌>>=◌
--- a step of a `do` block, where the first `None` ends it
-abbrev ◌>>=◌ : {A B : Type 0} → Option A → (A → Option B) → Option B
-o >>= f = option_and_then f o
+use Rattle.cookie_words.specs.Moments.{Moment, is_within, is_day, is_time, moment_of_fields}
+use Rattle.cookie_words.specs.Steps.{◌>>=◌}
 
 -- `delimiter`: a tab, or printable ASCII that is no letter, no digit and no `:`
 abbrev pub is_delimiter : ℕ → Bool
@@ -108,16 +104,7 @@ moment_of_parts parts = do
   month ← parts.month
   year ← parts.year
   if nat_le 1601 year && is_day (pos year) month day && is_time time.hour time.minute time.second
-      then Some (record {
-        year = pos year;
-        month = month;
-        day = day;
-        hour = time.hour;
-        minute = time.minute;
-        second = time.second;
-        nanosecond = 0;
-      })
-      else None
+      then Some (moment_of_fields year month day time.hour time.minute time.second 0) else None
 
 -- the moment that a text says, in UTC
 abbrev pub cookie_date : List ℕ → Option Moment

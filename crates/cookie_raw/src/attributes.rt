@@ -8,11 +8,12 @@ ghost use Rattle.jiff.specs.Words.{signed_nanos};
 ghost use Rattle.cookie_raw.specs.Reading.{age_of, attributes, domain_from, expires_from, http_only_from, is_named, last_given, max_age_from, name_of, path_from, piece_gives, same_site_from, secure_from, site_of, value_of};
 ghost use Rattle.cookie_raw.specs.Views.{ending};
 
+use crate::raw_cookie::name_and_value;
 use crate::{Expiration, SameSite, read_date};
 use jiff::SignedDuration;
 
 /// What the attributes of a text have given so far, the texts each a part of that text.
-#[derive(Clone, Copy)]
+#[derive(Clone, Copy, Default)]
 pub(crate) struct Attributes<'a> {
     pub(crate) domain: Option<&'a str>,
     pub(crate) path: Option<&'a str>,
@@ -23,14 +24,15 @@ pub(crate) struct Attributes<'a> {
     pub(crate) expires: Option<Expiration>,
 }
 
-// The two sides of the first `=`; without one the value is empty.
-fn name_and_value(piece: &str) -> (&str, &str)
+// The name and the value of an attribute, where without a `=` the value is empty.
+#[tactic(auto, using(crate::proofs::Sides::whole_name, crate::proofs::Sides::no_value))]
+fn attribute_name_and_value(piece: &str) -> (&str, &str)
     ensures name { result.0.now ≡ name_of piece.now }
     ensures value { result.1.now ≡ value_of piece.now }
 {
-    match piece.split_once('=') {
-        Some((name, value)) => (name.trim(), value.trim()),
-        None => (piece.trim(), "".trim()),
+    match name_and_value(piece) {
+        Some(sides) => sides,
+        None => (piece.trim(), ""),
     }
 }
 
@@ -158,15 +160,7 @@ impl<'a> Attributes<'a> {
         ensures max_age { option_map signed_nanos result.max_age ≡ last_given max_age_from (attributes text.now) }
         ensures expires { option_map ending result.expires ≡ last_given expires_from (attributes text.now) }
     {
-        let mut found = Attributes {
-            domain: None,
-            path: None,
-            secure: None,
-            http_only: None,
-            same_site: None,
-            max_age: None,
-            expires: None,
-        };
+        let mut found = Attributes::default();
         for piece in text.split(';').skip(1) {
             found.take(piece);
         }
@@ -186,7 +180,7 @@ impl<'a> Attributes<'a> {
         ensures expires { option_map ending self.new.expires
             ≡ option_or (piece_gives expires_from piece.now) (option_map ending self.old.expires) }
     {
-        let (name, value) = name_and_value(piece);
+        let (name, value) = attribute_name_and_value(piece);
         self.domain = read_domain(name, value).or(self.domain);
         self.path = read_path(name, value).or(self.path);
         self.secure = read_flag("Secure", name).or(self.secure);

@@ -1,5 +1,5 @@
 //! Raw cookies made part by part.
-ghost use Rattle.std.specs.Prelude.{◌≡◌, None, Some, string_bytes};
+ghost use Rattle.std.specs.Prelude.{◌≡◌, Some, string_bytes};
 ghost use Rattle.cookie_words.specs.Texts.{without_dot};
 ghost use Rattle.jiff.specs.Words.{signed_nanos};
 ghost use Rattle.cookie_raw.specs.Raw.{pair};

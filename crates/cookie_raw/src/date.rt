@@ -1,15 +1,15 @@
 //! The dates of cookies, RFC 6265 5.1.1.
-ghost use Rattle.std.specs.Prelude.{◌≡◌, ◌^◌, ◌<◌, ◌≤◌, length, take, pos, is_some, option_map, IfSome};
+ghost use Rattle.std.specs.Prelude.{◌≡◌, ◌^◌, ◌<◌, ◌≤◌, take, option_map, IfSome};
 ghost use Rattle.std.specs.Char.{is_ascii_digit};
-ghost use Rattle.std.specs.List.{AllPass, position, prefix_len};
+ghost use Rattle.std.specs.List.{position, prefix_len};
 ghost use Rattle.std.specs.Option.{option_copied};
 ghost use Rattle.std.specs.Str.{str_eq_ignore_ascii_case};
-ghost use Rattle.std.specs.Str.Parse.{digits_value};
-ghost use Rattle.cookie_words.specs.Moments.{moment_of, is_day, is_time};
+ghost use Rattle.cookie_words.specs.Moments.{moment_of};
 ghost use Rattle.cookie_raw.specs.CookieDate.{is_delimiter, number_at, after_colon, time_of, day_of, month_names, month_of, full_year, year_of, moment_of_parts, cookie_date};
 ghost use Rattle.cookie_raw.specs.DateSteps.{with_token};
 
-use jiff::civil::{Date, DateTime, Time};
+use cookie_words::{calendar_date, clock_time, digits_value};
+use jiff::civil::DateTime;
 use std::marker::Model;
 
 const MONTH_NAMES: [[u8; 3]; 12] = [
@@ -105,7 +105,7 @@ impl Found {
             return None;
         }
         let date = calendar_date(year, month, day)?;
-        let time = clock_time(time)?;
+        let time = clock_time(time.hour, time.minute, time.second, 0)?;
         Some(date.to_datetime(time))
     }
 }
@@ -135,21 +135,6 @@ fn is_delimiter(byte: u8) -> bool
     matches!(byte, b'\t' | b' '..=b'/' | b';'..=b'@' | b'['..=b'`' | b'{'..=b'~')
 }
 
-// The number that these digits write.
-#[tactic(auto, using(crate::proofs::DateNumbers::power_below))]
-fn digits_value(digits: &[u8]) -> u32
-    requires digits { AllPass is_ascii_digit digits.now }
-    requires few { length digits.now ≤ 4 }
-    ensures value { result ≡ digits_value 10 digits.now }
-    ensures bound { result < 10 ^ length digits.now }
-{
-    let mut value = 0;
-    for digit in digits {
-        value = value * 10 + u32::from(*digit - b'0');
-    }
-    value
-}
-
 // How many digits a text starts with.
 fn digits_at_start(text: &[u8]) -> usize
     ensures { result ≡ prefix_len is_ascii_digit text.now }
@@ -169,7 +154,7 @@ fn number(text: &[u8], least: usize, most: usize) -> Option<(u32, &[u8])>
         return None;
     }
     let (digits, rest) = text.split_at(count);
-    Some((digits_value(digits), rest))
+    Some((digits_value(digits)?, rest))
 }
 
 #[tactic(auto, unfolding(crate::specs::CookieDate::after_colon))]
@@ -245,27 +230,6 @@ fn full_year(year: u32) -> u32
         70..=99 => year + 1900,
         _ => year,
     }
-}
-
-// The date, where the calendar has it.
-fn calendar_date(year: u32, month: u32, day: u32) -> Option<Date>
-    requires year { year < 10_000 }
-    requires month { month < 100 }
-    requires day { day < 100 }
-    ensures found { is_some result ≡ is_day (pos year) month day }
-    ensures value { IfSome result
-        (λ d. (d.year ≡ pos year) × (d.month ≡ month) × (d.day ≡ day)) }
-{
-    Date::new(year as i16, month as i8, day as i8).ok()
-}
-
-// The time, where a clock shows it.
-fn clock_time(time: TimeOfDay) -> Option<Time>
-    ensures found { is_some result ≡ is_time time.hour time.minute time.second }
-    ensures value { IfSome result (λ t. (t.hour ≡ time.hour) × (t.minute ≡ time.minute)
-        × (t.second ≡ time.second) × (t.subsec_nanosecond ≡ 0)) }
-{
-    Time::new(time.hour as i8, time.minute as i8, time.second as i8, 0).ok()
 }
 
 #[cfg(test)]

@@ -64,8 +64,8 @@ fn pair(text: &str) -> &str
     }
 }
 
-// The two sides of the first `=`.
-fn name_and_value(pair: &str) -> Option<(&str, &str)>
+/// The two sides of the first `=`, without white space at their ends.
+pub(crate) fn name_and_value(pair: &str) -> Option<(&str, &str)>
     ensures { MatchOption result (has_equals pair.now ≡ false)
         (λ sides. (has_equals pair.now ≡ true) × (sides.0.now ≡ name_of pair.now) × (sides.1.now ≡ value_of pair.now)) }
 {

@@ -1,14 +1,10 @@
 -- The text that a moment is saved as, `2026-01-31T23:59:59Z`, with a fraction of the second or none.
-use Rattle.std.specs.Prelude.{ℕ, ◌+◌, ◌-◌, ◌*◌, ◌^◌, ◌==◌, Bool, ◌&&◌, List, [], ◌∷◌, length, drop, slice_index, slice_range, Option, Some, None, option_and_then, pos, bytes_eq, codes, nat_eq, if◌then◌else◌}
+use Rattle.std.specs.Prelude.{ℕ, ◌+◌, ◌-◌, ◌*◌, ◌^◌, ◌==◌, Bool, ◌&&◌, List, [], ◌∷◌, length, drop, slice_index, slice_range, Option, Some, None, pos, bytes_eq, codes, nat_eq, if◌then◌else◌}
 use Rattle.std.specs.Char.{is_ascii_digit}
 use Rattle.std.specs.List.{list_all, starts_with, ends_with}
 use Rattle.std.specs.Str.Parse.{digits_value}
-use Rattle.cookie_words.specs.Moments.{Moment, is_within, is_day, is_time}
-
-infixl 10 ◌>>=◌
--- a step of a `do` block, where the first `None` ends it
-abbrev ◌>>=◌ : {A B : Type 0} → Option A → (A → Option B) → Option B
-o >>= f = option_and_then f o
+use Rattle.cookie_words.specs.Moments.{Moment, is_within, is_day, is_time, moment_of_fields}
+use Rattle.cookie_words.specs.Steps.{◌>>=◌}
 
 -- the number that the digits at a place write, `count` of them
 unfoldable pub number_in : List ℕ → ℕ → ℕ → Option ℕ
@@ -47,13 +43,4 @@ moment_at text = do
   second ← number_in text 17 2
   nanosecond ← fraction_of (drop 19 text)
   if has_signs text && is_day (pos year) month day && is_time hour minute second
-      then Some (record {
-        year = pos year;
-        month = month;
-        day = day;
-        hour = hour;
-        minute = minute;
-        second = second;
-        nanosecond = nanosecond;
-      })
-      else None
+      then Some (moment_of_fields year month day hour minute second nanosecond) else None

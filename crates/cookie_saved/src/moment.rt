@@ -1,13 +1,11 @@
 //! Reading a moment from its text.
 
-ghost use Rattle.std.specs.Prelude.{◌≡◌, ℕ, ◌+◌, ◌^◌, ◌<◌, ◌≤◌, pos, length, Some, None, is_some, IfSome, drop, option_map, if◌then◌else◌};
-ghost use Rattle.std.specs.Char.{is_ascii_digit};
-ghost use Rattle.std.specs.List.{list_all};
-ghost use Rattle.std.specs.Str.Parse.{digits_value};
-ghost use Rattle.cookie_words.specs.Moments.{moment_of, is_day, is_time};
+ghost use Rattle.std.specs.Prelude.{◌≡◌, ◌+◌, ◌^◌, ◌<◌, ◌≤◌, IfSome, drop, option_map};
+ghost use Rattle.cookie_words.specs.Moments.{moment_of};
 ghost use Rattle.cookie_saved.specs.MomentText.{number_in, has_signs, nanoseconds_in, fraction_of, moment_at};
 
-use jiff::civil::{Date, DateTime, Time};
+use cookie_words::{calendar_date, clock_time, digits_value};
+use jiff::civil::DateTime;
 
 /// The moment that the text writes as `2026-01-31T23:59:59Z`, or with up to nine digits of the
 /// second's fraction as `2026-01-31T23:59:59.5Z`.
@@ -55,24 +53,6 @@ fn number(text: &[u8], from: usize, count: usize) -> Option<u32>
     digits_value(text.get(from..from + count)?)
 }
 
-// The number that these digits write.
-#[tactic(auto, using(crate::proofs::Powers::power_below))]
-fn digits_value(digits: &[u8]) -> Option<u32>
-    requires { length digits.now ≤ 9 }
-    ensures value { result
-        ≡ (if list_all is_ascii_digit digits.now then Some (digits_value 10 digits.now) else None) }
-    ensures bound { IfSome result (λ n. n < 10 ^ length digits.now) }
-{
-    let mut value = 0;
-    for digit in digits {
-        if !digit.is_ascii_digit() {
-            return None;
-        }
-        value = value * 10 + u32::from(*digit - b'0');
-    }
-    Some(value)
-}
-
 // The nanoseconds of what follows the seconds.
 #[tactic(auto, unfolding(crate::specs::MomentText::fraction_of))]
 fn fraction(text: &[u8]) -> Option<u32>
@@ -97,31 +77,6 @@ fn nanoseconds(digits: &[u8]) -> Option<u32>
     }
     let value = digits_value(digits)?;
     Some(value * 10_u32.pow(9 - digits.len() as u32))
-}
-
-// The date, where the calendar has it.
-fn calendar_date(year: u32, month: u32, day: u32) -> Option<Date>
-    requires year { year < 10_000 }
-    requires month { month < 100 }
-    requires day { day < 100 }
-    ensures found { is_some result ≡ is_day (pos year) month day }
-    ensures value { IfSome result
-        (λ d. (d.year ≡ pos year) × (d.month ≡ month) × (d.day ≡ day)) }
-{
-    Date::new(year as i16, month as i8, day as i8).ok()
-}
-
-// The time, where a clock shows it.
-fn clock_time(hour: u32, minute: u32, second: u32, nanosecond: u32) -> Option<Time>
-    requires hour { hour < 100 }
-    requires minute { minute < 100 }
-    requires second { second < 100 }
-    requires nanosecond { nanosecond < 1_000_000_000 }
-    ensures found { is_some result ≡ is_time hour minute second }
-    ensures value { IfSome result (λ t. (t.hour ≡ hour) × (t.minute ≡ minute)
-        × (t.second ≡ second) × (t.subsec_nanosecond ≡ nanosecond)) }
-{
-    Time::new(hour as i8, minute as i8, second as i8, nanosecond as i32).ok()
 }
 
 #[cfg(test)]

@@ -1,1 +1,3 @@
 pub mod Calendar
+mod CalendarDays
+mod Powers

@@ -25,6 +25,18 @@ moment_of d = record {
   nanosecond = d.time.subsec_nanosecond;
 }
 
+-- the moment of these fields, of a year from 0 on
+abbrev pub moment_of_fields : ℕ → ℕ → ℕ → ℕ → ℕ → ℕ → ℕ → Moment
+moment_of_fields year month day hour minute second nanosecond = record {
+  year = pos year;
+  month = month;
+  day = day;
+  hour = hour;
+  minute = minute;
+  second = second;
+  nanosecond = nanosecond;
+}
+
 -- 1970-01-01T00:00:00
 abbrev pub epoch : Moment
 epoch = record { year = pos 1970; month = 1; day = 1; hour = 0; minute = 0; second = 0; nanosecond = 0 }

@@ -1,26 +1,41 @@
-use Rattle.std.proofs.Common.{sym, ap, ◌∙◌}
-use Rattle.cookie_psl.specs.Reading.{rules_from, rules_of}
-use Rattle.cookie_psl.proofs.LinesRead.{then_rule, rules_up_to, bad_at, rules_of_all, same_with_rule, not_taken, texts}
+use Rattle.std.proofs.Common.{◌+◌, [], ◌∷◌, ap, sym, ◌∙◌, lit<}
+use Rattle.std.proofs.lemmas.Iterator.Consumers.{YieldsList-at, YieldsList-end, YieldsList-from_enumerate, YieldsList-so_far, YieldsList-turn}
+use Rattle.std.proofs.lemmas.Iterator.Splits.{YieldsList-from_str_split}
+use Rattle.std.proofs.lemmas.List.{map-append}
+use Rattle.std.proofs.lemmas.Result.{err_from_is_err_and}
+use Rattle.cookie_words.specs.Texts.{pieces}
+use Rattle.cookie_psl.specs.Reading.{line_rule, rules_from, rules_of}
+use Rattle.cookie_psl.proofs.LinesRead.{then_rule, rules_of-push, bad_next, same_with_rule, not_taken, texts, all_texts}
 use Rattle.cookie_psl.proofs.list.List.from_text.Goals as goal
 
 pub loop-index-preserved : goal.loop-index-preserved
 loop-index-preserved c =
     let (rules, so_far, same) = c.loop-index.invariant in
-    let (read, good, taken) = c.in_default-take.ensures in (
+    let (read, good, taken) = c.in_ok-take.ensures in (
       then_rule rules read,
-      rules_up_to c.deref-line-items.result.now c.loop-index.index _ rules read c.loop-index-test.true so_far good,
+      ap (rules_of 1) (map-append (λ line. line.1.now) c.loop-index.yielded ((c.in-Some.index, c.in-Some.line) ∷ []))
+          ∙ rules_of-push 1 (texts c.loop-index.yielded) c.in-Some.line.now rules read so_far good,
       λ test. taken test ∙ same_with_rule c.loop-index.list rules read same test,
     )
 
-pub returns-in-Err : goal.returns-in-Err
-returns-in-Err c =
+pub returns-in_err-take : goal.returns-in_err-take
+returns-in_err-take c =
     let (rules, so_far, same) = c.loop-index.invariant in
-    let lines = ap (λ items. rules_of 1 (texts items)) c.deref-line-items.ensures.value ∙ ap (rules_of 1) c.in-Ok.ensures in
-    not_taken c.in-Err.error _ _ _ _ (rules_from c.args.text.now) c.in-Err.ensures
-    (λ bad. sym lines ∙ bad_at c.deref-line-items.result.now c.loop-index.index _ rules c.loop-index-test.true so_far bad)
+    let road = YieldsList-at c.into_iter-index-iterator.ensures.into_iter_gives
+    (YieldsList-from_enumerate (YieldsList-at c.enumerate-index-items.ensures.source
+    (YieldsList-from_str_split 10 c.args.text.now (lit< tt) c.split.ensures.text c.split.ensures.has_more c.split.ensures.pattern)) c.enumerate-index-items.ensures.count) in
+    let walked = YieldsList-so_far road c.loop-index.yielded _ c.loop-index.yielded_by in
+    let turn = YieldsList-turn road c.loop-index.yielded _ c.loop-index.yielded_by _ _ (c.in-Some.index, c.in-Some.line) c.in-Some.is c.next.ensures.steps in
+    let fault = err_from_is_err_and c.from_residual.result c.from_residual.ensures.1 in
+    rw (fault.1, fault.2)
+    (not_taken c.in_err-take.field-0.0 (line_rule c.in-Some.line.now) (c.in-Some.index + 1) c.loop-index.list c.take.new.self (rules_from c.args.text.now) c.in_err-take.ensures
+    (bad_next c.loop-index.yielded c.in-Some.index c.in-Some.line.now (pieces 10 c.args.text.now) rules walked turn.0 turn.1 so_far))
 
 pub returns : goal.returns
 returns c =
     let (rules, so_far, same) = c.loop-index.invariant in
-    let lines = ap (λ items. rules_of 1 (texts items)) c.deref-line-items.ensures.value ∙ ap (rules_of 1) c.in-Ok.ensures in
-    (rules, sym lines ∙ rules_of_all c.deref-line-items.result.now c.loop-index.index rules c.loop-index-test.false so_far, same)
+    let road = YieldsList-at c.into_iter-index-iterator.ensures.into_iter_gives
+    (YieldsList-from_enumerate (YieldsList-at c.enumerate-index-items.ensures.source
+    (YieldsList-from_str_split 10 c.args.text.now (lit< tt) c.split.ensures.text c.split.ensures.has_more c.split.ensures.pattern)) c.enumerate-index-items.ensures.count) in
+    let seen = YieldsList-end road c.loop-index.yielded _ c.loop-index.yielded_by _ _ c.in-None.is c.next.ensures.steps in
+    (rules, sym (ap (rules_of 1) (all_texts c.loop-index.yielded (pieces 10 c.args.text.now) seen.0)) ∙ so_far, same)

@@ -1,0 +1,30 @@
+//! Dates and times of day of numbers that a text writes.
+ghost use Rattle.std.specs.Prelude.{◌≡◌, ◌<◌, pos, is_some, IfSome};
+ghost use Rattle.cookie_words.specs.Moments.{is_day, is_time};
+
+use jiff::civil::{Date, Time};
+
+/// The date, where the calendar has it.
+pub fn calendar_date(year: u32, month: u32, day: u32) -> Option<Date>
+    requires year { year < 10_000 }
+    requires month { month < 100 }
+    requires day { day < 100 }
+    ensures found { is_some result ≡ is_day (pos year) month day }
+    ensures value { IfSome result
+        (λ d. (d.year ≡ pos year) × (d.month ≡ month) × (d.day ≡ day)) }
+{
+    Date::new(year as i16, month as i8, day as i8).ok()
+}
+
+/// The time, where a clock shows it.
+pub fn clock_time(hour: u32, minute: u32, second: u32, nanosecond: u32) -> Option<Time>
+    requires hour { hour < 100 }
+    requires minute { minute < 100 }
+    requires second { second < 100 }
+    requires nanosecond { nanosecond < 1_000_000_000 }
+    ensures found { is_some result ≡ is_time hour minute second }
+    ensures value { IfSome result (λ t. (t.hour ≡ hour) × (t.minute ≡ minute)
+        × (t.second ≡ second) × (t.subsec_nanosecond ≡ nanosecond)) }
+{
+    Time::new(hour as i8, minute as i8, second as i8, nanosecond as i32).ok()
+}

@@ -1,0 +1,23 @@
+//! Numbers in digits.
+ghost use Rattle.std.specs.Prelude.{◌≡◌, ◌^◌, ◌<◌, ◌≤◌, length, Some, None, IfSome, if◌then◌else◌};
+ghost use Rattle.std.specs.Char.{is_ascii_digit};
+ghost use Rattle.std.specs.List.{list_all};
+ghost use Rattle.std.specs.Str.Parse.{digits_value};
+
+/// The number that these digits write; `None` where a byte is no digit.
+#[tactic(auto, using(crate::proofs::Powers::power_below))]
+pub fn digits_value(digits: &[u8]) -> Option<u32>
+    requires { length digits.now ≤ 9 }
+    ensures value { result
+        ≡ (if list_all is_ascii_digit digits.now then Some (digits_value 10 digits.now) else None) }
+    ensures bound { IfSome result (λ n. n < 10 ^ length digits.now) }
+{
+    let mut value = 0;
+    for digit in digits {
+        if !digit.is_ascii_digit() {
+            return None;
+        }
+        value = value * 10 + u32::from(*digit - b'0');
+    }
+    Some(value)
+}
