@@ -23,10 +23,8 @@ fn is_given(cookie: &Cookie<'static>, url: &Url, now: DateTime) -> bool
 fn has_domain_name(cookie: &Cookie<'static>) -> bool
     ensures { result ≡ (not (bytes_eq (domain_text cookie.now.domain) []) && not (bytes_eq (domain_text cookie.now.domain) (codes "."))) }
 {
-    match cookie.domain.as_cow() {
-        Some(domain) => !domain.is_empty() && domain != ".",
-        None => false,
-    }
+    let domain = cookie.domain.as_str();
+    !domain.is_empty() && domain != "."
 }
 
 /// The rows that are given for the URL, in their order.

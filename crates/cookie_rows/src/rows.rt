@@ -4,7 +4,6 @@ ghost use Rattle.std.specs.Iterator.{IsFinite};
 ghost use Rattle.std.specs.Option.{option_copied};
 ghost use Rattle.cookie_words.specs.Moments.{moment_of};
 ghost use Rattle.cookie_parts.specs.Cookie.{ended};
-ghost use Rattle.cookie_parts.specs.Domain.{domain_text};
 ghost use Rattle.cookie_laws.specs.Given.{given};
 ghost use Rattle.cookie_laws.specs.Rows.{are_rows, changed, has_key, in_domain, in_group, included, key_at, key_of, live_rows, placed, put, put_all, removed, row_of};
 ghost use Rattle.cookie_rows.specs.Building.{Builds, FailsFirst, IsNewRow, TakesCookie, WantsRoom};
@@ -209,19 +208,10 @@ impl Rows {
     }
 }
 
-fn domain_text<'a>(cookie: &'a Cookie<'static>) -> &'a str
-    ensures { result.now ≡ domain_text cookie.now.domain }
-{
-    match cookie.domain.as_cow() {
-        Some(text) => text,
-        None => "",
-    }
-}
-
 fn in_domain(cookie: &Cookie<'static>, row: &Cookie<'static>) -> bool
     ensures { result ≡ in_domain (key_of cookie.now) row.now }
 {
-    domain_text(cookie) == domain_text(row)
+    cookie.domain.as_str() == row.domain.as_str()
 }
 
 fn in_group(cookie: &Cookie<'static>, row: &Cookie<'static>) -> bool
@@ -277,7 +267,7 @@ fn position(rows: &[Cookie<'static>], cookie: &Cookie<'static>) -> Option<usize>
 fn has_texts(row: &Cookie<'static>, domain: &str, path: &str, name: &str) -> bool
     ensures { result ≡ has_key (key_at domain.now path.now name.now) row.now }
 {
-    domain == domain_text(row) && path == row.path.as_str() && name == row.name()
+    domain == row.domain.as_str() && path == row.path.as_str() && name == row.name()
 }
 
 // Ends the row of the cookie's key.

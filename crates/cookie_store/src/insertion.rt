@@ -3,7 +3,7 @@ ghost use Rattle.std.specs.Prelude.{◌≡◌, ◌≢◌, Err, Ok, Some, IfErr, 
 ghost use Rattle.std.specs.Option.{option_copied};
 ghost use Rattle.cookie_words.specs.Moments.{moment_of};
 ghost use Rattle.cookie_raw.specs.Reading.{reading};
-ghost use Rattle.cookie_parts.specs.Cookie.{cookie_at, cookie_of, early, is_out_of_reach};
+ghost use Rattle.cookie_parts.specs.Cookie.{cookie_at, cookie_of, early};
 ghost use Rattle.cookie_parts.specs.Domain.{text_if_any, HostOnly};
 ghost use Rattle.cookie_parts.specs.Outcomes.{Gives};
 ghost use Rattle.cookie_parts.specs.Views.{domain_value};
@@ -13,7 +13,6 @@ ghost use Rattle.cookie_laws.specs.Acceptance.{accept, admitted, by_list, reply_
 ghost use Rattle.cookie_laws.specs.Runs.{IsReply, Stored, UnlessMemory};
 
 use crate::InsertResult;
-use cookie_parts::utils::is_http_scheme;
 use cookie_parts::{Cookie, CookieDomain, CookieError, CookieResult, StoreAction};
 use cookie_psl::List;
 use cookie_raw::RawCookie;
@@ -57,13 +56,6 @@ pub(crate) fn owned_raw_cookie(
     owned(alloc, Cookie::try_from_raw_cookie(alloc, raw, url, now)?)
 }
 
-// Whether the cookie is HttpOnly, and the scheme of the URL not HTTP.
-fn is_out_of_reach(cookie: &Cookie<'static>, url: &Url) -> bool
-    ensures { result ≡ is_out_of_reach cookie.now.raw url.now }
-{
-    cookie.raw().http_only().unwrap_or(false) && !is_http_scheme(url)
-}
-
 // The same domain, for that host alone.
 fn for_that_host(domain: CookieDomain) -> CookieDomain
     ensures { IfSome (text_if_any (domain_value domain)) (λ text. domain_value result ≡ HostOnly text) }
@@ -99,7 +91,7 @@ fn admitted(suffixes: Option<&List>, cookie: Cookie<'static>, url: &Url) -> Cook
     ensures value { result ≡ admitted (option_copied suffixes.entry) url.now cookie.entry }
     ensures refusals { IfErr result (λ refusal. MayRefuse refusal × (refusal ≢ Memory)) }
 {
-    if is_out_of_reach(&cookie, url) {
+    if cookie.is_out_of_reach(url) {
         return Err(CookieError::NonHttpScheme);
     }
     let cookie = by_list(suffixes, cookie, url)?;
@@ -122,7 +114,7 @@ fn reply_at(
     if let Some(row) = row
         && !row.is_expired(now)
     {
-        if is_out_of_reach(row, url) {
+        if row.is_out_of_reach(url) {
             return Err(CookieError::NonHttpScheme);
         }
         if cookie.is_expired(now) {
