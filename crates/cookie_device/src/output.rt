@@ -1,7 +1,9 @@
 //! Text that is gathered before it goes out.
 ghost use Rattle.std.specs.Prelude.{◌≡◌, ◌+◌, ◌-◌, ◌^◌, ◌<◌, ◌≤◌, [], ◌++◌, length, IfOk, IsOk, OnOk, OnErr};
 ghost use Rattle.std.specs.Io.KnownBytes.{Appends};
+ghost use Rattle.std.specs.Iterator.{IsFinite};
 ghost use Rattle.cookie_device.specs.Device.{AppendsBeginning, CountsFailure, Sends};
+ghost use Rattle.cookie_device.specs.Texts.{SendsAll, SendsSome};
 
 use crate::device::{DeviceFailed, Sink, write_all};
 use std::alloc::{AllocError, Global};
@@ -58,6 +60,27 @@ impl Output {
             return write_all(sink, text);
         }
         self.text.extend_from_slice(text).unwrap();
+        Ok(())
+    }
+
+    /// Gathers each text that the iterator gives, as [`put`](Self::put) does. Where a write failed, a beginning of the texts up
+    /// to this one went out, and nothing stays gathered.
+    pub fn put_all<'t, W: Sink, I: Iterator<Item = &'t str> + Drop>(
+        &mut self,
+        sink: &mut W,
+        texts: I,
+    ) -> Result<(), DeviceFailed>
+        requires writable { W.failed sink.old < 2 ^ 64 - 1 }
+        requires can { I.can_next texts }
+        requires ends { IsFinite (I.remaining texts) }
+        ensures whole { OnOk result (SendsAll I.next_gives texts (W.contents sink.old) (W.contents sink.new) self.old self.new) }
+        ensures part { OnErr result (SendsSome I.next_gives texts (W.contents sink.old) (W.contents sink.new) self.old) }
+        ensures dropped { OnErr result (self.new ≡ []) }
+        ensures count { CountsFailure result (W.failed sink.old) (W.failed sink.new) }
+    {
+        for text in texts {
+            self.put(sink, text.as_bytes())?;
+        }
         Ok(())
     }
 

@@ -5,18 +5,10 @@
 //! With `--suffixes FILE` the store obeys the public suffix list of that file.
 #![tactic(auto)]
 
-mod arguments;
-mod command;
-mod fault;
-mod jar;
-mod options;
-mod reply;
-mod run;
-mod suffixes;
-
-use cookie_store::device::Counted;
-use cookie_store::psl::List;
-use fault::{MainFault, RunFault};
+use cookie_device::Counted;
+use cookie_psl::List;
+use cookie_script::fault::{MainFault, RunFault};
+use cookie_script::{arguments, run, suffixes};
 use std::process::ExitCode;
 use std::{env, fs, io};
 
@@ -66,6 +58,3 @@ fn list_fault(error: io::Error) -> MainFault {
         _ => MainFault::CannotReadList,
     }
 }
-
-#[cfg(test)]
-mod tests;

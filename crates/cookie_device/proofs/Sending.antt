@@ -1,0 +1,62 @@
+-- How what is put into an output by one call and by the next goes together.
+use Rattle.std.proofs.Common.{◌≡◌, ℕ, List, [], ◌∷◌, ◌++◌, Option, Bor, refl, sym, ap, ◌∙◌, append_assoc, append-nil}
+use Rattle.std.proofs.lemmas.Grind.{flat_map-append}
+use Rattle.std.proofs.KnownBytes.{Appends-trans, Appends-nil}
+use Rattle.cookie_device.specs.Device.{AppendsBeginning, Sends}
+use Rattle.cookie_device.specs.Texts.{joined}
+
+-- what is sent of two texts, one after the other
+rejoined : (g t u sent more g1 g2 : List ℕ) → g ++ t ≡ sent ++ g1 → g1 ++ u ≡ more ++ g2 → g ++ (t ++ u) ≡ (sent ++ more) ++ g2
+rejoined g t u sent more g1 g2 e f =
+    sym (append_assoc g t u) ∙ ap (λ xs. xs ++ u) e ∙ append_assoc sent g1 u ∙ ap (λ xs. sent ++ xs) f
+    ∙ sym (append_assoc sent more g2)
+
+-- nothing was put
+pub nothing_put : (a : Option (List ℕ)) (g : List ℕ) → Sends a a (g ++ []) g
+nothing_put a g = record { sent = []; split = append-nil g; appended = Appends-nil a }
+
+-- one text was put, and then another
+pub put_then : (a b c : Option (List ℕ)) (g t u g1 g2 : List ℕ) → Sends a b (g ++ t) g1 → Sends b c (g1 ++ u) g2
+    → Sends a c (g ++ (t ++ u)) g2
+put_then a b c g t u g1 g2 first next = record {
+  sent = first.sent ++ next.sent;
+  split = rejoined g t u first.sent next.sent g1 g2 first.split next.split;
+  appended = Appends-trans a b c first.sent next.sent first.appended next.appended;
+}
+
+-- a beginning of a text is one of each longer text
+pub part_longer : (a b : Option (List ℕ)) (g t u : List ℕ) → AppendsBeginning a b (g ++ t) → AppendsBeginning a b (g ++ (t ++ u))
+part_longer a b g t u part = record {
+  rest = part.rest ++ u;
+  sends = record {
+    sent = part.sends.sent;
+    split = sym (append_assoc g t u) ∙ ap (λ xs. xs ++ u) part.sends.split ∙ append_assoc part.sends.sent part.rest u;
+    appended = part.sends.appended;
+  };
+}
+
+-- one text was put, and then a beginning of the next went out
+pub part_then : (a b c : Option (List ℕ)) (g t u g1 : List ℕ) → Sends a b (g ++ t) g1 → AppendsBeginning b c (g1 ++ u)
+    → AppendsBeginning a c (g ++ (t ++ u))
+part_then a b c g t u g1 first part =
+    record { rest = part.rest; sends = put_then a b c g t u g1 part.rest first part.sends }
+
+-- nothing is a beginning of each text
+pub nothing_part : (a : Option (List ℕ)) (t : List ℕ) → AppendsBeginning a a t
+nothing_part a t = record { rest = t; sends = record { sent = []; split = refl; appended = Appends-nil a } }
+
+-- of a text all but the rest went out, and then a beginning of the rest
+pub part_of_rest : (a b c : Option (List ℕ)) (t g : List ℕ) → Sends a b t g → AppendsBeginning b c g → AppendsBeginning a c t
+part_of_rest a b c t g sends part = record {
+  rest = part.rest;
+  sends = record {
+    sent = sends.sent ++ part.sends.sent;
+    split = sends.split ∙ ap (λ xs. sends.sent ++ xs) part.sends.split ∙ sym (append_assoc sends.sent part.sends.sent part.rest);
+    appended = Appends-trans a b c sends.sent part.sends.sent sends.appended part.sends.appended;
+  };
+}
+
+-- the texts and one more
+pub joined_more : (texts : List (Bor (List ℕ))) (text : Bor (List ℕ)) → joined (texts ++ text ∷ []) ≡ joined texts ++ text.now
+joined_more texts text =
+    flat_map-append (λ t. t.now) texts (text ∷ []) ∙ ap (λ last. joined texts ++ last) (append-nil text.now)

@@ -1,6 +1,0 @@
-pub mod OtherWords
-pub mod PairTexts
-pub mod Progress
-pub mod Sending
-pub mod RowLines
-pub mod Wanting

@@ -1,6 +1,0 @@
-pub mod Arguments
-pub mod Commands
-pub mod CommandViews
-pub mod Faults
-pub mod Script
-pub mod Suffixes

@@ -1,0 +1,6 @@
+pub mod Answered
+pub mod OtherWords
+pub mod Pieces
+pub mod PieceTexts
+pub mod Progress
+pub mod Wanting

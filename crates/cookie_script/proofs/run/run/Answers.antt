@@ -1,0 +1,48 @@
+use Rattle.std.proofs.Common.{Option, None, Some, IfSome}
+use Rattle.std.proofs.lemmas.Option.{IfSome_then}
+use Rattle.std.proofs.KnownBytes.{Appends-nil}
+use Rattle.cookie_device.proofs.Sending.{nothing_part, part_of_rest}
+use Rattle.cookie_script.proofs.Answered.{first_appended, first_part}
+use Rattle.cookie_script.proofs.run.run.Goals as goal
+
+-- what holds of each value holds of one that there may be
+if_any : {X : Type 0} (P : X → Type 0) (o : Option X) → ((x : X) → P x) → IfSome o P
+if_any P None each = tt
+if_any P (Some x) each = each x
+
+pub returns-in_err-out-clause-part : goal.returns-in_err-out-clause-part
+returns-in_err-out-clause-part g c =
+    if_any _ (g.R.Source.remaining c.args.source.now) (λ input. nothing_part (g.W.Sink.contents c.args.sink.now) _)
+
+pub returns-in_err-out-clause-memory : goal.returns-in_err-out-clause-memory
+returns-in_err-out-clause-memory g c =
+    λ wants. if_any _ (g.R.Source.remaining c.args.source.now) (λ input. (0, Appends-nil (g.W.Sink.contents c.args.sink.now)))
+
+pub returns-in_err-flush-in-Err-Memory-clause-part : goal.returns-in_err-flush-in-Err-Memory-clause-part
+returns-in_err-flush-in-Err-Memory-clause-part g c =
+    let memory = c.in-Err-Memory.ensures.memory cc in
+    IfSome_then (g.R.Source.remaining c.args.source.now) (rw c.in_ok-out.ensures at memory)
+    (λ input first. first_part c.args.list input _ _ _ _ first c.in_err-flush-in-Err-Memory.ensures.part)
+
+pub returns-in-Err-Memory-clause-part : goal.returns-in-Err-Memory-clause-part
+returns-in-Err-Memory-clause-part g c =
+    let memory = c.in-Err-Memory.ensures.memory cc in
+    IfSome_then (g.R.Source.remaining c.args.source.now) (rw c.in_ok-out.ensures at memory)
+    (λ input first. first_part c.args.list input _ _ _ _ first c.in_ok-flush-in-Err-Memory.ensures.part)
+
+pub returns-in-Err-Memory-clause-memory : goal.returns-in-Err-Memory-clause-memory
+returns-in-Err-Memory-clause-memory g c =
+    λ wants.
+    let memory = c.in-Err-Memory.ensures.memory cc in
+    IfSome_then (g.R.Source.remaining c.args.source.now) (rw c.in_ok-out.ensures at memory)
+    (λ input first. first_appended c.args.list input _ _ _ _ first c.in_ok-flush-in-Err-Memory.ensures.whole)
+
+pub returns-in_err-flush-in-Ok-clause-part : goal.returns-in_err-flush-in-Ok-clause-part
+returns-in_err-flush-in-Ok-clause-part g c =
+    IfSome_then (g.R.Source.remaining c.args.source.now) (rw c.in_ok-out.ensures at c.in-Ok.ensures.whole)
+    (λ input sends. part_of_rest _ _ _ _ _ sends c.in_err-flush-in-Ok.ensures.part)
+
+pub returns-clause-part : goal.returns-clause-part
+returns-clause-part g c =
+    IfSome_then (g.R.Source.remaining c.args.source.now) (rw c.in_ok-out.ensures at c.in-Ok.ensures.whole)
+    (λ input sends. part_of_rest _ _ _ _ _ sends c.in_ok-flush-in-Ok.ensures.part)

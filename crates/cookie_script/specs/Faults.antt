@@ -1,0 +1,42 @@
+-- What the faults of the program say of it.
+use Rattle.std.specs.Prelude.{◌≡◌, ℕ, ◌+◌, List, ◌++◌, Result, Ok, Err, codes, decimal}
+use Rattle.cookie_device.specs.declared.lines.FillError.{FillError}
+use Rattle.cookie_device.specs.declared.lines.FillError.TheVariants as Fill
+use Rattle.cookie_script.specs.declared.fault.MainFault.{MainFault}
+use Rattle.cookie_script.specs.declared.fault.MainFault.TheVariants.{BadArguments, CannotReadList, BadRule, Run}
+use Rattle.cookie_script.specs.declared.fault.RunFault.{RunFault}
+use Rattle.cookie_script.specs.declared.fault.RunFault.TheVariants.{Read, Write, Memory}
+
+-- the exit status
+abbrev pub status_of : MainFault → ℕ
+status_of BadArguments = 2
+status_of CannotReadList = 2
+status_of (BadRule line) = 2
+status_of (Run Read) = 1
+status_of (Run Write) = 1
+status_of (Run Memory) = 3
+
+-- why a script was not run to its end, in words
+abbrev pub run_fault_text : RunFault → List ℕ
+run_fault_text Read = codes "read failed"
+run_fault_text Write = codes "write failed"
+run_fault_text Memory = codes "out of memory"
+
+-- why the program failed, in words
+abbrev pub fault_text : MainFault → List ℕ
+fault_text BadArguments = codes "bad arguments"
+fault_text CannotReadList = codes "cannot read list"
+fault_text (BadRule line) = codes "bad rule in line " ++ decimal line
+fault_text (Run fault) = run_fault_text fault
+
+-- the fault of a script whose source could not be read ahead
+abbrev pub fill_fault : FillError → RunFault
+fill_fault Fill.Read = Read
+fill_fault Fill.Memory = Memory
+
+-- `Read` raised the source's count of failures by one, `Write` the sink's, and everything else left both
+abbrev pub CountsFault : {T : Type 0} → Result T RunFault → ℕ → ℕ → ℕ → ℕ → Type 0
+CountsFault (Ok _) reads reads' writes writes' = (reads' ≡ reads) × (writes' ≡ writes)
+CountsFault (Err Read) reads reads' writes writes' = (reads' ≡ reads + 1) × (writes' ≡ writes)
+CountsFault (Err Write) reads reads' writes writes' = (reads' ≡ reads) × (writes' ≡ writes + 1)
+CountsFault (Err Memory) reads reads' writes writes' = (reads' ≡ reads) × (writes' ≡ writes)

@@ -1,0 +1,92 @@
+-- What a script writes.
+use Rattle.std.specs.Prelude.{ℕ, List, [], ◌∷◌, ◌++◌, codes, flat_map, Option, Some, None, Ok, Err}
+use Rattle.std.specs.Str.Lines.{lines}
+use Rattle.cookie_words.specs.Moments.{Moment, epoch}
+use Rattle.cookie_psl.specs.Rules.{RuleList}
+use Rattle.cookie_parts.specs.Cookie.{Row}
+use Rattle.cookie_parts.specs.Domain.{domain_text}
+use Rattle.cookie_parts.specs.Errors.{error_text}
+use Rattle.cookie_parts.specs.declared.store_action.StoreAction.TheVariants.{Inserted, ExpiredExisting, UpdatedExisting}
+use Rattle.cookie_store.specs.Given.{given}
+use Rattle.cookie_store.specs.Runs as Runs
+use Rattle.cookie_store.specs.Runs.{Reply, Stored, Removed, Cleared, Step, step}
+use Rattle.cookie_script.specs.Commands.{Command, Now, Set, Get, ListRows, Remove, Clear, command_of}
+
+-- the rows of the store, its public suffix list if there is one, and the moment that the script has come to
+pub record State : Type 0 where
+  pub rows : List Row
+  pub suffixes : Option RuleList
+  pub moment : Moment
+
+-- a script begins with an empty store under the list, if there is one, at the epoch
+abbrev pub start : Option RuleList → State
+start suffixes = record { rows = []; suffixes = suffixes; moment = epoch }
+
+-- what a line writes, and the state after it
+pub record Turn : Type 0 where
+  pub text : List ℕ
+  pub state : State
+
+-- how a reply is written
+abbrev pub reply_text : Reply → List ℕ
+reply_text (Stored (Ok Inserted)) = codes "inserted"
+reply_text (Stored (Ok ExpiredExisting)) = codes "expired existing"
+reply_text (Stored (Ok UpdatedExisting)) = codes "updated"
+reply_text (Stored (Err refusal)) = codes "refused: " ++ error_text refusal
+reply_text (Removed (Some row)) = codes "removed"
+reply_text (Removed None) = codes "none"
+reply_text Cleared = codes "cleared"
+
+-- a cookie in a Cookie header, RFC 6265 4.2.1
+abbrev pub pair_text : Row → List ℕ
+pair_text cookie = cookie.raw.name ++ codes "=" ++ cookie.raw.value
+
+-- the Cookie header of the cookies, RFC 6265 4.2.1 and 5.4
+abbrev pub header_text : List Row → List ℕ
+header_text [] = codes "Cookie:"
+header_text (cookie ∷ cookies) =
+    codes "Cookie: " ++ pair_text cookie ++ flat_map (λ c. codes "; " ++ pair_text c) cookies
+
+-- a text as a line
+abbrev pub line_text : List ℕ → List ℕ
+line_text text = text ++ 10 ∷ []
+
+-- a text and a space
+abbrev pub word_text : List ℕ → List ℕ
+word_text text = text ++ codes " "
+
+-- the domain, the path and the name of a row, parted by one space, as a line
+abbrev pub row_line : Row → List ℕ
+row_line row = word_text (domain_text row.domain) ++ word_text row.path.text ++ line_text row.raw.name
+
+-- all rows, a line each
+abbrev pub rows_text : List Row → List ℕ
+rows_text rows = flat_map row_line rows
+
+-- what a step of the store writes, and the state after it
+abbrev pub stored_turn : Step → State → Turn
+stored_turn step state = record { text = line_text (reply_text step.reply); state = record state { rows = step.rows } }
+
+-- what a command writes and leaves, and `bad line` for none
+unfoldable pub command_turn : Option Command → State → Turn
+command_turn None state = record { text = line_text (codes "bad line"); state = state }
+command_turn (Some (Now moment)) state = record { text = []; state = record state { moment = moment } }
+command_turn (Some (Set url text)) state =
+    stored_turn (step state.suffixes (Runs.Set text url state.moment) state.rows) state
+command_turn (Some (Get url)) state = record { text = line_text (header_text (given url state.moment state.rows)); state = state }
+command_turn (Some ListRows) state = record { text = rows_text state.rows; state = state }
+command_turn (Some (Remove key)) state = stored_turn (step state.suffixes (Runs.Remove key) state.rows) state
+command_turn (Some Clear) state = stored_turn (step state.suffixes Runs.Clear state.rows) state
+
+-- what a line writes and leaves
+abbrev pub turn : List ℕ → State → Turn
+turn line state = command_turn (command_of line) state
+
+-- what the lines write, one after the other
+abbrev pub outputs : List (List ℕ) → State → List ℕ
+outputs [] state = []
+outputs (line ∷ more) state = (turn line state).text ++ outputs more (turn line state).state
+
+-- what a script writes under a public suffix list, if there is one: it is read line by line, from the start
+abbrev pub output_of : Option RuleList → List ℕ → List ℕ
+output_of suffixes input = outputs (lines input) (start suffixes)

@@ -1,0 +1,138 @@
+//! What a line of a script asks for.
+ghost use Rattle.std.specs.Prelude.{◌≡◌, option_and_then, option_map, IfOk, IsSome, IsTrue, OnErr};
+ghost use Rattle.cookie_saved.specs.MomentText.{moment_at};
+ghost use Rattle.cookie_script.specs.Commands as Spec;
+ghost use Rattle.cookie_script.specs.Commands.{command_of, first_word, lone_command, may_want, one_word, remove_command, set_command, url_at, verb_command, verb_may_want};
+ghost use Rattle.cookie_script.specs.CommandViews.{command_view, words_view};
+
+use cookie_store::saved::read_moment;
+use jiff::civil::DateTime;
+use std::alloc::{AllocError, Global};
+use url::{ParseError, Url};
+
+/// What a line of a script asks for.
+#[derive(Drop)]
+pub enum Command<'a> {
+    /// `now MOMENT`: the moment goes on.
+    Now(DateTime),
+    /// `set URL TEXT`: a Set-Cookie text comes from the URL.
+    Set(Url, &'a str),
+    /// `get URL`: the cookies of the URL.
+    Get(Url),
+    /// `list`: all cookies, whether they have ended or not.
+    ListRows,
+    /// `remove DOMAIN PATH NAME`: the cookie of this domain, path and name goes.
+    Remove(&'a str, &'a str, &'a str),
+    /// `clear`: all cookies go.
+    Clear,
+}
+
+/// The command of a line, and None for a bad line.
+pub fn read_command(alloc: Global, line: &[u8]) -> Result<Option<Command<'_>>, AllocError>
+    ensures value { IfOk result (λ command. option_map command_view command ≡ command_of line.now) }
+    ensures memory { OnErr result (IsTrue (may_want line.now)) }
+{
+    let Ok(text) = str::from_utf8(line) else {
+        return Ok(None);
+    };
+    match first_word(text) {
+        Some((verb, rest)) => verb_command(alloc, verb, rest),
+        None => Ok(lone_command(text)),
+    }
+}
+
+// The command that is one word.
+fn lone_command<'a>(word: &str) -> Option<Command<'a>>
+    ensures { option_map command_view result ≡ lone_command word.now }
+{
+    match word {
+        "list" => Some(Command::ListRows),
+        "clear" => Some(Command::Clear),
+        _ => None,
+    }
+}
+
+// The command of a verb and what follows the space after it.
+fn verb_command<'a>(
+    alloc: Global,
+    verb: &str,
+    rest: &'a str,
+) -> Result<Option<Command<'a>>, AllocError>
+    ensures value { IfOk result (λ command. option_map command_view command ≡ verb_command (verb.now, rest.now)) }
+    ensures memory { OnErr result (IsTrue (verb_may_want (verb.now, rest.now))) }
+{
+    match verb {
+        "now" => Ok(now_command(rest)),
+        "set" => set_command(alloc, rest),
+        "get" => get_command(alloc, rest),
+        "remove" => Ok(remove_command(rest)),
+        _ => Ok(None),
+    }
+}
+
+fn first_word(text: &str) -> Option<(&str, &str)>
+    ensures { option_map words_view result ≡ first_word text.now }
+{
+    text.split_once(' ')
+}
+
+// The URL of a text. Refusals that say nothing of the text count as want of memory.
+#[tactic(auto, unfolding(crate::specs::Commands::url_at))]
+fn read_url(alloc: Global, text: &str) -> Result<Option<Url>, AllocError>
+    ensures { IfOk result (λ url. url ≡ url_at text.now) }
+{
+    match Url::parse(alloc, text) {
+        Ok(url) => Ok(Some(url)),
+        Err(error) => match error {
+            ParseError::OutOfMemory | ParseError::Overflow => Err(AllocError),
+            _ => Ok(None),
+        },
+    }
+}
+
+fn now_command<'a>(text: &str) -> Option<Command<'a>>
+    ensures { option_map command_view result ≡ option_map Spec.Now (moment_at text.now) }
+{
+    match read_moment(text) {
+        Some(moment) => Some(Command::Now(moment)),
+        None => None,
+    }
+}
+
+// The URL, and after a space the text.
+fn set_command<'a>(alloc: Global, rest: &'a str) -> Result<Option<Command<'a>>, AllocError>
+    ensures value { IfOk result (λ command. option_map command_view command ≡ option_and_then set_command (first_word rest.now)) }
+    ensures memory { OnErr result (IsSome (first_word rest.now)) }
+{
+    let Some((url, text)) = first_word(rest) else {
+        return Ok(None);
+    };
+    match read_url(alloc, url)? {
+        Some(url) => Ok(Some(Command::Set(url, text))),
+        None => Ok(None),
+    }
+}
+
+// The URL alone.
+fn get_command<'a>(alloc: Global, rest: &str) -> Result<Option<Command<'a>>, AllocError>
+    ensures value { IfOk result (λ command. option_map command_view command
+        ≡ option_map Spec.Get (option_and_then url_at (one_word rest.now))) }
+    ensures memory { OnErr result (IsSome (one_word rest.now)) }
+{
+    if rest.as_bytes().contains(&b' ') {
+        return Ok(None);
+    }
+    match read_url(alloc, rest)? {
+        Some(url) => Ok(Some(Command::Get(url))),
+        None => Ok(None),
+    }
+}
+
+// The domain, the path, and after a space the name.
+fn remove_command<'a>(rest: &'a str) -> Option<Command<'a>>
+    ensures { option_map command_view result ≡ option_and_then remove_command (first_word rest.now) }
+{
+    let (domain, rest) = first_word(rest)?;
+    let (path, name) = first_word(rest)?;
+    Some(Command::Remove(domain, path, name))
+}

@@ -1,0 +1,110 @@
+//! Why the program failed.
+ghost use Rattle.std.specs.Prelude.{◌≡◌};
+ghost use Rattle.cookie_script.specs.Faults.{status_of};
+
+use cookie_device::{DeviceFailed, FillError};
+use std::alloc::AllocError;
+use std::fmt;
+
+/// Why a script was not run to its end.
+#[derive(Clone, Copy, Debug, PartialEq, Eq)]
+pub enum RunFault {
+    /// The script could not be read.
+    Read,
+    /// The answers could not be written.
+    Write,
+    /// The allocator had no memory.
+    Memory,
+}
+
+impl From<AllocError> for RunFault {
+    ghost use Rattle.cookie_script.specs.declared.fault.RunFault.TheVariants.{Memory};
+
+    ghost from_gives = { λ _ fault. fault ≡ Memory };
+
+    fn from(_error: AllocError) -> RunFault {
+        RunFault::Memory
+    }
+}
+
+// Of a sink: a source's failures come as a `FillError`.
+impl From<DeviceFailed> for RunFault {
+    ghost use Rattle.cookie_script.specs.declared.fault.RunFault.TheVariants.{Write};
+
+    ghost from_gives = { λ _ fault. fault ≡ Write };
+
+    fn from(_error: DeviceFailed) -> RunFault {
+        RunFault::Write
+    }
+}
+
+impl From<FillError> for RunFault {
+    ghost use Rattle.cookie_script.specs.Faults.{fill_fault};
+
+    ghost from_gives = { λ error fault. fault ≡ fill_fault error };
+
+    fn from(error: FillError) -> RunFault {
+        match error {
+            FillError::Read => RunFault::Read,
+            FillError::Memory => RunFault::Memory,
+        }
+    }
+}
+
+impl fmt::Display for RunFault {
+    ghost use Rattle.std.specs.Prelude.{Some};
+    ghost use Rattle.cookie_script.specs.Faults.{run_fault_text};
+
+    ghost output = { λ fault. Some (run_fault_text fault) };
+
+    fn fmt<W: fmt::Write>(&self, f: &mut fmt::Formatter<W>) -> fmt::Result {
+        f.write_str(match self {
+            RunFault::Read => "read failed",
+            RunFault::Write => "write failed",
+            RunFault::Memory => "out of memory",
+        })
+    }
+}
+
+/// Why the program failed.
+#[derive(Clone, Copy, Debug, PartialEq, Eq)]
+pub enum MainFault {
+    /// The arguments are not those of the program.
+    BadArguments,
+    /// The file of the public suffix list could not be read, or is not UTF-8.
+    CannotReadList,
+    /// This line of the public suffix list, counted from 1, is the first that is no rule.
+    BadRule(usize),
+    /// The script was not run to its end.
+    Run(RunFault),
+}
+
+impl MainFault {
+    /// The exit status: 1 where a read or a write of the script failed, 2 for bad arguments and a list that cannot
+    /// be read or has a bad rule, 3 where there was no memory.
+    pub fn status(&self) -> u8
+        ensures { result ≡ status_of self.now }
+    {
+        match self {
+            MainFault::BadArguments | MainFault::CannotReadList | MainFault::BadRule(_) => 2,
+            MainFault::Run(RunFault::Read | RunFault::Write) => 1,
+            MainFault::Run(RunFault::Memory) => 3,
+        }
+    }
+}
+
+impl fmt::Display for MainFault {
+    ghost use Rattle.std.specs.Prelude.{Some};
+    ghost use Rattle.cookie_script.specs.Faults.{fault_text};
+
+    ghost output = { λ fault. Some (fault_text fault) };
+
+    fn fmt<W: fmt::Write>(&self, f: &mut fmt::Formatter<W>) -> fmt::Result {
+        match self {
+            MainFault::BadArguments => f.write_str("bad arguments"),
+            MainFault::CannotReadList => f.write_str("cannot read list"),
+            MainFault::BadRule(line) => write!(f, "bad rule in line {line}"),
+            MainFault::Run(fault) => fault.fmt(f),
+        }
+    }
+}

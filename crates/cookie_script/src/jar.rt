@@ -1,0 +1,121 @@
+//! The state of a script, and what a line comes to.
+ghost use Rattle.std.specs.Prelude.{◌≡◌, IfOk, IsTrue, OnErr, OnOk, Some};
+ghost use Rattle.cookie_script.specs.Answers.{told_may_want, told_text};
+ghost use Rattle.cookie_script.specs.CommandViews.{command_view};
+ghost use Rattle.cookie_script.specs.Commands.{command_may_want, may_want};
+ghost use Rattle.cookie_script.specs.Pieces.{joined};
+ghost use Rattle.cookie_script.specs.Script.{command_turn, start, turn};
+
+use crate::answer::Answer;
+use crate::command::{Command, read_command};
+use cookie_store::psl::List;
+use cookie_store::{CookieError, CookieStore, Reply};
+use jiff::civil::{DateTime, date};
+use std::alloc::{AllocError, Global};
+use std::marker::Model;
+use url::Url;
+
+/// What a line came to.
+#[derive(Drop)]
+pub enum Told {
+    /// Nothing is to be written.
+    Nothing,
+    /// The line is a bad one.
+    BadLine,
+    /// The store replied.
+    Said(Reply),
+    /// The cookies of the URL are asked for.
+    Cookies(Url),
+    /// All rows are asked for.
+    Rows,
+}
+
+/// A store, and the moment that the script has come to.
+#[derive(Drop)]
+pub struct Jar {
+    store: CookieStore,
+    moment: DateTime,
+}
+
+impl Model for Jar {
+    ghost use Rattle.cookie_words.specs.Moments.{moment_of};
+    ghost use Rattle.cookie_script.specs.Script.{State};
+
+    ghost Value = { State };
+
+    ghost view = { λ j. record { rows = j.store.rows; suffixes = j.store.suffixes; moment = moment_of j.moment } };
+}
+
+impl Jar {
+    /// An empty store under the list, if there is one, at the epoch.
+    pub fn new(alloc: Global, list: Option<List>) -> Jar
+        ensures { result ≡ start list }
+    {
+        Jar {
+            store: CookieStore::new_with_public_suffix(alloc, list),
+            moment: date(1970, 1, 1).at(0, 0, 0, 0),
+        }
+    }
+
+    /// Does what a line asks. The state stays where there is no memory, and also after a line whose answer may want memory.
+    #[tactic(auto, using(crate::proofs::Wanting::line_wants), unfolding(crate::specs::Script::command_turn))]
+    pub fn turn(&mut self, alloc: Global, line: &[u8]) -> Result<Told, AllocError>
+        ensures state { OnOk result (self.new ≡ (turn line.now self.old).state) }
+        ensures told { IfOk result (λ told. told_text told self.new ≡ (turn line.now self.old).text) }
+        ensures answered { IfOk result (λ told. IsTrue (told_may_want told)
+            → IsTrue (may_want line.now) × (self.new ≡ self.old)) }
+        ensures wants { OnErr result (IsTrue (may_want line.now)) }
+        ensures kept { OnErr result (self.new ≡ self.old) }
+    {
+        match read_command(alloc, line)? {
+            Some(command) => self.obey(command),
+            None => Ok(Told::BadLine),
+        }
+    }
+
+    #[tactic(auto, unfolding(crate::specs::Script::command_turn))]
+    fn obey(&mut self, command: Command<'_>) -> Result<Told, AllocError>
+        ensures state { OnOk result (self.new ≡ (command_turn (Some (command_view command.entry)) self.old).state) }
+        ensures told { IfOk result (λ told.
+            told_text told self.new ≡ (command_turn (Some (command_view command.entry)) self.old).text) }
+        ensures answered { IfOk result (λ told. IsTrue (told_may_want told)
+            → IsTrue (command_may_want (command_view command.entry)) × (self.new ≡ self.old)) }
+        ensures wants { OnErr result (IsTrue (command_may_want (command_view command.entry))) }
+        ensures kept { OnErr result (self.new ≡ self.old) }
+    {
+        match command {
+            Command::Now(moment) => {
+                self.moment = moment;
+                Ok(Told::Nothing)
+            }
+            Command::Set(url, text) => match self.store.parse(text, &url, self.moment) {
+                Err(CookieError::Memory) => Err(AllocError),
+                told => Ok(Told::Said(Reply::Stored(told))),
+            },
+            Command::Get(url) => Ok(Told::Cookies(url)),
+            Command::ListRows => Ok(Told::Rows),
+            Command::Remove(domain, path, name) => {
+                let removed = self.store.remove(domain, path, name);
+                Ok(Told::Said(Reply::Removed(removed)))
+            }
+            Command::Clear => {
+                self.store.clear();
+                Ok(Told::Said(Reply::Cleared))
+            }
+        }
+    }
+
+    /// The answer to a line, after what it came to.
+    pub fn answer(&self, told: Told) -> Result<Answer<'_>, AllocError>
+        ensures text { IfOk result (λ answer. joined answer ≡ told_text told self.now) }
+        ensures wants { OnErr result (IsTrue (told_may_want told)) }
+    {
+        match told {
+            Told::Nothing => Ok(Answer::nothing()),
+            Told::BadLine => Ok(Answer::line("bad line")),
+            Told::Said(reply) => Ok(Answer::reply(reply)),
+            Told::Cookies(url) => Ok(Answer::header(self.store.matches(&url, self.moment)?)),
+            Told::Rows => Ok(Answer::rows(self.store.iter_any())),
+        }
+    }
+}

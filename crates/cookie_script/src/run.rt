@@ -1,0 +1,85 @@
+//! A script, from the bytes that come in to the bytes that go out.
+ghost use Rattle.std.specs.Prelude.{◌≡◌, ◌+◌, ◌-◌, ◌^◌, ◌<◌, ◌≤◌, ◌++◌, Err, IfSome, OnOk, length};
+ghost use Rattle.std.specs.Io.KnownBytes.{Appends};
+ghost use Rattle.cookie_device.specs.Device.{AppendsBeginning, Sends};
+ghost use Rattle.cookie_script.specs.Faults.{CountsFault};
+ghost use Rattle.cookie_script.specs.Progress.{AppendsFirst, SendsFirst};
+ghost use Rattle.cookie_script.specs.Script.{output_of};
+
+use crate::fault::RunFault;
+use crate::jar::Jar;
+use cookie_device::{LineBuffer, Output, Sink, Source};
+use cookie_store::psl::List;
+use std::alloc::Global;
+
+/// Runs the script that the source gives, and writes its answers to the sink. What is written is gathered, and goes out
+/// before the next read. The store obeys the public suffix list, if there is one.
+pub fn run<R: Source, W: Sink>(
+    alloc: Global,
+    source: &mut R,
+    sink: &mut W,
+    list: Option<List>,
+) -> Result<(), RunFault>
+    requires readable { R.failed source.old < 2 ^ 64 - 1 }
+    requires writable { W.failed sink.old < 2 ^ 64 - 1 }
+    ensures whole { OnOk result (IfSome (R.remaining source.old) (λ input.
+        Appends (W.contents sink.old) (W.contents sink.new) (output_of list input))) }
+    ensures part { IfSome (R.remaining source.old) (λ input.
+        AppendsBeginning (W.contents sink.old) (W.contents sink.new) (output_of list input)) }
+    ensures memory { result ≡ Err RunFault.Memory → IfSome (R.remaining source.old) (λ input.
+        AppendsFirst list input (W.contents sink.old) (W.contents sink.new)) }
+    ensures count { CountsFault result (R.failed source.old) (R.failed source.new) (W.failed sink.old) (W.failed sink.new) }
+    ensures reads { IfSome (R.remaining source.old) (λ input.
+        R.reads_left source.old ≤ R.reads_left source.new + length input + 1) }
+{
+    let mut out = Output::new(alloc)?;
+    match answer_lines(alloc, source, &mut out, sink, list) {
+        Err(RunFault::Memory) => {
+            out.flush(sink)?;
+            Err(RunFault::Memory)
+        }
+        Err(fault) => Err(fault),
+        Ok(()) => Ok(out.flush(sink)?),
+    }
+}
+
+// Answers the lines that the source gives, up to its end.
+fn answer_lines<R: Source, W: Sink>(
+    alloc: Global,
+    source: &mut R,
+    out: &mut Output,
+    sink: &mut W,
+    list: Option<List>,
+) -> Result<(), RunFault>
+    requires readable { R.failed source.old < 2 ^ 64 - 1 }
+    requires writable { W.failed sink.old < 2 ^ 64 - 1 }
+    ensures whole { OnOk result (IfSome (R.remaining source.old) (λ input.
+        Sends (W.contents sink.old) (W.contents sink.new) (out.old ++ output_of list input) out.new)) }
+    ensures part { IfSome (R.remaining source.old) (λ input.
+        AppendsBeginning (W.contents sink.old) (W.contents sink.new) (out.old ++ output_of list input)) }
+    ensures memory { result ≡ Err RunFault.Memory → IfSome (R.remaining source.old) (λ input.
+        SendsFirst list input (W.contents sink.old) (W.contents sink.new) out.old out.new) }
+    ensures count { CountsFault result (R.failed source.old) (R.failed source.new) (W.failed sink.old) (W.failed sink.new) }
+    ensures reads { IfSome (R.remaining source.old) (λ input.
+        R.reads_left source.old ≤ R.reads_left source.new + length input + 1) }
+{
+    let mut input = LineBuffer::new(alloc);
+    let mut jar = Jar::new(alloc, list);
+    'lines: loop {
+        if let Some(end) = input.line_end() {
+            let told = jar.turn(alloc, input.line(end))?;
+            out.put_all(sink, jar.answer(told)?)?;
+            input.pass(end + 1);
+        } else {
+            out.flush(sink)?;
+            if !input.fill(source)? {
+                break;
+            }
+        }
+    }
+    if input.rest().is_empty() {
+        return Ok(());
+    }
+    let told = jar.turn(alloc, input.rest())?;
+    Ok(out.put_all(sink, jar.answer(told)?)?)
+}
