@@ -252,7 +252,7 @@ impl<'a> Line<'a> {
     {
         Line {
             texts: [
-                domain_text(row),
+                row.domain.as_str(),
                 " ",
                 row.path.as_str(),
                 " ",
@@ -269,14 +269,5 @@ impl<'a> Line<'a> {
         let text = *self.texts.get(self.at)?;
         self.at += 1;
         Some(text)
-    }
-}
-
-fn domain_text<'a>(row: &'a Cookie<'static>) -> &'a str
-    ensures { result.now ≡ domain_text row.now.domain }
-{
-    match row.domain.as_cow() {
-        Some(text) => text,
-        None => "",
     }
 }
