@@ -54,8 +54,8 @@ pub(crate) fn bare(domain: &str) -> &str
     domain.strip_suffix('.').unwrap_or(domain)
 }
 
-/// How many labels the suffix has, and whether a listed rule says so.
-pub(crate) fn chosen(exception: Option<usize>, rule: Option<usize>) -> (usize, bool)
+// How many labels the suffix has, and whether a listed rule says so.
+fn chosen(exception: Option<usize>, rule: Option<usize>) -> (usize, bool)
     ensures count { result.0 ≡ (by_exception exception (by_rule rule)).count }
     ensures is_known { result.1 ≡ (by_exception exception (by_rule rule)).is_known }
 {
@@ -66,8 +66,8 @@ pub(crate) fn chosen(exception: Option<usize>, rule: Option<usize>) -> (usize, b
     }
 }
 
-/// The last labels of a domain, so many, with its trailing dot.
-pub(crate) fn from_labels(domain: &str, count: usize) -> &str
+// The last labels of a domain, so many, with its trailing dot.
+fn from_labels(domain: &str, count: usize) -> &str
     ensures value { result.now ≡ last_labels count (without_final_dot domain.now) ++ drop (length (without_final_dot domain.now)) domain.now }
     ensures slice { HasSubslice domain.now result.now }
 {

@@ -54,7 +54,7 @@ pub(crate) fn add(
     Ok(())
 }
 
-/// Ends a rule at a node.
+// Ends a rule at a node.
 fn end_rule(node: &mut Node, is_exception: bool)
     ensures { SameRules (tree_rules node.new) (rule_of is_exception [] ∷ tree_rules node.old) }
 {
@@ -65,7 +65,7 @@ fn end_rule(node: &mut Node, is_exception: bool)
     }
 }
 
-/// The node, or else one of no rules.
+// The node, or else one of no rules.
 fn or_new(alloc: Global, node: Option<Node>) -> Node
     ensures { tree_rules result ≡ rules_in node }
 {
@@ -75,7 +75,7 @@ fn or_new(alloc: Global, node: Option<Node>) -> Node
     }
 }
 
-/// The node in a box, if there is one.
+// The node in a box, if there is one.
 fn unboxed(any: Option<Box<Node>>) -> Option<Node>
     ensures { result ≡ option_map box_value any }
 {
@@ -100,7 +100,7 @@ pub(crate) fn copy(alloc: Global, node: &Node) -> Result<Node, AllocError>
     })
 }
 
-/// The trees below a node, of the same rules.
+// The trees below a node, of the same rules.
 #[cycle(copy)]
 fn copy_kids(
     alloc: Global,
@@ -124,7 +124,7 @@ pub(crate) fn longest(node: &Node, is_exception: bool, domain: &str) -> Option<u
     longest_within(node, is_exception, Some(domain))
 }
 
-/// The same of what is left of a domain.
+// The same of what is left of a domain.
 fn longest_within(node: &Node, is_exception: bool, domain: Option<&str>) -> Option<usize>
     requires { length (labels_left domain) < 2 ^ 64 }
     ensures { result ≡ rules.longest is_exception (tree_rules node.now) (labels_left domain.entry) }
@@ -151,7 +151,7 @@ fn longest_within(node: &Node, is_exception: bool, domain: Option<&str>) -> Opti
     }
 }
 
-/// Whether a rule of the kind ends at a node.
+// Whether a rule of the kind ends at a node.
 fn ends_rule(node: &Node, is_exception: bool) -> bool
     ensures { result ≡ (if is_exception then (out-Node node.now).is_exception else (out-Node node.now).is_rule) }
 {
@@ -162,7 +162,7 @@ fn ends_rule(node: &Node, is_exception: bool) -> bool
     }
 }
 
-/// A domain's last label, and what stands before its dot.
+// A domain's last label, and what stands before its dot.
 fn cut_last(domain: &str) -> (Option<&str>, &str)
     ensures { labels_of domain.now ≡ result.1.now ∷ labels_left result.0 }
 {
@@ -172,7 +172,7 @@ fn cut_last(domain: &str) -> (Option<&str>, &str)
     }
 }
 
-/// The greater of two counts, where they are there.
+// The greater of two counts, where they are there.
 fn greater(count: Option<usize>, other: Option<usize>) -> Option<usize>
     ensures { result ≡ rules.greater count other }
 {
