@@ -12,6 +12,3 @@ pub use counted::Counted;
 pub use device::{DeviceFailed, Sink, Source, write_all, write_line};
 pub use lines::{FillError, LineBuffer};
 pub use output::Output;
-
-#[cfg(test)]
-mod tests;

@@ -18,6 +18,3 @@ pub use cookie_expiration::CookieExpiration;
 pub use cookie_path::CookiePath;
 pub use error::{Error, IdnaErrors, StoreResult};
 pub use store_action::StoreAction;
-
-#[cfg(test)]
-mod tests;

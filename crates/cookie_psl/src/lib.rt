@@ -6,8 +6,6 @@ pub mod laws;
 mod list;
 mod reading;
 mod suffix;
-#[cfg(test)]
-mod tests;
 mod tree;
 
 pub use error::ListError;

@@ -12,8 +12,6 @@ mod plain;
 mod printing;
 mod raw_cookie;
 mod same_site;
-#[cfg(test)]
-mod tests;
 
 pub use builder::RawCookieBuilder;
 pub use date::read_date;

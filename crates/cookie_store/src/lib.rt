@@ -8,8 +8,6 @@ mod insertion;
 mod loading;
 mod response;
 mod saving;
-#[cfg(test)]
-mod tests;
 
 pub use call::{Call, Reply, Stopped};
 pub use cookie_laws as laws;

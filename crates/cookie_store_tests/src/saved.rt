@@ -1,18 +1,18 @@
 //! Rows that are written as lines.
-use super::built::{Came, items};
-use super::fakes::Fake;
-use super::new_year;
-use crate::device::{Counted, Sink};
-use crate::{Cookie, CookieStore, Error};
+use crate::built::{Came, store_of};
+use crate::checks::{end_of, is_equal};
+use crate::steps::new_year;
+use cookie_fakes::Fake;
+use cookie_store::device::{Counted, Sink};
+use cookie_store::{Cookie, CookieStore, Error};
 use jiff::civil::{DateTime, date};
 use std::alloc::{AllocError, Global};
 use std::cell::RefCell;
 use std::process::Abort;
-use std::test::Fail;
 
 // Which rows are saved or loaded: all, or those that `save` or `load` chooses at the moment.
-#[derive(Debug, Drop)]
-pub(super) enum Which {
+#[derive(Clone, Copy, Debug)]
+pub enum Which {
     All,
     At(DateTime),
 }
@@ -22,14 +22,8 @@ pub(super) enum Which {
 struct Saved {
     outcome: Result<(), Error>,
     failures: u64,
-    written: String,
+    written: Vec<u8>,
     asked: String,
-}
-
-// A store of the cookies, also of those that have ended.
-pub(super) fn store_of(alloc: Global, came: &[Came]) -> Result<CookieStore, Fail> {
-    let items = items(alloc, came)?.into_iter();
-    Ok(CookieStore::from_cookies(alloc, items, true, new_year())?)
 }
 
 // Answers a row's name, or as an error the one that is refused, and writes each down.
@@ -63,15 +57,16 @@ impl Names {
 
 // Saves the rows by their names.
 fn save_names(
+    rt: &impl Abort,
     alloc: Global,
     store: &CookieStore,
-    which: &Which,
+    which: Which,
     refused: &str,
     fake: Fake<Vec<u8>>,
-) -> Result<Saved, Fail> {
+) -> Saved {
     let names = Names {
         alloc,
-        refused: String::from_str(alloc, refused)?,
+        refused: String::from_str(alloc, refused).expect(rt, "memory"),
         asked: RefCell::new(String::new(alloc)),
     };
     let mut writer = Counted::new(fake);
@@ -79,20 +74,20 @@ fn save_names(
         Which::All => {
             store.save_incl_expired_and_nonpersistent(&mut writer, |row| names.text_of(row))
         }
-        Which::At(now) => store.save(&mut writer, |row| names.text_of(row), *now),
+        Which::At(now) => store.save(&mut writer, |row| names.text_of(row), now),
     };
     let Names { asked, .. } = names;
-    Ok(Saved {
+    Saved {
         outcome,
         failures: writer.failures(),
-        written: String::from_utf8(writer.into_inner().inner)?,
+        written: writer.into_inner().inner,
         asked: asked.into_inner(),
-    })
+    }
 }
 
 const FROM: &str = "http://a.com/";
 
-pub(super) const LASTING: [Came; 3] = [
+pub const LASTING: [Came; 3] = [
     (FROM, "a=1; Max-Age=300"),
     (FROM, "b=1; Max-Age=300"),
     (FROM, "c=1; Max-Age=300"),
@@ -106,33 +101,31 @@ const REFUSED: [(&str, &str, &str); 4] = [
     ("c", "a\nb\n", "a\nb\nc\n"),
 ];
 
+fn is_saved(
+    rt: &impl Abort,
+    alloc: Global,
+    store: &CookieStore,
+    which: Which,
+    row: &(&'static str, &'static str, &'static str),
+) {
+    let (refused, written, asked) = *row;
+    let fake = Fake::new(Vec::new(alloc), usize::MAX, 0);
+    let saved = save_names(rt, alloc, store, which, refused, fake);
+    let wanted = if refused.is_empty() { "done" } else { refused };
+    is_equal(rt, &end_of(&saved.outcome), &wanted, &(row, which));
+    is_equal(rt, &saved.failures, &0, &(row, which));
+    let text = str::from_utf8(saved.written.as_slice()).expect(rt, "UTF-8");
+    is_equal(rt, &text, &written, &(row, which));
+    is_equal(rt, &saved.asked.as_str(), &asked, &(row, which));
+}
+
 #[test]
-fn the_first_refusal_ends_the_saving(rt: HostRuntime) -> Result<(), Fail> {
-    let store = store_of(rt.alloc(), &LASTING)?;
-    for which in &[Which::All, Which::At(new_year())] {
-        for (refused, wanted, rows) in &REFUSED {
-            let fake = Fake::new(Vec::new(rt.alloc()), usize::MAX, 0);
-            let Saved {
-                outcome,
-                failures,
-                written,
-                asked,
-            } = save_names(rt.alloc(), &store, which, refused, fake)?;
-            match outcome {
-                Ok(()) => assert_eq!(rt; *refused, "", "{which:?}"),
-                Err(Error::Other(text)) => assert_eq!(rt; text.as_str(), *refused, "{which:?}"),
-                Err(error) => return Err(Fail::from(error)),
-            }
-            assert_eq!(rt; failures, 0, "refusing `{refused}`, {which:?}");
-            assert_eq!(rt;
-                written.as_str(),
-                *wanted,
-                "refusing `{refused}`, {which:?}"
-            );
-            assert_eq!(rt; asked.as_str(), *rows, "refusing `{refused}`, {which:?}");
-        }
+fn the_first_refusal_ends_the_saving(rt: HostRuntime) {
+    let store = store_of(&rt, rt.alloc(), &LASTING);
+    for row in &REFUSED {
+        is_saved(&rt, rt.alloc(), &store, Which::All, row);
+        is_saved(&rt, rt.alloc(), &store, Which::At(new_year()), row);
     }
-    Ok(())
 }
 
 // Some rows end after five minutes or after one, one ends with the session, and one has ended.
@@ -146,23 +139,18 @@ const LIVES: [Came; 6] = [
 ];
 
 #[test]
-fn rows_are_saved_in_order(rt: HostRuntime) -> Result<(), Fail> {
-    let store = store_of(rt.alloc(), &LIVES)?;
+fn rows_are_saved_in_order(rt: HostRuntime) {
+    let store = store_of(&rt, rt.alloc(), &LIVES);
     let day = date(2026, 1, 1);
-    for (which, wanted) in &[
+    for (which, wanted) in [
         (Which::All, "a\ns\ne\nm\nb\nc\n"),
         (Which::At(new_year()), "a\nm\nb\nc\n"),
         (Which::At(day.at(0, 0, 59, 0)), "a\nm\nb\nc\n"),
         (Which::At(day.at(0, 1, 0, 0)), "a\nb\n"),
         (Which::At(day.at(0, 5, 0, 0)), ""),
     ] {
-        let fake = Fake::new(Vec::new(rt.alloc()), usize::MAX, 0);
-        let saved = save_names(rt.alloc(), &store, which, "", fake)?;
-        saved.outcome?;
-        assert_eq!(rt; saved.written.as_str(), *wanted, "{which:?}");
-        assert_eq!(rt; saved.asked.as_str(), *wanted, "{which:?}");
+        is_saved(&rt, rt.alloc(), &store, which, &("", wanted, wanted));
     }
-    Ok(())
 }
 
 const NAMES: [Came; 3] = [
@@ -179,49 +167,53 @@ fn is_beginning(written: &str, writes: usize, most: usize) -> bool {
     WHOLE.starts_with(written) && (writes..=writes.saturating_mul(most)).contains(&length)
 }
 
+// Which rows are saved, by writes of at most how many bytes, and the write that fails.
+type Failing = (Which, usize, usize);
+
+// All is written, or else a write failed, which ended the saving with a beginning written. Says whether it is all.
+fn is_whole(rt: &impl Abort, saved: &Saved, row: &Failing) -> bool {
+    let written = str::from_utf8(saved.written.as_slice()).expect(rt, "UTF-8");
+    let is_whole = saved.outcome.is_ok();
+    if is_whole {
+        is_equal(rt, &saved.failures, &0, row);
+        is_equal(rt, &written, &WHOLE, row);
+    } else {
+        is_equal(rt, &end_of(&saved.outcome), &"a device", row);
+        is_equal(rt, &saved.failures, &1, row);
+        let is_part = is_beginning(written, row.2.saturating_sub(1), row.1);
+        is_equal(rt, &is_part, &true, &(row, written));
+    }
+    is_whole
+}
+
+fn is_saved_whole(rt: &impl Abort, alloc: Global, store: &CookieStore, row: &Failing) -> bool {
+    let (which, most, fails_at) = *row;
+    let fake = Fake::new(Vec::new(alloc), most, fails_at);
+    let saved = save_names(rt, alloc, store, which, "", fake);
+    is_whole(rt, &saved, row)
+}
+
 // Saves once for each write, which fails, and last with no failure.
 fn each_write_fails(
     rt: &impl Abort,
     alloc: Global,
     store: &CookieStore,
-    which: &Which,
+    which: Which,
     most: usize,
-) -> Result<(), Fail> {
+) {
     for fails_at in 1..1_000 {
-        let fake = Fake::new(Vec::new(alloc), most, fails_at);
-        let Saved {
-            outcome,
-            failures,
-            written,
-            ..
-        } = save_names(alloc, store, which, "", fake)?;
-        let is_whole = written.as_str() == WHOLE;
-        let is_part = is_beginning(written.as_str(), fails_at.saturating_sub(1), most);
-        match outcome {
-            Ok(()) => {
-                assert!(rt;
-                    failures == 0 && is_whole,
-                    "by {most}, {which:?}: {written}"
-                );
-                return Ok(());
-            }
-            Err(Error::Io) => assert!(rt;
-                failures == 1 && is_part,
-                "by {most}, failing at {fails_at}, {which:?}: {written}"
-            ),
-            Err(error) => return Err(Fail::from(error)),
+        if is_saved_whole(rt, alloc, store, &(which, most, fails_at)) {
+            return;
         }
     }
-    Err(Fail::from("writing has no end"))
+    panic!(rt; "writing has no end");
 }
 
 #[test]
-fn a_failed_write_ends_the_saving(rt: HostRuntime) -> Result<(), Fail> {
-    let store = store_of(rt.alloc(), &NAMES)?;
-    for which in &[Which::All, Which::At(new_year())] {
-        for most in [1, 3, usize::MAX] {
-            each_write_fails(&rt, rt.alloc(), &store, which, most)?;
-        }
+fn a_failed_write_ends_the_saving(rt: HostRuntime) {
+    let store = store_of(&rt, rt.alloc(), &NAMES);
+    for most in [1, 3, usize::MAX] {
+        each_write_fails(&rt, rt.alloc(), &store, Which::All, most);
+        each_write_fails(&rt, rt.alloc(), &store, Which::At(new_year()), most);
     }
-    Ok(())
 }

@@ -1,0 +1,302 @@
+use crate::checks::{holds, is_equal};
+use cookie_device::{
+    Counted, DeviceFailed, FillError, LineBuffer, Output, Sink, Source, write_all, write_line,
+};
+use cookie_fakes::Fake;
+use std::alloc::Global;
+use std::process::Abort;
+use std::test::Fail;
+
+// Takes the next line and a '|', or else reads once, and says whether there may be more. A read that failed is tried
+// again.
+fn take_or_read(
+    buffer: &mut LineBuffer,
+    source: &mut Counted<Fake<&[u8]>>,
+    lines: &mut Vec<u8>,
+) -> Result<bool, Fail> {
+    if let Some(end) = buffer.line_end() {
+        lines.extend_from_slice(buffer.line(end))?;
+        lines.push(b'|')?;
+        buffer.pass(end + 1);
+        return Ok(true);
+    }
+    match fill(buffer, source) {
+        Some(Ok(came)) => Ok(came),
+        Some(Err(FillError::Read)) => Ok(true),
+        _ => Err(Fail::from("nothing is read")),
+    }
+}
+
+// Reads once, unless a line is at hand or too many reads have failed.
+fn fill(
+    buffer: &mut LineBuffer,
+    source: &mut Counted<Fake<&[u8]>>,
+) -> Option<Result<bool, FillError>> {
+    if buffer.line_end().is_some() || source.failures() == u64::MAX {
+        return None;
+    }
+    Some(buffer.fill(source))
+}
+
+// Takes all lines, and then the last bytes.
+fn take_all(
+    buffer: &mut LineBuffer,
+    source: &mut Counted<Fake<&[u8]>>,
+    lines: &mut Vec<u8>,
+) -> Result<(), Fail> {
+    for _ in 0..100_000 {
+        if !take_or_read(buffer, source, lines)? {
+            break;
+        }
+    }
+    lines.extend_from_slice(buffer.rest())?;
+    Ok(())
+}
+
+// The lines that a line feed ends, each with '|' behind it, and the last bytes, as they come by reads of at most `most`
+// bytes.
+fn cut(alloc: Global, input: &[u8], most: usize, fails_at: usize) -> Result<Vec<u8>, Fail> {
+    let mut lines = Vec::new(alloc);
+    let mut buffer = LineBuffer::new(alloc);
+    let mut source = Counted::new(Fake::new(input, most, fails_at));
+    take_all(&mut buffer, &mut source, &mut lines)?;
+    Ok(lines)
+}
+
+// The input comes as these lines, by reads of each size.
+fn comes_as(
+    rt: &impl Abort,
+    alloc: Global,
+    input: &[u8],
+    wanted: &[u8],
+    sizes: &[usize],
+    fails_at: usize,
+) -> Result<(), Fail> {
+    for most in sizes {
+        let lines = cut(alloc, input, *most, fails_at)?;
+        is_equal(rt, lines.as_slice(), wanted, &(*most, fails_at));
+    }
+    Ok(())
+}
+
+const LINES: &[(&[u8], &[u8])] = &[
+    (b"", b""),
+    (b"one", b"one"),
+    (b"\n", b"|"),
+    (b"one\n", b"one|"),
+    (b"one\n\ntwo\r\nlast\r", b"one||two|last\r"),
+    (b"\n\n\nx\n", b"|||x|"),
+];
+
+#[test]
+fn lines_come_whole(rt: HostRuntime) -> Result<(), Fail> {
+    for fails_at in 0..6 {
+        for (input, wanted) in LINES {
+            comes_as(&rt, rt.alloc(), input, wanted, &[1, 2, 3, 5_000], fails_at)?;
+        }
+    }
+    Ok(())
+}
+
+// A line of 20,000 bytes, and what stands behind it.
+fn long_line(alloc: Global, behind: &[u8]) -> Result<Vec<u8>, Fail> {
+    let mut text = vec![in alloc; b'x'; 20_000]?;
+    text.extend_from_slice(behind)?;
+    Ok(text)
+}
+
+#[test]
+fn a_long_line_comes_whole(rt: HostRuntime) -> Result<(), Fail> {
+    let input = long_line(rt.alloc(), b"\nshort\n")?;
+    let wanted = long_line(rt.alloc(), b"|short|")?;
+    comes_as(
+        &rt,
+        rt.alloc(),
+        &input,
+        &wanted,
+        &[1, 4_095, 4_096, 100_000],
+        0,
+    )
+}
+
+// What a read of three bytes answers where the second one fails, what is at hand then, and how many reads have failed.
+const FILLS: &[(Result<bool, FillError>, &[u8], u64)] = &[
+    (Ok(true), b"one", 0),
+    (Err(FillError::Read), b"one", 1),
+    (Ok(true), b"onetwo", 1),
+    (Ok(false), b"onetwo", 1),
+];
+
+// The next read is as the row says, with no line at hand before it.
+fn fills_as(
+    rt: &impl Abort,
+    buffer: &mut LineBuffer,
+    source: &mut Counted<Fake<&[u8]>>,
+    row: &(Result<bool, FillError>, &[u8], u64),
+) {
+    let (answer, at_hand, failures) = *row;
+    is_equal(rt, fill(buffer, source), Some(answer), row);
+    is_equal(rt, buffer.rest(), at_hand, row);
+    is_equal(rt, source.failures(), failures, row);
+}
+
+#[test]
+fn a_failed_read_is_counted(rt: HostRuntime) {
+    let mut source = Counted::new(Fake::new(b"onetwo".as_slice(), 3, 2));
+    let mut buffer = LineBuffer::new(rt.alloc());
+    for row in FILLS {
+        fills_as(&rt, &mut buffer, &mut source, row);
+    }
+}
+
+// So many writes have failed, and these bytes are out.
+fn has(sink: Counted<Fake<Vec<u8>>>, failures: u64, out: &[u8]) -> bool {
+    sink.failures() == failures && sink.into_inner().inner.as_slice() == out
+}
+
+// How many bytes of a text a call takes, the call that fails, and what is out then.
+const WRITES: &[(usize, usize, &[u8])] = &[
+    (1, 0, b"Set-Cookie"),
+    (3, 0, b"Set-Cookie"),
+    (100, 0, b"Set-Cookie"),
+    (1, 4, b"Set"),
+    (3, 1, b""),
+    (3, 3, b"Set-Co"),
+];
+
+fn is_written(alloc: Global, row: &(usize, usize, &[u8])) -> Result<bool, Fail> {
+    let (most, fails_at, out) = *row;
+    let mut sink = Counted::new(Fake::new(Vec::new(alloc), most, fails_at));
+    let outcome = write_all(&mut sink, b"Set-Cookie");
+    Ok(outcome.is_ok() == (fails_at == 0) && has(sink, u64::from(fails_at != 0), out))
+}
+
+#[test]
+fn a_write_goes_on_until_all_is_out(rt: HostRuntime) -> Result<(), Fail> {
+    for row in WRITES {
+        holds(&rt, is_written(rt.alloc(), row)?, row);
+    }
+    Ok(())
+}
+
+// By calls that take at most so many bytes.
+fn lines_are_written(alloc: Global, most: &usize) -> Result<bool, Fail> {
+    let mut sink = Counted::new(Fake::new(Vec::new(alloc), *most, 0));
+    write_line(&mut sink, b"abc")?;
+    write_line(&mut sink, b"")?;
+    Ok(has(sink, 0, b"abc\n\n"))
+}
+
+#[test]
+fn a_line_goes_out_with_its_line_feed(rt: HostRuntime) -> Result<(), Fail> {
+    for row in &[1, 2, 100] {
+        holds(&rt, lines_are_written(rt.alloc(), row)?, row);
+    }
+    Ok(())
+}
+
+#[test]
+fn taking_no_byte_is_a_failure(rt: HostRuntime) {
+    let mut sink = Counted::new(Fake::new(Vec::new(rt.alloc()), 0, 0));
+    let none = (write_all(&mut sink, b""), sink.write(b""), sink.failures());
+    let some = (write_all(&mut sink, b"text"), sink.failures());
+    let wanted = ((Ok(()), Ok(0), 0), (Err(DeviceFailed), 1));
+    is_equal(
+        &rt,
+        (none, some),
+        wanted,
+        &"no byte taken of none and of some",
+    );
+}
+
+// Puts a text, unless too many writes have failed.
+fn put(
+    output: &mut Output,
+    sink: &mut Counted<Fake<Vec<u8>>>,
+    text: &[u8],
+) -> Result<(), DeviceFailed> {
+    if sink.failures() == u64::MAX {
+        return Err(DeviceFailed);
+    }
+    output.put(sink, text)
+}
+
+// Flushes, unless too many writes have failed.
+fn flush(output: &mut Output, sink: &mut Counted<Fake<Vec<u8>>>) -> Result<(), DeviceFailed> {
+    if sink.failures() == u64::MAX {
+        return Err(DeviceFailed);
+    }
+    output.flush(sink)
+}
+
+// Puts one text behind the other, and flushes before and after.
+fn put_all(
+    output: &mut Output,
+    sink: &mut Counted<Fake<Vec<u8>>>,
+    texts: &[&[u8]],
+) -> Result<(), DeviceFailed> {
+    flush(output, sink)?;
+    for text in texts {
+        put(output, sink, text)?;
+    }
+    flush(output, sink)
+}
+
+// What short texts and long ones come to.
+fn gathered(alloc: Global) -> Result<Fake<Vec<u8>>, Fail> {
+    let long = vec![in alloc; b'x'; Output::LIMIT + 1]?;
+    let mut output = Output::new(alloc)?;
+    let mut sink = Counted::new(Fake::new(Vec::new(alloc), usize::MAX, 0));
+    put_all(
+        &mut output,
+        &mut sink,
+        &[b"a", &long[2..], b"b", &long, b"c"],
+    )?;
+    Ok(sink.into_inner())
+}
+
+// Places, and the bytes that stand there.
+const BYTES: &[(usize, Option<u8>)] = &[
+    (0, Some(b'a')),
+    (65_535, Some(b'x')),
+    (65_536, Some(b'b')),
+    (65_537, Some(b'x')),
+    (131_074, Some(b'c')),
+    (131_075, None),
+];
+
+// The first 65,536 bytes, "b", the long text and "c" went out.
+fn is_gathered(rt: &impl Abort, fake: &Fake<Vec<u8>>) {
+    is_equal(rt, fake.calls, 4, &"writes");
+    for row in BYTES {
+        let (place, wanted) = *row;
+        is_equal(rt, fake.inner.get(place).copied(), wanted, row);
+    }
+}
+
+#[test]
+fn output_gathers_up_to_its_limit(rt: HostRuntime) -> Result<(), Fail> {
+    is_gathered(&rt, &gathered(rt.alloc())?);
+    Ok(())
+}
+
+// Whether nothing is left of a short text and a long one where a write failed for the second.
+fn is_dropped(alloc: Global) -> Result<bool, Fail> {
+    let long = vec![in alloc; b'x'; Output::LIMIT]?;
+    let mut output = Output::new(alloc)?;
+    let mut sink = Counted::new(Fake::new(Vec::new(alloc), 2, 2));
+    let short_is_put = put(&mut output, &mut sink, b"abc").is_ok();
+    let long_is_put = put(&mut output, &mut sink, &long).is_ok();
+    let is_flushed = flush(&mut output, &mut sink).is_ok();
+    Ok(short_is_put && !long_is_put && is_flushed && has(sink, 1, b"ab"))
+}
+
+#[test]
+fn output_is_dropped_where_a_write_fails(rt: HostRuntime) -> Result<(), Fail> {
+    holds(
+        &rt,
+        is_dropped(rt.alloc())?,
+        &"a long text behind a short one",
+    );
+    Ok(())
+}

@@ -1,0 +1,392 @@
+//! Each call that takes memory answers as it does with ample memory, or says that memory is wanting.
+use crate::checks::holds;
+use crate::parts::{Hosts, domain_of, is_for, is_path};
+use crate::psl::{EVERY_KIND, says};
+use crate::raw::{Parts, has_parts};
+use cookie_device::{Counted, FillError, LineBuffer, Output};
+use cookie_parts::{Cookie, CookieDomain, CookieError, CookieExpiration, CookiePath, Error};
+use cookie_psl::{List, ListError};
+use cookie_raw::RawCookie;
+use jiff::civil::DateTime;
+use std::alloc::{AllocError, Global};
+use std::test::Fail;
+use url::Url;
+
+// A growth of so many bytes: those after it are the ones to refuse.
+const START: usize = 48_271;
+
+fn start(alloc: Global) -> Result<(), Fail> {
+    let _growth: Vec<u8> = Vec::with_capacity(alloc, START)?;
+    Ok(())
+}
+
+// What was made before the start.
+fn made<T: Drop>(alloc: Global, value: T) -> Result<T, Fail> {
+    start(alloc)?;
+    Ok(value)
+}
+
+trait Fault {
+    // Whether it says that memory is wanting.
+    fn is_wanting(&self) -> bool;
+}
+
+impl Fault for AllocError {
+    fn is_wanting(&self) -> bool {
+        true
+    }
+}
+
+impl Fault for CookieError {
+    fn is_wanting(&self) -> bool {
+        *self == CookieError::Memory
+    }
+}
+
+impl Fault for Error {
+    fn is_wanting(&self) -> bool {
+        matches!(self, Error::Memory)
+    }
+}
+
+impl Fault for ListError {
+    fn is_wanting(&self) -> bool {
+        *self == ListError::Memory
+    }
+}
+
+#[test]
+fn fill(rt: HostRuntime) -> Result<(), Fail> {
+    start(rt.alloc())?;
+    let mut source = Counted::new(b"get\n".as_slice());
+    let mut lines = LineBuffer::new(rt.alloc());
+    let answer = lines.fill(&mut source);
+    let rest = (lines.rest(), source.into_inner());
+    let is_whole = match answer {
+        Ok(came) => came && rest == (b"get\n", b""),
+        Err(fault) => fault == FillError::Memory && rest == (b"", b"get\n"),
+    };
+    holds(&rt, is_whole, &"a line");
+    Ok(())
+}
+
+// Whether a byte that is put stays in the output.
+fn gathers(alloc: Global, output: &mut Output) -> Result<bool, Fail> {
+    let mut sink = Counted::new(Vec::new(alloc));
+    output.put(&mut sink, b"a")?;
+    Ok(sink.into_inner().is_empty())
+}
+
+#[test]
+fn new_output(rt: HostRuntime) -> Result<(), Fail> {
+    start(rt.alloc())?;
+    let is_whole = match Output::new(rt.alloc()) {
+        Ok(mut output) => gathers(rt.alloc(), &mut output)?,
+        Err(AllocError) => true,
+    };
+    holds(&rt, is_whole, &"an output");
+    Ok(())
+}
+
+const PAIR: &str = "a=1; Domain=.a.com; Path=/x";
+
+const PARTS: Parts = Parts {
+    name: "a",
+    value: "1",
+    domain: Some("a.com"),
+    path: Some("/x"),
+};
+
+fn is_owned(owned: Result<RawCookie<'_>, AllocError>) -> bool {
+    match owned {
+        Ok(owned) => has_parts(&owned, &PARTS),
+        Err(AllocError) => true,
+    }
+}
+
+#[test]
+fn raw_into_owned(rt: HostRuntime) -> Result<(), Fail> {
+    start(rt.alloc())?;
+    let cookie = RawCookie::parse(PAIR)?;
+    let owned = cookie.into_owned(rt.alloc());
+    holds(&rt, is_owned(owned), &PAIR);
+    Ok(())
+}
+
+// The cookie of `PAIR`, with texts of its own.
+fn owned_pair(alloc: Global) -> Result<RawCookie<'static>, Fail> {
+    Ok(RawCookie::parse(PAIR)?.into_owned(alloc)?)
+}
+
+fn is_equal_to_copy(cookie: &RawCookie<'_>) -> bool {
+    match cookie.clone() {
+        Ok(copy) => copy == *cookie,
+        Err(AllocError) => true,
+    }
+}
+
+#[test]
+fn clone_raw(rt: HostRuntime) -> Result<(), Fail> {
+    let is_equal = is_equal_to_copy(&made(rt.alloc(), owned_pair(rt.alloc())?)?);
+    holds(&rt, is_equal, &PAIR);
+    Ok(())
+}
+
+fn is_text(text: Result<String, AllocError>, wanted: &str) -> bool {
+    match text {
+        Ok(text) => text.as_str() == wanted,
+        Err(AllocError) => true,
+    }
+}
+
+#[test]
+fn text_of_raw(rt: HostRuntime) -> Result<(), Fail> {
+    start(rt.alloc())?;
+    let cookie = RawCookie::parse(PAIR)?;
+    let text = cookie.to_text(rt.alloc());
+    holds(&rt, is_text(text, "a=1; Path=/x; Domain=a.com"), &PAIR);
+    Ok(())
+}
+
+fn is_list(list: Result<List, impl Fault + Drop>, domain: &str, suffix: &str) -> bool {
+    match list {
+        Ok(list) => says(&list, domain, Some((suffix, true))),
+        Err(fault) => fault.is_wanting(),
+    }
+}
+
+#[test]
+fn list_from_text(rt: HostRuntime) -> Result<(), Fail> {
+    start(rt.alloc())?;
+    let list = List::from_text(rt.alloc(), EVERY_KIND);
+    holds(&rt, is_list(list, "a.foo.ck", "foo.ck"), &EVERY_KIND);
+    Ok(())
+}
+
+#[test]
+fn clone_list(rt: HostRuntime) -> Result<(), Fail> {
+    let list = made(rt.alloc(), List::from_text(rt.alloc(), EVERY_KIND)?)?;
+    holds(&rt, is_list(list.clone(), "a.www.ck", "ck"), &EVERY_KIND);
+    Ok(())
+}
+
+const TEXT: &str = "a=1; Domain=bücher.example; Path=/foo";
+
+const DOMAIN: Hosts = Hosts::Suffix("xn--bcher-kva.example");
+
+const HOST: Hosts = Hosts::HostOnly("foo.xn--bcher-kva.example");
+
+// The URL that all come from.
+fn url(alloc: Global) -> Result<Url, Fail> {
+    Ok(Url::parse(alloc, "http://foo.bücher.example/foo/bar")?)
+}
+
+fn made_url(alloc: Global) -> Result<Url, Fail> {
+    made(alloc, url(alloc)?)
+}
+
+fn is_domain(domain: Result<CookieDomain, impl Fault + Drop>, wanted: &Hosts) -> bool {
+    match domain {
+        Ok(domain) => is_for(&domain, wanted),
+        Err(fault) => fault.is_wanting(),
+    }
+}
+
+#[test]
+fn host_only(rt: HostRuntime) -> Result<(), Fail> {
+    let domain = CookieDomain::host_only(rt.alloc(), &made_url(rt.alloc())?);
+    holds(&rt, is_domain(domain, &HOST), &HOST);
+    Ok(())
+}
+
+#[test]
+fn try_from_str(rt: HostRuntime) -> Result<(), Fail> {
+    start(rt.alloc())?;
+    let domain = CookieDomain::try_from_str(rt.alloc(), ".bücher.example");
+    holds(&rt, is_domain(domain, &DOMAIN), &DOMAIN);
+    Ok(())
+}
+
+#[test]
+fn try_from_raw(rt: HostRuntime) -> Result<(), Fail> {
+    start(rt.alloc())?;
+    let raw = RawCookie::parse(TEXT)?;
+    let domain = CookieDomain::try_from_raw(rt.alloc(), &raw);
+    holds(&rt, is_domain(domain, &DOMAIN), &DOMAIN);
+    Ok(())
+}
+
+#[test]
+fn clone_domain(rt: HostRuntime) -> Result<(), Fail> {
+    let domain = made(rt.alloc(), domain_of(rt.alloc(), &DOMAIN)?)?;
+    let is_whole = is_domain(domain.clone(), &DOMAIN) && is_for(&domain, &DOMAIN);
+    holds(&rt, is_whole, &DOMAIN);
+    Ok(())
+}
+
+#[test]
+fn text_of_a_domain(rt: HostRuntime) -> Result<(), Fail> {
+    let domain = made(rt.alloc(), domain_of(rt.alloc(), &DOMAIN)?)?;
+    let text = domain.to_string_in(rt.alloc());
+    holds(&rt, is_text(text, "xn--bcher-kva.example"), &DOMAIN);
+    Ok(())
+}
+
+fn is_whole_path(
+    path: Result<CookiePath, AllocError>,
+    wanted: &str,
+    is_from_attribute: bool,
+) -> bool {
+    match path {
+        Ok(path) => is_path(&path, wanted, is_from_attribute),
+        Err(AllocError) => true,
+    }
+}
+
+#[test]
+fn default_path(rt: HostRuntime) -> Result<(), Fail> {
+    let path = CookiePath::default_path(rt.alloc(), &made_url(rt.alloc())?);
+    holds(&rt, is_whole_path(path, "/foo", false), &"/foo");
+    Ok(())
+}
+
+#[test]
+fn new_path(rt: HostRuntime) -> Result<(), Fail> {
+    let path = CookiePath::new(rt.alloc(), "/bar", &made_url(rt.alloc())?);
+    holds(&rt, is_whole_path(path, "/bar", true), &"/bar");
+    Ok(())
+}
+
+#[test]
+fn new_path_of_a_relative_text(rt: HostRuntime) -> Result<(), Fail> {
+    let path = CookiePath::new(rt.alloc(), "bar", &made_url(rt.alloc())?);
+    holds(&rt, is_whole_path(path, "/foo", false), &"bar");
+    Ok(())
+}
+
+#[test]
+fn parse_path(rt: HostRuntime) -> Result<(), Fail> {
+    start(rt.alloc())?;
+    let is_whole = match CookiePath::parse(rt.alloc(), "/bar") {
+        Ok(path) => path.is_some_and(|path| is_path(&path, "/bar", true)),
+        Err(AllocError) => true,
+    };
+    holds(&rt, is_whole, &"/bar");
+    Ok(())
+}
+
+// The path that an attribute or the URL sets.
+fn path(alloc: Global, attribute: &str) -> Result<CookiePath, Fail> {
+    Ok(CookiePath::new(alloc, attribute, &url(alloc)?)?)
+}
+
+#[test]
+fn clone_path(rt: HostRuntime) -> Result<(), Fail> {
+    let path = made(rt.alloc(), path(rt.alloc(), "/bar")?)?;
+    let is_whole = is_whole_path(path.clone(), "/bar", true);
+    holds(&rt, is_whole && is_path(&path, "/bar", true), &"/bar");
+    Ok(())
+}
+
+#[test]
+fn text_of_a_path(rt: HostRuntime) -> Result<(), Fail> {
+    let path = made(rt.alloc(), path(rt.alloc(), "")?)?;
+    let text = path.to_string_in(rt.alloc());
+    holds(&rt, is_text(text, "/foo"), &"/foo");
+    Ok(())
+}
+
+// The cookie of `TEXT`, as it came from `url`.
+fn is_of_text(cookie: &Cookie<'_>) -> bool {
+    cookie.name() == "a"
+        && cookie.value() == "1"
+        && is_for(&cookie.domain, &DOMAIN)
+        && is_path(&cookie.path, "/foo", true)
+        && matches!(&cookie.expires, CookieExpiration::SessionEnd)
+}
+
+fn is_cookie(cookie: Result<Cookie<'_>, impl Fault + Drop>) -> bool {
+    match cookie {
+        Ok(cookie) => is_of_text(&cookie),
+        Err(fault) => fault.is_wanting(),
+    }
+}
+
+#[test]
+fn parse(rt: HostRuntime) -> Result<(), Fail> {
+    let cookie = Cookie::parse(rt.alloc(), TEXT, &made_url(rt.alloc())?, DateTime::ZERO);
+    holds(&rt, is_cookie(cookie), &TEXT);
+    Ok(())
+}
+
+fn is_for_host_alone(cookie: Result<Cookie<'_>, CookieError>) -> bool {
+    match cookie {
+        Ok(cookie) => is_for(&cookie.domain, &HOST) && is_path(&cookie.path, "/foo", false),
+        Err(refusal) => refusal.is_wanting(),
+    }
+}
+
+#[test]
+fn parse_for_a_host_alone(rt: HostRuntime) -> Result<(), Fail> {
+    let cookie = Cookie::parse(rt.alloc(), "a=1", &made_url(rt.alloc())?, DateTime::ZERO);
+    holds(&rt, is_for_host_alone(cookie), &"a=1");
+    Ok(())
+}
+
+// The cookie of `TEXT`.
+fn cookie(alloc: Global) -> Result<Cookie<'static>, Fail> {
+    Ok(Cookie::parse(alloc, TEXT, &url(alloc)?, DateTime::ZERO)?)
+}
+
+#[test]
+fn into_owned(rt: HostRuntime) -> Result<(), Fail> {
+    let cookie = made(rt.alloc(), cookie(rt.alloc())?)?;
+    let owned = cookie.into_owned(rt.alloc());
+    holds(&rt, is_cookie(owned), &TEXT);
+    Ok(())
+}
+
+// Whether the copy is whole, and the cookie is as it was.
+fn is_copied(cookie: &Cookie<'_>) -> bool {
+    is_cookie(cookie.clone()) && is_of_text(cookie)
+}
+
+// The cookie of `TEXT`, with texts of its own.
+fn owned_cookie(alloc: Global) -> Result<Cookie<'static>, Fail> {
+    Ok(cookie(alloc)?.into_owned(alloc)?)
+}
+
+#[test]
+fn clone(rt: HostRuntime) -> Result<(), Fail> {
+    let is_copied = is_copied(&made(rt.alloc(), owned_cookie(rt.alloc())?)?);
+    holds(&rt, is_copied, &TEXT);
+    Ok(())
+}
+
+#[test]
+fn try_from_raw_cookie(rt: HostRuntime) -> Result<(), Fail> {
+    let raw = RawCookie::parse(TEXT)?.into_owned(rt.alloc())?;
+    let url = &made_url(rt.alloc())?;
+    let cookie = Cookie::try_from_raw_cookie(rt.alloc(), &raw, url, DateTime::ZERO);
+    holds(&rt, is_cookie(cookie), &TEXT);
+    Ok(())
+}
+
+// What the cookie of `TEXT` says of itself.
+fn is_said(raw: Result<RawCookie<'_>, AllocError>) -> bool {
+    match raw {
+        Ok(raw) => raw.name_value() == ("a", "1")
+            && raw.domain() == Some("xn--bcher-kva.example")
+            && raw.path() == Some("/foo")
+            && raw.expires().is_none(),
+        Err(AllocError) => true,
+    }
+}
+
+#[test]
+fn into_raw(rt: HostRuntime) -> Result<(), Fail> {
+    let cookie = made(rt.alloc(), cookie(rt.alloc())?)?;
+    let raw = cookie.into_raw(rt.alloc());
+    holds(&rt, is_said(raw), &TEXT);
+    Ok(())
+}

@@ -1,0 +1,28 @@
+//! Tests of a cookie's parts and of the crates below them: at outside examples, and with each growth of memory refused
+//! in turn.
+#![tactic(auto)]
+
+#[cfg(test)]
+mod checks;
+#[cfg(test)]
+mod cookie;
+#[cfg(test)]
+mod device;
+#[cfg(test)]
+mod domain;
+#[cfg(test)]
+mod error;
+#[cfg(test)]
+mod expiry;
+#[cfg(test)]
+mod growths;
+#[cfg(test)]
+mod parts;
+#[cfg(test)]
+mod path;
+#[cfg(test)]
+mod psl;
+#[cfg(test)]
+mod raw;
+#[cfg(test)]
+mod saved;

@@ -1,0 +1,77 @@
+//! What tables say that the parts of a cookie are.
+use cookie_parts::{Cookie, CookieDomain, CookieExpiration, CookiePath};
+use jiff::civil::DateTime;
+use std::alloc::Global;
+use std::test::Fail;
+use url::Url;
+
+// What a domain is wanted to be.
+#[derive(Clone, Copy, Debug)]
+pub(crate) enum Hosts {
+    HostOnly(&'static str),
+    Suffix(&'static str),
+    NotPresent,
+    Empty,
+}
+
+pub(crate) fn is_for(domain: &CookieDomain, hosts: &Hosts) -> bool {
+    match (domain, hosts) {
+        (CookieDomain::HostOnly(text), Hosts::HostOnly(wanted)) => text.as_str() == *wanted,
+        (CookieDomain::Suffix(text), Hosts::Suffix(wanted)) => text.as_str() == *wanted,
+        (CookieDomain::NotPresent, Hosts::NotPresent) => true,
+        (CookieDomain::Empty, Hosts::Empty) => true,
+        _ => false,
+    }
+}
+
+// The domain itself.
+pub(crate) fn domain_of(alloc: Global, hosts: &Hosts) -> Result<CookieDomain, Fail> {
+    Ok(match hosts {
+        Hosts::HostOnly(text) => CookieDomain::HostOnly(String::from_str(alloc, text)?),
+        Hosts::Suffix(text) => CookieDomain::Suffix(String::from_str(alloc, text)?),
+        Hosts::NotPresent => CookieDomain::NotPresent,
+        Hosts::Empty => CookieDomain::Empty,
+    })
+}
+
+// Whether it is the path of the text, from an attribute or not.
+pub(crate) fn is_path(path: &CookiePath, text: &str, is_from_attribute: bool) -> bool {
+    path.as_str() == text && path.is_from_path_attr() == is_from_attribute
+}
+
+// The year, the month, the day, the hour, the minute, the second and the nanoseconds.
+pub(crate) type Fields = (i16, i8, i8, i8, i8, i8, i32);
+
+// The moment of the fields, if there is one.
+pub(crate) fn moment_of(fields: Option<Fields>) -> Result<Option<DateTime>, Fail> {
+    let Some((year, month, day, hour, minute, second, nanoseconds)) = fields else {
+        return Ok(None);
+    };
+    let moment = DateTime::new(year, month, day, hour, minute, second, nanoseconds)?;
+    Ok(Some(moment))
+}
+
+// The moment that a text such as `2026-01-01T00:00:00` writes.
+pub(crate) fn moment(text: &str) -> Result<DateTime, Fail> {
+    Ok(text.parse::<DateTime>()?)
+}
+
+// Whether it is the moment that the text writes, to the nanosecond, or the end of the session where there is no text.
+pub(crate) fn ends_at(expires: &CookieExpiration, wanted: Option<&str>) -> Result<bool, Fail> {
+    Ok(match (expires, wanted) {
+        (CookieExpiration::AtUtc(end), Some(text)) => *end == moment(text)?,
+        (CookieExpiration::SessionEnd, None) => true,
+        _ => false,
+    })
+}
+
+// The cookie of a text that came from the URL at the moment.
+pub(crate) fn cookie_from<'a>(
+    alloc: Global,
+    text: &'a str,
+    from: &str,
+    now: DateTime,
+) -> Result<Cookie<'a>, Fail> {
+    let url = Url::parse(alloc, from)?;
+    Ok(Cookie::parse(alloc, text, &url, now)?)
+}

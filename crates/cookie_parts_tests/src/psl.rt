@@ -1,0 +1,123 @@
+use crate::checks::{holds, is_equal, is_written};
+use cookie_psl::{List, ListError, laws};
+use std::alloc::Global;
+use std::test::Fail;
+
+// A list, a domain, and its suffix, with whether a listed rule says so.
+type Row = (&'static str, &'static str, Option<(&'static str, bool)>);
+
+pub(crate) const EVERY_KIND: &str =
+    "// every kind of rule\ncom\n*.ck\n!www.ck to here\n\n*.www.ck\n  org\n";
+
+const ROWS: &[Row] = &[
+    (EVERY_KIND, "foo.ck", Some(("foo.ck", true))),
+    (EVERY_KIND, "a.www.ck", Some(("ck", true))),
+    (EVERY_KIND, "ck", Some(("ck", false))),
+    (EVERY_KIND, "zz", Some(("zz", false))),
+    (EVERY_KIND, "a.com.", Some(("com.", true))),
+    (EVERY_KIND, "", None),
+    (EVERY_KIND, ".", None),
+    (EVERY_KIND, "a.org", Some(("org", false))),
+    (
+        "cn\n公司.cn",
+        "a.xn--55qx5d.cn",
+        Some(("xn--55qx5d.cn", true)),
+    ),
+    ("*", "zz", Some(("zz", true))),
+    ("*.*", "a.b.c", Some(("b.c", true))),
+    ("*.*", "a", Some(("a", false))),
+    (
+        "*.ck\n!www.ck\n!a.www.ck",
+        "a.www.ck",
+        Some(("www.ck", true)),
+    ),
+    ("com", "COM", Some(("COM", false))),
+    ("com", "com..", Some((".", false))),
+    ("com\ncom\n", "a.b.com", Some(("com", true))),
+    ("co.uk\nuk", "a.co.uk", Some(("co.uk", true))),
+    ("", "a.b", Some(("b", false))),
+];
+
+// Whether the list says what is wanted of the domain.
+pub(crate) fn says(list: &List, domain: &str, wanted: Option<(&str, bool)>) -> bool {
+    let suffix = list.suffix(domain);
+    suffix.map(|suffix| (suffix.as_str(), suffix.is_known())) == wanted
+}
+
+fn is_found(alloc: Global, row: &Row) -> Result<bool, Fail> {
+    let (text, domain, wanted) = *row;
+    Ok(says(&List::from_text(alloc, text)?, domain, wanted))
+}
+
+#[test]
+fn finds_suffixes(rt: HostRuntime) -> Result<(), Fail> {
+    laws::same_rules_prevail();
+    for row in ROWS {
+        holds(&rt, is_found(rt.alloc(), row)?, row);
+    }
+    Ok(())
+}
+
+// A text that is no list, and the number of its first bad line.
+const BAD: &[(&str, usize)] = &[
+    ("com\n\n.", 3),
+    ("a..b", 1),
+    ("com\norg.\nnet", 2),
+    (".com", 1),
+    ("!", 1),
+    ("// com\n!com\n..", 2),
+    ("com\nxn--a", 2),
+    ("*.!.com\n!*.\n", 2),
+];
+
+#[test]
+fn tells_the_first_bad_line(rt: HostRuntime) {
+    for (text, line) in BAD {
+        let error = List::from_text(rt.alloc(), text).err();
+        is_equal(&rt, error, Some(ListError::BadRule { line: *line }), text);
+    }
+}
+
+// So many labels `a`.
+fn labels(alloc: Global, count: usize) -> Result<String, Fail> {
+    let mut text = String::from_str(alloc, "a")?;
+    for _ in 1..count {
+        text.push_str(".a")?;
+    }
+    Ok(text)
+}
+
+// Whether a list of one rule says something of the domain that is the rule.
+fn is_known(alloc: Global, rule: &str) -> Result<Option<bool>, ListError> {
+    let list = List::from_text(alloc, rule)?;
+    Ok(list.suffix(rule).map(|suffix| suffix.is_known()))
+}
+
+// How many labels a rule has, and whether a list knows it.
+const LABELS: &[(usize, Result<Option<bool>, ListError>)] = &[
+    (127, Ok(Some(true))),
+    (128, Err(ListError::BadRule { line: 1 })),
+];
+
+#[test]
+fn takes_rules_of_127_labels(rt: HostRuntime) -> Result<(), Fail> {
+    for (count, wanted) in LABELS {
+        let answer = is_known(rt.alloc(), &labels(rt.alloc(), *count)?);
+        is_equal(&rt, answer, *wanted, count);
+    }
+    Ok(())
+}
+
+#[test]
+fn a_new_list_has_no_rules(rt: HostRuntime) {
+    let list = List::new(rt.alloc());
+    let known = list.suffix("a.com").map(|suffix| suffix.is_known());
+    is_equal(&rt, known, Some(false), &"a.com");
+}
+
+#[test]
+fn says_why_a_text_is_no_list(rt: HostRuntime) -> Result<(), Fail> {
+    let bad = ListError::BadRule { line: 7 };
+    is_written(&rt, rt.alloc(), &bad, "a bad rule in line 7")?;
+    is_written(&rt, rt.alloc(), &ListError::Memory, "out of memory")
+}

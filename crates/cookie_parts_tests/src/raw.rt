@@ -1,0 +1,333 @@
+use crate::checks::{holds, is_equal, is_written};
+use crate::parts::{Fields, moment_of};
+use cookie_raw::RawCookieParseError::{EmptyName, MissingPair};
+use cookie_raw::{
+    Expiration, RawCookie, RawCookieBuilder, RawCookieParseError, SameSite, laws, read_date,
+};
+use jiff::SignedDuration;
+use jiff::civil::date;
+use std::alloc::{AllocError, Global};
+use std::process::Abort;
+use std::test::Fail;
+
+// What an accepted text says.
+#[derive(Clone, Copy)]
+pub(crate) struct Parts {
+    pub(crate) name: &'static str,
+    pub(crate) value: &'static str,
+    pub(crate) domain: Option<&'static str>,
+    pub(crate) path: Option<&'static str>,
+}
+
+const PAIR: Parts = Parts {
+    name: "a",
+    value: "1",
+    domain: None,
+    path: None,
+};
+
+const ROWS: &[(&str, Result<Parts, RawCookieParseError>)] = &[
+    ("", Err(MissingPair)),
+    ("a", Err(MissingPair)),
+    ("; a=1", Err(MissingPair)),
+    ("=1", Err(EmptyName)),
+    ("a=", Ok(Parts { value: "", ..PAIR })),
+    (
+        " a = \"b=c\" ",
+        Ok(Parts {
+            value: "\"b=c\"",
+            ..PAIR
+        }),
+    ),
+    ("a=1", Ok(PAIR)),
+    (
+        "a=1; Domain=.a.com; Domain=; Path=/x; Path=",
+        Ok(Parts {
+            domain: Some("a.com"),
+            path: Some(""),
+            ..PAIR
+        }),
+    ),
+    (
+        "a=1; DOMAIN=b.org; path=/p; Secure; Max-Age=5; unknown",
+        Ok(Parts {
+            domain: Some("b.org"),
+            path: Some("/p"),
+            ..PAIR
+        }),
+    ),
+    (
+        "a=1; Domain=..x",
+        Ok(Parts {
+            domain: Some(".x"),
+            ..PAIR
+        }),
+    ),
+];
+
+pub(crate) fn has_parts(cookie: &RawCookie<'_>, parts: &Parts) -> bool {
+    cookie.name() == parts.name
+        && cookie.value() == parts.value
+        && cookie.name_value() == (parts.name, parts.value)
+        && cookie.domain() == parts.domain
+        && cookie.path() == parts.path
+}
+
+fn is_read_as(text: &str, wanted: &Result<Parts, RawCookieParseError>) -> bool {
+    match RawCookie::parse(text) {
+        Ok(cookie) => matches!(wanted, Ok(parts) if has_parts(&cookie, parts)),
+        Err(error) => matches!(wanted, Err(reason) if *reason == error),
+    }
+}
+
+#[test]
+fn reads_the_table(rt: HostRuntime) {
+    for (text, wanted) in ROWS {
+        holds(&rt, is_read_as(text, wanted), text);
+    }
+}
+
+#[test]
+fn says_why_a_text_is_no_cookie(rt: HostRuntime) -> Result<(), Fail> {
+    is_written(
+        &rt,
+        rt.alloc(),
+        &MissingPair,
+        "no name and value joined by `=`",
+    )?;
+    is_written(&rt, rt.alloc(), &EmptyName, "an empty name")
+}
+
+// A text, and the seconds of its Max-Age.
+const AGES: &[(&str, Option<i64>)] = &[
+    ("a=1; Max-Age=-", Some(0)),
+    ("a=1; Max-Age=-1", Some(0)),
+    ("a=1; Max-Age=007", Some(7)),
+    ("a=1; Max-Age=--1", None),
+    ("a=1; Max-Age=+5", None),
+    ("a=1; Max-Age=1x", None),
+    ("a=1; Max-Age=", None),
+    (
+        "a=1; Max-Age=9223372036854775808",
+        Some(9223372036854775807),
+    ),
+    ("a=1; Max-Age=9; Max-Age=5; Max-Age=1x", Some(5)),
+    ("a=1", None),
+];
+
+#[test]
+fn reads_ages(rt: HostRuntime) -> Result<(), Fail> {
+    for (text, seconds) in AGES {
+        let age = RawCookie::parse(text)?.max_age();
+        is_equal(&rt, age, seconds.map(SignedDuration::from_secs), text);
+    }
+    Ok(())
+}
+
+// A text, and the moment that it writes as a cookie's date.
+const DATES: &[(&str, Option<Fields>)] = &[
+    (
+        "Sunday, 06-Nov-94 08:49:37 GMT",
+        Some((1994, 11, 6, 8, 49, 37, 0)),
+    ),
+    (
+        "Sun Nov  6 08:49:37 1994",
+        Some((1994, 11, 6, 8, 49, 37, 0)),
+    ),
+    (
+        "Tue, 11 Aug 2015 16:41:42 GMT",
+        Some((2015, 8, 11, 16, 41, 42, 0)),
+    ),
+    (
+        "Wed, 09 Jun 2021 10:18:14 GMT",
+        Some((2021, 6, 9, 10, 18, 14, 0)),
+    ),
+    ("01 Jan 69 00:00:00", Some((2069, 1, 1, 0, 0, 0, 0))),
+    ("01 Jan 70 00:00:00", Some((1970, 1, 1, 0, 0, 0, 0))),
+    ("31 Dec 99 23:59:59", Some((1999, 12, 31, 23, 59, 59, 0))),
+    ("31 Dec 1600 23:59:59", None),
+    ("1 Jan 1601 0:0:0", Some((1601, 1, 1, 0, 0, 0, 0))),
+    ("31 Feb 2100 00:00:00", None),
+    ("1 Jan 2000 24:00:00", None),
+    ("1 Jan 2000 00:60:00", None),
+    ("1 Jan 2000 00:00:60", None),
+    ("001 Jan 2000 00:00:00", None),
+    ("10:20:30 1 Jan 2000", Some((2000, 1, 1, 10, 20, 30, 0))),
+    ("1 Jan 2000 10:20:30x", Some((2000, 1, 1, 10, 20, 30, 0))),
+    (
+        "1 Jan 2000 10:20:30 11:11:11",
+        Some((2000, 1, 1, 10, 20, 30, 0)),
+    ),
+    ("10:20:30 1 Jan 11:22:33", Some((2011, 1, 1, 10, 20, 30, 0))),
+    (
+        "12:00:00 13:00:00 Jan 2000",
+        Some((2000, 1, 13, 12, 0, 0, 0)),
+    ),
+    (
+        "1\tJANUARY\t2000\t10:20:30",
+        Some((2000, 1, 1, 10, 20, 30, 0)),
+    ),
+    ("é 1 Jan 2000 10:20:30", Some((2000, 1, 1, 10, 20, 30, 0))),
+    ("1é Jané 2000é 10:20:30é", Some((2000, 1, 1, 10, 20, 30, 0))),
+    ("1 Jän 2000 10:20:30", None),
+    ("1 2 Jan 2000 10:20:30", Some((2000, 1, 1, 10, 20, 30, 0))),
+    ("1 2000 10:20:30", None),
+    ("", None),
+];
+
+#[test]
+fn reads_dates(rt: HostRuntime) -> Result<(), Fail> {
+    for (text, fields) in DATES {
+        is_equal(&rt, read_date(text), moment_of(*fields)?, text);
+    }
+    Ok(())
+}
+
+#[test]
+fn reads_flags_sites_and_ends(rt: HostRuntime) -> Result<(), Fail> {
+    let cookie = RawCookie::parse(
+        "a=1; SECURE=no; samesite=LAX; SameSite=x; Expires=Tue, 11 Aug 2015 16:41:42 GMT; Expires=x",
+    )?;
+    let flags = (cookie.secure(), cookie.http_only());
+    let site_and_end = (cookie.same_site(), cookie.expires());
+    let end = Expiration::DateTime(date(2015, 8, 11).at(16, 41, 42, 0));
+    let wanted = ((Some(true), None), (Some(SameSite::Lax), Some(end)));
+    is_equal(&rt, (flags, site_and_end), wanted, &"each attribute");
+    Ok(())
+}
+
+// A text, the text of its cookie, and whether that is plain.
+const TEXTS: &[(&str, &str, bool)] = &[
+    (
+        "a=1; Expires=Tue, 11 Aug 2015 16:41:42 GMT; Max-Age=10; HttpOnly",
+        "a=1; HttpOnly; Max-Age=10; Expires=Tue, 11 Aug 2015 16:41:42 GMT",
+        true,
+    ),
+    ("a=1; SameSite=None", "a=1; SameSite=None; Secure", false),
+    (
+        "a=1; SECURE=no; samesite=LAX; SameSite=x",
+        "a=1; SameSite=Lax; Secure",
+        true,
+    ),
+    (
+        "2=two; SameSite=None; Secure; Path=/; Expires=Tue, 03 Aug 2100 00:38:37 GMT",
+        "2=two; SameSite=None; Secure; Path=/; Expires=Tue, 03 Aug 2100 00:38:37 GMT",
+        true,
+    ),
+    (
+        "1=one; Expires=3 aug 2000 0:38:37",
+        "1=one; Expires=Thu, 03 Aug 2000 00:38:37 GMT",
+        true,
+    ),
+    (
+        "a=1; Domain=.a.com; Path=x",
+        "a=1; Path=x; Domain=a.com",
+        true,
+    ),
+    ("a=1; Domain=..x", "a=1; Domain=.x", false),
+    ("a=1; Domain=.", "a=1; Domain=", false),
+    (" a = \"b=c\" ; Max-Age=007", "a=\"b=c\"; Max-Age=7", true),
+];
+
+// The cookie has this text, also as it is displayed.
+fn has_text(
+    rt: &impl Abort,
+    alloc: Global,
+    cookie: &RawCookie<'_>,
+    wanted: &str,
+) -> Result<(), Fail> {
+    let text = cookie.to_text(alloc)?;
+    is_equal(rt, text.as_str(), wanted, &wanted);
+    is_written(rt, alloc, cookie, wanted)
+}
+
+// The cookie has this text, which is that of an equal cookie where it is plain.
+fn prints(
+    rt: &impl Abort,
+    alloc: Global,
+    cookie: &RawCookie<'_>,
+    printed: &str,
+    is_plain: bool,
+) -> Result<(), Fail> {
+    has_text(rt, alloc, cookie, printed)?;
+    let is_same = RawCookie::parse(printed)? == *cookie;
+    is_equal(
+        rt,
+        (cookie.is_plain(), is_same),
+        (is_plain, is_plain),
+        &printed,
+    );
+    Ok(())
+}
+
+#[test]
+fn prints_the_table(rt: HostRuntime) -> Result<(), Fail> {
+    laws::reads_back();
+    for (text, printed, is_plain) in TEXTS {
+        prints(
+            &rt,
+            rt.alloc(),
+            &RawCookie::parse(text)?,
+            printed,
+            *is_plain,
+        )?;
+    }
+    Ok(())
+}
+
+fn builder(alloc: Global, name: &str, value: &str) -> Result<RawCookieBuilder, AllocError> {
+    let name = String::from_str(alloc, name)?;
+    let value = String::from_str(alloc, value)?;
+    Ok(RawCookieBuilder::new(name, value))
+}
+
+fn open_cookie(alloc: Global) -> Result<RawCookie<'static>, AllocError> {
+    let builder = builder(alloc, "b", "2")?;
+    Ok(builder.secure(false).same_site(SameSite::None).build())
+}
+
+fn whole_cookie(alloc: Global) -> Result<RawCookie<'static>, AllocError> {
+    let path = String::from_str(alloc, "/p")?;
+    let domain = String::from_str(alloc, ".d.org")?;
+    let builder = builder(alloc, "c", "3")?
+        .expires(Expiration::Session)
+        .max_age(SignedDuration::new(-1, -500_000_000))
+        .path(path)
+        .domain(domain)
+        .secure(true)
+        .http_only(true);
+    Ok(builder.build())
+}
+
+fn is_equal_to_copy(cookie: &RawCookie<'_>) -> Result<bool, Fail> {
+    let copy = cookie.clone()?;
+    Ok(copy == *cookie)
+}
+
+fn is_open(alloc: Global, cookie: &RawCookie<'_>) -> Result<bool, Fail> {
+    let open = open_cookie(alloc)?;
+    Ok(open == *cookie)
+}
+
+// The cookie has this text, and is equal to its copy and not to the open one.
+fn is_built(
+    rt: &impl Abort,
+    alloc: Global,
+    cookie: &RawCookie<'_>,
+    text: &str,
+) -> Result<(), Fail> {
+    has_text(rt, alloc, cookie, text)?;
+    holds(rt, is_equal_to_copy(cookie)?, &text);
+    holds(rt, !is_open(alloc, cookie)?, &text);
+    Ok(())
+}
+
+#[test]
+fn builds_cookies(rt: HostRuntime) -> Result<(), Fail> {
+    let text = "b=2; SameSite=None";
+    has_text(&rt, rt.alloc(), &open_cookie(rt.alloc())?, text)?;
+    let is_plain = open_cookie(rt.alloc())?.is_plain();
+    holds(&rt, !is_plain, &text);
+    let text = "c=3; HttpOnly; Secure; Path=/p; Domain=d.org; Max-Age=-1";
+    is_built(&rt, rt.alloc(), &whole_cookie(rt.alloc())?, text)
+}

@@ -1,0 +1,92 @@
+//! Each growth refused in turn.
+use crate::lists::LIST;
+use cookie_device::Counted;
+use cookie_psl::List;
+use cookie_script::fault::{MainFault, RunFault};
+use cookie_script::run::run;
+use cookie_script::suffixes::list_of;
+use std::alloc::Global;
+use std::process::Abort;
+use std::test::Fail;
+
+// tools/refuse.c counts the growths after one of so many bytes.
+const START: usize = 48271;
+
+const SCRIPT: &[u8] = b"now 2026-01-01T00:00:00Z\n\
+    set http://a.com/ x=1\n\
+    set http://a.com/ z=1; Path=/p\n\
+    set http://a.com/ x=2\n\
+    set http://a.com/ y=1; Domain=b.com\n\
+    set http://b\xc3\xbccher.example/ d=1; Domain=B\xc3\x9cCHER.example\n\
+    fly\n\
+    get http://a.com/p/q\n\
+    list\n\
+    remove a.com /p z\n\
+    get http://xn--bcher-kva.example/\n\
+    clear";
+
+const OUTPUT: &str = "inserted\ninserted\nupdated\n\
+    refused: request-uri does not domain-match the cookie\n\
+    inserted\nbad line\nCookie: x=2; z=1\n\
+    a.com / x\na.com /p z\nxn--bcher-kva.example / d\nremoved\nCookie: d=1\ncleared\n";
+
+// Runs the script into the room, and says how many bytes it wrote.
+fn run_into(alloc: Global, room: &mut [u8]) -> (Result<(), RunFault>, usize) {
+    let size = room.len();
+    let mut source = Counted::new(SCRIPT);
+    let mut sink = Counted::new(room);
+    let outcome = run(alloc, &mut source, &mut sink, None);
+    (outcome, size.saturating_sub(sink.into_inner().len()))
+}
+
+fn is_all(rt: &impl Abort, written: &[u8]) {
+    assert_eq!(rt; written, OUTPUT.as_bytes());
+}
+
+fn is_want_of_memory(rt: &impl Abort, fault: MainFault) {
+    assert_eq!(rt; fault, MainFault::Run(RunFault::Memory));
+}
+
+fn is_beginning(rt: &impl Abort, written: &[u8]) {
+    assert!(rt; OUTPUT.as_bytes().starts_with(written));
+}
+
+fn is_of_whole_lines(rt: &impl Abort, written: &[u8]) {
+    assert!(rt; written.is_empty() || written.ends_with(b"\n"));
+}
+
+fn is_all_or_lines(rt: &impl Abort, outcome: Result<(), RunFault>, written: &[u8]) {
+    match outcome {
+        Ok(()) => is_all(rt, written),
+        Err(fault) => {
+            is_want_of_memory(rt, MainFault::Run(fault));
+            is_beginning(rt, written);
+            is_of_whole_lines(rt, written);
+        }
+    }
+}
+
+#[test]
+fn a_script(rt: HostRuntime) -> Result<(), Fail> {
+    let mut room = [0; 512];
+    let _start: Vec<u8> = Vec::with_capacity(rt.alloc(), START)?;
+    let (outcome, count) = run_into(rt.alloc(), &mut room);
+    is_all_or_lines(&rt, outcome, &room[..count.min(room.len())]);
+    Ok(())
+}
+
+// It is the list.
+fn has_rules(rt: &impl Abort, list: &List) {
+    let suffix = list.suffix("a.www.ck").map(|suffix| suffix.as_str());
+    assert_eq!(rt; suffix, Some("ck"));
+}
+
+#[test]
+fn a_list(rt: HostRuntime) -> Result<(), Fail> {
+    let _start: Vec<u8> = Vec::with_capacity(rt.alloc(), START)?;
+    match list_of(rt.alloc(), LIST) {
+        Ok(list) => has_rules(&rt, &list),
+        Err(fault) => is_want_of_memory(&rt, fault),
+    }
+    Ok(())
+}

@@ -1,0 +1,56 @@
+//! Scripts under a public suffix list.
+use crate::scripts::{is_text, output};
+use cookie_script::fault::MainFault;
+use cookie_script::suffixes::list_of;
+use std::alloc::Global;
+use std::process::Abort;
+use std::test::Fail;
+
+// Of every kind of rule.
+pub const LIST: &[u8] = b"// a comment\ncom\n*.ck\n!www.ck\n\n*.www.ck\n";
+
+const UNDER_A_LIST: &[u8] = b"now 2026-01-01T00:00:00Z\n\
+    set http://a.com/ x=1; Domain=com\n\
+    set http://a.com./ x=1; Domain=com.\n\
+    set http://com/ x=1; Domain=com\n\
+    get http://a.com/\n\
+    get http://com/\n";
+
+const OUTPUT_UNDER_A_LIST: &str = "refused: domain-attribute value is a public suffix\n\
+    refused: domain-attribute value is a public suffix\n\
+    inserted\nCookie:\nCookie: x=1\n";
+
+fn written_under_a_list(alloc: Global) -> Result<Vec<u8>, Fail> {
+    let list = list_of(alloc, LIST)?;
+    output(alloc, UNDER_A_LIST, Some(list))
+}
+
+#[test]
+fn obeys_a_public_suffix_list(rt: HostRuntime) -> Result<(), Fail> {
+    let written = written_under_a_list(rt.alloc())?;
+    is_text(
+        &rt,
+        str::from_utf8(&written)?,
+        OUTPUT_UNDER_A_LIST,
+        "a list",
+    );
+    Ok(())
+}
+
+const BAD_LISTS: [(&[u8], MainFault); 3] = [
+    (b"com\n!com\n", MainFault::BadRule(2)),
+    (b"com\n\xff\n", MainFault::CannotReadList),
+    (b"a..b\n\xff\n", MainFault::CannotReadList),
+];
+
+fn is_refused(rt: &impl Abort, alloc: Global, bytes: &[u8], fault: MainFault) {
+    let told = list_of(alloc, bytes).err();
+    assert_eq!(rt; told, Some(fault), "at {bytes:?}");
+}
+
+#[test]
+fn tells_what_is_no_list(rt: HostRuntime) {
+    for (bytes, fault) in &BAD_LISTS {
+        is_refused(&rt, rt.alloc(), bytes, *fault);
+    }
+}

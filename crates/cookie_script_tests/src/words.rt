@@ -1,0 +1,72 @@
+//! The words of the command line, and the faults.
+use cookie_script::arguments;
+use cookie_script::fault::{MainFault, RunFault};
+use cookie_script::options::Options;
+use std::alloc::{AllocError, Global};
+use std::process::Abort;
+use std::test::Fail;
+
+// Words, and the file that they name, or None where they are bad.
+const WORDS: [(&[&str], Option<Option<&str>>); 7] = [
+    (&[], Some(None)),
+    (&["--suffixes", "list.dat"], Some(Some("list.dat"))),
+    (&["--suffixes", "--suffixes"], Some(Some("--suffixes"))),
+    (&["--suffixes"], None),
+    (&["--suffixes", "a", "b"], None),
+    (&["--suffixes=a"], None),
+    (&["--help"], None),
+];
+
+fn owned(alloc: Global, words: &[&str]) -> Result<Vec<String>, AllocError> {
+    let mut owned = Vec::new(alloc);
+    for word in words {
+        owned.push(String::from_str(alloc, word)?)?;
+    }
+    Ok(owned)
+}
+
+// The words ask for the file, or are bad.
+fn asks_for(rt: &impl Abort, words: &[String], wanted: Option<Option<&str>>) {
+    let wanted = match wanted {
+        Some(suffixes) => Ok(Options { suffixes }),
+        None => Err(MainFault::BadArguments),
+    };
+    assert_eq!(rt; arguments::options(words), wanted, "at {words:?}");
+}
+
+#[test]
+fn the_list_is_the_only_option(rt: HostRuntime) -> Result<(), Fail> {
+    for (words, wanted) in &WORDS {
+        let owned = owned(rt.alloc(), words)?;
+        asks_for(&rt, owned.as_slice(), *wanted);
+    }
+    Ok(())
+}
+
+const FAULTS: [(MainFault, u8, &str); 6] = [
+    (MainFault::BadArguments, 2, "bad arguments"),
+    (MainFault::CannotReadList, 2, "cannot read list"),
+    (MainFault::BadRule(17), 2, "bad rule in line 17"),
+    (MainFault::Run(RunFault::Read), 1, "read failed"),
+    (MainFault::Run(RunFault::Write), 1, "write failed"),
+    (MainFault::Run(RunFault::Memory), 3, "out of memory"),
+];
+
+fn has_status(rt: &impl Abort, fault: MainFault, status: u8) {
+    assert_eq!(rt; fault.status(), status, "at {fault:?}");
+}
+
+fn has_text(rt: &impl Abort, alloc: Global, fault: MainFault, text: &str) -> Result<(), Fail> {
+    let printed = fault.to_string(alloc)?;
+    assert_eq!(rt; printed.as_str(), text, "at {fault:?}");
+    Ok(())
+}
+
+#[test]
+fn faults_have_a_status_and_a_text(rt: HostRuntime) -> Result<(), Fail> {
+    for (fault, status, text) in &FAULTS {
+        has_status(&rt, *fault, *status);
+        has_text(&rt, rt.alloc(), *fault, text)?;
+    }
+    Ok(())
+}

@@ -1,0 +1,132 @@
+//! Stores that are built from cookies.
+use crate::checks::{end_of, is_equal};
+use crate::steps::new_year;
+use crate::texts::{all_listed, all_rows, header, unexpired, url};
+use cookie_store::{Cookie, CookieStore, Error};
+use std::alloc::Global;
+use std::process::Abort;
+
+// A URL, and the text of a cookie that came from it.
+pub type Came = (&'static str, &'static str);
+
+pub type Item = Result<Cookie<'static>, Error>;
+
+pub fn cookie(rt: &impl Abort, alloc: Global, came: &Came) -> Cookie<'static> {
+    let url = url(rt, alloc, came.0);
+    let cookie = Cookie::parse(alloc, came.1, &url, new_year()).expect(rt, "a cookie");
+    cookie.into_owned(alloc).expect(rt, "memory")
+}
+
+pub fn items(rt: &impl Abort, alloc: Global, came: &[Came]) -> Vec<Item> {
+    let mut items = Vec::new(alloc);
+    for came in came {
+        let cookie = cookie(rt, alloc, came);
+        items.push(Ok(cookie)).expect(rt, "memory");
+    }
+    items
+}
+
+// A store of the cookies, also of those that have ended.
+pub fn store_of(rt: &impl Abort, alloc: Global, came: &[Came]) -> CookieStore {
+    let items = items(rt, alloc, came).into_iter();
+    CookieStore::from_cookies(alloc, items, true, new_year()).expect(rt, "a store")
+}
+
+const ENDED_AGAIN: [Came; 2] = [
+    ("http://a.com/", "a=1"),
+    ("http://a.com/", "a=2; Max-Age=0"),
+];
+
+const ENDED_BETWEEN: [Came; 4] = [
+    ("http://a.com/", "a=1"),
+    ("http://a.com/", "b=1"),
+    ("http://a.com/", "a=2; Max-Age=0"),
+    ("http://a.com/", "c=1; Max-Age=-1"),
+];
+
+const TWO_DOMAINS: [Came; 5] = [
+    ("http://a.com/", "x=1"),
+    ("http://b.com/", "y=1"),
+    ("http://a.com/", "z=1; Path=/p"),
+    ("http://a.com/", "w=1"),
+    ("http://b.com/", "y=2"),
+];
+
+// Cookies, whether those that have ended are included, the rows, and the cookies of all rows and of the unexpired ones.
+type Case = (
+    &'static [Came],
+    bool,
+    &'static str,
+    &'static str,
+    &'static str,
+);
+
+const BUILT: [Case; 6] = [
+    (&[], true, "", "", ""),
+    (&ENDED_AGAIN, false, "a.com / a", "a=1", "a=1"),
+    (&ENDED_AGAIN, true, "a.com / a", "a=2", ""),
+    (
+        &ENDED_BETWEEN,
+        false,
+        "a.com / a, a.com / b",
+        "a=1; b=1",
+        "a=1; b=1",
+    ),
+    (
+        &ENDED_BETWEEN,
+        true,
+        "a.com / a, a.com / b, a.com / c",
+        "a=2; b=1; c=1",
+        "b=1",
+    ),
+    (
+        &TWO_DOMAINS,
+        false,
+        "a.com / x, a.com / w, a.com /p z, b.com / y",
+        "x=1; w=1; z=1; y=2",
+        "x=1; w=1; z=1; y=2",
+    ),
+];
+
+fn is_built(rt: &impl Abort, alloc: Global, store: &CookieStore, case: &Case) {
+    let (_, _, listed, any, live) = *case;
+    let all = all_listed(rt, alloc, store);
+    is_equal(rt, &all.as_str(), &listed, case);
+    let rows = all_rows(rt, alloc, store);
+    is_equal(rt, &rows.as_str(), &any, case);
+    let rows = unexpired(rt, alloc, store, new_year());
+    let rows = header(rt, alloc, rows.as_slice());
+    is_equal(rt, &rows.as_str(), &live, case);
+}
+
+#[test]
+fn each_cookie_is_put(rt: HostRuntime) {
+    for case in &BUILT {
+        let items = items(&rt, rt.alloc(), case.0).into_iter();
+        let outcome = CookieStore::from_cookies(rt.alloc(), items, case.1, new_year());
+        let store = outcome.expect(&rt, "a store");
+        is_built(&rt, rt.alloc(), &store, case);
+    }
+}
+
+const BEFORE: [Came; 1] = [("http://a.com/", "a=1")];
+
+const AFTER: Came = ("http://a.com/", "b=1");
+
+fn items_with_errors(rt: &impl Abort, alloc: Global) -> Vec<Item> {
+    let mut items = items(rt, alloc, &BEFORE);
+    let text = String::from_str(alloc, "first").expect(rt, "memory");
+    items.push(Err(Error::Other(text))).expect(rt, "memory");
+    items.push(Err(Error::Io)).expect(rt, "memory");
+    let cookie = cookie(rt, alloc, &AFTER);
+    items.push(Ok(cookie)).expect(rt, "memory");
+    items
+}
+
+#[test]
+fn the_first_error_ends_the_building(rt: HostRuntime) {
+    let mut items = items_with_errors(&rt, rt.alloc()).into_iter();
+    let outcome = CookieStore::from_cookies(rt.alloc(), &mut items, true, new_year());
+    is_equal(&rt, &end_of(&outcome), &"first", &"the first error");
+    is_equal(&rt, &items.len(), &2, &"the items after the error");
+}

@@ -1,0 +1,135 @@
+//! Calls as values, and their replies.
+use crate::built::cookie;
+use crate::checks::is_equal;
+use crate::steps::{ENDED, INSERTED, UPDATED, new_year, store_under};
+use crate::texts::{given, url, value_of};
+use cookie_store::{Call, CookieError, CookieStore, InsertResult, Reply};
+use std::alloc::Global;
+use std::process::Abort;
+
+// What a call asks, and what it is told.
+#[derive(Clone, Copy, Debug)]
+pub enum Asked {
+    Set(&'static str, &'static str, InsertResult),
+    Insert(&'static str, &'static str, InsertResult),
+    Remove(&'static str, &'static str, &'static str, Option<&'static str>),
+    Clear,
+}
+
+const FROM: &str = "http://a.com/";
+
+const SUFFIX: Asked = Asked::Set(FROM, "x=4; Domain=com", Err(CookieError::PublicSuffix));
+
+// One after the other, and what a store under a list of one rule then gives.
+pub const CALLS: [(Asked, &str); 13] = [
+    (Asked::Set(FROM, "x=1", INSERTED), "x=1"),
+    (Asked::Insert(FROM, "y=1", INSERTED), "x=1; y=1"),
+    (Asked::Set(FROM, "x=2", UPDATED), "x=2; y=1"),
+    (
+        Asked::Set("data:x", "c=1", Err(CookieError::NonRelativeScheme)),
+        "x=2; y=1",
+    ),
+    (Asked::Set(FROM, "c", Err(CookieError::Parse)), "x=2; y=1"),
+    (Asked::Set(FROM, "x=3; Max-Age=0", ENDED), "y=1"),
+    (
+        Asked::Insert(FROM, "x=3; Max-Age=0", Err(CookieError::Expired)),
+        "y=1",
+    ),
+    (Asked::Remove("a.com", "/", "x", Some("2")), "y=1"),
+    (Asked::Remove("a.com", "/", "x", None), "y=1"),
+    (SUFFIX, "y=1"),
+    (Asked::Clear, ""),
+    (SUFFIX, ""),
+    (Asked::Insert(FROM, "x=5", INSERTED), "x=5"),
+];
+
+fn owned(rt: &impl Abort, alloc: Global, text: &str) -> String {
+    String::from_str(alloc, text).expect(rt, "memory")
+}
+
+pub fn call(rt: &impl Abort, alloc: Global, asked: &Asked) -> Call {
+    match *asked {
+        Asked::Set(from, text, _) => Call::Set {
+            text: owned(rt, alloc, text),
+            url: url(rt, alloc, from),
+            now: new_year(),
+        },
+        Asked::Insert(from, text, _) => Call::Insert {
+            cookie: cookie(rt, alloc, &(from, text)),
+            url: url(rt, alloc, from),
+            now: new_year(),
+        },
+        Asked::Remove(domain, path, name, _) => Call::Remove {
+            domain: owned(rt, alloc, domain),
+            path: owned(rt, alloc, path),
+            name: owned(rt, alloc, name),
+        },
+        Asked::Clear => Call::Clear,
+    }
+}
+
+pub fn all_calls(rt: &impl Abort, alloc: Global) -> Vec<Call> {
+    let mut calls = Vec::new(alloc);
+    for (asked, _) in &CALLS {
+        calls.push(call(rt, alloc, asked)).expect(rt, "memory");
+    }
+    calls
+}
+
+fn is_told(asked: &Asked, reply: &Reply) -> bool {
+    match (*asked, reply) {
+        (Asked::Set(_, _, wanted), Reply::Stored(reply)) => *reply == wanted,
+        (Asked::Insert(_, _, wanted), Reply::Stored(reply)) => *reply == wanted,
+        (Asked::Remove(_, _, _, wanted), Reply::Removed(row)) => value_of(row.as_ref()) == wanted,
+        (Asked::Clear, Reply::Cleared) => true,
+        _ => false,
+    }
+}
+
+// What the store gives after so many calls.
+fn after(count: usize) -> &'static str {
+    match CALLS.get(count.wrapping_sub(1)) {
+        Some((_, after)) => after,
+        None => "",
+    }
+}
+
+// The replies are those to the first calls, and the store gives what those leave.
+pub fn are_told(rt: &impl Abort, alloc: Global, store: &CookieStore, replies: &[Reply]) {
+    for (reply, (asked, _)) in replies.iter().zip(&CALLS) {
+        is_equal(rt, &is_told(asked, reply), &true, asked);
+    }
+    let header = given(rt, alloc, store, FROM, new_year());
+    is_equal(rt, &header.as_str(), &after(replies.len()), &replies.len());
+}
+
+#[test]
+fn calls_are_done_one_by_one(rt: HostRuntime) {
+    let mut store = store_under(&rt, rt.alloc(), "com");
+    let mut replies = Vec::new(rt.alloc());
+    for (asked, _) in &CALLS {
+        let call = call(&rt, rt.alloc(), asked);
+        let reply = store.apply(call).expect(&rt, "memory");
+        replies.push(reply).expect(&rt, "memory");
+        are_told(&rt, rt.alloc(), &store, replies.as_slice());
+    }
+}
+
+fn are_done_together(rt: &impl Abort, alloc: Global, store: &mut CookieStore, calls: Vec<Call>) {
+    let count = calls.len();
+    match store.apply_all(calls) {
+        Ok(replies) => {
+            is_equal(rt, &replies.len(), &count, &"the replies");
+            are_told(rt, alloc, store, replies.as_slice());
+        }
+        Err(_stopped) => panic!(rt; "memory was wanting"),
+    }
+}
+
+#[test]
+fn calls_are_done_together(rt: HostRuntime) {
+    let mut store = store_under(&rt, rt.alloc(), "com");
+    are_done_together(&rt, rt.alloc(), &mut store, Vec::new(rt.alloc()));
+    let calls = all_calls(&rt, rt.alloc());
+    are_done_together(&rt, rt.alloc(), &mut store, calls);
+}

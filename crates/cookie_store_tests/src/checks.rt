@@ -1,0 +1,29 @@
+//! Assertions of all tests, whose messages name the row of a table.
+use cookie_store::{CookieStore, Error};
+use std::fmt::Debug;
+use std::process::Abort;
+
+// The value is the one that is wanted.
+pub fn is_equal<T: Debug + PartialEq>(rt: &impl Abort, value: &T, wanted: &T, row: &impl Debug) {
+    assert_eq!(rt; value, wanted, "at {row:?}");
+}
+
+// The rows that both stores have at a place are equal.
+pub fn has_the_same_rows(rt: &impl Abort, store: &CookieStore, other: &CookieStore) {
+    for (row, same) in store.iter_any().zip(other.iter_any()) {
+        is_equal(rt, &(row == same), &true, &row.name());
+    }
+}
+
+// How a call ended: done, or by what error.
+pub fn end_of<T>(outcome: &Result<T, Error>) -> &str {
+    match outcome {
+        Ok(_) => "done",
+        Err(Error::Cookie(_)) => "a cookie",
+        Err(Error::Idna(_)) => "a domain",
+        Err(Error::Io) => "a device",
+        Err(Error::Other(text)) => text.as_str(),
+        Err(Error::Memory) => "memory",
+        Err(Error::NotUtf8) => "not UTF-8",
+    }
+}

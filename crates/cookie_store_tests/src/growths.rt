@@ -1,0 +1,512 @@
+//! Each call that takes memory answers as it does with ample memory, or says that memory is wanting.
+use crate::built::{Came, Item, cookie, items, store_of};
+use crate::calls::{Asked, CALLS, all_calls, are_told, call};
+use crate::checks::{end_of, is_equal};
+use crate::loaded::load_cookies;
+use crate::responses::raw_cookies;
+use crate::saved::{LASTING, Which};
+use crate::steps::{ENDED, INSERTED, UPDATED, new_year, store_under};
+use crate::texts::{add, all_listed, given, header, url};
+use cookie_fakes::Fake;
+use cookie_store::device::Counted;
+use cookie_store::{
+    Call, Cookie, CookieError, CookieStore, Error, InsertResult, RawCookie, Reply, RequestCookies,
+    RequestValues,
+};
+use log::sink::Discard;
+use std::alloc::{AllocError, Global};
+use std::io::Cursor;
+use std::process::Abort;
+use std::vec::IntoIter;
+use url::Url;
+
+// A growth of a size that is used for nothing else.
+fn mark(alloc: Global, size: usize) {
+    let _mark: Result<Vec<u8>, AllocError> = Vec::with_capacity(alloc, size);
+}
+
+// The growths from here on are the ones to refuse.
+fn start(alloc: Global) {
+    mark(alloc, 48_271);
+}
+
+// And those from here on are not.
+fn end(alloc: Global) {
+    mark(alloc, 48_281);
+}
+
+const FROM: &str = "http://a.b.example.com/p/q";
+
+// As many rows as a list holds before it grows, all given for `FROM`.
+const ROWS: [&str; 4] = [
+    "x=1; Domain=b.example.com; Path=/",
+    "z=1; Domain=b.example.com; Path=/p",
+    "y=1; Domain=example.com; Path=/",
+    "u=1; Domain=example.com; Path=/p",
+];
+
+const GIVEN: &str = "x=1; z=1; y=1; u=1";
+
+// One row more, so that their list has grown.
+const FIFTH: &str = "t=1";
+
+const GIVEN_OF_FIVE: &str = "x=1; z=1; y=1; u=1; t=1";
+
+fn add_rows(rt: &impl Abort, store: &mut CookieStore, url: &Url) {
+    for text in &ROWS {
+        store.parse(text, url, new_year()).expect(rt, "memory");
+    }
+}
+
+fn store_of_rows(rt: &impl Abort, alloc: Global, url: &Url) -> CookieStore {
+    let mut store = CookieStore::new(alloc);
+    add_rows(rt, &mut store, url);
+    store
+}
+
+// The store gives this text for `FROM`.
+fn gives(rt: &impl Abort, alloc: Global, store: &CookieStore, wanted: &str, row: &str) {
+    let header = given(rt, alloc, store, FROM, new_year());
+    is_equal(rt, &header.as_str(), &wanted, &row);
+}
+
+// A text, the reply, and what the store gives afterwards.
+type Case = (&'static str, InsertResult, &'static str);
+
+// A row after those of its domain and path, after those of its domain, at the end, and in the place of one of its key; a
+// row that is ended, and a cookie that has ended.
+const CASES: [Case; 6] = [
+    (
+        "w=1; Domain=b.example.com; Path=/",
+        INSERTED,
+        "x=1; w=1; z=1; y=1; u=1",
+    ),
+    (
+        "v=1; Domain=b.example.com; Path=/p/q",
+        INSERTED,
+        "x=1; z=1; v=1; y=1; u=1",
+    ),
+    ("t=1", INSERTED, "x=1; z=1; y=1; u=1; t=1"),
+    (
+        "y=2; Domain=example.com; Path=/",
+        UPDATED,
+        "x=1; z=1; y=2; u=1",
+    ),
+    (
+        "y=2; Domain=example.com; Path=/; Max-Age=0",
+        ENDED,
+        "x=1; z=1; u=1",
+    ),
+    ("s=1; Max-Age=0", Err(CookieError::Expired), GIVEN),
+];
+
+// How a cookie comes into a store.
+#[derive(Clone, Copy, Debug)]
+enum Way {
+    Parse,
+    InsertRaw,
+    Insert,
+    ApplySet,
+    ApplyInsert,
+}
+
+fn reply_to_text(alloc: Global, store: &mut CookieStore, text: &str, url: &Url) -> InsertResult {
+    start(alloc);
+    let reply = store.parse(text, url, new_year());
+    end(alloc);
+    reply
+}
+
+fn reply_to_raw(
+    alloc: Global,
+    store: &mut CookieStore,
+    raw: &RawCookie<'_>,
+    url: &Url,
+) -> InsertResult {
+    start(alloc);
+    let reply = store.insert_raw(raw, url, new_year());
+    end(alloc);
+    reply
+}
+
+fn reply_to_cookie(
+    alloc: Global,
+    store: &mut CookieStore,
+    cookie: Cookie<'static>,
+    url: &Url,
+) -> InsertResult {
+    start(alloc);
+    let reply = store.insert(cookie, url, new_year());
+    end(alloc);
+    reply
+}
+
+fn reply_to_call(
+    rt: &impl Abort,
+    alloc: Global,
+    store: &mut CookieStore,
+    call: Call,
+) -> InsertResult {
+    start(alloc);
+    let outcome = store.apply(call);
+    end(alloc);
+    match outcome {
+        Ok(Reply::Stored(Err(CookieError::Memory))) => panic!(rt; "memory is no reply"),
+        Ok(Reply::Stored(reply)) => reply,
+        Ok(_) => panic!(rt; "no reply to a cookie"),
+        Err(AllocError) => Err(CookieError::Memory),
+    }
+}
+
+fn reply_by(
+    rt: &impl Abort,
+    alloc: Global,
+    way: Way,
+    store: &mut CookieStore,
+    case: &Case,
+    url: &Url,
+) -> InsertResult {
+    let (text, wanted, _) = *case;
+    match way {
+        Way::Parse => reply_to_text(alloc, store, text, url),
+        Way::InsertRaw => {
+            let raw = RawCookie::parse(text).expect(rt, "a cookie");
+            reply_to_raw(alloc, store, &raw, url)
+        }
+        Way::Insert => {
+            let cookie = cookie(rt, alloc, &(FROM, text));
+            reply_to_cookie(alloc, store, cookie, url)
+        }
+        Way::ApplySet => {
+            let call = call(rt, alloc, &Asked::Set(FROM, text, wanted));
+            reply_to_call(rt, alloc, store, call)
+        }
+        Way::ApplyInsert => {
+            let call = call(rt, alloc, &Asked::Insert(FROM, text, wanted));
+            reply_to_call(rt, alloc, store, call)
+        }
+    }
+}
+
+// Of a cookie that is made already, memory is wanted only where it would be inserted.
+fn may_want(way: Way, wanted: InsertResult) -> bool {
+    match way {
+        Way::Parse | Way::InsertRaw | Way::ApplySet => true,
+        Way::Insert | Way::ApplyInsert => wanted == INSERTED,
+    }
+}
+
+// After the reply the store gives what the case says, or for want of memory what it gave before.
+fn is_answered(
+    rt: &impl Abort,
+    alloc: Global,
+    store: &CookieStore,
+    way: Way,
+    case: &Case,
+    reply: InsertResult,
+) {
+    let (text, wanted, after) = *case;
+    if reply == Err(CookieError::Memory) {
+        is_equal(rt, &may_want(way, wanted), &true, &(way, case));
+        gives(rt, alloc, store, GIVEN, text);
+    } else {
+        is_equal(rt, &reply, &wanted, &(way, case));
+        gives(rt, alloc, store, after, text);
+    }
+}
+
+fn are_answered(rt: &impl Abort, alloc: Global, way: Way) {
+    let url = url(rt, alloc, FROM);
+    for case in &CASES {
+        let mut store = store_of_rows(rt, alloc, &url);
+        let reply = reply_by(rt, alloc, way, &mut store, case, &url);
+        is_answered(rt, alloc, &store, way, case, reply);
+    }
+}
+
+#[test]
+fn parse(rt: HostRuntime) {
+    are_answered(&rt, rt.alloc(), Way::Parse);
+}
+
+#[test]
+fn insert_raw(rt: HostRuntime) {
+    are_answered(&rt, rt.alloc(), Way::InsertRaw);
+}
+
+#[test]
+fn insert(rt: HostRuntime) {
+    are_answered(&rt, rt.alloc(), Way::Insert);
+}
+
+#[test]
+fn apply(rt: HostRuntime) {
+    are_answered(&rt, rt.alloc(), Way::ApplySet);
+    are_answered(&rt, rt.alloc(), Way::ApplyInsert);
+}
+
+fn store_of_five(rt: &impl Abort, alloc: Global, url: &Url) -> CookieStore {
+    let mut store = store_of_rows(rt, alloc, url);
+    store.parse(FIFTH, url, new_year()).expect(rt, "memory");
+    store
+}
+
+#[test]
+fn matches(rt: HostRuntime) {
+    let url = url(&rt, rt.alloc(), FROM);
+    let store = store_of_five(&rt, rt.alloc(), &url);
+    start(rt.alloc());
+    let outcome = store.matches(&url, new_year());
+    end(rt.alloc());
+    if let Ok(cookies) = outcome {
+        let header = header(&rt, rt.alloc(), cookies.as_slice());
+        is_equal(&rt, &header.as_str(), &GIVEN_OF_FIVE, &"the cookies");
+    }
+    gives(&rt, rt.alloc(), &store, GIVEN_OF_FIVE, "the rows that stay");
+}
+
+fn are_the_values(rt: &impl Abort, alloc: Global, values: RequestValues<'_>) {
+    let values: Vec<(&str, &str)> = values.collect(alloc).expect(rt, "memory");
+    let wanted = [("x", "1"), ("z", "1"), ("y", "1"), ("u", "1"), ("t", "1")];
+    is_equal(rt, &values.as_slice(), &wanted.as_slice(), &"the values");
+}
+
+#[test]
+fn get_request_values(rt: HostRuntime) {
+    let url = url(&rt, rt.alloc(), FROM);
+    let store = store_of_five(&rt, rt.alloc(), &url);
+    start(rt.alloc());
+    let outcome = store.get_request_values(&url, new_year());
+    end(rt.alloc());
+    if let Ok(values) = outcome {
+        are_the_values(&rt, rt.alloc(), values);
+    }
+    gives(&rt, rt.alloc(), &store, GIVEN_OF_FIVE, "the rows that stay");
+}
+
+fn are_the_cookies(rt: &impl Abort, alloc: Global, cookies: RequestCookies<'_>) {
+    let mut names = String::new(alloc);
+    for cookie in cookies {
+        add(rt, &mut names, "", &[cookie.name()]);
+    }
+    is_equal(rt, &names.as_str(), &"xzyut", &"the names");
+}
+
+#[test]
+fn get_request_cookies(rt: HostRuntime) {
+    let url = url(&rt, rt.alloc(), FROM);
+    let store = store_of_five(&rt, rt.alloc(), &url);
+    start(rt.alloc());
+    let outcome = store.get_request_cookies(&url, new_year());
+    end(rt.alloc());
+    if let Ok(cookies) = outcome {
+        are_the_cookies(&rt, rt.alloc(), cookies);
+    }
+    gives(&rt, rt.alloc(), &store, GIVEN_OF_FIVE, "the rows that stay");
+}
+
+// The copy has the rows, and the list too.
+fn is_copied(rt: &impl Abort, alloc: Global, copy: &mut CookieStore, url: &Url) {
+    gives(rt, alloc, copy, GIVEN, "the copied rows");
+    let reply = copy.parse("s=1; Domain=com", url, new_year());
+    is_equal(
+        rt,
+        &reply,
+        &Err(CookieError::PublicSuffix),
+        &"the copied list",
+    );
+}
+
+#[test]
+fn clone(rt: HostRuntime) {
+    let url = url(&rt, rt.alloc(), FROM);
+    let mut store = store_under(&rt, rt.alloc(), "com");
+    add_rows(&rt, &mut store, &url);
+    start(rt.alloc());
+    let outcome: Result<CookieStore, AllocError> = store.clone();
+    end(rt.alloc());
+    if let Ok(mut copy) = outcome {
+        is_copied(&rt, rt.alloc(), &mut copy, &url);
+    }
+    gives(&rt, rt.alloc(), &store, GIVEN, "the rows that stay");
+}
+
+const CAME: [Came; 5] = [
+    ("http://a.com/", "x=1"),
+    ("http://b.com/", "y=1"),
+    ("http://a.com/", "z=1; Path=/p"),
+    ("http://a.com/", "w=1"),
+    ("http://b.com/", "v=1"),
+];
+
+fn built(alloc: Global, items: IntoIter<Item>) -> Result<CookieStore, Error> {
+    start(alloc);
+    let outcome = CookieStore::from_cookies(alloc, items, false, new_year());
+    end(alloc);
+    outcome
+}
+
+#[test]
+fn from_cookies(rt: HostRuntime) {
+    let items = items(&rt, rt.alloc(), &CAME).into_iter();
+    match built(rt.alloc(), items) {
+        Ok(store) => {
+            let listed = all_listed(&rt, rt.alloc(), &store);
+            let wanted = "a.com / x, a.com / w, a.com /p z, b.com / y, b.com / v";
+            is_equal(&rt, &listed.as_str(), &wanted, &"the rows");
+        }
+        wanting => is_equal(&rt, &end_of(&wanting), &"memory", &"the store"),
+    }
+}
+
+// The replies to the calls that were done: to all, or to fewer for want of memory.
+fn replies_to_all(
+    rt: &impl Abort,
+    alloc: Global,
+    store: &mut CookieStore,
+    calls: Vec<Call>,
+) -> Vec<Reply> {
+    start(alloc);
+    let outcome = store.apply_all(calls);
+    end(alloc);
+    match outcome {
+        Ok(replies) => {
+            is_equal(rt, &replies.len(), &CALLS.len(), &"all calls");
+            replies
+        }
+        Err(stopped) => {
+            is_equal(rt, &stopped.replies.len(), &stopped.count, &"the replies");
+            is_equal(rt, &(stopped.count < CALLS.len()), &true, &stopped.count);
+            stopped.replies
+        }
+    }
+}
+
+#[test]
+fn apply_all(rt: HostRuntime) {
+    let mut store = store_under(&rt, rt.alloc(), "com");
+    let calls = all_calls(&rt, rt.alloc());
+    let replies = replies_to_all(&rt, rt.alloc(), &mut store, calls);
+    are_told(&rt, rt.alloc(), &store, replies.as_slice());
+}
+
+// The texts of a response, of which one is refused, and what the store of four rows gives after none of them, one, two ..
+const RESPONSE: [&str; 4] = [
+    "t=1",
+    "s=1; Max-Age=0",
+    "y=2; Domain=example.com; Path=/",
+    "w=1; Domain=b.example.com; Path=/",
+];
+
+const AFTER: [&str; 5] = [
+    GIVEN,
+    "x=1; z=1; y=1; u=1; t=1",
+    "x=1; z=1; y=1; u=1; t=1",
+    "x=1; z=1; y=2; u=1; t=1",
+    "x=1; w=1; z=1; y=2; u=1; t=1",
+];
+
+// How many cookies of the response are stored: those that came before the one for which memory was wanting.
+fn stored_of_response(
+    rt: &impl Abort,
+    alloc: Global,
+    store: &mut CookieStore,
+    cookies: &mut IntoIter<RawCookie<'static>>,
+    url: &Url,
+) -> usize {
+    start(alloc);
+    let outcome = store.store_response_cookies(&Discard, &mut *cookies, url, new_year());
+    end(alloc);
+    let came = RESPONSE.len().saturating_sub(cookies.len());
+    match outcome {
+        Ok(()) => {
+            is_equal(rt, &came, &RESPONSE.len(), &"the cookies that came");
+            came
+        }
+        Err(AllocError) => came.saturating_sub(1),
+    }
+}
+
+#[test]
+fn store_response_cookies(rt: HostRuntime) {
+    let url = url(&rt, rt.alloc(), FROM);
+    let mut store = store_of_rows(&rt, rt.alloc(), &url);
+    let mut cookies = raw_cookies(&rt, rt.alloc(), &RESPONSE).into_iter();
+    let count = stored_of_response(&rt, rt.alloc(), &mut store, &mut cookies, &url);
+    let wanted = AFTER.get(count).expect(&rt, "no more cookies than came");
+    gives(&rt, rt.alloc(), &store, wanted, "after the response");
+}
+
+// The name of a row, or an empty text where memory is wanting.
+fn name_or_none(alloc: Global, row: &Cookie<'_>) -> Result<String, Error> {
+    match String::from_str(alloc, row.name()) {
+        Ok(name) => Ok(name),
+        Err(AllocError) => Ok(String::new(alloc)),
+    }
+}
+
+fn line_feeds(text: &[u8]) -> usize {
+    text.iter().filter(|b| **b == b'\n').count()
+}
+
+// How many lines are saved. The memory that is wanting is what the function asks for, which does without.
+fn lines_saved(rt: &impl Abort, alloc: Global, store: &CookieStore, which: Which) -> usize {
+    let mut writer = Counted::new(Cursor::new([0; 16]));
+    start(alloc);
+    let outcome = match which {
+        Which::All => store.save_incl_expired_and_nonpersistent(
+            &mut writer,
+            |row| name_or_none(alloc, row),
+        ),
+        Which::At(now) => store.save(&mut writer, |row| name_or_none(alloc, row), now),
+    };
+    end(alloc);
+    outcome.expect(rt, "all lines");
+    line_feeds(&writer.into_inner().into_inner())
+}
+
+fn are_saved(rt: &impl Abort, alloc: Global, which: Which) {
+    let store = store_of(rt, alloc, &LASTING);
+    let lines = lines_saved(rt, alloc, &store, which);
+    is_equal(rt, &lines, &LASTING.len(), &which);
+}
+
+#[test]
+fn save(rt: HostRuntime) {
+    are_saved(&rt, rt.alloc(), Which::At(new_year()));
+}
+
+#[test]
+fn save_incl_expired_and_nonpersistent(rt: HostRuntime) {
+    are_saved(&rt, rt.alloc(), Which::All);
+}
+
+// The lines of the store of five rows.
+const LINES: &[u8] = b"x=1; Domain=b.example.com; Path=/\n\
+    z=1; Domain=b.example.com; Path=/p\n\
+    y=1; Domain=example.com; Path=/\n\
+    u=1; Domain=example.com; Path=/p\n\
+    t=1\n";
+
+fn are_loaded(rt: &impl Abort, alloc: Global, which: Which) {
+    let url = url(rt, alloc, FROM);
+    let fake = Fake::new(LINES, usize::MAX, 0);
+    start(alloc);
+    let (outcome, failures) = load_cookies(alloc, &url, which, fake);
+    end(alloc);
+    is_equal(rt, &failures, &0, &which);
+    match outcome {
+        Ok(store) => gives(rt, alloc, &store, GIVEN_OF_FIVE, "the loaded rows"),
+        wanting => is_equal(rt, &end_of(&wanting), &"memory", &which),
+    }
+}
+
+#[test]
+fn load(rt: HostRuntime) {
+    are_loaded(&rt, rt.alloc(), Which::At(new_year()));
+}
+
+#[test]
+fn load_all(rt: HostRuntime) {
+    are_loaded(&rt, rt.alloc(), Which::All);
+}

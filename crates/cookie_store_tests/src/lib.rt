@@ -1,0 +1,29 @@
+//! Tests of the store.
+#![tactic(auto)]
+
+#[cfg(test)]
+mod built;
+#[cfg(test)]
+mod calls;
+#[cfg(test)]
+mod checks;
+#[cfg(test)]
+mod growths;
+#[cfg(test)]
+mod insertion;
+#[cfg(test)]
+mod loaded;
+#[cfg(test)]
+mod matching;
+#[cfg(test)]
+mod responses;
+#[cfg(test)]
+mod rows;
+#[cfg(test)]
+mod saved;
+#[cfg(test)]
+mod steps;
+#[cfg(test)]
+mod suffixes;
+#[cfg(test)]
+mod texts;

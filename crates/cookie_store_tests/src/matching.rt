@@ -1,0 +1,50 @@
+//! Cookies that are given for a URL.
+use crate::steps::{INSERTED, Step, new_year, take, take_all};
+use cookie_store::CookieStore;
+use jiff::civil::DateTime;
+
+const NOTHING: Step = Step::Given("http://a.com/p/q", "");
+
+#[test]
+fn a_new_store_gives_nothing(rt: HostRuntime) {
+    let mut new = CookieStore::new(rt.alloc());
+    take(&rt, rt.alloc(), &mut new, &NOTHING, DateTime::MIN);
+    let mut default = CookieStore::default(rt.alloc());
+    take(&rt, rt.alloc(), &mut default, &NOTHING, DateTime::MIN);
+}
+
+const FROM: &str = "http://a.b.example.com/x/y/z";
+
+const IN_ORDER: [Step; 4] = [
+    Step::Set(FROM, "c=3; Path=/x", INSERTED),
+    Step::Set(FROM, "a=1; Domain=example.com; Path=/", INSERTED),
+    Step::Set(FROM, "b=2; Domain=b.example.com; Path=/x/y/z", INSERTED),
+    Step::Given(FROM, "c=3; a=1; b=2"),
+];
+
+#[test]
+fn gives_in_the_order_of_insertion(rt: HostRuntime) {
+    let mut store = CookieStore::new(rt.alloc());
+    take_all(&rt, rt.alloc(), &mut store, &IN_ORDER, DateTime::MIN);
+}
+
+const LOOPBACK: [&str; 6] = [
+    "http://localhost",
+    "http://localhost:1234",
+    "http://127.0.0.1",
+    "http://127.0.0.2",
+    "http://127.1.0.1",
+    "http://[::1]",
+];
+
+#[test]
+fn secure_cookies_stay_within_this_machine(rt: HostRuntime) {
+    for from in LOOPBACK {
+        let mut store = CookieStore::new(rt.alloc());
+        let steps = [
+            Step::Set(from, "s=1; Secure", INSERTED),
+            Step::Given(from, "s=1"),
+        ];
+        take_all(&rt, rt.alloc(), &mut store, &steps, new_year());
+    }
+}

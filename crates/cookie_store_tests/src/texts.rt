@@ -1,0 +1,92 @@
+//! Cookies and rows as texts.
+use cookie_store::{Cookie, CookieStore};
+use jiff::civil::DateTime;
+use std::alloc::Global;
+use std::process::Abort;
+use url::Url;
+
+// The URL of a text that is one.
+pub fn url(rt: &impl Abort, alloc: Global, text: &str) -> Url {
+    Url::parse(alloc, text).expect(rt, "a URL")
+}
+
+// Adds the words, behind the separator unless they are the first ones.
+pub fn add(rt: &impl Abort, text: &mut String, separator: &str, words: &[&str]) {
+    if !text.is_empty() {
+        text.push_str(separator).expect(rt, "memory");
+    }
+    for word in words {
+        text.push_str(word).expect(rt, "memory");
+    }
+}
+
+// The cookies as a Cookie header lists them.
+pub fn header(rt: &impl Abort, alloc: Global, cookies: &[&Cookie<'static>]) -> String {
+    let mut header = String::new(alloc);
+    for cookie in cookies {
+        add(rt, &mut header, "; ", &[cookie.name(), "=", cookie.value()]);
+    }
+    header
+}
+
+// The same of those that the store gives for the URL.
+pub fn given(
+    rt: &impl Abort,
+    alloc: Global,
+    store: &CookieStore,
+    from: &str,
+    now: DateTime,
+) -> String {
+    let url = url(rt, alloc, from);
+    let cookies = store.matches(&url, now).expect(rt, "memory");
+    header(rt, alloc, cookies.as_slice())
+}
+
+// The same of all rows.
+pub fn all_rows(rt: &impl Abort, alloc: Global, store: &CookieStore) -> String {
+    let rows: Vec<&Cookie<'static>> = store.iter_any().collect(alloc).expect(rt, "memory");
+    header(rt, alloc, rows.as_slice())
+}
+
+// The domain, the path and the name of a row.
+pub fn key<'a>(row: &'a Cookie<'static>) -> (&'a str, &'a str, &'a str) {
+    let domain = row.domain.as_cow().unwrap_or("");
+    (domain, row.path.as_str(), row.name())
+}
+
+// Each row's domain, path and name, parted by a space.
+pub fn listed(rt: &impl Abort, alloc: Global, rows: &[&Cookie<'static>]) -> String {
+    let mut listed = String::new(alloc);
+    for row in rows {
+        let (domain, path, name) = key(row);
+        add(rt, &mut listed, ", ", &[domain, " ", path, " ", name]);
+    }
+    listed
+}
+
+// The same of all rows of the store.
+pub fn all_listed(rt: &impl Abort, alloc: Global, store: &CookieStore) -> String {
+    let rows: Vec<&Cookie<'static>> = store.iter_any().collect(alloc).expect(rt, "memory");
+    listed(rt, alloc, rows.as_slice())
+}
+
+// The rows that have not ended.
+pub fn unexpired<'a>(
+    rt: &impl Abort,
+    alloc: Global,
+    store: &'a CookieStore,
+    now: DateTime,
+) -> Vec<&'a Cookie<'static>> {
+    store
+        .iter_unexpired(now)
+        .collect(alloc)
+        .expect(rt, "memory")
+}
+
+// The value of a row, if there is one.
+pub fn value_of<'a>(row: Option<&'a Cookie<'static>>) -> Option<&'a str> {
+    match row {
+        Some(row) => Some(row.value()),
+        None => None,
+    }
+}
