@@ -1,6 +1,6 @@
-use Rattle.std.proofs.Common.{ap, ◌∙◌}
+use Rattle.std.proofs.Common.{◌≡◌, map, ap, ◌∙◌}
 use Rattle.std.proofs.lemmas.Iterator.Consumers.{YieldsList-end}
-use Rattle.cookie_raw.specs.Reading.{domain_from, expires_from, http_only_from, last_given, max_age_from, path_from, same_site_from, secure_from}
+use Rattle.cookie_raw.specs.Reading.{attributes, domain_from, expires_from, http_only_from, last_given, max_age_from, path_from, same_site_from, secure_from}
 use Rattle.cookie_raw.proofs.LastGiven.{last_given-push}
 use Rattle.cookie_raw.proofs.Pieces.{yields_attributes}
 use Rattle.cookie_raw.proofs.attributes.Attributes.of.Goals as goal
@@ -16,37 +16,29 @@ loop-piece-preserved c = record {
   expires = rw (c.take.ensures.expires, last_given-push expires_from c.loop-piece.yielded c.in-Some.piece, c.loop-piece.invariant.expires);
 }
 
-pub returns-clause-domain : goal.returns-clause-domain
-returns-clause-domain c =
+-- the pieces that were walked are the attributes
+walked : (c : goal.In-None) → map (λ x. x.now) c.loop-piece.yielded ≡ attributes c.args.text.now
+walked c =
     let road = yields_attributes c.args.text.now c.split.ensures.text c.split.ensures.has_more c.split.ensures.pattern c.skip-piece-items.ensures.source c.skip-piece-items.ensures.count c.into_iter-piece-iterator.ensures.into_iter_gives in
-    c.loop-piece.invariant.domain ∙ ap (last_given domain_from) (YieldsList-end road c.loop-piece.yielded _ c.loop-piece.yielded_by _ _ c.in-None.is c.next.ensures.steps).0
+    (YieldsList-end road c.loop-piece.yielded _ c.loop-piece.yielded_by _ _ c.in-None.is c.next.ensures.steps).0
+
+pub returns-clause-domain : goal.returns-clause-domain
+returns-clause-domain c = c.loop-piece.invariant.domain ∙ ap (last_given domain_from) (walked c)
 
 pub returns-clause-path : goal.returns-clause-path
-returns-clause-path c =
-    let road = yields_attributes c.args.text.now c.split.ensures.text c.split.ensures.has_more c.split.ensures.pattern c.skip-piece-items.ensures.source c.skip-piece-items.ensures.count c.into_iter-piece-iterator.ensures.into_iter_gives in
-    c.loop-piece.invariant.path ∙ ap (last_given path_from) (YieldsList-end road c.loop-piece.yielded _ c.loop-piece.yielded_by _ _ c.in-None.is c.next.ensures.steps).0
+returns-clause-path c = c.loop-piece.invariant.path ∙ ap (last_given path_from) (walked c)
 
 pub returns-clause-secure : goal.returns-clause-secure
-returns-clause-secure c =
-    let road = yields_attributes c.args.text.now c.split.ensures.text c.split.ensures.has_more c.split.ensures.pattern c.skip-piece-items.ensures.source c.skip-piece-items.ensures.count c.into_iter-piece-iterator.ensures.into_iter_gives in
-    c.loop-piece.invariant.secure ∙ ap (last_given secure_from) (YieldsList-end road c.loop-piece.yielded _ c.loop-piece.yielded_by _ _ c.in-None.is c.next.ensures.steps).0
+returns-clause-secure c = c.loop-piece.invariant.secure ∙ ap (last_given secure_from) (walked c)
 
 pub returns-clause-http_only : goal.returns-clause-http_only
-returns-clause-http_only c =
-    let road = yields_attributes c.args.text.now c.split.ensures.text c.split.ensures.has_more c.split.ensures.pattern c.skip-piece-items.ensures.source c.skip-piece-items.ensures.count c.into_iter-piece-iterator.ensures.into_iter_gives in
-    c.loop-piece.invariant.http_only ∙ ap (last_given http_only_from) (YieldsList-end road c.loop-piece.yielded _ c.loop-piece.yielded_by _ _ c.in-None.is c.next.ensures.steps).0
+returns-clause-http_only c = c.loop-piece.invariant.http_only ∙ ap (last_given http_only_from) (walked c)
 
 pub returns-clause-same_site : goal.returns-clause-same_site
-returns-clause-same_site c =
-    let road = yields_attributes c.args.text.now c.split.ensures.text c.split.ensures.has_more c.split.ensures.pattern c.skip-piece-items.ensures.source c.skip-piece-items.ensures.count c.into_iter-piece-iterator.ensures.into_iter_gives in
-    c.loop-piece.invariant.same_site ∙ ap (last_given same_site_from) (YieldsList-end road c.loop-piece.yielded _ c.loop-piece.yielded_by _ _ c.in-None.is c.next.ensures.steps).0
+returns-clause-same_site c = c.loop-piece.invariant.same_site ∙ ap (last_given same_site_from) (walked c)
 
 pub returns-clause-max_age : goal.returns-clause-max_age
-returns-clause-max_age c =
-    let road = yields_attributes c.args.text.now c.split.ensures.text c.split.ensures.has_more c.split.ensures.pattern c.skip-piece-items.ensures.source c.skip-piece-items.ensures.count c.into_iter-piece-iterator.ensures.into_iter_gives in
-    c.loop-piece.invariant.max_age ∙ ap (last_given max_age_from) (YieldsList-end road c.loop-piece.yielded _ c.loop-piece.yielded_by _ _ c.in-None.is c.next.ensures.steps).0
+returns-clause-max_age c = c.loop-piece.invariant.max_age ∙ ap (last_given max_age_from) (walked c)
 
 pub returns-clause-expires : goal.returns-clause-expires
-returns-clause-expires c =
-    let road = yields_attributes c.args.text.now c.split.ensures.text c.split.ensures.has_more c.split.ensures.pattern c.skip-piece-items.ensures.source c.skip-piece-items.ensures.count c.into_iter-piece-iterator.ensures.into_iter_gives in
-    c.loop-piece.invariant.expires ∙ ap (last_given expires_from) (YieldsList-end road c.loop-piece.yielded _ c.loop-piece.yielded_by _ _ c.in-None.is c.next.ensures.steps).0
+returns-clause-expires c = c.loop-piece.invariant.expires ∙ ap (last_given expires_from) (walked c)
