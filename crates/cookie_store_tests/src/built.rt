@@ -9,7 +9,7 @@ use std::process::Abort;
 // A URL, and the text of a cookie that came from it.
 pub type Came = (&'static str, &'static str);
 
-pub type Item = Result<Cookie<'static>, Error>;
+type Item = Result<Cookie<'static>, Error>;
 
 pub fn cookie(rt: &impl Abort, alloc: Global, came: &Came) -> Cookie<'static> {
     let url = url(rt, alloc, came.0);

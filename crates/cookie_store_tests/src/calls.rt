@@ -94,11 +94,16 @@ fn after(count: usize) -> &'static str {
     }
 }
 
-// The replies are those to the first calls, and the store gives what those leave.
-pub fn are_told(rt: &impl Abort, alloc: Global, store: &CookieStore, replies: &[Reply]) {
-    for (reply, (asked, _)) in replies.iter().zip(&CALLS) {
+// The replies are those to the first calls.
+fn are_replies(rt: &impl Abort, replies: &[Reply], calls: &[(Asked, &'static str)]) {
+    for (reply, (asked, _)) in replies.iter().zip(calls) {
         is_equal(rt, &is_told(asked, reply), &true, asked);
     }
+}
+
+// The same, and the store gives what those calls leave.
+pub fn are_told(rt: &impl Abort, alloc: Global, store: &CookieStore, replies: &[Reply]) {
+    are_replies(rt, replies, &CALLS);
     let header = given(rt, alloc, store, FROM, new_year());
     is_equal(rt, &header.as_str(), &after(replies.len()), &replies.len());
 }

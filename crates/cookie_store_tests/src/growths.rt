@@ -1,5 +1,5 @@
 //! Each call that takes memory answers as it does with ample memory, or says that memory is wanting.
-use crate::built::{Came, Item, cookie, items, store_of};
+use crate::built::{Came, cookie, items, store_of};
 use crate::calls::{Asked, CALLS, all_calls, are_told, call};
 use crate::checks::{end_of, is_equal};
 use crate::loaded::load_cookies;
@@ -118,23 +118,27 @@ fn reply_to_text(alloc: Global, store: &mut CookieStore, text: &str, url: &Url) 
 }
 
 fn reply_to_raw(
+    rt: &impl Abort,
     alloc: Global,
     store: &mut CookieStore,
-    raw: &RawCookie<'_>,
+    text: &'static str,
     url: &Url,
 ) -> InsertResult {
+    let raw = RawCookie::parse(text).expect(rt, "a cookie");
     start(alloc);
-    let reply = store.insert_raw(raw, url, new_year());
+    let reply = store.insert_raw(&raw, url, new_year());
     end(alloc);
     reply
 }
 
 fn reply_to_cookie(
+    rt: &impl Abort,
     alloc: Global,
     store: &mut CookieStore,
-    cookie: Cookie<'static>,
+    text: &'static str,
     url: &Url,
 ) -> InsertResult {
+    let cookie = cookie(rt, alloc, &(FROM, text));
     start(alloc);
     let reply = store.insert(cookie, url, new_year());
     end(alloc);
@@ -145,14 +149,15 @@ fn reply_to_call(
     rt: &impl Abort,
     alloc: Global,
     store: &mut CookieStore,
-    call: Call,
+    asked: &Asked,
 ) -> InsertResult {
+    let call = call(rt, alloc, asked);
     start(alloc);
     let outcome = store.apply(call);
     end(alloc);
-    match outcome {
+    match &outcome {
         Ok(Reply::Stored(Err(CookieError::Memory))) => panic!(rt; "memory is no reply"),
-        Ok(Reply::Stored(reply)) => reply,
+        Ok(Reply::Stored(reply)) => *reply,
         Ok(_) => panic!(rt; "no reply to a cookie"),
         Err(AllocError) => Err(CookieError::Memory),
     }
@@ -169,22 +174,10 @@ fn reply_by(
     let (text, wanted, _) = *case;
     match way {
         Way::Parse => reply_to_text(alloc, store, text, url),
-        Way::InsertRaw => {
-            let raw = RawCookie::parse(text).expect(rt, "a cookie");
-            reply_to_raw(alloc, store, &raw, url)
-        }
-        Way::Insert => {
-            let cookie = cookie(rt, alloc, &(FROM, text));
-            reply_to_cookie(alloc, store, cookie, url)
-        }
-        Way::ApplySet => {
-            let call = call(rt, alloc, &Asked::Set(FROM, text, wanted));
-            reply_to_call(rt, alloc, store, call)
-        }
-        Way::ApplyInsert => {
-            let call = call(rt, alloc, &Asked::Insert(FROM, text, wanted));
-            reply_to_call(rt, alloc, store, call)
-        }
+        Way::InsertRaw => reply_to_raw(rt, alloc, store, text, url),
+        Way::Insert => reply_to_cookie(rt, alloc, store, text, url),
+        Way::ApplySet => reply_to_call(rt, alloc, store, &Asked::Set(FROM, text, wanted)),
+        Way::ApplyInsert => reply_to_call(rt, alloc, store, &Asked::Insert(FROM, text, wanted)),
     }
 }
 
@@ -251,6 +244,11 @@ fn store_of_five(rt: &impl Abort, alloc: Global, url: &Url) -> CookieStore {
     store
 }
 
+fn are_given(rt: &impl Abort, alloc: Global, cookies: &[&Cookie<'static>]) {
+    let header = header(rt, alloc, cookies);
+    is_equal(rt, &header.as_str(), &GIVEN_OF_FIVE, &"the cookies");
+}
+
 #[test]
 fn matches(rt: HostRuntime) {
     let url = url(&rt, rt.alloc(), FROM);
@@ -258,9 +256,8 @@ fn matches(rt: HostRuntime) {
     start(rt.alloc());
     let outcome = store.matches(&url, new_year());
     end(rt.alloc());
-    if let Ok(cookies) = outcome {
-        let header = header(&rt, rt.alloc(), cookies.as_slice());
-        is_equal(&rt, &header.as_str(), &GIVEN_OF_FIVE, &"the cookies");
+    if let Ok(cookies) = &outcome {
+        are_given(&rt, rt.alloc(), cookies.as_slice());
     }
     gives(&rt, rt.alloc(), &store, GIVEN_OF_FIVE, "the rows that stay");
 }
@@ -323,10 +320,10 @@ fn clone(rt: HostRuntime) {
     let mut store = store_under(&rt, rt.alloc(), "com");
     add_rows(&rt, &mut store, &url);
     start(rt.alloc());
-    let outcome: Result<CookieStore, AllocError> = store.clone();
+    let mut outcome: Result<CookieStore, AllocError> = store.clone();
     end(rt.alloc());
-    if let Ok(mut copy) = outcome {
-        is_copied(&rt, rt.alloc(), &mut copy, &url);
+    if let Ok(copy) = &mut outcome {
+        is_copied(&rt, rt.alloc(), copy, &url);
     }
     gives(&rt, rt.alloc(), &store, GIVEN, "the rows that stay");
 }
@@ -339,23 +336,21 @@ const CAME: [Came; 5] = [
     ("http://b.com/", "v=1"),
 ];
 
-fn built(alloc: Global, items: IntoIter<Item>) -> Result<CookieStore, Error> {
-    start(alloc);
-    let outcome = CookieStore::from_cookies(alloc, items, false, new_year());
-    end(alloc);
-    outcome
+fn are_built(rt: &impl Abort, alloc: Global, store: &CookieStore) {
+    let listed = all_listed(rt, alloc, store);
+    let wanted = "a.com / x, a.com / w, a.com /p z, b.com / y, b.com / v";
+    is_equal(rt, &listed.as_str(), &wanted, &"the rows");
 }
 
 #[test]
 fn from_cookies(rt: HostRuntime) {
     let items = items(&rt, rt.alloc(), &CAME).into_iter();
-    match built(rt.alloc(), items) {
-        Ok(store) => {
-            let listed = all_listed(&rt, rt.alloc(), &store);
-            let wanted = "a.com / x, a.com / w, a.com /p z, b.com / y, b.com / v";
-            is_equal(&rt, &listed.as_str(), &wanted, &"the rows");
-        }
-        wanting => is_equal(&rt, &end_of(&wanting), &"memory", &"the store"),
+    start(rt.alloc());
+    let outcome = CookieStore::from_cookies(rt.alloc(), items, false, new_year());
+    end(rt.alloc());
+    match &outcome {
+        Ok(store) => are_built(&rt, rt.alloc(), store),
+        Err(_) => is_equal(&rt, &end_of(&outcome), &"memory", &"the store"),
     }
 }
 
@@ -450,7 +445,7 @@ fn line_feeds(text: &[u8]) -> usize {
 }
 
 // How many lines are saved. The memory that is wanting is what the function asks for, which does without.
-fn lines_saved(rt: &impl Abort, alloc: Global, store: &CookieStore, which: Which) -> usize {
+fn lines_saved(rt: &impl Abort, alloc: Global, store: &CookieStore, which: &Which) -> usize {
     let mut writer = Counted::new(Cursor::new([0; 16]));
     start(alloc);
     let outcome = match which {
@@ -458,27 +453,27 @@ fn lines_saved(rt: &impl Abort, alloc: Global, store: &CookieStore, which: Which
             &mut writer,
             |row| name_or_none(alloc, row),
         ),
-        Which::At(now) => store.save(&mut writer, |row| name_or_none(alloc, row), now),
+        Which::At(now) => store.save(&mut writer, |row| name_or_none(alloc, row), *now),
     };
     end(alloc);
     outcome.expect(rt, "all lines");
     line_feeds(&writer.into_inner().into_inner())
 }
 
-fn are_saved(rt: &impl Abort, alloc: Global, which: Which) {
+fn are_saved(rt: &impl Abort, alloc: Global, which: &Which) {
     let store = store_of(rt, alloc, &LASTING);
     let lines = lines_saved(rt, alloc, &store, which);
-    is_equal(rt, &lines, &LASTING.len(), &which);
+    is_equal(rt, &lines, &LASTING.len(), which);
 }
 
 #[test]
 fn save(rt: HostRuntime) {
-    are_saved(&rt, rt.alloc(), Which::At(new_year()));
+    are_saved(&rt, rt.alloc(), &Which::At(new_year()));
 }
 
 #[test]
 fn save_incl_expired_and_nonpersistent(rt: HostRuntime) {
-    are_saved(&rt, rt.alloc(), Which::All);
+    are_saved(&rt, rt.alloc(), &Which::All);
 }
 
 // The lines of the store of five rows.
@@ -488,25 +483,25 @@ const LINES: &[u8] = b"x=1; Domain=b.example.com; Path=/\n\
     u=1; Domain=example.com; Path=/p\n\
     t=1\n";
 
-fn are_loaded(rt: &impl Abort, alloc: Global, which: Which) {
+fn are_loaded(rt: &impl Abort, alloc: Global, which: &Which) {
     let url = url(rt, alloc, FROM);
     let fake = Fake::new(LINES, usize::MAX, 0);
     start(alloc);
     let (outcome, failures) = load_cookies(alloc, &url, which, fake);
     end(alloc);
-    is_equal(rt, &failures, &0, &which);
-    match outcome {
-        Ok(store) => gives(rt, alloc, &store, GIVEN_OF_FIVE, "the loaded rows"),
-        wanting => is_equal(rt, &end_of(&wanting), &"memory", &which),
+    is_equal(rt, &failures, &0, which);
+    match &outcome {
+        Ok(store) => gives(rt, alloc, store, GIVEN_OF_FIVE, "the loaded rows"),
+        Err(_) => is_equal(rt, &end_of(&outcome), &"memory", which),
     }
 }
 
 #[test]
 fn load(rt: HostRuntime) {
-    are_loaded(&rt, rt.alloc(), Which::At(new_year()));
+    are_loaded(&rt, rt.alloc(), &Which::At(new_year()));
 }
 
 #[test]
 fn load_all(rt: HostRuntime) {
-    are_loaded(&rt, rt.alloc(), Which::All);
+    are_loaded(&rt, rt.alloc(), &Which::All);
 }

@@ -60,20 +60,26 @@ impl Notes {
 // Bytes, the lines that the function is given of them, and the bytes that are not read.
 type Noted = (&'static [u8], &'static str, &'static [u8]);
 
+// The lines that were given are these, and so many bytes are left, which are the end of those that were read.
+fn is_left(rt: &impl Abort, lines: &str, left: usize, noted: &Noted) {
+    is_equal(rt, &lines, &noted.1, noted);
+    is_equal(rt, &left, &noted.2.len(), noted);
+}
+
 // Loading by reads of at most so many bytes ends so, with these lines given.
-fn is_noted(rt: &impl Abort, alloc: Global, noted: &Noted, most: usize, wanted: &str) {
-    let (bytes, given, left) = *noted;
+fn is_noted(rt: &impl Abort, alloc: Global, noted: &Noted, most: usize, wanted: &'static str) {
     let notes = Notes {
         alloc,
         url: url(rt, alloc, FROM),
         lines: RefCell::new(String::new(alloc)),
     };
-    let mut reader = Counted::new(Fake::new(bytes, most, 0));
+    let mut reader = Counted::new(Fake::new(noted.0, most, 0));
     let outcome = CookieStore::load(alloc, &mut reader, |line| notes.take(line), new_year());
-    let Notes { lines, .. } = notes;
     is_equal(rt, &end_of(&outcome), &wanted, &(noted, most));
-    is_equal(rt, &lines.into_inner().as_str(), &given, &(noted, most));
-    is_equal(rt, &reader.into_inner().inner, &left, &(noted, most));
+    let Notes { lines, .. } = notes;
+    let lines = lines.into_inner();
+    let left = reader.into_inner().inner.len();
+    is_left(rt, lines.as_str(), left, noted);
 }
 
 // Bytes, and their lines, each with a '|' behind it.
@@ -127,7 +133,7 @@ fn the_first_refusal_ends_the_loading(rt: HostRuntime) {
 pub fn load_cookies(
     alloc: Global,
     url: &Url,
-    which: Which,
+    which: &Which,
     fake: Fake<&[u8]>,
 ) -> (Result<CookieStore, Error>, u64) {
     let mut reader = Counted::new(fake);
@@ -142,14 +148,14 @@ pub fn load_cookies(
             alloc,
             &mut reader,
             move |line| cookie_of(alloc, line, url),
-            now,
+            *now,
         ),
     };
     (outcome, reader.failures())
 }
 
 // The store of the cookies of the lines, which came from `FROM`.
-fn store_of_lines(rt: &impl Abort, alloc: Global, lines: &[u8], which: Which) -> CookieStore {
+fn store_of_lines(rt: &impl Abort, alloc: Global, lines: &[u8], which: &Which) -> CookieStore {
     let url = url(rt, alloc, FROM);
     let fake = Fake::new(lines, usize::MAX, 0);
     let (outcome, _) = load_cookies(alloc, &url, which, fake);
@@ -157,7 +163,7 @@ fn store_of_lines(rt: &impl Abort, alloc: Global, lines: &[u8], which: Which) ->
 }
 
 // The lines load as these rows.
-fn load_as(rt: &impl Abort, alloc: Global, lines: &str, which: Which, wanted: &str) {
+fn load_as(rt: &impl Abort, alloc: Global, lines: &str, which: &Which, wanted: &str) {
     let store = store_of_lines(rt, alloc, lines.as_bytes(), which);
     let rows = all_rows(rt, alloc, &store);
     is_equal(rt, &rows.as_str(), &wanted, &(lines, which));
@@ -178,9 +184,9 @@ const LOADED: [(&str, &str, &str, &str); 7] = [
 fn cookies_that_have_ended_are_passed_over(rt: HostRuntime) {
     let later = date(2026, 1, 1).at(0, 1, 0, 0);
     for (lines, at_once, after, all) in LOADED {
-        load_as(&rt, rt.alloc(), lines, Which::At(new_year()), at_once);
-        load_as(&rt, rt.alloc(), lines, Which::At(later), after);
-        load_as(&rt, rt.alloc(), lines, Which::All, all);
+        load_as(&rt, rt.alloc(), lines, &Which::At(new_year()), at_once);
+        load_as(&rt, rt.alloc(), lines, &Which::At(later), after);
+        load_as(&rt, rt.alloc(), lines, &Which::All, all);
     }
 }
 
@@ -189,30 +195,29 @@ const THREE: &[u8] = b"a=1\r\nlonger=2; Domain=example.com; Path=/\nb=3";
 const THREE_ROWS: &str = "a=1; b=3; longer=2";
 
 // Which rows are loaded, by reads of at most how many bytes, and the read that fails.
-type Failing = (Which, usize, usize);
+type Failing<'a> = (&'a Which, usize, usize);
 
 // All rows are loaded, or else a read failed, which ended the loading. Says whether it is all.
-fn is_loaded_whole(rt: &impl Abort, alloc: Global, url: &Url, row: &Failing) -> bool {
+fn is_loaded_whole(rt: &impl Abort, alloc: Global, url: &Url, row: &Failing<'_>) -> bool {
     let (which, most, fails_at) = *row;
     let fake = Fake::new(THREE, most, fails_at);
     let (outcome, failures) = load_cookies(alloc, url, which, fake);
-    match outcome {
+    match &outcome {
         Ok(store) => {
             is_equal(rt, &failures, &0, row);
-            let rows = all_rows(rt, alloc, &store);
+            let rows = all_rows(rt, alloc, store);
             is_equal(rt, &rows.as_str(), &THREE_ROWS, row);
-            true
         }
-        failed => {
-            is_equal(rt, &end_of(&failed), &"a device", row);
+        Err(_) => {
+            is_equal(rt, &end_of(&outcome), &"a device", row);
             is_equal(rt, &failures, &1, row);
-            false
         }
     }
+    outcome.is_ok()
 }
 
 // Loads once for each read, which fails, and last with no failure.
-fn each_read_fails(rt: &impl Abort, alloc: Global, url: &Url, which: Which, most: usize) {
+fn each_read_fails(rt: &impl Abort, alloc: Global, url: &Url, which: &Which, most: usize) {
     for fails_at in 1..1_000 {
         if is_loaded_whole(rt, alloc, url, &(which, most, fails_at)) {
             return;
@@ -225,8 +230,8 @@ fn each_read_fails(rt: &impl Abort, alloc: Global, url: &Url, which: Which, most
 fn a_failed_read_ends_the_loading(rt: HostRuntime) {
     let url = url(&rt, rt.alloc(), FROM);
     for most in [1, 3, usize::MAX] {
-        each_read_fails(&rt, rt.alloc(), &url, Which::All, most);
-        each_read_fails(&rt, rt.alloc(), &url, Which::At(new_year()), most);
+        each_read_fails(&rt, rt.alloc(), &url, &Which::All, most);
+        each_read_fails(&rt, rt.alloc(), &url, &Which::At(new_year()), most);
     }
 }
 
@@ -250,13 +255,17 @@ fn lines_of(rt: &impl Abort, alloc: Global, store: &CookieStore) -> Vec<u8> {
     writer.into_inner()
 }
 
+fn is_the_same(rt: &impl Abort, alloc: Global, store: &CookieStore, again: &CookieStore) {
+    has_the_same_rows(rt, store, again);
+    let listed = all_listed(rt, alloc, store);
+    let listed_again = all_listed(rt, alloc, again);
+    is_equal(rt, &listed_again.as_str(), &listed.as_str(), &"the rows");
+}
+
 #[test]
 fn what_is_saved_loads_again(rt: HostRuntime) {
     let store = store_of(&rt, rt.alloc(), &ROWS);
     let lines = lines_of(&rt, rt.alloc(), &store);
-    let again = store_of_lines(&rt, rt.alloc(), lines.as_slice(), Which::All);
-    has_the_same_rows(&rt, &store, &again);
-    let listed = all_listed(&rt, rt.alloc(), &store);
-    let listed_again = all_listed(&rt, rt.alloc(), &again);
-    is_equal(&rt, &listed_again.as_str(), &listed.as_str(), &"the rows");
+    let again = store_of_lines(&rt, rt.alloc(), lines.as_slice(), &Which::All);
+    is_the_same(&rt, rt.alloc(), &store, &again);
 }

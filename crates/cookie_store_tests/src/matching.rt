@@ -2,15 +2,19 @@
 use crate::steps::{INSERTED, Step, new_year, take, take_all};
 use cookie_store::CookieStore;
 use jiff::civil::DateTime;
+use std::alloc::Global;
+use std::process::Abort;
 
 const NOTHING: Step = Step::Given("http://a.com/p/q", "");
 
+fn gives_nothing(rt: &impl Abort, alloc: Global, mut store: CookieStore) {
+    take(rt, alloc, &mut store, &NOTHING, DateTime::MIN);
+}
+
 #[test]
 fn a_new_store_gives_nothing(rt: HostRuntime) {
-    let mut new = CookieStore::new(rt.alloc());
-    take(&rt, rt.alloc(), &mut new, &NOTHING, DateTime::MIN);
-    let mut default = CookieStore::default(rt.alloc());
-    take(&rt, rt.alloc(), &mut default, &NOTHING, DateTime::MIN);
+    gives_nothing(&rt, rt.alloc(), CookieStore::new(rt.alloc()));
+    gives_nothing(&rt, rt.alloc(), CookieStore::default(rt.alloc()));
 }
 
 const FROM: &str = "http://a.b.example.com/x/y/z";

@@ -247,13 +247,17 @@ const AFTERWARDS: [Step; 2] = [Step::Listed(LISTED), Step::Clear];
 
 const LAST: Step = Step::Listed("a.com / m, b.com /p e");
 
+fn is_of_its_own(rt: &impl Abort, alloc: Global, store: &mut CookieStore, copy: &mut CookieStore) {
+    has_the_same_rows(rt, store, copy);
+    take_all(rt, alloc, copy, &COPY, new_year());
+    take_all(rt, alloc, store, &AFTERWARDS, new_year());
+    take(rt, alloc, copy, &LAST, new_year());
+}
+
 #[test]
 fn a_copy_is_a_store_of_its_own(rt: HostRuntime) {
     let mut store = store_under(&rt, rt.alloc(), "com");
     take_all(&rt, rt.alloc(), &mut store, &LIVES, new_year());
     let mut copy = store.clone().expect(&rt, "memory");
-    has_the_same_rows(&rt, &store, &copy);
-    take_all(&rt, rt.alloc(), &mut copy, &COPY, new_year());
-    take_all(&rt, rt.alloc(), &mut store, &AFTERWARDS, new_year());
-    take(&rt, rt.alloc(), &mut copy, &LAST, new_year());
+    is_of_its_own(&rt, rt.alloc(), &mut store, &mut copy);
 }

@@ -11,7 +11,7 @@ use std::cell::RefCell;
 use std::process::Abort;
 
 // Which rows are saved or loaded: all, or those that `save` or `load` chooses at the moment.
-#[derive(Clone, Copy, Debug)]
+#[derive(Debug, Drop)]
 pub enum Which {
     All,
     At(DateTime),
@@ -60,7 +60,7 @@ fn save_names(
     rt: &impl Abort,
     alloc: Global,
     store: &CookieStore,
-    which: Which,
+    which: &Which,
     refused: &str,
     fake: Fake<Vec<u8>>,
 ) -> Saved {
@@ -74,7 +74,7 @@ fn save_names(
         Which::All => {
             store.save_incl_expired_and_nonpersistent(&mut writer, |row| names.text_of(row))
         }
-        Which::At(now) => store.save(&mut writer, |row| names.text_of(row), now),
+        Which::At(now) => store.save(&mut writer, |row| names.text_of(row), *now),
     };
     let Names { asked, .. } = names;
     Saved {
@@ -105,7 +105,7 @@ fn is_saved(
     rt: &impl Abort,
     alloc: Global,
     store: &CookieStore,
-    which: Which,
+    which: &Which,
     row: &(&'static str, &'static str, &'static str),
 ) {
     let (refused, written, asked) = *row;
@@ -123,8 +123,8 @@ fn is_saved(
 fn the_first_refusal_ends_the_saving(rt: HostRuntime) {
     let store = store_of(&rt, rt.alloc(), &LASTING);
     for row in &REFUSED {
-        is_saved(&rt, rt.alloc(), &store, Which::All, row);
-        is_saved(&rt, rt.alloc(), &store, Which::At(new_year()), row);
+        is_saved(&rt, rt.alloc(), &store, &Which::All, row);
+        is_saved(&rt, rt.alloc(), &store, &Which::At(new_year()), row);
     }
 }
 
@@ -142,14 +142,14 @@ const LIVES: [Came; 6] = [
 fn rows_are_saved_in_order(rt: HostRuntime) {
     let store = store_of(&rt, rt.alloc(), &LIVES);
     let day = date(2026, 1, 1);
-    for (which, wanted) in [
+    for (which, wanted) in &[
         (Which::All, "a\ns\ne\nm\nb\nc\n"),
         (Which::At(new_year()), "a\nm\nb\nc\n"),
         (Which::At(day.at(0, 0, 59, 0)), "a\nm\nb\nc\n"),
         (Which::At(day.at(0, 1, 0, 0)), "a\nb\n"),
         (Which::At(day.at(0, 5, 0, 0)), ""),
     ] {
-        is_saved(&rt, rt.alloc(), &store, which, &("", wanted, wanted));
+        is_saved(&rt, rt.alloc(), &store, which, &("", *wanted, *wanted));
     }
 }
 
@@ -168,10 +168,10 @@ fn is_beginning(written: &str, writes: usize, most: usize) -> bool {
 }
 
 // Which rows are saved, by writes of at most how many bytes, and the write that fails.
-type Failing = (Which, usize, usize);
+type Failing<'a> = (&'a Which, usize, usize);
 
 // All is written, or else a write failed, which ended the saving with a beginning written. Says whether it is all.
-fn is_whole(rt: &impl Abort, saved: &Saved, row: &Failing) -> bool {
+fn is_whole(rt: &impl Abort, saved: &Saved, row: &Failing<'_>) -> bool {
     let written = str::from_utf8(saved.written.as_slice()).expect(rt, "UTF-8");
     let is_whole = saved.outcome.is_ok();
     if is_whole {
@@ -186,7 +186,7 @@ fn is_whole(rt: &impl Abort, saved: &Saved, row: &Failing) -> bool {
     is_whole
 }
 
-fn is_saved_whole(rt: &impl Abort, alloc: Global, store: &CookieStore, row: &Failing) -> bool {
+fn is_saved_whole(rt: &impl Abort, alloc: Global, store: &CookieStore, row: &Failing<'_>) -> bool {
     let (which, most, fails_at) = *row;
     let fake = Fake::new(Vec::new(alloc), most, fails_at);
     let saved = save_names(rt, alloc, store, which, "", fake);
@@ -198,7 +198,7 @@ fn each_write_fails(
     rt: &impl Abort,
     alloc: Global,
     store: &CookieStore,
-    which: Which,
+    which: &Which,
     most: usize,
 ) {
     for fails_at in 1..1_000 {
@@ -213,7 +213,7 @@ fn each_write_fails(
 fn a_failed_write_ends_the_saving(rt: HostRuntime) {
     let store = store_of(&rt, rt.alloc(), &NAMES);
     for most in [1, 3, usize::MAX] {
-        each_write_fails(&rt, rt.alloc(), &store, Which::All, most);
-        each_write_fails(&rt, rt.alloc(), &store, Which::At(new_year()), most);
+        each_write_fails(&rt, rt.alloc(), &store, &Which::All, most);
+        each_write_fails(&rt, rt.alloc(), &store, &Which::At(new_year()), most);
     }
 }
