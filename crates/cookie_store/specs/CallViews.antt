@@ -1,5 +1,5 @@
 -- What contracts see of calls and replies, and of the pairs of a request.
-use Rattle.std.specs.Prelude.{◌≡◌, ℕ, List, take, length, map, slice_get, Some, None, Ok, ◌<◌, ◌⊎◌, string_bytes}
+use Rattle.std.specs.Prelude.{◌≡◌, ℕ, List, ◌++◌, codes, decimal, take, length, map, slice_get, Some, None, Ok, ◌<◌, ◌⊎◌, string_bytes}
 use Rattle.cookie_words.specs.Moments.{moment_of}
 use Rattle.cookie_raw.specs.Reading.{reading}
 use Rattle.cookie_parts.specs.Cookie.{Row, early}
@@ -42,3 +42,7 @@ abbrev pub StopsAt : ℕ → List Runs.Call → Contents → Type 0
 StopsAt count calls store =
     ((count ≡ 0) × (0 < length calls))
     ⊎ ((call : Runs.Call) × (slice_get calls count ≡ Some call) × MayWant call (step store.suffixes call store.rows).reply)
+
+-- what is told of calls that stopped
+abbrev pub stopped_text : Declared.Stopped.Stopped → List ℕ
+stopped_text stopped = codes "out of memory after " ++ decimal stopped.count ++ codes " calls"

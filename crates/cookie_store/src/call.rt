@@ -8,10 +8,11 @@ use crate::InsertResult;
 use cookie_parts::{Cookie, CookieError};
 use jiff::civil::DateTime;
 use std::alloc::AllocError;
+use std::fmt;
 use url::Url;
 
 /// What a store may be asked to do.
-#[derive(Drop)]
+#[derive(Debug, Drop)]
 pub enum Call {
     /// To take the cookie of a Set-Cookie text that came from the URL at the moment.
     Set {
@@ -45,7 +46,7 @@ pub enum Call {
 }
 
 /// What a store answers to a [`Call`].
-#[derive(Drop)]
+#[derive(Debug, Drop)]
 pub enum Reply {
     /// What became of the cookie of a `Set` or an `Insert`. Never `Memory`.
     Stored(InsertResult),
@@ -56,13 +57,26 @@ pub enum Reply {
 }
 
 /// Memory ran out in a list of calls.
-#[derive(Drop)]
+#[derive(Debug, Drop)]
 pub struct Stopped {
     /// The replies to the calls that were done.
     pub replies: Vec<Reply>,
     /// How many calls were done.
     pub count: usize,
 }
+
+impl fmt::Display for Stopped {
+    ghost use Rattle.std.specs.Prelude.{Some};
+    ghost use Rattle.cookie_store.specs.CallViews.{stopped_text};
+
+    ghost output = { λ stopped. Some (stopped_text stopped) };
+
+    fn fmt<W: fmt::Write>(&self, f: &mut fmt::Formatter<W>) -> fmt::Result {
+        write!(f, "out of memory after {} calls", self.count)
+    }
+}
+
+impl std::error::Error for Stopped {}
 
 /// The reply that says what became of a cookie, unless memory ran out.
 pub(crate) fn stored(told: InsertResult) -> Result<Reply, AllocError>

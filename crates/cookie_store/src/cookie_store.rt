@@ -1,7 +1,5 @@
 //! The store.
 ghost use Rattle.std.specs.Prelude.{◌≡◌, ◌≢◌, ◌-◌, ◌^◌, ◌<◌, [], false, is_some, map, true, Err, None, Ok, Some, IfErr, IfOk, IsTrue, OnErr, OnOk, ◌⊎◌};
-ghost use Rattle.std.specs.Fn.{FnReturnsAt};
-ghost use Rattle.std.specs.Io.KnownBytes.{IsAtEnd};
 ghost use Rattle.std.specs.Iterator.{IsFinite};
 ghost use Rattle.std.specs.Option.{option_copied};
 ghost use Rattle.cookie_words.specs.Moments.{moment_of};
@@ -14,24 +12,16 @@ ghost use Rattle.cookie_rows.specs.Building.{Builds, FailsFirst, WantsRoom};
 ghost use Rattle.cookie_rows.specs.Requests.{name_and_value};
 ghost use Rattle.cookie_store.specs.CallViews.{call_view, reply_view, MayWant, StopsAfter, StopsAt};
 ghost use Rattle.cookie_laws.specs.Given.{given};
-ghost use Rattle.cookie_store.specs.Loading.{BuildsFrom, FailsToLoad, ReadsEachOnce};
-ghost use Rattle.cookie_store.specs.Responses.{TakesAll, TakesSome};
 ghost use Rattle.cookie_laws.specs.Rows.{are_rows, if_live, key_at, live_rows, row_of};
 ghost use Rattle.cookie_laws.specs.Runs.{replies, rows_after, step, Clear, Insert, IsReply, Remove, Removed, Set, Stored, UnlessMemory};
-ghost use Rattle.cookie_store.specs.Saving.{saved_rows, FailsToSave, WritesRows};
 
 use crate::call::{Call, Reply, Stopped, stored};
 use crate::insertion::{accept, owned_cookie, owned_raw_cookie};
-use crate::loading::load_rows;
-use crate::response::store_each;
-use crate::saving::save_rows;
-use cookie_device::{Sink, Source};
 use cookie_parts::{Cookie, CookieError, Error, StoreAction, StoreResult};
 use cookie_psl::List;
 use cookie_raw::RawCookie;
 use cookie_rows::{IterAny, IterUnexpired, RequestCookies, RequestValues, Rows};
 use jiff::civil::DateTime;
-use log::Log;
 use std::alloc::{AllocError, Global};
 use std::marker::Model;
 use url::Url;
@@ -125,7 +115,7 @@ impl CookieStore {
             ⊎ FailsFirst I.next_gives cookies error) }
     {
         let rows = Rows::from_cookies(alloc, cookies, include_expired, now)?;
-        Ok(store_of(alloc, rows))
+        Ok(CookieStore::of_rows(alloc, rows))
     }
 
     /// Takes the cookie of a Set-Cookie text that came from the URL at the moment: the cookie that
@@ -175,24 +165,6 @@ impl CookieStore {
     {
         let cookie = owned_raw_cookie(self.alloc, raw, url, now)?;
         self.insert(cookie, url, now)
-    }
-
-    /// Takes the cookies of a response that came from the URL at the moment, one after the other, as
-    /// [`insert_raw`](Self::insert_raw) takes them. The logger is told of each, at the level debug, of a secure one only its
-    /// name, and why one is refused, which is passed over. Where memory runs out, the cookies before stand.
-    pub fn store_response_cookies<L: Log, I: Iterator<Item = RawCookie<'static>> + Drop>(
-        &mut self,
-        logger: &L,
-        mut cookies: I,
-        url: &Url,
-        now: DateTime,
-    ) -> Result<(), AllocError>
-        requires can { I.can_next cookies }
-        requires ends { IsFinite (I.remaining cookies) }
-        ensures taken { OnOk result (TakesAll I.next_gives cookies url.now (moment_of now) self.old self.new) }
-        ensures stopped { OnErr result (TakesSome I.next_gives cookies url.now (moment_of now) self.old self.new) }
-    {
-        store_each(self, logger, &mut cookies, url, now)
     }
 
     /// The stored cookie of this domain, path and name, whether it has ended or not.
@@ -302,88 +274,6 @@ impl CookieStore {
         self.rows.request_cookies(self.alloc, url, now)
     }
 
-    /// Writes, for each cookie that has not ended by the moment and ends at one, what the function says of it and a line
-    /// feed, in the store's order. The first error that the function answers, or `Io` where the writer failed, ends this;
-    /// the lines of the cookies before are written then. It takes no memory.
-    pub fn save<W: Sink, F: Fn(&Cookie<'_>) -> Result<String, Error>>(
-        &self,
-        writer: &mut W,
-        cookie_to_string: F,
-        now: DateTime,
-    ) -> StoreResult<()>
-        requires callable { F.IsAlwaysCallable cookie_to_string }
-        requires writable { W.failed writer.old < 2 ^ 64 - 1 }
-        ensures whole { OnOk result (WritesRows (FnReturnsAt F.Fn cookie_to_string)
-            (saved_rows (moment_of now) self.now.rows) (W.contents writer.old) (W.contents writer.new)) }
-        ensures count { OnOk result (W.failed writer.new ≡ W.failed writer.old) }
-        ensures stopped { IfErr result (λ error. FailsToSave (FnReturnsAt F.Fn cookie_to_string) error
-            (saved_rows (moment_of now) self.now.rows)
-            (W.contents writer.old) (W.contents writer.new) (W.failed writer.old) (W.failed writer.new)) }
-    {
-        save_rows(&self.rows, writer, cookie_to_string, Some(now))
-    }
-
-    /// The same of all cookies, also those that have ended and those that end with the session.
-    pub fn save_incl_expired_and_nonpersistent<
-        W: Sink,
-        F: Fn(&Cookie<'_>) -> Result<String, Error>,
-    >(&self, writer: &mut W, cookie_to_string: F) -> StoreResult<()>
-        requires callable { F.IsAlwaysCallable cookie_to_string }
-        requires writable { W.failed writer.old < 2 ^ 64 - 1 }
-        ensures whole { OnOk result (WritesRows (FnReturnsAt F.Fn cookie_to_string) self.now.rows
-            (W.contents writer.old) (W.contents writer.new)) }
-        ensures count { OnOk result (W.failed writer.new ≡ W.failed writer.old) }
-        ensures stopped { IfErr result (λ error. FailsToSave (FnReturnsAt F.Fn cookie_to_string) error self.now.rows
-            (W.contents writer.old) (W.contents writer.new) (W.failed writer.old) (W.failed writer.new)) }
-    {
-        save_rows(&self.rows, writer, cookie_to_string, None)
-    }
-
-    /// A store of the cookies that the function makes of the reader's lines, each in the place of an earlier one of its
-    /// domain, path and name, without a public suffix list. Those that have ended are passed over. A line ends with a line
-    /// feed, of which a carriage return before is a part, and the last line may go without. Answers `Io` where the reader
-    /// failed, `NotUtf8` at a line that is no UTF-8, the first error that the function answers, or `Memory`.
-    pub fn load<R: Source, F: Fn(&str) -> Result<Cookie<'_>, Error>>(
-        alloc: Global,
-        reader: &mut R,
-        cookie_from_str: F,
-        now: DateTime,
-    ) -> StoreResult<CookieStore>
-        requires callable { F.IsAlwaysCallable cookie_from_str }
-        requires readable { R.failed reader.old < 2 ^ 64 - 1 }
-        ensures built { IfOk result (λ store. BuildsFrom (FnReturnsAt F.Fn cookie_from_str) (R.remaining reader.old)
-            false (moment_of now) store.rows) }
-        ensures suffixes { IfOk result (λ store. store.suffixes ≡ None) }
-        ensures read { OnOk result (IsAtEnd (R.remaining reader.new) × (R.failed reader.new ≡ R.failed reader.old)) }
-        ensures failed { IfErr result (λ error. FailsToLoad (FnReturnsAt F.Fn cookie_from_str) error
-            (R.remaining reader.old) (R.failed reader.old) (R.failed reader.new)) }
-        ensures reads { ReadsEachOnce (R.remaining reader.old) (R.reads_left reader.old) (R.reads_left reader.new) }
-    {
-        let rows = load_rows(alloc, reader, cookie_from_str, false, now)?;
-        Ok(store_of(alloc, rows))
-    }
-
-    /// The same, where cookies that have ended are kept. The moment is not looked at.
-    pub fn load_all<R: Source, F: Fn(&str) -> Result<Cookie<'_>, Error>>(
-        alloc: Global,
-        reader: &mut R,
-        cookie_from_str: F,
-        now: DateTime,
-    ) -> StoreResult<CookieStore>
-        requires callable { F.IsAlwaysCallable cookie_from_str }
-        requires readable { R.failed reader.old < 2 ^ 64 - 1 }
-        ensures built { IfOk result (λ store. BuildsFrom (FnReturnsAt F.Fn cookie_from_str) (R.remaining reader.old)
-            true (moment_of now) store.rows) }
-        ensures suffixes { IfOk result (λ store. store.suffixes ≡ None) }
-        ensures read { OnOk result (IsAtEnd (R.remaining reader.new) × (R.failed reader.new ≡ R.failed reader.old)) }
-        ensures failed { IfErr result (λ error. FailsToLoad (FnReturnsAt F.Fn cookie_from_str) error
-            (R.remaining reader.old) (R.failed reader.old) (R.failed reader.new)) }
-        ensures reads { ReadsEachOnce (R.remaining reader.old) (R.reads_left reader.old) (R.reads_left reader.new) }
-    {
-        let rows = load_rows(alloc, reader, cookie_from_str, true, now)?;
-        Ok(store_of(alloc, rows))
-    }
-
     /// Does what a call asks. Want of memory leaves the store as it was; `Remove` and `Clear` want none, `Set` only as
     /// [`parse`](Self::parse) does, and `Insert` only where the cookie would be inserted.
     pub fn apply(&mut self, call: Call) -> Result<Reply, AllocError>
@@ -443,15 +333,22 @@ impl CookieStore {
         }
         Ok(told)
     }
-}
 
-// A store of these rows, without a public suffix list.
-fn store_of(alloc: Global, rows: Rows) -> CookieStore
-    ensures { result ≡ record { rows = rows; suffixes = None } }
-{
-    CookieStore {
-        alloc,
-        rows,
-        suffixes: None,
+    // A store of these rows, without a public suffix list.
+    pub(crate) fn of_rows(alloc: Global, rows: Rows) -> CookieStore
+        ensures { result ≡ record { rows = rows; suffixes = None } }
+    {
+        CookieStore {
+            alloc,
+            rows,
+            suffixes: None,
+        }
+    }
+
+    // The rows.
+    pub(crate) fn rows(&self) -> &Rows
+        ensures { result.now ≡ self.now.rows }
+    {
+        &self.rows
     }
 }

@@ -1,6 +1,7 @@
 //! A cookie store, after RFC 6265.
 #![tactic(auto)]
 
+mod bulk;
 mod call;
 mod cookie_store;
 pub mod device;
@@ -9,11 +10,12 @@ mod loading;
 mod response;
 mod saving;
 
+pub use bulk::Bulk;
 pub use call::{Call, Reply, Stopped};
 pub use cookie_laws as laws;
 pub use cookie_parts::{
     Cookie, CookieDomain, CookieError, CookieExpiration, CookiePath, CookieResult, Error,
-    IdnaErrors, StoreAction, StoreResult, cookie_domain, cookie_path, utils,
+    IdnaErrors, StoreAction, StoreResult, StoreResult as Result, cookie_domain, cookie_path, utils,
 };
 pub use cookie_psl as psl;
 pub use cookie_raw as raw;

@@ -4,7 +4,7 @@ ghost use Rattle.std.specs.Iterator.{IsFinite};
 ghost use Rattle.cookie_words.specs.Moments.{moment_of};
 ghost use Rattle.cookie_store.specs.Responses.{TakesAll, TakesUntil};
 
-use crate::CookieStore;
+use crate::Bulk;
 use cookie_parts::CookieError;
 use cookie_raw::RawCookie;
 use jiff::civil::DateTime;
@@ -16,7 +16,7 @@ use url::Url;
 // A raw cookie as it comes: of a secure one, only the name is shown.
 #[derive(Drop)]
 struct Arrival<'a> {
-    raw: &'a RawCookie<'static>,
+    raw: &'a RawCookie<'a>,
 }
 
 impl<'a> fmt::Display for Arrival<'a> {
@@ -35,8 +35,8 @@ impl<'a> fmt::Display for Arrival<'a> {
 }
 
 /// Stores the cookies that are left, one after the other. Where memory runs out, the cookies before stand.
-pub(crate) fn store_each<L: Log, I: Iterator<Item = RawCookie<'static>>>(
-    store: &mut CookieStore,
+pub(crate) fn store_each<'c, S: Bulk, L: Log, I: Iterator<Item = RawCookie<'c>>>(
+    store: &mut S,
     logger: &L,
     cookies: &mut I,
     url: &Url,
@@ -44,13 +44,13 @@ pub(crate) fn store_each<L: Log, I: Iterator<Item = RawCookie<'static>>>(
 ) -> Result<(), AllocError>
     requires can { I.can_next cookies.old }
     requires ends { IsFinite (I.remaining cookies.old) }
-    ensures taken { OnOk result (TakesAll I.next_gives cookies.old url.now (moment_of now) store.old store.new) }
+    ensures taken { OnOk result (TakesAll I.next_gives cookies.old url.now (moment_of now) (S.contents store.old) (S.contents store.new)) }
     ensures stopped { OnErr result
-        (TakesUntil I.next_gives cookies.old cookies.new url.now (moment_of now) store.old store.new) }
+        (TakesUntil I.next_gives cookies.old cookies.new url.now (moment_of now) (S.contents store.old) (S.contents store.new)) }
 {
     while let Some(raw) = cookies.next() {
         log_arrival(logger, &raw);
-        match store.insert_raw(&raw, url, now) {
+        match store.take_raw(&raw, url, now) {
             Ok(_) => {}
             Err(CookieError::Memory) => return Err(AllocError),
             Err(refusal) => log_refusal(logger, refusal),
@@ -60,7 +60,7 @@ pub(crate) fn store_each<L: Log, I: Iterator<Item = RawCookie<'static>>>(
 }
 
 // Logs that a cookie came.
-fn log_arrival<L: Log>(logger: &L, raw: &RawCookie<'static>) {
+fn log_arrival<L: Log>(logger: &L, raw: &RawCookie<'_>) {
     debug!(logger; "{}", Arrival { raw });
 }
 

@@ -10,8 +10,8 @@ use crate::texts::{add, all_listed, given, header, url};
 use cookie_fakes::Fake;
 use cookie_store::device::Counted;
 use cookie_store::{
-    Call, Cookie, CookieError, CookieStore, Error, InsertResult, RawCookie, Reply, RequestCookies,
-    RequestValues,
+    Bulk, Call, Cookie, CookieError, CookieStore, Error, InsertResult, RawCookie, Reply,
+    RequestCookies, RequestValues,
 };
 use log::sink::Discard;
 use std::alloc::{AllocError, Global};

@@ -6,7 +6,7 @@ use crate::steps::new_year;
 use crate::texts::{all_listed, all_rows, url};
 use cookie_fakes::Fake;
 use cookie_store::device::{Counted, Source};
-use cookie_store::{Cookie, CookieError, CookieStore, Error};
+use cookie_store::{Bulk, Cookie, CookieError, CookieStore, Error};
 use jiff::civil::{DateTime, date};
 use std::alloc::{AllocError, Global};
 use std::cell::RefCell;

@@ -2,7 +2,7 @@
 use crate::checks::is_equal;
 use crate::steps::new_year;
 use crate::texts::{all_rows, url};
-use cookie_store::{CookieStore, RawCookie};
+use cookie_store::{Bulk, CookieStore, RawCookie};
 use log::Log;
 use log::sink::{Discard, Memory};
 use std::alloc::Global;

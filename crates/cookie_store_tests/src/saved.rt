@@ -4,7 +4,7 @@ use crate::checks::{end_of, is_equal};
 use crate::steps::new_year;
 use cookie_fakes::Fake;
 use cookie_store::device::{Counted, Sink};
-use cookie_store::{Cookie, CookieStore, Error};
+use cookie_store::{Bulk, Cookie, CookieStore, Error};
 use jiff::civil::{DateTime, date};
 use std::alloc::{AllocError, Global};
 use std::cell::RefCell;

@@ -7,5 +7,5 @@ abbrev pub invariant-loop-raw : goal.invariant-loop-raw
 invariant-loop-raw g l = record {
   can : (goal.iterator-loop-raw g).can_next l.cookies;
   ends : (goal.iterator-loop-raw g).is_finite l.cookies;
-  taken : Takes l.url (moment_of l.now) l.yielded l.fn.store l.store;
+  taken : Takes l.url (moment_of l.now) l.yielded (g.S.Bulk.contents l.fn.store) (g.S.Bulk.contents l.store);
 }

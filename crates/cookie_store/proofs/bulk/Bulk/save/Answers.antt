@@ -1,0 +1,7 @@
+use Rattle.std.proofs.Common.{ap, sym, ◌∙◌}
+use Rattle.cookie_store.specs.Contents.{Contents}
+use Rattle.cookie_store.proofs.bulk.Bulk.save.Goals as goal
+
+pub returns-clause-stopped : goal.returns-clause-stopped
+returns-clause-stopped g c =
+    rw (← c.rows.ensures ∙ ap (λ (s : Contents). s.rows) c.as_store.ensures) c.save_rows.ensures.stopped
