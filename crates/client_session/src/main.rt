@@ -1,0 +1,116 @@
+//! A client of one site: it keeps the cookies of the site's responses, says which ones to send, and saves them in a file from
+//! which its next run goes on.
+#![tactic(auto)]
+
+use cookie_store::device::Counted;
+use cookie_store::{Bulk, Cookie, CookieStore, Error, RawCookie};
+use jiff::civil::{DateTime, date};
+use log::Log;
+use std::alloc::Global;
+use std::fs::{self, Files};
+use url::Url;
+
+/// The file that the cookies are kept in between two runs.
+const FILE: &str = "cookies.txt";
+
+/// The headers of a response.
+const HEADERS: [(&str, &str); 4] = [
+    ("Content-Type", "text/html"),
+    ("Set-Cookie", "visit=7; Max-Age=3600"),
+    ("set-cookie", "tab=orders; Secure"),
+    ("Set-Cookie", "spy=1; Domain=other.example"),
+];
+
+/// A client's cookies of one site.
+#[derive(Drop)]
+struct Session {
+    alloc: Global,
+    site: Url,
+    store: CookieStore,
+}
+
+impl Session {
+    /// A session without cookies.
+    fn new(alloc: Global, site: Url) -> Session {
+        Session {
+            alloc,
+            site,
+            store: CookieStore::new(alloc),
+        }
+    }
+
+    /// Takes the cookies of a response's headers that came at the moment. A cookie that is refused is logged and passed over.
+    fn receive<L: Log>(
+        &mut self,
+        log: &L,
+        headers: &[(&str, &str)],
+        now: DateTime,
+    ) -> Result<(), Error> {
+        let cookies = headers
+            .iter()
+            .filter(|header| header.0.eq_ignore_ascii_case("Set-Cookie"))
+            .filter_map(|header| RawCookie::parse(header.1).ok());
+        self.store
+            .store_response_cookies(log, cookies, &self.site, now)?;
+        Ok(())
+    }
+
+    /// The value of the header `Cookie` of a request at the moment.
+    fn header(&self, now: DateTime) -> Result<String, Error> {
+        let mut header = String::new(self.alloc);
+        for (name, value) in self.store.get_request_values(&self.site, now)? {
+            if !header.is_empty() {
+                header.push_str("; ")?;
+            }
+            header.push_str(name)?;
+            header.push('=')?;
+            header.push_str(value)?;
+        }
+        Ok(header)
+    }
+
+    /// Writes the cookies that outlast the session, each as a line.
+    fn save<F: Files>(&self, files: &F, now: DateTime) -> Result<(), Error> {
+        let file = fs::create(files, FILE).map_err(|_| Error::Io)?;
+        self.store.save(
+            &mut Counted::new(file),
+            |cookie| Ok(cookie.raw().to_text(self.alloc)?),
+            now,
+        )
+    }
+
+    /// A session with the cookies that an earlier one saved.
+    fn load<F: Files>(
+        alloc: Global,
+        files: &F,
+        site: Url,
+        now: DateTime,
+    ) -> Result<Session, Error> {
+        let file = fs::open(files, FILE).map_err(|_| Error::Io)?;
+        let store = CookieStore::load(
+            alloc,
+            &mut Counted::new(file),
+            |line| Ok(Cookie::parse(alloc, line, &site, now)?),
+            now,
+        )?;
+        Ok(Session { alloc, site, store })
+    }
+}
+
+/// Two runs of the client, one after the other.
+fn run(rt: &HostRuntime) -> Result<(), Error> {
+    let (alloc, now) = (rt.alloc(), date(2026, 1, 1).at(0, 0, 0, 0));
+    let site = Url::parse(alloc, "https://shop.example/").map_err(|_| Error::Memory)?;
+    let mut first = Session::new(alloc, site.clone()?);
+    first.receive(rt, &HEADERS, now)?;
+    let header = first.header(now)?;
+    println!(rt; "Cookie: {header}").map_err(|_| Error::Io)?;
+    first.save(rt, now)?;
+    let next = Session::load(alloc, rt, site, now)?;
+    let header = next.header(now)?;
+    println!(rt; "Cookie: {header}").map_err(|_| Error::Io)
+}
+
+fn main(rt: HostRuntime) -> Result<(), Error> {
+    run(&rt)
+}

@@ -1,0 +1,93 @@
+//! A crawler of many hosts: under a public suffix list that it reads from a file, so that no host sets cookies for hosts that are
+//! not its own.
+#![tactic(auto)]
+
+use cookie_store::psl::{List, ListError};
+use cookie_store::{CookieError, CookieStore, Error};
+use jiff::civil::{DateTime, date};
+use std::alloc::Global;
+use std::fs::{self, Files};
+use url::Url;
+
+/// The file of the public suffix list.
+const FILE: &str = "suffixes.dat";
+
+/// A page, and the Set-Cookie texts that come with it.
+type Page = (&'static str, &'static [&'static str]);
+
+/// The pages, in the order in which they are visited.
+const PAGES: [Page; 5] = [
+    ("http://example.com/", &["seen=1; Domain=example.com", "all=1; Domain=com"]),
+    ("http://blog.example.com/", &["theme=dark"]),
+    ("http://alice.github.io/", &["pages=1; Domain=github.io", "mine=1"]),
+    ("http://bob.github.io/", &[]),
+    ("http://blog.example.com/2026", &[]),
+];
+
+/// Visits pages, and keeps what their hosts set.
+#[derive(Drop)]
+struct Crawler {
+    alloc: Global,
+    store: CookieStore,
+}
+
+impl Crawler {
+    /// A crawler without cookies, under the list of the file.
+    fn new<F: Files>(alloc: Global, files: &F) -> Result<Crawler, Error> {
+        let text = fs::read_to_string(files, FILE).map_err(|_| Error::Io)?;
+        let list = List::from_text(alloc, text.as_str()).map_err(|error| fault_of(alloc, error))?;
+        Ok(Crawler {
+            alloc,
+            store: CookieStore::new_with_public_suffix(alloc, Some(list)),
+        })
+    }
+
+    /// The cookies that go with a request for the page.
+    fn header(&self, page: &Url, now: DateTime) -> Result<String, Error> {
+        let mut header = String::new(self.alloc);
+        for (name, value) in self.store.get_request_values(page, now)? {
+            header.push(' ')?;
+            header.push_str(name)?;
+            header.push('=')?;
+            header.push_str(value)?;
+        }
+        Ok(header)
+    }
+
+    /// Takes a Set-Cookie text of the page, and says what became of it.
+    fn take(&mut self, text: &str, page: &Url, now: DateTime) -> Result<&'static str, Error> {
+        match self.store.parse(text, page, now) {
+            Ok(_) => Ok("taken"),
+            Err(CookieError::Memory) => Err(Error::Memory),
+            Err(refusal) => Ok(refusal.text()),
+        }
+    }
+}
+
+/// What is wrong with a list.
+fn fault_of(alloc: Global, error: ListError) -> Error {
+    match error.to_string(alloc) {
+        Ok(text) => Error::Other(text),
+        Err(_) => Error::Memory,
+    }
+}
+
+/// Visits the pages one after the other.
+fn run(rt: &HostRuntime) -> Result<(), Error> {
+    let (alloc, now) = (rt.alloc(), date(2026, 1, 1).at(0, 0, 0, 0));
+    let mut crawler = Crawler::new(alloc, rt)?;
+    for (address, texts) in &PAGES {
+        let page = Url::parse(alloc, address).map_err(|_| Error::Memory)?;
+        let header = crawler.header(&page, now)?;
+        println!(rt; "{address}{header}").map_err(|_| Error::Io)?;
+        for text in *texts {
+            let told = crawler.take(text, &page, now)?;
+            println!(rt; "  {text}: {told}").map_err(|_| Error::Io)?;
+        }
+    }
+    Ok(())
+}
+
+fn main(rt: HostRuntime) -> Result<(), Error> {
+    run(&rt)
+}
