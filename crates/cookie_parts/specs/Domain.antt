@@ -79,6 +79,10 @@ suffix_from ascii =
 abbrev pub domain_from_text : List ℕ → Option DomainValue
 domain_from_text text = option_map suffix_from (ascii_of text)
 
+-- the text names a domain, and a cookie for that is for the URL
+abbrev pub text_matches : List ℕ → Parts → Bool
+text_matches text url = passes (λ domain. domain_matches domain url) (domain_from_text text)
+
 -- `Empty` for the empty text, else `Suffix`: the leading dot of an attribute was dropped already
 abbrev pub suffix_of : List ℕ → DomainValue
 suffix_of ascii = if length ascii == 0 then Empty else Suffix ascii

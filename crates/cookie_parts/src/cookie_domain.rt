@@ -5,7 +5,7 @@ ghost use Rattle.std.specs.Option.{option_copied};
 ghost use Rattle.cookie_psl.specs.Rules.{listed};
 ghost use Rattle.cookie_parts.specs.Cookie.{host_alone};
 ghost use Rattle.cookie_parts.specs.Domain as Domain;
-ghost use Rattle.cookie_parts.specs.Domain.{ascii_of, domain_from_attribute, domain_from_text, domain_matches, domain_text, host_is_identical, is_public_suffix, text_if_any, IsForHost};
+ghost use Rattle.cookie_parts.specs.Domain.{ascii_of, domain_from_attribute, domain_from_text, domain_matches, domain_text, host_is_identical, is_public_suffix, text_if_any, text_matches, IsForHost};
 ghost use Rattle.cookie_parts.specs.Hosts.{covers, host_of};
 ghost use Rattle.cookie_parts.specs.Outcomes.{Gives, GivesAscii, GivesDomain};
 ghost use Rattle.cookie_parts.specs.Views.{domain_value};
@@ -152,6 +152,18 @@ impl CookieDomain {
             CookieDomain::HostOnly(domain) | CookieDomain::Suffix(domain) => Some(domain.as_str()),
             CookieDomain::NotPresent | CookieDomain::Empty => None,
         }
+    }
+}
+
+/// Whether a cookie for the domain that the text names is for the host of the URL. It is not where the text is no domain
+/// name.
+pub fn is_match(alloc: Global, domain: &str, url: &Url) -> Result<bool, AllocError>
+    ensures { IfOk result (λ is_for. is_for ≡ text_matches domain.now url.now) }
+{
+    match CookieDomain::try_from_str(alloc, domain) {
+        Ok(domain) => Ok(domain.matches(url)),
+        Err(Error::Memory) => Err(AllocError),
+        Err(_) => Ok(false),
     }
 }
 
