@@ -5,7 +5,7 @@ ghost use Rattle.std.specs.Option.{option_copied};
 ghost use Rattle.cookie_psl.specs.Rules.{listed};
 ghost use Rattle.cookie_parts.specs.Cookie.{host_alone};
 ghost use Rattle.cookie_parts.specs.Domain as Domain;
-ghost use Rattle.cookie_parts.specs.Domain.{ascii_of, domain_from_attribute, domain_from_text, domain_matches, domain_text, host_is_identical, is_public_suffix, text_if_any, text_matches, IsForHost};
+ghost use Rattle.cookie_parts.specs.Domain.{ascii_of, compare_domains, domain_from_attribute, domain_from_text, domain_matches, domain_text, host_is_identical, is_public_suffix, text_if_any, text_matches, IsForHost};
 ghost use Rattle.cookie_parts.specs.Hosts.{covers, host_of};
 ghost use Rattle.cookie_parts.specs.Outcomes.{Gives, GivesAscii, GivesDomain};
 ghost use Rattle.cookie_parts.specs.Views.{domain_value};
@@ -18,6 +18,7 @@ use cookie_words::without_dot;
 use idna::{AsciiDenyList, Errors, domain_to_ascii_cow};
 use std::alloc::{AllocError, Global};
 use std::borrow::CowStr;
+use std::cmp::Ordering;
 use url::Url;
 
 /// The hosts that a cookie is for. Domains are ordered by their kinds, as they stand here, and then by their texts.
@@ -153,6 +154,13 @@ impl CookieDomain {
             CookieDomain::NotPresent | CookieDomain::Empty => None,
         }
     }
+}
+
+/// The order of domains: by their kinds, as they stand in [`CookieDomain`], and then by their texts.
+pub fn compare(first: &CookieDomain, second: &CookieDomain) -> Ordering
+    ensures { result ≡ compare_domains (domain_value first.now) (domain_value second.now) }
+{
+    first.cmp(second)
 }
 
 /// Whether a cookie for the domain that the text names is for the host of the URL. It is not where the text is no domain
