@@ -11,11 +11,11 @@ ghost use Rattle.cookie_parts.specs.Outcomes.{Gives, GivesAscii, GivesDomain};
 ghost use Rattle.cookie_parts.specs.Views.{domain_value};
 
 use crate::utils::is_host_name;
-use crate::{CookieError, Error, IdnaErrors};
+use crate::{CookieError, Error};
 use cookie_psl::List;
 use cookie_raw::RawCookie;
 use cookie_words::without_dot;
-use idna::{AsciiDenyList, Errors, domain_to_ascii_cow};
+use idna::{AsciiDenyList, domain_to_ascii_cow};
 use std::alloc::{AllocError, Global};
 use std::borrow::CowStr;
 use std::cmp::Ordering;
@@ -180,20 +180,14 @@ pub fn is_match(alloc: Global, domain: &str, url: &Url) -> Result<bool, AllocErr
 fn to_ascii(alloc: Global, domain: &str) -> Result<CowStr<'_>, Error>
     ensures { GivesAscii result (ascii_of domain.now) }
 {
-    match domain_to_ascii_cow(alloc, domain.trim().as_bytes(), AsciiDenyList::EMPTY) {
-        Ok(ascii) => Ok(ascii),
-        Err(Errors::Invalid) => Err(Error::Idna(IdnaErrors::from(Errors::Invalid))),
-        Err(Errors::OutOfMemory) => Err(Error::Memory),
-    }
+    let domain = domain.trim().as_bytes();
+    Ok(domain_to_ascii_cow(alloc, domain, AsciiDenyList::EMPTY)?)
 }
 
 fn suffix(alloc: Global, domain: &str) -> Result<CookieDomain, Error>
     ensures { GivesDomain result (Some (Domain.Suffix domain.now)) }
 {
-    match String::from_str(alloc, domain) {
-        Ok(domain) => Ok(CookieDomain::Suffix(domain)),
-        Err(_) => Err(Error::Memory),
-    }
+    Ok(CookieDomain::Suffix(String::from_str(alloc, domain)?))
 }
 
 // Whether the domain is its own public suffix, by a listed rule.
