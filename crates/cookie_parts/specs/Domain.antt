@@ -1,8 +1,9 @@
 -- The hosts that a cookie is for, after RFC 6265 5.1.3 and 5.3 step 6.
 use Rattle.std.specs.Prelude.{◌≡◌, ℕ, ◌==◌, Bool, false, ◌||◌, List, [], bytes_eq, codes, length, nat_eq, Option, Some, None, option_map, if◌then◌else◌}
 use Rattle.std.specs.Cmp.{IsEquivalence, and_equiv, on_equiv, nat_eq_equiv}
-use Rattle.std.specs.Cmp.Lexicographic.{on_texts_equal, pointwise}
-use Rattle.std.specs.Ordering.{eq_of_both, on}
+use Rattle.std.specs.Cmp.Lexicographic.{on_texts_equal, pointwise, slice_cmp}
+use Rattle.std.specs.Ordering.{eq_of_both, nat_cmp, on, then_cmp}
+use Rattle.std.specs.declared.cmp.Ordering.{Ordering}
 use Rattle.std.specs.Str.{trim}
 use Rattle.idna.specs.Uts46.{domain_to_ascii}
 use Rattle.idna.specs.declared.deny_list.TheConstants.AsciiDenyList.{EMPTY}
@@ -39,6 +40,10 @@ same_domain = eq_of_both (on kind_of nat_eq) (on domain_text (pointwise nat_eq))
 -- it is an equivalence
 pub same_domain_equiv : IsEquivalence same_domain
 same_domain_equiv = and_equiv (on_equiv kind_of nat_eq_equiv) (on_texts_equal domain_text)
+
+-- ordered by the place of the kind, and then by the text
+abbrev pub compare_domains : DomainValue → DomainValue → Ordering
+compare_domains = then_cmp (on kind_of nat_cmp) (on domain_text (slice_cmp nat_cmp))
 
 -- the cookie is for this host
 abbrev pub is_for_host : DomainValue → List ℕ → Bool
@@ -78,6 +83,10 @@ suffix_from ascii =
 -- the domain that a text names, unless it is refused
 abbrev pub domain_from_text : List ℕ → Option DomainValue
 domain_from_text text = option_map suffix_from (ascii_of text)
+
+-- the text names a domain, and a cookie for that is for the URL
+abbrev pub text_matches : List ℕ → Parts → Bool
+text_matches text url = passes (λ domain. domain_matches domain url) (domain_from_text text)
 
 -- `Empty` for the empty text, else `Suffix`: the leading dot of an attribute was dropped already
 abbrev pub suffix_of : List ℕ → DomainValue

@@ -1,6 +1,8 @@
--- The texts of the refusals and faults.
+-- The texts of the refusals and faults, and the faults that stand for others.
 use Rattle.std.specs.Prelude.{ℕ, List, codes, string_bytes}
 use Rattle.idna.specs.Errors.{errors_text}
+use Rattle.idna.specs.declared.Errors.{Errors}
+use Rattle.idna.specs.declared.Errors.TheVariants as Idna
 use Rattle.cookie_parts.specs.declared.cookie_error.CookieError.{CookieError}
 use Rattle.cookie_parts.specs.declared.cookie_error.CookieError.TheVariants.{NonHttpScheme, NonRelativeScheme, DomainMismatch, Expired, Parse, PublicSuffix, UnspecifiedDomain, Memory}
 use Rattle.cookie_parts.specs.declared.error.Error.{Error}
@@ -25,3 +27,13 @@ fault_text Fault.Io = codes "a read or a write failed"
 fault_text (Fault.Other text) = string_bytes text
 fault_text Fault.Memory = codes "out of memory"
 fault_text Fault.NotUtf8 = codes "a text is not UTF-8"
+
+-- the fault that a refusal is: want of memory is no refusal
+abbrev pub fault_of_refusal : CookieError → Error
+fault_of_refusal Memory = Fault.Memory
+fault_of_refusal refusal = Fault.Cookie refusal
+
+-- the fault that an error of `idna` is: want of memory is no fault of a domain
+abbrev pub fault_of_idna : Errors → Error
+fault_of_idna Idna.Invalid = Fault.Idna (record { fault = Idna.Invalid })
+fault_of_idna Idna.OutOfMemory = Fault.Memory

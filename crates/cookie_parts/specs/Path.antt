@@ -18,6 +18,10 @@ abbrev pub is_slash : ℕ → Bool
 is_slash b = b == 47
 
 -- the path begins with `/`
+abbrev pub IsAbsolute : List ℕ → Type 0
+IsAbsolute path = (rest : List ℕ) × (path ≡ 47 ∷ rest)
+
+-- the same as a test
 abbrev pub is_absolute : List ℕ → Bool
 is_absolute path = starts_with nat_eq path (47 ∷ [])
 

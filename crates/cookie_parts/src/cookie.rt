@@ -67,14 +67,20 @@ impl<'a> Cookie<'a> {
     /// The cookie of a raw cookie that came from the URL at the moment. In this order: `NonHttpScheme` where it is
     /// HttpOnly and the URL's scheme not HTTP, `Parse` where its domain is no domain name, `DomainMismatch` where its
     /// domain does not cover the URL's host, `NonRelativeScheme` where it has no domain and the URL no host.
+    /// `NonHttpScheme` wants no memory, nor does `NonRelativeScheme` where no domain is named.
+    #[tactic(auto, unfolding(crate::specs::Cookie::cookie_of))]
     pub fn try_from_raw_cookie(
         alloc: Global,
         raw: &RawCookie<'a>,
         url: &Url,
         now: DateTime,
     ) -> CookieResult<'a>
-        ensures { Gives (λ cookie. cookie) result (cookie_of raw.now url.now (moment_of now)) }
+        ensures value { Gives (λ cookie. cookie) result (cookie_of raw.now url.now (moment_of now)) }
+        ensures early { (refusal : CookieError) → early_refusal raw.now url.now ≡ Some refusal → result ≡ Err refusal }
     {
+        if let Some(refusal) = early_refusal(raw, url) {
+            return Err(refusal);
+        }
         match raw.clone() {
             Ok(raw) => Cookie::from_raw_cookie(alloc, raw, url, now),
             Err(_) => Err(CookieError::Memory),
@@ -287,6 +293,19 @@ fn is_out_of_reach(raw: &RawCookie<'_>, url: &Url) -> bool
     ensures { result ≡ is_out_of_reach raw.now url.now }
 {
     is_set(raw.http_only()) && !is_http_scheme(url)
+}
+
+// Why there is no cookie, where neither a domain in ASCII nor a path is asked for.
+fn early_refusal(raw: &RawCookie<'_>, url: &Url) -> Option<CookieError>
+    ensures { result ≡ early_refusal raw.now url.now }
+{
+    if is_out_of_reach(raw, url) {
+        Some(CookieError::NonHttpScheme)
+    } else if raw.domain().is_none() && url.host_str().is_none() {
+        Some(CookieError::NonRelativeScheme)
+    } else {
+        None
+    }
 }
 
 // When the cookie ends.

@@ -5,19 +5,20 @@ ghost use Rattle.std.specs.Option.{option_copied};
 ghost use Rattle.cookie_psl.specs.Rules.{listed};
 ghost use Rattle.cookie_parts.specs.Cookie.{host_alone};
 ghost use Rattle.cookie_parts.specs.Domain as Domain;
-ghost use Rattle.cookie_parts.specs.Domain.{ascii_of, domain_from_attribute, domain_from_text, domain_matches, domain_text, host_is_identical, is_public_suffix, text_if_any, IsForHost};
+ghost use Rattle.cookie_parts.specs.Domain.{ascii_of, compare_domains, domain_from_attribute, domain_from_text, domain_matches, domain_text, host_is_identical, is_public_suffix, text_if_any, text_matches, IsForHost};
 ghost use Rattle.cookie_parts.specs.Hosts.{covers, host_of};
 ghost use Rattle.cookie_parts.specs.Outcomes.{Gives, GivesAscii, GivesDomain};
 ghost use Rattle.cookie_parts.specs.Views.{domain_value};
 
 use crate::utils::is_host_name;
-use crate::{CookieError, Error, IdnaErrors};
+use crate::{CookieError, Error};
 use cookie_psl::List;
 use cookie_raw::RawCookie;
 use cookie_words::without_dot;
-use idna::{AsciiDenyList, Errors, domain_to_ascii_cow};
+use idna::{AsciiDenyList, domain_to_ascii_cow};
 use std::alloc::{AllocError, Global};
 use std::borrow::CowStr;
+use std::cmp::Ordering;
 use url::Url;
 
 /// The hosts that a cookie is for. Domains are ordered by their kinds, as they stand here, and then by their texts.
@@ -155,25 +156,38 @@ impl CookieDomain {
     }
 }
 
+/// The order of domains: by their kinds, as they stand in [`CookieDomain`], and then by their texts.
+pub fn compare(first: &CookieDomain, second: &CookieDomain) -> Ordering
+    ensures { result ≡ compare_domains (domain_value first.now) (domain_value second.now) }
+{
+    first.cmp(second)
+}
+
+/// Whether a cookie for the domain that the text names is for the host of the URL. It is not where the text is no domain
+/// name.
+pub fn is_match(alloc: Global, domain: &str, url: &Url) -> Result<bool, AllocError>
+    ensures { IfOk result (λ is_for. is_for ≡ text_matches domain.now url.now) }
+{
+    match CookieDomain::try_from_str(alloc, domain) {
+        Ok(domain) => Ok(domain.matches(url)),
+        Err(Error::Memory) => Err(AllocError),
+        Err(_) => Ok(false),
+    }
+}
+
 // In ASCII by UTS #46, without white space at its ends.
 #[tactic(auto, unfolding(crate::specs::Domain::ascii_of))]
 fn to_ascii(alloc: Global, domain: &str) -> Result<CowStr<'_>, Error>
     ensures { GivesAscii result (ascii_of domain.now) }
 {
-    match domain_to_ascii_cow(alloc, domain.trim().as_bytes(), AsciiDenyList::EMPTY) {
-        Ok(ascii) => Ok(ascii),
-        Err(Errors::Invalid) => Err(Error::Idna(IdnaErrors::from(Errors::Invalid))),
-        Err(Errors::OutOfMemory) => Err(Error::Memory),
-    }
+    let domain = domain.trim().as_bytes();
+    Ok(domain_to_ascii_cow(alloc, domain, AsciiDenyList::EMPTY)?)
 }
 
 fn suffix(alloc: Global, domain: &str) -> Result<CookieDomain, Error>
     ensures { GivesDomain result (Some (Domain.Suffix domain.now)) }
 {
-    match String::from_str(alloc, domain) {
-        Ok(domain) => Ok(CookieDomain::Suffix(domain)),
-        Err(_) => Err(Error::Memory),
-    }
+    Ok(CookieDomain::Suffix(String::from_str(alloc, domain)?))
 }
 
 // Whether the domain is its own public suffix, by a listed rule.

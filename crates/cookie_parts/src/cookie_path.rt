@@ -1,7 +1,7 @@
 //! The paths that a cookie is for, RFC 6265 5.1.4 and 5.2.4.
-ghost use Rattle.std.specs.Prelude.{◌≡◌, ◌↔◌, false, Some, string_bytes, IfOk, IsTrue};
+ghost use Rattle.std.specs.Prelude.{◌≡◌, ◌↔◌, ◌&&◌, false, None, Ok, Some, string_bytes, IfOk, IsTrue};
 ghost use Rattle.url.specs.Parts.{cannot_be_a_base};
-ghost use Rattle.cookie_parts.specs.Path.{absolute_path, covers_path, default_path, from_url, path_matches, path_or_default, CoversPath};
+ghost use Rattle.cookie_parts.specs.Path.{absolute_path, covers_path, default_path, from_url, is_absolute, path_matches, path_or_default, CoversPath, IsAbsolute};
 
 use std::alloc::{AllocError, Global};
 use std::cmp::Ordering;
@@ -32,7 +32,7 @@ impl CookiePath {
         ensures meaning { IsTrue result
             ↔ (cannot_be_a_base url.now ≡ false) × CoversPath self.now.text url.now.path }
     {
-        is_match(self.as_str(), url)
+        covers_url(self.as_str(), url)
     }
 
     /// Whether a Path attribute set the path.
@@ -62,11 +62,12 @@ impl CookiePath {
         }
     }
 
-    /// The path where it begins with `/`.
+    /// The path where it begins with `/`. One that does not wants no memory.
     pub fn parse(alloc: Global, path: &str) -> Result<Option<CookiePath>, AllocError>
-        ensures { IfOk result (λ absolute. absolute ≡ absolute_path path.now) }
+        ensures value { IfOk result (λ absolute. absolute ≡ absolute_path path.now) }
+        ensures relative { absolute_path path.now ≡ None → result ≡ Ok None }
     {
-        if !path.as_bytes().starts_with(b"/") {
+        if !is_absolute(path) {
             return Ok(None);
         }
         Ok(Some(CookiePath {
@@ -184,13 +185,31 @@ impl Hash for CookiePath {
     }
 }
 
-/// Whether a cookie of this path is for the URL's path. No path is for a URL that cannot be a base.
+/// Whether a cookie of this path is for the URL's path. No path is that does not begin with `/`, and none is for a URL
+/// that cannot be a base.
 pub fn is_match(cookie_path: &str, request_url: &Url) -> bool
-    ensures value { result ≡ path_matches cookie_path.now request_url.now }
+    ensures value { result ≡ is_absolute cookie_path.now && path_matches cookie_path.now request_url.now }
     ensures meaning { IsTrue result
-        ↔ (cannot_be_a_base request_url.now ≡ false) × CoversPath cookie_path.now request_url.now.path }
+        ↔ IsAbsolute cookie_path.now × (cannot_be_a_base request_url.now ≡ false)
+        × CoversPath cookie_path.now request_url.now.path }
 {
-    !request_url.cannot_be_a_base() && covers(cookie_path.as_bytes(), request_url.path().as_bytes())
+    is_absolute(cookie_path) && covers_url(cookie_path, request_url)
+}
+
+// Whether the path begins with `/`.
+fn is_absolute(path: &str) -> bool
+    ensures value { result ≡ is_absolute path.now }
+    ensures meaning { IsTrue result ↔ IsAbsolute path.now }
+{
+    path.as_bytes().starts_with(b"/")
+}
+
+// Whether the URL can be a base, and the path covers its path.
+fn covers_url(path: &str, url: &Url) -> bool
+    ensures value { result ≡ path_matches path.now url.now }
+    ensures meaning { IsTrue result ↔ (cannot_be_a_base url.now ≡ false) × CoversPath path.now url.now.path }
+{
+    !url.cannot_be_a_base() && covers(path.as_bytes(), url.path().as_bytes())
 }
 
 // RFC 6265 5.1.4: the request path is the path and a rest, where the rest is empty, or the path ends with `/`, or the

@@ -1,9 +1,10 @@
 //! Why a call that is not about one cookie failed.
 use crate::CookieError;
+use std::alloc::{AllocError, AllocFailed};
 use std::fmt;
 
 /// The fault that `idna` found in a domain.
-#[derive(Clone, Copy, Debug)]
+#[derive(Clone, Copy, Debug, PartialEq, Eq)]
 pub struct IdnaErrors {
     fault: idna::Errors,
 }
@@ -32,7 +33,7 @@ impl fmt::Display for IdnaErrors {
 impl std::error::Error for IdnaErrors {}
 
 /// Why a call that is not about one cookie failed.
-#[derive(Debug, Drop)]
+#[derive(Debug, PartialEq, Eq, Drop)]
 pub enum Error {
     /// A cookie was refused.
     Cookie(CookieError),
@@ -67,6 +68,58 @@ impl fmt::Display for Error {
 }
 
 impl std::error::Error for Error {}
+
+/// A refusal is `Cookie`, but want of memory is `Memory`.
+impl From<CookieError> for Error {
+    ghost use Rattle.std.specs.Prelude.{◌≡◌};
+    ghost use Rattle.cookie_parts.specs.Errors.{fault_of_refusal};
+
+    ghost from_gives = { λ refusal e. e ≡ fault_of_refusal refusal };
+
+    fn from(refusal: CookieError) -> Error {
+        match refusal {
+            CookieError::Memory => Error::Memory,
+            refusal => Error::Cookie(refusal),
+        }
+    }
+}
+
+/// What `idna` refused is `Idna`, but want of memory is `Memory`.
+impl From<idna::Errors> for Error {
+    ghost use Rattle.std.specs.Prelude.{◌≡◌};
+    ghost use Rattle.cookie_parts.specs.Errors.{fault_of_idna};
+
+    ghost from_gives = { λ fault e. e ≡ fault_of_idna fault };
+
+    fn from(fault: idna::Errors) -> Error {
+        match fault {
+            idna::Errors::Invalid => Error::Idna(IdnaErrors::from(fault)),
+            idna::Errors::OutOfMemory => Error::Memory,
+        }
+    }
+}
+
+impl From<AllocError> for Error {
+    ghost use Rattle.std.specs.Prelude.{◌≡◌};
+    ghost use Rattle.cookie_parts.specs.declared.error.Error.TheVariants as Fault;
+
+    ghost from_gives = { λ _ e. e ≡ Fault.Memory };
+
+    fn from(_error: AllocError) -> Error {
+        Error::Memory
+    }
+}
+
+impl<T: Drop> From<AllocFailed<T>> for Error {
+    ghost use Rattle.std.specs.Prelude.{◌≡◌};
+    ghost use Rattle.cookie_parts.specs.declared.error.Error.TheVariants as Fault;
+
+    ghost from_gives = { λ _ e. e ≡ Fault.Memory };
+
+    fn from(_error: AllocFailed<T>) -> Error {
+        Error::Memory
+    }
+}
 
 /// What a call answers that is not about one cookie.
 pub type StoreResult<T> = Result<T, Error>;
