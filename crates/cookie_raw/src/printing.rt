@@ -1,11 +1,11 @@
 //! The text of a raw cookie, RFC 6265 4.1.1.
-ghost use Rattle.std.specs.Prelude.{◌≡◌, ◌-◌, ◌<◌, ◌++◌, false, [], codes, get_or, pos, ◌≤ℤ◌, unsigned_abs, option_map, option_and_then, unwrap_or, IfOk, string_bytes};
+ghost use Rattle.std.specs.Prelude.{◌≡◌, ◌-◌, ◌<◌, ◌++◌, false, [], codes, get_or, pos, ◌≤ℤ◌, unsigned_abs, option_map, option_and_then, unwrap_or, None, IfOk, string_bytes};
 ghost use Rattle.std.specs.Fmt.{WritesOnOk};
 ghost use Rattle.std.specs.Option.{option_copied};
 ghost use Rattle.jiff.specs.Words.{signed_nanos, monday_zero, weekday_of, IsBetween};
 ghost use Rattle.cookie_words.specs.Moments.{moment_of};
 ghost use Rattle.cookie_raw.specs.CookieDate.{month_names};
-ghost use Rattle.cookie_raw.specs.CookieText.{age_text, cookie_text, date_text, day_names, ending_text, flag, four_digits, is_for_all_sites, optional, site_text, two_digits};
+ghost use Rattle.cookie_raw.specs.CookieText.{age_text, cookie_text, date_text, day_names, ending_text, flag, four_digits, is_for_all_sites, optional, site_text, two_digits, WritesNothing};
 ghost use Rattle.cookie_raw.specs.Raw.{At};
 ghost use Rattle.cookie_raw.specs.Views.{ending};
 
@@ -131,7 +131,8 @@ fn write_date<W: fmt::Write>(f: &mut fmt::Formatter<W>, date: DateTime) -> fmt::
 
 // An attribute that has no value, where it is set.
 fn write_flag<W: fmt::Write>(f: &mut fmt::Formatter<W>, label: &str, is_set: bool) -> fmt::Result
-    ensures { WritesOnOk W.write_str_gives f.old result (flag label.now is_set) f.new }
+    ensures writes { WritesOnOk W.write_str_gives f.old result (flag label.now is_set) f.new }
+    ensures idle { is_set ≡ false → WritesNothing f.old result f.new }
 {
     if is_set { f.write_str(label) } else { Ok(()) }
 }
@@ -142,7 +143,8 @@ fn write_part<W: fmt::Write>(
     label: &str,
     value: Option<&str>,
 ) -> fmt::Result
-    ensures { WritesOnOk W.write_str_gives f.old result (optional label.now (option_copied value.entry)) f.new }
+    ensures writes { WritesOnOk W.write_str_gives f.old result (optional label.now (option_copied value.entry)) f.new }
+    ensures idle { option_copied value.entry ≡ None → WritesNothing f.old result f.new }
 {
     match value {
         Some(value) => write!(f, "{label}{value}"),
@@ -151,8 +153,9 @@ fn write_part<W: fmt::Write>(
 }
 
 fn write_site<W: fmt::Write>(f: &mut fmt::Formatter<W>, site: Option<SameSite>) -> fmt::Result
-    ensures { WritesOnOk W.write_str_gives f.old result
+    ensures writes { WritesOnOk W.write_str_gives f.old result
         (optional (codes "; SameSite=") (option_map site_text site)) f.new }
+    ensures idle { site ≡ None → WritesNothing f.old result f.new }
 {
     match site {
         Some(site) => write!(f, "; SameSite={}", site_name(site)),
@@ -161,8 +164,9 @@ fn write_site<W: fmt::Write>(f: &mut fmt::Formatter<W>, site: Option<SameSite>) 
 }
 
 fn write_age<W: fmt::Write>(f: &mut fmt::Formatter<W>, age: Option<SignedDuration>) -> fmt::Result
-    ensures { WritesOnOk W.write_str_gives f.old result
+    ensures writes { WritesOnOk W.write_str_gives f.old result
         (optional (codes "; Max-Age=") (option_map age_text (option_map signed_nanos age))) f.new }
+    ensures idle { age ≡ None → WritesNothing f.old result f.new }
 {
     match age {
         Some(age) => write!(f, "; Max-Age={}", age.as_secs()),
@@ -172,8 +176,9 @@ fn write_age<W: fmt::Write>(f: &mut fmt::Formatter<W>, age: Option<SignedDuratio
 
 // Expires at a moment, where four digits can write its year.
 fn write_moment<W: fmt::Write>(f: &mut fmt::Formatter<W>, date: DateTime) -> fmt::Result
-    ensures { WritesOnOk W.write_str_gives f.old result
+    ensures writes { WritesOnOk W.write_str_gives f.old result
         (optional (codes "; Expires=") (ending_text (At (moment_of date)))) f.new }
+    ensures idle { ending_text (At (moment_of date)) ≡ None → WritesNothing f.old result f.new }
 {
     if date.year() < 0 {
         return Ok(());
@@ -183,8 +188,9 @@ fn write_moment<W: fmt::Write>(f: &mut fmt::Formatter<W>, date: DateTime) -> fmt
 }
 
 fn write_ending<W: fmt::Write>(f: &mut fmt::Formatter<W>, expires: Expiration) -> fmt::Result
-    ensures { WritesOnOk W.write_str_gives f.old result
+    ensures writes { WritesOnOk W.write_str_gives f.old result
         (optional (codes "; Expires=") (ending_text (ending expires))) f.new }
+    ensures idle { ending_text (ending expires) ≡ None → WritesNothing f.old result f.new }
 {
     match expires {
         Expiration::DateTime(date) => write_moment(f, date),
@@ -196,8 +202,9 @@ fn write_expires<W: fmt::Write>(
     f: &mut fmt::Formatter<W>,
     expires: Option<Expiration>,
 ) -> fmt::Result
-    ensures { WritesOnOk W.write_str_gives f.old result
+    ensures writes { WritesOnOk W.write_str_gives f.old result
         (optional (codes "; Expires=") (option_and_then ending_text (option_map ending expires))) f.new }
+    ensures idle { option_and_then ending_text (option_map ending expires) ≡ None → WritesNothing f.old result f.new }
 {
     match expires {
         Some(expires) => write_ending(f, expires),
