@@ -1,9 +1,9 @@
--- The row that is found of a cookie's key, once the cookie was put.
+-- The row that is found of a cookie's key, once the cookie was put or ended that row.
 use Rattle.std.proofs.Common.{◌≡◌, Bool, true, false, List, [], ◌∷◌, Some, arith}
 use Rattle.std.specs.List.{find, list_any}
 use Rattle.std.proofs.lemmas.Bool.{cond_both}
-use Rattle.cookie_parts.specs.Cookie.{Row}
-use Rattle.cookie_laws.specs.Rows.{key_of, has_key, in_domain, in_group, row_of, after_last, replaced, placed, put, same_key_equiv}
+use Rattle.cookie_parts.specs.Cookie.{Row, ended}
+use Rattle.cookie_laws.specs.Rows.{Key, changed, key_of, has_key, in_domain, in_group, row_of, after_last, replaced, placed, put, same_key_equiv}
 
 -- y in the place of the first item that passes is the first one, if it passes too
 find-replaced : {T : Type 0} (test : T → Bool) (xs : List T) (y : T) → list_any test xs ≡ true → test y ≡ true → find test (replaced test xs y) ≡ Some y
@@ -34,3 +34,12 @@ row_of-put rows cookie =
     (λ zs. row_of key zs ≡ Some cookie)
     (λ some. find-replaced (has_key key) rows cookie some here)
     (λ new. row_of-placed rows cookie new)
+
+-- the first item that passes was changed, if it passes still
+find-changed : {T : Type 0} (test : T → Bool) (change : T → T) → ((x : T) → test x ≡ true → test (change x) ≡ true) → (xs : List T) (found : T) → find test xs ≡ Some found → find test (changed test change xs) ≡ Some (change found)
+find-changed test change after [] found here = grind (arith, here)
+find-changed test change after (x ∷ xs) found here = grind (arith, here, after x, find-changed test change after xs found)
+
+-- the row of the key has ended, where that row was ended
+pub row_of-ended : (key : Key) (rows : List Row) (row : Row) → row_of key rows ≡ Some row → row_of key (changed (has_key key) ended rows) ≡ Some (ended row)
+row_of-ended key rows row held = find-changed (has_key key) ended (λ _ same. same) rows row held

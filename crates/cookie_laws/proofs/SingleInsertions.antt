@@ -1,5 +1,5 @@
 -- What one insertion does: what is put, what it ends, and what it leaves alone.
-use Rattle.std.proofs.Common.{◌≡◌, true, false, not, ◌&&◌, List, Option, Some, Result, Ok, Err, ⊎_elim, ◌∙◌, refl, sym, ap, arith}
+use Rattle.std.proofs.Common.{◌≡◌, true, false, not, ◌&&◌, List, Option, Some, None, Result, Ok, Err, ⊎_elim, ◌∙◌, refl, sym, ap, arith}
 use Rattle.std.proofs.lemmas.Bool.{cond_both, cond-true, and_from, not-true, both_ways, cases_Bool}
 use Rattle.url.specs.Parts.{Parts}
 use Rattle.cookie_words.specs.Moments.{Moment}
@@ -11,10 +11,10 @@ use Rattle.cookie_parts.specs.declared.cookie_error.CookieError.TheVariants.{Non
 use Rattle.cookie_parts.specs.declared.store_action.StoreAction.{StoreAction}
 use Rattle.cookie_parts.specs.declared.store_action.StoreAction.TheVariants.{ExpiredExisting}
 use Rattle.cookie_laws.specs.Rows.{Key, changed, has_key, is_live, key_of, row_of, put, same_key, same_key_equiv, same_key-true}
-use Rattle.cookie_laws.specs.Acceptance.{IsPut, by_scheme, is_listed, by_list, by_domain, admitted, reply_at, rows_by, entered, accept}
+use Rattle.cookie_laws.specs.Acceptance.{IsPut, by_scheme, is_listed, by_list, by_domain, admitted, put_action, reply_at, rows_by, entered, accept}
 use Rattle.cookie_laws.proofs.RowsOfKeys.{row_of-passing}
 use Rattle.cookie_laws.proofs.AcceptanceOfKeys.{HasKey, admitted-HasKey, accept-other}
-use Rattle.cookie_laws.proofs.FoundRows.{row_of-put}
+use Rattle.cookie_laws.proofs.FoundRows.{row_of-ended, row_of-put}
 
 -- a row whose domain is on the list, if there is one, is for that host alone
 abbrev IsOwnIfListed : Option RuleList → Row → Type 0
@@ -101,6 +101,41 @@ unfolding accept
 accept-ends suffixes rows cookie url now ends =
     entered-ends (key_of cookie) (admitted suffixes url cookie) url now rows (admitted-HasKey suffixes url cookie) ends
 
+-- no other reply than to a live row says that a row was ended
+put_action-not_ended : (row : Option Row) → put_action row ≡ ExpiredExisting → ⊥
+put_action-not_ended None ends = grind (arith, ends)
+put_action-not_ended (Some row) ends = grind (arith, ends)
+
+-- the row, if there is one, that has not ended
+abbrev HasLive : Moment → Option Row → Type 0
+HasLive now held = (row : Row) × (held ≡ Some row) × (is_live now row ≡ true)
+
+-- a reply that says so is to such a row
+reply_at-live : (held : Option Row) (cookie : Row) (url : Parts) (now : Moment) → reply_at held cookie url now ≡ Ok ExpiredExisting → HasLive now held
+reply_at-live None cookie url now ends = absurd (grind (arith, ends, put_action-not_ended None))
+reply_at-live (Some row) cookie url now ends = (row, refl, grind (arith, ends, put_action-not_ended (Some row)))
+
+-- so the row of the cookie's key had not ended
+entered-live : (key : Key) (made : Result Row CookieError) (url : Parts) (now : Moment) (rows : List Row) → HasKey key made → (entered made url now rows).reply ≡ Ok ExpiredExisting
+    → HasLive now (row_of key rows)
+entered-live key (Err refusal) url now rows same ends = absurd (grind (arith, ends))
+entered-live key (Ok cookie) url now rows same ends =
+    let live : HasLive now (row_of (key_of cookie) rows) = reply_at-live (row_of (key_of cookie) rows) cookie url now ends in
+    (live.0, ap (λ k. row_of k rows) (sym same) ∙ live.1, live.2)
+
+-- the same of any cookie that comes
+pub accept-live : (suffixes : Option RuleList) (rows : List Row) (cookie : Row) (url : Parts) (now : Moment) → (accept suffixes rows cookie url now).reply ≡ Ok ExpiredExisting
+    → HasLive now (row_of (key_of cookie) rows)
+unfolding accept
+accept-live suffixes rows cookie url now ends =
+    entered-live (key_of cookie) (admitted suffixes url cookie) url now rows (admitted-HasKey suffixes url cookie) ends
+
+-- the row that it ended
+pub accept-ended_row : (suffixes : Option RuleList) (rows : List Row) (cookie : Row) (url : Parts) (now : Moment) (row : Row) → (accept suffixes rows cookie url now).reply ≡ Ok ExpiredExisting
+    → row_of (key_of cookie) rows ≡ Some row → row_of (key_of cookie) (accept suffixes rows cookie url now).rows ≡ Some (ended row)
+accept-ended_row suffixes rows cookie url now row ends held =
+    ap (row_of (key_of cookie)) (accept-ends suffixes rows cookie url now ends) ∙ row_of-ended (key_of cookie) rows row held
+
 -- a row out of the URL's reach that has not ended refuses every cookie
 reply_at-guarded : (row cookie : Row) (url : Parts) (now : Moment) → is_live now row ≡ true → is_out_of_reach row.raw url ≡ true → reply_at (Some row) cookie url now ≡ Err NonHttpScheme
 reply_at-guarded row cookie url now live out =
@@ -123,7 +158,7 @@ accept-guarded_same suffixes rows cookie url now row held live out =
     entered-guarded (key_of cookie) (admitted suffixes url cookie) url now rows row (admitted-HasKey suffixes url cookie) held live out
 
 -- a cookie of another key leaves the row of this one
-accept-other_row : (suffixes : Option RuleList) (rows : List Row) (cookie : Row) (url : Parts) (now : Moment) (key : Key) → same_key key (key_of cookie) ≡ false
+pub accept-other_row : (suffixes : Option RuleList) (rows : List Row) (cookie : Row) (url : Parts) (now : Moment) (key : Key) → same_key key (key_of cookie) ≡ false
     → row_of key (accept suffixes rows cookie url now).rows ≡ row_of key rows
 accept-other_row suffixes rows cookie url now key away =
     let test = same_key key in

@@ -13,11 +13,11 @@ ghost use Rattle.cookie_laws.specs.Acceptance.{accept, admitted, is_listed, IsPu
 ghost use Rattle.cookie_laws.specs.Confinement.{IsConfined};
 ghost use Rattle.cookie_laws.specs.Given.{given};
 ghost use Rattle.cookie_laws.specs.Related.{concerns, is_of_key, left, of_key, replies_to};
-ghost use Rattle.cookie_laws.specs.Rows.{changed, has_key, is_live, key_of, row_of, Key};
+ghost use Rattle.cookie_laws.specs.Rows.{changed, has_key, is_live, key_of, row_of, same_key, Key};
 ghost use Rattle.cookie_laws.specs.Runs.{Call, replies, rows_after};
 ghost use Rattle.cookie_words.specs.Moments.{Moment};
 ghost use Rattle.std.specs.List.{All};
-ghost use Rattle.std.specs.Prelude.{◌≡◌, [], true, List, Ok, Option, Some};
+ghost use Rattle.std.specs.Prelude.{◌≡◌, [], false, true, List, Ok, Option, Some};
 ghost use Rattle.url.specs.Parts.{Parts};
 
 /// Calls for domains that are not related to a URL change nothing in what is given for it, nor in the replies to the others.
@@ -51,11 +51,21 @@ pub fn listed_is_for_its_host()
         × (is_listed suffixes entered.domain ≡ true → entered.domain ≡ HostOnly (domain_text entered.domain)) }
 {}
 
-/// An insertion that ends a row changes nothing else.
+/// An insertion is answered by `ExpiredExisting` only where there is a row of its key that has not ended. That row ends, and
+/// the rows of all other keys stay.
 pub fn ends_one_row()
-    ensures { (suffixes : Option RuleList) (rows : List Row) (cookie : Row) (url : Parts) (now : Moment)
+    ensures live { (suffixes : Option RuleList) (rows : List Row) (cookie : Row) (url : Parts) (now : Moment)
+        → (accept suffixes rows cookie url now).reply ≡ Ok ExpiredExisting
+        → (row : Row) × (row_of (key_of cookie) rows ≡ Some row) × (is_live now row ≡ true) }
+    ensures rows { (suffixes : Option RuleList) (rows : List Row) (cookie : Row) (url : Parts) (now : Moment)
         → (accept suffixes rows cookie url now).reply ≡ Ok ExpiredExisting
         → (accept suffixes rows cookie url now).rows ≡ changed (has_key (key_of cookie)) ended rows }
+    ensures ends { (suffixes : Option RuleList) (rows : List Row) (cookie : Row) (url : Parts) (now : Moment) (row : Row)
+        → (accept suffixes rows cookie url now).reply ≡ Ok ExpiredExisting → row_of (key_of cookie) rows ≡ Some row
+        → row_of (key_of cookie) (accept suffixes rows cookie url now).rows ≡ Some (ended row) }
+    ensures others { (suffixes : Option RuleList) (rows : List Row) (cookie : Row) (url : Parts) (now : Moment) (key : Key)
+        → (accept suffixes rows cookie url now).reply ≡ Ok ExpiredExisting → same_key key (key_of cookie) ≡ false
+        → row_of key (accept suffixes rows cookie url now).rows ≡ row_of key rows }
 {}
 
 /// No insertion from a scheme that is not HTTP replaces or ends a row that is HttpOnly and has not ended.

@@ -1,3 +1,4 @@
+pub mod Errors
 pub mod Lists
 pub mod ReadRules
 pub mod Reading

@@ -1,5 +1,5 @@
 -- The text of a raw cookie: the value of a Set-Cookie header, RFC 6265 4.1.1.
-use Rattle.std.specs.Prelude.{ℕ, ◌+◌, ◌/◌, ◌%◌, ◌-◌, Bool, true, false, List, [], ◌∷◌, ◌++◌, codes, get_or, nat_le, ℤ, pos, negsuc, int_div, unsigned_abs, Option, Some, None, option_map, option_and_then, unwrap_or, if◌then◌else◌}
+use Rattle.std.specs.Prelude.{◌≡◌, ℕ, ◌+◌, ◌/◌, ◌%◌, ◌-◌, Bool, true, false, List, [], ◌∷◌, ◌++◌, codes, get_or, nat_le, ℤ, pos, negsuc, int_div, unsigned_abs, Option, Some, None, option_map, option_and_then, unwrap_or, Result, IsOk, if◌then◌else◌}
 use Rattle.std.specs.Fmt.{signed_decimal}
 use Rattle.jiff_core.specs.Calendar.{days_from_civil, weekday_number}
 use Rattle.cookie_words.specs.Moments.{Moment}
@@ -65,6 +65,10 @@ flag label is_set = if is_set then label else []
 abbrev pub optional : List ℕ → Option (List ℕ) → List ℕ
 optional label None = []
 optional label (Some value) = label ++ value
+
+-- a call that has nothing to write is Ok, and leaves the formatter
+abbrev pub WritesNothing : {F E : Type 0} → F → Result (Unit {0}) E → F → Type 0
+WritesNothing f result g = IsOk result × (g ≡ f)
 
 -- the name and the value, then each attribute that there is; a cookie for all sites is Secure, unless it says that it is not
 unfoldable pub cookie_text : Raw → List ℕ

@@ -1,6 +1,7 @@
 pub mod CookieDate
 pub mod CookieText
 pub mod DateSteps
+pub mod Errors
 pub mod PlainCookie
 pub mod Raw
 pub mod Reading

@@ -44,6 +44,25 @@ impl RawCookieBuilder {
         }
     }
 
+    /// All parts of a cookie that is there, of which those that are set next change.
+    pub fn from_cookie(cookie: RawCookie<'static>) -> RawCookieBuilder
+        ensures { result ≡ cookie.entry }
+    {
+        RawCookieBuilder::from(cookie)
+    }
+
+    /// Sets the value.
+    pub fn value(self, value: String) -> RawCookieBuilder
+        ensures { result ≡ record self { value = string_bytes value } }
+    {
+        let value = CowStr::Owned(value);
+        let cookie = RawCookie {
+            value,
+            ..self.cookie
+        };
+        RawCookieBuilder { cookie }
+    }
+
     /// Sets Expires.
     pub fn expires(self, expires: Expiration) -> RawCookieBuilder
         ensures { result ≡ record self { expires = Some (ending expires) } }
@@ -126,5 +145,15 @@ impl RawCookieBuilder {
         ensures { result ≡ self }
     {
         self.cookie
+    }
+}
+
+impl From<RawCookie<'static>> for RawCookieBuilder {
+    ghost use Rattle.std.specs.Prelude.{◌≡◌};
+
+    ghost from_gives = { λ raw builder. builder ≡ raw };
+
+    fn from(raw: RawCookie<'static>) -> RawCookieBuilder {
+        RawCookieBuilder { cookie: raw }
     }
 }

@@ -1,15 +1,16 @@
 //! The text of a raw cookie, RFC 6265 4.1.1.
-ghost use Rattle.std.specs.Prelude.{◌≡◌, ◌-◌, ◌<◌, ◌++◌, false, [], codes, get_or, pos, ◌≤ℤ◌, unsigned_abs, option_map, option_and_then, unwrap_or, IfOk, string_bytes};
-ghost use Rattle.std.specs.Fmt.{WritesOnOk};
+ghost use Rattle.std.specs.Prelude.{◌≡◌, ◌-◌, ◌<◌, ◌++◌, false, [], codes, get_or, pos, ◌≤ℤ◌, unsigned_abs, option_map, option_and_then, unwrap_or, None, IfOk, string_bytes};
+ghost use Rattle.std.specs.Fmt.{WritesOnOk, WritesStyledOnOk};
 ghost use Rattle.std.specs.Option.{option_copied};
 ghost use Rattle.jiff.specs.Words.{signed_nanos, monday_zero, weekday_of, IsBetween};
 ghost use Rattle.cookie_words.specs.Moments.{moment_of};
 ghost use Rattle.cookie_raw.specs.CookieDate.{month_names};
-ghost use Rattle.cookie_raw.specs.CookieText.{age_text, cookie_text, date_text, day_names, ending_text, flag, four_digits, is_for_all_sites, optional, site_text, two_digits};
+ghost use Rattle.cookie_raw.specs.CookieText.{age_text, cookie_text, date_text, day_names, ending_text, flag, four_digits, is_for_all_sites, optional, site_text, two_digits, WritesNothing};
 ghost use Rattle.cookie_raw.specs.Raw.{At};
 ghost use Rattle.cookie_raw.specs.Views.{ending};
 
 use crate::{Expiration, RawCookie, SameSite};
+use itoa::Buffer;
 use jiff::SignedDuration;
 use jiff::civil::{DateTime, Weekday};
 use std::alloc::{AllocError, Global};
@@ -68,7 +69,8 @@ fn month_name(month: i8) -> &'static str
 
 fn write_two_digits<W: fmt::Write>(f: &mut fmt::Formatter<W>, number: u8) -> fmt::Result
     requires { number < 100 }
-    ensures { WritesOnOk W.write_str_gives f.old result (two_digits number) f.new }
+    ensures writes { WritesOnOk W.write_str_gives f.old result (two_digits number) f.new }
+    ensures styled { WritesStyledOnOk W.write_str_gives f.old result (two_digits number) f.new }
 {
     f.write_char((b'0' + number / 10) as char)?;
     f.write_char((b'0' + number % 10) as char)
@@ -76,15 +78,19 @@ fn write_two_digits<W: fmt::Write>(f: &mut fmt::Formatter<W>, number: u8) -> fmt
 
 fn write_year<W: fmt::Write>(f: &mut fmt::Formatter<W>, year: i16) -> fmt::Result
     requires { IsBetween (pos 0) (pos 9999) year }
-    ensures { WritesOnOk W.write_str_gives f.old result (four_digits (unsigned_abs year)) f.new }
+    ensures writes { WritesOnOk W.write_str_gives f.old result (four_digits (unsigned_abs year)) f.new }
+    ensures styled { WritesStyledOnOk W.write_str_gives f.old result (four_digits (unsigned_abs year)) f.new }
 {
     write_two_digits(f, (year / 100) as u8)?;
     write_two_digits(f, (year % 100) as u8)
 }
 
 // The day of the week and of the month as `Tue, 03`.
+#[tactic(auto, using(crate::proofs::StyledWrites::styled_three))]
 fn write_day<W: fmt::Write>(f: &mut fmt::Formatter<W>, date: DateTime) -> fmt::Result
-    ensures { WritesOnOk W.write_str_gives f.old result
+    ensures writes { WritesOnOk W.write_str_gives f.old result
+        (get_or day_names (weekday_of date.date) [] ++ codes ", " ++ two_digits date.date.day) f.new }
+    ensures styled { WritesStyledOnOk W.write_str_gives f.old result
         (get_or day_names (weekday_of date.date) [] ++ codes ", " ++ two_digits date.date.day) f.new }
 {
     f.write_str(day_name(date.weekday()))?;
@@ -95,7 +101,9 @@ fn write_day<W: fmt::Write>(f: &mut fmt::Formatter<W>, date: DateTime) -> fmt::R
 // The month and the year as `Aug 2100`.
 fn write_month<W: fmt::Write>(f: &mut fmt::Formatter<W>, date: DateTime) -> fmt::Result
     requires { pos 0 ≤ℤ date.date.year }
-    ensures { WritesOnOk W.write_str_gives f.old result
+    ensures writes { WritesOnOk W.write_str_gives f.old result
+        (get_or month_names (date.date.month - 1) [] ++ codes " " ++ four_digits (unsigned_abs date.date.year)) f.new }
+    ensures styled { WritesStyledOnOk W.write_str_gives f.old result
         (get_or month_names (date.date.month - 1) [] ++ codes " " ++ four_digits (unsigned_abs date.date.year)) f.new }
 {
     f.write_str(month_name(date.month()))?;
@@ -105,7 +113,10 @@ fn write_month<W: fmt::Write>(f: &mut fmt::Formatter<W>, date: DateTime) -> fmt:
 
 // The time as `00:38:37`.
 fn write_clock<W: fmt::Write>(f: &mut fmt::Formatter<W>, date: DateTime) -> fmt::Result
-    ensures { WritesOnOk W.write_str_gives f.old result
+    ensures writes { WritesOnOk W.write_str_gives f.old result
+        (two_digits date.time.hour ++ codes ":" ++ two_digits date.time.minute
+        ++ codes ":" ++ two_digits date.time.second) f.new }
+    ensures styled { WritesStyledOnOk W.write_str_gives f.old result
         (two_digits date.time.hour ++ codes ":" ++ two_digits date.time.minute
         ++ codes ":" ++ two_digits date.time.second) f.new }
 {
@@ -119,7 +130,8 @@ fn write_clock<W: fmt::Write>(f: &mut fmt::Formatter<W>, date: DateTime) -> fmt:
 // The day and the time as `Tue, 03 Aug 2100 00:38:37 GMT`.
 fn write_date<W: fmt::Write>(f: &mut fmt::Formatter<W>, date: DateTime) -> fmt::Result
     requires { pos 0 ≤ℤ date.date.year }
-    ensures { WritesOnOk W.write_str_gives f.old result (date_text (moment_of date)) f.new }
+    ensures writes { WritesOnOk W.write_str_gives f.old result (date_text (moment_of date)) f.new }
+    ensures styled { WritesStyledOnOk W.write_str_gives f.old result (date_text (moment_of date)) f.new }
 {
     write_day(f, date)?;
     f.write_str(" ")?;
@@ -131,49 +143,75 @@ fn write_date<W: fmt::Write>(f: &mut fmt::Formatter<W>, date: DateTime) -> fmt::
 
 // An attribute that has no value, where it is set.
 fn write_flag<W: fmt::Write>(f: &mut fmt::Formatter<W>, label: &str, is_set: bool) -> fmt::Result
-    ensures { WritesOnOk W.write_str_gives f.old result (flag label.now is_set) f.new }
+    ensures writes { WritesOnOk W.write_str_gives f.old result (flag label.now is_set) f.new }
+    ensures styled { WritesStyledOnOk W.write_str_gives f.old result (flag label.now is_set) f.new }
+    ensures idle { is_set ≡ false → WritesNothing f.old result f.new }
 {
     if is_set { f.write_str(label) } else { Ok(()) }
 }
 
 // An attribute with its value, where it has one.
+#[tactic(auto, using(crate::proofs::StyledWrites::styled_two))]
 fn write_part<W: fmt::Write>(
     f: &mut fmt::Formatter<W>,
     label: &str,
     value: Option<&str>,
 ) -> fmt::Result
-    ensures { WritesOnOk W.write_str_gives f.old result (optional label.now (option_copied value.entry)) f.new }
+    ensures writes { WritesOnOk W.write_str_gives f.old result (optional label.now (option_copied value.entry)) f.new }
+    ensures styled { WritesStyledOnOk W.write_str_gives f.old result (optional label.now (option_copied value.entry)) f.new }
+    ensures idle { option_copied value.entry ≡ None → WritesNothing f.old result f.new }
 {
     match value {
-        Some(value) => write!(f, "{label}{value}"),
+        Some(value) => {
+            f.write_str(label)?;
+            f.write_str(value)
+        }
         None => Ok(()),
     }
 }
 
+#[tactic(auto, using(crate::proofs::StyledWrites::styled_two))]
 fn write_site<W: fmt::Write>(f: &mut fmt::Formatter<W>, site: Option<SameSite>) -> fmt::Result
-    ensures { WritesOnOk W.write_str_gives f.old result
+    ensures writes { WritesOnOk W.write_str_gives f.old result
         (optional (codes "; SameSite=") (option_map site_text site)) f.new }
+    ensures styled { WritesStyledOnOk W.write_str_gives f.old result
+        (optional (codes "; SameSite=") (option_map site_text site)) f.new }
+    ensures idle { site ≡ None → WritesNothing f.old result f.new }
 {
     match site {
-        Some(site) => write!(f, "; SameSite={}", site_name(site)),
+        Some(site) => {
+            f.write_str("; SameSite=")?;
+            f.write_str(site_name(site))
+        }
         None => Ok(()),
     }
 }
 
+#[tactic(auto, using(crate::proofs::StyledWrites::styled_two))]
 fn write_age<W: fmt::Write>(f: &mut fmt::Formatter<W>, age: Option<SignedDuration>) -> fmt::Result
-    ensures { WritesOnOk W.write_str_gives f.old result
+    ensures writes { WritesOnOk W.write_str_gives f.old result
         (optional (codes "; Max-Age=") (option_map age_text (option_map signed_nanos age))) f.new }
+    ensures styled { WritesStyledOnOk W.write_str_gives f.old result
+        (optional (codes "; Max-Age=") (option_map age_text (option_map signed_nanos age))) f.new }
+    ensures idle { age ≡ None → WritesNothing f.old result f.new }
 {
     match age {
-        Some(age) => write!(f, "; Max-Age={}", age.as_secs()),
+        Some(age) => {
+            f.write_str("; Max-Age=")?;
+            f.write_str(Buffer::new().format(age.as_secs()))
+        }
         None => Ok(()),
     }
 }
 
 // Expires at a moment, where four digits can write its year.
+#[tactic(auto, using(crate::proofs::StyledWrites::styled_two))]
 fn write_moment<W: fmt::Write>(f: &mut fmt::Formatter<W>, date: DateTime) -> fmt::Result
-    ensures { WritesOnOk W.write_str_gives f.old result
+    ensures writes { WritesOnOk W.write_str_gives f.old result
         (optional (codes "; Expires=") (ending_text (At (moment_of date)))) f.new }
+    ensures styled { WritesStyledOnOk W.write_str_gives f.old result
+        (optional (codes "; Expires=") (ending_text (At (moment_of date)))) f.new }
+    ensures idle { ending_text (At (moment_of date)) ≡ None → WritesNothing f.old result f.new }
 {
     if date.year() < 0 {
         return Ok(());
@@ -183,8 +221,11 @@ fn write_moment<W: fmt::Write>(f: &mut fmt::Formatter<W>, date: DateTime) -> fmt
 }
 
 fn write_ending<W: fmt::Write>(f: &mut fmt::Formatter<W>, expires: Expiration) -> fmt::Result
-    ensures { WritesOnOk W.write_str_gives f.old result
+    ensures writes { WritesOnOk W.write_str_gives f.old result
         (optional (codes "; Expires=") (ending_text (ending expires))) f.new }
+    ensures styled { WritesStyledOnOk W.write_str_gives f.old result
+        (optional (codes "; Expires=") (ending_text (ending expires))) f.new }
+    ensures idle { ending_text (ending expires) ≡ None → WritesNothing f.old result f.new }
 {
     match expires {
         Expiration::DateTime(date) => write_moment(f, date),
@@ -196,8 +237,11 @@ fn write_expires<W: fmt::Write>(
     f: &mut fmt::Formatter<W>,
     expires: Option<Expiration>,
 ) -> fmt::Result
-    ensures { WritesOnOk W.write_str_gives f.old result
+    ensures writes { WritesOnOk W.write_str_gives f.old result
         (optional (codes "; Expires=") (option_and_then ending_text (option_map ending expires))) f.new }
+    ensures styled { WritesStyledOnOk W.write_str_gives f.old result
+        (optional (codes "; Expires=") (option_and_then ending_text (option_map ending expires))) f.new }
+    ensures idle { option_and_then ending_text (option_map ending expires) ≡ None → WritesNothing f.old result f.new }
 {
     match expires {
         Some(expires) => write_ending(f, expires),
@@ -207,7 +251,12 @@ fn write_expires<W: fmt::Write>(
 
 // The name and the value, then HttpOnly, SameSite and Secure.
 fn write_pair<W: fmt::Write>(f: &mut fmt::Formatter<W>, cookie: &RawCookie<'_>) -> fmt::Result
-    ensures { WritesOnOk W.write_str_gives f.old result
+    ensures writes { WritesOnOk W.write_str_gives f.old result
+        (cookie.now.name ++ codes "=" ++ cookie.now.value
+        ++ flag (codes "; HttpOnly") (unwrap_or cookie.now.http_only false)
+        ++ optional (codes "; SameSite=") (option_map site_text cookie.now.same_site)
+        ++ flag (codes "; Secure") (unwrap_or cookie.now.secure (is_for_all_sites cookie.now.same_site))) f.new }
+    ensures styled { WritesStyledOnOk W.write_str_gives f.old result
         (cookie.now.name ++ codes "=" ++ cookie.now.value
         ++ flag (codes "; HttpOnly") (unwrap_or cookie.now.http_only false)
         ++ optional (codes "; SameSite=") (option_map site_text cookie.now.same_site)
@@ -215,7 +264,9 @@ fn write_pair<W: fmt::Write>(f: &mut fmt::Formatter<W>, cookie: &RawCookie<'_>) 
 {
     let same_site = cookie.same_site();
     let secure = cookie.secure().unwrap_or(is_for_all_sites(same_site));
-    write!(f, "{}={}", cookie.name(), cookie.value())?;
+    f.write_str(cookie.name())?;
+    f.write_str("=")?;
+    f.write_str(cookie.value())?;
     write_flag(f, "; HttpOnly", cookie.http_only().unwrap_or(false))?;
     write_site(f, same_site)?;
     write_flag(f, "; Secure", secure)
@@ -238,6 +289,8 @@ impl<'a> fmt::Display for RawCookie<'a> {
     ghost use Rattle.cookie_raw.specs.CookieText.{cookie_text};
 
     ghost output = { λ cookie. Some (cookie_text cookie) };
+
+    ghost styled_output = { λ cookie _. Some (cookie_text cookie) };
 
     fn fmt<W: fmt::Write>(&self, f: &mut fmt::Formatter<W>) -> fmt::Result {
         write_pair(f, self)?;

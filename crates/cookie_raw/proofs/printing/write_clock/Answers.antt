@@ -1,6 +1,10 @@
 use Rattle.std.proofs.Common.{arith}
 use Rattle.std.proofs.lemmas.Grind.{common_steps}
 use Rattle.cookie_raw.proofs.printing.write_clock.Goals as goal
+use Rattle.cookie_raw.proofs.StyledWrites.{styled_writes}
 
-pub returns : goal.returns
-returns g c = grind (arith, common_steps)
+pub returns-clause-writes : goal.returns-clause-writes
+returns-clause-writes g c = grind (arith, common_steps)
+
+pub returns-clause-styled : goal.returns-clause-styled
+returns-clause-styled g c = grind (arith, common_steps, styled_writes)
