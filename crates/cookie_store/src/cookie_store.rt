@@ -4,7 +4,7 @@ ghost use Rattle.std.specs.Iterator.{IsFinite};
 ghost use Rattle.std.specs.Option.{option_copied};
 ghost use Rattle.cookie_words.specs.Moments.{moment_of};
 ghost use Rattle.cookie_raw.specs.Reading.{reading};
-ghost use Rattle.cookie_parts.specs.Cookie.{cookie_of, early};
+ghost use Rattle.cookie_parts.specs.Cookie.{cookie_of, early, early_refusal};
 ghost use Rattle.cookie_parts.specs.declared.cookie_error.CookieError.TheVariants.{Memory};
 ghost use Rattle.cookie_parts.specs.declared.store_action.StoreAction.TheVariants.{Inserted};
 ghost use Rattle.cookie_laws.specs.Acceptance.{received, MayRefuse};
@@ -154,7 +154,8 @@ impl CookieStore {
     }
 
     /// Takes the cookie of a raw cookie that came from the URL at the moment: the cookie that
-    /// [`Cookie::try_from_raw_cookie`] makes, as [`insert`](Self::insert) takes it.
+    /// [`Cookie::try_from_raw_cookie`] makes, as [`insert`](Self::insert) takes it. One that is out of the URL's reach wants no
+    /// memory, nor one that names no domain and comes from no host.
     pub fn insert_raw(&mut self, raw: &RawCookie<'_>, url: &Url, now: DateTime) -> InsertResult
         ensures reply { IsReply result (Stored
             (received self.old.suffixes self.old.rows (cookie_of raw.now url.now (moment_of now)) url.now (moment_of now)).reply) }
@@ -162,6 +163,7 @@ impl CookieStore {
           rows = (received self.old.suffixes self.old.rows (cookie_of raw.now url.now (moment_of now)) url.now (moment_of now)).rows;
         }) }
         ensures refused { OnErr result (self.new ≡ self.old) }
+        ensures early { (refusal : CookieError) → early_refusal raw.now url.now ≡ Some refusal → result ≡ Err refusal }
     {
         let cookie = owned_raw_cookie(self.alloc, raw, url, now)?;
         self.insert(cookie, url, now)

@@ -3,7 +3,7 @@ ghost use Rattle.std.specs.Prelude.{◌≡◌, ◌≢◌, Err, Ok, Some, IfErr, 
 ghost use Rattle.std.specs.Option.{option_copied};
 ghost use Rattle.cookie_words.specs.Moments.{moment_of};
 ghost use Rattle.cookie_raw.specs.Reading.{reading};
-ghost use Rattle.cookie_parts.specs.Cookie.{cookie_at, cookie_of, early};
+ghost use Rattle.cookie_parts.specs.Cookie.{cookie_at, cookie_of, early, early_refusal};
 ghost use Rattle.cookie_parts.specs.Domain.{text_if_any, HostOnly};
 ghost use Rattle.cookie_parts.specs.Outcomes.{Gives};
 ghost use Rattle.cookie_parts.specs.Views.{domain_value};
@@ -51,7 +51,8 @@ pub(crate) fn owned_raw_cookie(
     url: &Url,
     now: DateTime,
 ) -> CookieResult<'static>
-    ensures { Gives (λ cookie. cookie) result (cookie_of raw.now url.now (moment_of now)) }
+    ensures value { Gives (λ cookie. cookie) result (cookie_of raw.now url.now (moment_of now)) }
+    ensures early { (refusal : CookieError) → early_refusal raw.now url.now ≡ Some refusal → result ≡ Err refusal }
 {
     owned(alloc, Cookie::try_from_raw_cookie(alloc, raw, url, now)?)
 }
