@@ -6,7 +6,7 @@ use cookie_store::psl::{List, ListError};
 use cookie_store::{CookieError, CookieStore, Error};
 use jiff::civil::{DateTime, date};
 use std::alloc::Global;
-use std::fs::{self, Files};
+use std::fs;
 use url::Url;
 
 /// The file of the public suffix list.
@@ -17,9 +17,15 @@ type Page = (&'static str, &'static [&'static str]);
 
 /// The pages, in the order in which they are visited.
 const PAGES: [Page; 5] = [
-    ("http://example.com/", &["seen=1; Domain=example.com", "all=1; Domain=com"]),
+    (
+        "http://example.com/",
+        &["seen=1; Domain=example.com", "all=1; Domain=com"],
+    ),
     ("http://blog.example.com/", &["theme=dark"]),
-    ("http://alice.github.io/", &["pages=1; Domain=github.io", "mine=1"]),
+    (
+        "http://alice.github.io/",
+        &["pages=1; Domain=github.io", "mine=1"],
+    ),
     ("http://bob.github.io/", &[]),
     ("http://blog.example.com/2026", &[]),
 ];
@@ -33,8 +39,9 @@ struct Crawler {
 
 impl Crawler {
     /// A crawler without cookies, under the list of the file.
-    fn new<F: Files>(alloc: Global, files: &F) -> Result<Crawler, Error> {
-        let text = fs::read_to_string(files, FILE).map_err(|_| Error::Io)?;
+    fn new(rt: &HostRuntime) -> Result<Crawler, Error> {
+        let alloc = rt.alloc();
+        let text = fs::read_to_string(rt, FILE).map_err(|_| Error::Io)?;
         let list = List::from_text(alloc, text.as_str()).map_err(|error| fault_of(alloc, error))?;
         Ok(Crawler {
             alloc,
@@ -75,7 +82,7 @@ fn fault_of(alloc: Global, error: ListError) -> Error {
 /// Visits the pages one after the other.
 fn run(rt: &HostRuntime) -> Result<(), Error> {
     let (alloc, now) = (rt.alloc(), date(2026, 1, 1).at(0, 0, 0, 0));
-    let mut crawler = Crawler::new(alloc, rt)?;
+    let mut crawler = Crawler::new(rt)?;
     for (address, texts) in &PAGES {
         let page = Url::parse(alloc, address).map_err(|_| Error::Memory)?;
         let header = crawler.header(&page, now)?;
