@@ -1,5 +1,5 @@
 -- The texts of the refusals and faults, and the faults that stand for others.
-use Rattle.std.specs.Prelude.{ℕ, List, codes, string_bytes}
+use Rattle.std.specs.Prelude.{ℕ, List, codes, Option, Some, None, string_bytes}
 use Rattle.idna.specs.Errors.{errors_text}
 use Rattle.idna.specs.declared.Errors.{Errors}
 use Rattle.idna.specs.declared.Errors.TheVariants as Idna
@@ -27,6 +27,11 @@ fault_text Fault.Io = codes "a read or a write failed"
 fault_text (Fault.Other text) = string_bytes text
 fault_text Fault.Memory = codes "out of memory"
 fault_text Fault.NotUtf8 = codes "a text is not UTF-8"
+
+-- the same in a hole with a width or other options, which count for none of these; of `idna` nothing is known there
+abbrev pub styled_fault_text : Error → Option (List ℕ)
+styled_fault_text (Fault.Idna errors) = None
+styled_fault_text other = Some (fault_text other)
 
 -- the fault that a refusal is: want of memory is no refusal
 abbrev pub fault_of_refusal : CookieError → Error

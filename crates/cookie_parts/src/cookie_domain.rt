@@ -1,5 +1,5 @@
 //! The hosts that a cookie is for, RFC 6265 5.1.3 and 5.2.3.
-ghost use Rattle.std.specs.Prelude.{◌≡◌, ◌↔◌, ◌∷◌, Err, IfOk, IsOk, IsTrue, None, Some, nat_eq, string_bytes};
+ghost use Rattle.std.specs.Prelude.{◌≡◌, ◌↔◌, ◌∷◌, Err, IfOk, IsOk, IsSomeAnd, IsTrue, None, Some, nat_eq, string_bytes};
 ghost use Rattle.std.specs.List.{ends_with};
 ghost use Rattle.std.specs.Option.{option_copied};
 ghost use Rattle.cookie_psl.specs.Rules.{listed};
@@ -166,7 +166,9 @@ pub fn compare(first: &CookieDomain, second: &CookieDomain) -> Ordering
 /// Whether a cookie for the domain that the text names is for the host of the URL. It is not where the text is no domain
 /// name.
 pub fn is_match(alloc: Global, domain: &str, url: &Url) -> Result<bool, AllocError>
-    ensures { IfOk result (λ is_for. is_for ≡ text_matches domain.now url.now) }
+    ensures value { IfOk result (λ is_for. is_for ≡ text_matches domain.now url.now) }
+    ensures meaning { IfOk result (λ is_for. IsTrue is_for
+        ↔ IsSomeAnd (domain_from_text domain.now) (λ named. IsForHost named (host_of url.now))) }
 {
     match CookieDomain::try_from_str(alloc, domain) {
         Ok(domain) => Ok(domain.matches(url)),

@@ -51,6 +51,8 @@ impl fmt::Display for CookieError {
 
     ghost output = { λ e. Some (error_text e) };
 
+    ghost styled_output = { λ e _. Some (error_text e) };
+
     fn fmt<W: fmt::Write>(&self, f: &mut fmt::Formatter<W>) -> fmt::Result {
         f.write_str(self.text())
     }

@@ -51,9 +51,11 @@ pub enum Error {
 
 impl fmt::Display for Error {
     ghost use Rattle.std.specs.Prelude.{Some};
-    ghost use Rattle.cookie_parts.specs.Errors.{fault_text};
+    ghost use Rattle.cookie_parts.specs.Errors.{fault_text, styled_fault_text};
 
     ghost output = { λ e. Some (fault_text e) };
+
+    ghost styled_output = { λ e _. styled_fault_text e };
 
     fn fmt<W: fmt::Write>(&self, f: &mut fmt::Formatter<W>) -> fmt::Result {
         match self {

@@ -33,6 +33,19 @@ pub(crate) fn is_written(
     Ok(())
 }
 
+// The same in a hole that is wider than the text: nothing is filled up.
+pub(crate) fn is_written_unfilled(
+    rt: &impl Abort,
+    alloc: Global,
+    value: &impl Display,
+    wanted: &str,
+) -> Result<(), Fail> {
+    let text = format!(in alloc; "{value:>80}{value:*<80}")?;
+    let twice = format!(in alloc; "{wanted}{wanted}")?;
+    is_equal(rt, text.as_str(), twice.as_str(), &wanted);
+    Ok(())
+}
+
 fn hash_of<T: Hash>(value: &T) -> u64 {
     let mut state = DefaultHasher::new();
     value.hash(&mut state);

@@ -261,6 +261,24 @@ fn a_cookie_is_equal_to_its_copy(rt: HostRuntime) -> Result<(), Fail> {
     Ok(())
 }
 
+// A text with parts that are empty.
+const EMPTY: &[&str] = &["a=", "a=1; Path=", "a=; Path=; Domain="];
+
+// Whether the cookie is kept as it is, lent, owned and copied.
+fn is_kept(alloc: Global, text: &str) -> Result<bool, Fail> {
+    let lent = is_equal_to_copy(&cookie(alloc, text)?)?;
+    let owned = cookie(alloc, text)?.into_owned(alloc)?;
+    Ok(lent && is_of_text(alloc, &owned, text)? && is_equal_to_copy(&owned)?)
+}
+
+#[test]
+fn empty_parts_are_kept(rt: HostRuntime) -> Result<(), Fail> {
+    for text in EMPTY {
+        holds(&rt, is_kept(rt.alloc(), text)?, text);
+    }
+    Ok(())
+}
+
 // The cookie of a raw one that came from http://a.com/ at `NOW`.
 fn from_raw<'a>(alloc: Global, raw: &RawCookie<'a>) -> Result<Cookie<'a>, Fail> {
     let now = moment(NOW)?;

@@ -1,5 +1,6 @@
 use crate::checks::{are_ordered, holds, is_equal};
 use crate::parts::{Hosts, domain_of, is_for};
+use cookie_parts::cookie_domain::is_match;
 use cookie_parts::utils::is_host_name;
 use cookie_parts::{CookieDomain, CookieError, Error};
 use cookie_psl::List;
@@ -63,8 +64,10 @@ fn is_refused(domain: Result<CookieDomain, Error>) -> bool {
 
 #[test]
 fn a_text_that_is_no_domain_name_is_refused(rt: HostRuntime) -> Result<(), Fail> {
-    let named = CookieDomain::try_from_str(rt.alloc(), "xn--a.example");
-    holds(&rt, is_refused(named), &"a text");
+    for text in &["xn--a", "xn--a.example"] {
+        let named = CookieDomain::try_from_str(rt.alloc(), text);
+        holds(&rt, is_refused(named), text);
+    }
     let raw = RawCookie::parse("a=1; Domain=xn--a.example")?;
     let named = CookieDomain::try_from_raw(rt.alloc(), &raw);
     holds(&rt, is_refused(named), &"an attribute");
@@ -98,6 +101,34 @@ fn text_covers(alloc: Global, row: &(&str, &str, bool)) -> Result<bool, Fail> {
 fn a_domain_covers_hosts(rt: HostRuntime) -> Result<(), Fail> {
     for row in MATCHES {
         holds(&rt, text_covers(rt.alloc(), row)?, row);
+    }
+    Ok(())
+}
+
+// A text, a URL, and whether a cookie for the domain that the text names is for its host.
+const NAMED: &[(&str, &str, bool)] = &[
+    ("0.0.1", "http://127.0.0.1", false),
+    ("127.0.0.1", "http://127.0.0.1", true),
+    ("example.com", "http://fooexample.com", false),
+    ("example.com", "http://foo.example.com", true),
+    (" .EXAMPLE.com ", "http://foo.example.com", true),
+    ("bücher.example", "http://bücher.example", true),
+    ("", "http://example.com", false),
+    (".", "http://example.com.", false),
+    ("xn--a", "http://example.com", false),
+    ("xn--a", "foo://xn--a", false),
+    ("example.com", "data:x", false),
+];
+
+fn is_matched(alloc: Global, row: &(&str, &str, bool)) -> Result<bool, Fail> {
+    let (text, at, wanted) = *row;
+    Ok(is_match(alloc, text, &Url::parse(alloc, at)?)? == wanted)
+}
+
+#[test]
+fn a_text_is_for_hosts(rt: HostRuntime) -> Result<(), Fail> {
+    for row in NAMED {
+        holds(&rt, is_matched(rt.alloc(), row)?, row);
     }
     Ok(())
 }

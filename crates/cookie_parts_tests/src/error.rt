@@ -1,7 +1,7 @@
-use crate::checks::{is_equal, is_written};
+use crate::checks::{holds, is_equal, is_written, is_written_unfilled};
 use cookie_parts::{CookieError, Error, IdnaErrors};
 use cookie_raw::RawCookieParseError;
-use std::alloc::Global;
+use std::alloc::{AllocError, AllocFailed, Global};
 use std::process::Abort;
 use std::test::Fail;
 
@@ -42,12 +42,14 @@ fn a_refusal_says_why(rt: HostRuntime) -> Result<(), Fail> {
     for (refusal, wanted) in REFUSALS {
         is_equal(&rt, refusal.text(), *wanted, refusal);
         is_written(&rt, rt.alloc(), refusal, wanted)?;
+        is_written_unfilled(&rt, rt.alloc(), refusal, wanted)?;
     }
     Ok(())
 }
 
 fn is_told(rt: &impl Abort, alloc: Global, fault: Error, wanted: &str) -> Result<(), Fail> {
-    is_written(rt, alloc, &fault, wanted)
+    is_written(rt, alloc, &fault, wanted)?;
+    is_written_unfilled(rt, alloc, &fault, wanted)
 }
 
 #[test]
@@ -62,6 +64,88 @@ fn each_fault_says_what_it_is(rt: HostRuntime) -> Result<(), Fail> {
     is_told(&rt, rt.alloc(), Error::NotUtf8, "a text is not UTF-8")?;
     let invalid = Error::Idna(IdnaErrors::from(idna::Errors::Invalid));
     is_told(&rt, rt.alloc(), invalid, "invalid domain name")
+}
+
+#[test]
+fn a_fault_of_a_domain_says_what_it_is(rt: HostRuntime) -> Result<(), Fail> {
+    let fault = IdnaErrors::from(idna::Errors::Invalid);
+    is_written(&rt, rt.alloc(), &fault, "invalid domain name")?;
+    is_written_unfilled(&rt, rt.alloc(), &fault, "invalid domain name")
+}
+
+// The fault that a refusal is: want of memory is no refusal.
+fn fault_of(refusal: &CookieError) -> Error {
+    match refusal {
+        CookieError::Memory => Error::Memory,
+        refusal => Error::Cookie(*refusal),
+    }
+}
+
+#[test]
+fn a_refusal_is_a_fault(rt: HostRuntime) {
+    for (refusal, _) in REFUSALS {
+        is_equal(&rt, Error::from(*refusal), fault_of(refusal), refusal);
+    }
+}
+
+#[test]
+fn a_fault_of_idna_is_a_fault(rt: HostRuntime) {
+    let invalid = Error::Idna(IdnaErrors::from(idna::Errors::Invalid));
+    is_equal(&rt, Error::from(idna::Errors::Invalid), invalid, &"no name");
+    let wanting = Error::from(idna::Errors::OutOfMemory);
+    is_equal(&rt, wanting, Error::Memory, &"a growth");
+}
+
+#[test]
+fn a_refused_growth_is_want_of_memory(rt: HostRuntime) {
+    is_equal(&rt, Error::from(AllocError), Error::Memory, &"a growth");
+    let kept = Error::from(AllocFailed { value: 5_u8 });
+    is_equal(&rt, kept, Error::Memory, &"a value without room");
+}
+
+fn other(alloc: Global, text: &str) -> Result<Error, Fail> {
+    Ok(Error::Other(String::from_str(alloc, text)?))
+}
+
+fn are_equal(alloc: Global, texts: &(&str, &str)) -> Result<bool, Fail> {
+    let (first, second) = *texts;
+    Ok(other(alloc, first)? == other(alloc, second)?)
+}
+
+// What a caller's own function says, twice, and whether both are equal.
+const OTHERS: &[((&str, &str), bool)] = &[
+    (("no such row", "no such row"), true),
+    (("", ""), true),
+    (("no such row", "no row"), false),
+    (("out of memory", ""), false),
+];
+
+#[test]
+fn equal_faults_say_the_same(rt: HostRuntime) -> Result<(), Fail> {
+    for (texts, wanted) in OTHERS {
+        is_equal(&rt, are_equal(rt.alloc(), texts)?, *wanted, texts);
+    }
+    Ok(())
+}
+
+// Whether it is of a kind by itself.
+fn is_alone(fault: &Error, others: &[Error]) -> bool {
+    !others.contains(fault)
+}
+
+#[test]
+fn faults_of_two_kinds_differ(rt: HostRuntime) -> Result<(), Fail> {
+    let memory = Error::Cookie(CookieError::Memory);
+    let expired = Error::Cookie(CookieError::Expired);
+    let invalid = Error::from(idna::Errors::Invalid);
+    let others = [memory, expired, invalid, Error::Io, Error::NotUtf8];
+    holds(&rt, is_alone(&Error::Memory, &others), &"want of memory");
+    let parse = Error::Cookie(CookieError::Parse);
+    holds(&rt, is_alone(&parse, &others), &"another refusal");
+    let text = other(rt.alloc(), "out of memory")?;
+    holds(&rt, is_alone(&text, &others), &"a text");
+    holds(&rt, !is_alone(&Error::Io, &others), &"a device");
+    Ok(())
 }
 
 #[test]

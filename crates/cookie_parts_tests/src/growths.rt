@@ -4,6 +4,7 @@ use crate::parts::{Hosts, domain_of, is_for, is_path};
 use crate::psl::{EVERY_KIND, says};
 use crate::raw::{Parts, has_parts};
 use cookie_device::{Counted, FillError, LineBuffer, Output};
+use cookie_parts::cookie_domain::is_match;
 use cookie_parts::{Cookie, CookieDomain, CookieError, CookieExpiration, CookiePath, Error};
 use cookie_psl::{List, ListError};
 use cookie_raw::RawCookie;
@@ -216,6 +217,29 @@ fn try_from_raw(rt: HostRuntime) -> Result<(), Fail> {
     Ok(())
 }
 
+// A text that names a domain of `url`, one that names another, and one that is no domain name.
+const NAMED: &[(&str, bool)] = &[
+    (".bücher.example", true),
+    ("BÜCHER.com", false),
+    ("xn--a.bücher.example", false),
+];
+
+fn is_matched(alloc: Global, url: &Url, row: &(&str, bool)) -> bool {
+    match is_match(alloc, row.0, url) {
+        Ok(is_for) => is_for == row.1,
+        Err(AllocError) => true,
+    }
+}
+
+#[test]
+fn domain_is_match(rt: HostRuntime) -> Result<(), Fail> {
+    let url = made_url(rt.alloc())?;
+    for row in NAMED {
+        holds(&rt, is_matched(rt.alloc(), &url, row), row);
+    }
+    Ok(())
+}
+
 #[test]
 fn clone_domain(rt: HostRuntime) -> Result<(), Fail> {
     let domain = made(rt.alloc(), domain_of(rt.alloc(), &DOMAIN)?)?;
@@ -388,5 +412,25 @@ fn into_raw(rt: HostRuntime) -> Result<(), Fail> {
     let cookie = made(rt.alloc(), cookie(rt.alloc())?)?;
     let raw = cookie.into_raw(rt.alloc());
     holds(&rt, is_said(raw), &TEXT);
+    Ok(())
+}
+
+// The text of a cookie that comes from the URL, as a function says it that saves cookies.
+fn line(alloc: Global, url: &Url) -> Result<String, Error> {
+    let cookie = Cookie::parse(alloc, TEXT, url, DateTime::ZERO)?;
+    Ok(cookie.raw().to_text(alloc)?)
+}
+
+fn is_line(line: Result<String, Error>) -> bool {
+    match line {
+        Ok(line) => line.as_str() == "a=1; Path=/foo; Domain=bücher.example",
+        Err(fault) => fault.is_wanting(),
+    }
+}
+
+#[test]
+fn line_of_a_cookie(rt: HostRuntime) -> Result<(), Fail> {
+    let line = line(rt.alloc(), &made_url(rt.alloc())?);
+    holds(&rt, is_line(line), &TEXT);
     Ok(())
 }

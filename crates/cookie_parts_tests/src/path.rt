@@ -92,6 +92,29 @@ fn a_path_covers_paths(rt: HostRuntime) -> Result<(), Fail> {
     Ok(())
 }
 
+// A text that is no path of a cookie, and a URL. Not even the empty path is for one.
+const RELATIVE: &[(&str, &str)] = &[
+    ("", "http://example.com/"),
+    ("", "http://example.com/foo"),
+    ("", "foo://example"),
+    ("foo", "http://example.com/foo"),
+    ("foo", "http://example.com/"),
+    ("foo", "data:foo"),
+];
+
+fn is_for_none(alloc: Global, row: &(&str, &str)) -> Result<bool, Fail> {
+    let (text, at) = *row;
+    Ok(!is_match(text, &Url::parse(alloc, at)?))
+}
+
+#[test]
+fn a_relative_path_is_for_none(rt: HostRuntime) -> Result<(), Fail> {
+    for row in RELATIVE {
+        holds(&rt, is_for_none(rt.alloc(), row)?, row);
+    }
+    Ok(())
+}
+
 // The text of a path, and its flag.
 type Flagged = (&'static str, bool);
 

@@ -87,6 +87,53 @@ fn reads_the_table(rt: HostRuntime) {
     }
 }
 
+// Whether its copy has these parts, as it has itself, and is equal to it.
+fn is_copied(cookie: &RawCookie<'_>, parts: &Parts) -> Result<bool, Fail> {
+    let copy = cookie.clone()?;
+    Ok(has_parts(cookie, parts) && has_parts(&copy, parts) && copy == *cookie)
+}
+
+// A text with parts that are empty, and what it says.
+const EMPTY: &[(&str, Parts)] = &[
+    ("a=", Parts { value: "", ..PAIR }),
+    (
+        "a=1; Path=",
+        Parts {
+            path: Some(""),
+            ..PAIR
+        },
+    ),
+    (
+        "a=; Path=; Domain=.",
+        Parts {
+            value: "",
+            domain: Some(""),
+            path: Some(""),
+            ..PAIR
+        },
+    ),
+];
+
+fn is_owned(alloc: Global, row: &(&str, Parts)) -> Result<bool, Fail> {
+    let (text, parts) = row;
+    let owned = RawCookie::parse(text)?.into_owned(alloc)?;
+    Ok(is_copied(&owned, parts)? && RawCookie::parse(text)? == owned)
+}
+
+fn is_lent(row: &(&str, Parts)) -> Result<bool, Fail> {
+    let (text, parts) = row;
+    is_copied(&RawCookie::parse(text)?, parts)
+}
+
+#[test]
+fn keeps_empty_parts(rt: HostRuntime) -> Result<(), Fail> {
+    for row in EMPTY {
+        holds(&rt, is_lent(row)?, &row.0);
+        holds(&rt, is_owned(rt.alloc(), row)?, &row.0);
+    }
+    Ok(())
+}
+
 #[test]
 fn says_why_a_text_is_no_cookie(rt: HostRuntime) -> Result<(), Fail> {
     is_written(
