@@ -33,6 +33,19 @@ pub(crate) fn is_written(
     Ok(())
 }
 
+// The same, also where a greater width and a side are asked for.
+pub(crate) fn is_written_at_any_width(
+    rt: &impl Abort,
+    alloc: Global,
+    value: &impl Display,
+    wanted: &str,
+) -> Result<(), Fail> {
+    is_written(rt, alloc, value, wanted)?;
+    let text = format!(in alloc; "{value:>200}")?;
+    is_equal(rt, text.as_str(), wanted, &wanted);
+    Ok(())
+}
+
 fn hash_of<T: Hash>(value: &T) -> u64 {
     let mut state = DefaultHasher::new();
     value.hash(&mut state);
