@@ -41,8 +41,8 @@ impl From<DeviceFailed> for FillError {
 
 /// Bytes read ahead of a source, from which whole lines are taken.
 ///
-/// Each byte is looked at and moved a constant number of times where whole lines are passed, and the
-/// memory is for the longest line and one read.
+/// At hand are at most the bytes of a line that has not ended and of one read. As the code reads, each byte is looked at and moved
+/// a constant number of times where whole lines are passed, and the memory is for the longest line and one read, or twice that.
 #[derive(Drop)]
 pub struct LineBuffer {
     bytes: Vec<u8>,

@@ -33,16 +33,16 @@ pub(crate) fn is_written(
     Ok(())
 }
 
-// The same in a hole that is wider than the text: nothing is filled up.
-pub(crate) fn is_written_unfilled(
+// The same, also where a greater width and a side are asked for.
+pub(crate) fn is_written_at_any_width(
     rt: &impl Abort,
     alloc: Global,
     value: &impl Display,
     wanted: &str,
 ) -> Result<(), Fail> {
-    let text = format!(in alloc; "{value:>80}{value:*<80}")?;
-    let twice = format!(in alloc; "{wanted}{wanted}")?;
-    is_equal(rt, text.as_str(), twice.as_str(), &wanted);
+    is_written(rt, alloc, value, wanted)?;
+    let text = format!(in alloc; "{value:>200}")?;
+    is_equal(rt, text.as_str(), wanted, &wanted);
     Ok(())
 }
 

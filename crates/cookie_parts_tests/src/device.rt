@@ -125,6 +125,7 @@ const FILLS: &[(Result<bool, FillError>, &[u8], u64)] = &[
     (Err(FillError::Read), b"one", 1),
     (Ok(true), b"onetwo", 1),
     (Ok(false), b"onetwo", 1),
+    (Ok(false), b"onetwo", 1),
 ];
 
 // The next read is as the row says, with no line at hand before it.
@@ -147,6 +148,43 @@ fn a_failed_read_is_counted(rt: HostRuntime) {
     for row in FILLS {
         fills_as(&rt, &mut buffer, &mut source, row);
     }
+    is_equal(&rt, source.into_inner().calls, FILLS.len(), &"reads");
+}
+
+// Reads a byte, unless too many reads have failed.
+fn read(source: &mut Counted<Fake<&[u8]>>) -> Result<usize, DeviceFailed> {
+    if source.failures() == u64::MAX {
+        return Err(DeviceFailed);
+    }
+    source.read(&mut [0])
+}
+
+// What reads of "ab" answer, one byte each, of which the second fails, and how many have failed then. The end is no failure.
+const READS: &[(Result<usize, DeviceFailed>, u64)] = &[
+    (Ok(1), 0),
+    (Err(DeviceFailed), 1),
+    (Ok(1), 1),
+    (Ok(0), 1),
+    (Ok(0), 1),
+];
+
+fn reads_as(
+    rt: &impl Abort,
+    source: &mut Counted<Fake<&[u8]>>,
+    row: &(Result<usize, DeviceFailed>, u64),
+) {
+    let (answer, failures) = *row;
+    is_equal(rt, read(source), answer, row);
+    is_equal(rt, source.failures(), failures, row);
+}
+
+#[test]
+fn a_failed_read_is_not_tried_again(rt: HostRuntime) {
+    let mut source = Counted::new(Fake::new(b"ab".as_slice(), 1, 2));
+    for row in READS {
+        reads_as(&rt, &mut source, row);
+    }
+    is_equal(&rt, source.into_inner().calls, READS.len(), &"reads");
 }
 
 // So many writes have failed, and these bytes are out.
@@ -175,6 +213,52 @@ fn is_written(alloc: Global, row: &(usize, usize, &[u8])) -> Result<bool, Fail> 
 fn a_write_goes_on_until_all_is_out(rt: HostRuntime) -> Result<(), Fail> {
     for row in WRITES {
         holds(&rt, is_written(rt.alloc(), row)?, row);
+    }
+    Ok(())
+}
+
+// How many bytes of a text a call takes, the call that fails, the calls that a whole text and then another come to, and what
+// is out then.
+const SECOND_WRITES: &[(usize, usize, usize, &[u8])] = &[
+    (100, 0, 2, b"Set-Cookie: a=1"),
+    (100, 1, 2, b": a=1"),
+    (100, 2, 2, b"Set-Cookie"),
+    (3, 3, 5, b"Set-Co: a=1"),
+    (1, 4, 9, b"Set: a=1"),
+];
+
+// The second text is written whatever came of the first.
+fn is_served(alloc: Global, row: &(usize, usize, usize, &[u8])) -> Result<bool, Fail> {
+    let (most, fails_at, calls, out) = *row;
+    let mut sink = Counted::new(Fake::new(Vec::new(alloc), most, fails_at));
+    let outcomes = write_both(&mut sink, b"Set-Cookie", b": a=1");
+    let failures = u64::from(outcomes.0.is_err()) + u64::from(outcomes.1.is_err());
+    let is_counted = sink.failures() == failures && failures == u64::from(fails_at != 0);
+    let fake = sink.into_inner();
+    Ok(is_counted && fake.calls == calls && fake.inner.as_slice() == out)
+}
+
+// Writes one text, and then another unless too many writes have failed.
+fn write_both(
+    sink: &mut Counted<Fake<Vec<u8>>>,
+    first: &[u8],
+    second: &[u8],
+) -> (Result<(), DeviceFailed>, Result<(), DeviceFailed>) {
+    (write(sink, first), write(sink, second))
+}
+
+// Writes a text, unless too many writes have failed.
+fn write(sink: &mut Counted<Fake<Vec<u8>>>, text: &[u8]) -> Result<(), DeviceFailed> {
+    if sink.failures() == u64::MAX {
+        return Err(DeviceFailed);
+    }
+    write_all(sink, text)
+}
+
+#[test]
+fn a_failed_write_is_not_tried_again(rt: HostRuntime) -> Result<(), Fail> {
+    for row in SECOND_WRITES {
+        holds(&rt, is_served(rt.alloc(), row)?, row);
     }
     Ok(())
 }
@@ -298,5 +382,90 @@ fn output_is_dropped_where_a_write_fails(rt: HostRuntime) -> Result<(), Fail> {
         is_dropped(rt.alloc())?,
         &"a long text behind a short one",
     );
+    Ok(())
+}
+
+// So many bytes are put, or else the output is flushed, and whether that is done.
+type Turn = (Option<usize>, bool);
+
+// Turns of an output whose first write fails, how many bytes are out at the end, and the writes that they came by.
+const TURNS: &[(&[Turn], usize, usize)] = &[
+    (
+        &[
+            (Some(3), true),
+            (None, false),
+            (None, true),
+            (Some(2), true),
+            (None, true),
+        ],
+        2,
+        2,
+    ),
+    (
+        &[
+            (Some(65_537), false),
+            (Some(65_537), true),
+            (Some(1), true),
+            (None, true),
+        ],
+        65_538,
+        3,
+    ),
+    (
+        &[
+            (Some(65_536), true),
+            (Some(1), false),
+            (Some(4), true),
+            (None, true),
+        ],
+        4,
+        2,
+    ),
+];
+
+// The turn ends as the row says.
+fn turns_so(
+    alloc: Global,
+    output: &mut Output,
+    sink: &mut Counted<Fake<Vec<u8>>>,
+    turn: &Turn,
+) -> Result<bool, Fail> {
+    let (size, is_done) = *turn;
+    let outcome = match size {
+        Some(size) => put(output, sink, &vec![in alloc; b'x'; size]?),
+        None => flush(output, sink),
+    };
+    Ok(outcome.is_ok() == is_done)
+}
+
+// All turns end as the rows say.
+fn all_turn_so(
+    alloc: Global,
+    sink: &mut Counted<Fake<Vec<u8>>>,
+    turns: &[Turn],
+) -> Result<bool, Fail> {
+    let mut output = Output::new(alloc)?;
+    for turn in turns {
+        if !turns_so(alloc, &mut output, sink, turn)? {
+            return Ok(false);
+        }
+    }
+    Ok(true)
+}
+
+fn goes_on(alloc: Global, row: &(&[Turn], usize, usize)) -> Result<bool, Fail> {
+    let (turns, out, writes) = *row;
+    let mut sink = Counted::new(Fake::new(Vec::new(alloc), usize::MAX, 1));
+    let is_so = all_turn_so(alloc, &mut sink, turns)?;
+    let is_counted = sink.failures() == 1;
+    let fake = sink.into_inner();
+    Ok(is_so && is_counted && fake.calls == writes && fake.inner.len() == out)
+}
+
+#[test]
+fn output_goes_on_after_a_failed_write(rt: HostRuntime) -> Result<(), Fail> {
+    for row in TURNS {
+        holds(&rt, goes_on(rt.alloc(), row)?, row);
+    }
     Ok(())
 }

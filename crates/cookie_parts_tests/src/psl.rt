@@ -1,4 +1,4 @@
-use crate::checks::{holds, is_equal, is_written};
+use crate::checks::{holds, is_equal, is_written_at_any_width};
 use cookie_psl::{List, ListError, laws};
 use std::alloc::Global;
 use std::test::Fail;
@@ -118,6 +118,6 @@ fn a_new_list_has_no_rules(rt: HostRuntime) {
 #[test]
 fn says_why_a_text_is_no_list(rt: HostRuntime) -> Result<(), Fail> {
     let bad = ListError::BadRule { line: 7 };
-    is_written(&rt, rt.alloc(), &bad, "a bad rule in line 7")?;
-    is_written(&rt, rt.alloc(), &ListError::Memory, "out of memory")
+    is_written_at_any_width(&rt, rt.alloc(), &bad, "a bad rule in line 7")?;
+    is_written_at_any_width(&rt, rt.alloc(), &ListError::Memory, "out of memory")
 }

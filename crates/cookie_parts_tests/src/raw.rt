@@ -1,11 +1,11 @@
-use crate::checks::{holds, is_equal, is_written};
+use crate::checks::{holds, is_equal, is_written_at_any_width};
 use crate::parts::{Fields, moment_of};
 use cookie_raw::RawCookieParseError::{EmptyName, MissingPair};
 use cookie_raw::{
     Expiration, RawCookie, RawCookieBuilder, RawCookieParseError, SameSite, laws, read_date,
 };
 use jiff::SignedDuration;
-use jiff::civil::date;
+use jiff::civil::{DateTime, date};
 use std::alloc::{AllocError, Global};
 use std::process::Abort;
 use std::test::Fail;
@@ -136,13 +136,13 @@ fn keeps_empty_parts(rt: HostRuntime) -> Result<(), Fail> {
 
 #[test]
 fn says_why_a_text_is_no_cookie(rt: HostRuntime) -> Result<(), Fail> {
-    is_written(
+    is_written_at_any_width(
         &rt,
         rt.alloc(),
         &MissingPair,
         "no name and value joined by `=`",
     )?;
-    is_written(&rt, rt.alloc(), &EmptyName, "an empty name")
+    is_written_at_any_width(&rt, rt.alloc(), &EmptyName, "an empty name")
 }
 
 // A text, and the seconds of its Max-Age.
@@ -285,7 +285,7 @@ fn has_text(
 ) -> Result<(), Fail> {
     let text = cookie.to_text(alloc)?;
     is_equal(rt, text.as_str(), wanted, &wanted);
-    is_written(rt, alloc, cookie, wanted)
+    is_written_at_any_width(rt, alloc, cookie, wanted)
 }
 
 // The cookie has this text, which is that of an equal cookie where it is plain.
@@ -377,4 +377,60 @@ fn builds_cookies(rt: HostRuntime) -> Result<(), Fail> {
     holds(&rt, !is_plain, &text);
     let text = "c=3; HttpOnly; Secure; Path=/p; Domain=d.org; Max-Age=-1";
     is_built(&rt, rt.alloc(), &whole_cookie(rt.alloc())?, text)
+}
+
+// A year, and the text of a cookie that ends with it.
+const LAST_YEARS: &[(i16, &str)] = &[
+    (9999, "a=1; Expires=Fri, 31 Dec 9999 00:00:00 GMT"),
+    (0, "a=1; Expires=Sun, 31 Dec 0000 00:00:00 GMT"),
+    (-1, "a=1"),
+    (-9999, "a=1"),
+];
+
+fn until_the_end_of(alloc: Global, year: i16) -> Result<RawCookie<'static>, Fail> {
+    let end = Expiration::DateTime(DateTime::new(year, 12, 31, 0, 0, 0, 0)?);
+    Ok(builder(alloc, "a", "1")?.expires(end).build())
+}
+
+#[test]
+fn prints_no_year_below_0(rt: HostRuntime) -> Result<(), Fail> {
+    for (year, text) in LAST_YEARS {
+        has_text(&rt, rt.alloc(), &until_the_end_of(rt.alloc(), *year)?, text)?;
+    }
+    Ok(())
+}
+
+// The cookie with another value.
+fn with_value(
+    alloc: Global,
+    cookie: RawCookie<'static>,
+    value: &str,
+) -> Result<RawCookie<'static>, AllocError> {
+    let value = String::from_str(alloc, value)?;
+    Ok(RawCookieBuilder::from_cookie(cookie).value(value).build())
+}
+
+fn parsed(alloc: Global, text: &str) -> Result<RawCookie<'static>, Fail> {
+    let cookie = RawCookie::parse(text)?;
+    Ok(cookie.into_owned(alloc)?)
+}
+
+// A text of a cookie, and the text of the same cookie with the value `new`.
+const NEW_VALUES: &[(&str, &str)] = &[
+    ("a=1", "a=new"),
+    ("a=", "a=new"),
+    (
+        "c=3; Domain=d.org; Path=/p; Secure; HttpOnly; SameSite=Lax; Max-Age=5; Expires=Tue, 03 Aug 2100 00:38:37 GMT",
+        "c=new; HttpOnly; SameSite=Lax; Secure; Path=/p; Domain=d.org; Max-Age=5; Expires=Tue, 03 Aug 2100 00:38:37 GMT",
+    ),
+];
+
+#[test]
+fn a_value_is_changed_alone(rt: HostRuntime) -> Result<(), Fail> {
+    for (text, wanted) in NEW_VALUES {
+        let cookie = parsed(rt.alloc(), text)?;
+        let cookie = with_value(rt.alloc(), cookie, "new")?;
+        has_text(&rt, rt.alloc(), &cookie, wanted)?;
+    }
+    Ok(())
 }

@@ -14,6 +14,7 @@ pub enum ListError {
     Memory,
 }
 
+/// As `{}` prints it, also where a width is asked for.
 impl fmt::Display for ListError {
     ghost use Rattle.std.specs.Prelude.{Some};
     ghost use Rattle.cookie_psl.specs.Errors.{list_error_text};

@@ -10,6 +10,7 @@ pub enum RawCookieParseError {
     EmptyName,
 }
 
+/// As `{}` prints it, also where a width or other options are asked for.
 impl fmt::Display for RawCookieParseError {
     ghost use Rattle.std.specs.Prelude.{Some};
     ghost use Rattle.cookie_raw.specs.Errors.{parse_error_text};

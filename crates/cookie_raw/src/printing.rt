@@ -284,6 +284,7 @@ impl<'a> RawCookie<'a> {
     }
 }
 
+/// The text that [`to_text`](RawCookie::to_text) gives, as `{}` prints it, also where a width or other options are asked for.
 impl<'a> fmt::Display for RawCookie<'a> {
     ghost use Rattle.std.specs.Prelude.{Some};
     ghost use Rattle.cookie_raw.specs.CookieText.{cookie_text};
