@@ -1,0 +1,19 @@
+//! A store is begun, takes a cookie, and is asked.
+#![tactic(auto)]
+
+use cookie_store::CookieStore;
+use jiff::civil::date;
+use std::test::Fail;
+use url::Url;
+
+fn main(rt: HostRuntime) -> Result<(), Fail> {
+    let alloc = rt.alloc();
+    let now = date(2026, 1, 1).at(0, 0, 0, 0);
+    let mut store = CookieStore::new(alloc);
+    let page = Url::parse(alloc, "http://example.com/foo/bar")?;
+    store.parse("cookie1=value1", &page, now)?;
+    for cookie in store.matches(&Url::parse(alloc, "http://example.com/foo/x")?, now)? {
+        println!(rt; "{}={}", cookie.name(), cookie.value())?;
+    }
+    Ok(())
+}

@@ -1,0 +1,95 @@
+//! Cookies are loaded from bytes at hand, and what saving them would write is counted.
+#![tactic(auto)]
+
+ghost use Rattle.std.specs.Prelude.{Some};
+
+use cookie_store::device::{DeviceFailed, Sink, Source};
+use cookie_store::{Bulk, Cookie, CookieStore, Error};
+use jiff::civil::date;
+use url::Url;
+
+/// Bytes at hand, as a source.
+#[derive(Drop)]
+struct Bytes<'a> {
+    left: &'a [u8],
+    reads: u64,
+    failures: u64,
+}
+
+impl<'a> Source for Bytes<'a> {
+    ghost remaining = { λ s. Some s.left.now };
+
+    ghost failed = { λ s. s.failures };
+
+    ghost reads_left = { λ s. s.reads };
+
+    fn read(&mut self, buf: &mut [u8]) -> Result<usize, DeviceFailed> {
+        if self.reads == 0 {
+            self.failures += 1;
+            return Err(DeviceFailed);
+        }
+        self.reads -= 1;
+        let count = buf.len().min(self.left.len());
+        buf[..count].copy_from_slice(&self.left[..count]);
+        self.left = &self.left[count..];
+        Ok(count)
+    }
+
+    fn failures(&self) -> u64 {
+        self.failures
+    }
+}
+
+/// Counts the bytes that are written, and keeps none.
+#[derive(Drop)]
+struct Length {
+    bytes: u64,
+    failures: u64,
+}
+
+impl Sink for Length {
+    ghost failed = { λ s. s.failures };
+
+    fn write(&mut self, buf: &[u8]) -> Result<usize, DeviceFailed> {
+        match self.bytes.checked_add(buf.len() as u64) {
+            Some(bytes) => {
+                self.bytes = bytes;
+                Ok(buf.len())
+            }
+            None => {
+                self.failures += 1;
+                Err(DeviceFailed)
+            }
+        }
+    }
+
+    fn failures(&self) -> u64 {
+        self.failures
+    }
+}
+
+fn run(rt: &HostRuntime) -> Result<(), Error> {
+    let (alloc, now) = (rt.alloc(), date(2026, 1, 1).at(0, 0, 0, 0));
+    let site = Url::parse(alloc, "http://example.com/").map_err(|_| Error::Memory)?;
+    let mut source = Bytes {
+        left: b"a=1; Max-Age=60\nb=2; Max-Age=0\n",
+        reads: u64::MAX,
+        failures: 0,
+    };
+    let store = CookieStore::load(
+        alloc,
+        &mut source,
+        |line| Ok(Cookie::parse(alloc, line, &site, now)?),
+        now,
+    )?;
+    let mut length = Length {
+        bytes: 0,
+        failures: 0,
+    };
+    store.save(&mut length, |cookie| Ok(cookie.raw().to_text(alloc)?), now)?;
+    println!(rt; "{} bytes", length.bytes).map_err(|_| Error::Io)
+}
+
+fn main(rt: HostRuntime) -> Result<(), Error> {
+    run(&rt)
+}
