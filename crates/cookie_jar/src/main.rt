@@ -16,7 +16,7 @@ fn main(rt: HostRuntime) -> ExitCode {
     match script(&rt) {
         Ok(()) => ExitCode::SUCCESS,
         Err(fault) => {
-            let _told = eprintln!(rt; "cookie_jar: {fault}");
+            let _told = eprintln!(rt; "{fault}");
             ExitCode::from(fault.status())
         }
     }

@@ -22,12 +22,12 @@ run_fault_text Read = codes "read failed"
 run_fault_text Write = codes "write failed"
 run_fault_text Memory = codes "out of memory"
 
--- why the program failed, in words
+-- why the program failed, in words after its name
 abbrev pub fault_text : MainFault → List ℕ
-fault_text BadArguments = codes "bad arguments"
-fault_text CannotReadList = codes "cannot read list"
-fault_text (BadRule line) = codes "bad rule in line " ++ decimal line
-fault_text (Run fault) = run_fault_text fault
+fault_text BadArguments = codes "cookie_jar: bad arguments"
+fault_text CannotReadList = codes "cookie_jar: cannot read list"
+fault_text (BadRule line) = codes "cookie_jar: bad rule in line " ++ decimal line
+fault_text (Run fault) = codes "cookie_jar: " ++ run_fault_text fault
 
 -- the fault of a script whose source could not be read ahead
 abbrev pub fill_fault : FillError → RunFault

@@ -57,6 +57,8 @@ impl fmt::Display for RunFault {
 
     ghost output = { λ fault. Some (run_fault_text fault) };
 
+    ghost styled_output = { λ fault _. Some (run_fault_text fault) };
+
     fn fmt<W: fmt::Write>(&self, f: &mut fmt::Formatter<W>) -> fmt::Result {
         f.write_str(match self {
             RunFault::Read => "read failed",
@@ -93,6 +95,7 @@ impl MainFault {
     }
 }
 
+/// The whole text that goes to standard error, but for its line feed.
 impl fmt::Display for MainFault {
     ghost use Rattle.std.specs.Prelude.{Some};
     ghost use Rattle.cookie_script.specs.Faults.{fault_text};
@@ -101,10 +104,10 @@ impl fmt::Display for MainFault {
 
     fn fmt<W: fmt::Write>(&self, f: &mut fmt::Formatter<W>) -> fmt::Result {
         match self {
-            MainFault::BadArguments => f.write_str("bad arguments"),
-            MainFault::CannotReadList => f.write_str("cannot read list"),
-            MainFault::BadRule(line) => write!(f, "bad rule in line {line}"),
-            MainFault::Run(fault) => fault.fmt(f),
+            MainFault::BadArguments => f.write_str("cookie_jar: bad arguments"),
+            MainFault::CannotReadList => f.write_str("cookie_jar: cannot read list"),
+            MainFault::BadRule(line) => write!(f, "cookie_jar: bad rule in line {line}"),
+            MainFault::Run(fault) => write!(f, "cookie_jar: {fault}"),
         }
     }
 }

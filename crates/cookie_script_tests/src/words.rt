@@ -44,12 +44,20 @@ fn the_list_is_the_only_option(rt: HostRuntime) -> Result<(), Fail> {
 }
 
 const FAULTS: [(MainFault, u8, &str); 6] = [
-    (MainFault::BadArguments, 2, "bad arguments"),
-    (MainFault::CannotReadList, 2, "cannot read list"),
-    (MainFault::BadRule(17), 2, "bad rule in line 17"),
-    (MainFault::Run(RunFault::Read), 1, "read failed"),
-    (MainFault::Run(RunFault::Write), 1, "write failed"),
-    (MainFault::Run(RunFault::Memory), 3, "out of memory"),
+    (MainFault::BadArguments, 2, "cookie_jar: bad arguments"),
+    (MainFault::CannotReadList, 2, "cookie_jar: cannot read list"),
+    (MainFault::BadRule(17), 2, "cookie_jar: bad rule in line 17"),
+    (MainFault::Run(RunFault::Read), 1, "cookie_jar: read failed"),
+    (
+        MainFault::Run(RunFault::Write),
+        1,
+        "cookie_jar: write failed",
+    ),
+    (
+        MainFault::Run(RunFault::Memory),
+        3,
+        "cookie_jar: out of memory",
+    ),
 ];
 
 fn has_status(rt: &impl Abort, fault: MainFault, status: u8) {
@@ -62,11 +70,46 @@ fn has_text(rt: &impl Abort, alloc: Global, fault: MainFault, text: &str) -> Res
     Ok(())
 }
 
+// A width changes nothing.
+fn has_text_at_a_width(
+    rt: &impl Abort,
+    alloc: Global,
+    fault: MainFault,
+    text: &str,
+) -> Result<(), Fail> {
+    let printed = format!(in alloc; "{fault:>40}")?;
+    assert_eq!(rt; printed.as_str(), text, "at {fault:?}");
+    Ok(())
+}
+
 #[test]
 fn faults_have_a_status_and_a_text(rt: HostRuntime) -> Result<(), Fail> {
     for (fault, status, text) in &FAULTS {
         has_status(&rt, *fault, *status);
         has_text(&rt, rt.alloc(), *fault, text)?;
+        has_text_at_a_width(&rt, rt.alloc(), *fault, text)?;
+    }
+    Ok(())
+}
+
+const RUN_FAULTS: [(RunFault, &str); 3] = [
+    (RunFault::Read, "read failed"),
+    (RunFault::Write, "write failed"),
+    (RunFault::Memory, "out of memory"),
+];
+
+// Also where a width is asked for.
+fn is_printed(rt: &impl Abort, alloc: Global, fault: RunFault, text: &str) -> Result<(), Fail> {
+    let printed = format!(in alloc; "{fault}|{fault:>40}|{fault:<40}|")?;
+    let wanted = format!(in alloc; "{text}|{text}|{text}|")?;
+    assert_eq!(rt; printed, wanted);
+    Ok(())
+}
+
+#[test]
+fn faults_of_a_script_have_a_text(rt: HostRuntime) -> Result<(), Fail> {
+    for (fault, text) in &RUN_FAULTS {
+        is_printed(&rt, rt.alloc(), *fault, text)?;
     }
     Ok(())
 }
