@@ -3,6 +3,7 @@ ghost use Rattle.std.specs.Prelude.{◌≡◌};
 ghost use Rattle.cookie_script.specs.Faults.{status_of};
 
 use cookie_device::{DeviceFailed, FillError};
+use cookie_store::psl::ListError;
 use std::alloc::AllocError;
 use std::fmt;
 
@@ -91,6 +92,40 @@ impl MainFault {
             MainFault::BadArguments | MainFault::CannotReadList | MainFault::BadRule(_) => 2,
             MainFault::Run(RunFault::Read | RunFault::Write) => 1,
             MainFault::Run(RunFault::Memory) => 3,
+        }
+    }
+}
+
+impl From<AllocError> for MainFault {
+    ghost use Rattle.cookie_script.specs.declared.fault.MainFault.TheVariants.{Run};
+    ghost use Rattle.cookie_script.specs.declared.fault.RunFault.TheVariants.{Memory};
+
+    ghost from_gives = { λ _ fault. fault ≡ Run Memory };
+
+    fn from(_error: AllocError) -> MainFault {
+        MainFault::Run(RunFault::Memory)
+    }
+}
+
+impl From<RunFault> for MainFault {
+    ghost use Rattle.cookie_script.specs.declared.fault.MainFault.TheVariants.{Run};
+
+    ghost from_gives = { λ error fault. fault ≡ Run error };
+
+    fn from(error: RunFault) -> MainFault {
+        MainFault::Run(error)
+    }
+}
+
+impl From<ListError> for MainFault {
+    ghost use Rattle.cookie_script.specs.Faults.{list_fault};
+
+    ghost from_gives = { λ error fault. fault ≡ list_fault error };
+
+    fn from(error: ListError) -> MainFault {
+        match error {
+            ListError::BadRule { line } => MainFault::BadRule(line),
+            ListError::Memory => MainFault::Run(RunFault::Memory),
         }
     }
 }
