@@ -1,8 +1,9 @@
 //! The words of the command line, and the faults.
-use cookie_script::arguments;
 use cookie_script::fault::{MainFault, RunFault};
 use cookie_script::options::Options;
+use cookie_script::{arguments, suffixes};
 use std::alloc::{AllocError, Global};
+use std::io::{Error, ErrorKind};
 use std::process::Abort;
 use std::test::Fail;
 
@@ -41,6 +42,59 @@ fn the_list_is_the_only_option(rt: HostRuntime) -> Result<(), Fail> {
         asks_for(&rt, owned.as_slice(), *wanted);
     }
     Ok(())
+}
+
+// The words of the command line, and those after the program's name.
+const COMMAND_LINES: [(&[&str], &[&str]); 4] = [
+    (&["cookie_jar", "--suffixes", "a"], &["--suffixes", "a"]),
+    (&["--suffixes", "a"], &["a"]),
+    (&["x"], &[]),
+    (&[], &[]),
+];
+
+fn has_own_words(rt: &impl Abort, words: &[String], own: &[String]) {
+    assert_eq!(rt; arguments::own_words(words), own);
+}
+
+#[test]
+fn the_name_is_no_argument(rt: HostRuntime) -> Result<(), Fail> {
+    for (words, own) in &COMMAND_LINES {
+        let words = owned(rt.alloc(), words)?;
+        let own = owned(rt.alloc(), own)?;
+        has_own_words(&rt, words.as_slice(), own.as_slice());
+    }
+    Ok(())
+}
+
+// Of each kind of error: what it is where the words cannot be read, and where the list cannot.
+const KINDS: [(ErrorKind, MainFault, MainFault); 3] = [
+    (
+        ErrorKind::InvalidData,
+        MainFault::BadArguments,
+        MainFault::CannotReadList,
+    ),
+    (
+        ErrorKind::NotFound,
+        MainFault::BadArguments,
+        MainFault::CannotReadList,
+    ),
+    (
+        ErrorKind::OutOfMemory,
+        MainFault::Run(RunFault::Memory),
+        MainFault::Run(RunFault::Memory),
+    ),
+];
+
+fn is_fault(rt: &impl Abort, told: &MainFault, fault: &MainFault) {
+    assert_eq!(rt; told, fault);
+}
+
+#[test]
+fn what_cannot_be_read_is_a_fault(rt: HostRuntime) {
+    for (kind, of_words, of_file) in &KINDS {
+        is_fault(&rt, &arguments::words_fault(Error::from(*kind)), of_words);
+        is_fault(&rt, &suffixes::file_fault(Error::from(*kind)), of_file);
+    }
 }
 
 const FAULTS: [(MainFault, u8, &str); 6] = [
