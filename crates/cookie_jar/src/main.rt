@@ -7,16 +7,16 @@
 
 use cookie_device::Counted;
 use cookie_psl::List;
-use cookie_script::fault::{MainFault, RunFault};
+use cookie_script::fault::MainFault;
 use cookie_script::{arguments, run, suffixes};
 use std::process::ExitCode;
-use std::{env, fs, io};
+use std::{env, fs};
 
 fn main(rt: HostRuntime) -> ExitCode {
     match script(&rt) {
         Ok(()) => ExitCode::SUCCESS,
         Err(fault) => {
-            let _told = eprintln!(rt; "cookie_jar: {fault}");
+            let _told = eprintln!(rt; "{fault}");
             ExitCode::from(fault.status())
         }
     }
@@ -24,37 +24,20 @@ fn main(rt: HostRuntime) -> ExitCode {
 
 fn script(rt: &HostRuntime) -> Result<(), MainFault> {
     let words: Vec<String> = env::args(rt)
-        .map_err(words_fault)?
-        .skip(1)
-        .collect(rt.alloc())
-        .map_err(|_| MainFault::Run(RunFault::Memory))?;
-    let list = match arguments::options(words.as_slice())?.suffixes {
+        .map_err(arguments::words_fault)?
+        .collect(rt.alloc())?;
+    let own = arguments::own_words(words.as_slice());
+    let list = match arguments::options(own)?.suffixes {
         Some(file) => Some(read_list(rt, file)?),
         None => None,
     };
     let mut source = Counted::new(rt.stdin());
     let mut sink = Counted::new(rt.stdout());
-    run::run(rt.alloc(), &mut source, &mut sink, list).map_err(MainFault::Run)
-}
-
-// Why the arguments could not be read: one that is no UTF-8 is a bad one.
-fn words_fault(error: io::Error) -> MainFault {
-    match error.kind() {
-        io::ErrorKind::OutOfMemory => MainFault::Run(RunFault::Memory),
-        _ => MainFault::BadArguments,
-    }
+    Ok(run::run(rt.alloc(), &mut source, &mut sink, list)?)
 }
 
 // The public suffix list of a file.
 fn read_list(rt: &HostRuntime, file: &str) -> Result<List, MainFault> {
-    let bytes = fs::read(rt, file).map_err(list_fault)?;
+    let bytes = fs::read(rt, file).map_err(suffixes::file_fault)?;
     suffixes::list_of(rt.alloc(), bytes.as_slice())
-}
-
-// Why the file of the list could not be read.
-fn list_fault(error: io::Error) -> MainFault {
-    match error.kind() {
-        io::ErrorKind::OutOfMemory => MainFault::Run(RunFault::Memory),
-        _ => MainFault::CannotReadList,
-    }
 }

@@ -1,5 +1,5 @@
 -- What a line of a script asks for.
-use Rattle.std.specs.Prelude.{ℕ, ◌==◌, Bool, true, false, ◌&&◌, List, bytes_eq, codes, Option, Some, None, is_some, option_map, option_and_then, if◌then◌else◌}
+use Rattle.std.specs.Prelude.{ℕ, ◌==◌, Bool, true, false, ◌&&◌, List, bytes_eq, codes, Option, Some, None, is_none, is_some, option_map, option_and_then, if◌then◌else◌}
 use Rattle.std.specs.List.{before_first, after_first, list_any}
 use Rattle.std.specs.Option.{option_map_or}
 use Rattle.std.specs.Result.{result_ok}
@@ -7,6 +7,8 @@ use Rattle.std.specs.Str.{is_utf8}
 use Rattle.url.specs.Parser.{parse_url}
 use Rattle.url.specs.Parts.{Parts}
 use Rattle.cookie_words.specs.Moments.{Moment}
+use Rattle.cookie_parts.specs.Cookie.{early}
+use Rattle.cookie_raw.specs.Reading.{reading}
 use Rattle.cookie_saved.specs.MomentText.{moment_at}
 use Rattle.cookie_store.specs.Rows.{Key, key_at}
 
@@ -81,10 +83,10 @@ verb_may_want line =
 unfoldable pub may_want : List ℕ → Bool
 may_want line = is_utf8 line && option_map_or verb_may_want (first_word line) false
 
--- a command may want memory where it has a URL
+-- a command may want memory, once it is read: a `set` whose text is not refused early, and `get`
 abbrev pub command_may_want : Command → Bool
 command_may_want (Now moment) = false
-command_may_want (Set url text) = true
+command_may_want (Set url text) = is_none (early (reading text) url)
 command_may_want (Get url) = true
 command_may_want ListRows = false
 command_may_want (Remove key) = false

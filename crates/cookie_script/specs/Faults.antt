@@ -1,7 +1,11 @@
 -- What the faults of the program say of it.
 use Rattle.std.specs.Prelude.{◌≡◌, ℕ, ◌+◌, List, ◌++◌, Result, Ok, Err, codes, decimal}
+use Rattle.std.specs.declared.io.ErrorKind.{ErrorKind}
+use Rattle.std.specs.declared.io.ErrorKind.TheVariants as Io
 use Rattle.cookie_device.specs.declared.lines.FillError.{FillError}
 use Rattle.cookie_device.specs.declared.lines.FillError.TheVariants as Fill
+use Rattle.cookie_psl.specs.declared.error.ListError.{ListError}
+use Rattle.cookie_psl.specs.declared.error.ListError.TheVariants as Psl
 use Rattle.cookie_script.specs.declared.fault.MainFault.{MainFault}
 use Rattle.cookie_script.specs.declared.fault.MainFault.TheVariants.{BadArguments, CannotReadList, BadRule, Run}
 use Rattle.cookie_script.specs.declared.fault.RunFault.{RunFault}
@@ -22,17 +26,32 @@ run_fault_text Read = codes "read failed"
 run_fault_text Write = codes "write failed"
 run_fault_text Memory = codes "out of memory"
 
--- why the program failed, in words
+-- why the program failed, in words after its name
 abbrev pub fault_text : MainFault → List ℕ
-fault_text BadArguments = codes "bad arguments"
-fault_text CannotReadList = codes "cannot read list"
-fault_text (BadRule line) = codes "bad rule in line " ++ decimal line
-fault_text (Run fault) = run_fault_text fault
+fault_text BadArguments = codes "cookie_jar: bad arguments"
+fault_text CannotReadList = codes "cookie_jar: cannot read list"
+fault_text (BadRule line) = codes "cookie_jar: bad rule in line " ++ decimal line
+fault_text (Run fault) = codes "cookie_jar: " ++ run_fault_text fault
 
 -- the fault of a script whose source could not be read ahead
 abbrev pub fill_fault : FillError → RunFault
 fill_fault Fill.Read = Read
 fill_fault Fill.Memory = Memory
+
+-- the fault where the words of the command line could not be read: no memory, or a word that is not UTF-8
+abbrev pub words_fault : ErrorKind → MainFault
+words_fault Io.OutOfMemory = Run Memory
+words_fault _ = BadArguments
+
+-- the fault where the file of a list could not be read
+abbrev pub file_fault : ErrorKind → MainFault
+file_fault Io.OutOfMemory = Run Memory
+file_fault _ = CannotReadList
+
+-- the fault where a text is no list
+abbrev pub list_fault : ListError → MainFault
+list_fault (Psl.BadRule line) = BadRule line
+list_fault Psl.Memory = Run Memory
 
 -- `Read` raised the source's count of failures by one, `Write` the sink's, and everything else left both
 abbrev pub CountsFault : {T : Type 0} → Result T RunFault → ℕ → ℕ → ℕ → ℕ → Type 0

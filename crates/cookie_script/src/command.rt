@@ -13,7 +13,7 @@ use url::{ParseError, Url};
 /// What a line of a script asks for.
 #[derive(Drop)]
 pub enum Command<'a> {
-    /// `now MOMENT`: the moment goes on.
+    /// `now MOMENT`: this is the moment from here on.
     Now(DateTime),
     /// `set URL TEXT`: a Set-Cookie text comes from the URL.
     Set(Url, &'a str),

@@ -3,6 +3,7 @@ ghost use Rattle.std.specs.Prelude.{◌≡◌};
 ghost use Rattle.cookie_script.specs.Faults.{status_of};
 
 use cookie_device::{DeviceFailed, FillError};
+use cookie_store::psl::ListError;
 use std::alloc::AllocError;
 use std::fmt;
 
@@ -57,6 +58,8 @@ impl fmt::Display for RunFault {
 
     ghost output = { λ fault. Some (run_fault_text fault) };
 
+    ghost styled_output = { λ fault _. Some (run_fault_text fault) };
+
     fn fmt<W: fmt::Write>(&self, f: &mut fmt::Formatter<W>) -> fmt::Result {
         f.write_str(match self {
             RunFault::Read => "read failed",
@@ -93,6 +96,41 @@ impl MainFault {
     }
 }
 
+impl From<AllocError> for MainFault {
+    ghost use Rattle.cookie_script.specs.declared.fault.MainFault.TheVariants.{Run};
+    ghost use Rattle.cookie_script.specs.declared.fault.RunFault.TheVariants.{Memory};
+
+    ghost from_gives = { λ _ fault. fault ≡ Run Memory };
+
+    fn from(_error: AllocError) -> MainFault {
+        MainFault::Run(RunFault::Memory)
+    }
+}
+
+impl From<RunFault> for MainFault {
+    ghost use Rattle.cookie_script.specs.declared.fault.MainFault.TheVariants.{Run};
+
+    ghost from_gives = { λ error fault. fault ≡ Run error };
+
+    fn from(error: RunFault) -> MainFault {
+        MainFault::Run(error)
+    }
+}
+
+impl From<ListError> for MainFault {
+    ghost use Rattle.cookie_script.specs.Faults.{list_fault};
+
+    ghost from_gives = { λ error fault. fault ≡ list_fault error };
+
+    fn from(error: ListError) -> MainFault {
+        match error {
+            ListError::BadRule { line } => MainFault::BadRule(line),
+            ListError::Memory => MainFault::Run(RunFault::Memory),
+        }
+    }
+}
+
+/// The whole text that goes to standard error, but for its line feed.
 impl fmt::Display for MainFault {
     ghost use Rattle.std.specs.Prelude.{Some};
     ghost use Rattle.cookie_script.specs.Faults.{fault_text};
@@ -101,10 +139,10 @@ impl fmt::Display for MainFault {
 
     fn fmt<W: fmt::Write>(&self, f: &mut fmt::Formatter<W>) -> fmt::Result {
         match self {
-            MainFault::BadArguments => f.write_str("bad arguments"),
-            MainFault::CannotReadList => f.write_str("cannot read list"),
-            MainFault::BadRule(line) => write!(f, "bad rule in line {line}"),
-            MainFault::Run(fault) => fault.fmt(f),
+            MainFault::BadArguments => f.write_str("cookie_jar: bad arguments"),
+            MainFault::CannotReadList => f.write_str("cookie_jar: cannot read list"),
+            MainFault::BadRule(line) => write!(f, "cookie_jar: bad rule in line {line}"),
+            MainFault::Run(fault) => write!(f, "cookie_jar: {fault}"),
         }
     }
 }

@@ -73,6 +73,7 @@ impl Jar {
         }
     }
 
+    // A text that is refused early wants no memory.
     #[tactic(auto, unfolding(crate::specs::Script::command_turn))]
     fn obey(&mut self, command: Command<'_>) -> Result<Told, AllocError>
         ensures state { OnOk result (self.new ≡ (command_turn (Some (command_view command.entry)) self.old).state) }

@@ -12,8 +12,8 @@ use cookie_device::{LineBuffer, Output, Sink, Source};
 use cookie_store::psl::List;
 use std::alloc::Global;
 
-/// Runs the script that the source gives, and writes its answers to the sink. What is written is gathered, and goes out
-/// before the next read. The store obeys the public suffix list, if there is one.
+/// Runs the script that the source gives, and writes its answers to the sink. The store obeys the public suffix list, if
+/// there is one.
 pub fn run<R: Source, W: Sink>(
     alloc: Global,
     source: &mut R,
@@ -71,6 +71,7 @@ fn answer_lines<R: Source, W: Sink>(
             out.put_all(sink, jar.answer(told)?)?;
             input.pass(end + 1);
         } else {
+            // Who drives the other end has each answer before the next line has to come.
             out.flush(sink)?;
             if !input.fill(source)? {
                 break;

@@ -1,11 +1,14 @@
 //! The public suffix list of a file.
 ghost use Rattle.std.specs.Prelude.{◌≡◌, false, Err};
+ghost use Rattle.std.specs.IoError.{error_kind};
 ghost use Rattle.std.specs.Str.{is_utf8};
+ghost use Rattle.cookie_script.specs.Faults.{file_fault};
 ghost use Rattle.cookie_script.specs.Suffixes.{list_at, GivesList};
 
 use crate::fault::{MainFault, RunFault};
-use cookie_store::psl::{List, ListError};
+use cookie_store::psl::List;
 use std::alloc::Global;
+use std::io;
 
 /// The list that the bytes of a file say. `CannotReadList` where they are not UTF-8, `BadRule` with the number of the first
 /// line that is no rule.
@@ -17,9 +20,15 @@ pub fn list_of(alloc: Global, bytes: &[u8]) -> Result<List, MainFault>
     let Ok(text) = str::from_utf8(bytes) else {
         return Err(MainFault::CannotReadList);
     };
-    match List::from_text(alloc, text) {
-        Ok(list) => Ok(list),
-        Err(ListError::BadRule { line }) => Err(MainFault::BadRule(line)),
-        Err(ListError::Memory) => Err(MainFault::Run(RunFault::Memory)),
+    Ok(List::from_text(alloc, text)?)
+}
+
+/// Why the file of a list could not be read: `CannotReadList`, unless there was no memory.
+pub fn file_fault(error: io::Error) -> MainFault
+    ensures { result ≡ file_fault (error_kind error) }
+{
+    match error.kind() {
+        io::ErrorKind::OutOfMemory => MainFault::Run(RunFault::Memory),
+        _ => MainFault::CannotReadList,
     }
 }

@@ -1,8 +1,9 @@
 //! The words of the command line, and the faults.
-use cookie_script::arguments;
 use cookie_script::fault::{MainFault, RunFault};
 use cookie_script::options::Options;
+use cookie_script::{arguments, suffixes};
 use std::alloc::{AllocError, Global};
+use std::io::{Error, ErrorKind};
 use std::process::Abort;
 use std::test::Fail;
 
@@ -43,13 +44,74 @@ fn the_list_is_the_only_option(rt: HostRuntime) -> Result<(), Fail> {
     Ok(())
 }
 
+// The words of the command line, and those after the program's name.
+const COMMAND_LINES: [(&[&str], &[&str]); 4] = [
+    (&["cookie_jar", "--suffixes", "a"], &["--suffixes", "a"]),
+    (&["--suffixes", "a"], &["a"]),
+    (&["x"], &[]),
+    (&[], &[]),
+];
+
+fn has_own_words(rt: &impl Abort, words: &[String], own: &[String]) {
+    assert_eq!(rt; arguments::own_words(words), own);
+}
+
+#[test]
+fn the_name_is_no_argument(rt: HostRuntime) -> Result<(), Fail> {
+    for (words, own) in &COMMAND_LINES {
+        let words = owned(rt.alloc(), words)?;
+        let own = owned(rt.alloc(), own)?;
+        has_own_words(&rt, words.as_slice(), own.as_slice());
+    }
+    Ok(())
+}
+
+// Of each kind of error: what it is where the words cannot be read, and where the list cannot.
+const KINDS: [(ErrorKind, MainFault, MainFault); 3] = [
+    (
+        ErrorKind::InvalidData,
+        MainFault::BadArguments,
+        MainFault::CannotReadList,
+    ),
+    (
+        ErrorKind::NotFound,
+        MainFault::BadArguments,
+        MainFault::CannotReadList,
+    ),
+    (
+        ErrorKind::OutOfMemory,
+        MainFault::Run(RunFault::Memory),
+        MainFault::Run(RunFault::Memory),
+    ),
+];
+
+fn is_fault(rt: &impl Abort, told: &MainFault, fault: &MainFault) {
+    assert_eq!(rt; told, fault);
+}
+
+#[test]
+fn what_cannot_be_read_is_a_fault(rt: HostRuntime) {
+    for (kind, of_words, of_file) in &KINDS {
+        is_fault(&rt, &arguments::words_fault(Error::from(*kind)), of_words);
+        is_fault(&rt, &suffixes::file_fault(Error::from(*kind)), of_file);
+    }
+}
+
 const FAULTS: [(MainFault, u8, &str); 6] = [
-    (MainFault::BadArguments, 2, "bad arguments"),
-    (MainFault::CannotReadList, 2, "cannot read list"),
-    (MainFault::BadRule(17), 2, "bad rule in line 17"),
-    (MainFault::Run(RunFault::Read), 1, "read failed"),
-    (MainFault::Run(RunFault::Write), 1, "write failed"),
-    (MainFault::Run(RunFault::Memory), 3, "out of memory"),
+    (MainFault::BadArguments, 2, "cookie_jar: bad arguments"),
+    (MainFault::CannotReadList, 2, "cookie_jar: cannot read list"),
+    (MainFault::BadRule(17), 2, "cookie_jar: bad rule in line 17"),
+    (MainFault::Run(RunFault::Read), 1, "cookie_jar: read failed"),
+    (
+        MainFault::Run(RunFault::Write),
+        1,
+        "cookie_jar: write failed",
+    ),
+    (
+        MainFault::Run(RunFault::Memory),
+        3,
+        "cookie_jar: out of memory",
+    ),
 ];
 
 fn has_status(rt: &impl Abort, fault: MainFault, status: u8) {
@@ -62,11 +124,46 @@ fn has_text(rt: &impl Abort, alloc: Global, fault: MainFault, text: &str) -> Res
     Ok(())
 }
 
+// A width changes nothing.
+fn has_text_at_a_width(
+    rt: &impl Abort,
+    alloc: Global,
+    fault: MainFault,
+    text: &str,
+) -> Result<(), Fail> {
+    let printed = format!(in alloc; "{fault:>40}")?;
+    assert_eq!(rt; printed.as_str(), text, "at {fault:?}");
+    Ok(())
+}
+
 #[test]
 fn faults_have_a_status_and_a_text(rt: HostRuntime) -> Result<(), Fail> {
     for (fault, status, text) in &FAULTS {
         has_status(&rt, *fault, *status);
         has_text(&rt, rt.alloc(), *fault, text)?;
+        has_text_at_a_width(&rt, rt.alloc(), *fault, text)?;
+    }
+    Ok(())
+}
+
+const RUN_FAULTS: [(RunFault, &str); 3] = [
+    (RunFault::Read, "read failed"),
+    (RunFault::Write, "write failed"),
+    (RunFault::Memory, "out of memory"),
+];
+
+// Also where a width is asked for.
+fn is_printed(rt: &impl Abort, alloc: Global, fault: RunFault, text: &str) -> Result<(), Fail> {
+    let printed = format!(in alloc; "{fault}|{fault:>40}|{fault:<40}|")?;
+    let wanted = format!(in alloc; "{text}|{text}|{text}|")?;
+    assert_eq!(rt; printed, wanted);
+    Ok(())
+}
+
+#[test]
+fn faults_of_a_script_have_a_text(rt: HostRuntime) -> Result<(), Fail> {
+    for (fault, text) in &RUN_FAULTS {
+        is_printed(&rt, rt.alloc(), *fault, text)?;
     }
     Ok(())
 }
