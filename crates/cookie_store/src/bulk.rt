@@ -1,10 +1,10 @@
 //! What a store does with many cookies at once.
-ghost use Rattle.std.specs.Prelude.{◌≡◌, ◌-◌, ◌^◌, ◌<◌, false, true, None, IfErr, IfOk, OnErr, OnOk};
+ghost use Rattle.std.specs.Prelude.{◌≡◌, ◌-◌, ◌^◌, ◌<◌, false, true, Err, None, Some, IfErr, IfOk, OnErr, OnOk};
 ghost use Rattle.std.specs.Fn.{FnReturnsAt};
 ghost use Rattle.std.specs.Io.KnownBytes.{IsAtEnd};
 ghost use Rattle.std.specs.Iterator.{IsFinite};
 ghost use Rattle.cookie_words.specs.Moments.{moment_of};
-ghost use Rattle.cookie_parts.specs.Cookie.{cookie_of};
+ghost use Rattle.cookie_parts.specs.Cookie.{cookie_of, early_refusal};
 ghost use Rattle.cookie_laws.specs.Acceptance.{received};
 ghost use Rattle.cookie_laws.specs.Runs.{IsReply, Stored, UnlessMemory};
 ghost use Rattle.cookie_store.specs.Contents.{Contents};
@@ -17,7 +17,7 @@ use crate::response::store_each;
 use crate::saving::save_rows;
 use crate::{CookieStore, InsertResult};
 use cookie_device::{Sink, Source};
-use cookie_parts::{Cookie, Error, StoreResult};
+use cookie_parts::{Cookie, CookieError, Error, StoreResult};
 use cookie_raw::RawCookie;
 use jiff::civil::DateTime;
 use log::Log;
@@ -45,7 +45,8 @@ pub trait Bulk: Drop {
         ensures rows { UnlessMemory result (contents self.new ≡ record (contents self.old) {
           rows = (received (contents self.old).suffixes (contents self.old).rows (cookie_of raw.now url.now (moment_of now)) url.now (moment_of now)).rows;
         }) }
-        ensures refused { OnErr result (contents self.new ≡ contents self.old) };
+        ensures refused { OnErr result (contents self.new ≡ contents self.old) }
+        ensures early { (refusal : CookieError) → early_refusal raw.now url.now ≡ Some refusal → result ≡ Err refusal };
 
     /// Writes, for each cookie that has not ended by the moment and ends at one, what the function says of it and a line
     /// feed, in the store's order. The first error that the function answers, or `Io` where the writer failed, ends this;
