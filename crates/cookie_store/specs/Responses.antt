@@ -1,5 +1,5 @@
 -- The cookies of a response.
-use Rattle.std.specs.Prelude.{◌≡◌, ℕ, ◌++◌, List, codes, Option, Some, if◌then◌else◌}
+use Rattle.std.specs.Prelude.{◌≡◌, ℕ, ◌++◌, List, codes, Option, None, Some, if◌then◌else◌}
 use Rattle.std.specs.Iterator.{Drains, YieldsThen}
 use Rattle.std.specs.List.{fold}
 use Rattle.url.specs.Parts.{Parts}
@@ -7,7 +7,7 @@ use Rattle.cookie_words.specs.Moments.{Moment}
 use Rattle.cookie_raw.specs.CookieText.{cookie_text}
 use Rattle.cookie_raw.specs.Raw.{Raw}
 use Rattle.cookie_psl.specs.Rules.{RuleList}
-use Rattle.cookie_parts.specs.Cookie.{Row, cookie_of, is_secure_only}
+use Rattle.cookie_parts.specs.Cookie.{Row, cookie_of, early_refusal, is_secure_only}
 use Rattle.cookie_laws.specs.Acceptance.{received}
 use Rattle.cookie_store.specs.Contents.{Contents}
 
@@ -24,10 +24,16 @@ Takes url now raws old new = new ≡ record old { rows = rows_after_response old
 abbrev pub TakesAll : {S : Type 0} → (S → Option Raw → S → Type 0) → S → Parts → Moment → Contents → Contents → Type 0
 TakesAll steps items url now old new = (raws : List Raw) × Drains steps items raws × Takes url now raws old new
 
--- it took the items before one, and these are left after that one
+-- the same, and these are left after the `None`
+abbrev pub TakesToEnd : {S : Type 0} → (S → Option Raw → S → Type 0) → S → S → Parts → Moment → Contents → Contents → Type 0
+TakesToEnd steps items rest url now old new =
+    (raws : List Raw) × YieldsThen steps items raws None rest × Takes url now raws old new
+
+-- it took the items before one, which is not refused early, and these are left after that one
 abbrev pub TakesUntil : {S : Type 0} → (S → Option Raw → S → Type 0) → S → S → Parts → Moment → Contents → Contents → Type 0
 TakesUntil steps items rest url now old new =
-    (raws : List Raw) × (next : Raw) × YieldsThen steps items raws (Some next) rest × Takes url now raws old new
+    (raws : List Raw) × (next : Raw) × YieldsThen steps items raws (Some next) rest × (early_refusal next url ≡ None)
+    × Takes url now raws old new
 
 -- the same, wherever it stopped
 abbrev pub TakesSome : {S : Type 0} → (S → Option Raw → S → Type 0) → S → Parts → Moment → Contents → Contents → Type 0

@@ -1,10 +1,12 @@
 //! The cookies of a response, and what is logged of them.
-ghost use Rattle.std.specs.Prelude.{OnErr, OnOk};
+ghost use Rattle.std.specs.Prelude.{◌≡◌, ◌≢◌, Err, IfOk, OnErr, OnOk};
 ghost use Rattle.std.specs.Iterator.{IsFinite};
+ghost use Rattle.std.specs.Result.{result_err};
 ghost use Rattle.cookie_words.specs.Moments.{moment_of};
-ghost use Rattle.cookie_store.specs.Responses.{TakesAll, TakesUntil};
+ghost use Rattle.cookie_parts.specs.declared.cookie_error.CookieError.TheVariants.{Memory};
+ghost use Rattle.cookie_store.specs.Responses.{TakesToEnd, TakesUntil};
 
-use crate::Bulk;
+use crate::{Bulk, InsertResult};
 use cookie_parts::CookieError;
 use cookie_raw::RawCookie;
 use jiff::civil::DateTime;
@@ -44,19 +46,29 @@ pub(crate) fn store_each<'c, S: Bulk, L: Log, I: Iterator<Item = RawCookie<'c>>>
 ) -> Result<(), AllocError>
     requires can { I.can_next cookies.old }
     requires ends { IsFinite (I.remaining cookies.old) }
-    ensures taken { OnOk result (TakesAll I.next_gives cookies.old url.now (moment_of now) (S.contents store.old) (S.contents store.new)) }
+    ensures taken { OnOk result
+        (TakesToEnd I.next_gives cookies.old cookies.new url.now (moment_of now) (S.contents store.old) (S.contents store.new)) }
     ensures stopped { OnErr result
         (TakesUntil I.next_gives cookies.old cookies.new url.now (moment_of now) (S.contents store.old) (S.contents store.new)) }
 {
     while let Some(raw) = cookies.next() {
         log_arrival(logger, &raw);
-        match store.take_raw(&raw, url, now) {
-            Ok(_) => {}
-            Err(CookieError::Memory) => return Err(AllocError),
-            Err(refusal) => log_refusal(logger, refusal),
-        }
+        let refusal = refusal_of(store.take_raw(&raw, url, now))?;
+        log_refusal(logger, refusal);
     }
     Ok(())
+}
+
+// Why a cookie was refused, if it was, unless memory ran out.
+fn refusal_of(told: InsertResult) -> Result<Option<CookieError>, AllocError>
+    ensures refusal { IfOk result (λ refusal. (refusal ≡ result_err told) × (told ≢ Err Memory)) }
+    ensures memory { OnErr result (told ≡ Err Memory) }
+{
+    match told {
+        Ok(_) => Ok(None),
+        Err(CookieError::Memory) => Err(AllocError),
+        Err(refusal) => Ok(Some(refusal)),
+    }
 }
 
 // Logs that a cookie came.
@@ -64,7 +76,9 @@ fn log_arrival<L: Log>(logger: &L, raw: &RawCookie<'_>) {
     debug!(logger; "{}", Arrival { raw });
 }
 
-// Logs why a cookie was refused.
-fn log_refusal<L: Log>(logger: &L, refusal: CookieError) {
-    debug!(logger; "unable to store Set-Cookie: {refusal}");
+// Logs why a cookie was refused, if it was.
+fn log_refusal<L: Log>(logger: &L, refusal: Option<CookieError>) {
+    if let Some(refusal) = refusal {
+        debug!(logger; "unable to store Set-Cookie: {refusal}");
+    }
 }
