@@ -8,7 +8,7 @@ use Rattle.cookie_words.specs.Moments.{Moment}
 use Rattle.cookie_parts.specs.Cookie.{Row}
 use Rattle.cookie_parts.specs.declared.error.Error.{Error}
 use Rattle.cookie_parts.specs.declared.error.Error.TheVariants.{Memory}
-use Rattle.cookie_store.specs.Loading.{AreCookies, MakesCookie, RefusesLine, RefusesText, TakesLine}
+use Rattle.cookie_store.specs.Loading.{AreCookies, FailsAtLine, MakesCookie, RefusesLine, RefusesText, TakesLine}
 use Rattle.cookie_laws.specs.Rows.{built}
 use Rattle.cookie_store.proofs.Pairs.{AllZip-more}
 
@@ -157,6 +157,6 @@ module _ (makes : List ℕ → Result Row Error → Type 0) where
 
   -- if such a line is refused, so is the text
   pub refused_text : (error : Error) (line : List ℕ) (known : Option (List ℕ)) → IfSome known (Comes line)
-      → (error ≡ Memory) ⊎ RefusesLine makes error line → (error ≡ Memory) ⊎ RefusesText makes error known
-  refused_text error line known comes (inl memory) = inl memory
+      → FailsAtLine makes error line → (error ≡ Memory) ⊎ RefusesText makes error known
+  refused_text error line known comes (inl memory) = inl memory.0
   refused_text error line known comes (inr refuses) = inr (line, refuses, comes)

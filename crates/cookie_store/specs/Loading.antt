@@ -19,6 +19,10 @@ module _ (makes : List ℕ → Result Row Error → Type 0) where
   abbrev pub RefusesLine : Error → List ℕ → Type 0
   RefusesLine error line = ((is_utf8 line ≡ false) × (error ≡ NotUtf8)) ⊎ (IsTrue (is_utf8 line) × makes line (Err error))
 
+  -- loading fails so at the line: memory ran out where the function may make a cookie of it, or it is refused
+  abbrev pub FailsAtLine : Error → List ℕ → Type 0
+  FailsAtLine error line = ((error ≡ Memory) × (cookie : Row) × MakesCookie line cookie) ⊎ RefusesLine error line
+
   -- cookies that the function may make of these lines, one of each
   abbrev pub AreCookies : List (List ℕ) → List Row → Type 0
   AreCookies texts cookies = AllZip MakesCookie texts cookies

@@ -1,9 +1,9 @@
 //! Rows that are made of lines.
-ghost use Rattle.std.specs.Prelude.{◌≡◌, ◌-◌, ◌^◌, ◌<◌, ◌⊎◌, IfErr, IfOk, OnErr, OnOk};
+ghost use Rattle.std.specs.Prelude.{◌≡◌, ◌-◌, ◌^◌, ◌<◌, IfErr, IfOk, OnErr, OnOk};
 ghost use Rattle.std.specs.Fn.{FnReturnsAt};
 ghost use Rattle.std.specs.Io.KnownBytes.{IsAtEnd};
 ghost use Rattle.cookie_words.specs.Moments.{moment_of};
-ghost use Rattle.cookie_store.specs.Loading.{BuildsFrom, FailsToLoad, MakesCookie, ReadsEachOnce, RefusesLine, TakesLine};
+ghost use Rattle.cookie_store.specs.Loading.{BuildsFrom, FailsAtLine, FailsToLoad, MakesCookie, ReadsEachOnce, RefusesLine, TakesLine};
 
 use cookie_device::{FillError, LineBuffer, Source};
 use cookie_parts::{Cookie, Error};
@@ -63,8 +63,7 @@ fn take_line<F: Fn(&str) -> Result<Cookie<'_>, Error>>(
     requires callable { F.IsAlwaysCallable cookie_of.now }
     ensures taken { OnOk result (TakesLine (FnReturnsAt F.Fn cookie_of.now) line.now include_expired (moment_of now)
         rows.old rows.new) }
-    ensures refused { IfErr result (λ error.
-        (error ≡ Error.Memory) ⊎ RefusesLine (FnReturnsAt F.Fn cookie_of.now) error line.now) }
+    ensures failed { IfErr result (λ error. FailsAtLine (FnReturnsAt F.Fn cookie_of.now) error line.now) }
     ensures kept { OnErr result (rows.new ≡ rows.old) }
 {
     let cookie = made_of(line, cookie_of)?;

@@ -29,7 +29,7 @@ returns-in_err-take_line-clause-failed g c =
       refused_text makes _ c.line-line.result.now (g.R.Source.remaining c.args.source.now)
           (IfSome_then (g.R.Source.remaining c.args.source.now) known
           (λ text l. next_comes makes text _ _ _ cookies c.in-Some.end l c.in-Some.ensures.line c.line-line.ensures))
-          c.in_err-take_line.ensures.refused,
+          c.in_err-take_line.ensures.failed,
     ))
 
 pub lines-preserved-in-Some : goal.lines-preserved-in-Some
@@ -71,7 +71,7 @@ returns-in_err-take_line-2-clause-failed g c =
     let one = c.line_end.ensures.last c.in_default.is in
     let end = c.in-Ok-false.ensures.end c.in-Ok-false.field-0-test in
     let some = rw c.rest-line.ensures at c.if-not-is_empty.ensures in
-    let refuses = rw c.rest-line.ensures at c.in_err-take_line-2.ensures.refused in
+    let refuses = rw c.rest-line.ensures at c.in_err-take_line-2.ensures.failed in
     rw (p.1, p.2)
     (inr (
       c.in-Ok-false.ensures.count ∙ c.lines.invariant.reads,
