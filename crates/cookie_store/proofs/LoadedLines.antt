@@ -1,14 +1,14 @@
 -- Lines of a text that is read bit by bit, and the cookies that are made of them.
-use Rattle.std.proofs.Common.{◌≡◌, ℕ, ◌+◌, Bool, true, false, cond, eqb, List, [], ◌∷◌, ◌++◌, Option, Some, None, Result, Ok, Err, IfSome, IfOk, IfErr, IsTrue, ◌⊎◌, inl, inr, length, take, drop, refl, sym, ap, ◌∙◌, append_assoc, append-nil}
+use Rattle.std.proofs.Common.{◌≡◌, ℕ, ◌+◌, Bool, true, false, cond, eqb, List, [], ◌∷◌, ◌++◌, Option, Some, None, Result, Ok, Err, IfSome, IfOk, IfErr, IsTrue, inr, length, position, take, drop, refl, sym, ap, ◌∙◌, append_assoc, append-nil, take-append-drop}
 use Rattle.std.specs.Str.{is_utf8}
 use Rattle.std.specs.Str.Lines.{lines, lines_of_parts, strip_carriage_return}
+use Rattle.std.specs.Io.{StartsWith}
 use Rattle.std.specs.Io.KnownBytes.{IsAtEnd, Keeps, prepend_known}
 use Rattle.cookie_device.specs.Lines.{EndsLine, IsLastLine}
 use Rattle.cookie_words.specs.Moments.{Moment}
 use Rattle.cookie_parts.specs.Cookie.{Row}
 use Rattle.cookie_parts.specs.declared.error.Error.{Error}
-use Rattle.cookie_parts.specs.declared.error.Error.TheVariants.{Memory}
-use Rattle.cookie_store.specs.Loading.{AreCookies, FailsAtLine, MakesCookie, RefusesLine, RefusesText, TakesLine}
+use Rattle.cookie_store.specs.Loading.{AreCookies, EndsWithinLine, MakesCookie, RefusesLine, TakesLine}
 use Rattle.cookie_laws.specs.Rows.{built}
 use Rattle.cookie_store.proofs.Pairs.{AllZip-more}
 
@@ -17,26 +17,17 @@ pub built_none : (include_expired : Bool) (now : Moment) → [] ≡ built includ
 built_none true now = refl
 built_none false now = refl
 
--- the bytes at hand and those that the source has left, where the next line is known
-left_lines : (at_hand left : List ℕ) (rest : Option (List ℕ)) (end : ℕ) → prepend_known at_hand rest ≡ Some left → EndsLine at_hand end
-    → (more : List ℕ) × (rest ≡ Some more) × (lines left ≡ strip_carriage_return (take end at_hand) ∷ lines (drop (end + 1) at_hand ++ more))
-left_lines at_hand left None end known ends = cc
-left_lines at_hand left (Some more) end known ends =
-    let same : at_hand ++ more ≡ left = cc in
-    (more, refl, ap lines (sym same) ∙ ends more)
+-- bytes that were passed go from those at hand to those before
+passed_over : (front at_hand behind more : List ℕ) (count : ℕ) → behind ≡ drop count at_hand
+    → front ++ take count at_hand ++ (behind ++ more) ≡ front ++ (at_hand ++ more)
+passed_over front at_hand behind more count is =
+    append_assoc front (take count at_hand) (behind ++ more)
+    ∙ ap (λ xs. front ++ xs) (sym (append_assoc (take count at_hand) behind more)
+    ∙ ap (λ xs. xs ++ more) (ap (λ xs. take count at_hand ++ xs) is ∙ take-append-drop count at_hand))
 
--- known bytes that are kept are known
-kept_known : (a b : Option (List ℕ)) (left : List ℕ) → a ≡ Some left → Keeps a b → b ≡ Some left
-kept_known None b left known kept = cc
-kept_known (Some x) None left known kept = absurd kept
-kept_known (Some x) (Some y) left known kept = ap Some kept ∙ known
-
--- at the end of the source, the bytes at hand are what is left
-all_at_hand : (at_hand left : List ℕ) (rest : Option (List ℕ)) → prepend_known at_hand rest ≡ Some left → IsAtEnd rest → left ≡ at_hand
-all_at_hand at_hand left None known end = cc
-all_at_hand at_hand left (Some more) known end =
-    let same : at_hand ++ more ≡ left = cc in
-    sym same ∙ ap (λ xs. at_hand ++ xs) end ∙ append-nil at_hand
+-- bytes that stay in front, and what came behind them
+grown : (old new : List ℕ) → StartsWith new old → new ≡ old ++ drop (length old) new
+grown old new starts = sym (take-append-drop (length old) new) ∙ ap (λ xs. xs ++ drop (length old) new) starts
 
 module _ (makes : List ℕ → Result Row Error → Type 0) where
   -- a cookie that the function answers for a text is made of it
@@ -61,42 +52,67 @@ module _ (makes : List ℕ → Result Row Error → Type 0) where
     taken cookies are_built,
   )
 
-  -- The lines `done` of the text were passed, and these cookies are made of them. The other lines are those of the bytes at
-  -- hand and of what the source has left.
+  -- The bytes `front` of the text were passed, and with them the lines `done`, whatever comes behind the bytes at hand. These
+  -- cookies are made of those lines. The source has what is left.
   pub record Loaded (text at_hand : List ℕ) (rest : Option (List ℕ)) (cookies : List Row) : Type 0 where
-    pub done : List (List ℕ)
+    pub front : List ℕ
     pub left : List ℕ
-    pub known : prepend_known at_hand rest ≡ Some left
-    pub split : lines text ≡ done ++ lines left
+    pub done : List (List ℕ)
+    pub known : rest ≡ Some left
+    pub whole : text ≡ front ++ (at_hand ++ left)
+    pub split : (more : List ℕ) → lines (front ++ (at_hand ++ more)) ≡ done ++ lines (at_hand ++ more)
     pub are_made : AreCookies makes done cookies
 
   -- at first all is left
   pub begun : (rest : Option (List ℕ)) → IfSome rest (λ text. Loaded text [] rest [])
   begun None = tt
-  begun (Some text) = record { done = []; left = text; known = refl; split = refl; are_made = tt }
+  begun (Some text) = record { front = []; left = text; done = []; known = refl; whole = refl; split = λ more. refl; are_made = tt }
 
   -- the lines of the text, where the next is known
   next_line : (text at_hand line : List ℕ) (rest : Option (List ℕ)) (cookies : List Row) (end : ℕ)
       (l : Loaded text at_hand rest cookies) → EndsLine at_hand end → line ≡ strip_carriage_return (take end at_hand)
-      → (more : List ℕ) × (rest ≡ Some more) × (lines text ≡ l.done ++ line ∷ lines (drop (end + 1) at_hand ++ more))
-  next_line text at_hand line rest cookies end l ends is =
-      let (more, known, next) = left_lines at_hand l.left rest end l.known ends in
+      → (more : List ℕ) → lines (l.front ++ (at_hand ++ more)) ≡ l.done ++ line ∷ lines (drop (end + 1) at_hand ++ more)
+  next_line text at_hand line rest cookies end l ends is more =
       let others = lines (drop (end + 1) at_hand ++ more) in
-      (more, known, l.split ∙ ap (λ ls. l.done ++ ls) (next ∙ ap (λ x. x ∷ others) (sym is)))
+      l.split more ∙ ap (λ ls. l.done ++ ls) (ends more ∙ ap (λ x. x ∷ others) (sym is))
 
   -- it is passed, and a cookie is made of it
   pub passed : (text at_hand behind line : List ℕ) (rest : Option (List ℕ)) (cookies : List Row) (cookie : Row) (end : ℕ)
       → Loaded text at_hand rest cookies → EndsLine at_hand end → line ≡ strip_carriage_return (take end at_hand)
       → behind ≡ drop (end + 1) at_hand → MakesCookie makes line cookie → Loaded text behind rest (cookies ++ cookie ∷ [])
   passed text at_hand behind line rest cookies cookie end l ends is stands makes_it =
-      let (more, known, next) = next_line text at_hand line rest cookies end l ends is in
-      let left = drop (end + 1) at_hand ++ more in
       record {
+        front = l.front ++ take (end + 1) at_hand;
+        left = l.left;
         done = l.done ++ line ∷ [];
-        left = left;
-        known = ap (prepend_known behind) known ∙ ap (λ bs. Some (bs ++ more)) stands;
-        split = next ∙ sym (append_assoc l.done (line ∷ []) (lines left));
+        known = l.known;
+        whole = l.whole ∙ sym (passed_over l.front at_hand behind l.left (end + 1) stands);
+        split = λ more.
+            ap lines (passed_over l.front at_hand behind more (end + 1) stands)
+            ∙ next_line text at_hand line rest cookies end l ends is more
+            ∙ ap (λ xs. l.done ++ line ∷ lines (xs ++ more)) (sym stands)
+            ∙ sym (append_assoc l.done (line ∷ []) (lines (behind ++ more)));
         are_made = AllZip-more (MakesCookie makes) l.done cookies line cookie l.are_made makes_it;
+      }
+
+  -- the source was read
+  pub filled : (text old new : List ℕ) (rest less : Option (List ℕ)) (cookies : List Row)
+      → Loaded text old rest cookies → Keeps (prepend_known old rest) (prepend_known new less) → StartsWith new old
+      → IfSome rest (λ left. (more : List ℕ) × (less ≡ Some more) × (length left + length old ≡ length more + length new))
+      → Loaded text new less cookies
+  filled text old new rest less cookies l kept starts moved =
+      let (more, is, count) = rw l.known at moved in
+      let same : new ++ more ≡ old ++ l.left = rw (l.known, is) at kept in
+      record {
+        front = l.front;
+        left = more;
+        done = l.done;
+        known = is;
+        whole = l.whole ∙ ap (λ xs. l.front ++ xs) (sym same);
+        split = λ xs.
+            let longer = ap (λ bs. bs ++ xs) (grown old new starts) ∙ append_assoc old (drop (length old) new) xs in
+            ap (λ bs. lines (l.front ++ bs)) longer ∙ l.split (drop (length old) new ++ xs) ∙ ap (λ bs. l.done ++ lines bs) (sym longer);
+        are_made = l.are_made;
       }
 
   -- All of the text was read. These cookies are made of the lines before the last bytes, which are one line more, unless
@@ -107,15 +123,16 @@ module _ (makes : List ℕ → Result Row Error → Type 0) where
     pub are_made : AreCookies makes done cookies
 
   -- the source is at its end, and no line feed is at hand
-  pub ended : (text at_hand last : List ℕ) (rest less : Option (List ℕ)) (cookies : List Row)
-      → Loaded text at_hand rest cookies → Keeps (prepend_known at_hand rest) (prepend_known last less)
-      → (last ≡ at_hand) × IsAtEnd less → IsLastLine at_hand → Ended text last cookies
-  ended text at_hand last rest less cookies l kept (same, end) one =
-      let known = kept_known (prepend_known at_hand rest) (prepend_known last less) l.left l.known kept in
-      let left = all_at_hand last l.left less known end ∙ same in
+  pub ended : (text last : List ℕ) (rest : Option (List ℕ)) (cookies : List Row)
+      → Loaded text last rest cookies → IsAtEnd rest → IsLastLine last → Ended text last cookies
+  ended text last rest cookies l end one =
+      let none : l.left ≡ [] = rw l.known at end in
+      let behind = ap (λ xs. last ++ xs) none ∙ append-nil last in
       record {
         done = l.done;
-        split = l.split ∙ ap (λ ls. l.done ++ ls) (ap lines left ∙ one ∙ ap (λ x. lines_of_parts (x ∷ [])) (sym same));
+        split =
+            ap lines l.whole ∙ l.split l.left
+            ∙ ap (λ ls. l.done ++ ls) (ap lines behind ∙ one);
         are_made = l.are_made;
       }
 
@@ -147,16 +164,28 @@ module _ (makes : List ℕ → Result Row Error → Type 0) where
   -- a line that was found does
   pub next_comes : (text at_hand line : List ℕ) (rest : Option (List ℕ)) (cookies : List Row) (end : ℕ)
       → Loaded text at_hand rest cookies → EndsLine at_hand end → line ≡ strip_carriage_return (take end at_hand) → Comes line text
-  next_comes text at_hand line rest cookies end l ends is =
-      let (more, known, next) = next_line text at_hand line rest cookies end l ends is in
-      (l.done, lines (drop (end + 1) at_hand ++ more), cookies, next, l.are_made)
+  next_comes text at_hand line rest cookies end l ends is = (
+    l.done,
+    lines (drop (end + 1) at_hand ++ l.left),
+    cookies,
+    ap lines l.whole ∙ next_line text at_hand line rest cookies end l ends is l.left,
+    l.are_made,
+  )
 
   -- so do the last bytes
   pub last_comes : (text last : List ℕ) (cookies : List Row) → Ended text last cookies → false ≡ eqb (length last) 0 → Comes last text
   last_comes text last cookies e some = (e.done, [], cookies, with_last text last cookies e some, e.are_made)
 
-  -- if such a line is refused, so is the text
-  pub refused_text : (error : Error) (line : List ℕ) (known : Option (List ℕ)) → IfSome known (Comes line)
-      → FailsAtLine makes error line → (error ≡ Memory) ⊎ RefusesText makes error known
-  refused_text error line known comes (inl memory) = inl memory.0
-  refused_text error line known comes (inr refuses) = inr (line, refuses, comes)
+  -- without a line feed at hand, what was read ends within a line
+  pub within : (text at_hand : List ℕ) (rest : Option (List ℕ)) (cookies : List Row)
+      → Loaded text at_hand rest cookies → position (λ b. eqb b 10) at_hand ≡ None
+      → (given left : List ℕ) × (text ≡ given ++ left) × (rest ≡ Some left) × EndsWithinLine makes given
+  within text at_hand rest cookies l none =
+      let read = l.front ++ at_hand in
+      let split = ap (λ xs. lines (l.front ++ xs)) (sym (append-nil at_hand)) ∙ l.split [] ∙ ap (λ xs. l.done ++ lines xs) (append-nil at_hand) in (
+        read,
+        l.left,
+        l.whole ∙ sym (append_assoc l.front at_hand l.left),
+        l.known,
+        (l.front, at_hand, l.done, cookies, refl, none, split, l.are_made),
+      )

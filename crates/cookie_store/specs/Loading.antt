@@ -1,5 +1,5 @@
 -- Rows that are made of lines, through a function that may answer a cookie for a line, or an error.
-use Rattle.std.specs.Prelude.{◌≡◌, ℕ, ◌+◌, ◌≤◌, length, Bool, false, List, [], ◌∷◌, ◌++◌, Option, Result, Ok, Err, IfSome, IsTrue, ◌⊎◌}
+use Rattle.std.specs.Prelude.{◌≡◌, ◌==◌, ℕ, ◌+◌, ◌≤◌, length, position, Bool, false, List, ◌∷◌, ◌++◌, Option, Some, None, Result, Ok, Err, IfSome, IsTrue, ◌⊎◌}
 use Rattle.std.specs.List.{AllZip}
 use Rattle.std.specs.Str.{is_utf8}
 use Rattle.std.specs.Str.Lines.{lines}
@@ -27,12 +27,24 @@ module _ (makes : List ℕ → Result Row Error → Type 0) where
   abbrev pub AreCookies : List (List ℕ) → List Row → Type 0
   AreCookies texts cookies = AllZip MakesCookie texts cookies
 
-  -- a line is refused, which is the first such line of the text, where that is known
-  abbrev pub RefusesText : Error → Option (List ℕ) → Type 0
-  RefusesText error known =
-      (line : List ℕ) × RefusesLine error line
+  -- it fails at a line of the text, where that is known, and cookies are made of the lines before
+  abbrev pub StopsAtLine : Error → Option (List ℕ) → Type 0
+  StopsAtLine error known =
+      (line : List ℕ) × FailsAtLine error line
       × IfSome known (λ text. (before after : List (List ℕ)) × (cookies : List Row)
       × (lines text ≡ before ++ line ∷ after) × AreCookies before cookies)
+
+  -- the bytes are lines that cookies are made of, and a part at their end that has no line feed
+  abbrev pub EndsWithinLine : List ℕ → Type 0
+  EndsWithinLine bytes =
+      (front part : List ℕ) × (before : List (List ℕ)) × (cookies : List Row)
+      × (bytes ≡ front ++ part) × (position (λ b. b == 10) part ≡ None)
+      × (lines bytes ≡ before ++ lines part) × AreCookies before cookies
+
+  -- such bytes of the text were read, where that is known, and the others are left
+  abbrev pub StopsWithinLine : Option (List ℕ) → Option (List ℕ) → Type 0
+  StopsWithinLine known rest =
+      IfSome known (λ text. (given left : List ℕ) × (text ≡ given ++ left) × (rest ≡ Some left) × EndsWithinLine given)
 
   -- the rows took a cookie that the function may make of the line
   abbrev pub TakesLine : List ℕ → Bool → Moment → List Row → List Row → Type 0
@@ -45,11 +57,12 @@ module _ (makes : List ℕ → Result Row Error → Type 0) where
       (cookies : List Row) × (rows ≡ built include_expired now cookies)
       × IfSome known (λ text. AreCookies (lines text) cookies)
 
-  -- a read failed, which raised the count of failures by one; or memory ran out, or a line is refused
-  abbrev pub FailsToLoad : Error → Option (List ℕ) → ℕ → ℕ → Type 0
-  FailsToLoad error known failures failures' =
-      ((error ≡ Io) × (failures' ≡ failures + 1))
-      ⊎ ((failures' ≡ failures) × ((error ≡ Memory) ⊎ RefusesText error known))
+  -- it fails at a line; or within one, where a read failed, which raised the count of failures by one, or memory ran out
+  abbrev pub FailsToLoad : Error → Option (List ℕ) → Option (List ℕ) → ℕ → ℕ → Type 0
+  FailsToLoad error known rest failures failures' =
+      (StopsAtLine error known × (failures' ≡ failures))
+      ⊎ (StopsWithinLine known rest
+      × (((error ≡ Io) × (failures' ≡ failures + 1)) ⊎ ((error ≡ Memory) × (failures' ≡ failures))))
 
 -- of a text that is known, at most one read more succeeded than it has bytes
 abbrev pub ReadsEachOnce : Option (List ℕ) → ℕ → ℕ → Type 0

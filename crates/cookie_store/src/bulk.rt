@@ -87,8 +87,9 @@ pub trait Bulk: Drop {
 
     /// A store of the cookies that the function makes of the reader's lines, each in the place of an earlier one of its
     /// domain, path and name, without a public suffix list. Those that have ended are passed over. A line ends with a line
-    /// feed, of which a carriage return before is a part, and the last line may go without. Answers `Io` where the reader
-    /// failed, `NotUtf8` at a line that is no UTF-8, the first error that the function answers, or `Memory`.
+    /// feed, of which a carriage return before is a part, and the last line may go without. Answers `Io` where a read failed, and
+    /// `Memory` where there was no room for one; or, at a line that came, `NotUtf8` where it is no UTF-8, the error that the
+    /// function answers, or `Memory` where it answers a cookie, for which there was no room.
     final fn load<R: Source, F: Fn(&str) -> Result<Cookie<'_>, Error>>(
         alloc: Global,
         reader: &mut R,
@@ -102,7 +103,7 @@ pub trait Bulk: Drop {
         ensures suffixes { IfOk result (λ store. (contents store).suffixes ≡ None) }
         ensures read { OnOk result (IsAtEnd (R.remaining reader.new) × (R.failed reader.new ≡ R.failed reader.old)) }
         ensures failed { IfErr result (λ error. FailsToLoad (FnReturnsAt F.Fn cookie_from_str) error
-            (R.remaining reader.old) (R.failed reader.old) (R.failed reader.new)) }
+            (R.remaining reader.old) (R.remaining reader.new) (R.failed reader.old) (R.failed reader.new)) }
         ensures reads { ReadsEachOnce (R.remaining reader.old) (R.reads_left reader.old) (R.reads_left reader.new) }
     {
         let rows = load_rows(alloc, reader, cookie_from_str, false, now)?;
@@ -123,7 +124,7 @@ pub trait Bulk: Drop {
         ensures suffixes { IfOk result (λ store. (contents store).suffixes ≡ None) }
         ensures read { OnOk result (IsAtEnd (R.remaining reader.new) × (R.failed reader.new ≡ R.failed reader.old)) }
         ensures failed { IfErr result (λ error. FailsToLoad (FnReturnsAt F.Fn cookie_from_str) error
-            (R.remaining reader.old) (R.failed reader.old) (R.failed reader.new)) }
+            (R.remaining reader.old) (R.remaining reader.new) (R.failed reader.old) (R.failed reader.new)) }
         ensures reads { ReadsEachOnce (R.remaining reader.old) (R.reads_left reader.old) (R.reads_left reader.new) }
     {
         let rows = load_rows(alloc, reader, cookie_from_str, true, now)?;

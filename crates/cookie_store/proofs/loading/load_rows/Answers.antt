@@ -1,9 +1,9 @@
-use Rattle.std.proofs.Common.{◌∙◌, [], ◌∷◌, ◌++◌, IfSome, ap, arith, refl, inr, rules}
+use Rattle.std.proofs.Common.{◌∙◌, ◌+◌, [], ◌∷◌, ◌++◌, IfSome, ap, arith, refl, sym, inl, inr, rules}
 use Rattle.std.specs.Fn.{FnReturnsAt}
 use Rattle.std.proofs.lemmas.Option.{IfSome_then}
 use Rattle.std.proofs.lemmas.Result.{err_from_is_err_and}
 use Rattle.cookie_words.specs.Moments.{moment_of}
-use Rattle.cookie_store.proofs.LoadedLines.{Ended, ended, begun, built_none, passed, next_comes, last_comes, refused_text, finished, last_made, taken_built}
+use Rattle.cookie_store.proofs.LoadedLines.{Ended, ended, begun, built_none, filled, passed, next_comes, last_comes, finished, last_made, taken_built, within}
 use Rattle.cookie_store.proofs.loading.load_rows.Goals as goal
 use Rattle.cookie_store.proofs.loading.load_rows.Goals.{then-not-is_empty+in_ok-take_line-2, else-not-is_empty}
 
@@ -24,12 +24,14 @@ returns-in_err-take_line-clause-failed g c =
     let (cookies, are_built, known) = c.lines.invariant.loaded in
     let makes = FnReturnsAt g.F.Fn c.args.cookie_of in
     rw (p.1, p.2)
-    (inr (
+    (inl (
+      (
+        c.line-line.result.now,
+        c.in_err-take_line.ensures.failed,
+        IfSome_then (g.R.Source.remaining c.args.source.now) known
+            (λ text l. next_comes makes text _ _ _ cookies c.in-Some.end l c.in-Some.ensures.line c.line-line.ensures),
+      ),
       c.lines.invariant.reads,
-      refused_text makes _ c.line-line.result.now (g.R.Source.remaining c.args.source.now)
-          (IfSome_then (g.R.Source.remaining c.args.source.now) known
-          (λ text l. next_comes makes text _ _ _ cookies c.in-Some.end l c.in-Some.ensures.line c.line-line.ensures))
-          c.in_err-take_line.ensures.failed,
     ))
 
 pub lines-preserved-in-Some : goal.lines-preserved-in-Some
@@ -50,10 +52,18 @@ lines-preserved-in-Some g c =
 
 pub lines-preserved : goal.lines-preserved
 lines-preserved g c =
+    let (cookies, are_built, known) = c.lines.invariant.loaded in
+    let makes = FnReturnsAt g.F.Fn c.args.cookie_of in
     let came = c.in-Ok-true.ensures.came c.in-Ok-true.field-0-test in
+    let filling = c.in-Ok-true.ensures in
     record {
       reads = c.in-Ok-true.ensures.count ∙ c.lines.invariant.reads;
-      loaded = search rules;
+      loaded = (
+        cookies,
+        are_built,
+        IfSome_then (g.R.Source.remaining c.args.source.now) known
+            (λ text l. filled makes text _ _ _ _ cookies l filling.bytes filling.at_hand filling.moved),
+      );
       turns =
           IfSome_then (g.R.Source.remaining c.args.source.now) c.lines.invariant.turns
           (λ input gave.
@@ -68,28 +78,34 @@ returns-in_err-take_line-2-clause-failed g c =
     let p = err_from_is_err_and c.from_residual-in_err-take_line-2.result c.from_residual-in_err-take_line-2.ensures.1 in
     let (cookies, are_built, known) = c.lines.invariant.loaded in
     let makes = FnReturnsAt g.F.Fn c.args.cookie_of in
-    let one = c.line_end.ensures.last c.in_default.is in
-    let end = c.in-Ok-false.ensures.end c.in-Ok-false.field-0-test in
+    let filling = c.in-Ok-false.ensures in
+    let (same, end) = filling.end c.in-Ok-false.field-0-test in
+    let one = rw (sym same) at (c.line_end.ensures.last c.in_default.is) in
     let some = rw c.rest-line.ensures at c.if-not-is_empty.ensures in
-    let refuses = rw c.rest-line.ensures at c.in_err-take_line-2.ensures.failed in
+    let fails = rw c.rest-line.ensures at c.in_err-take_line-2.ensures.failed in
     rw (p.1, p.2)
-    (inr (
-      c.in-Ok-false.ensures.count ∙ c.lines.invariant.reads,
-      refused_text makes _ c.fill.new.self (g.R.Source.remaining c.args.source.now)
-          (IfSome_then (g.R.Source.remaining c.args.source.now) known
-          (λ text l. last_comes makes text _ cookies (ended makes text _ _ _ _ cookies l c.in-Ok-false.ensures.bytes end one) some))
-          refuses,
+    (inl (
+      (
+        c.fill.new.self,
+        fails,
+        IfSome_then (g.R.Source.remaining c.args.source.now) known
+            (λ text l.
+            let all = ended makes text _ _ cookies (filled makes text _ _ _ _ cookies l filling.bytes filling.at_hand filling.moved) end one in
+            last_comes makes text _ cookies all some),
+      ),
+      filling.count ∙ c.lines.invariant.reads,
     ))
 
 pub returns-clause-built : goal.returns-clause-built
 returns-clause-built g c =
     let (cookies, are_built, known) = c.lines.invariant.loaded in
     let makes = FnReturnsAt g.F.Fn c.args.cookie_of in
-    let one = c.line_end.ensures.last c.in_default.is in
-    let end = c.in-Ok-false.ensures.end c.in-Ok-false.field-0-test in
+    let filling = c.in-Ok-false.ensures in
+    let (same, end) = filling.end c.in-Ok-false.field-0-test in
+    let one = rw (sym same) at (c.line_end.ensures.last c.in_default.is) in
     let all : IfSome (g.R.Source.remaining c.args.source.now) (λ text. Ended makes text c.fill.new.self cookies)
     = IfSome_then (g.R.Source.remaining c.args.source.now) known
-    (λ text l. ended makes text _ _ _ _ cookies l c.in-Ok-false.ensures.bytes end one) in
+    (λ text l. ended makes text _ _ cookies (filled makes text _ _ _ _ cookies l filling.bytes filling.at_hand filling.moved) end one) in
     elim c.if-not-is_empty.branch [
       | then-not-is_empty+in_ok-take_line-2 w ↦
           let takes = rw c.rest-line.ensures at w.in_ok-take_line-2.ensures.taken in
@@ -106,3 +122,25 @@ returns-clause-built g c =
             IfSome_then (g.R.Source.remaining c.args.source.now) all (λ text e. finished makes text _ cookies e empty),
           )
     ]
+
+pub returns-in-Err-Read-clause-failed : goal.returns-in-Err-Read-clause-failed
+returns-in-Err-Read-clause-failed g c =
+    let (cookies, are_built, known) = c.lines.invariant.loaded in
+    let makes = FnReturnsAt g.F.Fn c.args.cookie_of in
+    let filling = c.in-Err-Read.ensures in
+    let none = rw (sym filling.err) at (sym c.in_default.ensures.first) in
+    let stops = IfSome_then (g.R.Source.remaining c.args.source.now) known
+    (λ text l. within makes text _ _ cookies (filled makes text _ _ _ _ cookies l filling.bytes filling.at_hand filling.moved) none) in
+    let count = rw c.in-Err-Read.field-0-is at filling.count in
+    inr (stops, inl (refl, count ∙ ap (λ n. n + 1) c.lines.invariant.reads))
+
+pub returns-in-Err-Memory-clause-failed : goal.returns-in-Err-Memory-clause-failed
+returns-in-Err-Memory-clause-failed g c =
+    let (cookies, are_built, known) = c.lines.invariant.loaded in
+    let makes = FnReturnsAt g.F.Fn c.args.cookie_of in
+    let filling = c.in-Err-Memory.ensures in
+    let none = rw (sym filling.err) at (sym c.in_default.ensures.first) in
+    let stops = IfSome_then (g.R.Source.remaining c.args.source.now) known
+    (λ text l. within makes text _ _ cookies (filled makes text _ _ _ _ cookies l filling.bytes filling.at_hand filling.moved) none) in
+    let count = rw c.in-Err-Memory.field-0-is at filling.count in
+    inr (stops, inr (refl, count ∙ c.lines.invariant.reads))

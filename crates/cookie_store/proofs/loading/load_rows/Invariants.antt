@@ -1,5 +1,5 @@
 -- No read has failed, each brought a byte, and of the lines passed cookies are made, from which the rows are built.
-use Rattle.std.proofs.Common.{◌≡◌, ◌+◌, ◌*◌, ◌≤◌, ℕ, List, None, Some, IfSome, length}
+use Rattle.std.proofs.Common.{◌≡◌, ◌+◌, ◌*◌, ◌≤◌, ℕ, List, Some, IfSome, length}
 use Rattle.std.specs.Fn.{FnReturnsAt}
 use Rattle.cookie_words.specs.Moments.{moment_of}
 use Rattle.cookie_parts.specs.Cookie.{Row}
