@@ -87,9 +87,9 @@ pub trait Bulk: Drop {
 
     /// A store of the cookies that the function makes of the reader's lines, each in the place of an earlier one of its
     /// domain, path and name, without a public suffix list. Those that have ended are passed over. A line ends with a line
-    /// feed, of which a carriage return before is a part, and the last line may go without. Answers `Io` where a read failed, and
-    /// `Memory` where there was no room for one; or, at a line that came, `NotUtf8` where it is no UTF-8, the error that the
-    /// function answers, or `Memory` where it answers a cookie, for which there was no room.
+    /// feed, of which a carriage return before is a part, and the last line may go without. Answers `Io` where the reader
+    /// failed, `NotUtf8` at a line that is no UTF-8, the first error that the function answers, or `Memory`, where there was no
+    /// room for a cookie that the function made, or for more of the reader's bytes.
     final fn load<R: Source, F: Fn(&str) -> Result<Cookie<'_>, Error>>(
         alloc: Global,
         reader: &mut R,
