@@ -8,7 +8,7 @@ use Rattle.cookie_device.specs.Lines.{EndsLine, IsLastLine}
 use Rattle.cookie_words.specs.Moments.{Moment}
 use Rattle.cookie_parts.specs.Cookie.{Row}
 use Rattle.cookie_parts.specs.declared.error.Error.{Error}
-use Rattle.cookie_store.specs.Loading.{AreCookies, EndsWithinLine, MakesCookie, RefusesLine, TakesLine}
+use Rattle.cookie_store.specs.Loading.{AreCookies, IsReached, MakesCookie, RefusesLine, StopsWithinLine, TakesLine}
 use Rattle.cookie_laws.specs.Rows.{built}
 use Rattle.cookie_store.proofs.Pairs.{AllZip-more}
 
@@ -130,9 +130,7 @@ module _ (makes : List ℕ → Result Row Error → Type 0) where
       let behind = ap (λ xs. last ++ xs) none ∙ append-nil last in
       record {
         done = l.done;
-        split =
-            ap lines l.whole ∙ l.split l.left
-            ∙ ap (λ ls. l.done ++ ls) (ap lines behind ∙ one);
+        split = ap lines l.whole ∙ l.split l.left ∙ ap (λ ls. l.done ++ ls) (ap lines behind ∙ one);
         are_made = l.are_made;
       }
 
@@ -155,16 +153,11 @@ module _ (makes : List ℕ → Result Row Error → Type 0) where
   last_made text last cookies cookie e some makes_it =
       rw (with_last text last cookies e some) (AllZip-more (MakesCookie makes) e.done cookies last cookie e.are_made makes_it)
 
-  -- the line comes after lines that cookies are made of
-  abbrev pub Comes : List ℕ → List ℕ → Type 0
-  Comes line text =
-      (before after : List (List ℕ)) × (cookies : List Row)
-      × (lines text ≡ before ++ line ∷ after) × AreCookies makes before cookies
-
-  -- a line that was found does
-  pub next_comes : (text at_hand line : List ℕ) (rest : Option (List ℕ)) (cookies : List Row) (end : ℕ)
-      → Loaded text at_hand rest cookies → EndsLine at_hand end → line ≡ strip_carriage_return (take end at_hand) → Comes line text
-  next_comes text at_hand line rest cookies end l ends is = (
+  -- a line that was found is reached
+  pub next_reached : (text at_hand line : List ℕ) (rest : Option (List ℕ)) (cookies : List Row) (end : ℕ)
+      → Loaded text at_hand rest cookies → EndsLine at_hand end → line ≡ strip_carriage_return (take end at_hand)
+      → IsReached makes line text
+  next_reached text at_hand line rest cookies end l ends is = (
     l.done,
     lines (drop (end + 1) at_hand ++ l.left),
     cookies,
@@ -172,18 +165,19 @@ module _ (makes : List ℕ → Result Row Error → Type 0) where
     l.are_made,
   )
 
-  -- so do the last bytes
-  pub last_comes : (text last : List ℕ) (cookies : List Row) → Ended text last cookies → false ≡ eqb (length last) 0 → Comes last text
-  last_comes text last cookies e some = (e.done, [], cookies, with_last text last cookies e some, e.are_made)
+  -- so are the last bytes
+  pub last_reached : (text last : List ℕ) (cookies : List Row) → Ended text last cookies → false ≡ eqb (length last) 0
+      → IsReached makes last text
+  last_reached text last cookies e some = (e.done, [], cookies, with_last text last cookies e some, e.are_made)
 
-  -- without a line feed at hand, what was read ends within a line
+  -- without a line feed at hand, the reading is within a line
   pub within : (text at_hand : List ℕ) (rest : Option (List ℕ)) (cookies : List Row)
       → Loaded text at_hand rest cookies → position (λ b. eqb b 10) at_hand ≡ None
-      → (given left : List ℕ) × (text ≡ given ++ left) × (rest ≡ Some left) × EndsWithinLine makes given
+      → StopsWithinLine makes rest text
   within text at_hand rest cookies l none =
-      let read = l.front ++ at_hand in
-      let split = ap (λ xs. lines (l.front ++ xs)) (sym (append-nil at_hand)) ∙ l.split [] ∙ ap (λ xs. l.done ++ lines xs) (append-nil at_hand) in (
-        read,
+      let whole = append-nil at_hand in
+      let split = ap (λ xs. lines (l.front ++ xs)) (sym whole) ∙ l.split [] ∙ ap (λ xs. l.done ++ lines xs) whole in (
+        l.front ++ at_hand,
         l.left,
         l.whole ∙ sym (append_assoc l.front at_hand l.left),
         l.known,

@@ -27,12 +27,15 @@ module _ (makes : List ℕ → Result Row Error → Type 0) where
   abbrev pub AreCookies : List (List ℕ) → List Row → Type 0
   AreCookies texts cookies = AllZip MakesCookie texts cookies
 
-  -- it fails at a line of the text, where that is known, and cookies are made of the lines before
+  -- a line of the text, and cookies are made of those before
+  abbrev pub IsReached : List ℕ → List ℕ → Type 0
+  IsReached line text =
+      (before after : List (List ℕ)) × (cookies : List Row)
+      × (lines text ≡ before ++ line ∷ after) × AreCookies before cookies
+
+  -- it fails at a line that is reached in the text, where that is known
   abbrev pub StopsAtLine : Error → Option (List ℕ) → Type 0
-  StopsAtLine error known =
-      (line : List ℕ) × FailsAtLine error line
-      × IfSome known (λ text. (before after : List (List ℕ)) × (cookies : List Row)
-      × (lines text ≡ before ++ line ∷ after) × AreCookies before cookies)
+  StopsAtLine error known = (line : List ℕ) × FailsAtLine error line × IfSome known (IsReached line)
 
   -- the bytes are lines that cookies are made of, and a part at their end that has no line feed
   abbrev pub EndsWithinLine : List ℕ → Type 0
@@ -41,10 +44,9 @@ module _ (makes : List ℕ → Result Row Error → Type 0) where
       × (bytes ≡ front ++ part) × (position (λ b. b == 10) part ≡ None)
       × (lines bytes ≡ before ++ lines part) × AreCookies before cookies
 
-  -- such bytes of the text were read, where that is known, and the others are left
-  abbrev pub StopsWithinLine : Option (List ℕ) → Option (List ℕ) → Type 0
-  StopsWithinLine known rest =
-      IfSome known (λ text. (given left : List ℕ) × (text ≡ given ++ left) × (rest ≡ Some left) × EndsWithinLine given)
+  -- such bytes were read of the text, and the others are left
+  abbrev pub StopsWithinLine : Option (List ℕ) → List ℕ → Type 0
+  StopsWithinLine rest text = (given left : List ℕ) × (text ≡ given ++ left) × (rest ≡ Some left) × EndsWithinLine given
 
   -- the rows took a cookie that the function may make of the line
   abbrev pub TakesLine : List ℕ → Bool → Moment → List Row → List Row → Type 0
@@ -57,11 +59,12 @@ module _ (makes : List ℕ → Result Row Error → Type 0) where
       (cookies : List Row) × (rows ≡ built include_expired now cookies)
       × IfSome known (λ text. AreCookies (lines text) cookies)
 
-  -- it fails at a line; or within one, where a read failed, which raised the count of failures by one, or memory ran out
+  -- it fails at a line; or within one of the text, where that is known: a read failed, which raised the count of failures by
+  -- one, or memory ran out
   abbrev pub FailsToLoad : Error → Option (List ℕ) → Option (List ℕ) → ℕ → ℕ → Type 0
   FailsToLoad error known rest failures failures' =
       (StopsAtLine error known × (failures' ≡ failures))
-      ⊎ (StopsWithinLine known rest
+      ⊎ (IfSome known (StopsWithinLine rest)
       × (((error ≡ Io) × (failures' ≡ failures + 1)) ⊎ ((error ≡ Memory) × (failures' ≡ failures))))
 
 -- of a text that is known, at most one read more succeeded than it has bytes

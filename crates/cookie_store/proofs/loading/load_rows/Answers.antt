@@ -3,7 +3,7 @@ use Rattle.std.specs.Fn.{FnReturnsAt}
 use Rattle.std.proofs.lemmas.Option.{IfSome_then}
 use Rattle.std.proofs.lemmas.Result.{err_from_is_err_and}
 use Rattle.cookie_words.specs.Moments.{moment_of}
-use Rattle.cookie_store.proofs.LoadedLines.{Ended, ended, begun, built_none, filled, passed, next_comes, last_comes, finished, last_made, taken_built, within}
+use Rattle.cookie_store.proofs.LoadedLines.{Ended, ended, begun, built_none, filled, passed, next_reached, last_reached, finished, last_made, taken_built, within}
 use Rattle.cookie_store.proofs.loading.load_rows.Goals as goal
 use Rattle.cookie_store.proofs.loading.load_rows.Goals.{then-not-is_empty+in_ok-take_line-2, else-not-is_empty}
 
@@ -29,7 +29,7 @@ returns-in_err-take_line-clause-failed g c =
         c.line-line.result.now,
         c.in_err-take_line.ensures.failed,
         IfSome_then (g.R.Source.remaining c.args.source.now) known
-            (λ text l. next_comes makes text _ _ _ cookies c.in-Some.end l c.in-Some.ensures.line c.line-line.ensures),
+            (λ text l. next_reached makes text _ _ _ cookies c.in-Some.end l c.in-Some.ensures.line c.line-line.ensures),
       ),
       c.lines.invariant.reads,
     ))
@@ -91,7 +91,7 @@ returns-in_err-take_line-2-clause-failed g c =
         IfSome_then (g.R.Source.remaining c.args.source.now) known
             (λ text l.
             let all = ended makes text _ _ cookies (filled makes text _ _ _ _ cookies l filling.bytes filling.at_hand filling.moved) end one in
-            last_comes makes text _ cookies all some),
+            last_reached makes text _ cookies all some),
       ),
       filling.count ∙ c.lines.invariant.reads,
     ))
