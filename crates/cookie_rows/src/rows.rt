@@ -6,7 +6,7 @@ ghost use Rattle.cookie_words.specs.Moments.{moment_of};
 ghost use Rattle.cookie_parts.specs.Cookie.{ended};
 ghost use Rattle.cookie_laws.specs.Given.{given};
 ghost use Rattle.cookie_laws.specs.Rows.{are_rows, changed, has_key, in_domain, in_group, included, key_at, key_of, live_rows, placed, put, put_all, removed, row_of};
-ghost use Rattle.cookie_rows.specs.Building.{Builds, FailsFirst, IsNewRow, TakesCookie, WantsRoom};
+ghost use Rattle.cookie_rows.specs.Building.{Builds, BuildsAt, FailsFirst, FailsFirstAt, IsNewRow, TakesCookie, WantsRoom, WantsRoomAt};
 ghost use Rattle.cookie_rows.specs.Places.{EndsAt};
 ghost use Rattle.cookie_rows.specs.Requests.{name_and_value};
 
@@ -61,10 +61,11 @@ impl Rows {
     }
 
     /// The rows of the cookies that the iterator gives, put one after the other, all or those that have not ended. Answers the
-    /// first error that the iterator gives, or `Memory`, which comes only where a cookie would be a new row.
+    /// first error that the iterator gives, or `Memory`, which comes only at a cookie that would be a new row, and asks for no
+    /// item after that.
     pub fn from_cookies<I: Iterator<Item = Result<Cookie<'static>, Error>> + Drop>(
         alloc: Global,
-        cookies: I,
+        mut cookies: I,
         include_expired: bool,
         now: DateTime,
     ) -> Result<Rows, Error>
@@ -75,15 +76,7 @@ impl Rows {
             ((error ≡ Error.Memory) × WantsRoom I.next_gives cookies include_expired (moment_of now))
             ⊎ FailsFirst I.next_gives cookies error) }
     {
-        let mut built = Rows::new(alloc);
-        for item in cookies {
-            let cookie = item?;
-            match built.take(cookie, include_expired, now) {
-                Ok(()) => {}
-                Err(_) => return Err(Error::Memory),
-            }
-        }
-        Ok(built)
+        build(alloc, &mut cookies, include_expired, now)
     }
 
     /// The row of this domain, path and name, if there is one.
@@ -206,6 +199,31 @@ impl Rows {
     {
         self.rows.clear();
     }
+}
+
+// The rows of the cookies that are left. The error, and the cookie that finds no room, are the last item that is taken.
+fn build<I: Iterator<Item = Result<Cookie<'static>, Error>>>(
+    alloc: Global,
+    cookies: &mut I,
+    include_expired: bool,
+    now: DateTime,
+) -> Result<Rows, Error>
+    requires can { I.can_next cookies.old }
+    requires ends { IsFinite (I.remaining cookies.old) }
+    ensures built { IfOk result (λ rows. BuildsAt I.next_gives cookies.old cookies.new include_expired (moment_of now) rows) }
+    ensures failed { IfErr result (λ error.
+        ((error ≡ Error.Memory) × WantsRoomAt I.next_gives cookies.old cookies.new include_expired (moment_of now))
+        ⊎ FailsFirstAt I.next_gives cookies.old cookies.new error) }
+{
+    let mut built = Rows::new(alloc);
+    while let Some(item) = cookies.next() {
+        let cookie = item?;
+        match built.take(cookie, include_expired, now) {
+            Ok(()) => {}
+            Err(_) => return Err(Error::Memory),
+        }
+    }
+    Ok(built)
 }
 
 fn in_domain(cookie: &Cookie<'static>, row: &Cookie<'static>) -> bool

@@ -99,7 +99,8 @@ impl CookieStore {
 
     /// A store of the cookies that the iterator gives, each in the place of an earlier one of its domain, path and name, without a
     /// public suffix list. Those that have ended are passed over unless `include_expired`. Answers the first error that the
-    /// iterator gives, or `Memory`, which comes only where a cookie would enter and take no earlier one's place.
+    /// iterator gives, or `Memory`, which comes only at a cookie that would enter and take no earlier one's place, and asks for
+    /// no item after that.
     pub fn from_cookies<I: Iterator<Item = Result<Cookie<'static>, Error>> + Drop>(
         alloc: Global,
         cookies: I,
