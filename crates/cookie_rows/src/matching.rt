@@ -1,5 +1,5 @@
 //! The cookies of a URL, RFC 6265 5.4.
-ghost use Rattle.std.specs.Prelude.{◌≡◌, ◌&&◌, [], bytes_eq, codes, map, not, IfOk};
+ghost use Rattle.std.specs.Prelude.{◌≡◌, ◌≢◌, ◌&&◌, [], bytes_eq, codes, map, not, IfOk, OnErr};
 ghost use Rattle.cookie_words.specs.Moments.{moment_of};
 ghost use Rattle.cookie_parts.specs.Domain.{domain_text};
 ghost use Rattle.cookie_laws.specs.Given.{given, is_given};
@@ -27,16 +27,21 @@ fn has_domain_name(cookie: &Cookie<'static>) -> bool
     !domain.is_empty() && domain != "."
 }
 
-/// The rows that are given for the URL, in their order.
+/// The rows that are given for the URL, in their order. Memory is wanted only where there is one.
 pub(crate) fn given<'a>(
     alloc: Global,
     rows: &'a [Cookie<'static>],
     url: &Url,
     now: DateTime,
 ) -> Result<Vec<&'a Cookie<'static>>, AllocError>
-    ensures { IfOk result (λ cookies. map (λ c. c.now) cookies.items ≡ given url.now (moment_of now) rows.now) }
+    ensures given { IfOk result (λ cookies. map (λ c. c.now) cookies.items ≡ given url.now (moment_of now) rows.now) }
+    ensures memory { OnErr result (given url.now (moment_of now) rows.now ≢ []) }
 {
-    rows.iter()
-        .filter(|cookie| is_given(cookie, url, now))
-        .collect(alloc)
+    let mut found = Vec::new(alloc);
+    for cookie in rows {
+        if is_given(cookie, url, now) {
+            found.push(cookie)?;
+        }
+    }
+    Ok(found)
 }

@@ -1,5 +1,5 @@
 //! The rows, as one list.
-ghost use Rattle.std.specs.Prelude.{◌≡◌, ◌≤◌, [], ◌∷◌, insert, length, map, position, IfErr, IfOk, IsTrue, None, OnErr, OnOk, ◌⊎◌};
+ghost use Rattle.std.specs.Prelude.{◌≡◌, ◌≢◌, ◌≤◌, [], ◌∷◌, insert, length, map, position, IfErr, IfOk, IsTrue, None, OnErr, OnOk, ◌⊎◌};
 ghost use Rattle.std.specs.Iterator.{IsFinite};
 ghost use Rattle.std.specs.Option.{option_copied};
 ghost use Rattle.cookie_words.specs.Moments.{moment_of};
@@ -109,7 +109,7 @@ impl Rows {
         IterUnexpired::new(self.rows.as_slice(), now)
     }
 
-    /// The rows that are given for the URL at the moment, RFC 6265 5.4, in their order.
+    /// The rows that are given for the URL at the moment, RFC 6265 5.4, in their order. Memory is wanted only where there is one.
     pub fn given(
         &self,
         alloc: Global,
@@ -119,30 +119,35 @@ impl Rows {
         ensures given { IfOk result
             (λ cookies. map (λ c. c.now) cookies.items ≡ given url.now (moment_of now) self.now) }
         ensures in_order { IsTrue (are_rows self.now) }
+        ensures memory { OnErr result (given url.now (moment_of now) self.now ≢ []) }
     {
         given(alloc, self.rows.as_slice(), url, now)
     }
 
-    /// The names and values of the rows that are given for the URL at the moment, in their order.
+    /// The names and values of the rows that are given for the URL at the moment, in their order. Memory is wanted only
+    /// where there is one.
     pub fn request_values(
         &self,
         alloc: Global,
         url: &Url,
         now: DateTime,
     ) -> Result<RequestValues<'_>, AllocError>
-        ensures { IfOk result (λ values. values ≡ map name_and_value (given url.now (moment_of now) self.now)) }
+        ensures values { IfOk result (λ values. values ≡ map name_and_value (given url.now (moment_of now) self.now)) }
+        ensures memory { OnErr result (given url.now (moment_of now) self.now ≢ []) }
     {
         Ok(RequestValues::new(self.given(alloc, url, now)?))
     }
 
-    /// The raw cookies of the rows that are given for the URL at the moment, in their order.
+    /// The raw cookies of the rows that are given for the URL at the moment, in their order. Memory is wanted only
+    /// where there is one.
     pub fn request_cookies(
         &self,
         alloc: Global,
         url: &Url,
         now: DateTime,
     ) -> Result<RequestCookies<'_>, AllocError>
-        ensures { IfOk result (λ cookies. cookies ≡ map (λ row. row.raw) (given url.now (moment_of now) self.now)) }
+        ensures cookies { IfOk result (λ cookies. cookies ≡ map (λ row. row.raw) (given url.now (moment_of now) self.now)) }
+        ensures memory { OnErr result (given url.now (moment_of now) self.now ≢ []) }
     {
         Ok(RequestCookies::new(self.given(alloc, url, now)?))
     }

@@ -245,34 +245,40 @@ impl CookieStore {
         self.rows.clear();
     }
 
-    /// The cookies that are given for the URL at the moment, RFC 6265 5.4, in the store's order.
+    /// The cookies that are given for the URL at the moment, RFC 6265 5.4, in the store's order. Memory is wanted only where
+    /// there is one.
     pub fn matches(&self, url: &Url, now: DateTime) -> Result<Vec<&Cookie<'static>>, AllocError>
         ensures given { IfOk result
             (λ cookies. map (λ c. c.now) cookies.items ≡ given url.now (moment_of now) self.now.rows) }
         ensures in_order { IsTrue (are_rows self.now.rows) }
+        ensures memory { OnErr result (given url.now (moment_of now) self.now.rows ≢ []) }
     {
         self.rows.given(self.alloc, url, now)
     }
 
-    /// The names and values of the cookies that are given for the URL at the moment, in the store's order.
+    /// The names and values of the cookies that are given for the URL at the moment, in the store's order. Memory is wanted
+    /// only where there is one.
     pub fn get_request_values(
         &self,
         url: &Url,
         now: DateTime,
     ) -> Result<RequestValues<'_>, AllocError>
-        ensures { IfOk result (λ values. values ≡ map name_and_value (given url.now (moment_of now) self.now.rows)) }
+        ensures values { IfOk result (λ values. values ≡ map name_and_value (given url.now (moment_of now) self.now.rows)) }
+        ensures memory { OnErr result (given url.now (moment_of now) self.now.rows ≢ []) }
     {
         self.rows.request_values(self.alloc, url, now)
     }
 
-    /// The raw cookies of the cookies that are given for the URL at the moment, in the store's order.
+    /// The raw cookies of the cookies that are given for the URL at the moment, in the store's order. Memory is wanted only
+    /// where there is one.
     #[deprecated(note = "use `get_request_values`")]
     pub fn get_request_cookies(
         &self,
         url: &Url,
         now: DateTime,
     ) -> Result<RequestCookies<'_>, AllocError>
-        ensures { IfOk result (λ cookies. cookies ≡ map (λ c. c.raw) (given url.now (moment_of now) self.now.rows)) }
+        ensures cookies { IfOk result (λ cookies. cookies ≡ map (λ c. c.raw) (given url.now (moment_of now) self.now.rows)) }
+        ensures memory { OnErr result (given url.now (moment_of now) self.now.rows ≢ []) }
     {
         self.rows.request_cookies(self.alloc, url, now)
     }
