@@ -1,36 +1,37 @@
 -- What is given after calls came from the host that it is given for, or is for all hosts that a domain covers.
-use Rattle.std.proofs.Common.{◌≡◌, ℕ, Bool, true, false, not, List, [], Option, Some, None, Result, Ok, Err, IfOk, ◌⊎◌, inl, inr, ◌∙◌, refl, sym, ap, subst}
+use Rattle.std.proofs.Common.{◌≡◌, ℕ, Bool, true, false, not, List, [], Option, Some, None, Result, Ok, Err, IfOk, ◌⊎◌, ⊎_elim, inl, inr, ◌≤ℤ◌, ◌∙◌, refl, sym, ap, subst, arith}
 use Rattle.std.specs.List.{All}
 use Rattle.std.specs.Str.{bytes_eq}
-use Rattle.std.proofs.lemmas.Bool.{and_parts, cond_both, not-true}
+use Rattle.std.proofs.lemmas.Bool.{and_parts, both_ways, cond_both, not-true}
+use Rattle.std.proofs.lemmas.Int.{ints}
 use Rattle.std.proofs.lemmas.List.Elements.{All-filter, All-nil, filter_passes}
 use Rattle.std.proofs.lemmas.Slice.Eq.{bytes_eq-Decides}
 use Rattle.url.specs.Parts.{Parts}
-use Rattle.cookie_words.specs.Moments.{Moment}
+use Rattle.cookie_words.specs.Moments.{Moment, epoch, nanoseconds}
 use Rattle.cookie_psl.specs.Rules.{RuleList}
-use Rattle.cookie_parts.specs.Cookie.{Row, and_then, cookie_at}
+use Rattle.cookie_parts.specs.Cookie.{Row, and_then, cookie_at, ended, is_expired}
 use Rattle.cookie_parts.specs.Domain.{DomainValue, HostOnly, Suffix, NotPresent, Empty, domain_matches, domain_text, host_is_identical}
 use Rattle.cookie_parts.specs.Hosts.{covers, host_of, passes}
 use Rattle.cookie_parts.specs.declared.cookie_error.CookieError.{CookieError}
 use Rattle.cookie_parts.specs.declared.cookie_error.CookieError.TheVariants.{DomainMismatch, PublicSuffix}
 use Rattle.cookie_laws.specs.Acceptance.{admitted, by_domain, by_list, by_scheme, is_listed}
-use Rattle.cookie_laws.specs.Confinement.{Accepts, Brings, HaveOneHost, IsConfined, IsShared, IsUnlisted, SameButExpiry}
+use Rattle.cookie_laws.specs.Confinement.{Accepts, Brings, HaveOneHost, IsConfined, IsConfinedAsPut, IsShared, IsPutOrEnded, IsUnlisted}
 use Rattle.cookie_laws.specs.Given.{given, is_given}
 use Rattle.cookie_laws.specs.Runs.{Call, Set, Insert, Remove, Clear, rows_after}
 use Rattle.cookie_laws.proofs.AcceptedRows.{All-rows_after}
 use Rattle.cookie_laws.proofs.CoveredHosts.{Covers-covers}
 
 -- where the cookie is for all hosts that a domain covers, that is no public suffix on the list
-abbrev SharesUnlisted : Option RuleList → Row → Type 0
+abbrev pub SharesUnlisted : Option RuleList → Row → Type 0
 SharesUnlisted suffixes cookie = (domain : List ℕ) → cookie.domain ≡ Suffix domain → IsUnlisted suffixes domain
 
 -- the cookie may come from this URL
-record MayCome (suffixes : Option RuleList) (url : Parts) (cookie : Row) : Type 0 where
-  matches : domain_matches cookie.domain url ≡ true
-  shares : SharesUnlisted suffixes cookie
+pub record MayCome (suffixes : Option RuleList) (url : Parts) (cookie : Row) : Type 0 where
+  pub matches : domain_matches cookie.domain url ≡ true
+  pub shares : SharesUnlisted suffixes cookie
 
 -- what holds of the cookie that was made, if one was
-IfOk_at : (P : Row → Type 0) (made : Result Row CookieError) (cookie : Row) → IfOk made P → made ≡ Ok cookie → P cookie
+pub IfOk_at : (P : Row → Type 0) (made : Result Row CookieError) (cookie : Row) → IfOk made P → made ≡ Ok cookie → P cookie
 IfOk_at P made cookie holds is = subst (λ r. IfOk r P) is holds
 
 -- what a step after another gives
@@ -55,7 +56,7 @@ by_domain-MayCome suffixes url cookie shares =
     (λ matches. record { matches = matches; shares = shares }) (λ _. tt)
 
 -- a cookie that may enter may come from its URL
-admitted-MayCome : (suffixes : Option RuleList) (url : Parts) (cookie : Row) → IfOk (admitted suffixes url cookie) (MayCome suffixes url)
+pub admitted-MayCome : (suffixes : Option RuleList) (url : Parts) (cookie : Row) → IfOk (admitted suffixes url cookie) (MayCome suffixes url)
 admitted-MayCome suffixes url cookie =
     let made = and_then (by_scheme url cookie) (by_list suffixes url) in
     let shares : IfOk made (SharesUnlisted suffixes) = and_then-IfOk (SharesUnlisted suffixes) (by_scheme url cookie) (by_list suffixes url) (λ passed _. by_list-shares suffixes url passed) in
@@ -75,16 +76,26 @@ Brings-MayCome suffixes (Insert given url now) from cookie brings =
 Brings-MayCome suffixes (Remove key) from cookie brings = absurd brings
 Brings-MayCome suffixes Clear from cookie brings = absurd brings
 
--- a call of the run put the row, expiry aside
+-- a call of the run put the row, which may have ended since
 abbrev WasAccepted : Option RuleList → List Call → Row → Type 0
 WasAccepted suffixes calls row =
-    (place : ℕ) × (from : Parts) × (accepted : Row) × Accepts suffixes calls [] place from accepted × SameButExpiry accepted row
+    (place : ℕ) × (from : Parts) × (accepted : Row) × Accepts suffixes calls [] place from accepted × IsPutOrEnded accepted row
 
--- each row was
+-- a row that was put stays so as it ends
+ends-IsPutOrEnded : (accepted row : Row) → IsPutOrEnded accepted row → IsPutOrEnded accepted (ended row)
+ends-IsPutOrEnded accepted row (inl is) = inr (ap ended is)
+ends-IsPutOrEnded accepted row (inr is) = inr (ap ended is)
+
+-- and it has the domain that was put
+same_domain : (accepted row : Row) → IsPutOrEnded accepted row → accepted.domain ≡ row.domain
+same_domain accepted row (inl is) = sym (ap (λ c. c.domain) is)
+same_domain accepted row (inr is) = sym (ap (λ c. c.domain) is)
+
+-- each row was put
 rows-accepted : (suffixes : Option RuleList) (calls : List Call) → All (WasAccepted suffixes calls) (rows_after suffixes calls [])
 rows-accepted suffixes calls =
-    All-rows_after (WasAccepted suffixes calls) (λ row was. (was.0, was.1, was.2, was.3, was.4)) suffixes calls []
-    (λ place from cookie accepts. (place, from, cookie, accepts, (refl, refl, refl)))
+    All-rows_after (WasAccepted suffixes calls) (λ row was. (was.0, was.1, was.2, was.3, ends-IsPutOrEnded was.2 row was.4)) suffixes calls []
+    (λ place from cookie accepts. (place, from, cookie, accepts, inl refl))
     (All-nil (WasAccepted suffixes calls))
 
 -- there is a value that passes
@@ -93,7 +104,7 @@ passes-value test None is = cc
 passes-value test (Some x) is = (x, refl, is)
 
 -- the host of a URL that a cookie for one host alone is for
-own_host : (host : List ℕ) (url : Parts) → domain_matches (HostOnly host) url ≡ true → host_of url ≡ Some host
+pub own_host : (host : List ℕ) (url : Parts) → domain_matches (HostOnly host) url ≡ true → host_of url ≡ Some host
 own_host host url is =
     let found = passes-value (bytes_eq host) (host_of url) is in
     found.1 ∙ ap Some (sym ((bytes_eq-Decides host found.0).0 found.2))
@@ -131,7 +142,7 @@ row-confined : (suffixes : Option RuleList) (url : Parts) (now : Moment) (calls 
 row-confined suffixes url now calls row was is =
     let from = was.1 in
     let accepted = was.2 in
-    let same : accepted.domain ≡ row.domain = was.4.1 in
+    let same : accepted.domain ≡ row.domain = same_domain accepted row was.4 in
     let may = Brings-MayCome suffixes was.3.0.0 from accepted was.3.0.2 in
     let first : domain_matches row.domain from ≡ true = sym (ap (λ domain. domain_matches domain from) same) ∙ may.matches in
     let shares = λ (domain : List ℕ) (suffix : row.domain ≡ Suffix domain). may.shares domain (same ∙ suffix) in
@@ -144,3 +155,29 @@ given-confined suffixes url now calls k d within =
     let rows = rows_after suffixes calls [] in
     let was = All-filter (is_given url now) (WasAccepted suffixes calls) rows (rows-accepted suffixes calls) k d within in
     row-confined suffixes url now calls _ was (filter_passes (is_given url now) rows k d within)
+
+-- a row that is given has not ended
+given-live : (url : Parts) (now : Moment) (row : Row) → is_given url now row ≡ true → is_expired now row ≡ false
+given-live url now row is = not-true (is_expired now row) (and_parts _ _ (and_parts _ _ (and_parts _ _ is).0).0).0
+
+-- from the epoch on, what has ended since has ended
+ended-expired : (now : Moment) (row : Row) → nanoseconds epoch ≤ℤ nanoseconds now → is_expired now (ended row) ≡ true
+ended-expired now row later = grind (arith, ints, later)
+
+-- so what is given then is the cookie that was put
+confined-as_put : (suffixes : Option RuleList) (url : Parts) (now : Moment) (calls : List Call) (row : Row) → nanoseconds epoch ≤ℤ nanoseconds now
+    → is_given url now row ≡ true → IsConfined suffixes calls url row → IsConfinedAsPut suffixes calls url row
+confined-as_put suffixes url now calls row later is (place, from, accepted, accepts, same, hosts) =
+    ⊎_elim (λ put. (place, from, subst (Accepts suffixes calls [] place from) (sym put) accepts, hosts))
+    (λ ends.
+    let over : is_expired now row ≡ true = ap (is_expired now) ends ∙ ended-expired now accepted later in
+    absurd (both_ways (is_expired now row) (given-live url now row is) over))
+    same
+
+-- what is given after calls from no rows, at a moment from the epoch on, is confined as it was put
+pub given-confined_as_put : (suffixes : Option RuleList) (url : Parts) (now : Moment) (calls : List Call) → nanoseconds epoch ≤ℤ nanoseconds now
+    → All (IsConfinedAsPut suffixes calls url) (given url now (rows_after suffixes calls []))
+given-confined_as_put suffixes url now calls later k d within =
+    confined-as_put suffixes url now calls _ later
+    (filter_passes (is_given url now) (rows_after suffixes calls []) k d within)
+    (given-confined suffixes url now calls k d within)

@@ -61,7 +61,7 @@ rows_by-put : (reply : Result StoreAction CookieError) (rows : List Row) (cookie
 rows_by-put reply rows cookie h = ⊎_elim (λ new. ap (λ r. rows_by r rows cookie) new) (λ again. ap (λ r. rows_by r rows cookie) again) h
 
 -- a refusal says no such thing
-refused-put : (refusal : CookieError) → IsPut (Err refusal) → ⊥
+pub refused-put : (refusal : CookieError) → IsPut (Err refusal) → ⊥
 refused-put refusal h = ⊎_elim (λ new. grind (arith, new)) (λ again. grind (arith, again)) h
 
 -- the cookie that may enter, and what is so of it once it was put

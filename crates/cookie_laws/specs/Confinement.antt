@@ -2,7 +2,7 @@
 use Rattle.std.specs.Prelude.{◌≡◌, ℕ, false, List, [], slice_get, Option, Some, Ok, ◌⊎◌}
 use Rattle.url.specs.Parts.{Parts}
 use Rattle.cookie_psl.specs.Rules.{RuleList, listed}
-use Rattle.cookie_parts.specs.Cookie.{Row, and_then, cookie_at}
+use Rattle.cookie_parts.specs.Cookie.{Row, and_then, cookie_at, ended}
 use Rattle.cookie_parts.specs.Domain.{Suffix}
 use Rattle.cookie_parts.specs.Hosts.{host_of, passes, Covers}
 use Rattle.cookie_parts.specs.declared.store_action.StoreAction.TheVariants.{Inserted, UpdatedExisting}
@@ -27,9 +27,9 @@ Accepts suffixes calls rows place from cookie =
     ((call : Call) × (slice_get calls place ≡ Some call) × Brings suffixes call from cookie)
     × SaysPut (slice_get (replies suffixes calls rows) place)
 
--- the same cookie, expiry aside
-abbrev pub SameButExpiry : Row → Row → Type 0
-SameButExpiry a b = (a.raw ≡ b.raw) × (a.domain ≡ b.domain) × (a.path ≡ b.path)
+-- the cookie as it was put, or ended since
+abbrev pub IsPutOrEnded : Row → Row → Type 0
+IsPutOrEnded accepted cookie = (cookie ≡ accepted) ⊎ (cookie ≡ ended accepted)
 
 -- both URLs have a host, and it is the same
 abbrev pub HaveOneHost : Parts → Parts → Type 0
@@ -49,8 +49,15 @@ IsShared suffixes cookie a b =
     (domain : List ℕ) × (cookie.domain ≡ Suffix domain) × IsUnlisted suffixes domain
     × CoversHostOf domain a × CoversHostOf domain b
 
--- a call of the run from no rows put this cookie, expiry aside, and came from the host of the URL, or shares the cookie with it
+-- a call of the run from no rows put this cookie, which may have ended since, and came from the host of the URL, or shares the
+-- cookie with it
 abbrev pub IsConfined : Option RuleList → List Call → Parts → Row → Type 0
 IsConfined suffixes calls url cookie =
     (place : ℕ) × (from : Parts) × (accepted : Row) × Accepts suffixes calls [] place from accepted
-    × SameButExpiry accepted cookie × (HaveOneHost from url ⊎ IsShared suffixes cookie from url)
+    × IsPutOrEnded accepted cookie × (HaveOneHost from url ⊎ IsShared suffixes cookie from url)
+
+-- the same of the very cookie that the call put, end and all
+abbrev pub IsConfinedAsPut : Option RuleList → List Call → Parts → Row → Type 0
+IsConfinedAsPut suffixes calls url cookie =
+    (place : ℕ) × (from : Parts) × Accepts suffixes calls [] place from cookie
+    × (HaveOneHost from url ⊎ IsShared suffixes cookie from url)

@@ -1,10 +1,7 @@
 -- What `put` keeps of the order of the rows.
-use Rattle.std.proofs.Common.{◌≡◌, Bool, true, false, ◌&&◌, List, map, bytes_eq, ◌∙◌, refl, sym, subst}
+use Rattle.std.proofs.Common.{◌≡◌, Bool, true, false, ◌&&◌, List, map, ◌∙◌, refl, sym, subst}
 use Rattle.std.specs.List.{list_any}
-use Rattle.std.specs.Cmp.{IsEquivalence}
 use Rattle.std.proofs.lemmas.Bool.{cond_both, and_parts, and_from}
-use Rattle.std.proofs.lemmas.Cmp.{nat_list_eq_equiv, on_equiv, and_equiv}
-use Rattle.std.proofs.lemmas.Slice.Eq.{bytes_eq-Decides}
 use Rattle.cookie_parts.specs.Cookie.{Row, ended}
 use Rattle.cookie_laws.specs.Rows.{Key, key_of, same_domain_equiv, same_group_equiv, same_key_equiv, same_key-true, same_domain, same_group, same_key, in_domain, in_group, has_key, after_last, changed, replaced, placed, put, differ, stand_together, are_rows}
 use Rattle.cookie_rows.proofs.AfterLast.{list_any-map, map-after_last, map-changed, map-replaced}

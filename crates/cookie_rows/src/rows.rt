@@ -19,8 +19,8 @@ use std::alloc::{AllocError, Global};
 use std::marker::Model;
 use url::Url;
 
-/// The rows of a store, RFC 6265 5.3, in the order in which they came, where rows of one domain stand together, and among them
-/// rows of one path. No two have the same domain, path and name.
+/// The rows of a store, RFC 6265 5.3. Rows of one domain stand together, and among them rows of one path: a new row comes after
+/// those, and one that replaces another stands in its place. No two have the same domain, path and name.
 #[derive(Drop)]
 pub struct Rows {
     rows: Vec<Cookie<'static>>,

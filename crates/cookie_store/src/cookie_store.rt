@@ -29,9 +29,9 @@ use url::Url;
 /// What a store did with a cookie, or why it refused it.
 pub type InsertResult = Result<StoreAction, CookieError>;
 
-/// The cookies of a user agent, RFC 6265 5.3, in the order in which they were inserted, where cookies of one domain
-/// stand together, and among them cookies of one path. Under a public suffix list, no cookie enters for all hosts below a
-/// public suffix.
+/// The cookies of a user agent, RFC 6265 5.3. Cookies of one domain stand together, and among them cookies of one path: a new
+/// cookie comes after those, and one that replaces another stands in its place. Under a public suffix list, no cookie enters
+/// for all hosts below a public suffix.
 #[derive(Drop)]
 pub struct CookieStore {
     alloc: Global,

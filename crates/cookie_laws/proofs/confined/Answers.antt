@@ -1,5 +1,5 @@
-use Rattle.cookie_laws.proofs.ConfinedRows.{given-confined}
+use Rattle.cookie_laws.proofs.ConfinedRows.{given-confined, given-confined_as_put}
 use Rattle.cookie_laws.proofs.confined.Goals as goal
 
 pub returns : goal.returns
-returns c = given-confined
+returns c = record { given = given-confined; as_put = given-confined_as_put }

@@ -1,5 +1,5 @@
-use Rattle.cookie_laws.proofs.SingleInsertions.{accept-guarded}
+use Rattle.cookie_laws.proofs.ReceivedCookies.{received-guarded}
 use Rattle.cookie_laws.proofs.guarded.Goals as goal
 
 pub returns : goal.returns
-returns c = accept-guarded
+returns c = λ suffixes rows made url now. received-guarded suffixes rows url now made

@@ -1,5 +1,5 @@
-use Rattle.cookie_laws.proofs.SingleInsertions.{accept-put}
+use Rattle.cookie_laws.proofs.ReceivedCookies.{received-put}
 use Rattle.cookie_laws.proofs.listed_is_for_its_host.Goals as goal
 
 pub returns : goal.returns
-returns c = accept-put
+returns c = λ suffixes rows made url now. received-put suffixes rows url now made
