@@ -17,7 +17,7 @@ ghost use Rattle.cookie_laws.specs.Runs.{replies, rows_after, step, Clear, Inser
 
 use crate::call::{Call, Reply, Stopped, stored};
 use crate::insertion::{accept, owned_cookie, owned_raw_cookie};
-use cookie_parts::{Cookie, CookieError, Error, StoreAction, StoreResult};
+use cookie_parts::{Cookie, CookieError, CookieResult, Error, StoreAction, StoreResult};
 use cookie_psl::List;
 use cookie_raw::RawCookie;
 use cookie_rows::{IterAny, IterUnexpired, RequestCookies, RequestValues, Rows};
@@ -121,7 +121,8 @@ impl CookieStore {
 
     /// Takes the cookie of a Set-Cookie text that came from the URL at the moment: the cookie that
     /// [`Cookie::parse`] makes, as [`insert`](Self::insert) takes it. A refusal, and want of memory, leave the store as it was. A
-    /// text that is no cookie wants none, nor one that is out of the URL's reach, or names no domain and comes from no host.
+    /// text that is no cookie wants none, nor one that is out of the URL's reach, or has no Domain attribute and comes from no
+    /// host.
     pub fn parse(&mut self, text: &str, url: &Url, now: DateTime) -> InsertResult
         ensures reply { IsReply result
             (step self.old.suffixes (Set text.now url.now (moment_of now)) self.old.rows).reply }
@@ -129,9 +130,10 @@ impl CookieStore {
             (self.new ≡ record self.old { rows = (step self.old.suffixes (Set text.now url.now (moment_of now)) self.old.rows).rows }) }
         ensures refused { OnErr result (self.new ≡ self.old) }
         ensures early { (refusal : CookieError) → early (reading text.now) url.now ≡ Some refusal → result ≡ Err refusal }
+        ensures memory { result ≡ Err Memory → early (reading text.now) url.now ≡ None }
     {
-        let cookie = owned_cookie(self.alloc, text, url, now)?;
-        self.insert(cookie, url, now)
+        let made = owned_cookie(self.alloc, text, url, now);
+        self.insert_made(made, url, now)
     }
 
     /// Takes a cookie that came from the URL at the moment. In this order: `NonHttpScheme` where it is HttpOnly and the
@@ -155,8 +157,8 @@ impl CookieStore {
     }
 
     /// Takes the cookie of a raw cookie that came from the URL at the moment: the cookie that
-    /// [`Cookie::try_from_raw_cookie`] makes, as [`insert`](Self::insert) takes it. One that is out of the URL's reach wants no
-    /// memory, nor one that names no domain and comes from no host.
+    /// [`Cookie::try_from_raw_cookie`] makes, as [`insert`](Self::insert) takes it. A refusal, and want of memory, leave the store
+    /// as it was. One that is out of the URL's reach wants none, nor one that has no Domain attribute and comes from no host.
     pub fn insert_raw(&mut self, raw: &RawCookie<'_>, url: &Url, now: DateTime) -> InsertResult
         ensures reply { IsReply result (Stored
             (received self.old.suffixes self.old.rows (cookie_of raw.now url.now (moment_of now)) url.now (moment_of now)).reply) }
@@ -165,9 +167,10 @@ impl CookieStore {
         }) }
         ensures refused { OnErr result (self.new ≡ self.old) }
         ensures early { (refusal : CookieError) → early_refusal raw.now url.now ≡ Some refusal → result ≡ Err refusal }
+        ensures memory { result ≡ Err Memory → early_refusal raw.now url.now ≡ None }
     {
-        let cookie = owned_raw_cookie(self.alloc, raw, url, now)?;
-        self.insert(cookie, url, now)
+        let made = owned_raw_cookie(self.alloc, raw, url, now);
+        self.insert_made(made, url, now)
     }
 
     /// The stored cookie of this domain, path and name, whether it has ended or not.
@@ -311,8 +314,7 @@ impl CookieStore {
         }
     }
 
-    /// Does what the calls ask, one after the other, and answers their replies. The room for all replies is made before the
-    /// first call. Where memory runs out, the calls before stand.
+    /// Does what the calls ask, one after the other, and answers their replies. Where memory runs out, the calls before stand.
     pub fn apply_all(&mut self, calls: Vec<Call>) -> Result<Vec<Reply>, Stopped>
         ensures replies { IfOk result (λ told.
             map reply_view told.items ≡ replies self.old.suffixes (map call_view calls.items) self.old.rows) }
@@ -322,6 +324,7 @@ impl CookieStore {
         ensures stopped { IfErr result (λ stopped. StopsAfter stopped (map call_view calls.items) self.old self.new) }
         ensures wanting { IfErr result (λ stopped. StopsAt stopped.count (map call_view calls.items) self.new) }
     {
+        // the room for all replies, before the first call
         let Ok(mut told) = Vec::with_capacity(self.alloc, calls.len()) else {
             return Err(Stopped {
                 replies: Vec::new(self.alloc),
@@ -341,6 +344,21 @@ impl CookieStore {
             }
         }
         Ok(told)
+    }
+
+    // Takes a cookie that came from the URL at the moment, unless it was refused as it was made: then that is the answer.
+    fn insert_made(&mut self, made: CookieResult<'static>, url: &Url, now: DateTime) -> InsertResult
+        ensures reply { IsReply result
+            (Stored (received self.old.suffixes self.old.rows made.entry url.now (moment_of now)).reply) }
+        ensures rows { UnlessMemory result (self.new ≡ record self.old {
+          rows = (received self.old.suffixes self.old.rows made.entry url.now (moment_of now)).rows;
+        }) }
+        ensures refused { OnErr result (self.new ≡ self.old) }
+        ensures unmade { (refusal : CookieError) → made.entry ≡ Err refusal → result ≡ Err refusal }
+        ensures memory { result ≡ Err Memory → (made.entry ≡ Err Memory)
+            ⊎ ((received self.old.suffixes self.old.rows made.entry url.now (moment_of now)).reply ≡ Ok Inserted) }
+    {
+        self.insert(made?, url, now)
     }
 
     // A store of these rows, without a public suffix list.
