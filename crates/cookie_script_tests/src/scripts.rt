@@ -223,3 +223,38 @@ fn tells_bad_lines(rt: HostRuntime) -> Result<(), Fail> {
     }
     Ok(())
 }
+
+fn add(text: &mut String, words: &[&str]) -> Result<(), Fail> {
+    for word in words {
+        text.push_str(word)?;
+    }
+    Ok(())
+}
+
+// A script that lists a thousand rows, and what it writes: more than is gathered before it goes out.
+fn long_list(alloc: Global) -> Result<(String, String), Fail> {
+    let mut script = String::new(alloc);
+    let mut wanted = String::new(alloc);
+    let mut rows = String::new(alloc);
+    for number in 0..1_000 {
+        let name = format!(in alloc; "{number:0>100}")?;
+        add(&mut script, &["set http://a.com/ ", name.as_str(), "=1\n"])?;
+        add(&mut wanted, &["inserted\n"])?;
+        add(&mut rows, &["a.com / ", name.as_str(), "\n"])?;
+    }
+    add(&mut script, &["list\n"])?;
+    add(&mut wanted, &[rows.as_str()])?;
+    Ok((script, wanted))
+}
+
+#[test]
+fn a_long_list_has_all_rows(rt: HostRuntime) -> Result<(), Fail> {
+    let (script, wanted) = long_list(rt.alloc())?;
+    writes(
+        &rt,
+        rt.alloc(),
+        script.as_bytes(),
+        wanted.as_str(),
+        "a long list",
+    )
+}

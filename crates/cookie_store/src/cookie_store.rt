@@ -157,8 +157,9 @@ impl CookieStore {
     }
 
     /// Takes the cookie of a raw cookie that came from the URL at the moment: the cookie that
-    /// [`Cookie::try_from_raw_cookie`] makes, as [`insert`](Self::insert) takes it. A refusal, and want of memory, leave the store
-    /// as it was. One that is out of the URL's reach wants none, nor one that has no Domain attribute and comes from no host.
+    /// [`Cookie::try_from_raw_cookie`] makes, as [`insert`](Self::insert) takes it. A refusal, and want of memory, leave the
+    /// store as it was. One that is out of the URL's reach wants none, nor one that has no Domain attribute and comes from no
+    /// host.
     pub fn insert_raw(&mut self, raw: &RawCookie<'_>, url: &Url, now: DateTime) -> InsertResult
         ensures reply { IsReply result (Stored
             (received self.old.suffixes self.old.rows (cookie_of raw.now url.now (moment_of now)) url.now (moment_of now)).reply) }

@@ -14,6 +14,8 @@ mod insertion;
 #[cfg(test)]
 mod loaded;
 #[cfg(test)]
+mod many;
+#[cfg(test)]
 mod matching;
 #[cfg(test)]
 mod responses;

@@ -1,0 +1,152 @@
+//! Stores of many rows, and a long text.
+use crate::built::cookie;
+use crate::checks::is_equal;
+use crate::loaded::load_cookies;
+use crate::saved::Which;
+use crate::steps::{INSERTED, new_year};
+use crate::texts::{add, url, value_of};
+use cookie_fakes::Fake;
+use cookie_store::{Call, Cookie, CookieStore, Error, Reply, StoreAction};
+use std::alloc::Global;
+use std::process::Abort;
+use url::Url;
+
+const HOSTS: usize = 50;
+
+const COOKIES: usize = 1_000;
+
+// The cookies of one host.
+const GIVEN: usize = 20;
+
+// The URL that the cookie of this number comes from.
+fn address(rt: &impl Abort, alloc: Global, number: usize) -> String {
+    let host = number % HOSTS;
+    format!(in alloc; "http://host{host}.com/").expect(rt, "memory")
+}
+
+// Its text.
+fn text(rt: &impl Abort, alloc: Global, number: usize) -> String {
+    format!(in alloc; "name{number}=value").expect(rt, "memory")
+}
+
+fn url_of(rt: &impl Abort, alloc: Global, number: usize) -> Url {
+    let address = address(rt, alloc, number);
+    url(rt, alloc, address.as_str())
+}
+
+fn cookie_of(rt: &impl Abort, alloc: Global, number: usize) -> Cookie<'static> {
+    let (address, text) = (address(rt, alloc, number), text(rt, alloc, number));
+    cookie(rt, alloc, &(address.as_str(), text.as_str()))
+}
+
+// The store has all of them, and gives a host its own.
+fn has_all(rt: &impl Abort, alloc: Global, store: &CookieStore) {
+    is_equal(rt, &store.iter_any().count(), &COOKIES, &"the rows");
+    let url = url_of(rt, alloc, 7);
+    let given = store.matches(&url, new_year()).expect(rt, "memory");
+    is_equal(rt, &given.len(), &GIVEN, &"the cookies of one host");
+}
+
+// Every other one comes as a text.
+fn enters(rt: &impl Abort, alloc: Global, store: &mut CookieStore, number: usize) {
+    let url = url_of(rt, alloc, number);
+    let reply = if number % 2 == 0 {
+        let text = text(rt, alloc, number);
+        store.parse(text.as_str(), &url, new_year())
+    } else {
+        let cookie = cookie_of(rt, alloc, number);
+        store.insert(cookie, &url, new_year())
+    };
+    is_equal(rt, &reply, &INSERTED, &number);
+}
+
+#[test]
+fn many_cookies_enter(rt: HostRuntime) {
+    let mut store = CookieStore::new(rt.alloc());
+    for number in 0..COOKIES {
+        enters(&rt, rt.alloc(), &mut store, number);
+    }
+    has_all(&rt, rt.alloc(), &store);
+}
+
+fn items(rt: &impl Abort, alloc: Global) -> Vec<Result<Cookie<'static>, Error>> {
+    let mut items = Vec::new(alloc);
+    for number in 0..COOKIES {
+        let cookie = cookie_of(rt, alloc, number);
+        items.push(Ok(cookie)).expect(rt, "memory");
+    }
+    items
+}
+
+#[test]
+fn a_store_is_built_of_many_cookies(rt: HostRuntime) {
+    let items = items(&rt, rt.alloc()).into_iter();
+    let outcome = CookieStore::from_cookies(rt.alloc(), items, false, new_year());
+    let store = outcome.expect(&rt, "a store");
+    has_all(&rt, rt.alloc(), &store);
+}
+
+fn calls(rt: &impl Abort, alloc: Global) -> Vec<Call> {
+    let mut calls = Vec::new(alloc);
+    for number in 0..COOKIES {
+        let call = Call::Set {
+            text: text(rt, alloc, number),
+            url: url_of(rt, alloc, number),
+            now: new_year(),
+        };
+        calls.push(call).expect(rt, "memory");
+    }
+    calls
+}
+
+fn are_inserted(rt: &impl Abort, replies: &[Reply]) {
+    is_equal(rt, &replies.len(), &COOKIES, &"the replies");
+    for reply in replies {
+        let is_inserted = matches!(reply, Reply::Stored(Ok(StoreAction::Inserted)));
+        is_equal(rt, &is_inserted, &true, reply);
+    }
+}
+
+#[test]
+fn many_calls_are_done(rt: HostRuntime) {
+    let mut store = CookieStore::new(rt.alloc());
+    let calls = calls(&rt, rt.alloc());
+    match store.apply_all(calls) {
+        Ok(replies) => are_inserted(&rt, replies.as_slice()),
+        Err(_stopped) => panic!(rt; "memory was wanting"),
+    }
+    has_all(&rt, rt.alloc(), &store);
+}
+
+// Lines of cookies of one host.
+fn lines(rt: &impl Abort, alloc: Global) -> String {
+    let mut lines = String::new(alloc);
+    for number in 0..COOKIES {
+        let text = text(rt, alloc, number);
+        add(rt, &mut lines, "\n", &[text.as_str()]);
+    }
+    lines
+}
+
+#[test]
+fn many_lines_are_loaded(rt: HostRuntime) {
+    let url = url_of(&rt, rt.alloc(), 0);
+    let lines = lines(&rt, rt.alloc());
+    let fake = Fake::new(lines.as_bytes(), usize::MAX, 0);
+    let (outcome, _) = load_cookies(rt.alloc(), &url, &Which::All, fake);
+    let store = outcome.expect(&rt, "a store");
+    let given = store.matches(&url, new_year()).expect(&rt, "memory");
+    is_equal(&rt, &given.len(), &COOKIES, &"the cookies that are given");
+}
+
+#[test]
+fn a_long_text_enters(rt: HostRuntime) {
+    let mut store = CookieStore::new(rt.alloc());
+    let url = url_of(&rt, rt.alloc(), 0);
+    let value = format!(in rt.alloc(); "{0:0>50000}{0:0>50000}", 1).expect(&rt, "memory");
+    let text = format!(in rt.alloc(); "name={value}").expect(&rt, "memory");
+    let reply = store.parse(text.as_str(), &url, new_year());
+    is_equal(&rt, &reply, &INSERTED, &"a long text");
+    let row = store.get_any("host0.com", "/", "name");
+    is_equal(&rt, &value_of(row), &Some(value.as_str()), &"its value");
+}
