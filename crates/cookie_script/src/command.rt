@@ -1,5 +1,7 @@
 //! What a line of a script asks for.
-ghost use Rattle.std.specs.Prelude.{◌≡◌, option_and_then, option_map, IfOk, IsSome, IsTrue, OnErr};
+ghost use Rattle.std.specs.Prelude.{◌≡◌, ◌↔◌, option_and_then, option_map, IfOk, IsErr, IsErrAnd, IsSome, IsTrue, OnErr};
+ghost use Rattle.std.specs.Result.{result_ok};
+ghost use Rattle.url.specs.Parser.{IsOutOfRoom};
 ghost use Rattle.cookie_saved.specs.MomentText.{moment_at};
 ghost use Rattle.cookie_script.specs.Commands as Spec;
 ghost use Rattle.cookie_script.specs.Commands.{command_of, first_word, lone_command, may_want, one_word, remove_command, set_command, url_at, verb_command, verb_may_want};
@@ -76,17 +78,24 @@ fn first_word(text: &str) -> Option<(&str, &str)>
     text.split_once(' ')
 }
 
-// The URL of a text. Refusals that say nothing of the text count as want of memory.
+// The URL of a text.
 #[tactic(auto, unfolding(crate::specs::Commands::url_at))]
 fn read_url(alloc: Global, text: &str) -> Result<Option<Url>, AllocError>
     ensures { IfOk result (λ url. url ≡ url_at text.now) }
 {
-    match Url::parse(alloc, text) {
+    parsed_url(Url::parse(alloc, text))
+}
+
+// The URL that was parsed, and None where the text writes none. A refusal that says nothing of the text is want of memory.
+fn parsed_url(parsed: Result<Url, ParseError>) -> Result<Option<Url>, AllocError>
+    ensures url { IfOk result (λ url. url ≡ result_ok parsed) }
+    ensures room { IsErr result ↔ IsErrAnd parsed IsOutOfRoom }
+{
+    match parsed {
         Ok(url) => Ok(Some(url)),
-        Err(error) => match error {
-            ParseError::OutOfMemory | ParseError::Overflow => Err(AllocError),
-            _ => Ok(None),
-        },
+        Err(ParseError::OutOfMemory) => Err(AllocError),
+        Err(ParseError::Overflow) => Err(AllocError),
+        Err(_) => Ok(None),
     }
 }
 

@@ -165,11 +165,15 @@ pub const HOSTS: &[u8] = b"now 2026-01-01T00:00:00Z\n\
 pub const HOSTS_OUTPUT: &str = "inserted\ninserted\ninserted\ninserted\nupdated\n\
     Cookie: x=2; w=1; z=1\nCookie: y=1\n";
 
-const BAD_LINES: [(&str, &[u8]); 15] = [
+const BAD_LINES: [(&str, &[u8]); 19] = [
     ("empty", b"\n"),
     ("a word too many", b"get http://a.com/ x\n"),
     ("get alone", b"get\n"),
     ("two spaces", b"get  http://a.com/\n"),
+    ("a URL without a scheme", b"get a\n"),
+    ("a URL without a scheme to set", b"set a x=1\n"),
+    ("a host that has not ended", b"get http://[\n"),
+    ("a URL that a space cuts", b"get http://a b/\n"),
     ("now alone", b"now\n"),
     ("a word after the moment", b"now 2026-01-01T00:00:00Z x\n"),
     ("a capital letter", b"Get http://a.com/\n"),
