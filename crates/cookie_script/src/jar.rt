@@ -1,5 +1,5 @@
 //! The state of a script, and what a line comes to.
-ghost use Rattle.std.specs.Prelude.{◌≡◌, IfOk, IsTrue, OnErr, OnOk, Some};
+ghost use Rattle.std.specs.Prelude.{◌≡◌, ◌≢◌, Err, IfOk, IsTrue, OnErr, OnOk, Some};
 ghost use Rattle.cookie_script.specs.Answers.{told_may_want, told_text};
 ghost use Rattle.cookie_script.specs.CommandViews.{command_view};
 ghost use Rattle.cookie_script.specs.Commands.{command_may_want, may_want};
@@ -9,7 +9,7 @@ ghost use Rattle.cookie_script.specs.Script.{command_turn, start, turn};
 use crate::answer::Answer;
 use crate::command::{Command, read_command};
 use cookie_store::psl::List;
-use cookie_store::{CookieError, CookieStore, Reply};
+use cookie_store::{CookieError, CookieStore, InsertResult, Reply};
 use jiff::civil::{DateTime, date};
 use std::alloc::{AllocError, Global};
 use std::marker::Model;
@@ -89,10 +89,7 @@ impl Jar {
                 self.moment = moment;
                 Ok(Told::Nothing)
             }
-            Command::Set(url, text) => match self.store.parse(text, &url, self.moment) {
-                Err(CookieError::Memory) => Err(AllocError),
-                told => Ok(Told::Said(Reply::Stored(told))),
-            },
+            Command::Set(url, text) => said(self.store.parse(text, &url, self.moment)),
             Command::Get(url) => Ok(Told::Cookies(url)),
             Command::ListRows => Ok(Told::Rows),
             Command::Remove(domain, path, name) => {
@@ -118,5 +115,16 @@ impl Jar {
             Told::Cookies(url) => Ok(Answer::header(self.store.matches(&url, self.moment)?)),
             Told::Rows => Ok(Answer::rows(self.store.iter_any())),
         }
+    }
+}
+
+// What a cookie came to that the store took or refused.
+fn said(told: InsertResult) -> Result<Told, AllocError>
+    ensures said { IfOk result (λ said. (said ≡ Told.Said (Reply.Stored told)) × (told ≢ Err CookieError.Memory)) }
+    ensures memory { OnErr result (told ≡ Err CookieError.Memory) }
+{
+    match told {
+        Err(CookieError::Memory) => Err(AllocError),
+        told => Ok(Told::Said(Reply::Stored(told))),
     }
 }
