@@ -4,3 +4,4 @@ pub mod Pieces
 pub mod PieceTexts
 pub mod Progress
 pub mod Wanting
+pub mod WholeLines

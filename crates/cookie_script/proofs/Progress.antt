@@ -1,29 +1,38 @@
 -- A script in its course: what was answered, what is at hand, and what is left of the input.
-use Rattle.std.proofs.Common.{◌≡◌, ◌≢◌, ℕ, ◌+◌, cond, eqb, ne_eqb, subst, List, [], ◌∷◌, ◌++◌, Option, Some, None, IfSome, length, take, drop, refl, sym, ap, ◌∙◌, append-nil}
+use Rattle.std.proofs.Common.{◌≡◌, ◌≢◌, ℕ, ◌+◌, cond, eqb, ne_eqb, subst, List, [], ◌∷◌, ◌++◌, Option, Some, None, IfSome, length, take, drop, position, refl, sym, ap, ◌∙◌, append_assoc, append-nil}
 use Rattle.std.specs.Io.KnownBytes.{Appends, IsAtEnd, Keeps, prepend_known}
 use Rattle.std.specs.Str.Lines.{lines, lines_of_parts, strip_carriage_return}
 use Rattle.cookie_device.specs.Device.{AppendsBeginning, Sends}
 use Rattle.cookie_device.specs.Lines.{EndsLine, IsLastLine}
 use Rattle.cookie_device.proofs.Sending.{nothing_part, nothing_put}
 use Rattle.cookie_psl.specs.Rules.{RuleList}
-use Rattle.cookie_script.specs.Progress.{SendsFirst}
+use Rattle.cookie_script.specs.Progress.{AreRead}
 use Rattle.cookie_script.specs.Script.{State, start, turn, output_of}
-use Rattle.cookie_script.proofs.Answered.{Answered, first_sent, gathered_sent, next_answered, part_sent}
+use Rattle.cookie_script.proofs.Answered.{Answered, gathered_sent, next_answered, part_sent}
+use Rattle.cookie_script.proofs.WholeLines.{WholeLines, line_cut, no_lines, one_more}
 
--- the bytes at hand and what the source has left are still to be answered
+-- whole lines were passed and answered, and the bytes at hand and what the source has left are still to be
 pub record Progress (suffixes : Option RuleList) (input : List ℕ) (old : Option (List ℕ)) (before at_hand : List ℕ) (rest : Option (List ℕ)) (state : State) (new : Option (List ℕ)) (gathered : List ℕ) : Type 0 where
+  pub gone : List ℕ
   pub left : List ℕ
+  pub passed : List (List ℕ)
+  pub cut : input ≡ gone ++ left
   pub known : prepend_known at_hand rest ≡ Some left
-  pub answered : Answered suffixes input old before (lines left) state new gathered
+  pub whole : WholeLines gone passed
+  pub answered : Answered suffixes input old before passed (lines left) state new gathered
 
 -- at first all is left
 pub begun : (suffixes : Option RuleList) (rest : Option (List ℕ)) (a : Option (List ℕ)) (before : List ℕ)
     → IfSome rest (λ input. Progress suffixes input a before [] rest (start suffixes) a before)
 begun suffixes None a before = tt
 begun suffixes (Some input) a before = record {
+  gone = [];
   left = input;
+  passed = [];
+  cut = refl;
   known = refl;
-  answered = record { passed = []; split = refl; state_is = refl; sends = nothing_put a before };
+  whole = no_lines;
+  answered = record { split = refl; state_is = refl; sends = nothing_put a before };
 }
 
 -- the lines that are left, where a line was found at hand
@@ -52,72 +61,116 @@ nothing_last n x e = rw e
 something_last : (n : ℕ) (x : List ℕ) → n ≢ 0 → cond (eqb n 0) [] (x ∷ []) ≡ x ∷ []
 something_last n x h = rw (ne_eqb n 0 h)
 
+-- the input up to the end of the line that was found, and what comes behind it
+cut_behind_line : (input gone at_hand left more : List ℕ) (rest : Option (List ℕ)) (end : ℕ) → input ≡ gone ++ left
+    → prepend_known at_hand rest ≡ Some left → rest ≡ Some more → position (λ b. eqb b 10) at_hand ≡ Some end
+    → input ≡ (gone ++ (take end at_hand ++ 10 ∷ [])) ++ (drop (end + 1) at_hand ++ more)
+cut_behind_line input gone at_hand left more rest end cut known is found =
+    let piece = take end at_hand ++ 10 ∷ [] in
+    let behind = drop (end + 1) at_hand in
+    let same : prepend_known at_hand (Some more) ≡ Some left = ap (prepend_known at_hand) (sym is) ∙ known in
+    let joined : at_hand ++ more ≡ left = cc in
+    cut ∙ ap (λ xs. gone ++ xs) (sym joined ∙ ap (λ xs. xs ++ more) (line_cut at_hand end found) ∙ append_assoc piece behind more)
+    ∙ sym (append_assoc gone piece (behind ++ more))
+
+-- what was read: the bytes that were passed, and those at hand
+cut_unread : (input gone at_hand left : List ℕ) (passed : List (List ℕ)) (rest : Option (List ℕ)) → input ≡ gone ++ left
+    → prepend_known at_hand rest ≡ Some left → WholeLines gone passed → position (λ b. eqb b 10) at_hand ≡ None → AreRead input rest passed
+cut_unread input gone at_hand left passed None cut known whole none = cc
+cut_unread input gone at_hand left passed (Some more) cut known whole none =
+    let joined : at_hand ++ more ≡ left = cc in (
+      gone ++ at_hand,
+      more,
+      refl,
+      cut ∙ ap (λ xs. gone ++ xs) (sym joined) ∙ sym (append_assoc gone at_hand more),
+      sym (append-nil passed) ∙ sym (whole.are []) ∙ ap lines (append-nil gone ∙ sym (whole.cut at_hand none)),
+    )
+
 module _ {suffixes : Option RuleList} {input : List ℕ} {old : Option (List ℕ)} {before : List ℕ} {rest : Option (List ℕ)} {state : State} {new : Option (List ℕ)} {g : List ℕ} where
   -- the line that was found at hand comes next
-  pub found : (at_hand line : List ℕ) (end : ℕ) → Progress suffixes input old before at_hand rest state new g → EndsLine at_hand end
+  pub found : (at_hand line : List ℕ) (end : ℕ) (p : Progress suffixes input old before at_hand rest state new g) → EndsLine at_hand end
       → line ≡ strip_carriage_return (take end at_hand)
-      → (more : List ℕ) × (rest ≡ Some more) × Answered suffixes input old before (line ∷ lines (drop (end + 1) at_hand ++ more)) state new g
+      → (more : List ℕ) × (rest ≡ Some more) × Answered suffixes input old before p.passed (line ∷ lines (drop (end + 1) at_hand ++ more)) state new g
   found at_hand line end p ends is =
       let (more, known, ls) = left_lines at_hand p.left rest end p.known ends in (
         more,
         known,
-        subst (λ next. Answered suffixes input old before next state new g) (ls ∙ ap (λ l. l ∷ lines (drop (end + 1) at_hand ++ more)) (sym is)) p.answered,
+        subst (λ next. Answered suffixes input old before p.passed next state new g) (ls ∙ ap (λ l. l ∷ lines (drop (end + 1) at_hand ++ more)) (sym is)) p.answered,
       )
 
   -- it is answered
   pub line_answered : (at_hand line : List ℕ) (end : ℕ) (then : Option (List ℕ)) (h : List ℕ) → Progress suffixes input old before at_hand rest state new g
-      → EndsLine at_hand end → line ≡ strip_carriage_return (take end at_hand) → Sends new then (g ++ (turn line state).text) h
-      → Progress suffixes input old before (drop (end + 1) at_hand) rest (turn line state).state then h
-  line_answered at_hand line end then h p ends is sends =
+      → position (λ b. eqb b 10) at_hand ≡ Some end → EndsLine at_hand end → line ≡ strip_carriage_return (take end at_hand)
+      → Sends new then (g ++ (turn line state).text) h → Progress suffixes input old before (drop (end + 1) at_hand) rest (turn line state).state then h
+  line_answered at_hand line end then h p first ends is sends =
       let (more, known, next) = found at_hand line end p ends is in
       record {
+        gone = p.gone ++ (take end at_hand ++ 10 ∷ []);
         left = drop (end + 1) at_hand ++ more;
+        passed = p.passed ++ line ∷ [];
+        cut = cut_behind_line input p.gone at_hand p.left more rest end p.cut p.known known first;
         known = ap (prepend_known (drop (end + 1) at_hand)) known;
-        answered = next_answered line (lines (drop (end + 1) at_hand ++ more)) state new then g h next sends;
+        whole =
+            subst (λ (l : List ℕ). WholeLines (p.gone ++ (take end at_hand ++ 10 ∷ [])) (p.passed ++ l ∷ [])) (sym is)
+            (one_more p.gone at_hand p.passed end p.whole first);
+        answered = next_answered p.passed line (lines (drop (end + 1) at_hand ++ more)) state new then g h next sends;
       }
 
   -- what was gathered goes out
   pub flushed : (at_hand : List ℕ) (then : Option (List ℕ)) (h : List ℕ) → Progress suffixes input old before at_hand rest state new g → Appends new then g
       → h ≡ [] → Progress suffixes input old before at_hand rest state then h
-  flushed at_hand then h p whole empty =
-      record { left = p.left; known = p.known; answered = gathered_sent (lines p.left) state new then g h p.answered whole empty }
+  flushed at_hand then h p out empty = record {
+    gone = p.gone;
+    left = p.left;
+    passed = p.passed;
+    cut = p.cut;
+    known = p.known;
+    whole = p.whole;
+    answered = gathered_sent p.passed (lines p.left) state new then g h p.answered out empty;
+  }
 
   -- more is read ahead
   pub read_ahead : (at_hand more : List ℕ) (less : Option (List ℕ)) → Progress suffixes input old before at_hand rest state new g
       → Keeps (prepend_known at_hand rest) (prepend_known more less) → Progress suffixes input old before more less state new g
   read_ahead at_hand more less p kept = record {
+    gone = p.gone;
     left = p.left;
+    passed = p.passed;
+    cut = p.cut;
     known = kept_known (prepend_known at_hand rest) (prepend_known more less) p.left p.known kept;
+    whole = p.whole;
     answered = p.answered;
   }
 
   -- at the end of the source the bytes at hand are the last line, unless there are none
-  last_lines : (at_hand : List ℕ) → Progress suffixes input old before at_hand rest state new g → IsAtEnd rest → IsLastLine at_hand
-      → Answered suffixes input old before (lines_of_parts (at_hand ∷ [])) state new g
+  last_lines : (at_hand : List ℕ) (p : Progress suffixes input old before at_hand rest state new g) → IsAtEnd rest → IsLastLine at_hand
+      → Answered suffixes input old before p.passed (lines_of_parts (at_hand ∷ [])) state new g
   last_lines at_hand p end one =
-      subst (λ next. Answered suffixes input old before next state new g) (ap lines (all_at_hand at_hand p.left rest p.known end) ∙ one) p.answered
+      subst (λ next. Answered suffixes input old before p.passed next state new g) (ap lines (all_at_hand at_hand p.left rest p.known end) ∙ one) p.answered
 
   -- nothing is left to answer
-  pub no_line_left : (at_hand : List ℕ) → Progress suffixes input old before at_hand rest state new g → IsAtEnd rest → IsLastLine at_hand
-      → length at_hand ≡ 0 → Answered suffixes input old before [] state new g
+  pub no_line_left : (at_hand : List ℕ) (p : Progress suffixes input old before at_hand rest state new g) → IsAtEnd rest → IsLastLine at_hand
+      → length at_hand ≡ 0 → Answered suffixes input old before p.passed [] state new g
   no_line_left at_hand p end one empty =
-      subst (λ next. Answered suffixes input old before next state new g) (nothing_last (length at_hand) at_hand empty) (last_lines at_hand p end one)
+      subst (λ next. Answered suffixes input old before p.passed next state new g) (nothing_last (length at_hand) at_hand empty) (last_lines at_hand p end one)
 
   -- one line is left to answer
-  pub one_line_left : (at_hand : List ℕ) → Progress suffixes input old before at_hand rest state new g → IsAtEnd rest → IsLastLine at_hand
-      → length at_hand ≢ 0 → Answered suffixes input old before (at_hand ∷ []) state new g
-  one_line_left at_hand p end one some =
-      subst (λ next. Answered suffixes input old before next state new g) (something_last (length at_hand) at_hand some) (last_lines at_hand p end one)
+  pub one_line_left : (at_hand line : List ℕ) (p : Progress suffixes input old before at_hand rest state new g) → IsAtEnd rest → IsLastLine at_hand
+      → length at_hand ≢ 0 → line ≡ at_hand → Answered suffixes input old before p.passed (line ∷ []) state new g
+  one_line_left at_hand line p end one some is =
+      subst (λ next. Answered suffixes input old before p.passed next state new g)
+      (something_last (length at_hand) at_hand some ∙ ap (λ l. l ∷ []) (sym is)) (last_lines at_hand p end one)
 
   -- a beginning of what was gathered is one of the output
   pub flush_part : (at_hand : List ℕ) (then : Option (List ℕ)) → Progress suffixes input old before at_hand rest state new g → AppendsBeginning new then g
       → AppendsBeginning old then (before ++ output_of suffixes input)
-  flush_part at_hand then p part = part_sent (lines p.left) state new then g p.answered part
+  flush_part at_hand then p part = part_sent p.passed (lines p.left) state new then g p.answered part
 
   -- so is what went out so far
   pub part_so_far : (at_hand : List ℕ) → Progress suffixes input old before at_hand rest state new g → AppendsBeginning old new (before ++ output_of suffixes input)
-  part_so_far at_hand p = part_sent (lines p.left) state new new g p.answered (nothing_part new g)
+  part_so_far at_hand p = part_sent p.passed (lines p.left) state new new g p.answered (nothing_part new g)
 
-  -- and it is the answers to some first lines, of which nothing is lost
-  pub first_so_far : (at_hand : List ℕ) → Progress suffixes input old before at_hand rest state new g → SendsFirst suffixes input old new before g
-  first_so_far at_hand p = first_sent (lines p.left) state new g p.answered
+  -- where no line feed is at hand, the lines that were answered are those that were read
+  pub are_read : (at_hand : List ℕ) (p : Progress suffixes input old before at_hand rest state new g) → position (λ b. eqb b 10) at_hand ≡ None
+      → AreRead input rest p.passed
+  are_read at_hand p none = cut_unread input p.gone at_hand p.left p.passed rest p.cut p.known p.whole none

@@ -1,20 +1,26 @@
 -- How far a script came.
-use Rattle.std.specs.Prelude.{ℕ, List, ◌++◌, take, Option}
-use Rattle.std.specs.Io.KnownBytes.{Appends}
+use Rattle.std.specs.Prelude.{◌≡◌, ℕ, ◌-◌, ◌==◌, not, List, [], ◌∷◌, ◌++◌, length, take, IsTrue, Option, Some}
+use Rattle.std.specs.List.{suffix_len}
 use Rattle.std.specs.Str.Lines.{lines}
-use Rattle.cookie_device.specs.Device.{Sends}
 use Rattle.cookie_psl.specs.Rules.{RuleList}
+use Rattle.cookie_script.specs.Commands.{may_want}
 use Rattle.cookie_script.specs.Script.{outputs, start}
 
--- what the first lines of a script write, so many of them, each line's answer whole
-abbrev pub first_outputs : ℕ → Option RuleList → List ℕ → List ℕ
-first_outputs count suffixes input = outputs (take count (lines input)) (start suffixes)
+-- a text up to its last line feed, or nothing where it has none
+abbrev pub whole_lines : List ℕ → List ℕ
+whole_lines text = take (length text - suffix_len (λ b. not (b == 10)) text) text
 
--- the answers to some first lines went out, each whole, and nothing else
-abbrev pub AppendsFirst : Option RuleList → List ℕ → Option (List ℕ) → Option (List ℕ) → Type 0
-AppendsFirst suffixes input old new = (count : ℕ) × Appends old new (first_outputs count suffixes input)
+-- all of the input but what is left was read, and these are the whole lines of what was read
+abbrev pub AreRead : List ℕ → Option (List ℕ) → List (List ℕ) → Type 0
+AreRead input left first =
+    (read unread : List ℕ) × (left ≡ Some unread) × (input ≡ read ++ unread) × (first ≡ lines (whole_lines read))
 
--- of what was gathered and the answers to some first lines, each whole, all but `rest` went out
-abbrev pub SendsFirst : Option RuleList → List ℕ → Option (List ℕ) → Option (List ℕ) → List ℕ → List ℕ → Type 0
-SendsFirst suffixes input old new gathered rest =
-    (count : ℕ) × Sends old new (gathered ++ first_outputs count suffixes input) rest
+-- there is a next line, and it may want memory
+abbrev pub NextMayWant : List (List ℕ) → Type 0
+NextMayWant [] = ⊥
+NextMayWant (line ∷ more) = IsTrue (may_want line)
+
+-- the answers to some first lines, each whole, are what went out, and of these lines and the others it holds so
+abbrev pub AnswersFirst : Option RuleList → List ℕ → (List (List ℕ) → List (List ℕ) → Type 0) → (List ℕ → Type 0) → Type 0
+AnswersFirst suffixes input Holds WentOut = (first more : List (List ℕ)) × (lines input ≡ first ++ more)
+    × Holds first more × WentOut (outputs first (start suffixes))

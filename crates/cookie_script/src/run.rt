@@ -1,10 +1,11 @@
 //! A script, from the bytes that come in to the bytes that go out.
-ghost use Rattle.std.specs.Prelude.{◌≡◌, ◌+◌, ◌-◌, ◌^◌, ◌<◌, ◌≤◌, ◌++◌, Err, IfSome, OnOk, length};
+ghost use Rattle.std.specs.Prelude.{◌≡◌, ℕ, ◌+◌, ◌-◌, ◌^◌, ◌<◌, ◌≤◌, ◌++◌, ◌⊎◌, Err, IfSome, IsTrue, OnOk, length};
 ghost use Rattle.std.specs.Io.KnownBytes.{Appends};
 ghost use Rattle.cookie_device.specs.Device.{AppendsBeginning, Sends};
+ghost use Rattle.cookie_script.specs.Commands.{may_want};
 ghost use Rattle.cookie_script.specs.Faults.{CountsFault};
-ghost use Rattle.cookie_script.specs.Progress.{AppendsFirst, SendsFirst};
-ghost use Rattle.cookie_script.specs.Script.{output_of};
+ghost use Rattle.cookie_script.specs.Progress.{AnswersFirst, AreRead, NextMayWant};
+ghost use Rattle.cookie_script.specs.Script.{output_of, turn};
 
 use crate::fault::RunFault;
 use crate::jar::Jar;
@@ -13,7 +14,8 @@ use cookie_store::psl::List;
 use std::alloc::Global;
 
 /// Runs the script that the source gives, and writes its answers to the sink. The store obeys the public suffix list, if
-/// there is one.
+/// there is one. Where a read fails, the answers to all whole lines that were read went out, and nothing else. So it is
+/// where memory runs out, unless the next line may want it.
 pub fn run<R: Source, W: Sink>(
     alloc: Global,
     source: &mut R,
@@ -26,8 +28,12 @@ pub fn run<R: Source, W: Sink>(
         Appends (W.contents sink.old) (W.contents sink.new) (output_of list input))) }
     ensures part { IfSome (R.remaining source.old) (λ input.
         AppendsBeginning (W.contents sink.old) (W.contents sink.new) (output_of list input)) }
+    ensures read { result ≡ Err RunFault.Read → IfSome (R.remaining source.old) (λ input.
+        AnswersFirst list input (λ first more. AreRead input (R.remaining source.new) first)
+        (Appends (W.contents sink.old) (W.contents sink.new))) }
     ensures memory { result ≡ Err RunFault.Memory → IfSome (R.remaining source.old) (λ input.
-        AppendsFirst list input (W.contents sink.old) (W.contents sink.new)) }
+        AnswersFirst list input (λ first more. AreRead input (R.remaining source.new) first ⊎ NextMayWant more)
+        (Appends (W.contents sink.old) (W.contents sink.new))) }
     ensures count { CountsFault result (R.failed source.old) (R.failed source.new) (W.failed sink.old) (W.failed sink.new) }
     ensures reads { IfSome (R.remaining source.old) (λ input.
         R.reads_left source.old ≤ R.reads_left source.new + length input + 1) }
@@ -57,8 +63,12 @@ fn answer_lines<R: Source, W: Sink>(
         Sends (W.contents sink.old) (W.contents sink.new) (out.old ++ output_of list input) out.new)) }
     ensures part { IfSome (R.remaining source.old) (λ input.
         AppendsBeginning (W.contents sink.old) (W.contents sink.new) (out.old ++ output_of list input)) }
+    ensures read { result ≡ Err RunFault.Read → IfSome (R.remaining source.old) (λ input.
+        AnswersFirst list input (λ first more. AreRead input (R.remaining source.new) first)
+        (λ text. Appends (W.contents sink.old) (W.contents sink.new) (out.old ++ text))) }
     ensures memory { result ≡ Err RunFault.Memory → IfSome (R.remaining source.old) (λ input.
-        SendsFirst list input (W.contents sink.old) (W.contents sink.new) out.old out.new) }
+        AnswersFirst list input (λ first more. AreRead input (R.remaining source.new) first ⊎ NextMayWant more)
+        (λ text. Sends (W.contents sink.old) (W.contents sink.new) (out.old ++ text) out.new)) }
     ensures count { CountsFault result (R.failed source.old) (R.failed source.new) (W.failed sink.old) (W.failed sink.new) }
     ensures reads { IfSome (R.remaining source.old) (λ input.
         R.reads_left source.old ≤ R.reads_left source.new + length input + 1) }
@@ -67,8 +77,7 @@ fn answer_lines<R: Source, W: Sink>(
     let mut jar = Jar::new(alloc, list);
     'lines: loop {
         if let Some(end) = input.line_end() {
-            let told = jar.turn(alloc, input.line(end))?;
-            out.put_all(sink, jar.answer(told)?)?;
+            answer_line(alloc, &mut jar, input.line(end), out, sink)?;
             input.pass(end + 1);
         } else {
             // Who drives the other end has each answer before the next line has to come.
@@ -81,6 +90,27 @@ fn answer_lines<R: Source, W: Sink>(
     if input.rest().is_empty() {
         return Ok(());
     }
-    let told = jar.turn(alloc, input.rest())?;
+    answer_line(alloc, &mut jar, input.rest(), out, sink)
+}
+
+// Does what a line asks, and gathers its answer.
+fn answer_line<W: Sink>(
+    alloc: Global,
+    jar: &mut Jar,
+    line: &[u8],
+    out: &mut Output,
+    sink: &mut W,
+) -> Result<(), RunFault>
+    requires { W.failed sink.old < 2 ^ 64 - 1 }
+    ensures state { OnOk result (jar.new ≡ (turn line.now jar.old).state) }
+    ensures whole { OnOk result (Sends (W.contents sink.old) (W.contents sink.new)
+        (out.old ++ (turn line.now jar.old).text) out.new) }
+    ensures part { AppendsBeginning (W.contents sink.old) (W.contents sink.new)
+        (out.old ++ (turn line.now jar.old).text) }
+    ensures memory { result ≡ Err RunFault.Memory → IsTrue (may_want line.now)
+        × (out.new ≡ out.old) × (W.contents sink.new ≡ W.contents sink.old) }
+    ensures count { (reads : ℕ) → CountsFault result reads reads (W.failed sink.old) (W.failed sink.new) }
+{
+    let told = jar.turn(alloc, line)?;
     Ok(out.put_all(sink, jar.answer(told)?)?)
 }

@@ -1,7 +1,11 @@
-use Rattle.std.proofs.Common.{Option, None, Some, IfSome}
+use Rattle.std.proofs.Common.{◌⊎◌, inl, ℕ, List, [], Option, None, Some, IfSome, refl}
+use Rattle.std.specs.Io.KnownBytes.{Appends}
+use Rattle.std.specs.Str.Lines.{lines}
 use Rattle.std.proofs.lemmas.Option.{IfSome_then}
 use Rattle.std.proofs.KnownBytes.{Appends-nil}
 use Rattle.cookie_device.proofs.Sending.{nothing_part, part_of_rest}
+use Rattle.cookie_psl.specs.Rules.{RuleList}
+use Rattle.cookie_script.specs.Progress.{AnswersFirst, AreRead, NextMayWant}
 use Rattle.cookie_script.proofs.Answered.{first_appended, first_part}
 use Rattle.cookie_script.proofs.run.run.Goals as goal
 
@@ -10,32 +14,38 @@ if_any : {X : Type 0} (P : X → Type 0) (o : Option X) → ((x : X) → P x) �
 if_any P None each = tt
 if_any P (Some x) each = each x
 
+-- before the first read no line was read, and none is answered
+none_read : (suffixes : Option RuleList) (rest contents : Option (List ℕ)) → IfSome rest (λ input.
+    AnswersFirst suffixes input (λ first more. AreRead input rest first ⊎ NextMayWant more) (Appends contents contents))
+none_read suffixes None contents = tt
+none_read suffixes (Some input) contents = ([], lines input, refl, inl ([], input, refl, refl, refl), Appends-nil contents)
+
 pub returns-in_err-out-clause-part : goal.returns-in_err-out-clause-part
 returns-in_err-out-clause-part g c =
     if_any _ (g.R.Source.remaining c.args.source.now) (λ input. nothing_part (g.W.Sink.contents c.args.sink.now) _)
 
 pub returns-in_err-out-clause-memory : goal.returns-in_err-out-clause-memory
 returns-in_err-out-clause-memory g c =
-    λ wants. if_any _ (g.R.Source.remaining c.args.source.now) (λ input. (0, Appends-nil (g.W.Sink.contents c.args.sink.now)))
+    λ wants. none_read c.args.list (g.R.Source.remaining c.args.source.now) (g.W.Sink.contents c.args.sink.now)
 
 pub returns-in_err-flush-in-Err-Memory-clause-part : goal.returns-in_err-flush-in-Err-Memory-clause-part
 returns-in_err-flush-in-Err-Memory-clause-part g c =
     let memory = c.in-Err-Memory.ensures.memory cc in
     IfSome_then (g.R.Source.remaining c.args.source.now) (rw c.in_ok-out.ensures at memory)
-    (λ input first. first_part c.args.list input _ _ _ _ first c.in_err-flush-in-Err-Memory.ensures.part)
+    (λ input first. first_part c.args.list input _ _ _ _ _ first c.in_err-flush-in-Err-Memory.ensures.part)
 
 pub returns-in-Err-Memory-clause-part : goal.returns-in-Err-Memory-clause-part
 returns-in-Err-Memory-clause-part g c =
     let memory = c.in-Err-Memory.ensures.memory cc in
     IfSome_then (g.R.Source.remaining c.args.source.now) (rw c.in_ok-out.ensures at memory)
-    (λ input first. first_part c.args.list input _ _ _ _ first c.in_ok-flush-in-Err-Memory.ensures.part)
+    (λ input first. first_part c.args.list input _ _ _ _ _ first c.in_ok-flush-in-Err-Memory.ensures.part)
 
 pub returns-in-Err-Memory-clause-memory : goal.returns-in-Err-Memory-clause-memory
 returns-in-Err-Memory-clause-memory g c =
     λ wants.
     let memory = c.in-Err-Memory.ensures.memory cc in
     IfSome_then (g.R.Source.remaining c.args.source.now) (rw c.in_ok-out.ensures at memory)
-    (λ input first. first_appended c.args.list input _ _ _ _ first c.in_ok-flush-in-Err-Memory.ensures.whole)
+    (λ input first. first_appended c.args.list input _ _ _ _ _ first c.in_ok-flush-in-Err-Memory.ensures.whole)
 
 pub returns-in_err-flush-in-Ok-clause-part : goal.returns-in_err-flush-in-Ok-clause-part
 returns-in_err-flush-in-Ok-clause-part g c =
