@@ -1,12 +1,13 @@
 //! The public suffix list of a file.
 ghost use Rattle.std.specs.Prelude.{◌≡◌, false, Err};
 ghost use Rattle.std.specs.IoError.{error_kind};
+ghost use Rattle.std.specs.Result.{result_map_both};
 ghost use Rattle.std.specs.Str.{is_utf8};
-ghost use Rattle.cookie_script.specs.Faults.{file_fault};
+ghost use Rattle.cookie_script.specs.Faults.{file_fault, list_fault};
 ghost use Rattle.cookie_script.specs.Suffixes.{list_at, GivesList};
 
 use crate::fault::{MainFault, RunFault};
-use cookie_store::psl::List;
+use cookie_store::psl::{List, ListError};
 use std::alloc::Global;
 use std::io;
 
@@ -20,7 +21,17 @@ pub fn list_of(alloc: Global, bytes: &[u8]) -> Result<List, MainFault>
     let Ok(text) = str::from_utf8(bytes) else {
         return Err(MainFault::CannotReadList);
     };
-    Ok(List::from_text(alloc, text)?)
+    list_or_fault(List::from_text(alloc, text))
+}
+
+// The list that was read, or the fault that its error is.
+fn list_or_fault(read: Result<List, ListError>) -> Result<List, MainFault>
+    ensures { result ≡ result_map_both (λ list. list) list_fault read }
+{
+    match read {
+        Ok(list) => Ok(list),
+        Err(error) => Err(MainFault::from(error)),
+    }
 }
 
 /// Why the file of a list could not be read: `CannotReadList`, unless there was no memory.

@@ -1,5 +1,5 @@
 use Rattle.std.proofs.Common.{◌≡◌, ◌∙◌, ap, sym, subst, ℕ, List, Result, Ok, Err, false, true}
-use Rattle.std.specs.Result.{result_map_both, IsErrAnd}
+use Rattle.std.specs.Result.{result_map_both}
 use Rattle.std.specs.Str.{IsUtf8, is_utf8}
 use Rattle.std.proofs.lemmas.Bool.{false_from_ne_true}
 use Rattle.std.proofs.lemmas.Str.{IsUtf8-from_is_utf8, is_utf8-from_IsUtf8}
@@ -29,31 +29,21 @@ of_text bytes text same valid = rw (is_utf8-from_IsUtf8 bytes valid, same)
 no_other : (bytes : List ℕ) → IsUtf8 bytes → is_utf8 bytes ≡ false → ⊥
 no_other bytes valid other = let is : is_utf8 bytes ≡ true = is_utf8-from_IsUtf8 bytes valid in cc
 
--- a text that is no list has the fault that its error says
-of_error : (error : ListError) (result : Result Declared.List.List MainFault) (read : Result RuleList ℕ) (answer : Result RuleList MainFault)
-    → IsErrAnd result (λ fault. fault ≡ list_fault error) → Psl.GivesList (Err error) read
-    → answer ≡ result_map_both (λ rules. rules) BadRule read → GivesList result answer
-of_error error (Ok list) read answer told given same = absurd told
-of_error (Told.BadRule line) (Err fault) read answer told given same =
-    subst (λ f. GivesList (Err f) answer) (sym told) (same ∙ ap (result_map_both (λ rules. rules) BadRule) given)
-of_error Told.Memory (Err fault) read answer told given same = subst (λ f. GivesList (Err f) answer) (sym told) tt
+-- what was read of a text is its list, or the fault that its error is
+of_read : (read : Result Declared.List.List ListError) (rules : Result RuleList ℕ) (answer : Result RuleList MainFault)
+    → Psl.GivesList read rules → answer ≡ result_map_both (λ rules. rules) BadRule rules → GivesList (result_map_both (λ list. list) list_fault read) answer
+of_read (Ok list) rules answer (given, is, same) answered = (given, answered ∙ ap (result_map_both (λ rules. rules) BadRule) is, same)
+of_read (Err (Told.BadRule line)) rules answer given answered = answered ∙ ap (result_map_both (λ rules. rules) BadRule) given
+of_read (Err Told.Memory) rules answer given answered = tt
 
 pub returns-in_default-clause-value : goal.returns-in_default-clause-value
 returns-in_default-clause-value c = not_text _ c.in_default.ensures.cases.0
 
-pub returns-in_err-from_text-clause-value : goal.returns-in_err-from_text-clause-value
-returns-in_err-from_text-clause-value c =
-    of_error c.in_err-from_text.field-0.0 c.from_residual.result (rules_from c.in-Ok.text.now) (list_at c.args.bytes.now)
-    c.from_residual.ensures.1 c.in_err-from_text.ensures
-    (of_text c.args.bytes.now _ c.in-Ok.ensures.cases.0 c.in-Ok.ensures.cases.1)
-
-pub returns-in_err-from_text-clause-utf8 : goal.returns-in_err-from_text-clause-utf8
-returns-in_err-from_text-clause-utf8 c = λ other. absurd (no_other _ c.in-Ok.ensures.cases.1 other)
-
 pub returns-clause-value : goal.returns-clause-value
 returns-clause-value c =
-    let (rules, read, same) = c.in_ok-from_text.ensures in
-    (rules, of_text c.args.bytes.now _ c.in-Ok.ensures.cases.0 c.in-Ok.ensures.cases.1 ∙ ap (result_map_both (λ rules. rules) BadRule) read, same)
+    subst (λ told. GivesList told (list_at c.args.bytes.now)) (sym c.list_or_fault.ensures)
+    (of_read c.from_text.result (rules_from c.in-Ok.text.now) (list_at c.args.bytes.now) c.from_text.ensures
+    (of_text c.args.bytes.now _ c.in-Ok.ensures.cases.0 c.in-Ok.ensures.cases.1))
 
 pub returns-clause-utf8 : goal.returns-clause-utf8
 returns-clause-utf8 c = λ other. absurd (no_other _ c.in-Ok.ensures.cases.1 other)
