@@ -1,31 +1,9 @@
--- A text that may want memory is not refused early, and a command that may want it is that of a line that may.
-use Rattle.std.proofs.Common.{◌≡◌, ◌≢◌, arith, ℕ, Bool, true, false, cond, ◌&&◌, List, Option, Some, None, Result, Ok, Err, option_and_then, option_map, is_none, is_some, refl, bytes_eq, codes}
+-- A command that may want memory is that of a line that may.
+use Rattle.std.proofs.Common.{◌≡◌, ℕ, Bool, true, false, cond, ◌&&◌, List, Option, Some, None, option_and_then, option_map, is_some, refl, bytes_eq, codes}
 use Rattle.std.specs.Option.{option_map_or}
 use Rattle.std.specs.Str.{is_utf8}
-use Rattle.url.specs.Parts.{Parts}
-use Rattle.cookie_raw.specs.Raw.{Raw}
-use Rattle.cookie_raw.specs.declared.parse.RawCookieParseError.{RawCookieParseError}
-use Rattle.cookie_parts.specs.Cookie.{early}
-use Rattle.cookie_parts.specs.declared.cookie_error.CookieError.{CookieError}
-use Rattle.cookie_parts.specs.declared.cookie_error.CookieError.TheVariants.{Memory}
 use Rattle.cookie_saved.specs.MomentText.{moment_at}
 use Rattle.cookie_script.specs.Commands.{Command, Now, Get, ListRows, Clear, command_may_want, command_of, first_word, lone_command, may_want, one_word, remove_command, set_command, text_command, url_at, verb_command, verb_may_want}
-
--- an early refusal is not `Memory`
-not_memory : (read : Result Raw RawCookieParseError) (url : Parts) → early read url ≢ Some Memory
-not_memory (Ok raw) url = grind arith
-not_memory (Err refusal) url = grind arith
-
-none_of : {T : Type 0} (refusal : Option CookieError) (result : Result T CookieError) → refusal ≢ Some Memory
-    → ((r : CookieError) → refusal ≡ Some r → result ≡ Err r) → result ≡ Err Memory → is_none refusal ≡ true
-none_of None result never told want = refl
-none_of (Some r) result never told want = grind (arith, never, told r refl, want)
-
--- where a text wants memory no early refusal came
-pub text_wants : {T : Type 0} (read : Result Raw RawCookieParseError) (url : Parts) (result : Result T CookieError)
-    → ((r : CookieError) → early read url ≡ Some r → result ≡ Err r) → result ≡ Err Memory
-    → is_none (early read url) ≡ true
-text_wants read url result told want = none_of (early read url) result (not_memory read url) told want
 
 -- a command that is made without a URL wants none
 without_url : {X : Type 0} (f : X → Command) → ((x : X) → command_may_want (f x) ≡ false) → (o : Option X) (command : Command)

@@ -1,8 +1,12 @@
-use Rattle.std.proofs.Common.{sym, subst, IsTrue, OnErr, Result, Ok, Err}
-use Rattle.cookie_raw.specs.Reading.{reading}
-use Rattle.cookie_script.specs.CommandViews.{command_view}
-use Rattle.cookie_script.specs.Commands.{command_may_want}
-use Rattle.cookie_script.proofs.Wanting.{text_wants}
+use Rattle.std.proofs.Common.{◌≡◌, ◌≢◌, ap, arith, refl, sym, subst, IfOk, OnErr, OnOk, Result, Ok, Err}
+use Rattle.cookie_parts.specs.declared.cookie_error.CookieError.{CookieError}
+use Rattle.cookie_parts.specs.declared.cookie_error.CookieError.TheVariants.{Memory}
+use Rattle.cookie_parts.specs.declared.store_action.StoreAction.{StoreAction}
+use Rattle.cookie_store.specs.Contents.{Contents}
+use Rattle.cookie_store.specs.Runs as Runs
+use Rattle.cookie_store.specs.Runs.{IsReply, UnlessMemory}
+use Rattle.cookie_words.specs.Moments.{moment_of}
+use Rattle.cookie_script.specs.Script.{command_turn, line_text, reply_text}
 use Rattle.cookie_script.proofs.jar.Jar.obey.Goals as goal
 
 -- what follows from what holds where there is an error holds there
@@ -10,9 +14,47 @@ on_err : {T E P Q : Type 0} (result : Result T E) → (P → Q) → OnErr result
 on_err (Ok value) follows p = tt
 on_err (Err error) follows p = follows p
 
+-- what follows from what is known of a value holds where there is one
+on_ok : {T E P Q : Type 0} (told : T) (result : Result T E) → (P → Q) → IfOk result (λ value. (value ≡ told) × P) → OnOk result Q
+on_ok told (Ok value) follows p = follows p.1
+on_ok told (Err error) follows p = tt
+
+-- the same of the value
+if_ok : {T E P : Type 0} (Q : T → Type 0) (told : T) (result : Result T E) → (P → Q told)
+    → IfOk result (λ value. (value ≡ told) × P) → IfOk result Q
+if_ok Q told (Ok value) follows p = subst Q (sym p.0) (follows p.1)
+if_ok Q told (Err error) follows p = tt
+
+-- what holds unless memory ran out
+unless : {P : Type 0} (result : Result StoreAction CookieError) → UnlessMemory result P → result ≢ Err Memory → P
+unless (Ok action) p never = p
+unless (Err refusal) p never = grind (arith, p, never)
+
+-- the reply, unless memory ran out
+reply : (result : Result StoreAction CookieError) (told : Runs.Reply) → IsReply result told → result ≢ Err Memory
+    → Runs.Stored result ≡ told
+reply (Ok action) told is never = sym is
+reply (Err refusal) told is never = grind (arith, is, never)
+
+pub returns-in-Set-clause-state : goal.returns-in-Set-clause-state
+unfolding command_turn
+returns-in-Set-clause-state c =
+    on_ok _ c.said.result
+    (λ never. rw (c.in-Set.is, ← c.self.view_is)
+    (ap (λ (s : Contents). record { rows = s.rows; suffixes = s.suffixes; moment = moment_of c.self.inside.moment })
+    (unless c.parse.result c.parse.ensures.rows never)))
+    c.said.ensures.said
+
+pub returns-in-Set-clause-told : goal.returns-in-Set-clause-told
+unfolding command_turn
+returns-in-Set-clause-told c =
+    if_ok _ _ c.said.result
+    (λ never. rw (c.in-Set.is, ← c.self.view_is)
+    (ap (λ r. line_text (reply_text r)) (reply c.parse.result _ c.parse.ensures.reply never)))
+    c.said.ensures.said
+
 pub returns-in-Set-clause-wants : goal.returns-in-Set-clause-wants
 returns-in-Set-clause-wants c =
     on_err c.said.result
-    (λ want. subst (λ command. IsTrue (command_may_want (command_view command))) (sym c.in-Set.is)
-    (text_wants (reading c.in-Set.text.now) c.in-Set.url c.parse.result c.parse.ensures.early want))
+    (λ want. rw (c.in-Set.is) (rw (c.parse.ensures.memory want) refl))
     c.said.ensures.memory
