@@ -20,7 +20,7 @@ abbrev pub NextMayWant : List (List ℕ) → Type 0
 NextMayWant [] = ⊥
 NextMayWant (line ∷ more) = IsTrue (may_want line)
 
--- the answers to some first lines, each whole, are what went out, and of these lines and the others it holds so
+-- the answers to some first lines, each whole, are what went out, and the condition holds of these lines and the others
 abbrev pub AnswersFirst : Option RuleList → List ℕ → (List (List ℕ) → List (List ℕ) → Type 0) → (List ℕ → Type 0) → Type 0
 AnswersFirst suffixes input Holds WentOut = (first more : List (List ℕ)) × (lines input ≡ first ++ more)
     × Holds first more × WentOut (outputs first (start suffixes))
