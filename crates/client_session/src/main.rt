@@ -8,7 +8,7 @@ use jiff::civil::{DateTime, date};
 use log::Log;
 use std::alloc::Global;
 use std::fs::{self, Files};
-use url::Url;
+use url::{ParseError, Url};
 
 /// The file that the cookies are kept in between two runs.
 const FILE: &str = "cookies.txt";
@@ -97,10 +97,19 @@ impl Session {
     }
 }
 
+/// The URL of a text, or what is wrong with it.
+fn url_of(alloc: Global, text: &str) -> Result<Url, Error> {
+    match Url::parse(alloc, text) {
+        Ok(url) => Ok(url),
+        Err(ParseError::OutOfMemory) => Err(Error::Memory),
+        Err(error) => Err(Error::Other(error.to_string(alloc)?)),
+    }
+}
+
 /// Two runs of the client, one after the other.
 fn run(rt: &HostRuntime) -> Result<(), Error> {
     let (alloc, now) = (rt.alloc(), date(2026, 1, 1).at(0, 0, 0, 0));
-    let site = Url::parse(alloc, "https://shop.example/").map_err(|_| Error::Memory)?;
+    let site = url_of(alloc, "https://shop.example/")?;
     let mut first = Session::new(alloc, site.clone()?);
     first.receive(rt, &HEADERS, now)?;
     let header = first.header(now)?;

@@ -1,5 +1,5 @@
-//! A crawler of many hosts: under a public suffix list that it reads from a file, so that no host sets cookies for hosts that are
-//! not its own.
+//! A crawler of many hosts: under a public suffix list that it reads from a file, so that no host sets cookies for all hosts
+//! below a public suffix.
 #![tactic(auto)]
 
 use cookie_store::psl::{List, ListError};
@@ -7,7 +7,7 @@ use cookie_store::{CookieError, CookieStore, Error};
 use jiff::civil::{DateTime, date};
 use std::alloc::Global;
 use std::fs;
-use url::Url;
+use url::{ParseError, Url};
 
 /// The file of the public suffix list.
 const FILE: &str = "suffixes.dat";
@@ -42,7 +42,7 @@ impl Crawler {
     fn new(rt: &HostRuntime) -> Result<Crawler, Error> {
         let alloc = rt.alloc();
         let text = fs::read_to_string(rt, FILE).map_err(|_| Error::Io)?;
-        let list = List::from_text(alloc, text.as_str()).map_err(|error| fault_of(alloc, error))?;
+        let list = list_of(alloc, text.as_str())?;
         Ok(Crawler {
             alloc,
             store: CookieStore::new_with_public_suffix(alloc, Some(list)),
@@ -71,11 +71,21 @@ impl Crawler {
     }
 }
 
-/// What is wrong with a list.
-fn fault_of(alloc: Global, error: ListError) -> Error {
-    match error.to_string(alloc) {
-        Ok(text) => Error::Other(text),
-        Err(_) => Error::Memory,
+/// The list of a text, or what is wrong with it.
+fn list_of(alloc: Global, text: &str) -> Result<List, Error> {
+    match List::from_text(alloc, text) {
+        Ok(list) => Ok(list),
+        Err(ListError::Memory) => Err(Error::Memory),
+        Err(error) => Err(Error::Other(error.to_string(alloc)?)),
+    }
+}
+
+/// The URL of a text, or what is wrong with it.
+fn url_of(alloc: Global, text: &str) -> Result<Url, Error> {
+    match Url::parse(alloc, text) {
+        Ok(url) => Ok(url),
+        Err(ParseError::OutOfMemory) => Err(Error::Memory),
+        Err(error) => Err(Error::Other(error.to_string(alloc)?)),
     }
 }
 
@@ -84,7 +94,7 @@ fn run(rt: &HostRuntime) -> Result<(), Error> {
     let (alloc, now) = (rt.alloc(), date(2026, 1, 1).at(0, 0, 0, 0));
     let mut crawler = Crawler::new(rt)?;
     for (address, texts) in &PAGES {
-        let page = Url::parse(alloc, address).map_err(|_| Error::Memory)?;
+        let page = url_of(alloc, address)?;
         let header = crawler.header(&page, now)?;
         println!(rt; "{address}{header}").map_err(|_| Error::Io)?;
         for text in *texts {

@@ -6,7 +6,8 @@ ghost use Rattle.std.specs.Prelude.{Some};
 use cookie_store::device::{DeviceFailed, Sink, Source};
 use cookie_store::{Bulk, Cookie, CookieStore, Error};
 use jiff::civil::date;
-use url::Url;
+use std::alloc::Global;
+use url::{ParseError, Url};
 
 /// Bytes at hand, as a source.
 #[derive(Drop)]
@@ -68,9 +69,18 @@ impl Sink for Length {
     }
 }
 
+/// The URL of a text, or what is wrong with it.
+fn url_of(alloc: Global, text: &str) -> Result<Url, Error> {
+    match Url::parse(alloc, text) {
+        Ok(url) => Ok(url),
+        Err(ParseError::OutOfMemory) => Err(Error::Memory),
+        Err(error) => Err(Error::Other(error.to_string(alloc)?)),
+    }
+}
+
 fn run(rt: &HostRuntime) -> Result<(), Error> {
     let (alloc, now) = (rt.alloc(), date(2026, 1, 1).at(0, 0, 0, 0));
-    let site = Url::parse(alloc, "http://example.com/").map_err(|_| Error::Memory)?;
+    let site = url_of(alloc, "http://example.com/")?;
     let mut source = Bytes {
         left: b"a=1; Max-Age=60\nb=2; Max-Age=0\n",
         reads: u64::MAX,
