@@ -3,7 +3,7 @@ use crate::built::cookie;
 use crate::checks::is_equal;
 use crate::steps::{ENDED, INSERTED, UPDATED, new_year, store_under};
 use crate::texts::{given, url, value_of};
-use cookie_store::{Call, CookieError, CookieStore, InsertResult, Reply};
+use cookie_store::{Call, CookieError, CookieStore, InsertResult, Reply, Stopped};
 use std::alloc::Global;
 use std::process::Abort;
 
@@ -137,4 +137,15 @@ fn calls_are_done_together(rt: HostRuntime) {
     are_done_together(&rt, rt.alloc(), &mut store, Vec::new(rt.alloc()));
     let calls = all_calls(&rt, rt.alloc());
     are_done_together(&rt, rt.alloc(), &mut store, calls);
+}
+
+#[test]
+fn a_width_fills_nothing_up(rt: HostRuntime) {
+    let stopped = Stopped {
+        replies: Vec::new(rt.alloc()),
+        count: 3,
+    };
+    let printed = format!(in rt.alloc(); "{stopped:>40}").expect(&rt, "memory");
+    let wanted = "out of memory after 3 calls";
+    is_equal(&rt, &printed.as_str(), &wanted, &stopped);
 }
