@@ -8,7 +8,8 @@
 use cookie_device::Counted;
 use cookie_psl::List;
 use cookie_script::fault::MainFault;
-use cookie_script::{arguments, run, suffixes};
+use cookie_script::{HashKey, arguments, fault, run, suffixes};
+use std::hash::RandomState;
 use std::process::ExitCode;
 use std::{env, fs};
 
@@ -33,7 +34,8 @@ fn script(rt: &HostRuntime) -> Result<(), MainFault> {
     };
     let mut source = Counted::new(rt.stdin());
     let mut sink = Counted::new(rt.stdout());
-    Ok(run::run(rt.alloc(), &mut source, &mut sink, list)?)
+    let hash_key = HashKey::Drawn(RandomState::new(rt).map_err(fault::draw_fault)?);
+    Ok(run::run(rt.alloc(), &mut source, &mut sink, list, hash_key)?)
 }
 
 // The public suffix list of a file.

@@ -5,6 +5,7 @@ pub mod ConfinedRows
 pub mod CoveredHosts
 pub mod Filtered
 pub mod FoundRows
+pub mod RebuiltRows
 pub mod ReceivedCookies
 pub mod RelatedCalls
 pub mod RowsOfKeys

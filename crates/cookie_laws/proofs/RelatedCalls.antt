@@ -82,7 +82,7 @@ passes-weaker test more allows None is = cc
 passes-weaker test more allows (Some x) is = allows x is
 
 -- a row that is given for a URL is of a related domain
-given-related : (url : Parts) (now : Moment) (row : Row) → is_given url now row ≡ true → is_key_related url (key_of row) ≡ true
+pub given-related : (url : Parts) (now : Moment) (row : Row) → is_given url now row ≡ true → is_key_related url (key_of row) ≡ true
 given-related url now row is =
     let matches = (and_parts _ _ (and_parts _ _ (and_parts _ _ is).0).0).1 in
     let for_url = (and_parts _ _ (and_parts _ _ (and_parts _ _ matches).0).0).0 in

@@ -13,9 +13,9 @@ ghost use Rattle.cookie_parts.specs.declared.store_action.StoreAction.TheVariant
 ghost use Rattle.cookie_psl.specs.Rules.{RuleList};
 ghost use Rattle.cookie_laws.specs.Acceptance.{admitted, is_listed, received, IsPut};
 ghost use Rattle.cookie_laws.specs.Confinement.{IsConfined, IsConfinedAsPut};
-ghost use Rattle.cookie_laws.specs.Given.{given};
-ghost use Rattle.cookie_laws.specs.Related.{concerns, is_of_key, left, of_key, replies_to};
-ghost use Rattle.cookie_laws.specs.Rows.{changed, has_key, is_live, key_of, row_of, same_key, Key};
+ghost use Rattle.cookie_laws.specs.Given.{given, is_given};
+ghost use Rattle.cookie_laws.specs.Related.{concerns, is_of_key, is_related, left, of_key, replies_to};
+ghost use Rattle.cookie_laws.specs.Rows.{are_rows, built, changed, has_key, is_live, key_of, row_of, same_key, Key};
 ghost use Rattle.cookie_laws.specs.Runs.{Call, replies, rows_after};
 ghost use Rattle.cookie_words.specs.Moments.{epoch, nanoseconds, Moment};
 ghost use Rattle.std.specs.List.{All};
@@ -83,4 +83,15 @@ pub fn guarded()
     ensures { (suffixes : Option RuleList) (rows : List Row) (made : Result Row CookieError) (url : Parts) (now : Moment)
         (key : Key) (row : Row) → row_of key rows ≡ Some row → is_live now row ≡ true → is_out_of_reach row.raw url ≡ true
         → row_of key (received suffixes rows made url now).rows ≡ Some row }
+{}
+
+/// Rows that are built from the rows of a store, one after the other and all of them, are the same rows in the same order.
+pub fn rebuilt()
+    ensures { (rows : List Row) (now : Moment) → are_rows rows ≡ true → built true now rows ≡ rows }
+{}
+
+/// A cookie that is given for a URL is of a domain that is related to the URL.
+pub fn given_is_related()
+    ensures { (url : Parts) (now : Moment) (row : Row)
+        → is_given url now row ≡ true → is_related url (domain_text row.domain) ≡ true }
 {}

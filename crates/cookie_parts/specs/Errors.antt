@@ -3,6 +3,9 @@ use Rattle.std.specs.Prelude.{ℕ, List, codes, Option, Some, None, string_bytes
 use Rattle.idna.specs.Errors.{errors_text}
 use Rattle.idna.specs.declared.Errors.{Errors}
 use Rattle.idna.specs.declared.Errors.TheVariants as Idna
+use Rattle.cookie_saved.specs.Errors.{saved_error_text}
+use Rattle.cookie_saved.specs.declared.error.SavedError.{SavedError}
+use Rattle.cookie_saved.specs.declared.error.SavedError.TheVariants as Saved
 use Rattle.cookie_parts.specs.declared.cookie_error.CookieError.{CookieError}
 use Rattle.cookie_parts.specs.declared.cookie_error.CookieError.TheVariants.{NonHttpScheme, NonRelativeScheme, DomainMismatch, Expired, Parse, PublicSuffix, UnspecifiedDomain, Memory}
 use Rattle.cookie_parts.specs.declared.error.Error.{Error}
@@ -19,11 +22,12 @@ error_text PublicSuffix = codes "domain-attribute value is a public suffix"
 error_text UnspecifiedDomain = codes "domain-attribute is not specified"
 error_text Memory = codes "out of memory"
 
--- why a call that is not about one cookie failed: `idna`, and the caller, have words of their own
+-- why a call that is not about one cookie failed: `idna`, saved forms, and the caller, have words of their own
 abbrev pub fault_text : Error → List ℕ
 fault_text (Fault.Cookie refusal) = error_text refusal
 fault_text (Fault.Idna errors) = errors_text errors.fault
 fault_text Fault.Io = codes "a read or a write failed"
+fault_text (Fault.Saved fault) = saved_error_text fault
 fault_text (Fault.Other text) = string_bytes text
 fault_text Fault.Memory = codes "out of memory"
 fault_text Fault.NotUtf8 = codes "a text is not UTF-8"
@@ -42,3 +46,8 @@ fault_of_refusal refusal = Fault.Cookie refusal
 abbrev pub fault_of_idna : Errors → Error
 fault_of_idna Idna.Invalid = Fault.Idna (record { fault = Idna.Invalid })
 fault_of_idna Idna.OutOfMemory = Fault.Memory
+
+-- the fault that an error of a saved form is: want of memory is no fault of the form
+abbrev pub fault_of_saved : SavedError → Error
+fault_of_saved Saved.Memory = Fault.Memory
+fault_of_saved fault = Fault.Saved fault

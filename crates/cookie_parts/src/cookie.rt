@@ -26,7 +26,7 @@ pub type CookieResult<'a> = Result<Cookie<'a>, CookieError>;
 /// A cookie of a user agent: a raw cookie, the hosts and paths that it is for, and its end.
 #[derive(Debug, Drop)]
 pub struct Cookie<'a> {
-    raw: RawCookie<'a>,
+    pub(crate) raw: RawCookie<'a>,
     /// The paths that it is for.
     pub path: CookiePath,
     /// The hosts that it is for.

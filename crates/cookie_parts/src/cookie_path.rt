@@ -76,6 +76,13 @@ impl CookiePath {
         }))
     }
 
+    /// The path as it was saved, also where its text does not begin with `/`.
+    pub(crate) fn of_saved(path: String, from_attr: bool) -> CookiePath
+        ensures { result ≡ record { text = string_bytes path; is_from_attribute = from_attr } }
+    {
+        CookiePath { path, from_attr }
+    }
+
     /// The text of the path, which is given up.
     pub fn into_string(self) -> String
         ensures { string_bytes result ≡ self.text }

@@ -1,5 +1,6 @@
 //! Why a call that is not about one cookie failed.
 use crate::CookieError;
+use cookie_saved::SavedError;
 use std::alloc::{AllocError, AllocFailed};
 use std::fmt;
 
@@ -41,6 +42,8 @@ pub enum Error {
     Idna(IdnaErrors),
     /// A reader or a writer failed.
     Io,
+    /// A saved form was refused.
+    Saved(SavedError),
     /// What a caller's own function says.
     Other(String),
     /// The allocator had no memory.
@@ -62,6 +65,7 @@ impl fmt::Display for Error {
             Error::Cookie(refusal) => refusal.fmt(f),
             Error::Idna(fault) => fault.fmt(f),
             Error::Io => f.write_str("a read or a write failed"),
+            Error::Saved(fault) => fault.fmt(f),
             Error::Other(text) => f.write_str(text.as_str()),
             Error::Memory => f.write_str("out of memory"),
             Error::NotUtf8 => f.write_str("a text is not UTF-8"),
@@ -97,6 +101,21 @@ impl From<idna::Errors> for Error {
         match fault {
             idna::Errors::Invalid => Error::Idna(IdnaErrors::from(fault)),
             idna::Errors::OutOfMemory => Error::Memory,
+        }
+    }
+}
+
+/// What a saved form was refused for is `Saved`, but want of memory is `Memory`.
+impl From<SavedError> for Error {
+    ghost use Rattle.std.specs.Prelude.{◌≡◌};
+    ghost use Rattle.cookie_parts.specs.Errors.{fault_of_saved};
+
+    ghost from_gives = { λ fault e. e ≡ fault_of_saved fault };
+
+    fn from(fault: SavedError) -> Error {
+        match fault {
+            SavedError::Memory => Error::Memory,
+            fault => Error::Saved(fault),
         }
     }
 }

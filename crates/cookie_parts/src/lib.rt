@@ -1,5 +1,5 @@
-//! The parts of a cookie, after RFC 6265 5.1.3, 5.1.4, 5.3 and 5.4: the domain, the path and the expiry, and the cookie
-//! that a Set-Cookie text makes when it comes from a URL.
+//! The parts of a cookie, after RFC 6265 5.1.3, 5.1.4, 5.3 and 5.4: the domain, the path and the expiry, the cookie that a
+//! Set-Cookie text makes when it comes from a URL, and the passage between a cookie and its saved form.
 #![tactic(auto)]
 
 mod cookie;
@@ -8,6 +8,8 @@ mod cookie_error;
 mod cookie_expiration;
 pub mod cookie_path;
 mod error;
+pub mod laws;
+mod saved;
 mod store_action;
 pub mod utils;
 

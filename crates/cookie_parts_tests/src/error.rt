@@ -1,6 +1,7 @@
 use crate::checks::{holds, is_equal, is_written_at_any_width};
 use cookie_parts::{CookieError, Error, IdnaErrors};
 use cookie_raw::RawCookieParseError;
+use cookie_saved::SavedError;
 use std::alloc::{AllocError, AllocFailed, Global};
 use std::process::Abort;
 use std::test::Fail;
@@ -93,6 +94,38 @@ fn a_fault_of_idna_is_a_fault(rt: HostRuntime) {
     is_equal(&rt, wanting, Error::Memory, &"a growth");
 }
 
+// The faults of saved forms, and their texts.
+const SAVED: &[(SavedError, &str)] = &[
+    (SavedError::Json, "a text is not JSON"),
+    (
+        SavedError::Shape,
+        "a value has not the shape of a saved cookie",
+    ),
+    (SavedError::Ron, "a text is not a list in RON"),
+    (
+        SavedError::Moment,
+        "a text is no moment, or a moment is before the year 0",
+    ),
+    (SavedError::Memory, "out of memory"),
+];
+
+// The fault of a call that a fault of a saved form is.
+fn fault_of_saved(fault: &SavedError) -> Error {
+    match fault {
+        SavedError::Memory => Error::Memory,
+        fault => Error::Saved(*fault),
+    }
+}
+
+#[test]
+fn a_fault_of_a_saved_form_is_a_fault(rt: HostRuntime) -> Result<(), Fail> {
+    for (fault, wanted) in SAVED {
+        is_equal(&rt, Error::from(*fault), fault_of_saved(fault), fault);
+        is_told(&rt, rt.alloc(), Error::from(*fault), wanted)?;
+    }
+    Ok(())
+}
+
 #[test]
 fn a_refused_growth_is_want_of_memory(rt: HostRuntime) {
     is_equal(&rt, Error::from(AllocError), Error::Memory, &"a growth");
@@ -135,7 +168,8 @@ fn faults_of_two_kinds_differ(rt: HostRuntime) -> Result<(), Fail> {
     let memory = Error::Cookie(CookieError::Memory);
     let expired = Error::Cookie(CookieError::Expired);
     let invalid = Error::from(idna::Errors::Invalid);
-    let others = [memory, expired, invalid, Error::Io, Error::NotUtf8];
+    let saved = Error::Saved(SavedError::Memory);
+    let others = [memory, expired, invalid, saved, Error::Io, Error::NotUtf8];
     holds(&rt, is_alone(&Error::Memory, &others), &"want of memory");
     let parse = Error::Cookie(CookieError::Parse);
     holds(&rt, is_alone(&parse, &others), &"another refusal");

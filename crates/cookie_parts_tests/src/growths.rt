@@ -3,12 +3,18 @@ use crate::checks::holds;
 use crate::parts::{Hosts, domain_of, is_for, is_path};
 use crate::psl::{EVERY_KIND, says};
 use crate::raw::{Parts, has_parts};
+use crate::saved::list_of;
 use cookie_device::{Counted, FillError, LineBuffer, Output};
 use cookie_parts::cookie_domain::is_match;
 use cookie_parts::{Cookie, CookieDomain, CookieError, CookieExpiration, CookiePath, Error};
 use cookie_psl::{List, ListError};
 use cookie_raw::RawCookie;
+use cookie_saved::{
+    Saved, SavedDomain, SavedError, SavedExpiry, from_value, list_from_value, list_to_value,
+    moment_text, to_value,
+};
 use jiff::civil::DateTime;
+use serde_json::Value;
 use std::alloc::{AllocError, Global};
 use std::test::Fail;
 use url::Url;
@@ -53,6 +59,12 @@ impl Fault for Error {
 impl Fault for ListError {
     fn is_wanting(&self) -> bool {
         *self == ListError::Memory
+    }
+}
+
+impl Fault for SavedError {
+    fn is_wanting(&self) -> bool {
+        *self == SavedError::Memory
     }
 }
 
@@ -415,6 +427,53 @@ fn into_raw(rt: HostRuntime) -> Result<(), Fail> {
     Ok(())
 }
 
+// The text of the raw cookie of `TEXT`.
+const LINE: &str = "a=1; Path=/foo; Domain=bücher.example";
+
+fn is_suffix(domain: &SavedDomain, wanted: &str) -> bool {
+    match domain {
+        SavedDomain::Suffix(text) => text.as_str() == wanted,
+        _ => false,
+    }
+}
+
+// The saved form of the cookie of `TEXT`.
+fn is_form(saved: &Saved) -> bool {
+    saved.raw_cookie.as_str() == LINE
+        && saved.path.as_str() == "/foo"
+        && saved.from_attr
+        && is_suffix(&saved.domain, "xn--bcher-kva.example")
+        && matches!(&saved.expires, SavedExpiry::SessionEnd)
+}
+
+fn is_saved(saved: Result<Saved, impl Fault + Drop>) -> bool {
+    match saved {
+        Ok(saved) => is_form(&saved),
+        Err(fault) => fault.is_wanting(),
+    }
+}
+
+#[test]
+fn to_saved(rt: HostRuntime) -> Result<(), Fail> {
+    let cookie = made(rt.alloc(), owned_cookie(rt.alloc())?)?;
+    let is_whole = is_saved(cookie.to_saved(rt.alloc())) && is_of_text(&cookie);
+    holds(&rt, is_whole, &TEXT);
+    Ok(())
+}
+
+// The saved form of the cookie of `TEXT`.
+fn saved_cookie(alloc: Global) -> Result<Saved, Fail> {
+    Ok(cookie(alloc)?.to_saved(alloc)?)
+}
+
+#[test]
+fn from_saved(rt: HostRuntime) -> Result<(), Fail> {
+    let saved = made(rt.alloc(), saved_cookie(rt.alloc())?)?;
+    let cookie = Cookie::from_saved(rt.alloc(), saved);
+    holds(&rt, is_cookie(cookie), &TEXT);
+    Ok(())
+}
+
 // The text of a cookie that comes from the URL, as a function says it that saves cookies.
 fn line(alloc: Global, url: &Url) -> Result<String, Error> {
     let cookie = Cookie::parse(alloc, TEXT, url, DateTime::ZERO)?;
@@ -423,7 +482,7 @@ fn line(alloc: Global, url: &Url) -> Result<String, Error> {
 
 fn is_line(line: Result<String, Error>) -> bool {
     match line {
-        Ok(line) => line.as_str() == "a=1; Path=/foo; Domain=bücher.example",
+        Ok(line) => line.as_str() == LINE,
         Err(fault) => fault.is_wanting(),
     }
 }
@@ -432,5 +491,71 @@ fn is_line(line: Result<String, Error>) -> bool {
 fn line_of_a_cookie(rt: HostRuntime) -> Result<(), Fail> {
     let line = line(rt.alloc(), &made_url(rt.alloc())?);
     holds(&rt, is_line(line), &TEXT);
+    Ok(())
+}
+
+#[test]
+fn text_of_a_moment(rt: HostRuntime) -> Result<(), Fail> {
+    start(rt.alloc())?;
+    let is_whole = match moment_text(rt.alloc(), DateTime::ZERO) {
+        Ok(text) => text.as_str() == "0000-01-01T00:00:00Z",
+        Err(fault) => fault.is_wanting(),
+    };
+    holds(&rt, is_whole, &"a moment");
+    Ok(())
+}
+
+// The tree of the cookie of `TEXT`.
+const TREE: &str =
+    r#"{"raw_cookie": "a=1; Path=/foo; Domain=bücher.example", "path": ["/foo", true],
+    "domain": {"Suffix": "xn--bcher-kva.example"}, "expires": "SessionEnd"}"#;
+
+fn tree(alloc: Global) -> Result<Value, Fail> {
+    Ok(Value::from_str(alloc, TREE)?)
+}
+
+#[test]
+fn saved_of_a_tree(rt: HostRuntime) -> Result<(), Fail> {
+    let tree = made(rt.alloc(), tree(rt.alloc())?)?;
+    holds(&rt, is_saved(from_value(rt.alloc(), &tree)), &TREE);
+    Ok(())
+}
+
+fn is_tree(answer: Result<Value, SavedError>, wanted: &Value) -> bool {
+    match answer {
+        Ok(tree) => tree == *wanted,
+        Err(fault) => fault.is_wanting(),
+    }
+}
+
+#[test]
+fn tree_of_saved(rt: HostRuntime) -> Result<(), Fail> {
+    let tree = tree(rt.alloc())?;
+    let saved = made(rt.alloc(), from_value(rt.alloc(), &tree)?)?;
+    holds(&rt, is_tree(to_value(rt.alloc(), &saved), &tree), &TREE);
+    Ok(())
+}
+
+// Two saved forms of the cookie of `TEXT`.
+fn are_forms(list: Result<Vec<Saved>, SavedError>) -> bool {
+    match list {
+        Ok(list) => list.len() == 2 && list.iter().all(is_form),
+        Err(fault) => fault.is_wanting(),
+    }
+}
+
+#[test]
+fn saved_of_a_list(rt: HostRuntime) -> Result<(), Fail> {
+    let list = made(rt.alloc(), list_of(rt.alloc(), &[TREE, TREE])?)?;
+    holds(&rt, are_forms(list_from_value(rt.alloc(), &list)), &TREE);
+    Ok(())
+}
+
+#[test]
+fn list_of_saved(rt: HostRuntime) -> Result<(), Fail> {
+    let list = list_of(rt.alloc(), &[TREE, TREE])?;
+    let saved = made(rt.alloc(), list_from_value(rt.alloc(), &list)?)?;
+    let written = list_to_value(rt.alloc(), &saved);
+    holds(&rt, is_tree(written, &list), &TREE);
     Ok(())
 }

@@ -19,6 +19,8 @@ mod growths;
 #[cfg(test)]
 mod parts;
 #[cfg(test)]
+mod passage;
+#[cfg(test)]
 mod path;
 #[cfg(test)]
 mod psl;

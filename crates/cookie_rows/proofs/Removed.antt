@@ -1,50 +1,12 @@
--- What `removed` leaves of a list, and what it keeps of the order of the rows.
-use Rattle.std.proofs.Common.{◌≡◌, ℕ, suc, ◌+◌, Bool, true, false, not, List, [], ◌∷◌, map, get_or, Some, None, position, refl, ap, sym, subst, arith}
-use Rattle.std.specs.Prelude.{if◌then◌else◌}
-use Rattle.std.specs.List.{list_any, find, position_or_len, remove}
+-- What `removed` keeps of the order of the rows.
+use Rattle.std.proofs.Common.{◌≡◌, Bool, true, false, List, [], ◌∷◌, map, refl, sym, subst, arith}
+use Rattle.std.specs.List.{list_any}
 use Rattle.std.specs.Cmp.{IsEquivalence}
-use Rattle.std.proofs.lemmas.Bool.{cond_both, and_parts, and_from, or_parts}
+use Rattle.std.proofs.lemmas.Bool.{cond_both, and_parts, and_from}
 use Rattle.cookie_parts.specs.Cookie.{Row}
 use Rattle.cookie_laws.specs.Rows.{Key, key_of, same_key, has_key, removed, differ, stand_together, are_rows, same_domain_equiv, same_group_equiv}
 use Rattle.cookie_rows.proofs.StandTogether.{begins, begins_congr, together-parts, together-from}
 use Rattle.cookie_rows.proofs.KeptOrder.{are_keys}
-use Rattle.cookie_rows.proofs.Positions.{position_first, position-none}
-
--- where no item passes, none is removed
-removed_none : {T : Type 0} (test : T → Bool) (xs : List T) → list_any test xs ≡ false → removed test xs ≡ xs
-removed_none test [] h = refl
-removed_none test (x ∷ xs) h =
-    let parts = or_parts (test x) (list_any test xs) h in
-    rw parts.0 (ap (λ rest. x ∷ rest) (removed_none test xs parts.1))
-
--- what is taken out of a list is its first item, where the test is true, else an item of the rest
-remove_step : {T : Type 0} (b : Bool) (x : T) (xs ys : List T) (n : ℕ) → remove xs n ≡ ys → remove (x ∷ xs) (if not b then 1 + n else 0) ≡ (if b then xs else x ∷ ys)
-remove_step true x xs ys n h = refl
-remove_step false x xs ys n h = let next : 1 + n ≡ suc n = omega arith in rw next (ap (λ rest. x ∷ rest) h)
-
--- what is taken out at the first place that passes is the first item that does
-remove_first : {T : Type 0} (test : T → Bool) (xs : List T) → remove xs (position_or_len test xs) ≡ removed test xs
-remove_first test [] = refl
-remove_first test (x ∷ xs) = remove_step (test x) x xs (removed test xs) (position_or_len test xs) (remove_first test xs)
-
--- that item is what `find` gives
-find_first : {T : Type 0} (test : T → Bool) (xs : List T) (d : T) → list_any test xs ≡ true → find test xs ≡ Some (get_or xs (position_or_len test xs) d)
-find_first test [] d h = grind arith
-find_first test (x ∷ xs) d h = grind (arith, find_first test xs d)
-
--- where `position` gives a place, what is taken out there is the first item that passes
-pub remove-position : {T : Type 0} (test : T → Bool) (xs : List T) (at : ℕ) → position test xs ≡ Some at → remove xs at ≡ removed test xs
-remove-position test xs at h = rw (position_first test xs at h).0 (remove_first test xs)
-
--- and the item there is what `find` gives
-pub find-position : {T : Type 0} (test : T → Bool) (xs : List T) (at : ℕ) (d : T) → position test xs ≡ Some at → find test xs ≡ Some (get_or xs at d)
-find-position test xs at d h =
-    let first = position_first test xs at h in
-    rw first.0 (find_first test xs d first.1)
-
--- where it gives none, nothing is removed
-pub removed-position_none : {T : Type 0} (test : T → Bool) (xs : List T) → position test xs ≡ None → removed test xs ≡ xs
-removed-position_none test xs h = removed_none test xs (position-none test xs h)
 
 -- a function at each item
 map-removed : {A B : Type 0} (f : A → B) (test : B → Bool) (xs : List A) → map f (removed (λ x. test (f x)) xs) ≡ removed test (map f xs)

@@ -1,3 +1,4 @@
 pub mod Building
-pub mod Places
+pub mod Groups
+pub mod Hashing
 pub mod Requests

@@ -2,34 +2,96 @@
 ghost use Rattle.std.specs.Prelude.{◌≡◌};
 ghost use Rattle.cookie_words.specs.Moments.{moment_of};
 ghost use Rattle.cookie_laws.specs.Rows.{live_rows};
+ghost use Rattle.cookie_rows.specs.Groups.{all_groups, joined};
 
+use crate::boxed::BoxedCookie;
+use crate::names::Names;
+use crate::paths::Paths;
 use cookie_parts::Cookie;
 use jiff::civil::DateTime;
 use std::marker::Model;
 use std::slice;
 
+/// The groups of rows of one domain and path, in their order.
+#[derive(Drop)]
+struct Groups<'a> {
+    paths: slice::Iter<'a, Names>,
+    domains: slice::Iter<'a, Paths>,
+}
+
+impl<'a> Model for Groups<'a> {
+    ghost use Rattle.std.specs.Prelude.{◌++◌, List};
+    ghost use Rattle.std.specs.Slice.Iter.{iter_rest};
+    ghost use Rattle.cookie_parts.specs.Cookie.{Row};
+    ghost use Rattle.cookie_rows.specs.Groups.{all_groups};
+
+    ghost Value = { List (List Row) };
+
+    ghost view = { λ iter. iter_rest iter.paths ++ all_groups (iter_rest iter.domains) };
+}
+
+impl<'a> Groups<'a> {
+    fn new(domains: &'a [Paths]) -> Groups<'a>
+        ensures { result ≡ all_groups domains.now }
+    {
+        let none: &'a [Names] = &[];
+        Groups {
+            paths: none.iter(),
+            domains: domains.iter(),
+        }
+    }
+}
+
+impl<'a> Iterator for Groups<'a> {
+    type Item = &'a Names;
+
+    ghost use Rattle.std.specs.Iterator.{YieldsFirstRef, item_count};
+
+    ghost next_gives = { YieldsFirstRef (λ groups. groups) };
+
+    ghost remaining = { item_count (λ groups. groups) };
+
+    fn next(&mut self) -> Option<&'a Names> {
+        loop {
+            if let Some(group) = self.paths.next() {
+                return Some(group);
+            }
+            match self.domains.next() {
+                Some(domain) => self.paths = domain.groups().iter(),
+                None => return None,
+            }
+        }
+    }
+}
+
 /// The cookies of a store, whether they have ended or not, in its order.
 #[derive(Drop)]
 pub struct IterAny<'a> {
-    rows: slice::Iter<'a, Cookie<'static>>,
+    rows: slice::Iter<'a, BoxedCookie>,
+    groups: Groups<'a>,
 }
 
 impl<'a> Model for IterAny<'a> {
-    ghost use Rattle.std.specs.Prelude.{List};
+    ghost use Rattle.std.specs.Prelude.{◌++◌, List};
     ghost use Rattle.std.specs.Slice.Iter.{iter_rest};
     ghost use Rattle.cookie_parts.specs.Cookie.{Row};
+    ghost use Rattle.cookie_rows.specs.Groups.{joined};
 
     ghost Value = { List Row };
 
-    ghost view = { λ iter. iter_rest iter.rows };
+    ghost view = { λ iter. iter_rest iter.rows ++ joined iter.groups };
 }
 
 impl<'a> IterAny<'a> {
-    /// Over these rows.
-    pub(crate) fn new(rows: &'a [Cookie<'static>]) -> IterAny<'a>
-        ensures { result ≡ rows.now }
+    /// Over the rows of these domains.
+    pub(crate) fn new(domains: &'a [Paths]) -> IterAny<'a>
+        ensures { result ≡ joined (all_groups domains.now) }
     {
-        IterAny { rows: rows.iter() }
+        let none: &'a [BoxedCookie] = &[];
+        IterAny {
+            rows: none.iter(),
+            groups: Groups::new(domains),
+        }
     }
 }
 
@@ -43,38 +105,42 @@ impl<'a> Iterator for IterAny<'a> {
     ghost remaining = { item_count (λ rows. rows) };
 
     fn next(&mut self) -> Option<&'a Cookie<'static>> {
-        self.rows.next()
+        loop {
+            if let Some(row) = self.rows.next() {
+                return Some(row.cookie());
+            }
+            match self.groups.next() {
+                Some(group) => self.rows = group.rows().iter(),
+                None => return None,
+            }
+        }
     }
 }
 
 /// The cookies of a store that have not ended by a moment, in its order.
 #[derive(Drop)]
 pub struct IterUnexpired<'a> {
-    rows: slice::Iter<'a, Cookie<'static>>,
+    rows: IterAny<'a>,
     moment: DateTime,
 }
 
 impl<'a> Model for IterUnexpired<'a> {
     ghost use Rattle.std.specs.Prelude.{List};
-    ghost use Rattle.std.specs.Slice.Iter.{iter_rest};
     ghost use Rattle.cookie_words.specs.Moments.{moment_of};
     ghost use Rattle.cookie_parts.specs.Cookie.{Row};
     ghost use Rattle.cookie_laws.specs.Rows.{live_rows};
 
     ghost Value = { List Row };
 
-    ghost view = { λ iter. live_rows (moment_of iter.moment) (iter_rest iter.rows) };
+    ghost view = { λ iter. live_rows (moment_of iter.moment) iter.rows };
 }
 
 impl<'a> IterUnexpired<'a> {
     /// Over those of these rows that have not ended by the moment.
-    pub(crate) fn new(rows: &'a [Cookie<'static>], moment: DateTime) -> IterUnexpired<'a>
-        ensures { result ≡ live_rows (moment_of moment) rows.now }
+    pub(crate) fn new(rows: IterAny<'a>, moment: DateTime) -> IterUnexpired<'a>
+        ensures { result ≡ live_rows (moment_of moment) rows.entry }
     {
-        IterUnexpired {
-            rows: rows.iter(),
-            moment,
-        }
+        IterUnexpired { rows, moment }
     }
 }
 

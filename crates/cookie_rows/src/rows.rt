@@ -1,19 +1,27 @@
 //! The rows, as one list.
-ghost use Rattle.std.specs.Prelude.{◌≡◌, ◌≢◌, ◌≤◌, [], ◌∷◌, insert, length, map, position, IfErr, IfOk, IsTrue, None, OnErr, OnOk, ◌⊎◌};
+ghost use Rattle.std.specs.Prelude.{◌≡◌, ◌≢◌, ◌≤◌, ◌*◌, [], ◌∷◌, map, string_bytes, IfErr, IfOk, IsTrue, None, OnErr, OnOk, ◌⊎◌};
 ghost use Rattle.std.specs.Iterator.{IsFinite};
 ghost use Rattle.std.specs.Option.{option_copied};
 ghost use Rattle.cookie_words.specs.Moments.{moment_of};
 ghost use Rattle.cookie_parts.specs.Cookie.{ended};
+ghost use Rattle.cookie_parts.specs.Domain.{domain_text};
 ghost use Rattle.cookie_laws.specs.Given.{given};
-ghost use Rattle.cookie_laws.specs.Rows.{are_rows, changed, has_key, in_domain, in_group, included, key_at, key_of, live_rows, placed, put, put_all, removed, row_of};
+ghost use Rattle.cookie_laws.specs.Rows.{are_rows, changed, has_key, included, key_at, key_of, live_rows, put, put_all, removed, row_of};
+ghost use Rattle.cookie_lookup.specs.Seen.{domains_found};
+ghost use Rattle.cookie_lookup.specs.Texts.{most_domains, most_paths};
 ghost use Rattle.cookie_rows.specs.Building.{Builds, BuildsAt, FailsFirst, FailsFirstAt, IsNewRow, TakesCookie, WantsRoom, WantsRoomAt};
-ghost use Rattle.cookie_rows.specs.Places.{EndsAt};
+ghost use Rattle.cookie_rows.specs.Groups.{changed_at, end_groups, find_groups, is_empty_at, put_groups, put_paths, remove_groups, remove_paths, texts_of};
 ghost use Rattle.cookie_rows.specs.Requests.{name_and_value};
 
+use crate::hashing::HashKey;
 use crate::iter::{IterAny, IterUnexpired};
-use crate::matching::given;
+use crate::paths::Paths;
 use crate::request::{RequestCookies, RequestValues};
+use crate::search::searched;
+use crate::texts::{domain_text, path_text};
+use cookie_lookup::Lookups;
 use cookie_parts::{Cookie, Error};
+use indexmap::IndexMap;
 use jiff::civil::DateTime;
 use std::alloc::{AllocError, Global};
 use std::marker::Model;
@@ -23,19 +31,21 @@ use url::Url;
 /// those, and one that replaces another stands in its place. No two have the same domain, path and name.
 #[derive(Drop)]
 pub struct Rows {
-    rows: Vec<Cookie<'static>>,
+    groups: IndexMap<String, Paths, HashKey>,
 }
 
 impl Model for Rows {
     ghost use Rattle.std.specs.Prelude.{IsTrue, List};
     ghost use Rattle.cookie_parts.specs.Cookie.{Row};
     ghost use Rattle.cookie_laws.specs.Rows.{are_rows};
+    ghost use Rattle.cookie_lookup.specs.Groups.{flat, AreGroups};
+    ghost use Rattle.cookie_rows.specs.Groups.{texts_of};
 
     ghost Value = { List Row };
 
-    ghost view = { λ r. r.rows.items };
+    ghost view = { λ r. flat (texts_of r.groups.entries) };
 
-    ghost invariant = { λ r. IsTrue (are_rows r.rows.items) };
+    ghost invariant = { λ r. AreGroups (texts_of r.groups.entries) × IsTrue (are_rows (flat (texts_of r.groups.entries))) };
 }
 
 impl Clone for Rows {
@@ -45,18 +55,25 @@ impl Clone for Rows {
 
     fn clone(&self) -> Result<Rows, AllocError> {
         Ok(Rows {
-            rows: self.rows.clone()?,
+            groups: self.groups.clone()?,
         })
     }
 }
 
 impl Rows {
-    /// No rows.
+    /// No rows, in maps that hash by the fixed key.
     pub fn new(alloc: Global) -> Rows
         ensures { result ≡ [] }
     {
+        Rows::with_hash_key(alloc, HashKey::Fixed)
+    }
+
+    /// No rows, in maps that hash by this key.
+    pub fn with_hash_key(alloc: Global, hash_key: HashKey) -> Rows
+        ensures { result ≡ [] }
+    {
         Rows {
-            rows: Vec::new(alloc),
+            groups: IndexMap::with_hasher(alloc, hash_key),
         }
     }
 
@@ -83,30 +100,47 @@ impl Rows {
     pub fn named(&self, domain: &str, path: &str, name: &str) -> Option<&Cookie<'static>>
         ensures { option_copied result ≡ row_of (key_at domain.now path.now name.now) self.now }
     {
-        self.rows
-            .iter()
-            .find(|row| has_texts(row, domain, path, name))
+        find_row(&self.groups, domain, path, name)
     }
 
     /// The row of the cookie's domain, path and name, if there is one.
     pub fn row_of(&self, cookie: &Cookie<'static>) -> Option<&Cookie<'static>>
         ensures { option_copied result ≡ row_of (key_of cookie.now) self.now }
     {
-        self.rows.iter().find(|row| has_key(cookie, row))
+        self.named(domain_text(cookie), path_text(cookie), cookie.name())
     }
 
     /// All rows, in their order.
     pub fn iter(&self) -> IterAny<'_>
         ensures { result ≡ self.now }
     {
-        IterAny::new(self.rows.as_slice())
+        IterAny::new(self.groups.values().as_slice())
     }
 
     /// The rows that have not ended by the moment, in their order.
     pub fn iter_unexpired(&self, now: DateTime) -> IterUnexpired<'_>
         ensures { result ≡ live_rows (moment_of now) self.now }
     {
-        IterUnexpired::new(self.rows.as_slice(), now)
+        IterUnexpired::new(self.iter(), now)
+    }
+
+    /// The rows that are given for the URL at the moment, RFC 6265 5.4, in their order, and how often the maps were searched for
+    /// them. Memory is wanted only where there is one.
+    pub fn given_counted(
+        &self,
+        alloc: Global,
+        url: &Url,
+        now: DateTime,
+    ) -> Result<(Vec<&Cookie<'static>>, Lookups), AllocError>
+        ensures given { IfOk result
+            (λ found. map (λ c. c.now) found.0.items ≡ given url.now (moment_of now) self.now) }
+        ensures in_order { IsTrue (are_rows self.now) }
+        ensures domains { IfOk result (λ found. found.1.domains ≤ most_domains url.now) }
+        ensures paths { IfOk result
+            (λ found. found.1.paths ≤ domains_found url.now self.now * most_paths url.now) }
+        ensures memory { OnErr result (given url.now (moment_of now) self.now ≢ []) }
+    {
+        searched(&self.groups, alloc, url, now)
     }
 
     /// The rows that are given for the URL at the moment, RFC 6265 5.4, in their order. Memory is wanted only where there is one.
@@ -121,7 +155,7 @@ impl Rows {
         ensures in_order { IsTrue (are_rows self.now) }
         ensures memory { OnErr result (given url.now (moment_of now) self.now ≢ []) }
     {
-        given(alloc, self.rows.as_slice(), url, now)
+        Ok(self.given_counted(alloc, url, now)?.0)
     }
 
     /// The names and values of the rows that are given for the URL at the moment, in their order. Memory is wanted only
@@ -160,7 +194,7 @@ impl Rows {
         ensures err { OnErr result (self.new ≡ self.old) }
         ensures memory { OnErr result (row_of (key_of cookie.entry) self.old ≡ None) }
     {
-        put(&mut self.rows, cookie)
+        put_row(&mut self.groups, cookie)
     }
 
     /// Puts the cookie, unless it has ended and is to be passed over: rows that were built from cookies are built from these and
@@ -187,7 +221,7 @@ impl Rows {
     pub fn end(&mut self, cookie: &Cookie<'static>)
         ensures { self.new ≡ changed (has_key (key_of cookie.now)) ended self.old }
     {
-        end(&mut self.rows, cookie);
+        end_row(&mut self.groups, cookie);
     }
 
     /// Takes out the row of this domain, path and name, if there is one. The others keep their order.
@@ -195,14 +229,27 @@ impl Rows {
         ensures value { result ≡ row_of (key_at domain.now path.now name.now) self.old }
         ensures removed { self.new ≡ removed (has_key (key_at domain.now path.now name.now)) self.old }
     {
-        remove(&mut self.rows, domain, path, name)
+        remove_row(&mut self.groups, domain, path, name)
+    }
+
+    /// Copies the rows into maps that hash by this key. Want of memory leaves the maps that were, and comes only where there is
+    /// a row.
+    pub fn set_hash_key(&mut self, alloc: Global, hash_key: HashKey) -> Result<(), AllocError>
+        ensures rows { self.new ≡ self.old }
+        ensures memory { OnErr result (self.old ≢ []) }
+    {
+        // That the rows are in order is the invariant of the groups.
+        let _ = &self.groups;
+        cookie_laws::rebuilt();
+        *self = copied(alloc, self.iter(), hash_key)?;
+        Ok(())
     }
 
     /// Takes out all rows.
     pub fn clear(&mut self)
         ensures { self.new ≡ [] }
     {
-        self.rows.clear();
+        self.groups.clear();
     }
 }
 
@@ -231,119 +278,109 @@ fn build<I: Iterator<Item = Result<Cookie<'static>, Error>>>(
     Ok(built)
 }
 
-fn in_domain(cookie: &Cookie<'static>, row: &Cookie<'static>) -> bool
-    ensures { result ≡ in_domain (key_of cookie.now) row.now }
+// Copies of the rows, put one after the other into maps that hash by this key.
+fn copied(alloc: Global, rows: IterAny<'_>, hash_key: HashKey) -> Result<Rows, AllocError>
+    ensures put { IfOk result (λ copies. copies ≡ put_all [] rows.entry) }
+    ensures memory { OnErr result (rows.entry ≢ []) }
 {
-    cookie.domain.as_str() == row.domain.as_str()
-}
-
-fn in_group(cookie: &Cookie<'static>, row: &Cookie<'static>) -> bool
-    ensures { result ≡ in_group (key_of cookie.now) row.now }
-{
-    in_domain(cookie, row) && cookie.path.as_str() == row.path.as_str()
-}
-
-fn has_key(cookie: &Cookie<'static>, row: &Cookie<'static>) -> bool
-    ensures { result ≡ has_key (key_of cookie.now) row.now }
-{
-    in_group(cookie, row) && cookie.name() == row.name()
-}
-
-// The place after the last row of the cookie's domain and path, and after the last row of its domain.
-#[tactic(auto, using(crate::proofs::Ends::EndsAt_more_pass, crate::proofs::Ends::EndsAt_more_fail))]
-fn ends(rows: &[Cookie<'static>], cookie: &Cookie<'static>) -> (Option<usize>, Option<usize>)
-    ensures group { EndsAt (in_group (key_of cookie.now)) rows.now result.0 }
-    ensures domain { EndsAt (in_domain (key_of cookie.now)) rows.now result.1 }
-{
-    let mut group = None;
-    let mut domain = None;
-    for (at, row) in rows.iter().enumerate() {
-        if in_group(cookie, row) {
-            group = Some(at + 1);
-        }
-        if in_domain(cookie, row) {
-            domain = Some(at + 1);
-        }
+    let mut copies = Rows::with_hash_key(alloc, hash_key);
+    for cookie in rows {
+        copies.put(cookie.clone()?)?;
     }
-    (group, domain)
+    Ok(copies)
 }
 
-// Where a new row goes.
-fn place(rows: &[Cookie<'static>], cookie: &Cookie<'static>) -> usize
-    ensures within { result ≤ length rows.now }
-    ensures placed { insert rows.now result cookie.now ≡ placed rows.now cookie.now }
+// The row of this domain, path and name.
+fn find_row<'a>(
+    groups: &'a IndexMap<String, Paths, HashKey>,
+    domain: &str,
+    path: &str,
+    name: &str,
+) -> Option<&'a Cookie<'static>>
+    ensures { option_copied result ≡ find_groups (key_at domain.now path.now name.now) (texts_of groups.now.entries) }
 {
-    match ends(rows, cookie) {
-        (Some(end), _) => end,
-        (None, Some(end)) => end,
-        (None, None) => rows.len(),
+    match groups.get(domain) {
+        Some(group) => group.get(path, name),
+        None => None,
     }
 }
 
-// The place of the row of the cookie's key, if there is one.
-fn position(rows: &[Cookie<'static>], cookie: &Cookie<'static>) -> Option<usize>
-    ensures { result ≡ position (has_key (key_of cookie.now)) rows.now }
+// The cookie's domain, and groups of the cookie alone, to stand under it.
+fn entry_of(
+    alloc: Global,
+    hash_key: HashKey,
+    cookie: Cookie<'static>,
+) -> Result<(String, Paths), AllocError>
+    ensures domain { IfOk result (λ entry. string_bytes entry.0 ≡ domain_text cookie.entry.domain) }
+    ensures group { IfOk result (λ entry. entry.1 ≡ put_paths cookie.entry []) }
 {
-    rows.iter().position(|row| has_key(cookie, row))
+    let domain = String::from_str(alloc, domain_text(&cookie))?;
+    let group = Paths::of_one(alloc, hash_key, cookie)?;
+    Ok((domain, group))
 }
 
-fn has_texts(row: &Cookie<'static>, domain: &str, path: &str, name: &str) -> bool
-    ensures { result ≡ has_key (key_at domain.now path.now name.now) row.now }
+// Puts the cookie into the groups of its domain.
+fn put_row(
+    groups: &mut IndexMap<String, Paths, HashKey>,
+    cookie: Cookie<'static>,
+) -> Result<(), AllocError>
+    ensures put { OnOk result (texts_of groups.new.entries ≡ put_groups cookie.entry (texts_of groups.old.entries)) }
+    ensures err { OnErr result (texts_of groups.new.entries ≡ texts_of groups.old.entries) }
+    ensures memory { OnErr result (find_groups (key_of cookie.entry) (texts_of groups.old.entries) ≡ None) }
 {
-    domain == row.domain.as_str() && path == row.path.as_str() && name == row.name()
+    match groups.get_mut(domain_text(&cookie)) {
+        Some(group) => group.put(cookie),
+        None => {
+            let (domain, group) = entry_of(*groups.allocator(), *groups.hasher(), cookie)?;
+            groups.insert(domain, group)?;
+            Ok(())
+        }
+    }
 }
 
 // Ends the row of the cookie's key.
-fn end(rows: &mut Vec<Cookie<'static>>, cookie: &Cookie<'static>)
-    requires { IsTrue (are_rows rows.old.items) }
-    ensures ended { rows.new.items ≡ changed (has_key (key_of cookie.now)) ended rows.old.items }
-    ensures rows { IsTrue (are_rows rows.new.items) }
+fn end_row(groups: &mut IndexMap<String, Paths, HashKey>, cookie: &Cookie<'static>)
+    ensures { texts_of groups.new.entries ≡ end_groups (key_of cookie.now) (texts_of groups.old.entries) }
 {
-    if let Some(at) = position(rows.as_slice(), cookie) {
-        rows[at].expire();
+    match groups.get_mut(domain_text(cookie)) {
+        Some(group) => group.end(path_text(cookie), cookie.name()),
+        None => {}
     }
 }
 
-// Puts the cookie in the place of the row of its key, or where a new row goes.
-fn put(rows: &mut Vec<Cookie<'static>>, cookie: Cookie<'static>) -> Result<(), AllocError>
-    requires { IsTrue (are_rows rows.old.items) }
-    ensures put { OnOk result (rows.new.items ≡ put rows.old.items cookie.entry) }
-    ensures err { OnErr result (rows.new.items ≡ rows.old.items) }
-    ensures memory { OnErr result (row_of (key_of cookie.entry) rows.old.items ≡ None) }
-    ensures rows { IsTrue (are_rows rows.new.items) }
+// Takes the row of this domain, path and name out of its group, and says whether nothing is left of its domain.
+fn take_row(
+    groups: &mut IndexMap<String, Paths, HashKey>,
+    domain: &str,
+    path: &str,
+    name: &str,
+) -> (Option<Cookie<'static>>, bool)
+    ensures value { result.0 ≡ find_groups (key_at domain.now path.now name.now) (texts_of groups.old.entries) }
+    ensures groups { texts_of groups.new.entries ≡ changed_at (remove_paths path.now name.now) domain.now (texts_of groups.old.entries) }
+    ensures is_empty { result.1 ≡ is_empty_at domain.now (texts_of groups.new.entries) }
 {
-    match position(rows.as_slice(), &cookie) {
-        Some(at) => {
-            rows[at] = cookie;
+    match groups.get_mut(domain) {
+        Some(group) => {
+            let row = group.remove(path, name);
+            (row, group.is_empty())
         }
-        None => {
-            let at = place(rows.as_slice(), &cookie);
-            rows.insert(at, cookie)?;
-        }
+        None => (None, false),
     }
-    Ok(())
 }
 
-// Takes out the row of this domain, path and name, if there is one.
-fn remove(
-    rows: &mut Vec<Cookie<'static>>,
+// Takes out the row of this domain, path and name, and its domain with the last one.
+fn remove_row(
+    groups: &mut IndexMap<String, Paths, HashKey>,
     domain: &str,
     path: &str,
     name: &str,
 ) -> Option<Cookie<'static>>
-    requires { IsTrue (are_rows rows.old.items) }
-    ensures value { result ≡ row_of (key_at domain.now path.now name.now) rows.old.items }
-    ensures removed { rows.new.items ≡ removed (has_key (key_at domain.now path.now name.now)) rows.old.items }
-    ensures rows { IsTrue (are_rows rows.new.items) }
+    ensures value { result ≡ find_groups (key_at domain.now path.now name.now) (texts_of groups.old.entries) }
+    ensures removed { texts_of groups.new.entries ≡ remove_groups (key_at domain.now path.now name.now) (texts_of groups.old.entries) }
 {
-    let at = place_named(rows.as_slice(), domain, path, name)?;
-    Some(rows.remove(at))
-}
-
-// The place of the row of this domain, path and name, if there is one.
-fn place_named(rows: &[Cookie<'static>], domain: &str, path: &str, name: &str) -> Option<usize>
-    ensures { result ≡ position (has_key (key_at domain.now path.now name.now)) rows.now }
-{
-    rows.iter()
-        .position(|row| has_texts(row, domain, path, name))
+    let (row, is_empty) = take_row(groups, domain, path, name);
+    if is_empty {
+        groups.shift_remove(domain);
+    }
+    row
 }

@@ -1,5 +1,5 @@
 -- The text that a moment is saved as, `2026-01-31T23:59:59Z`, with a fraction of the second or none.
-use Rattle.std.specs.Prelude.{ℕ, ◌+◌, ◌-◌, ◌*◌, ◌^◌, ◌==◌, Bool, ◌&&◌, List, [], ◌∷◌, length, drop, slice_index, slice_range, Option, Some, None, pos, bytes_eq, codes, nat_eq, if◌then◌else◌}
+use Rattle.std.specs.Prelude.{ℕ, ◌+◌, ◌-◌, ◌*◌, ◌^◌, ◌==◌, Bool, ◌&&◌, List, [], ◌∷◌, length, drop, slice_index, slice_range, Option, Some, None, pos, bytes_eq, codes, nat_eq, if◌then◌else◌, unsigned_abs, ◌++◌, ◌/◌, ◌%◌}
 use Rattle.std.specs.Char.{is_ascii_digit}
 use Rattle.std.specs.List.{list_all, starts_with, ends_with}
 use Rattle.std.specs.Str.Parse.{digits_value}
@@ -44,3 +44,36 @@ moment_at text = do
   nanosecond ← fraction_of (drop 19 text)
   if has_signs text && is_day (pos year) month day && is_time hour minute second
       then Some (moment_of_fields year month day hour minute second nanosecond) else None
+
+-- a number below 100 in two digits
+abbrev pub two_digits : ℕ → List ℕ
+two_digits n = (48 + n / 10) ∷ (48 + n % 10) ∷ []
+
+-- a number below 10,000 in four digits
+abbrev pub four_digits : ℕ → List ℕ
+four_digits n = two_digits (n / 100) ++ two_digits (n % 100)
+
+-- a date as `2026-01-31`
+abbrev pub date_text : ℕ → ℕ → ℕ → List ℕ
+date_text year month day = four_digits year ++ codes "-" ++ two_digits month ++ codes "-" ++ two_digits day
+
+-- a time of day as `23:59:59`
+abbrev pub clock_text : ℕ → ℕ → ℕ → List ℕ
+clock_text hour minute second = two_digits hour ++ codes ":" ++ two_digits minute ++ codes ":" ++ two_digits second
+
+-- the text of a moment of the years 0 to 9999, its fraction cut
+abbrev pub moment_text : Moment → List ℕ
+moment_text m =
+    date_text (unsigned_abs m.year) m.month m.day ++ codes "T" ++ clock_text m.hour m.minute m.second ++ codes "Z"
+
+-- the moment with its fraction cut
+abbrev pub whole_seconds : Moment → Moment
+whole_seconds m = record {
+  year = m.year;
+  month = m.month;
+  day = m.day;
+  hour = m.hour;
+  minute = m.minute;
+  second = m.second;
+  nanosecond = 0;
+}

@@ -1,6 +1,15 @@
-//! The saved forms: how a moment is read back from its text.
+//! The saved form of a cookie: trees of JSON, and the text of a moment.
 #![tactic(auto)]
 
+mod error;
+pub mod laws;
 mod moment;
+mod reading;
+mod saved;
+mod writing;
 
-pub use moment::read_moment;
+pub use error::SavedError;
+pub use moment::{moment_text, read_moment};
+pub use reading::{from_value, list_from_value};
+pub use saved::{Saved, SavedDomain, SavedExpiry};
+pub use writing::{list_to_value, to_value};

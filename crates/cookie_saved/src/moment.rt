@@ -1,11 +1,83 @@
-//! Reading a moment from its text.
+//! The text that a moment is saved as.
 
-ghost use Rattle.std.specs.Prelude.{◌≡◌, ◌+◌, ◌^◌, ◌<◌, ◌≤◌, IfSome, drop, option_map};
+ghost use Rattle.std.specs.Prelude.{◌≡◌, ◌↔◌, ◌⊎◌, ◌+◌, ◌++◌, ◌^◌, ◌<◌, ◌≤◌, ◌<ℤ◌, ◌≤ℤ◌, pos, unsigned_abs, Err, IfErr, IfOk, IfSome, OnOk, drop, option_map, string_bytes};
 ghost use Rattle.cookie_words.specs.Moments.{moment_of};
-ghost use Rattle.cookie_saved.specs.MomentText.{number_in, has_signs, nanoseconds_in, fraction_of, moment_at};
+ghost use Rattle.cookie_saved.specs.MomentText.{number_in, has_signs, nanoseconds_in, fraction_of, moment_at, moment_text, two_digits, four_digits, date_text, clock_text};
 
+use crate::SavedError;
 use cookie_words::{calendar_date, clock_time, digits_value};
 use jiff::civil::DateTime;
+use std::alloc::{AllocError, Global};
+
+/// The text of a moment, as `2026-01-31T23:59:59Z`, its fraction cut. A moment before the year 0 is refused `Moment`, and no memory is
+/// wanted before that.
+pub fn moment_text(alloc: Global, moment: DateTime) -> Result<String, SavedError>
+    ensures text { IfOk result (λ text. string_bytes text ≡ moment_text (moment_of moment)) }
+    ensures early { (moment.date.year <ℤ pos 0) ↔ (result ≡ Err SavedError.Moment) }
+    ensures refused { IfErr result (λ e. (e ≡ SavedError.Moment) ⊎ (e ≡ SavedError.Memory)) }
+{
+    if moment.year() < 0 {
+        return Err(SavedError::Moment);
+    }
+    Ok(written(alloc, moment)?)
+}
+
+// The text of a moment from the year 0 on.
+pub(crate) fn written(alloc: Global, moment: DateTime) -> Result<String, AllocError>
+    requires { pos 0 ≤ℤ moment.date.year }
+    ensures { IfOk result (λ text. string_bytes text ≡ moment_text (moment_of moment)) }
+{
+    let mut text = String::new(alloc);
+    push_date(&mut text, moment)?;
+    text.push('T')?;
+    push_clock(&mut text, moment)?;
+    text.push('Z')?;
+    Ok(text)
+}
+
+// Appends the date.
+fn push_date(text: &mut String, moment: DateTime) -> Result<(), AllocError>
+    requires { pos 0 ≤ℤ moment.date.year }
+    ensures { OnOk result (string_bytes text.new ≡ string_bytes text.old
+        ++ date_text (unsigned_abs moment.date.year) moment.date.month moment.date.day) }
+{
+    push_year(text, moment.year())?;
+    text.push('-')?;
+    push_two_digits(text, moment.month() as u8)?;
+    text.push('-')?;
+    push_two_digits(text, moment.day() as u8)
+}
+
+// Appends a year in four digits.
+fn push_year(text: &mut String, year: i16) -> Result<(), AllocError>
+    requires low { pos 0 ≤ℤ year }
+    requires high { year ≤ℤ pos 9999 }
+    ensures { OnOk result (string_bytes text.new ≡ string_bytes text.old ++ four_digits (unsigned_abs year)) }
+{
+    push_two_digits(text, (year / 100) as u8)?;
+    push_two_digits(text, (year % 100) as u8)
+}
+
+// Appends the time of day.
+fn push_clock(text: &mut String, moment: DateTime) -> Result<(), AllocError>
+    ensures { OnOk result (string_bytes text.new ≡ string_bytes text.old
+        ++ clock_text moment.time.hour moment.time.minute moment.time.second) }
+{
+    push_two_digits(text, moment.hour() as u8)?;
+    text.push(':')?;
+    push_two_digits(text, moment.minute() as u8)?;
+    text.push(':')?;
+    push_two_digits(text, moment.second() as u8)
+}
+
+// Appends a number in two digits.
+fn push_two_digits(text: &mut String, number: u8) -> Result<(), AllocError>
+    requires { number < 100 }
+    ensures { OnOk result (string_bytes text.new ≡ string_bytes text.old ++ two_digits number) }
+{
+    text.push(char::from(b'0' + number / 10))?;
+    text.push(char::from(b'0' + number % 10))
+}
 
 /// The moment that the text writes as `2026-01-31T23:59:59Z`, or with up to nine digits of the
 /// second's fraction as `2026-01-31T23:59:59.5Z`.

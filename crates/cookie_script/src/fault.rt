@@ -5,7 +5,7 @@ ghost use Rattle.cookie_script.specs.Faults.{status_of};
 use cookie_device::{DeviceFailed, FillError};
 use cookie_store::psl::ListError;
 use std::alloc::AllocError;
-use std::fmt;
+use std::{fmt, io};
 
 /// Why a script was not run to its end.
 #[derive(Clone, Copy, Debug, PartialEq, Eq)]
@@ -128,6 +128,13 @@ impl From<ListError> for MainFault {
             ListError::Memory => MainFault::Run(RunFault::Memory),
         }
     }
+}
+
+/// What it is that no hash key could be drawn: a read from the system that failed.
+pub fn draw_fault(_error: io::Error) -> MainFault
+    ensures { result ≡ MainFault.Run RunFault.Read }
+{
+    MainFault::Run(RunFault::Read)
 }
 
 /// The whole text that goes to standard error, but for its line feed.

@@ -9,7 +9,7 @@ ghost use Rattle.cookie_script.specs.Script.{command_turn, start, turn};
 use crate::answer::Answer;
 use crate::command::{Command, read_command};
 use cookie_store::psl::List;
-use cookie_store::{CookieError, CookieStore, InsertResult, Reply};
+use cookie_store::{CookieError, CookieStore, HashKey, InsertResult, Reply};
 use jiff::civil::{DateTime, date};
 use std::alloc::{AllocError, Global};
 use std::marker::Model;
@@ -47,12 +47,16 @@ impl Model for Jar {
 }
 
 impl Jar {
-    /// An empty store under the list, if there is one, at the epoch.
-    pub fn new(alloc: Global, list: Option<List>) -> Jar
+    /// An empty store under the list, if there is one, whose maps hash by this key, at the epoch.
+    pub fn new(alloc: Global, list: Option<List>, hash_key: HashKey) -> Jar
         ensures { result ≡ start list }
     {
+        let store = CookieStore::with_hash_key(alloc, hash_key);
         Jar {
-            store: CookieStore::new_with_public_suffix(alloc, list),
+            store: match list {
+                Some(list) => store.with_suffix_list(list),
+                None => store,
+            },
             moment: date(1970, 1, 1).at(0, 0, 0, 0),
         }
     }

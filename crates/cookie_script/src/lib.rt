@@ -12,3 +12,5 @@ mod jar;
 pub mod options;
 pub mod run;
 pub mod suffixes;
+
+pub use cookie_store::HashKey;

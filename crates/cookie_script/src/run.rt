@@ -10,17 +10,19 @@ ghost use Rattle.cookie_script.specs.Script.{output_of, turn};
 use crate::fault::RunFault;
 use crate::jar::Jar;
 use cookie_device::{LineBuffer, Output, Sink, Source};
+use cookie_store::HashKey;
 use cookie_store::psl::List;
 use std::alloc::Global;
 
 /// Runs the script that the source gives, and writes its answers to the sink. The store obeys the public suffix list, if
-/// there is one. Where a read failed, the answers to all whole lines that were read went out, and nothing else. Where memory
+/// there is one, and its maps hash by the key, which changes no answer. Where a read failed, the answers to all whole lines that were read went out, and nothing else. Where memory
 /// ran out, those did, or the answers to the lines before one that may want memory.
 pub fn run<R: Source, W: Sink>(
     alloc: Global,
     source: &mut R,
     sink: &mut W,
     list: Option<List>,
+    hash_key: HashKey,
 ) -> Result<(), RunFault>
     requires readable { R.failed source.old < 2 ^ 64 - 1 }
     requires writable { W.failed sink.old < 2 ^ 64 - 1 }
@@ -39,7 +41,7 @@ pub fn run<R: Source, W: Sink>(
         R.reads_left source.old ≤ R.reads_left source.new + length input + 1) }
 {
     let mut out = Output::new(alloc)?;
-    match answer_lines(alloc, source, &mut out, sink, list) {
+    match answer_lines(alloc, source, &mut out, sink, list, hash_key) {
         Err(RunFault::Memory) => {
             out.flush(sink)?;
             Err(RunFault::Memory)
@@ -56,6 +58,7 @@ fn answer_lines<R: Source, W: Sink>(
     out: &mut Output,
     sink: &mut W,
     list: Option<List>,
+    hash_key: HashKey,
 ) -> Result<(), RunFault>
     requires readable { R.failed source.old < 2 ^ 64 - 1 }
     requires writable { W.failed sink.old < 2 ^ 64 - 1 }
@@ -74,7 +77,7 @@ fn answer_lines<R: Source, W: Sink>(
         R.reads_left source.old ≤ R.reads_left source.new + length input + 1) }
 {
     let mut input = LineBuffer::new(alloc);
-    let mut jar = Jar::new(alloc, list);
+    let mut jar = Jar::new(alloc, list, hash_key);
     'lines: loop {
         if let Some(end) = input.line_end() {
             answer_line(alloc, &mut jar, input.line(end), out, sink)?;

@@ -2,6 +2,7 @@
 use crate::scripts::{HOSTS, HOSTS_OUTPUT};
 use cookie_device::Counted;
 use cookie_fakes::Fake;
+use cookie_script::HashKey;
 use cookie_script::fault::RunFault;
 use cookie_script::run::run;
 use std::alloc::Global;
@@ -20,7 +21,7 @@ struct Ended {
 fn read_from(alloc: Global, most: usize, fails_at: usize) -> Ended {
     let mut source = Counted::new(Fake::new(HOSTS, most, fails_at));
     let mut sink = Counted::new(Vec::new(alloc));
-    let outcome = run(alloc, &mut source, &mut sink, None);
+    let outcome = run(alloc, &mut source, &mut sink, None, HashKey::Fixed);
     Ended {
         outcome,
         written: sink.into_inner(),
@@ -32,7 +33,7 @@ fn read_from(alloc: Global, most: usize, fails_at: usize) -> Ended {
 fn written_to(alloc: Global, most: usize, fails_at: usize) -> Ended {
     let mut source = Counted::new(HOSTS);
     let mut sink = Counted::new(Fake::new(Vec::new(alloc), most, fails_at));
-    let outcome = run(alloc, &mut source, &mut sink, None);
+    let outcome = run(alloc, &mut source, &mut sink, None, HashKey::Fixed);
     let Fake { inner, calls, .. } = sink.into_inner();
     Ended {
         outcome,

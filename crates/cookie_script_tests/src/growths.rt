@@ -2,6 +2,7 @@
 use crate::lists::LIST;
 use cookie_device::Counted;
 use cookie_psl::List;
+use cookie_script::HashKey;
 use cookie_script::fault::{MainFault, RunFault};
 use cookie_script::run::run;
 use cookie_script::suffixes::list_of;
@@ -51,7 +52,7 @@ fn run_into(alloc: Global, room: &mut [u8]) -> (Result<(), RunFault>, usize) {
     let size = room.len();
     let mut source = Counted::new(SCRIPT);
     let mut sink = Counted::new(room);
-    let outcome = run(alloc, &mut source, &mut sink, None);
+    let outcome = run(alloc, &mut source, &mut sink, None, HashKey::Fixed);
     (outcome, size.saturating_sub(sink.into_inner().len()))
 }
 

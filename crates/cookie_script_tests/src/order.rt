@@ -1,6 +1,7 @@
 //! When answers go out.
 use cookie_device::Counted;
 use cookie_fakes::Fake;
+use cookie_script::HashKey;
 use cookie_script::fault::RunFault;
 use cookie_script::run::run;
 use std::alloc::{AllocError, Global};
@@ -79,7 +80,7 @@ fn seen_at_reads(
         calls: 0,
     });
     let mut sink = Counted::new(CountingWriter { out });
-    run(alloc, &mut source, &mut sink, None)?;
+    run(alloc, &mut source, &mut sink, None, HashKey::Fixed)?;
     let reader = source.into_inner();
     Ok((reader.seen, reader.calls))
 }
@@ -108,7 +109,7 @@ fn repeated(alloc: Global, line: &[u8], times: usize) -> Result<Vec<u8>, AllocEr
 fn calls_of(alloc: Global, script: &[u8]) -> Result<(usize, usize, usize), RunFault> {
     let mut source = Counted::new(Fake::new(script, 4_096, 0));
     let mut sink = Counted::new(Fake::new(Vec::new(alloc), usize::MAX, 0));
-    run(alloc, &mut source, &mut sink, None)?;
+    run(alloc, &mut source, &mut sink, None, HashKey::Fixed)?;
     let writer = sink.into_inner();
     Ok((source.into_inner().calls, writer.calls, writer.inner.len()))
 }

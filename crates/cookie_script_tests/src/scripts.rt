@@ -1,6 +1,7 @@
 //! What scripts write.
 use cookie_device::Counted;
 use cookie_psl::List;
+use cookie_script::HashKey;
 use cookie_script::run::run;
 use std::alloc::Global;
 use std::process::Abort;
@@ -191,7 +192,7 @@ const BAD_LINES: [(&str, &[u8]); 19] = [
 pub fn output(alloc: Global, script: &[u8], list: Option<List>) -> Result<Vec<u8>, Fail> {
     let mut source = Counted::new(script);
     let mut sink = Counted::new(Vec::new(alloc));
-    run(alloc, &mut source, &mut sink, list)?;
+    run(alloc, &mut source, &mut sink, list, HashKey::Fixed)?;
     Ok(sink.into_inner())
 }
 

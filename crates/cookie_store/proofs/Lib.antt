@@ -1,6 +1,9 @@
 pub mod EarlyRefusals
+pub mod LoadedAlike
 pub mod LoadedLines
 pub mod LongerRuns
+pub mod MadeOfJson
 pub mod Pairs
+pub mod SavedAlike
 pub mod SavedLines
 pub mod Walked

@@ -1,5 +1,5 @@
 -- Lines of a text that is read bit by bit, and the cookies that are made of them.
-use Rattle.std.proofs.Common.{◌≡◌, ℕ, ◌+◌, Bool, true, false, cond, eqb, List, [], ◌∷◌, ◌++◌, Option, Some, None, Result, Ok, Err, IfSome, IfOk, IfErr, IsTrue, inr, length, position, take, drop, refl, sym, ap, ◌∙◌, append_assoc, append-nil, take-append-drop}
+use Rattle.std.proofs.Common.{◌≡◌, ℕ, ◌+◌, Bool, true, false, cond, eqb, List, [], ◌∷◌, ◌++◌, Option, Some, None, Result, Ok, Err, IfSome, IfOk, IfErr, IsTrue, inr, length, position, take, drop, refl, sym, ap, ◌∙◌, append_assoc, append-nil, take-append-drop, length-append, ◌≤◌, arith}
 use Rattle.std.specs.Str.{is_utf8}
 use Rattle.std.specs.Str.Lines.{lines, lines_of_parts, strip_carriage_return}
 use Rattle.std.specs.Io.{StartsWith}
@@ -170,16 +170,31 @@ module _ (makes : List ℕ → Result Row Error → Type 0) where
       → IsReached makes last text
   last_reached text last cookies e some = (e.done, [], cookies, with_last text last cookies e some, e.are_made)
 
-  -- without a line feed at hand, the reading is within a line
-  pub within : (text at_hand : List ℕ) (rest : Option (List ℕ)) (cookies : List Row)
-      → Loaded text at_hand rest cookies → position (λ b. eqb b 10) at_hand ≡ None
-      → StopsWithinLine makes rest text
-  within text at_hand rest cookies l none =
+  -- without a line feed at hand, the reading is within a line; each read that succeeded brought a byte
+  pub within : (text at_hand : List ℕ) (rest : Option (List ℕ)) (cookies : List Row) (reads_left reads_left' : ℕ)
+      → Loaded text at_hand rest cookies → IfSome rest (λ left. reads_left + length left ≤ reads_left' + length text)
+      → position (λ b. eqb b 10) at_hand ≡ None → StopsWithinLine makes rest reads_left reads_left' text
+  within text at_hand rest cookies reads_left reads_left' l brought none =
       let whole = append-nil at_hand in
-      let split = ap (λ xs. lines (l.front ++ xs)) (sym whole) ∙ l.split [] ∙ ap (λ xs. l.done ++ lines xs) whole in (
+      let split = ap (λ xs. lines (l.front ++ xs)) (sym whole) ∙ l.split [] ∙ ap (λ xs. l.done ++ lines xs) whole in
+      let is = l.whole ∙ sym (append_assoc l.front at_hand l.left) in
+      let count = ap length is ∙ length-append (l.front ++ at_hand) l.left in
+      let each_brought : reads_left + length l.left ≤ reads_left' + length text = rw l.known at brought in (
         l.front ++ at_hand,
         l.left,
-        l.whole ∙ sym (append_assoc l.front at_hand l.left),
+        is,
         l.known,
         (l.front, at_hand, l.done, cookies, refl, none, split, l.are_made),
+        omega arith,
       )
+
+-- a read that failed brought nothing, and none is taken of the reads left
+pub not_read : (old new text : List ℕ) (rest less : Option (List ℕ)) (reads_left reads_left' reads_left'' : ℕ)
+    → (left : List ℕ) × (rest ≡ Some left) × (reads_left + length left ≤ reads_left' + length text)
+    → IfSome rest (λ left. (more : List ℕ) × (less ≡ Some more) × (length left + length old ≡ length more + length new))
+    → new ≡ old → reads_left'' ≡ reads_left'
+    → IfSome less (λ left. reads_left + length left ≤ reads_left'' + length text)
+not_read old new text rest less reads_left reads_left' reads_left'' (left, known, count) moved same as_many =
+    let (more, is, lengths) = rw known at moved in
+    let stayed = ap length same in
+    rw is (omega arith)

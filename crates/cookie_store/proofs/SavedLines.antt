@@ -1,17 +1,16 @@
 -- Lines that are written of some rows and of one row more.
-use Rattle.std.proofs.Common.{◌≡◌, ℕ, ◌+◌, ◌<◌, Bool, true, false, List, [], ◌∷◌, ◌++◌, length, get_or, take, drop, Option, Result, Ok, Err, ◌⊎◌, inl, inr, refl, sym, ap, subst, ◌∙◌, append-nil, take-append-drop, arith}
+use Rattle.std.proofs.Common.{◌≡◌, ℕ, ◌+◌, Bool, true, false, List, [], ◌∷◌, ◌++◌, Option, Result, Ok, Err, ◌⊎◌, inl, inr, refl, ap, subst, ◌∙◌, append-nil, arith}
 use Rattle.std.specs.List.{filter}
 use Rattle.std.specs.declared.alloc.Global.{Global}
 use Rattle.std.specs.declared.string.String.{String}
 use Rattle.std.specs.Io.KnownBytes.{Appends, Keeps}
 use Rattle.std.proofs.KnownBytes.{Appends-nil, Appends-trans, Appends-kept}
-use Rattle.std.proofs.lemmas.List.{drop_more, flat_map_more, take_more}
+use Rattle.std.proofs.lemmas.List.{flat_map_more}
 use Rattle.std.proofs.lemmas.List.Elements.{filter-append}
-use Rattle.cookie_words.specs.Moments.{Moment}
-use Rattle.cookie_parts.specs.Cookie.{Row, is_expired, is_persistent}
+use Rattle.cookie_parts.specs.Cookie.{Row}
 use Rattle.cookie_parts.specs.declared.error.Error.{Error}
 use Rattle.cookie_parts.specs.declared.error.Error.TheVariants.{Io}
-use Rattle.cookie_store.specs.Saving.{is_saved, line_text, lines_text, BeginsRow, StopsAtRow, StopsWithinRow, WritesRow, WritesRows}
+use Rattle.cookie_store.specs.Saving.{line_text, lines_text, BeginsRow, StopsAtRow, StopsWithinRow, WritesRow, WritesRows}
 use Rattle.cookie_store.proofs.Pairs.{AllZip-more}
 
 -- a filter that all items pass keeps them all

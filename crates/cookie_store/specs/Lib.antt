@@ -8,6 +8,7 @@ pub use Rattle.cookie_rows.specs.Building
 pub use Rattle.cookie_rows.specs.Requests
 pub mod CallViews
 pub mod Contents
+pub mod JsonLines
 pub mod Loading
 pub mod Responses
 pub mod Saving

@@ -44,9 +44,11 @@ module _ (makes : List ℕ → Result Row Error → Type 0) where
       × (bytes ≡ front ++ part) × (position (λ b. b == 10) part ≡ None)
       × (lines bytes ≡ before ++ lines part) × AreCookies before cookies
 
-  -- such bytes were read of the text, and the others are left
-  abbrev pub StopsWithinLine : Option (List ℕ) → List ℕ → Type 0
-  StopsWithinLine rest text = (given left : List ℕ) × (text ≡ given ++ left) × (rest ≡ Some left) × EndsWithinLine given
+  -- such bytes were read of the text, by reads of which each brought one, and the others are left
+  abbrev pub StopsWithinLine : Option (List ℕ) → ℕ → ℕ → List ℕ → Type 0
+  StopsWithinLine rest reads_left reads_left' text =
+      (given left : List ℕ) × (text ≡ given ++ left) × (rest ≡ Some left) × EndsWithinLine given
+      × (reads_left ≤ reads_left' + length given)
 
   -- the rows took a cookie that the function may make of the line
   abbrev pub TakesLine : List ℕ → Bool → Moment → List Row → List Row → Type 0
@@ -59,12 +61,12 @@ module _ (makes : List ℕ → Result Row Error → Type 0) where
       (cookies : List Row) × (rows ≡ built include_expired now cookies)
       × IfSome known (λ text. AreCookies (lines text) cookies)
 
-  -- it fails at a line; or within one of the text, where that is known: a read failed, which raised the count of failures by
-  -- one, or memory ran out
-  abbrev pub FailsToLoad : Error → Option (List ℕ) → Option (List ℕ) → ℕ → ℕ → Type 0
-  FailsToLoad error known rest failures failures' =
+  -- it fails at a line; or within one of the text, where that is known, before its end was seen: a read failed, which raised the
+  -- count of failures by one, or memory ran out
+  abbrev pub FailsToLoad : Error → Option (List ℕ) → Option (List ℕ) → ℕ → ℕ → ℕ → ℕ → Type 0
+  FailsToLoad error known rest failures failures' reads_left reads_left' =
       (StopsAtLine error known × (failures' ≡ failures))
-      ⊎ (IfSome known (StopsWithinLine rest)
+      ⊎ (IfSome known (StopsWithinLine rest reads_left reads_left')
       × (((error ≡ Io) × (failures' ≡ failures + 1)) ⊎ ((error ≡ Memory) × (failures' ≡ failures))))
 
 -- of a text that is known, at most one read more succeeded than it has bytes

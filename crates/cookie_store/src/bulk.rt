@@ -8,10 +8,12 @@ ghost use Rattle.cookie_parts.specs.Cookie.{cookie_of, early_refusal};
 ghost use Rattle.cookie_laws.specs.Acceptance.{received};
 ghost use Rattle.cookie_laws.specs.Runs.{IsReply, Stored, UnlessMemory};
 ghost use Rattle.cookie_store.specs.Contents.{Contents};
+ghost use Rattle.cookie_store.specs.JsonLines.{MakesJson, SaysJson};
 ghost use Rattle.cookie_store.specs.Loading.{BuildsFrom, FailsToLoad, ReadsEachOnce};
 ghost use Rattle.cookie_store.specs.Responses.{TakesAll, TakesSome};
 ghost use Rattle.cookie_store.specs.Saving.{saved_rows, FailsToSave, WritesRows};
 
+use crate::json::{load_json_rows, save_json_rows};
 use crate::loading::load_rows;
 use crate::response::store_each;
 use crate::saving::save_rows;
@@ -85,6 +87,36 @@ pub trait Bulk: Drop {
         save_rows(self.as_store().rows(), writer, cookie_to_string, None)
     }
 
+    /// [`save`](Self::save) with the saved form of each cookie as a JSON object on a line. A cookie that ends before the year 0
+    /// is refused `Saved(Moment)`, and no memory is wanted for it.
+    final fn save_json<W: Sink>(&self, writer: &mut W, now: DateTime) -> StoreResult<()>
+        requires writable { W.failed writer.old < 2 ^ 64 - 1 }
+        ensures whole { OnOk result (WritesRows SaysJson (saved_rows (moment_of now) (contents self.now).rows)
+            (W.contents writer.old) (W.contents writer.new)) }
+        ensures count { OnOk result (W.failed writer.new ≡ W.failed writer.old) }
+        ensures stopped { IfErr result (λ error. FailsToSave SaysJson error
+            (saved_rows (moment_of now) (contents self.now).rows)
+            (W.contents writer.old) (W.contents writer.new) (W.failed writer.old) (W.failed writer.new)) }
+    {
+        let store = self.as_store();
+        save_json_rows(store.alloc(), store.rows(), writer, Some(now))
+    }
+
+    /// The same of all cookies, also those that have ended and those that end with the session.
+    final fn save_incl_expired_and_nonpersistent_json<W: Sink>(
+        &self,
+        writer: &mut W,
+    ) -> StoreResult<()>
+        requires writable { W.failed writer.old < 2 ^ 64 - 1 }
+        ensures whole { OnOk result (WritesRows SaysJson (contents self.now).rows (W.contents writer.old) (W.contents writer.new)) }
+        ensures count { OnOk result (W.failed writer.new ≡ W.failed writer.old) }
+        ensures stopped { IfErr result (λ error. FailsToSave SaysJson error (contents self.now).rows
+            (W.contents writer.old) (W.contents writer.new) (W.failed writer.old) (W.failed writer.new)) }
+    {
+        let store = self.as_store();
+        save_json_rows(store.alloc(), store.rows(), writer, None)
+    }
+
     /// A store of the cookies that the function makes of the reader's lines, each in the place of an earlier one of its
     /// domain, path and name, without a public suffix list. Those that have ended are passed over. A line ends with a line
     /// feed, of which a carriage return before is a part, and the last line may go without. Answers `Io` where the reader
@@ -103,7 +135,8 @@ pub trait Bulk: Drop {
         ensures suffixes { IfOk result (λ store. (contents store).suffixes ≡ None) }
         ensures read { OnOk result (IsAtEnd (R.remaining reader.new) × (R.failed reader.new ≡ R.failed reader.old)) }
         ensures failed { IfErr result (λ error. FailsToLoad (FnReturnsAt F.Fn cookie_from_str) error
-            (R.remaining reader.old) (R.remaining reader.new) (R.failed reader.old) (R.failed reader.new)) }
+            (R.remaining reader.old) (R.remaining reader.new) (R.failed reader.old) (R.failed reader.new)
+            (R.reads_left reader.old) (R.reads_left reader.new)) }
         ensures reads { ReadsEachOnce (R.remaining reader.old) (R.reads_left reader.old) (R.reads_left reader.new) }
     {
         let rows = load_rows(alloc, reader, cookie_from_str, false, now)?;
@@ -124,10 +157,47 @@ pub trait Bulk: Drop {
         ensures suffixes { IfOk result (λ store. (contents store).suffixes ≡ None) }
         ensures read { OnOk result (IsAtEnd (R.remaining reader.new) × (R.failed reader.new ≡ R.failed reader.old)) }
         ensures failed { IfErr result (λ error. FailsToLoad (FnReturnsAt F.Fn cookie_from_str) error
-            (R.remaining reader.old) (R.remaining reader.new) (R.failed reader.old) (R.failed reader.new)) }
+            (R.remaining reader.old) (R.remaining reader.new) (R.failed reader.old) (R.failed reader.new)
+            (R.reads_left reader.old) (R.reads_left reader.new)) }
         ensures reads { ReadsEachOnce (R.remaining reader.old) (R.reads_left reader.old) (R.reads_left reader.new) }
     {
         let rows = load_rows(alloc, reader, cookie_from_str, true, now)?;
+        Ok(Self::of_store(CookieStore::of_rows(alloc, rows)))
+    }
+
+    /// [`load`](Self::load) of lines that are saved forms of cookies as JSON. At a line answers `Saved(Json)` where it is no JSON,
+    /// `Saved(Shape)` where its tree is not of the form, or holds a float, `Saved(Moment)` where only its end is no moment, and
+    /// `Cookie(Parse)` where only its text is no cookie.
+    final fn load_json<R: Source>(alloc: Global, reader: &mut R, now: DateTime) -> StoreResult<Self>
+        requires readable { R.failed reader.old < 2 ^ 64 - 1 }
+        ensures built { IfOk result (λ store. BuildsFrom MakesJson (R.remaining reader.old) false (moment_of now) (contents store).rows) }
+        ensures suffixes { IfOk result (λ store. (contents store).suffixes ≡ None) }
+        ensures read { OnOk result (IsAtEnd (R.remaining reader.new) × (R.failed reader.new ≡ R.failed reader.old)) }
+        ensures failed { IfErr result (λ error. FailsToLoad MakesJson error
+            (R.remaining reader.old) (R.remaining reader.new) (R.failed reader.old) (R.failed reader.new)
+            (R.reads_left reader.old) (R.reads_left reader.new)) }
+        ensures reads { ReadsEachOnce (R.remaining reader.old) (R.reads_left reader.old) (R.reads_left reader.new) }
+    {
+        let rows = load_json_rows(alloc, reader, false, now)?;
+        Ok(Self::of_store(CookieStore::of_rows(alloc, rows)))
+    }
+
+    /// The same, where cookies that have ended are kept. The moment is not looked at.
+    final fn load_json_all<R: Source>(
+        alloc: Global,
+        reader: &mut R,
+        now: DateTime,
+    ) -> StoreResult<Self>
+        requires readable { R.failed reader.old < 2 ^ 64 - 1 }
+        ensures built { IfOk result (λ store. BuildsFrom MakesJson (R.remaining reader.old) true (moment_of now) (contents store).rows) }
+        ensures suffixes { IfOk result (λ store. (contents store).suffixes ≡ None) }
+        ensures read { OnOk result (IsAtEnd (R.remaining reader.new) × (R.failed reader.new ≡ R.failed reader.old)) }
+        ensures failed { IfErr result (λ error. FailsToLoad MakesJson error
+            (R.remaining reader.old) (R.remaining reader.new) (R.failed reader.old) (R.failed reader.new)
+            (R.reads_left reader.old) (R.reads_left reader.new)) }
+        ensures reads { ReadsEachOnce (R.remaining reader.old) (R.reads_left reader.old) (R.reads_left reader.new) }
+    {
+        let rows = load_json_rows(alloc, reader, true, now)?;
         Ok(Self::of_store(CookieStore::of_rows(alloc, rows)))
     }
 

@@ -1,5 +1,5 @@
 //! The store.
-ghost use Rattle.std.specs.Prelude.{◌≡◌, ◌≢◌, ◌-◌, ◌^◌, ◌<◌, [], false, is_some, map, true, Err, None, Ok, Some, IfErr, IfOk, IsTrue, OnErr, OnOk, ◌⊎◌};
+ghost use Rattle.std.specs.Prelude.{◌≡◌, ◌≢◌, ◌≤◌, ◌*◌, ◌-◌, ◌^◌, ◌<◌, [], false, is_some, map, true, Err, None, Ok, Some, IfErr, IfOk, IsTrue, OnErr, OnOk, ◌⊎◌};
 ghost use Rattle.std.specs.Iterator.{IsFinite};
 ghost use Rattle.std.specs.Option.{option_copied};
 ghost use Rattle.cookie_words.specs.Moments.{moment_of};
@@ -8,6 +8,8 @@ ghost use Rattle.cookie_parts.specs.Cookie.{cookie_of, early, early_refusal};
 ghost use Rattle.cookie_parts.specs.declared.cookie_error.CookieError.TheVariants.{Memory};
 ghost use Rattle.cookie_parts.specs.declared.store_action.StoreAction.TheVariants.{Inserted};
 ghost use Rattle.cookie_laws.specs.Acceptance.{received, MayRefuse};
+ghost use Rattle.cookie_lookup.specs.Seen.{domains_found};
+ghost use Rattle.cookie_lookup.specs.Texts.{most_domains, most_paths};
 ghost use Rattle.cookie_rows.specs.Building.{Builds, FailsFirst, WantsRoom};
 ghost use Rattle.cookie_rows.specs.Requests.{name_and_value};
 ghost use Rattle.cookie_store.specs.CallViews.{call_view, reply_view, MayWant, StopsAfter, StopsAt};
@@ -17,10 +19,11 @@ ghost use Rattle.cookie_laws.specs.Runs.{replies, rows_after, step, Clear, Inser
 
 use crate::call::{Call, Reply, Stopped, stored};
 use crate::insertion::{accept, owned_cookie, owned_raw_cookie};
+use cookie_lookup::Lookups;
 use cookie_parts::{Cookie, CookieError, CookieResult, Error, StoreAction, StoreResult};
 use cookie_psl::List;
 use cookie_raw::RawCookie;
-use cookie_rows::{IterAny, IterUnexpired, RequestCookies, RequestValues, Rows};
+use cookie_rows::{HashKey, IterAny, IterUnexpired, RequestCookies, RequestValues, Rows};
 use jiff::civil::DateTime;
 use std::alloc::{AllocError, Global};
 use std::marker::Model;
@@ -74,6 +77,14 @@ impl CookieStore {
         ensures { result ≡ record { rows = []; suffixes = None } }
     {
         CookieStore::new(alloc)
+    }
+
+    /// A store without cookies, and without a public suffix list, whose maps hash by this key. The key changes no answer: a
+    /// program that takes cookies of servers which it does not trust hands over a drawn one.
+    pub fn with_hash_key(alloc: Global, hash_key: HashKey) -> CookieStore
+        ensures { result ≡ record { rows = []; suffixes = None } }
+    {
+        CookieStore::of_rows(alloc, Rows::with_hash_key(alloc, hash_key))
     }
 
     /// A store without cookies, under the public suffix list if there is one.
@@ -242,6 +253,15 @@ impl CookieStore {
         self.rows.remove(domain, path, name)
     }
 
+    /// Lets the maps hash by this key from now on, also in a store that was built or loaded: the cookies are copied once. The key
+    /// changes no answer. Want of memory leaves the key that was, and comes only where there is a cookie.
+    pub fn set_hash_key(&mut self, hash_key: HashKey) -> Result<(), AllocError>
+        ensures store { self.new ≡ self.old }
+        ensures memory { OnErr result (self.old.rows ≢ []) }
+    {
+        self.rows.set_hash_key(self.alloc, hash_key)
+    }
+
     /// Removes all cookies. The public suffix list stays.
     pub fn clear(&mut self)
         ensures { self.new ≡ record self.old { rows = (step self.old.suffixes Clear self.old.rows).rows } }
@@ -258,6 +278,24 @@ impl CookieStore {
         ensures memory { OnErr result (given url.now (moment_of now) self.now.rows ≢ []) }
     {
         self.rows.given(self.alloc, url, now)
+    }
+
+    /// What `matches` gives, and how often the maps of the store were searched for it: for a domain at most as often as the host
+    /// has labels, and in each domain that was found at most once more than twice the slashes of the URL's path.
+    pub fn matches_counted(
+        &self,
+        url: &Url,
+        now: DateTime,
+    ) -> Result<(Vec<&Cookie<'static>>, Lookups), AllocError>
+        ensures given { IfOk result
+            (λ found. map (λ c. c.now) found.0.items ≡ given url.now (moment_of now) self.now.rows) }
+        ensures in_order { IsTrue (are_rows self.now.rows) }
+        ensures domains { IfOk result (λ found. found.1.domains ≤ most_domains url.now) }
+        ensures paths { IfOk result
+            (λ found. found.1.paths ≤ domains_found url.now self.now.rows * most_paths url.now) }
+        ensures memory { OnErr result (given url.now (moment_of now) self.now.rows ≢ []) }
+    {
+        self.rows.given_counted(self.alloc, url, now)
     }
 
     /// The names and values of the cookies that are given for the URL at the moment, in the store's order. Memory is wanted
@@ -371,6 +409,11 @@ impl CookieStore {
             rows,
             suffixes: None,
         }
+    }
+
+    // What takes memory for the store.
+    pub(crate) fn alloc(&self) -> Global {
+        self.alloc
     }
 
     // The rows.

@@ -6,6 +6,7 @@ mod call;
 mod cookie_store;
 pub mod device;
 mod insertion;
+mod json;
 mod loading;
 mod response;
 mod saving;
@@ -13,6 +14,8 @@ mod saving;
 pub use bulk::Bulk;
 pub use call::{Call, Reply, Stopped};
 pub use cookie_laws as laws;
+pub use cookie_lookup as lookup;
+pub use cookie_lookup::Lookups;
 pub use cookie_parts::{
     Cookie, CookieDomain, CookieError, CookieExpiration, CookiePath, CookieResult, Error,
     IdnaErrors, StoreAction, StoreResult, StoreResult as Result, cookie_domain, cookie_path, utils,
@@ -20,6 +23,6 @@ pub use cookie_parts::{
 pub use cookie_psl as psl;
 pub use cookie_raw as raw;
 pub use cookie_raw::{RawCookie, RawCookieParseError};
-pub use cookie_rows::{IterAny, IterUnexpired, RequestCookies, RequestValues};
+pub use cookie_rows::{HashKey, IterAny, IterUnexpired, RequestCookies, RequestValues};
 pub use cookie_saved as saved;
 pub use cookie_store::{CookieStore, InsertResult};

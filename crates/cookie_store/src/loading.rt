@@ -25,7 +25,8 @@ pub(crate) fn load_rows<R: Source, F: Fn(&str) -> Result<Cookie<'_>, Error>>(
         include_expired (moment_of now) rows) }
     ensures read { OnOk result (IsAtEnd (R.remaining source.new) × (R.failed source.new ≡ R.failed source.old)) }
     ensures failed { IfErr result (λ error. FailsToLoad (FnReturnsAt F.Fn cookie_of) error
-        (R.remaining source.old) (R.remaining source.new) (R.failed source.old) (R.failed source.new)) }
+        (R.remaining source.old) (R.remaining source.new) (R.failed source.old) (R.failed source.new)
+        (R.reads_left source.old) (R.reads_left source.new)) }
     ensures reads { ReadsEachOnce (R.remaining source.old) (R.reads_left source.old) (R.reads_left source.new) }
 {
     let mut input = LineBuffer::new(alloc);

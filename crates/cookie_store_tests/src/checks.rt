@@ -22,6 +22,7 @@ pub fn end_of<T>(outcome: &Result<T, Error>) -> &str {
         Err(Error::Cookie(_)) => "a cookie",
         Err(Error::Idna(_)) => "a domain",
         Err(Error::Io) => "a device",
+        Err(Error::Saved(_)) => "a saved form",
         Err(Error::Other(text)) => text.as_str(),
         Err(Error::Memory) => "memory",
         Err(Error::NotUtf8) => "not UTF-8",

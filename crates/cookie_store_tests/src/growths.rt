@@ -2,6 +2,7 @@
 use crate::built::{Came, cookie, items, store_of};
 use crate::calls::{Asked, CALLS, all_calls, are_told, call};
 use crate::checks::{end_of, is_equal};
+use crate::json::{load_json, save_json};
 use crate::loaded::load_cookies;
 use crate::responses::raw_cookies;
 use crate::saved::{LASTING, Which};
@@ -10,11 +11,12 @@ use crate::texts::{add, all_listed, given, header, url};
 use cookie_fakes::Fake;
 use cookie_store::device::Counted;
 use cookie_store::{
-    Bulk, Call, Cookie, CookieError, CookieStore, Error, InsertResult, RawCookie, Reply,
+    Bulk, Call, Cookie, CookieError, CookieStore, Error, HashKey, InsertResult, RawCookie, Reply,
     RequestCookies, RequestValues,
 };
 use log::sink::Discard;
 use std::alloc::{AllocError, Global};
+use std::hash::RandomState;
 use std::io::Cursor;
 use std::process::Abort;
 use std::vec::IntoIter;
@@ -262,6 +264,19 @@ fn matches(rt: HostRuntime) {
     gives(&rt, rt.alloc(), &store, GIVEN_OF_FIVE, "the rows that stay");
 }
 
+#[test]
+fn matches_counted(rt: HostRuntime) {
+    let url = url(&rt, rt.alloc(), FROM);
+    let store = store_of_five(&rt, rt.alloc(), &url);
+    start(rt.alloc());
+    let outcome = store.matches_counted(&url, new_year());
+    end(rt.alloc());
+    if let Ok((cookies, _)) = &outcome {
+        are_given(&rt, rt.alloc(), cookies.as_slice());
+    }
+    gives(&rt, rt.alloc(), &store, GIVEN_OF_FIVE, "the rows that stay");
+}
+
 fn are_the_values(rt: &impl Abort, alloc: Global, values: RequestValues<'_>) {
     let values: Vec<(&str, &str)> = values.collect(alloc).expect(rt, "memory");
     let wanted = [("x", "1"), ("z", "1"), ("y", "1"), ("u", "1"), ("t", "1")];
@@ -326,6 +341,17 @@ fn clone(rt: HostRuntime) {
         is_copied(&rt, rt.alloc(), copy, &url);
     }
     gives(&rt, rt.alloc(), &store, GIVEN, "the rows that stay");
+}
+
+#[test]
+fn set_hash_key(rt: HostRuntime) {
+    let url = url(&rt, rt.alloc(), FROM);
+    let mut store = store_of_five(&rt, rt.alloc(), &url);
+    let state = RandomState::new(&rt).expect(&rt, "random bytes");
+    start(rt.alloc());
+    let _outcome = store.set_hash_key(HashKey::Drawn(state));
+    end(rt.alloc());
+    gives(&rt, rt.alloc(), &store, GIVEN_OF_FIVE, "the rows that stay");
 }
 
 const CAME: [Came; 5] = [
@@ -504,4 +530,55 @@ fn load(rt: HostRuntime) {
 #[test]
 fn load_all(rt: HostRuntime) {
     are_loaded(&rt, rt.alloc(), &Which::All);
+}
+
+fn are_saved_as_json(rt: &impl Abort, alloc: Global, which: &Which) {
+    let store = store_of(rt, alloc, &LASTING);
+    let room = Vec::with_capacity(alloc, 1_024).expect(rt, "memory");
+    let fake = Fake::new(room, usize::MAX, 0);
+    start(alloc);
+    let (outcome, written) = save_json(&store, which, fake);
+    end(alloc);
+    let is_whole = written.is_empty() || written.ends_with(b"\n");
+    is_equal(rt, &is_whole, &true, which);
+    match &outcome {
+        Ok(()) => is_equal(rt, &line_feeds(&written), &LASTING.len(), which),
+        Err(error) => is_equal(rt, error, &Error::Memory, which),
+    }
+}
+
+#[test]
+fn saved_as_json(rt: HostRuntime) {
+    are_saved_as_json(&rt, rt.alloc(), &Which::At(new_year()));
+}
+
+#[test]
+fn all_saved_as_json(rt: HostRuntime) {
+    are_saved_as_json(&rt, rt.alloc(), &Which::All);
+}
+
+const JSON: &[u8] =
+    br#"{"domain":{"Suffix":"example.com"},"expires":"SessionEnd","path":["/",true],"raw_cookie":"y=1"}
+{"domain":{"HostOnly":"a.b.example.com"},"expires":{"AtUtc":"2100-08-03T00:38:37Z"},"path":["/p",false],"raw_cookie":"u=1"}
+"#;
+
+fn are_loaded_from_json(rt: &impl Abort, alloc: Global, which: &Which) {
+    let fake = Fake::new(JSON, usize::MAX, 0);
+    start(alloc);
+    let outcome = load_json(alloc, which, fake);
+    end(alloc);
+    match &outcome {
+        Ok(store) => gives(rt, alloc, store, "y=1; u=1", "the loaded rows"),
+        Err(_) => is_equal(rt, &end_of(&outcome), &"memory", which),
+    }
+}
+
+#[test]
+fn loaded_from_json(rt: HostRuntime) {
+    are_loaded_from_json(&rt, rt.alloc(), &Which::At(new_year()));
+}
+
+#[test]
+fn all_loaded_from_json(rt: HostRuntime) {
+    are_loaded_from_json(&rt, rt.alloc(), &Which::All);
 }

@@ -12,7 +12,11 @@ mod growths;
 #[cfg(test)]
 mod insertion;
 #[cfg(test)]
+mod json;
+#[cfg(test)]
 mod loaded;
+#[cfg(test)]
+mod lookups;
 #[cfg(test)]
 mod many;
 #[cfg(test)]

@@ -2,9 +2,10 @@
 use crate::checks::{has_the_same_rows, is_equal};
 use crate::steps::{ENDED, INSERTED, Step, UPDATED, new_year, store_under, take, take_all};
 use crate::texts::{all_listed, listed, unexpired, url, value_of};
-use cookie_store::{CookieError, CookieStore, RawCookie};
+use cookie_store::{CookieError, CookieStore, HashKey, RawCookie};
 use jiff::civil::{DateTime, date};
 use std::alloc::Global;
+use std::hash::RandomState;
 use std::process::Abort;
 use url::Url;
 
@@ -74,6 +75,32 @@ fn rows_come_and_go_in_order(rt: HostRuntime) {
         let mut store = store_under(&rt, rt.alloc(), "com");
         take_all(&rt, rt.alloc(), &mut store, steps, new_year());
     }
+}
+
+#[test]
+fn a_drawn_hash_key_changes_nothing(rt: HostRuntime) {
+    let state = RandomState::new(&rt).expect(&rt, "random bytes");
+    let mut store = CookieStore::with_hash_key(rt.alloc(), HashKey::Drawn(state));
+    take_all(&rt, rt.alloc(), &mut store, &REMOVING, new_year());
+}
+
+// The rows that are left of those that were removed, and what becomes of them.
+const KEYED: [Step; 4] = [
+    Step::Listed("a.com / x"),
+    Step::Set("http://a.com/", "x=2", UPDATED),
+    Step::Set("http://b.com/", "y=1", INSERTED),
+    Step::Listed("a.com / x, b.com / y"),
+];
+
+#[test]
+fn a_hash_key_can_be_set_later(rt: HostRuntime) {
+    let mut store = CookieStore::new(rt.alloc());
+    take_all(&rt, rt.alloc(), &mut store, &REMOVING, new_year());
+    let state = RandomState::new(&rt).expect(&rt, "random bytes");
+    store
+        .set_hash_key(HashKey::Drawn(state))
+        .expect(&rt, "memory");
+    take_all(&rt, rt.alloc(), &mut store, &KEYED, new_year());
 }
 
 // One row ends with the session, one after a minute, and one has ended.

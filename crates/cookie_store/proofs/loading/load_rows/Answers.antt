@@ -3,7 +3,8 @@ use Rattle.std.specs.Fn.{FnReturnsAt}
 use Rattle.std.proofs.lemmas.Option.{IfSome_then}
 use Rattle.std.proofs.lemmas.Result.{err_from_is_err_and}
 use Rattle.cookie_words.specs.Moments.{moment_of}
-use Rattle.cookie_store.proofs.LoadedLines.{Ended, ended, begun, built_none, filled, passed, next_reached, last_reached, finished, last_made, taken_built, within}
+use Rattle.cookie_store.proofs.LoadedLines.{Ended, ended, begun, built_none, filled, passed, next_reached, last_reached, finished, last_made, taken_built, within, not_read}
+use Rattle.cookie_store.proofs.Pairs.{both}
 use Rattle.cookie_store.proofs.loading.load_rows.Goals as goal
 use Rattle.cookie_store.proofs.loading.load_rows.Goals.{then-not-is_empty+in_ok-take_line-2, else-not-is_empty}
 
@@ -129,8 +130,10 @@ returns-in-Err-Read-clause-failed g c =
     let makes = FnReturnsAt g.F.Fn c.args.cookie_of in
     let filling = c.in-Err-Read.ensures in
     let none = rw (sym filling.err) at (sym c.in_default.ensures.first) in
-    let stops = IfSome_then (g.R.Source.remaining c.args.source.now) known
-    (λ text l. within makes text _ _ cookies (filled makes text _ _ _ _ cookies l filling.bytes filling.at_hand filling.moved) none) in
+    let brought = IfSome_then (g.R.Source.remaining c.args.source.now) c.lines.invariant.turns
+    (λ text gave. not_read _ _ _ _ _ _ _ _ gave filling.moved filling.err filling.as_many) in
+    let stops = IfSome_then (g.R.Source.remaining c.args.source.now) (both _ _ (g.R.Source.remaining c.args.source.now) known brought)
+    (λ text is. within makes text _ _ cookies _ _ (filled makes text _ _ _ _ cookies is.0 filling.bytes filling.at_hand filling.moved) is.1 none) in
     let count = rw c.in-Err-Read.field-0-is at filling.count in
     inr (stops, inl (refl, count ∙ ap (λ n. n + 1) c.lines.invariant.reads))
 
@@ -140,7 +143,9 @@ returns-in-Err-Memory-clause-failed g c =
     let makes = FnReturnsAt g.F.Fn c.args.cookie_of in
     let filling = c.in-Err-Memory.ensures in
     let none = rw (sym filling.err) at (sym c.in_default.ensures.first) in
-    let stops = IfSome_then (g.R.Source.remaining c.args.source.now) known
-    (λ text l. within makes text _ _ cookies (filled makes text _ _ _ _ cookies l filling.bytes filling.at_hand filling.moved) none) in
+    let brought = IfSome_then (g.R.Source.remaining c.args.source.now) c.lines.invariant.turns
+    (λ text gave. not_read _ _ _ _ _ _ _ _ gave filling.moved filling.err filling.as_many) in
+    let stops = IfSome_then (g.R.Source.remaining c.args.source.now) (both _ _ (g.R.Source.remaining c.args.source.now) known brought)
+    (λ text is. within makes text _ _ cookies _ _ (filled makes text _ _ _ _ cookies is.0 filling.bytes filling.at_hand filling.moved) is.1 none) in
     let count = rw c.in-Err-Memory.field-0-is at filling.count in
     inr (stops, inr (refl, count ∙ c.lines.invariant.reads))

@@ -1,4 +1,4 @@
-use Rattle.std.proofs.Common.{ap, sym, ◌∙◌}
+use Rattle.std.proofs.Common.{ap, ◌∙◌}
 use Rattle.cookie_store.specs.Contents.{Contents}
 use Rattle.cookie_store.proofs.bulk.Bulk.save.Goals as goal
 

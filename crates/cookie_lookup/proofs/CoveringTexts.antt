@@ -1,0 +1,136 @@
+-- The texts that a path is looked up by are those of the definition, and a path that path-matches is among them.
+use Rattle.std.proofs.Common.{◌≡◌, ℕ, zero, suc, ◌+◌, ◌<◌, ◌≤◌, ◌⊎◌, Bool, true, false, ◌||◌, List, [], ◌∷◌, ◌++◌, length, take, drop, get_or, refl, sym, ◌∙◌, ap, subst, inl, inr, eqb, bytes_eq, arith, length-append, append_assoc, append-nil}
+use Rattle.std.specs.Prelude.{if◌then◌else◌, nat_eq}
+use Rattle.std.specs.Bool.{Decides}
+use Rattle.std.specs.List.{list_any, starts_with}
+use Rattle.std.proofs.Math.ListN.{get_or-append}
+use Rattle.std.proofs.Math.Seq.{get_or-append_seam, take-length}
+use Rattle.std.proofs.lemmas.Bool.{or_cases, or_left, or_right}
+use Rattle.std.proofs.lemmas.Bool.Decides.{nat_tests}
+use Rattle.std.proofs.lemmas.Slice.Eq.{bytes_eq-Decides}
+use Rattle.cookie_parts.specs.Path.{covers_path, CoversPath}
+use Rattle.cookie_lookup.specs.Texts.{ends_text, front_texts, path_texts, IsPathText}
+use Rattle.cookie_lookup.proofs.Cuts.{bool_cases}
+use Rattle.cookie_lookup.proofs.PathTexts.{any_append}
+
+any_single : {X : Type 0} (p : X → Bool) (x : X) → p x ≡ true → list_any p (x ∷ []) ≡ true
+any_single p x h = grind (arith, nat_tests, h)
+
+among_fronts : (r : List ℕ) (at m : ℕ) → at < m → ends_text r at ≡ true → list_any (bytes_eq (take (suc at) r)) (front_texts r m) ≡ true
+among_fronts r at zero h e = absurd (omega arith)
+among_fronts r at (suc m) h e = elim (bool_cases (eqb at m)) [
+  | inl s ↦ let same : at ≡ m = grind (arith, nat_tests, s) in
+      let e' : ends_text r m ≡ true = subst (λ n. ends_text r n ≡ true) same e in
+      let it : bytes_eq (take (suc at) r) (take (suc m) r) ≡ true = (bytes_eq-Decides (take (suc at) r) (take (suc m) r)).1 (ap (λ n. take (suc n) r) same) in
+      rw (e', any_append (bytes_eq (take (suc at) r)) (front_texts r m) (take (suc m) r ∷ [])) (or_right _ _ (any_single (bytes_eq (take (suc at) r)) (take (suc m) r) it))
+  | inr s ↦ let less : at < m = grind (arith, nat_tests, s) in
+      rw any_append (or_left _ _ (among_fronts r at m less e))
+]
+
+ends_there : (p r rest : List ℕ) (at : ℕ) → length p ≡ suc at → r ≡ p ++ rest
+    → (rest ≡ []) ⊎ (((front : List ℕ) × (p ≡ front ++ 47 ∷ [])) ⊎ ((more : List ℕ) × (rest ≡ 47 ∷ more))) → ends_text r at ≡ true
+ends_there p r rest at l split o = elim o [
+  | inl e ↦ let long : length r ≡ length p + length rest = ap length split ∙ length-append p rest in
+      let none : length rest ≡ 0 = ap length e in
+      let m : eqb (at + 1) (length r) ≡ true = grind (arith, nat_tests, long, none, l) in rw m refl
+  | inr o ↦ elim o [
+    | inl f ↦
+        let long : length p ≡ length f.0 + 1 = ap length f.1 ∙ length-append f.0 (47 ∷ []) in
+        let here : get_or r at 0 ≡ 47 = ap (λ t. get_or t at 0) split ∙ get_or-append p rest 0 at (omega arith) ∙ ap (λ t. get_or t at 0) f.1 ∙ ap (λ n. get_or (f.0 ++ 47 ∷ []) n 0) (omega (arith, long, l)) ∙ get_or-append_seam f.0 47 [] 0 in
+        let m : eqb (get_or r at 0) 47 ≡ true = grind (arith, nat_tests, here) in
+        grind (arith, nat_tests, m)
+    | inr g ↦
+        let next : get_or r (at + 1) 0 ≡ 47 = ap (λ t. get_or t (at + 1) 0) (split ∙ ap (λ t. p ++ t) g.1) ∙ ap (λ n. get_or (p ++ 47 ∷ g.0) n 0) (omega (arith, l)) ∙ get_or-append_seam p 47 g.0 0 in
+        let m : eqb (get_or r (at + 1) 0) 47 ≡ true = grind (arith, nat_tests, next) in
+        grind (arith, nat_tests, m)
+  ]
+]
+
+take_front : (p rest : List ℕ) → take (length p) (p ++ rest) ≡ p
+take_front [] rest = refl
+take_front (b ∷ p) rest = ap (λ t. b ∷ t) (take_front p rest)
+
+-- a path that path-matches is among the texts
+pub covering_among : (p r : List ℕ) → CoversPath p r → starts_with eqb p (47 ∷ []) ≡ true → list_any (bytes_eq p) (path_texts r) ≡ true
+covering_among [] r o s = absurd (cc)
+covering_among (b ∷ p) r o s =
+    let begins : starts_with eqb r (47 ∷ []) ≡ true = subst (λ t. starts_with eqb t (47 ∷ []) ≡ true) (sym o.1) (grind (arith, nat_tests, s)) in
+    let ends = ends_there (b ∷ p) r o.0 (length p) refl o.1 o.2 in
+    let there : length p < length r = omega (arith, ap length o.1, length-append (b ∷ p) o.0) in
+    let it : take (suc (length p)) r ≡ b ∷ p = ap (take (suc (length p))) o.1 ∙ take_front (b ∷ p) o.0 in
+    rw begins (subst (λ t. list_any (bytes_eq t) (front_texts r (length r)) ≡ true) it (among_fronts r (length p) (length r) there ends))
+
+split_at : (r : List ℕ) (i : ℕ) → i < length r → r ≡ take i r ++ get_or r i 0 ∷ drop (suc i) r
+split_at [] i h = absurd (omega arith)
+split_at (b ∷ r) zero h = refl
+split_at (b ∷ r) (suc i) h = ap (λ t. b ∷ t) (split_at r i (omega arith))
+
+take_next : (r : List ℕ) (i : ℕ) → i < length r → take (suc i) r ≡ take i r ++ get_or r i 0 ∷ []
+take_next [] i h = absurd (omega arith)
+take_next (b ∷ r) zero h = refl
+take_next (b ∷ r) (suc i) h = ap (λ t. b ∷ t) (take_next r i (omega arith))
+
+front_of : (r text : List ℕ) (m : ℕ) → list_any (bytes_eq text) (front_texts r m) ≡ true → (at : ℕ) × (at < m) × (ends_text r at ≡ true) × (text ≡ take (suc at) r)
+front_of r text zero h = absurd (cc)
+front_of r text (suc m) h = elim (bool_cases (ends_text r m)) [
+  | inl e ↦
+      let h' : list_any (bytes_eq text) (front_texts r m ++ take (suc m) r ∷ []) ≡ true = rw e at h in
+      elim (or_cases (list_any (bytes_eq text) (front_texts r m)) (list_any (bytes_eq text) (take (suc m) r ∷ [])) (sym (any_append (bytes_eq text) (front_texts r m) (take (suc m) r ∷ [])) ∙ h')) [
+        | inl l ↦ let w = front_of r text m l in (w.0, omega (arith, w.1), w.2, w.3)
+        | inr s ↦ (m, omega arith, e, (bytes_eq-Decides text (take (suc m) r)).0 (grind (arith, nat_tests, s)))
+      ]
+  | inr e ↦
+      let h' : list_any (bytes_eq text) (front_texts r m ++ []) ≡ true = rw e at h in
+      let w = front_of r text m (ap (list_any (bytes_eq text)) (sym (append-nil (front_texts r m))) ∙ h') in (w.0, omega (arith, w.1), w.2, w.3)
+]
+
+-- a front that ends at a slash, before one, or with the path
+front_is : (r : List ℕ) (at : ℕ) → at < length r → ends_text r at ≡ true
+    → (take (suc at) r ≡ r) ⊎ ((front : List ℕ) × (rest : List ℕ) × (r ≡ front ++ 47 ∷ rest) × ((take (suc at) r ≡ front) ⊎ (take (suc at) r ≡ front ++ 47 ∷ [])))
+front_is r at l e = elim (or_cases (eqb (at + 1) (length r) || eqb (get_or r at 0) 47) (eqb (get_or r (at + 1) 0) 47) e) [
+  | inl o ↦ elim (or_cases (eqb (at + 1) (length r)) (eqb (get_or r at 0) 47) o) [
+    | inl w ↦ let whole : suc at ≡ length r = grind (arith, nat_tests, w) in inl (ap (λ n. take n r) whole ∙ take-length r)
+    | inr s ↦
+        let slash : get_or r at 0 ≡ 47 = grind (arith, nat_tests, s) in
+        inr (take at r, drop (suc at) r, split_at r at l ∙ ap (λ b. take at r ++ b ∷ drop (suc at) r) slash, inr (take_next r at l ∙ ap (λ b. take at r ++ b ∷ []) slash))
+  ]
+  | inr s ↦
+      let step : at + 1 ≡ suc at = omega arith in
+      let slash : get_or r (suc at) 0 ≡ 47 = ap (λ n. get_or r n 0) (sym step) ∙ grind (arith, nat_tests, s) in
+      elim (bool_cases (eqb (at + 1) (length r))) [
+        | inl w ↦ let whole : suc at ≡ length r = grind (arith, nat_tests, w) in inl (ap (λ n. take n r) whole ∙ take-length r)
+        | inr n ↦
+            let more : suc at < length r = grind (arith, nat_tests, n, l) in
+            inr (take (suc at) r, drop (suc (suc at)) r, split_at r (suc at) more ∙ ap (λ b. take (suc at) r ++ b ∷ drop (suc (suc at)) r) slash, inl refl)
+      ]
+]
+
+-- the fronts of a path that begins with a slash do so too
+front_begins : (r : List ℕ) (at : ℕ) → starts_with nat_eq r (47 ∷ []) ≡ true → starts_with nat_eq (take (suc at) r) (47 ∷ []) ≡ true
+front_begins [] at h = absurd (cc)
+front_begins (b ∷ r) at h = grind (arith, nat_tests, h)
+
+-- a path text is one that begins with a slash and covers the path
+covers_it : (path text : List ℕ) → IsPathText path text → CoversPath text path
+covers_it path text w = elim w.1 [
+  | inl s ↦ ([], sym s ∙ sym (append-nil text), inl refl)
+  | inr f ↦ elim f.3 [
+    | inl s ↦ (47 ∷ f.1, f.2 ∙ ap (λ t. t ++ 47 ∷ f.1) (sym s), inr (inr (f.1, refl)))
+    | inr s ↦ (f.1, f.2 ∙ sym (append_assoc f.0 (47 ∷ []) f.1) ∙ ap (λ t. t ++ f.1) (sym s), inr (inl (f.0, s)))
+  ]
+]
+
+-- the texts are those of the definition
+pub path_texts_are : (path text : List ℕ) → Decides (list_any (bytes_eq text) (path_texts path)) (IsPathText path text)
+path_texts_are path text = (there path text, λ w. covering_among text path (covers_it path text w) w.0)
+  where
+    there : (path text : List ℕ) → list_any (bytes_eq text) (path_texts path) ≡ true → IsPathText path text
+    there path text h = elim (bool_cases (starts_with nat_eq path (47 ∷ []))) [
+      | inl e ↦
+          let h' : list_any (bytes_eq text) (front_texts path (length path)) ≡ true = rw e at h in
+          let w = front_of path text (length path) h' in (
+            ap (λ t. starts_with nat_eq t (47 ∷ [])) w.3 ∙ front_begins path w.0 e,
+            subst (λ t. (t ≡ path) ⊎ ((front : List ℕ) × (rest : List ℕ) × (path ≡ front ++ 47 ∷ rest) × ((t ≡ front) ⊎ (t ≡ front ++ 47 ∷ [])))) (sym w.3) (front_is path w.0 w.1 w.2),
+          )
+      | inr e ↦ let h' = rw e at h in absurd (cc)
+    ]

@@ -1,0 +1,14 @@
+pub mod Agree
+pub mod Bounds
+pub mod Counts
+pub mod CoveringTexts
+pub mod Cuts
+pub mod GivenRows
+pub mod HostTexts
+pub mod Order
+pub mod PathTexts
+pub mod RelatedRows
+pub mod Results
+pub mod Spots
+pub mod Steps
+pub mod Whole

@@ -1,0 +1,76 @@
+-- The steps of the loops over the texts that a URL is looked up by.
+use Rattle.std.proofs.Common.{◌≡◌, ℕ, ◌+◌, ◌-◌, ◌*◌, ◌<◌, ◌≤◌, true, false, List, [], ◌∷◌, ◌++◌, length, take, drop, get_or, refl, sym, ◌∙◌, ap, eqb, nat_eq, arith, append_assoc, append-nil, length-append}
+use Rattle.std.specs.Prelude.{◌≢◌}
+use Rattle.std.specs.List.{flat_map, starts_with}
+use Rattle.std.proofs.lemmas.Grind.{flat_map-append}
+use Rattle.cookie_laws.specs.Related.{after_dots}
+use Rattle.cookie_lookup.specs.Texts.{ends_text, front_texts, path_texts, related_texts, slashes}
+use Rattle.cookie_lookup.proofs.Cuts.{at_dot, at_no_dot, dots_suffix, front_more, front_prefix, front_same}
+use Rattle.cookie_lookup.proofs.PathTexts.{length_paths}
+use Rattle.cookie_lookup.proofs.Spots.{some_given}
+
+-- the fronts of a path
+
+pub one_front : (r : List ℕ) (at : ℕ) → ends_text r at ≡ true → length (front_texts r (at + 1)) ≡ length (front_texts r at) + 1
+one_front r at ends = ap length (front_more r at ends) ∙ length-append (front_texts r at) (take (at + 1) r ∷ [])
+
+-- the texts up to the next, that one, and those behind it are all texts
+texts_split : (r : List ℕ) (at : ℕ) → starts_with nat_eq r (47 ∷ []) ≡ true → at < length r → ends_text r at ≡ true
+    → (more : List (List ℕ)) × (path_texts r ≡ front_texts r at ++ take (at + 1) r ∷ more)
+texts_split r at begins below ends =
+    let w = front_prefix r (at + 1) (length r) (omega (arith, below)) in
+    (w.0, rw (path_texts, begins) (w.1 ∙ ap (λ ts. ts ++ w.0) (front_more r at ends) ∙ append_assoc (front_texts r at) (take (at + 1) r ∷ []) w.0))
+
+pub fronts_room : (r : List ℕ) (at : ℕ) → starts_with nat_eq r (47 ∷ []) ≡ true → at < length r → ends_text r at ≡ true
+    → length (front_texts r at) + 1 ≤ 1 + 2 * slashes r
+fronts_room r at begins below ends =
+    let w = texts_split r at begins below ends in
+    omega (arith, ap length w.1, length-append (front_texts r at) (take (at + 1) r ∷ w.0), length_paths r)
+
+pub fronts_most : (r : List ℕ) (at : ℕ) → starts_with nat_eq r (47 ∷ []) ≡ true → at ≡ length r → length (front_texts r at) ≤ 1 + 2 * slashes r
+fronts_most r at begins whole =
+    let most = length_paths r in
+    let most' : length (front_texts r (length r)) ≤ 1 + 2 * slashes r = rw begins at most in
+    omega (arith, ap (λ n. length (front_texts r n)) whole, most')
+
+module _ {A : Type 0} (f : List ℕ → List A) (r : List ℕ) (at : ℕ) where
+  pub front_pushed : (before spots new : List A) → spots ≡ before ++ flat_map f (front_texts r at) → ends_text r at ≡ true → new ≡ spots ++ f (take (at + 1) r)
+      → new ≡ before ++ flat_map f (front_texts r (at + 1))
+  front_pushed before spots new so_far ends e =
+      e ∙ ap (λ s. s ++ f (take (at + 1) r)) so_far ∙ append_assoc before (flat_map f (front_texts r at)) (f (take (at + 1) r))
+      ∙ ap (λ s. before ++ s) (sym (ap (flat_map f) (front_more r at ends) ∙ flat_map-append f (front_texts r at) (take (at + 1) r ∷ [])
+      ∙ ap (λ s. flat_map f (front_texts r at) ++ s) (append-nil (f (take (at + 1) r)))))
+
+  pub front_kept : (before spots new : List A) → spots ≡ before ++ flat_map f (front_texts r at) → ends_text r at ≡ false → new ≡ spots
+      → new ≡ before ++ flat_map f (front_texts r (at + 1))
+  front_kept before spots new so_far ends e = e ∙ so_far ∙ ap (λ ts. before ++ flat_map f ts) (sym (front_same r at ends))
+
+  pub front_gives : starts_with nat_eq r (47 ∷ []) ≡ true → at < length r → ends_text r at ≡ true → f (take (at + 1) r) ≢ [] → flat_map f (path_texts r) ≢ []
+  front_gives begins below ends some none =
+      let w = texts_split r at begins below ends in
+      some_given f (front_texts r at) (take (at + 1) r) w.0 some (ap (flat_map f) (sym w.1) ∙ none)
+
+-- what follows the dots of a host
+
+module _ {A : Type 0} (f : List ℕ → List A) (h : List ℕ) (at : ℕ) (below : at < length h) where
+  pub dot_pushed : (all spots new : List A) → spots ++ flat_map f (after_dots (drop at h)) ≡ all → get_or h at 0 ≡ 46 → new ≡ spots ++ f (drop (at + 1) h)
+      → new ++ flat_map f (after_dots (drop (at + 1) h)) ≡ all
+  dot_pushed all spots new so_far dot e =
+      ap (λ s. s ++ flat_map f (after_dots (drop (at + 1) h))) e ∙ append_assoc spots (f (drop (at + 1) h)) (flat_map f (after_dots (drop (at + 1) h)))
+      ∙ ap (λ ts. spots ++ flat_map f ts) (sym (at_dot h at below dot)) ∙ so_far
+
+  pub dot_kept : (all spots new : List A) → spots ++ flat_map f (after_dots (drop at h)) ≡ all → eqb (get_or h at 0) 46 ≡ false → new ≡ spots
+      → new ++ flat_map f (after_dots (drop (at + 1) h)) ≡ all
+  dot_kept all spots new so_far dot e =
+      ap (λ s. s ++ flat_map f (after_dots (drop (at + 1) h))) e ∙ ap (λ ts. spots ++ flat_map f ts) (sym (at_no_dot h at below dot)) ∙ so_far
+
+  pub dot_gives : get_or h at 0 ≡ 46 → f (drop (at + 1) h) ≢ [] → flat_map f (related_texts h) ≢ []
+  dot_gives dot some none =
+      let w = dots_suffix h at in
+      let split : related_texts h ≡ (h ∷ w.0) ++ drop (at + 1) h ∷ after_dots (drop (at + 1) h) = ap (λ ts. h ∷ ts) (w.1 ∙ ap (λ ts. w.0 ++ ts) (at_dot h at below dot)) in
+      some_given f (h ∷ w.0) (drop (at + 1) h) (after_dots (drop (at + 1) h)) some (ap (flat_map f) (sym split) ∙ none)
+
+-- the end of a text has no dots
+pub no_dots_left : (h : List ℕ) → after_dots (drop (length h) h) ≡ []
+no_dots_left [] = refl
+no_dots_left (b ∷ h) = no_dots_left h

@@ -1,0 +1,127 @@
+use Rattle.std.proofs.Common.{◌≡◌, ◌+◌, ◌*◌, ◌<◌, ◌≤◌, ◌++◌, List, ℕ, false, length, drop, get_or, eqb, lit<, arith, ap, ◌∙◌, sym, subst, ◌∷◌, [], append_assoc}
+use Rattle.std.specs.Prelude.{◌≢◌}
+use Rattle.std.specs.List.{flat_map}
+use Rattle.std.proofs.lemmas.Bool.Decides.{nat_tests}
+use Rattle.cookie_words.specs.Moments.{moment_of}
+use Rattle.cookie_laws.specs.Given.{is_given}
+use Rattle.cookie_laws.specs.Related.{after_dots}
+use Rattle.cookie_lookup.specs.Groups.{DomainGroups}
+use Rattle.cookie_lookup.specs.Seen.{at_domain, how_many_found}
+use Rattle.cookie_lookup.specs.Texts.{path_texts, most_paths, dots}
+use Rattle.cookie_lookup.proofs.Counts.{paths_next, room_next, room_here}
+use Rattle.cookie_lookup.proofs.Cuts.{after_byte, at_dot, at_no_dot}
+use Rattle.cookie_lookup.proofs.HostTexts.{length_dots}
+use Rattle.cookie_lookup.proofs.Results.{either_way}
+use Rattle.cookie_lookup.proofs.Spots.{some_given}
+use Rattle.cookie_lookup.proofs.Steps.{dot_pushed, dot_kept, dot_gives}
+use Rattle.cookie_lookup.proofs.finding.push_domains.Goals.{then-bytes-at-eq46+in_ok-push_domain-2, else-bytes-at-eq46}
+use Rattle.cookie_lookup.proofs.finding.push_domains.Goals as goal
+
+pub returns-in_err-push_domain-clause-memory : goal.returns-in_err-push_domain-clause-memory
+returns-in_err-push_domain-clause-memory g c =
+    let host = c.args.host.now in
+    let look : List ℕ → List (ℕ × ℕ × ℕ) = at_domain (is_given c.args.url.now (moment_of c.args.now)) (g.S.Search.seen c.args.search.now).groups (path_texts c.args.url.now.path) in
+    either_way c.from_residual.result (some_given look [] host (after_dots host) c.in_err-push_domain.ensures.memory)
+
+pub loop-at-init : goal.loop-at-init
+loop-at-init g c =
+    let first = g.S.Search.seen c.args.search.now in
+    let url = c.args.url.now in
+    let host = c.args.host.now in
+    let look : List ℕ → List (ℕ × ℕ × ℕ) = at_domain (is_given url (moment_of c.args.now)) first.groups (path_texts url.path) in
+    record {
+      spots = ap (λ s. s ++ flat_map look (after_dots host)) c.in_ok-push_domain.ensures.spots ∙ append_assoc c.args.spots.now.items (look host) (flat_map look (after_dots host));
+      groups = c.in_ok-push_domain.ensures.groups;
+      domains = omega (arith, c.in_ok-push_domain.ensures.domains, length_dots host);
+      room = rw (length_dots host) (room_next first.groups host (most_paths url) (dots host) first.paths (g.S.Search.seen c.push_domain.new.search).paths c.in_ok-push_domain.ensures.paths);
+      paths = paths_next first.groups host (after_dots host) (most_paths url) first.paths (g.S.Search.seen c.push_domain.new.search).paths c.in_ok-push_domain.ensures.paths;
+    }
+
+pub range_from-requires : goal.range_from-requires
+range_from-requires g c =
+    let below : c.loop-at.at < length c.args.host.now = omega arith in
+    let dot : get_or c.args.host.now c.loop-at.at 0 ≡ 46 = rw (← c.as_bytes-bytes.ensures.value) c.if-bytes-at-eq46.true in
+    λ _. after_byte c.args.host.now c.loop-at.at 46 c.utf8.host below dot (lit< tt)
+
+pub push_domain-requires-then-bytes-at-eq46-clause-paths : goal.push_domain-requires-then-bytes-at-eq46-clause-paths
+push_domain-requires-then-bytes-at-eq46-clause-paths g c =
+    let host = c.args.host.now in
+    let m = most_paths c.args.url.now in
+    let below : c.loop-at.at < length host = omega arith in
+    let dot : get_or host c.loop-at.at 0 ≡ 46 = rw (← c.as_bytes-bytes.ensures.value) c.if-bytes-at-eq46.true in
+    let left = after_dots (drop (c.loop-at.at + 1) host) in
+    let split : length (after_dots (drop c.loop-at.at host)) * m ≡ (1 + length left) * m = ap (λ n. n * m) (ap length (at_dot host c.loop-at.at below dot) ∙ omega arith) in
+    omega (arith, c.loop-at.invariant.room, split, room_here m (length left), c.requires.paths)
+
+pub returns-in_err-push_domain-2-clause-paths : goal.returns-in_err-push_domain-2-clause-paths
+returns-in_err-push_domain-2-clause-paths g c =
+    let first = g.S.Search.seen c.args.search.now in
+    let host = c.args.host.now in
+    let m = most_paths c.args.url.now in
+    let below : c.loop-at.at < length host = omega arith in
+    let dot : get_or host c.loop-at.at 0 ≡ 46 = rw (← c.as_bytes-bytes.ensures.value) c.if-bytes-at-eq46.true in
+    let text = drop (c.loop-at.at + 1) host in
+    let asked : (g.S.Search.seen c.push_domain-then-bytes-at-eq46.new.search).paths ≤ (g.S.Search.seen c.loop-at.search).paths + how_many_found first.groups (text ∷ []) * m =
+    subst (λ groups. (g.S.Search.seen c.push_domain-then-bytes-at-eq46.new.search).paths ≤ (g.S.Search.seen c.loop-at.search).paths + how_many_found groups (text ∷ []) * m) c.loop-at.invariant.groups
+    (subst (λ t. (g.S.Search.seen c.push_domain-then-bytes-at-eq46.new.search).paths ≤ (g.S.Search.seen c.loop-at.search).paths + how_many_found (g.S.Search.seen c.loop-at.search).groups (t ∷ []) * m)
+    (rw c.range_from.ensures.value (grind arith)) c.push_domain-then-bytes-at-eq46.ensures.paths) in
+    let next = paths_next first.groups text (after_dots text) m (g.S.Search.seen c.loop-at.search).paths (g.S.Search.seen c.push_domain-then-bytes-at-eq46.new.search).paths asked in
+    let all = rw (at_dot host c.loop-at.at below dot) at c.loop-at.invariant.paths in
+    omega (arith, next, all)
+
+pub returns-in_err-push_domain-2-clause-memory : goal.returns-in_err-push_domain-2-clause-memory
+returns-in_err-push_domain-2-clause-memory g c =
+    let first = g.S.Search.seen c.args.search.now in
+    let url = c.args.url.now in
+    let host = c.args.host.now in
+    let look : DomainGroups → List ℕ → List (ℕ × ℕ × ℕ) = λ groups. at_domain (is_given url (moment_of c.args.now)) groups (path_texts url.path) in
+    let below : c.loop-at.at < length host = omega arith in
+    let dot : get_or host c.loop-at.at 0 ≡ 46 = rw (← c.as_bytes-bytes.ensures.value) c.if-bytes-at-eq46.true in
+    let text = drop (c.loop-at.at + 1) host in
+    let here : look first.groups text ≢ [] =
+    subst (λ groups. look groups text ≢ []) c.loop-at.invariant.groups
+    (subst (λ t. look (g.S.Search.seen c.loop-at.search).groups t ≢ []) (rw c.range_from.ensures.value (grind arith)) c.in_err-push_domain-2.ensures.memory) in
+    either_way c.from_residual-in_err-push_domain-2.result (dot_gives (look first.groups) host c.loop-at.at below dot here)
+
+pub loop-at-preserved : goal.loop-at-preserved
+loop-at-preserved g c =
+    let first = g.S.Search.seen c.args.search.now in
+    let url = c.args.url.now in
+    let host = c.args.host.now in
+    let m = most_paths url in
+    let look : DomainGroups → List ℕ → List (ℕ × ℕ × ℕ) = λ groups. at_domain (is_given url (moment_of c.args.now)) groups (path_texts url.path) in
+    let below : c.loop-at.at < length host = omega arith in
+    let text = drop (c.loop-at.at + 1) host in
+    elim c.if-bytes-at-eq46.branch [
+      | then-bytes-at-eq46+in_ok-push_domain-2 w ↦
+          let before = g.S.Search.seen c.loop-at.search in
+          let after = g.S.Search.seen w.push_domain-then-bytes-at-eq46.new.search in
+          let dot : get_or host c.loop-at.at 0 ≡ 46 = rw (← c.as_bytes-bytes.ensures.value) w.if-bytes-at-eq46.true in
+          let there : w.range_from.result.now ≡ text = rw w.range_from.ensures.value (grind arith) in
+          let left = at_dot host c.loop-at.at below dot in
+          let asked : after.paths ≤ before.paths + how_many_found first.groups (text ∷ []) * m =
+          subst (λ groups. after.paths ≤ before.paths + how_many_found groups (text ∷ []) * m) c.loop-at.invariant.groups
+          (subst (λ t. after.paths ≤ before.paths + how_many_found before.groups (t ∷ []) * m) there w.in_ok-push_domain-2.ensures.paths) in
+          let room = rw left at c.loop-at.invariant.room in
+          let paths = rw left at c.loop-at.invariant.paths in
+          rw w.search-is record {
+            spots = dot_pushed (look first.groups) host c.loop-at.at below _ c.loop-at.spots.items c.if-bytes-at-eq46.spots.items c.loop-at.invariant.spots dot
+                (ap (λ v. v.items) w.spots-is ∙ w.in_ok-push_domain-2.ensures.spots
+                ∙ ap (λ groups. c.loop-at.spots.items ++ look groups w.range_from.result.now) c.loop-at.invariant.groups ∙ ap (λ t. c.loop-at.spots.items ++ look first.groups t) there);
+            groups = w.in_ok-push_domain-2.ensures.groups ∙ c.loop-at.invariant.groups;
+            domains = omega (arith, w.in_ok-push_domain-2.ensures.domains, c.loop-at.invariant.domains, ap length left);
+            room = omega (arith, room, room_next first.groups text m (length (after_dots text)) before.paths after.paths asked);
+            paths = omega (arith, paths, paths_next first.groups text (after_dots text) m before.paths after.paths asked);
+          }
+      | else-bytes-at-eq46 w ↦
+          let other : (get_or host c.loop-at.at 0 ≡ 46) → ⊥ = rw (← c.as_bytes-bytes.ensures.value) w.if-bytes-at-eq46.false in
+          let dot : eqb (get_or host c.loop-at.at 0) 46 ≡ false = grind (arith, nat_tests, other) in
+          let left = at_no_dot host c.loop-at.at below dot in
+          rw w.search-is record {
+            spots = dot_kept (look first.groups) host c.loop-at.at below _ c.loop-at.spots.items c.if-bytes-at-eq46.spots.items c.loop-at.invariant.spots dot (ap (λ v. v.items) w.spots-is);
+            groups = c.loop-at.invariant.groups;
+            domains = rw left at c.loop-at.invariant.domains;
+            room = rw left at c.loop-at.invariant.room;
+            paths = rw left at c.loop-at.invariant.paths;
+          }
+    ]

@@ -1,0 +1,52 @@
+-- The texts that a URL is looked up by, after RFC 6265 5.1.3 and 5.1.4.
+use Rattle.std.specs.Prelude.{◌≡◌, true, ◌⊎◌, ℕ, zero, suc, ◌+◌, ◌*◌, Bool, ◌||◌, ◌==◌, List, [], ◌∷◌, ◌++◌, length, take, slice_index, nat_eq, count_by, None, Some, if◌then◌else◌}
+use Rattle.std.specs.List.{starts_with}
+use Rattle.url.specs.Parts.{Parts}
+use Rattle.cookie_parts.specs.Hosts.{host_of}
+use Rattle.cookie_laws.specs.Related.{after_dots}
+
+-- 5.1.3: a domain that covers a host is the host, or follows one of its dots
+abbrev pub IsRelated : List ℕ → List ℕ → Type 0
+IsRelated host text = (text ≡ host) ⊎ ((front : List ℕ) × (host ≡ front ++ 46 ∷ text))
+
+-- these texts, from the longest to the shortest
+abbrev pub related_texts : List ℕ → List (List ℕ)
+related_texts host = host ∷ after_dots host
+
+-- those of a URL; without a host there are none
+abbrev pub domain_texts : Parts → List (List ℕ)
+domain_texts url = elim (host_of url) [ None ↦ [] | Some host ↦ related_texts host ]
+
+-- 5.1.4: a path that path-matches begins with `/`, and is the request path, or stands before one of its slashes, or ends with one
+abbrev pub IsPathText : List ℕ → List ℕ → Type 0
+IsPathText path text = (starts_with nat_eq text (47 ∷ []) ≡ true)
+    × ((text ≡ path) ⊎ ((front : List ℕ) × (rest : List ℕ) × (path ≡ front ++ 47 ∷ rest) × ((text ≡ front) ⊎ (text ≡ front ++ 47 ∷ []))))
+
+-- the byte is the last, or a slash, or one follows
+abbrev pub ends_text : List ℕ → ℕ → Bool
+ends_text path at = at + 1 == length path || slice_index path at == 47 || slice_index path (at + 1) == 47
+
+-- the texts that end at one of the first bytes of a path, from the shortest to the longest
+abbrev pub front_texts : List ℕ → ℕ → List (List ℕ)
+front_texts path zero = []
+front_texts path (suc at) = front_texts path at ++ (if ends_text path at then take (suc at) path ∷ [] else [])
+
+-- those of a path that begins with a slash
+abbrev pub path_texts : List ℕ → List (List ℕ)
+path_texts path = if starts_with nat_eq path (47 ∷ []) then front_texts path (length path) else []
+
+-- how many there are
+
+abbrev pub dots : List ℕ → ℕ
+dots text = count_by (λ b. b == 46) text
+
+abbrev pub slashes : List ℕ → ℕ
+slashes text = count_by (λ b. b == 47) text
+
+-- the most look-ups of domains for a URL: one more than the dots of its host
+abbrev pub most_domains : Parts → ℕ
+most_domains url = elim (host_of url) [ None ↦ 0 | Some host ↦ 1 + dots host ]
+
+-- the most look-ups of paths in each domain that is found: one more than twice the slashes of the URL's path
+abbrev pub most_paths : Parts → ℕ
+most_paths url = 1 + 2 * slashes url.path

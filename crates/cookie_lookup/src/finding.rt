@@ -1,0 +1,185 @@
+//! The search.
+ghost use Rattle.std.specs.List.{flat_map};
+ghost use Rattle.std.specs.Prelude.{◌≡◌, ◌≢◌, ◌≤◌, ◌<◌, ◌+◌, ◌*◌, ◌^◌, [], ◌++◌, ◌∷◌, length, IfOk, OnErr, OnOk};
+ghost use Rattle.cookie_words.specs.Moments.{moment_of};
+ghost use Rattle.cookie_laws.specs.Given.{is_given};
+ghost use Rattle.cookie_lookup.specs.Seen.{at_domain, at_path, given_spots, how_many_found, row_spots, rows_in, under};
+ghost use Rattle.cookie_lookup.specs.Texts.{domain_texts, dots, ends_text, most_domains, most_paths, path_texts, related_texts};
+
+use crate::given::is_given;
+use crate::laws;
+use crate::search::Search;
+use jiff::civil::DateTime;
+use std::alloc::{AllocError, Global};
+use url::Url;
+
+/// Where the rows stand that are given for the URL at the moment, RFC 6265 5.4, in their order: the position of the domain's group,
+/// in it that of the path's, and in it that of the row. Each text that the URL is looked up by is looked up at most once in a
+/// group. Memory is wanted only where there is such a row.
+pub fn found<S: Search>(
+    alloc: Global,
+    search: &mut S,
+    url: &Url,
+    now: DateTime,
+) -> Result<Vec<(usize, usize, usize)>, AllocError>
+    requires domains { (S.seen search.old).domains ≡ 0 }
+    requires paths { (S.seen search.old).paths ≡ 0 }
+    ensures spots { IfOk result (λ spots. spots.items ≡ given_spots url.now (moment_of now) (S.seen search.old).groups) }
+    ensures groups { (S.seen search.new).groups ≡ (S.seen search.old).groups }
+    ensures domains { (S.seen search.new).domains ≤ most_domains url.now }
+    ensures paths { (S.seen search.new).paths
+        ≤ how_many_found (S.seen search.old).groups (domain_texts url.now) * most_paths url.now }
+    ensures memory { OnErr result (given_spots url.now (moment_of now) (S.seen search.old).groups ≢ []) }
+{
+    laws::looked_up();
+    let mut spots = Vec::new(alloc);
+    if let Some(host) = url.host_str() {
+        // No text is longer than half of what can be addressed, so that the counts stay in their range.
+        let _ = host.as_bytes();
+        let _ = url.path().as_bytes();
+        push_domains(search, host, url, now, &mut spots)?;
+        spots.sort_unstable();
+    }
+    Ok(spots)
+}
+
+// Adds the spots under the texts that the host is looked up by, from the longest text to the shortest.
+fn push_domains<S: Search>(
+    search: &mut S,
+    host: &str,
+    url: &Url,
+    now: DateTime,
+    spots: &mut Vec<(usize, usize, usize)>,
+) -> Result<(), AllocError>
+    requires domains { (S.seen search.old).domains + (1 + dots host.now) < 2 ^ 128 }
+    requires paths { (S.seen search.old).paths + (1 + dots host.now) * most_paths url.now < 2 ^ 128 }
+    ensures spots { OnOk result (spots.new.items ≡ spots.old.items
+        ++ flat_map (at_domain (is_given url.now (moment_of now)) (S.seen search.old).groups (path_texts url.now.path)) (related_texts host.now)) }
+    ensures groups { (S.seen search.new).groups ≡ (S.seen search.old).groups }
+    ensures domains { (S.seen search.new).domains ≤ (S.seen search.old).domains + (1 + dots host.now) }
+    ensures paths { (S.seen search.new).paths
+        ≤ (S.seen search.old).paths + how_many_found (S.seen search.old).groups (related_texts host.now) * most_paths url.now }
+    ensures memory { OnErr result
+        (flat_map (at_domain (is_given url.now (moment_of now)) (S.seen search.old).groups (path_texts url.now.path)) (related_texts host.now) ≢ []) }
+{
+    push_domain(search, host, url, now, spots)?;
+    let bytes = host.as_bytes();
+    for at in 0..bytes.len() {
+        if bytes[at] == b'.' {
+            push_domain(search, &host[at + 1..], url, now, spots)?;
+        }
+    }
+    Ok(())
+}
+
+// Adds the spots under the text of a domain.
+fn push_domain<S: Search>(
+    search: &mut S,
+    text: &str,
+    url: &Url,
+    now: DateTime,
+    spots: &mut Vec<(usize, usize, usize)>,
+) -> Result<(), AllocError>
+    requires domains { (S.seen search.old).domains + 1 < 2 ^ 128 }
+    requires paths { (S.seen search.old).paths + most_paths url.now < 2 ^ 128 }
+    ensures spots { OnOk result (spots.new.items ≡ spots.old.items
+        ++ at_domain (is_given url.now (moment_of now)) (S.seen search.old).groups (path_texts url.now.path) text.now) }
+    ensures groups { (S.seen search.new).groups ≡ (S.seen search.old).groups }
+    ensures domains { (S.seen search.new).domains ≡ (S.seen search.old).domains + 1 }
+    ensures paths { (S.seen search.new).paths
+        ≤ (S.seen search.old).paths + how_many_found (S.seen search.old).groups (text.now ∷ []) * most_paths url.now }
+    ensures memory { OnErr result
+        (at_domain (is_given url.now (moment_of now)) (S.seen search.old).groups (path_texts url.now.path) text.now ≢ []) }
+{
+    match search.domain(text) {
+        Some(domain) => push_paths(search, domain, url, now, spots),
+        None => Ok(()),
+    }
+}
+
+// Adds the spots in the domain at a position under the texts that the URL's path is looked up by, from the shortest to the longest.
+fn push_paths<S: Search>(
+    search: &mut S,
+    domain: usize,
+    url: &Url,
+    now: DateTime,
+    spots: &mut Vec<(usize, usize, usize)>,
+) -> Result<(), AllocError>
+    requires room { (S.seen search.old).paths + most_paths url.now < 2 ^ 128 }
+    requires domain { domain < length (S.seen search.old).groups }
+    ensures spots { OnOk result (spots.new.items ≡ spots.old.items
+        ++ flat_map (at_path (is_given url.now (moment_of now)) domain (under domain (S.seen search.old).groups)) (path_texts url.now.path)) }
+    ensures groups { (S.seen search.new).groups ≡ (S.seen search.old).groups }
+    ensures domains { (S.seen search.new).domains ≡ (S.seen search.old).domains }
+    ensures paths { (S.seen search.new).paths ≤ (S.seen search.old).paths + most_paths url.now }
+    ensures memory { OnErr result
+        (flat_map (at_path (is_given url.now (moment_of now)) domain (under domain (S.seen search.old).groups)) (path_texts url.now.path) ≢ []) }
+{
+    let path = url.path();
+    let bytes = path.as_bytes();
+    if bytes.starts_with(b"/") {
+        for at in 0..bytes.len() {
+            if ends_text(bytes, at) {
+                push_path(search, domain, &path[..at + 1], url, now, spots)?;
+            }
+        }
+    }
+    Ok(())
+}
+
+// Whether the byte is the last, or a slash, or one follows.
+fn ends_text(path: &[u8], at: usize) -> bool
+    requires { at < length path.now }
+    ensures { result ≡ ends_text path.now at }
+{
+    at + 1 == path.len() || path[at] == b'/' || path[at + 1] == b'/'
+}
+
+// Adds the spots under the text of a path in the domain at a position.
+fn push_path<S: Search>(
+    search: &mut S,
+    domain: usize,
+    text: &str,
+    url: &Url,
+    now: DateTime,
+    spots: &mut Vec<(usize, usize, usize)>,
+) -> Result<(), AllocError>
+    requires room { (S.seen search.old).paths + 1 < 2 ^ 128 }
+    requires domain { domain < length (S.seen search.old).groups }
+    ensures spots { OnOk result (spots.new.items ≡ spots.old.items
+        ++ at_path (is_given url.now (moment_of now)) domain (under domain (S.seen search.old).groups) text.now) }
+    ensures groups { (S.seen search.new).groups ≡ (S.seen search.old).groups }
+    ensures domains { (S.seen search.new).domains ≡ (S.seen search.old).domains }
+    ensures paths { (S.seen search.new).paths ≡ (S.seen search.old).paths + 1 }
+    ensures memory { OnErr result
+        (at_path (is_given url.now (moment_of now)) domain (under domain (S.seen search.old).groups) text.now ≢ []) }
+{
+    match search.path(domain, text) {
+        Some(path) => push_rows(search, domain, path, url, now, spots),
+        None => Ok(()),
+    }
+}
+
+// Adds the spots of the rows of the current group that are given.
+fn push_rows<S: Search>(
+    search: &S,
+    domain: usize,
+    path: usize,
+    url: &Url,
+    now: DateTime,
+    spots: &mut Vec<(usize, usize, usize)>,
+) -> Result<(), AllocError>
+    ensures spots { OnOk result (spots.new.items ≡ spots.old.items
+        ++ row_spots (is_given url.now (moment_of now)) domain path 0 (rows_in (S.seen search.now).current)) }
+    ensures memory { OnErr result
+        (row_spots (is_given url.now (moment_of now)) domain path 0 (rows_in (S.seen search.now).current) ≢ []) }
+{
+    let mut row = 0;
+    while let Some(cookie) = search.cookie(row) {
+        if is_given(cookie, url, now) {
+            spots.push((domain, path, row))?;
+        }
+        row += 1;
+    }
+    Ok(())
+}

@@ -1,0 +1,53 @@
+-- The passage between a cookie and its saved form.
+use Rattle.std.specs.Prelude.{Option, Some, None, Result, Ok}
+use Rattle.cookie_words.specs.Moments.{Moment}
+use Rattle.cookie_raw.specs.CookieText.{cookie_text}
+use Rattle.cookie_saved.specs.Saved as Saved
+use Rattle.cookie_parts.specs.Cookie.{Row, and_then, raw_cookie}
+use Rattle.cookie_parts.specs.Domain.{DomainValue}
+use Rattle.cookie_parts.specs.Domain as Domain
+use Rattle.cookie_parts.specs.Expiry.{Expiry, AtUtc, SessionEnd}
+use Rattle.cookie_parts.specs.declared.cookie_error.CookieError.{CookieError}
+
+-- the kind and the text of a domain, to be saved
+abbrev pub saved_domain : DomainValue → Saved.Domain
+saved_domain (Domain.HostOnly d) = Saved.host_only d
+saved_domain (Domain.Suffix d) = Saved.suffix d
+saved_domain Domain.NotPresent = Saved.not_present
+saved_domain Domain.Empty = Saved.empty
+
+-- the same, as it was saved
+abbrev pub domain_of_saved : Saved.Domain → DomainValue
+domain_of_saved (Saved.host_only d) = Domain.HostOnly d
+domain_of_saved (Saved.suffix d) = Domain.Suffix d
+domain_of_saved Saved.not_present = Domain.NotPresent
+domain_of_saved Saved.empty = Domain.Empty
+
+-- the moment of an end, if it is at one, to be saved
+abbrev pub saved_end : Expiry → Option Moment
+saved_end (AtUtc end) = Some end
+saved_end SessionEnd = None
+
+-- the same, as it was saved
+abbrev pub end_of_saved : Option Moment → Expiry
+end_of_saved (Some end) = AtUtc end
+end_of_saved None = SessionEnd
+
+-- a cookie in its saved form: the text of the raw cookie, and all else as it is
+abbrev pub saved_of : Row → Saved.Parts Moment
+saved_of cookie = record {
+  raw_cookie = cookie_text cookie.raw;
+  path = cookie.path.text;
+  from_attr = cookie.path.is_from_attribute;
+  domain = saved_domain cookie.domain;
+  ends = saved_end cookie.expires;
+}
+
+-- the cookie of a saved form: what its text reads as, or `Parse`, and all else as it was saved
+abbrev pub cookie_of_saved : Saved.Parts Moment → Result Row CookieError
+cookie_of_saved saved = and_then (raw_cookie saved.raw_cookie) (λ raw. Ok (record {
+  raw = raw;
+  domain = domain_of_saved saved.domain;
+  path = record { text = saved.path; is_from_attribute = saved.from_attr };
+  expires = end_of_saved saved.ends;
+}))

@@ -1,0 +1,141 @@
+-- A map from texts to groups, changed at one text.
+use Rattle.std.proofs.Common.{◌≡◌, ℕ, ◌==◌, Bool, true, false, List, [], ◌∷◌, map, length, refl, ◌∙◌, ap, inl, inr, bytes_eq, Option, Some, None, arith}
+use Rattle.std.specs.Prelude.{string_bytes, String}
+use Rattle.std.specs.String.{string_eq}
+use Rattle.std.specs.List.{AllZip}
+use Rattle.std.specs.Map.{lookup, set_value, remove_entry, values_of}
+use Rattle.std.proofs.lemmas.Bool.{cases_Bool}
+use Rattle.indexmap.specs.IndexMap.{insert_entry}
+use Rattle.cookie_parts.specs.Cookie.{Row}
+use Rattle.cookie_laws.specs.Rows.{removed}
+use Rattle.cookie_rows.specs.Groups.{texts_of, found, put_at, changed_at, is_empty_at, kept, lessened_at}
+
+-- the test of a key by a text
+abbrev pub at_text : {A : Type 0} → List ℕ → String A → Bool
+at_text q k = bytes_eq q (string_bytes k)
+
+module _ {A X : Type 0} where
+  -- a group that stood there was changed, as `put_at` says
+  pub put_set : (f : List X → List X) (q : List ℕ) (es : List (String A × List X)) (v : List X) → Some v ≡ lookup (at_text q) es
+      → texts_of (set_value (at_text q) es (f v)) ≡ put_at f q (texts_of es)
+  put_set f q [] v l = absurd (cc)
+  put_set f q (e ∷ es) v l = elim (cases_Bool (at_text q e.0)) [
+    | inl t ↦ let l' = rw t at l in let same : v ≡ e.1 = cc in rw t (ap (λ x. (string_bytes e.0, f x) ∷ texts_of es) same)
+    | inr t ↦ let l' = rw t at l in rw t (ap (λ xs. (string_bytes e.0, e.1) ∷ xs) (put_set f q es v l'))
+  ]
+
+  -- as `changed_at` says
+  pub changed_set : (f : List X → List X) (q : List ℕ) (es : List (String A × List X)) (v : List X) → Some v ≡ lookup (at_text q) es
+      → texts_of (set_value (at_text q) es (f v)) ≡ changed_at f q (texts_of es)
+  changed_set f q [] v l = absurd (cc)
+  changed_set f q (e ∷ es) v l = elim (cases_Bool (at_text q e.0)) [
+    | inl t ↦ let l' = rw t at l in let same : v ≡ e.1 = cc in rw t (ap (λ x. (string_bytes e.0, f x) ∷ texts_of es) same)
+    | inr t ↦ let l' = rw t at l in rw t (ap (λ xs. (string_bytes e.0, e.1) ∷ xs) (changed_set f q es v l'))
+  ]
+
+  -- what stood there was written again
+  pub same_set : (test : String A → Bool) (es : List (String A × List X)) (v : List X) → Some v ≡ lookup test es → texts_of (set_value test es v) ≡ texts_of es
+  same_set test [] v l = refl
+  same_set test (e ∷ es) v l = elim (cases_Bool (test e.0)) [
+    | inl t ↦ let l' = rw t at l in let same : v ≡ e.1 = cc in rw t (ap (λ x. (string_bytes e.0, x) ∷ texts_of es) same)
+    | inr t ↦ let l' = rw t at l in rw t (ap (λ xs. (string_bytes e.0, e.1) ∷ xs) (same_set test es v l'))
+  ]
+
+  -- a group was made of nothing and put last, as `put_at` says
+  pub put_insert : (f : List X → List X) (q : List ℕ) (k : String A) (es : List (String A × List X)) → string_bytes k ≡ q → None ≡ lookup (at_text q) es
+      → texts_of (insert_entry string_eq es k (f [])) ≡ put_at f q (texts_of es)
+  put_insert f q k [] is l = ap (λ t. (t, f []) ∷ []) is
+  put_insert f q k (e ∷ es) is l =
+      let same : string_eq k e.0 ≡ bytes_eq q (string_bytes e.0) = ap (λ t. bytes_eq t (string_bytes e.0)) is in
+      elim (cases_Bool (at_text q e.0)) [
+        | inl t ↦ let l' = rw t at l in absurd (cc)
+        | inr t ↦ let l' = rw t at l in rw (same, t) (ap (λ xs. (string_bytes e.0, e.1) ∷ xs) (put_insert f q k es is l'))
+      ]
+
+  -- nothing stands there, so nothing is changed
+  pub changed_none : (f : List X → List X) (q : List ℕ) (es : List (String A × List X)) → None ≡ lookup (at_text q) es → texts_of es ≡ changed_at f q (texts_of es)
+  changed_none f q [] l = refl
+  changed_none f q (e ∷ es) l = elim (cases_Bool (at_text q e.0)) [
+    | inl t ↦ let l' = rw t at l in absurd (cc)
+    | inr t ↦ let l' = rw t at l in rw t (ap (λ xs. (string_bytes e.0, e.1) ∷ xs) (changed_none f q es l'))
+  ]
+
+  -- what is found in a group that stands there
+  pub found_some : (f : List X → Option Row) (q : List ℕ) (es : List (String A × List X)) (v : List X) → Some v ≡ lookup (at_text q) es → f v ≡ found f q (texts_of es)
+  found_some f q [] v l = absurd (cc)
+  found_some f q (e ∷ es) v l = elim (cases_Bool (at_text q e.0)) [
+    | inl t ↦ let l' = rw t at l in let same : v ≡ e.1 = cc in rw t (ap f same)
+    | inr t ↦ let l' = rw t at l in rw t (found_some f q es v l')
+  ]
+
+  -- nothing is found where none stands
+  pub found_none : (f : List X → Option Row) (q : List ℕ) (es : List (String A × List X)) → None ≡ lookup (at_text q) es → None ≡ found f q (texts_of es)
+  found_none f q [] l = refl
+  found_none f q (e ∷ es) l = elim (cases_Bool (at_text q e.0)) [
+    | inl t ↦ let l' = rw t at l in absurd (cc)
+    | inr t ↦ let l' = rw t at l in rw t (found_none f q es l')
+  ]
+
+  -- what was written is what stands there
+  pub empty_set : (q : List ℕ) (es : List (String A × List X)) (v w : List X) → Some v ≡ lookup (at_text q) es → (length w == 0) ≡ is_empty_at q (texts_of (set_value (at_text q) es w))
+  empty_set q [] v w l = absurd (cc)
+  empty_set q (e ∷ es) v w l = elim (cases_Bool (at_text q e.0)) [
+    | inl t ↦ rw (t, t) refl
+    | inr t ↦ let l' = rw t at l in rw (t, t) (empty_set q es v w l')
+  ]
+
+  -- where nothing stands, nothing stands empty
+  pub empty_none : (q : List ℕ) (es : List (String A × List X)) → None ≡ lookup (at_text q) es → false ≡ is_empty_at q (texts_of es)
+  empty_none q [] l = refl
+  empty_none q (e ∷ es) l = elim (cases_Bool (at_text q e.0)) [
+    | inl t ↦ let l' = rw t at l in absurd (cc)
+    | inr t ↦ let l' = rw t at l in rw t (empty_none q es l')
+  ]
+
+  -- an entry that was removed
+  pub texts_removed : (q : List ℕ) (es : List (String A × List X)) → texts_of (remove_entry (at_text q) es) ≡ removed (λ g. bytes_eq q g.0) (texts_of es)
+  texts_removed q [] = refl
+  texts_removed q (e ∷ es) = elim (cases_Bool (at_text q e.0)) [
+    | inl t ↦ rw t refl
+    | inr t ↦ rw t (ap (λ xs. (string_bytes e.0, e.1) ∷ xs) (texts_removed q es))
+  ]
+
+  -- the values of a map, without its texts
+  pub values_texts : (es : List (String A × X)) → values_of es ≡ map (λ g. g.1) (texts_of es)
+  values_texts [] = refl
+  values_texts (e ∷ es) = ap (λ xs. e.1 ∷ xs) (values_texts es)
+
+  -- clones of the entries have the same texts and groups
+  pub text_clones : (es fs : List (String A × List X)) → AllZip (λ p q. (string_bytes q.0 ≡ string_bytes p.0) × (q.1 ≡ p.1)) es fs → texts_of fs ≡ texts_of es
+  text_clones [] [] z = refl
+  text_clones [] (f ∷ fs) z = absurd z
+  text_clones (e ∷ es) [] z = absurd z
+  text_clones (e ∷ es) (f ∷ fs) z = ap (λ xs. (string_bytes f.0, f.1) ∷ xs) (text_clones es fs z.1) ∙ ap (λ g. g ∷ texts_of es) (ap (λ t. (t, f.1)) z.0.0 ∙ ap (λ v. (string_bytes e.0, v)) z.0.1)
+
+-- a group that was changed is dropped where nothing is left in it
+module _ {X : Type 0} (f : List X → List X) (q : List ℕ) where
+  -- a group with something in it is kept
+  some_kept : (t : List ℕ) (v : List X) (gs : List (List ℕ × List X)) → (length v == 0) ≡ false → (t, v) ∷ gs ≡ kept t v gs
+  some_kept t [] gs h = absurd (cc)
+  some_kept t (x ∷ xs) gs h = refl
+
+  -- one with nothing in it is not
+  none_kept : (t : List ℕ) (v : List X) (gs : List (List ℕ × List X)) → (length v == 0) ≡ true → gs ≡ kept t v gs
+  none_kept t [] gs h = refl
+  none_kept t (x ∷ xs) gs h = absurd (grind arith)
+
+  -- something is left in the group that was changed
+  pub lessened_some : (gs : List (List ℕ × List X)) → is_empty_at q (changed_at f q gs) ≡ false → changed_at f q gs ≡ lessened_at f q gs
+  lessened_some [] h = refl
+  lessened_some (g ∷ gs) h = elim (cases_Bool (bytes_eq q g.0)) [
+    | inl t ↦ let h' = rw (t, t) at h in rw t (some_kept g.0 (f g.1) gs h')
+    | inr t ↦ let h' = rw (t, t) at h in rw t (ap (λ xs. g ∷ xs) (lessened_some gs h'))
+  ]
+
+  -- nothing is left in it, and it was removed
+  pub lessened_none : (gs : List (List ℕ × List X)) → is_empty_at q (changed_at f q gs) ≡ true → removed (λ g. bytes_eq q g.0) (changed_at f q gs) ≡ lessened_at f q gs
+  lessened_none [] h = refl
+  lessened_none (g ∷ gs) h = elim (cases_Bool (bytes_eq q g.0)) [
+    | inl t ↦ let h' = rw (t, t) at h in rw (t, t) (none_kept g.0 (f g.1) gs h')
+    | inr t ↦ let h' = rw (t, t) at h in rw (t, t) (ap (λ xs. g ∷ xs) (lessened_none gs h'))
+  ]

@@ -1,0 +1,22 @@
+-- What an unknown result says.
+use Rattle.std.proofs.Common.{Result, Ok, Err, OnOk, OnErr}
+
+-- what follows from what holds after success
+pub on_ok_map : {T E P Q : Type 0} (r : Result T E) → (P → Q) → OnOk r P → OnOk r Q
+on_ok_map (Ok x) f h = f h
+on_ok_map (Err e) f h = tt
+
+-- and after an error
+pub on_err_map : {T E P Q : Type 0} (r : Result T E) → (P → Q) → OnErr r P → OnErr r Q
+on_err_map (Ok x) f h = tt
+on_err_map (Err e) f h = f h
+
+-- what holds in any case holds after an error
+pub either_way : {T E P : Type 0} (r : Result T E) → P → OnErr r P
+either_way (Ok x) p = tt
+either_way (Err e) p = p
+
+-- what follows from both
+pub ok_or_err : {T E P Q R : Type 0} (r : Result T E) → OnOk r P → OnErr r Q → (P → R) → (Q → R) → R
+ok_or_err (Ok x) p q f g = f p
+ok_or_err (Err e) p q f g = g q

@@ -1,0 +1,127 @@
+//! The search of the maps.
+ghost use Rattle.std.proofs.Props.{props};
+ghost use Rattle.std.specs.List.{flat_map};
+ghost use Rattle.std.specs.Prelude.{◌≡◌, ◌≢◌, ◌≤◌, ◌*◌, [], map, option_map, slice_get, IfOk, OnErr};
+ghost use Rattle.cookie_words.specs.Moments.{moment_of};
+ghost use Rattle.cookie_laws.specs.Given.{given};
+ghost use Rattle.cookie_lookup.specs.Groups.{flat, AreGroups};
+ghost use Rattle.cookie_lookup.specs.Seen.{domains_found, rows_at, under};
+ghost use Rattle.cookie_lookup.specs.Texts.{most_domains, most_paths};
+ghost use Rattle.cookie_rows.specs.Groups.{texts_of};
+
+use crate::hashing::HashKey;
+use crate::names::Names;
+use crate::paths::Paths;
+use cookie_lookup::{Lookups, Search, found, laws};
+use cookie_parts::Cookie;
+use indexmap::IndexMap;
+use jiff::civil::DateTime;
+use std::alloc::{AllocError, Global};
+use url::Url;
+
+// The maps, how often they were searched, and the group of the path that was found last.
+#[derive(Drop)]
+struct MapSearch<'a> {
+    groups: &'a IndexMap<String, Paths, HashKey>,
+    current: Option<&'a Names>,
+    lookups: Lookups,
+    ghost rows: { AreGroups (texts_of groups.now.entries) } by { Prim.hlevel props },
+}
+
+impl<'a> Search for MapSearch<'a> {
+    ghost use Rattle.cookie_lookup.specs.Seen.{Seen};
+
+    ghost seen = { λ search. record {
+      groups = texts_of search.groups.now.entries;
+      domains = search.lookups.domains;
+      paths = search.lookups.paths;
+      current = option_map (λ names. names.now) search.current;
+    } };
+
+    fn domain(&mut self, text: &str) -> Option<usize> {
+        self.lookups.domains += 1;
+        self.groups.get_index_of(text)
+    }
+
+    fn path(&mut self, domain: usize, text: &str) -> Option<usize> {
+        self.lookups.paths += 1;
+        let (_, paths) = self.groups.get_index(domain)?;
+        let (place, names) = paths.find(text)?;
+        self.current = Some(names);
+        Some(place)
+    }
+
+    fn cookie(&self, row: usize) -> Option<&Cookie<'static>> {
+        self.current?.row(row)
+    }
+
+    ghost are_groups = { λ search. search.rows };
+}
+
+/// The rows that are given for the URL at the moment, in their order, and how often the maps were searched for them. Memory is
+/// wanted only where there is one.
+pub(crate) fn searched<'a>(
+    groups: &'a IndexMap<String, Paths, HashKey>,
+    alloc: Global,
+    url: &Url,
+    now: DateTime,
+) -> Result<(Vec<&'a Cookie<'static>>, Lookups), AllocError>
+    requires { AreGroups (texts_of groups.now.entries) }
+    ensures given { IfOk result
+        (λ found. map (λ c. c.now) found.0.items ≡ given url.now (moment_of now) (flat (texts_of groups.now.entries))) }
+    ensures domains { IfOk result (λ found. found.1.domains ≤ most_domains url.now) }
+    ensures paths { IfOk result
+        (λ found. found.1.paths ≤ domains_found url.now (flat (texts_of groups.now.entries)) * most_paths url.now) }
+    ensures memory { OnErr result (given url.now (moment_of now) (flat (texts_of groups.now.entries)) ≢ []) }
+{
+    laws::rows_at_spots();
+    let mut search = MapSearch {
+        groups,
+        current: None,
+        lookups: Lookups {
+            domains: 0,
+            paths: 0,
+        },
+    };
+    let spots = found(alloc, &mut search, url, now)?;
+    let cookies = rows_at(groups, alloc, &spots)?;
+    Ok((cookies, search.lookups))
+}
+
+// The rows at these spots.
+fn rows_at<'a>(
+    groups: &'a IndexMap<String, Paths, HashKey>,
+    alloc: Global,
+    spots: &[(usize, usize, usize)],
+) -> Result<Vec<&'a Cookie<'static>>, AllocError>
+    ensures rows { IfOk result
+        (λ cookies. map (λ c. c.now) cookies.items ≡ flat_map (rows_at (texts_of groups.now.entries)) spots.now) }
+    ensures memory { OnErr result (flat_map (rows_at (texts_of groups.now.entries)) spots.now ≢ []) }
+{
+    let mut cookies = Vec::new(alloc);
+    for spot in spots {
+        if let Some(cookie) = row_at(groups, spot.0, spot.1, spot.2) {
+            cookies.push(cookie)?;
+        }
+    }
+    Ok(cookies)
+}
+
+// The row at a spot.
+fn row_at<'a>(
+    groups: &'a IndexMap<String, Paths, HashKey>,
+    domain: usize,
+    path: usize,
+    row: usize,
+) -> Option<&'a Cookie<'static>>
+    ensures { option_map (λ c. c.now) result
+        ≡ slice_get (under path (under domain (texts_of groups.now.entries))) row }
+{
+    match groups.get_index(domain) {
+        Some((_, paths)) => match paths.at(path) {
+            Some(names) => names.row(row),
+            None => None,
+        },
+        None => None,
+    }
+}

@@ -1,0 +1,115 @@
+//! Cookies as lines of JSON.
+ghost use Rattle.std.specs.Prelude.{◌≡◌, ◌⊎◌, ◌-◌, ◌^◌, ◌<◌, filter, option_map, Err, IfErr, IfOk, Ok, OnOk};
+ghost use Rattle.std.specs.Io.KnownBytes.{IsAtEnd};
+ghost use Rattle.serde_json.specs.View.{view};
+ghost use Rattle.cookie_words.specs.Moments.{moment_of};
+ghost use Rattle.cookie_saved.specs.ReadTrees.{saved_at};
+ghost use Rattle.cookie_saved.specs.WrittenTrees.{is_early};
+ghost use Rattle.cookie_parts.specs.Passage.{saved_of};
+ghost use Rattle.cookie_store.specs.JsonLines.{tree_cookie, MakesJson, SaysJson};
+ghost use Rattle.cookie_store.specs.Loading.{BuildsFrom, FailsToLoad, ReadsEachOnce};
+ghost use Rattle.cookie_store.specs.Saving.{is_among, FailsToSave, WritesRows};
+
+use crate::loading::load_rows;
+use crate::saving::save_rows;
+use cookie_device::{Sink, Source};
+use cookie_parts::{Cookie, CookieExpiration, Error};
+use cookie_rows::Rows;
+use cookie_saved::{SavedError, from_value, laws, to_value};
+use jiff::civil::DateTime;
+use serde_json::Value;
+use std::alloc::Global;
+
+/// Writes the saved form of each row as JSON and a line feed: of those that are saved at the moment, or of all where there is none.
+pub(crate) fn save_json_rows<W: Sink>(
+    alloc: Global,
+    rows: &Rows,
+    sink: &mut W,
+    now: Option<DateTime>,
+) -> Result<(), Error>
+    requires writable { W.failed sink.old < 2 ^ 64 - 1 }
+    ensures whole { OnOk result (WritesRows SaysJson (filter (is_among (option_map moment_of now)) rows.now)
+        (W.contents sink.old) (W.contents sink.new)) }
+    ensures count { OnOk result (W.failed sink.new ≡ W.failed sink.old) }
+    ensures stopped { IfErr result (λ error. FailsToSave SaysJson error
+        (filter (is_among (option_map moment_of now)) rows.now)
+        (W.contents sink.old) (W.contents sink.new) (W.failed sink.old) (W.failed sink.new)) }
+{
+    let text_of = |cookie: &Cookie<'_>| -> Result<String, Error>
+        ensures { SaysJson cookie.now result }
+    { json_line(alloc, cookie) };
+    save_rows(rows, sink, text_of, now)
+}
+
+// The saved form of the cookie as JSON without a space. An end before the year 0 is refused `Saved(Moment)`, and no memory is
+// wanted before that.
+fn json_line(alloc: Global, cookie: &Cookie<'_>) -> Result<String, Error>
+    ensures { SaysJson cookie.now result }
+{
+    if ends_early(cookie) {
+        return Err(Error::Saved(SavedError::Moment));
+    }
+    laws::trees_are_plain();
+    let saved = cookie.to_saved(alloc)?;
+    let tree = to_value(alloc, &saved)?;
+    Ok(tree.to_string(alloc)?)
+}
+
+// Whether the cookie ends before the year 0.
+fn ends_early(cookie: &Cookie<'_>) -> bool
+    ensures { result ≡ is_early (saved_of cookie.now) }
+{
+    match cookie.expires {
+        CookieExpiration::AtUtc(end) => end.year() < 0,
+        CookieExpiration::SessionEnd => false,
+    }
+}
+
+/// The rows of the cookies whose saved form the lines of the source are, as JSON, all or those that have not ended.
+pub(crate) fn load_json_rows<R: Source>(
+    alloc: Global,
+    source: &mut R,
+    include_expired: bool,
+    now: DateTime,
+) -> Result<Rows, Error>
+    requires readable { R.failed source.old < 2 ^ 64 - 1 }
+    ensures built { IfOk result (λ rows. BuildsFrom MakesJson (R.remaining source.old) include_expired (moment_of now) rows) }
+    ensures read { OnOk result (IsAtEnd (R.remaining source.new) × (R.failed source.new ≡ R.failed source.old)) }
+    ensures failed { IfErr result (λ error. FailsToLoad MakesJson error
+        (R.remaining source.old) (R.remaining source.new) (R.failed source.old) (R.failed source.new)
+        (R.reads_left source.old) (R.reads_left source.new)) }
+    ensures reads { ReadsEachOnce (R.remaining source.old) (R.reads_left source.old) (R.reads_left source.new) }
+{
+    load_rows(
+        alloc,
+        source,
+        |line: &str| -> Result<Cookie<'_>, Error>
+            ensures { MakesJson line.now result }
+        { cookie_of_json_line(alloc, line) },
+        include_expired,
+        now,
+    )
+}
+
+// The cookie whose saved form the line is, as JSON. `Saved(Json)` where it is no JSON, and else what its tree is refused for.
+// Want of memory comes before a refusal only where the tree found no room.
+fn cookie_of_json_line(alloc: Global, line: &str) -> Result<Cookie<'static>, Error>
+    ensures { MakesJson line.now result }
+{
+    match Value::from_str(alloc, line) {
+        Ok(tree) => cookie_of_tree(alloc, &tree),
+        Err(error) if error.is_memory() => Err(Error::Memory),
+        Err(_) => Err(Error::Saved(SavedError::Json)),
+    }
+}
+
+// The cookie whose saved form the tree is: `Saved(Shape)` or `Saved(Moment)` where it is none, and `Cookie(Parse)` where the text
+// of the raw cookie is none. A fault of the form is told whatever memory is left.
+fn cookie_of_tree(alloc: Global, tree: &Value) -> Result<Cookie<'static>, Error>
+    ensures cookie { IfOk result (λ cookie. tree_cookie (view tree.now) ≡ Ok cookie) }
+    ensures refused { IfErr result (λ error. (error ≡ Error.Memory) ⊎ (tree_cookie (view tree.now) ≡ Err error)) }
+    ensures early { (fault : SavedError) → saved_at (view tree.now) ≡ Err fault → result ≡ Err (Error.Saved fault) }
+{
+    let saved = from_value(alloc, tree)?;
+    Cookie::from_saved(alloc, saved)
+}

@@ -1,0 +1,113 @@
+//! How often the maps of a store are searched for the cookies of a URL.
+use crate::checks::is_equal;
+use crate::steps::{INSERTED, Step, new_year, take_all};
+use crate::texts::{header, url};
+use cookie_store::{CookieStore, Lookups};
+use std::alloc::Global;
+use std::process::Abort;
+
+const DEEP: &str = "http://a.b.example.com/x/y/z";
+
+const FLAT: &str = "http://example.com/x/";
+
+const ROWS: [Step; 6] = [
+    Step::Set(DEEP, "c=3; Path=/x", INSERTED),
+    Step::Set(DEEP, "a=1; Domain=example.com; Path=/", INSERTED),
+    Step::Set(DEEP, "b=2; Domain=b.example.com; Path=/x/y/z", INSERTED),
+    Step::Set("http://other.org/x/", "d=4; Path=/x/", INSERTED),
+    Step::Set("http://other.org/x/", "e=5", INSERTED),
+    Step::Set("http://other.org/x/", "f=6; Path=/", INSERTED),
+];
+
+// What is given for a URL, and how often domains and paths are looked up for it, at least and at most.
+#[derive(Clone, Copy, Debug)]
+struct Wanted {
+    from: &'static str,
+    given: &'static str,
+    least: (u128, u128),
+    most: (u128, u128),
+}
+
+const COUNTED: [Wanted; 5] = [
+    Wanted {
+        from: DEEP,
+        given: "c=3; a=1; b=2",
+        least: (3, 3),
+        most: (4, 21),
+    },
+    Wanted {
+        from: "http://other.org/x/",
+        given: "d=4; e=5; f=6",
+        least: (1, 3),
+        most: (2, 5),
+    },
+    Wanted {
+        from: FLAT,
+        given: "a=1",
+        least: (1, 1),
+        most: (2, 5),
+    },
+    Wanted {
+        from: "http://nothing.net/x/y",
+        given: "",
+        least: (1, 0),
+        most: (2, 0),
+    },
+    Wanted {
+        from: "data:x",
+        given: "",
+        least: (0, 0),
+        most: (0, 0),
+    },
+];
+
+// They are no fewer and no more.
+fn are_between(rt: &impl Abort, counted: Lookups, wanted: &Wanted) {
+    let (least, most) = (wanted.least, wanted.most);
+    let domains = least.0 <= counted.domains && counted.domains <= most.0;
+    let paths = least.1 <= counted.paths && counted.paths <= most.1;
+    is_equal(rt, &(domains && paths), &true, &(counted, wanted));
+}
+
+fn counted(rt: &impl Abort, alloc: Global, store: &CookieStore, wanted: &Wanted) -> Lookups {
+    let url = url(rt, alloc, wanted.from);
+    let found = store.matches_counted(&url, new_year());
+    let (cookies, counted) = found.expect(rt, "memory");
+    let header = header(rt, alloc, cookies.as_slice());
+    is_equal(rt, &header.as_str(), &wanted.given, wanted);
+    counted
+}
+
+// Rows of other hosts beside those of the table.
+fn rows_beside(rt: &impl Abort, alloc: Global) -> CookieStore {
+    let mut store = CookieStore::new(alloc);
+    for number in 0..1_000 {
+        let address = format!(in alloc; "http://h{number}.org/").expect(rt, "memory");
+        let url = url(rt, alloc, address.as_str());
+        let reply = store.parse("k=1", &url, new_year());
+        is_equal(rt, &reply, &INSERTED, &number);
+    }
+    store
+}
+
+#[test]
+fn few_texts_are_looked_up(rt: HostRuntime) {
+    let mut store = CookieStore::new(rt.alloc());
+    take_all(&rt, rt.alloc(), &mut store, &ROWS, new_year());
+    for wanted in &COUNTED {
+        let counted = counted(&rt, rt.alloc(), &store, wanted);
+        are_between(&rt, counted, wanted);
+    }
+}
+
+#[test]
+fn rows_beside_cost_no_look_up(rt: HostRuntime) {
+    let (mut store, mut full) = (CookieStore::new(rt.alloc()), rows_beside(&rt, rt.alloc()));
+    take_all(&rt, rt.alloc(), &mut store, &ROWS, new_year());
+    take_all(&rt, rt.alloc(), &mut full, &ROWS, new_year());
+    for wanted in &COUNTED {
+        let alone = counted(&rt, rt.alloc(), &store, wanted);
+        let beside = counted(&rt, rt.alloc(), &full, wanted);
+        is_equal(&rt, &beside, &alone, wanted);
+    }
+}
