@@ -3,7 +3,7 @@
 #![tactic(auto)]
 
 use cookie_store::device::Counted;
-use cookie_store::{Bulk, Cookie, CookieStore, Error, RawCookie};
+use cookie_store::{Bulk, CookieStore, Error, RawCookie, serde};
 use jiff::civil::{DateTime, date};
 use log::Log;
 use std::alloc::Global;
@@ -11,7 +11,7 @@ use std::fs::{self, Files};
 use url::{ParseError, Url};
 
 /// The file that the cookies are kept in between two runs.
-const FILE: &str = "cookies.txt";
+const FILE: &str = "cookies.json";
 
 /// The headers of a response.
 const HEADERS: [(&str, &str); 4] = [
@@ -69,14 +69,10 @@ impl Session {
         Ok(header)
     }
 
-    /// Writes the cookies that outlast the session, each as a line.
+    /// Writes the cookies that outlast the session as a list in JSON.
     fn save<F: Files>(&self, files: &F, now: DateTime) -> Result<(), Error> {
         let file = fs::create(files, FILE).map_err(|_| Error::Io)?;
-        self.store.save(
-            &mut Counted::new(file),
-            |cookie| Ok(cookie.raw().to_text(self.alloc)?),
-            now,
-        )
+        serde::json::save(&self.store, &mut Counted::new(file), now)
     }
 
     /// A session with the cookies that an earlier one saved.
@@ -87,12 +83,7 @@ impl Session {
         now: DateTime,
     ) -> Result<Session, Error> {
         let file = fs::open(files, FILE).map_err(|_| Error::Io)?;
-        let store = CookieStore::load(
-            alloc,
-            &mut Counted::new(file),
-            |line| Ok(Cookie::parse(alloc, line, &site, now)?),
-            now,
-        )?;
+        let store = serde::json::load(alloc, &mut Counted::new(file), now)?;
         Ok(Session { alloc, site, store })
     }
 }

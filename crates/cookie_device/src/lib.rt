@@ -7,8 +7,10 @@ mod counted;
 mod device;
 mod lines;
 mod output;
+mod reading;
 
 pub use counted::Counted;
 pub use device::{DeviceFailed, Sink, Source, write_all, write_line};
 pub use lines::{FillError, LineBuffer};
 pub use output::Output;
+pub use reading::read_all;

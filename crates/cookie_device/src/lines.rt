@@ -7,6 +7,7 @@ ghost use Rattle.cookie_device.specs.FillError.{CountsRead};
 ghost use Rattle.cookie_device.specs.Lines.{EndsLine, IsLastLine};
 
 use crate::device::{DeviceFailed, Source};
+use crate::reading::{READ_LIMIT, read_more};
 use std::alloc::{AllocError, Global};
 use std::marker::Model;
 
@@ -65,7 +66,7 @@ impl Model for LineBuffer {
 
 impl LineBuffer {
     /// The most bytes that one read gives.
-    pub const READ_LIMIT: usize = 4_096;
+    pub const READ_LIMIT: usize = READ_LIMIT;
 
     /// Nothing is at hand, and no memory is taken yet.
     pub fn new(alloc: Global) -> LineBuffer
@@ -140,11 +141,7 @@ impl LineBuffer {
         remove_front(&mut self.bytes, self.start);
         self.start = 0;
         self.scanned = self.bytes.len();
-        self.bytes.reserve(LineBuffer::READ_LIMIT)?;
-        let mut chunk = [0; LineBuffer::READ_LIMIT];
-        let count = source.read(&mut chunk)?;
-        self.bytes.extend_from_slice(&chunk[..count]).unwrap();
-        Ok(count > 0)
+        read_more(&mut self.bytes, source)
     }
 }
 

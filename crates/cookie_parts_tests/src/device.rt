@@ -1,6 +1,7 @@
 use crate::checks::{holds, is_equal};
 use cookie_device::{
-    Counted, DeviceFailed, FillError, LineBuffer, Output, Sink, Source, write_all, write_line,
+    Counted, DeviceFailed, FillError, LineBuffer, Output, Sink, Source, read_all, write_all,
+    write_line,
 };
 use cookie_fakes::Fake;
 use std::alloc::Global;
@@ -103,6 +104,33 @@ fn long_line(alloc: Global, behind: &[u8]) -> Result<Vec<u8>, Fail> {
     let mut text = vec![in alloc; b'x'; 20_000]?;
     text.extend_from_slice(behind)?;
     Ok(text)
+}
+
+// All bytes come by reads of at most `most` bytes, unless one fails.
+fn all_come(rt: &impl Abort, alloc: Global, input: &[u8], most: usize, fails_at: usize) {
+    let mut source = Counted::new(Fake::new(input, most, fails_at));
+    match read_all(alloc, &mut source) {
+        Ok(bytes) => is_equal(rt, bytes.as_slice(), input, &(most, fails_at)),
+        Err(fault) => holds(
+            rt,
+            fault == FillError::Read && fails_at > 0,
+            &(most, fails_at),
+        ),
+    }
+    let failures = u64::from(fails_at > 0);
+    holds(rt, source.failures() == failures, &(most, fails_at));
+}
+
+#[test]
+fn all_bytes_come(rt: HostRuntime) -> Result<(), Fail> {
+    let input = long_line(rt.alloc(), b"\nshort")?;
+    for most in [1_000, 4_095, 5_000] {
+        for fails_at in 0..5 {
+            all_come(&rt, rt.alloc(), input.as_slice(), most, fails_at);
+        }
+    }
+    all_come(&rt, rt.alloc(), b"", 1, 0);
+    Ok(())
 }
 
 #[test]

@@ -83,6 +83,18 @@ fn fill(rt: HostRuntime) -> Result<(), Fail> {
     Ok(())
 }
 
+#[test]
+fn read_all(rt: HostRuntime) -> Result<(), Fail> {
+    start(rt.alloc())?;
+    let mut source = Counted::new(b"all".as_slice());
+    let is_whole = match cookie_device::read_all(rt.alloc(), &mut source) {
+        Ok(bytes) => bytes.as_slice() == b"all".as_slice(),
+        Err(fault) => fault == FillError::Memory,
+    };
+    holds(&rt, is_whole, &"all bytes");
+    Ok(())
+}
+
 // Whether a byte that is put stays in the output.
 fn gathers(alloc: Global, output: &mut Output) -> Result<bool, Fail> {
     let mut sink = Counted::new(Vec::new(alloc));

@@ -4,4 +4,5 @@ pub mod MomentText
 pub mod ReadTrees
 pub mod Saved
 pub mod Shape
+pub mod Texts
 pub mod WrittenTrees

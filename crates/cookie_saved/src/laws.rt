@@ -1,8 +1,8 @@
 //! Laws of saved cookies, over their definitions alone.
 ghost use Rattle.std.specs.Option.{ok_or};
-ghost use Rattle.std.specs.Prelude.{◌≡◌, ◌≤◌, ◌≤ℤ◌, ℕ, pos, false, Err, List, map, Ok, Some};
+ghost use Rattle.std.specs.Prelude.{◌≡◌, ◌≤◌, ◌≤ℤ◌, ℕ, pos, false, Err, List, [], ◌∷◌, ◌++◌, map, Ok, Some};
 ghost use Rattle.serde_json.specs.Data.{Data, depth};
-ghost use Rattle.serde_json.specs.Read.{max_depth};
+ghost use Rattle.serde_json.specs.Read.{max_depth, read};
 ghost use Rattle.serde_json.specs.Written.{has_float};
 ghost use Rattle.cookie_words.specs.Moments.{moment_of, Moment};
 ghost use Rattle.cookie_saved.specs.MomentText.{moment_at, moment_text, whole_seconds};
@@ -63,4 +63,9 @@ pub fn list_shapes_are_read()
         → (parts : List (Parts (List ℕ))) × HasListShape tree parts × (all_with_moment parts ≡ Some list) }
     ensures refused { (tree : Data) → ((parts : List (Parts (List ℕ))) → ¬ HasListShape tree parts)
         → list_at tree ≡ Err Fault.Shape }
+{}
+
+/// A line feed behind a text changes nothing in what JSON reads of it.
+pub fn line_feeds_are_blank()
+    ensures { (text : List ℕ) → read (text ++ 10 ∷ []) ≡ read text }
 {}

@@ -1,4 +1,6 @@
+pub mod CutRows
 pub mod EarlyRefusals
+pub mod ListedRows
 pub mod LoadedAlike
 pub mod LoadedLines
 pub mod LongerRuns

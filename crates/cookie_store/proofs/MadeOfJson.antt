@@ -1,6 +1,9 @@
--- What is made of a line of JSON.
+-- What is made of a line of JSON, and of a list.
 use Rattle.std.proofs.Common.{◌≡◌, ℕ, List, [], Result, Ok, Err, Some, None, inl, inr, refl, sym, ◌∙◌, ap}
 use Rattle.std.specs.Prelude.{◌≢◌, ◌⊎◌, IfOk, IfErr}
+use Rattle.std.specs.Result.{result_map_both}
+use Rattle.std.specs.declared.alloc.Global.{Global}
+use Rattle.std.specs.declared.vec.Vec.{Vec}
 use Rattle.serde_json.proofs.OnLiterals.{serde_json_on_literals}
 use Rattle.serde_json.specs.Data.{Data}
 use Rattle.serde_json.specs.Read.{read}
@@ -8,6 +11,7 @@ use Rattle.cookie_parts.specs.Cookie.{Row}
 use Rattle.cookie_parts.specs.declared.error.Error.{Error}
 use Rattle.cookie_parts.specs.declared.error.Error.TheVariants.{Memory}
 use Rattle.cookie_store.specs.JsonLines.{json_cookie, tree_cookie, MakesJson}
+use Rattle.cookie_store.specs.JsonLists.{json_cookies, tree_cookies, MakesJsonList}
 
 of_tree : (line : List ℕ) (tree : Data) → read line ≡ Some tree → json_cookie line ≡ tree_cookie tree
 of_tree line tree is = rw (json_cookie, is) refl
@@ -26,3 +30,15 @@ pub tree_makes : (line : List ℕ) (tree : Data) (result : Result Row Error) →
 tree_makes line tree (Ok cookie) is made refused = of_tree line tree is ∙ made
 tree_makes line tree (Err error) is made (inl memory) = inr (memory, some_text line tree is)
 tree_makes line tree (Err error) is made (inr refused) = inl (of_tree line tree is ∙ refused)
+
+of_list_tree : (text : List ℕ) (tree : Data) → read text ≡ Some tree → json_cookies text ≡ tree_cookies tree
+of_list_tree text tree is = rw (json_cookies, is) refl
+
+-- the same of the cookies of a list
+pub tree_makes_list : (text : List ℕ) (tree : Data) (answer : Result (Vec Row Global) Error) → read text ≡ Some tree
+    → IfOk answer (λ cookies. tree_cookies tree ≡ Ok cookies.items)
+    → IfErr answer (λ error. (error ≡ Memory) ⊎ (tree_cookies tree ≡ Err error))
+    → MakesJsonList text (result_map_both (λ cookies. cookies.items) (λ error. error) answer)
+tree_makes_list text tree (Ok cookies) is made refused = of_list_tree text tree is ∙ made
+tree_makes_list text tree (Err error) is made (inl memory) = inr (memory, some_text text tree is)
+tree_makes_list text tree (Err error) is made (inr refused) = inl (of_list_tree text tree is ∙ refused)

@@ -1,8 +1,7 @@
 -- What is written by a function is written by each relation that its answers keep.
-use Rattle.std.proofs.Common.{◌≡◌, ℕ, List, [], ◌∷◌, Option, Result, Ok, Err, inl, inr, OnOk, IfErr}
+use Rattle.std.proofs.Common.{ℕ, List, Option, Result, Ok, Err, inl, inr, OnOk, IfErr}
 use Rattle.std.specs.Borrow.{Bor}
 use Rattle.std.specs.Fn.{FnReturnsAt, Shared}
-use Rattle.std.specs.List.{AllZip}
 use Rattle.std.specs.declared.alloc.Global.{Global}
 use Rattle.std.specs.declared.string.String.{String}
 use Rattle.cookie_parts.specs.Cookie.{Row}

@@ -8,7 +8,10 @@ pub use Rattle.cookie_rows.specs.Building
 pub use Rattle.cookie_rows.specs.Requests
 pub mod CallViews
 pub mod Contents
+pub mod Cuts
 pub mod JsonLines
+pub mod JsonLists
+pub mod Lists
 pub mod Loading
 pub mod Responses
 pub mod Saving

@@ -13,7 +13,7 @@ ghost use Rattle.cookie_store.specs.Loading.{BuildsFrom, FailsToLoad, ReadsEachO
 ghost use Rattle.cookie_store.specs.Responses.{TakesAll, TakesSome};
 ghost use Rattle.cookie_store.specs.Saving.{saved_rows, FailsToSave, WritesRows};
 
-use crate::json::{load_json_rows, save_json_rows};
+use crate::json_lines::{load_json_rows, save_json_rows};
 use crate::loading::load_rows;
 use crate::response::store_each;
 use crate::saving::save_rows;

@@ -6,10 +6,12 @@ mod call;
 mod cookie_store;
 pub mod device;
 mod insertion;
-mod json;
+mod json_lines;
+mod lists;
 mod loading;
 mod response;
 mod saving;
+pub mod serde;
 
 pub use bulk::Bulk;
 pub use call::{Call, Reply, Stopped};

@@ -34,8 +34,8 @@ pub(crate) fn save_rows<W: Sink, F: Fn(&Cookie<'_>) -> Result<String, Error>>(
     Ok(())
 }
 
-// Whether the row is saved at the moment: it has not ended, and ends at one. All are where there is no moment.
-fn is_among(row: &Cookie<'static>, now: &Option<DateTime>) -> bool
+/// Whether the row is saved at the moment: it has not ended, and ends at one. All are where there is no moment.
+pub(crate) fn is_among(row: &Cookie<'static>, now: &Option<DateTime>) -> bool
     ensures { result ≡ is_among (option_map moment_of now.now) row.now }
 {
     match now {

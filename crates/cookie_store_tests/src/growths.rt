@@ -3,7 +3,8 @@ use crate::built::{Came, cookie, items, store_of};
 use crate::calls::{Asked, CALLS, all_calls, are_told, call};
 use crate::checks::{end_of, is_equal};
 use crate::json::{load_json, save_json};
-use crate::loaded::load_cookies;
+use crate::lists::{load_list, save_list};
+use crate::loaded::{cookie_of, load_cookies};
 use crate::responses::raw_cookies;
 use crate::saved::{LASTING, Which};
 use crate::steps::{ENDED, INSERTED, UPDATED, new_year, store_under};
@@ -12,7 +13,7 @@ use cookie_fakes::Fake;
 use cookie_store::device::Counted;
 use cookie_store::{
     Bulk, Call, Cookie, CookieError, CookieStore, Error, HashKey, InsertResult, RawCookie, Reply,
-    RequestCookies, RequestValues,
+    RequestCookies, RequestValues, serde,
 };
 use log::sink::Discard;
 use std::alloc::{AllocError, Global};
@@ -581,4 +582,143 @@ fn loaded_from_json(rt: HostRuntime) {
 #[test]
 fn all_loaded_from_json(rt: HostRuntime) {
     are_loaded_from_json(&rt, rt.alloc(), &Which::All);
+}
+
+fn are_saved_as_a_list(rt: &impl Abort, alloc: Global, which: &Which) {
+    let store = store_of(rt, alloc, &LASTING);
+    let room = Vec::with_capacity(alloc, 1_024).expect(rt, "memory");
+    let fake = Fake::new(room, usize::MAX, 0);
+    start(alloc);
+    let (outcome, failures, written) = save_list(&store, which, fake);
+    end(alloc);
+    is_equal(rt, &failures, &0, which);
+    match &outcome {
+        Ok(()) => is_equal(rt, &written.ends_with(b"  }\n]\n"), &true, which),
+        Err(error) => is_equal(rt, &(error, written.len()), &(&Error::Memory, 0), which),
+    }
+}
+
+#[test]
+fn saved_as_a_list(rt: HostRuntime) {
+    are_saved_as_a_list(&rt, rt.alloc(), &Which::At(new_year()));
+}
+
+#[test]
+fn all_saved_as_a_list(rt: HostRuntime) {
+    are_saved_as_a_list(&rt, rt.alloc(), &Which::All);
+}
+
+const LIST: &[u8] =
+    br#"[{"domain":{"Suffix":"example.com"},"expires":"SessionEnd","path":["/",true],"raw_cookie":"y=1"},
+{"domain":{"HostOnly":"a.b.example.com"},"expires":{"AtUtc":"2100-08-03T00:38:37Z"},"path":["/p",false],"raw_cookie":"u=1"}]
+"#;
+
+fn are_loaded_from_a_list(rt: &impl Abort, alloc: Global, which: &Which) {
+    let fake = Fake::new(LIST, usize::MAX, 0);
+    start(alloc);
+    let (outcome, failures) = load_list(alloc, which, fake);
+    end(alloc);
+    is_equal(rt, &failures, &0, which);
+    match &outcome {
+        Ok(store) => gives(rt, alloc, store, "y=1; u=1", "the loaded rows"),
+        Err(_) => is_equal(rt, &end_of(&outcome), &"memory", which),
+    }
+}
+
+#[test]
+fn loaded_from_a_list(rt: HostRuntime) {
+    are_loaded_from_a_list(&rt, rt.alloc(), &Which::At(new_year()));
+}
+
+#[test]
+fn all_loaded_from_a_list(rt: HostRuntime) {
+    are_loaded_from_a_list(&rt, rt.alloc(), &Which::All);
+}
+
+// An empty text where all rows are handed over, and else an error that is no want of memory.
+fn say_all(alloc: Global, cookies: &Vec<Cookie<'_>>) -> Result<String, Error> {
+    if cookies.len() == LASTING.len() {
+        Ok(String::new(alloc))
+    } else {
+        Err(Error::NotUtf8)
+    }
+}
+
+fn are_handed_over(rt: &impl Abort, alloc: Global, which: &Which) {
+    let store = store_of(rt, alloc, &LASTING);
+    let mut writer = Counted::new(Cursor::new([0; 1]));
+    start(alloc);
+    let outcome = match which {
+        Which::All => serde::save_incl_expired_and_nonpersistent(
+            &store,
+            &mut writer,
+            |cookies| say_all(alloc, cookies),
+        ),
+        Which::At(now) => {
+            serde::save(&store, &mut writer, |cookies| say_all(alloc, cookies), *now)
+        }
+    };
+    end(alloc);
+    if let Err(error) = &outcome {
+        is_equal(rt, error, &Error::Memory, which);
+    }
+}
+
+#[test]
+fn handed_over(rt: HostRuntime) {
+    are_handed_over(&rt, rt.alloc(), &Which::At(new_year()));
+}
+
+#[test]
+fn all_handed_over(rt: HostRuntime) {
+    are_handed_over(&rt, rt.alloc(), &Which::All);
+}
+
+// The cookies of a list of two.
+fn two_cookies(alloc: Global, text: &str) -> Result<Vec<Cookie<'_>>, Error> {
+    let url = url_or_memory(alloc)?;
+    let mut cookies = Vec::with_capacity(alloc, 2)?;
+    for word in text.split(' ') {
+        cookies.push(cookie_of(alloc, word, &url)?)?;
+    }
+    Ok(cookies)
+}
+
+// The URL that they come from, unless memory is wanting.
+fn url_or_memory(alloc: Global) -> Result<Url, Error> {
+    match Url::parse(alloc, FROM) {
+        Ok(url) => Ok(url),
+        Err(_) => Err(Error::Memory),
+    }
+}
+
+fn are_made_at_once(rt: &impl Abort, alloc: Global, which: &Which) {
+    let mut reader = Counted::new(Fake::new(b"y=1 u=1".as_slice(), usize::MAX, 0));
+    start(alloc);
+    let outcome: Result<CookieStore, Error> = match which {
+        Which::All => {
+            serde::load_all(
+                alloc,
+                &mut reader,
+                |text| two_cookies(alloc, text),
+                new_year(),
+            )
+        }
+        Which::At(now) => { serde::load(alloc, &mut reader, |text| two_cookies(alloc, text), *now) }
+    };
+    end(alloc);
+    match &outcome {
+        Ok(store) => gives(rt, alloc, store, "y=1; u=1", "the loaded rows"),
+        Err(_) => is_equal(rt, &end_of(&outcome), &"memory", which),
+    }
+}
+
+#[test]
+fn made_at_once(rt: HostRuntime) {
+    are_made_at_once(&rt, rt.alloc(), &Which::At(new_year()));
+}
+
+#[test]
+fn all_made_at_once(rt: HostRuntime) {
+    are_made_at_once(&rt, rt.alloc(), &Which::All);
 }

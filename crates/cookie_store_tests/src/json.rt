@@ -113,7 +113,7 @@ fn what_is_saved_as_json_loads_again(rt: HostRuntime) {
 }
 
 // How loading ended, by the fault that ended it.
-fn fault_of(outcome: &Result<CookieStore, Error>) -> &'static str {
+pub fn fault_of(outcome: &Result<CookieStore, Error>) -> &'static str {
     match outcome {
         Ok(_) => "none",
         Err(Error::Saved(SavedError::Json)) => "no JSON",

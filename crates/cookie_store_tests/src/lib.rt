@@ -14,6 +14,8 @@ mod insertion;
 #[cfg(test)]
 mod json;
 #[cfg(test)]
+mod lists;
+#[cfg(test)]
 mod loaded;
 #[cfg(test)]
 mod lookups;

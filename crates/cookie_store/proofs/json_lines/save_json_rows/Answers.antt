@@ -1,7 +1,7 @@
 use Rattle.std.proofs.Common.{subst}
 use Rattle.cookie_store.specs.JsonLines.{SaysJson}
 use Rattle.cookie_store.proofs.SavedAlike.{stopped_alike, whole_alike}
-use Rattle.cookie_store.proofs.json.save_json_rows.Goals as goal
+use Rattle.cookie_store.proofs.json_lines.save_json_rows.Goals as goal
 
 pub returns-clause-whole : goal.returns-clause-whole
 returns-clause-whole g c =

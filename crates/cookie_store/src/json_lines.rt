@@ -55,8 +55,8 @@ fn json_line(alloc: Global, cookie: &Cookie<'_>) -> Result<String, Error>
     Ok(tree.to_string(alloc)?)
 }
 
-// Whether the cookie ends before the year 0.
-fn ends_early(cookie: &Cookie<'_>) -> bool
+/// Whether the cookie ends before the year 0.
+pub(crate) fn ends_early(cookie: &Cookie<'_>) -> bool
     ensures { result ≡ is_early (saved_of cookie.now) }
 {
     match cookie.expires {

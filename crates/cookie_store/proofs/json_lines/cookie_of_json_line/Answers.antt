@@ -1,6 +1,6 @@
 use Rattle.serde_json.specs.View.{view}
 use Rattle.cookie_store.proofs.MadeOfJson.{tree_makes}
-use Rattle.cookie_store.proofs.json.cookie_of_json_line.Goals as goal
+use Rattle.cookie_store.proofs.json_lines.cookie_of_json_line.Goals as goal
 
 pub returns-in-Ok : goal.returns-in-Ok
 returns-in-Ok c =

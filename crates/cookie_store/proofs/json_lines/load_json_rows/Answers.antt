@@ -1,7 +1,7 @@
 use Rattle.std.proofs.Common.{subst}
 use Rattle.cookie_store.specs.JsonLines.{MakesJson}
 use Rattle.cookie_store.proofs.LoadedAlike.{loaded_alike}
-use Rattle.cookie_store.proofs.json.load_json_rows.Goals as goal
+use Rattle.cookie_store.proofs.json_lines.load_json_rows.Goals as goal
 
 pub returns-clause-built : goal.returns-clause-built
 returns-clause-built g c =

@@ -1,0 +1,72 @@
+-- Rows whose ends are cut, and what is read of their saved forms.
+use Rattle.std.proofs.Common.{◌≡◌, ℕ, true, List, [], ◌∷◌, ◌++◌, map, Result, Ok, Err, refl, sym, ap, ◌∙◌}
+use Rattle.std.specs.List.{All}
+use Rattle.std.proofs.lemmas.List.Elements.{All-head, All-tail}
+use Rattle.std.specs.declared.alloc.Global.{Global}
+use Rattle.std.specs.declared.string.String.{String}
+use Rattle.std.specs.Prelude.{option_map, string_bytes}
+use Rattle.serde_json.specs.Data.{Data}
+use Rattle.serde_json.specs.Read.{read}
+use Rattle.cookie_saved.specs.ReadTrees.{cut, list_at}
+use Rattle.cookie_saved.specs.WrittenTrees.{list_written}
+use Rattle.cookie_saved.specs.declared.error.SavedError.{SavedError}
+use Rattle.cookie_parts.specs.Cookie.{Row}
+use Rattle.cookie_parts.specs.Expiry.{Expiry, AtUtc, SessionEnd}
+use Rattle.cookie_parts.specs.declared.error.Error.{Error}
+use Rattle.cookie_parts.specs.Passage.{cookie_of_saved, saved_end, saved_of}
+use Rattle.cookie_laws.specs.Rows.{are_rows, key_of}
+use Rattle.cookie_store.specs.Cuts.{cut_end, cut_row, cut_rows, ReadsBack}
+use Rattle.cookie_store.specs.JsonLists.{cookies_of_saved, json_cookies, tree_cookies, SaysJsonList, SaysListTree}
+use Rattle.cookie_store.specs.Saving.{line_text}
+use Rattle.cookie_saved.specs.MomentText.{whole_seconds}
+
+-- a cut end is saved as the end, cut
+end_cut : (end : Expiry) → saved_end (cut_end end) ≡ option_map whole_seconds (saved_end end)
+end_cut (AtUtc end) = refl
+end_cut SessionEnd = refl
+
+-- so is a row
+saved_cut : (row : Row) → saved_of (cut_row row) ≡ cut (saved_of row)
+saved_cut row = rw (end_cut row.expires) refl
+
+module _ (comes_back : (cookie : Row) → ReadsBack cookie → cookie_of_saved (saved_of cookie) ≡ Ok cookie)
+    (blank : (text : List ℕ) → read (text ++ 10 ∷ []) ≡ read text) where
+  -- rows come back from their saved forms, cut
+  cookies_cut : (rows : List Row) → All ReadsBack rows → cookies_of_saved (map cut (map saved_of rows)) ≡ Ok (cut_rows rows)
+  cookies_cut [] all = refl
+  cookies_cut (row ∷ rows) all =
+      let one : cookie_of_saved (cut (saved_of row)) ≡ Ok (cut_row row)
+      = ap cookie_of_saved (sym (saved_cut row)) ∙ comes_back (cut_row row) (All-head ReadsBack row rows all) in
+      rw (one, cookies_cut rows (All-tail ReadsBack row rows all)) refl
+
+  -- of a tree that is read as their forms, cut, they are the cookies
+  tree_comes_back : (rows : List Row) (tree : Data) → All ReadsBack rows → list_at tree ≡ Ok (map cut (map saved_of rows))
+      → tree_cookies tree ≡ Ok (cut_rows rows)
+  tree_comes_back rows tree all is = rw (is, cookies_cut rows all) refl
+
+  -- what is said of them is read so, also with a line feed behind it
+  text_comes_back : (rows : List Row) (told : Result Data SavedError) (text : String Global) → All ReadsBack rows
+      → ((tree : Data) → told ≡ Ok tree → list_at tree ≡ Ok (map cut (map saved_of rows)))
+      → SaysListTree told (Ok text) → json_cookies (line_text text) ≡ Ok (cut_rows rows)
+  text_comes_back rows (Ok tree) text all reads (is, is_read) =
+      rw (json_cookies, blank (string_bytes text) ∙ is_read) (tree_comes_back rows tree all (reads tree refl))
+  text_comes_back rows (Err fault) text all reads says = absurd (cc)
+
+  pub said_comes_back : (rows : List Row) (text : String Global) → All ReadsBack rows
+      → ((tree : Data) → list_written (map saved_of rows) ≡ Ok tree → list_at tree ≡ Ok (map cut (map saved_of rows)))
+      → SaysJsonList rows (Ok text) → json_cookies (line_text text) ≡ Ok (cut_rows rows)
+  said_comes_back rows text all reads says = text_comes_back rows (list_written (map saved_of rows)) text all reads says
+
+-- a cut row has its key
+keys_cut : (rows : List Row) → map key_of (cut_rows rows) ≡ map key_of rows
+keys_cut [] = refl
+keys_cut (row ∷ rows) = ap (λ keys. key_of row ∷ keys) (keys_cut rows)
+
+-- so cut rows are rows of a store
+pub rows_cut : (rows : List Row) → are_rows rows ≡ true → are_rows (cut_rows rows) ≡ true
+rows_cut rows are = rw (keys_cut rows) are
+
+-- the cookies that are answered, if they are
+abbrev pub cookies_in : Result (List Row) Error → List Row
+cookies_in (Ok cookies) = cookies
+cookies_in (Err error) = []

@@ -1,0 +1,90 @@
+-- Rows that are walked to make a list of them, and cookies that come as a list.
+use Rattle.std.proofs.Common.{◌≡◌, ℕ, ◌+◌, Bool, true, List, [], ◌∷◌, ◌++◌, filter, Option, Result, Ok, Err, IfOk, IfErr, OnErr, OnOk, IsTrue, inr, refl, sym, ap, append_assoc, ◌∙◌}
+use Rattle.std.specs.Io.KnownBytes.{Appends}
+use Rattle.std.specs.Prelude.{◌≢◌}
+use Rattle.std.specs.Result.{result_map_both}
+use Rattle.std.specs.Str.{is_utf8}
+use Rattle.std.specs.declared.alloc.Global.{Global}
+use Rattle.std.specs.declared.string.String.{String}
+use Rattle.std.specs.declared.vec.Vec.{Vec}
+use Rattle.cookie_words.specs.Moments.{Moment}
+use Rattle.cookie_device.specs.Device.{AppendsBeginning}
+use Rattle.cookie_saved.specs.Saved.{Parts}
+use Rattle.cookie_parts.specs.Cookie.{Row}
+use Rattle.cookie_parts.specs.Passage.{cookie_of_saved}
+use Rattle.cookie_parts.specs.declared.cookie_error.CookieError.{CookieError}
+use Rattle.cookie_parts.specs.declared.error.Error.{Error}
+use Rattle.cookie_parts.specs.declared.error.Error.TheVariants.{Io}
+use Rattle.cookie_store.specs.JsonLists.{cookies_of_saved, MakesJsonList}
+use Rattle.cookie_store.specs.Lists.{FailsToSaveList, MakesCookies, MakesVec, RefusesText, WritesList}
+use Rattle.cookie_store.specs.Saving.{line_text}
+use Rattle.cookie_store.proofs.SavedLines.{filter_around}
+
+-- a list with an item in it
+with_item : {A : Type 0} (before : List A) (x : A) (after : List A) → before ++ x ∷ after ≢ []
+with_item [] x after is = absurd (cc)
+with_item (y ∷ before) x after is = absurd (cc)
+
+-- a filter keeps something where an item passes
+pub some_kept : {A : Type 0} (kept : A → Bool) (all before : List A) (x : A) (after : List A) → all ≡ before ++ x ∷ after → kept x ≡ true
+    → filter kept all ≢ []
+some_kept kept all before x after is passes none =
+    with_item (filter kept before) x (filter kept after) (sym (ap (filter kept) is ∙ filter_around kept before x after passes) ∙ none)
+
+-- of an error that is the answer holds what holds in any case
+pub on_refusal : {T E P : Type 0} (answer : Result T E) → P → OnErr answer P
+on_refusal (Ok done) holds = tt
+on_refusal (Err error) holds = holds
+
+module _ (makes : List ℕ → Result (Vec Row Global) Error → Type 0) where
+  -- cookies that a function answers for a text are made of it
+  pub made_at_once : (text : List ℕ) (answer : Result (Vec Row Global) Error) → IsTrue (is_utf8 text) → makes text answer
+      → IfOk answer (λ cookies. MakesCookies (MakesVec makes) text cookies.items)
+  made_at_once text (Ok cookies) valid answers = (valid, (Ok cookies, answers, refl))
+  made_at_once text (Err error) valid answers = tt
+
+  -- and with an error it refuses it
+  pub refused_at_once : (text : List ℕ) (answer : Result (Vec Row Global) Error) → IsTrue (is_utf8 text) → makes text answer
+      → IfErr answer (λ error. RefusesText (MakesVec makes) error text)
+  refused_at_once text (Ok cookies) valid answers = tt
+  refused_at_once text (Err error) valid answers = inr (valid, (Err error, answers, refl))
+
+-- the cookies that are made of a list in JSON, or why there are none
+pub json_made : (text : List ℕ) (answer : Result (Vec Row Global) Error) → IsTrue (is_utf8 text)
+    → MakesJsonList text (result_map_both (λ cookies. cookies.items) (λ error. error) answer)
+    → IfOk answer (λ cookies. MakesCookies MakesJsonList text cookies.items)
+json_made text (Ok cookies) valid makes = (valid, makes)
+json_made text (Err error) valid makes = tt
+
+pub json_refused : (text : List ℕ) (answer : Result (Vec Row Global) Error) → IsTrue (is_utf8 text)
+    → MakesJsonList text (result_map_both (λ cookies. cookies.items) (λ error. error) answer)
+    → IfErr answer (λ error. RefusesText MakesJsonList error text)
+json_refused text (Ok cookies) valid makes = tt
+json_refused text (Err error) valid makes = inr (valid, makes)
+
+module _ (says : List Row → Result (String Global) Error → Type 0) (rows : List Row) (text : String Global) (said : says rows (Ok text)) {T : Type 0} where
+  -- the text of the rows was written, and a line feed
+  pub list_written : (answer : Result T Error) (old new : Option (List ℕ)) → OnOk answer (Appends old new (line_text text))
+      → OnOk answer (WritesList says rows old new)
+  list_written (Ok done) old new appended = (text, said, appended)
+  list_written (Err error) old new appended = tt
+
+  -- or a beginning of it
+  pub list_begun : (answer : Result T Error) (old new : Option (List ℕ)) (failures failures' : ℕ)
+      → IfErr answer (λ error. AppendsBeginning old new (line_text text) × (error ≡ Io) × (failures' ≡ failures + 1))
+      → IfErr answer (λ error. FailsToSaveList says error rows old new failures failures')
+  list_begun (Ok done) old new failures failures' begun = tt
+  list_begun (Err error) old new failures failures' (begun, is, count) = inr (text, said, begun, is, count)
+
+-- a cookie that stands before others goes to the end of those before it
+moved_over : (done : List Row) (cookie : Row) (others : Result (List Row) CookieError)
+    → result_map_both (λ cookies. done ++ cookies) (λ fault. fault) (result_map_both (λ cookies. cookie ∷ cookies) (λ fault. fault) others)
+    ≡ result_map_both (λ cookies. (done ++ cookie ∷ []) ++ cookies) (λ fault. fault) others
+moved_over done cookie (Ok cookies) = ap Ok (sym (append_assoc done (cookie ∷ []) cookies))
+moved_over done cookie (Err fault) = refl
+
+-- the cookie of the first form is made
+pub form_done : (done : List Row) (cookie : Row) (form : Parts Moment) (forms : List (Parts Moment)) → cookie_of_saved form ≡ Ok cookie
+    → result_map_both (λ cookies. done ++ cookies) (λ fault. fault) (cookies_of_saved (form ∷ forms))
+    ≡ result_map_both (λ cookies. (done ++ cookie ∷ []) ++ cookies) (λ fault. fault) (cookies_of_saved forms)
+form_done done cookie form forms is = rw is (moved_over done cookie (cookies_of_saved forms))

@@ -1,0 +1,23 @@
+-- Rows that come back from what was saved of them.
+use Rattle.std.specs.Prelude.{◌≡◌, List, map, Ok}
+use Rattle.cookie_raw.specs.CookieText.{cookie_text}
+use Rattle.cookie_raw.specs.Reading.{reading}
+use Rattle.cookie_saved.specs.MomentText.{whole_seconds}
+use Rattle.cookie_parts.specs.Cookie.{Row}
+use Rattle.cookie_parts.specs.Expiry.{Expiry, AtUtc, SessionEnd}
+
+-- the text of its raw cookie reads as that raw cookie
+abbrev pub ReadsBack : Row → Type 0
+ReadsBack row = reading (cookie_text row.raw) ≡ Ok row.raw
+
+-- an end cut to whole seconds
+abbrev pub cut_end : Expiry → Expiry
+cut_end (AtUtc end) = AtUtc (whole_seconds end)
+cut_end SessionEnd = SessionEnd
+
+-- rows whose ends are cut so
+abbrev pub cut_row : Row → Row
+cut_row row = record row { expires = cut_end row.expires }
+
+abbrev pub cut_rows : List Row → List Row
+cut_rows rows = map cut_row rows

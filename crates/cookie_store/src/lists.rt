@@ -1,0 +1,147 @@
+//! Rows that are saved as one text, and made of one.
+ghost use Rattle.std.specs.Prelude.{◌≡◌, ◌≢◌, ◌⊎◌, ◌+◌, ◌-◌, ◌≤◌, ◌^◌, ◌<◌, [], length, filter, option_map, IfErr, IfOk, IfSome, OnErr, OnOk};
+ghost use Rattle.std.specs.Fn.{FnReturnsAt};
+ghost use Rattle.std.specs.Io.KnownBytes.{Appends, IsAtEnd};
+ghost use Rattle.cookie_words.specs.Moments.{moment_of};
+ghost use Rattle.cookie_device.specs.Device.{AppendsBeginning};
+ghost use Rattle.cookie_laws.specs.Rows.{built};
+ghost use Rattle.cookie_store.specs.Lists.{BuildsFromList, FailsToLoadList, FailsToSaveList, IsAll, MakesCookies, MakesVec, RefusesText, SaysOfCopies, StopsWithin, WritesList};
+ghost use Rattle.cookie_store.specs.Loading.{ReadsEachOnce};
+ghost use Rattle.cookie_store.specs.Saving.{is_among, line_text};
+
+use crate::saving::is_among;
+use cookie_device::{FillError, Sink, Source, read_all, write_line};
+use cookie_parts::{Cookie, Error};
+use cookie_rows::Rows;
+use jiff::civil::DateTime;
+use std::alloc::{AllocError, Global};
+
+/// Writes what the function says of copies of the rows, of those that are saved at the moment or of all where there is none, and a
+/// line feed.
+pub(crate) fn save_copies<W: Sink, F: Fn(&Vec<Cookie<'_>>) -> Result<String, Error>>(
+    alloc: Global,
+    rows: &Rows,
+    sink: &mut W,
+    text_of: F,
+    now: Option<DateTime>,
+) -> Result<(), Error>
+    requires callable { F.IsAlwaysCallable text_of }
+    requires writable { W.failed sink.old < 2 ^ 64 - 1 }
+    ensures whole { OnOk result (WritesList (SaysOfCopies (FnReturnsAt F.Fn text_of))
+        (filter (is_among (option_map moment_of now)) rows.now) (W.contents sink.old) (W.contents sink.new)) }
+    ensures count { OnOk result (W.failed sink.new ≡ W.failed sink.old) }
+    ensures stopped { IfErr result (λ error. FailsToSaveList (SaysOfCopies (FnReturnsAt F.Fn text_of)) error
+        (filter (is_among (option_map moment_of now)) rows.now)
+        (W.contents sink.old) (W.contents sink.new) (W.failed sink.old) (W.failed sink.new)) }
+{
+    let copies = copies_of(alloc, rows, &now)?;
+    let text = text_of(&copies)?;
+    write_text(sink, &text)
+}
+
+// Copies of the rows that are saved at the moment, or of all where there is none.
+fn copies_of(
+    alloc: Global,
+    rows: &Rows,
+    now: &Option<DateTime>,
+) -> Result<Vec<Cookie<'static>>, AllocError>
+    ensures copies { IfOk result (λ copies. copies.items ≡ filter (is_among (option_map moment_of now.now)) rows.now) }
+    ensures memory { OnErr result (filter (is_among (option_map moment_of now.now)) rows.now ≢ []) }
+{
+    let mut copies = Vec::new(alloc);
+    for row in rows.iter() {
+        if is_among(row, now) {
+            copies.push(row.clone()?)?;
+        }
+    }
+    Ok(copies)
+}
+
+/// Writes the text and a line feed.
+pub(crate) fn write_text<W: Sink>(sink: &mut W, text: &String) -> Result<(), Error>
+    requires writable { W.failed sink.old < 2 ^ 64 - 1 }
+    ensures whole { OnOk result (Appends (W.contents sink.old) (W.contents sink.new) (line_text text.now)) }
+    ensures count { OnOk result (W.failed sink.new ≡ W.failed sink.old) }
+    ensures stopped { IfErr result (λ error. AppendsBeginning (W.contents sink.old) (W.contents sink.new) (line_text text.now)
+        × (error ≡ Error.Io) × (W.failed sink.new ≡ W.failed sink.old + 1)) }
+{
+    match write_line(sink, text.as_bytes()) {
+        Ok(()) => Ok(()),
+        Err(_) => Err(Error::Io),
+    }
+}
+
+/// The rows of the cookies that the function makes of all that the source gives, all or those that have not ended.
+pub(crate) fn load_list<R: Source, F: Fn(&str) -> Result<Vec<Cookie<'_>>, Error>>(
+    alloc: Global,
+    source: &mut R,
+    cookies_of: F,
+    include_expired: bool,
+    now: DateTime,
+) -> Result<Rows, Error>
+    requires callable { F.IsAlwaysCallable cookies_of }
+    requires readable { R.failed source.old < 2 ^ 64 - 1 }
+    ensures built { IfOk result (λ rows. BuildsFromList (MakesVec (FnReturnsAt F.Fn cookies_of)) (R.remaining source.old)
+        include_expired (moment_of now) rows) }
+    ensures read { OnOk result (IsAtEnd (R.remaining source.new) × (R.failed source.new ≡ R.failed source.old)) }
+    ensures failed { IfErr result (λ error. FailsToLoadList (MakesVec (FnReturnsAt F.Fn cookies_of)) error
+        (R.remaining source.old) (R.remaining source.new) (R.failed source.old) (R.failed source.new)
+        (R.reads_left source.old) (R.reads_left source.new)) }
+    ensures reads { ReadsEachOnce (R.remaining source.old) (R.reads_left source.old) (R.reads_left source.new) }
+{
+    let bytes = read_bytes(alloc, source)?;
+    let cookies = made_of(&bytes, &cookies_of)?;
+    rows_of(alloc, cookies, include_expired, now)
+}
+
+/// All bytes of the source, up to its end.
+pub(crate) fn read_bytes<R: Source>(alloc: Global, source: &mut R) -> Result<Vec<u8>, Error>
+    requires readable { R.failed source.old < 2 ^ 64 - 1 }
+    ensures all { IfOk result (λ bytes. IsAll (R.remaining source.old) bytes.items) }
+    ensures end { OnOk result (IsAtEnd (R.remaining source.new)) }
+    ensures count { OnOk result (R.failed source.new ≡ R.failed source.old) }
+    ensures stopped { IfErr result (λ error.
+        IfSome (R.remaining source.old) (StopsWithin (R.remaining source.new) (R.reads_left source.old) (R.reads_left source.new))
+        × (((error ≡ Error.Io) × (R.failed source.new ≡ R.failed source.old + 1))
+        ⊎ ((error ≡ Error.Memory) × (R.failed source.new ≡ R.failed source.old)))) }
+    ensures reads { ReadsEachOnce (R.remaining source.old) (R.reads_left source.old) (R.reads_left source.new) }
+{
+    match read_all(alloc, source) {
+        Ok(bytes) => Ok(bytes),
+        Err(FillError::Read) => Err(Error::Io),
+        Err(FillError::Memory) => Err(Error::Memory),
+    }
+}
+
+// The cookies that the function makes of the bytes.
+fn made_of<'l, F: Fn(&str) -> Result<Vec<Cookie<'_>>, Error>>(
+    bytes: &'l [u8],
+    cookies_of: &F,
+) -> Result<Vec<Cookie<'l>>, Error>
+    requires { F.IsAlwaysCallable cookies_of.now }
+    ensures made { IfOk result (λ cookies. MakesCookies (MakesVec (FnReturnsAt F.Fn cookies_of.now)) bytes.now cookies.items) }
+    ensures refused { IfErr result (λ error. RefusesText (MakesVec (FnReturnsAt F.Fn cookies_of.now)) error bytes.now) }
+{
+    match str::from_utf8(bytes) {
+        Ok(text) => cookies_of(text),
+        Err(_) => Err(Error::NotUtf8),
+    }
+}
+
+/// The rows of the cookies, put one after the other, all or those that have not ended. Memory is wanted only where there is one.
+pub(crate) fn rows_of(
+    alloc: Global,
+    cookies: Vec<Cookie<'_>>,
+    include_expired: bool,
+    now: DateTime,
+) -> Result<Rows, Error>
+    ensures built { IfOk result (λ rows. rows ≡ built include_expired (moment_of now) cookies.entry.items) }
+    ensures memory { IfErr result (λ error. (error ≡ Error.Memory) × (cookies.entry.items ≢ [])) }
+{
+    let mut rows = Rows::new(alloc);
+    for cookie in cookies {
+        let cookie = cookie.into_owned(alloc)?;
+        rows.take(cookie, include_expired, now)?;
+    }
+    Ok(rows)
+}

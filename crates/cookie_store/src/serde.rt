@@ -1,0 +1,112 @@
+//! A store that is saved as one text, and loaded from one.
+ghost use Rattle.std.specs.Prelude.{◌≡◌, ◌-◌, ◌^◌, ◌<◌, false, true, None, IfErr, IfOk, OnOk};
+ghost use Rattle.std.specs.Fn.{FnReturnsAt};
+ghost use Rattle.std.specs.Io.KnownBytes.{IsAtEnd};
+ghost use Rattle.cookie_words.specs.Moments.{moment_of};
+ghost use Rattle.cookie_store.specs.Lists.{BuildsFromList, FailsToLoadList, FailsToSaveList, MakesVec, SaysOfCopies, WritesList};
+ghost use Rattle.cookie_store.specs.Loading.{ReadsEachOnce};
+ghost use Rattle.cookie_store.specs.Saving.{saved_rows};
+
+use crate::lists::{load_list, save_copies};
+use crate::{Bulk, CookieStore};
+use cookie_device::{Sink, Source};
+use cookie_parts::{Cookie, Error, StoreResult};
+use jiff::civil::DateTime;
+use std::alloc::Global;
+
+pub mod json;
+pub mod laws;
+
+/// Writes what the function says of the cookies that have not ended by the moment and end at one, in the store's order, and a line
+/// feed. The function is handed copies of them, once, before anything is written. Its error, or `Memory` where there was no room for
+/// the copies, ends this, and nothing is written then; or `Io` where the writer failed.
+pub fn save<S: Bulk, W: Sink, F: Fn(&Vec<Cookie<'_>>) -> Result<String, Error>>(
+    store: &S,
+    writer: &mut W,
+    cookies_to_string: F,
+    now: DateTime,
+) -> StoreResult<()>
+    requires callable { F.IsAlwaysCallable cookies_to_string }
+    requires writable { W.failed writer.old < 2 ^ 64 - 1 }
+    ensures whole { OnOk result (WritesList (SaysOfCopies (FnReturnsAt F.Fn cookies_to_string))
+        (saved_rows (moment_of now) (S.contents store.now).rows) (W.contents writer.old) (W.contents writer.new)) }
+    ensures count { OnOk result (W.failed writer.new ≡ W.failed writer.old) }
+    ensures stopped { IfErr result (λ error. FailsToSaveList (SaysOfCopies (FnReturnsAt F.Fn cookies_to_string)) error
+        (saved_rows (moment_of now) (S.contents store.now).rows)
+        (W.contents writer.old) (W.contents writer.new) (W.failed writer.old) (W.failed writer.new)) }
+{
+    let store = store.as_store();
+    save_copies(
+        store.alloc(),
+        store.rows(),
+        writer,
+        cookies_to_string,
+        Some(now),
+    )
+}
+
+/// The same of all cookies, also those that have ended and those that end with the session.
+pub fn save_incl_expired_and_nonpersistent<
+    S: Bulk,
+    W: Sink,
+    F: Fn(&Vec<Cookie<'_>>) -> Result<String, Error>,
+>(store: &S, writer: &mut W, cookies_to_string: F) -> StoreResult<()>
+    requires callable { F.IsAlwaysCallable cookies_to_string }
+    requires writable { W.failed writer.old < 2 ^ 64 - 1 }
+    ensures whole { OnOk result (WritesList (SaysOfCopies (FnReturnsAt F.Fn cookies_to_string)) (S.contents store.now).rows
+        (W.contents writer.old) (W.contents writer.new)) }
+    ensures count { OnOk result (W.failed writer.new ≡ W.failed writer.old) }
+    ensures stopped { IfErr result (λ error. FailsToSaveList (SaysOfCopies (FnReturnsAt F.Fn cookies_to_string)) error
+        (S.contents store.now).rows
+        (W.contents writer.old) (W.contents writer.new) (W.failed writer.old) (W.failed writer.new)) }
+{
+    let store = store.as_store();
+    save_copies(store.alloc(), store.rows(), writer, cookies_to_string, None)
+}
+
+/// A store of the cookies that the function makes of all that the reader gives, each in the place of an earlier one of its domain,
+/// path and name, without a public suffix list. Those that have ended are passed over. Answers `Io` where the reader failed, `NotUtf8`
+/// where the text is no UTF-8, the error that the function answers, or `Memory`, where there was no room for the text or for a
+/// cookie that the function made.
+pub fn load<S: Bulk, R: Source, F: Fn(&str) -> Result<Vec<Cookie<'_>>, Error>>(
+    alloc: Global,
+    reader: &mut R,
+    cookies_from_str: F,
+    now: DateTime,
+) -> StoreResult<S>
+    requires callable { F.IsAlwaysCallable cookies_from_str }
+    requires readable { R.failed reader.old < 2 ^ 64 - 1 }
+    ensures built { IfOk result (λ store. BuildsFromList (MakesVec (FnReturnsAt F.Fn cookies_from_str)) (R.remaining reader.old)
+        false (moment_of now) (S.contents store).rows) }
+    ensures suffixes { IfOk result (λ store. (S.contents store).suffixes ≡ None) }
+    ensures read { OnOk result (IsAtEnd (R.remaining reader.new) × (R.failed reader.new ≡ R.failed reader.old)) }
+    ensures failed { IfErr result (λ error. FailsToLoadList (MakesVec (FnReturnsAt F.Fn cookies_from_str)) error
+        (R.remaining reader.old) (R.remaining reader.new) (R.failed reader.old) (R.failed reader.new)
+        (R.reads_left reader.old) (R.reads_left reader.new)) }
+    ensures reads { ReadsEachOnce (R.remaining reader.old) (R.reads_left reader.old) (R.reads_left reader.new) }
+{
+    let rows = load_list(alloc, reader, cookies_from_str, false, now)?;
+    Ok(S::of_store(CookieStore::of_rows(alloc, rows)))
+}
+
+/// The same, where cookies that have ended are kept. The moment is not looked at.
+pub fn load_all<S: Bulk, R: Source, F: Fn(&str) -> Result<Vec<Cookie<'_>>, Error>>(
+    alloc: Global,
+    reader: &mut R,
+    cookies_from_str: F,
+    now: DateTime,
+) -> StoreResult<S>
+    requires callable { F.IsAlwaysCallable cookies_from_str }
+    requires readable { R.failed reader.old < 2 ^ 64 - 1 }
+    ensures built { IfOk result (λ store. BuildsFromList (MakesVec (FnReturnsAt F.Fn cookies_from_str)) (R.remaining reader.old)
+        true (moment_of now) (S.contents store).rows) }
+    ensures suffixes { IfOk result (λ store. (S.contents store).suffixes ≡ None) }
+    ensures read { OnOk result (IsAtEnd (R.remaining reader.new) × (R.failed reader.new ≡ R.failed reader.old)) }
+    ensures failed { IfErr result (λ error. FailsToLoadList (MakesVec (FnReturnsAt F.Fn cookies_from_str)) error
+        (R.remaining reader.old) (R.remaining reader.new) (R.failed reader.old) (R.failed reader.new)
+        (R.reads_left reader.old) (R.reads_left reader.new)) }
+    ensures reads { ReadsEachOnce (R.remaining reader.old) (R.reads_left reader.old) (R.reads_left reader.new) }
+{
+    let rows = load_list(alloc, reader, cookies_from_str, true, now)?;
+    Ok(S::of_store(CookieStore::of_rows(alloc, rows)))
+}
