@@ -1,14 +1,16 @@
 //! Laws of saved cookies, over their definitions alone.
+ghost use Rattle.std.specs.List.{All};
 ghost use Rattle.std.specs.Option.{ok_or};
-ghost use Rattle.std.specs.Prelude.{◌≡◌, ◌≤◌, ◌≤ℤ◌, ℕ, pos, false, Err, List, [], ◌∷◌, ◌++◌, map, Ok, Some};
+ghost use Rattle.std.specs.Prelude.{◌≡◌, ◌≤◌, ◌≤ℤ◌, ℕ, pos, false, true, Err, List, [], ◌∷◌, ◌++◌, map, Ok, Some};
 ghost use Rattle.serde_json.specs.Data.{Data, depth};
 ghost use Rattle.serde_json.specs.Read.{max_depth, read};
-ghost use Rattle.serde_json.specs.Written.{has_float};
+ghost use Rattle.serde_json.specs.Written.{compact_text, has_float};
 ghost use Rattle.cookie_words.specs.Moments.{moment_of, Moment};
 ghost use Rattle.cookie_saved.specs.MomentText.{moment_at, moment_text, whole_seconds};
 ghost use Rattle.cookie_saved.specs.ReadTrees.{all_with_moment, cut, list_at, saved_at, with_moment};
-ghost use Rattle.cookie_saved.specs.Saved.{Parts, saved_view};
+ghost use Rattle.cookie_saved.specs.Saved.{EndsAtMoment, Parts, saved_view};
 ghost use Rattle.cookie_saved.specs.Shape.{HasListShape, HasShape};
+ghost use Rattle.cookie_saved.specs.Texts.{has_no_control};
 ghost use Rattle.cookie_saved.specs.WrittenTrees.{list_written, written};
 ghost use Rattle.cookie_saved.specs.declared.error.SavedError.TheVariants as Fault;
 ghost use Rattle.cookie_saved.specs.declared.saved.Saved.{Saved};
@@ -22,14 +24,18 @@ pub fn moments_read_back()
 
 /// The tree that a saved cookie is written as is read as that cookie, its end cut to whole seconds.
 pub fn reads_back()
-    ensures { (saved : Saved) (tree : Data) → written (saved_view saved) ≡ Ok tree
-        → saved_at tree ≡ Ok (cut (saved_view saved)) }
+    ensures { (saved : Parts Moment) (tree : Data) → EndsAtMoment saved → written saved ≡ Ok tree → saved_at tree ≡ Ok (cut saved) }
 {}
 
 /// The tree that a list is written as is read as that list, each end cut to whole seconds.
 pub fn list_reads_back()
-    ensures { (list : List Saved) (tree : Data) → list_written (map saved_view list) ≡ Ok tree
-        → list_at tree ≡ Ok (map cut (map saved_view list)) }
+    ensures { (list : List (Parts Moment)) (tree : Data) → All EndsAtMoment list → list_written list ≡ Ok tree
+        → list_at tree ≡ Ok (map cut list) }
+{}
+
+/// The end of a saved cookie is a moment of the calendar, so the two laws above hold for it.
+pub fn ends_are_moments()
+    ensures { (saved : Saved) → EndsAtMoment (saved_view saved) }
 {}
 
 /// The tree that a saved cookie is written as has no float, so its compact text is fixed, and nests no deeper than `serde_json` reads,
@@ -68,4 +74,9 @@ pub fn list_shapes_are_read()
 /// A line feed behind a text changes nothing in what JSON reads of it.
 pub fn line_feeds_are_blank()
     ensures { (text : List ℕ) → read (text ++ 10 ∷ []) ≡ read text }
+{}
+
+/// The compact text of the tree that a saved cookie is written as holds no control character, so it is one line.
+pub fn compact_texts_are_lines()
+    ensures { (saved : Parts Moment) (tree : Data) → written saved ≡ Ok tree → has_no_control (compact_text tree) ≡ true }
 {}

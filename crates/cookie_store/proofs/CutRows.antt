@@ -1,15 +1,18 @@
 -- Rows whose ends are cut, and what is read of their saved forms.
 use Rattle.std.proofs.Common.{◌≡◌, ℕ, true, List, [], ◌∷◌, ◌++◌, map, Result, Ok, Err, refl, sym, ap, ◌∙◌}
 use Rattle.std.specs.List.{All}
-use Rattle.std.proofs.lemmas.List.Elements.{All-head, All-tail}
+use Rattle.std.proofs.lemmas.List.Elements.{All-head, All-map, All-tail, All-weaker}
 use Rattle.std.specs.declared.alloc.Global.{Global}
 use Rattle.std.specs.declared.string.String.{String}
 use Rattle.std.specs.Prelude.{option_map, string_bytes}
 use Rattle.serde_json.specs.Data.{Data}
 use Rattle.serde_json.specs.Read.{read}
 use Rattle.cookie_saved.specs.ReadTrees.{cut, list_at}
+use Rattle.cookie_saved.specs.Saved.{EndsAtMoment}
 use Rattle.cookie_saved.specs.WrittenTrees.{list_written}
 use Rattle.cookie_saved.specs.declared.error.SavedError.{SavedError}
+use Rattle.cookie_raw.specs.CookieText.{cookie_text}
+use Rattle.cookie_raw.specs.Reading.{reading}
 use Rattle.cookie_parts.specs.Cookie.{Row}
 use Rattle.cookie_parts.specs.Expiry.{Expiry, AtUtc, SessionEnd}
 use Rattle.cookie_parts.specs.declared.error.Error.{Error}
@@ -29,15 +32,18 @@ end_cut SessionEnd = refl
 saved_cut : (row : Row) → saved_of (cut_row row) ≡ cut (saved_of row)
 saved_cut row = rw (end_cut row.expires) refl
 
-module _ (comes_back : (cookie : Row) → ReadsBack cookie → cookie_of_saved (saved_of cookie) ≡ Ok cookie)
+-- which comes back from its saved form, cut
+pub row_cut : ((cookie : Row) → reading (cookie_text cookie.raw) ≡ Ok cookie.raw → cookie_of_saved (saved_of cookie) ≡ Ok cookie)
+    → (row : Row) → ReadsBack row → cookie_of_saved (cut (saved_of row)) ≡ Ok (cut_row row)
+row_cut comes_back row back = ap cookie_of_saved (sym (saved_cut row)) ∙ comes_back (cut_row row) back.0
+
+module _ (comes_back : (cookie : Row) → reading (cookie_text cookie.raw) ≡ Ok cookie.raw → cookie_of_saved (saved_of cookie) ≡ Ok cookie)
     (blank : (text : List ℕ) → read (text ++ 10 ∷ []) ≡ read text) where
   -- rows come back from their saved forms, cut
   cookies_cut : (rows : List Row) → All ReadsBack rows → cookies_of_saved (map cut (map saved_of rows)) ≡ Ok (cut_rows rows)
   cookies_cut [] all = refl
   cookies_cut (row ∷ rows) all =
-      let one : cookie_of_saved (cut (saved_of row)) ≡ Ok (cut_row row)
-      = ap cookie_of_saved (sym (saved_cut row)) ∙ comes_back (cut_row row) (All-head ReadsBack row rows all) in
-      rw (one, cookies_cut rows (All-tail ReadsBack row rows all)) refl
+      rw (row_cut comes_back row (All-head ReadsBack row rows all), cookies_cut rows (All-tail ReadsBack row rows all)) refl
 
   -- of a tree that is read as their forms, cut, they are the cookies
   tree_comes_back : (rows : List Row) (tree : Data) → All ReadsBack rows → list_at tree ≡ Ok (map cut (map saved_of rows))
@@ -70,3 +76,8 @@ rows_cut rows are = rw (keys_cut rows) are
 abbrev pub cookies_in : Result (List Row) Error → List Row
 cookies_in (Ok cookies) = cookies
 cookies_in (Err error) = []
+
+-- their saved forms end at moments
+pub forms_end : (rows : List Row) → All ReadsBack rows → All EndsAtMoment (map saved_of rows)
+forms_end rows all =
+    All-map EndsAtMoment saved_of rows (All-weaker ReadsBack (λ row. EndsAtMoment (saved_of row)) (λ row back. back.1) rows all)

@@ -7,7 +7,7 @@ use Rattle.cookie_store.proofs.CutRows.{cookies_in, rows_cut}
 use Rattle.cookie_store.proofs.serde.laws.list_loads_again.Goals as goal
 
 pub returns : goal.returns
-returns c rows loaded forms written now are all is (text, says, appended) (whole, cookies, known, (valid, makes), builds) =
+returns c rows loaded written now are all (text, says, appended) (whole, cookies, known, (valid, makes), builds) =
     let same : line_text text ≡ whole = sym appended ∙ known in
-    let reads = subst (λ t. json_cookies t ≡ Ok (cut_rows rows)) same (c.list_comes_back.ensures rows forms text all is says) in
+    let reads = subst (λ t. json_cookies t ≡ Ok (cut_rows rows)) same (c.list_comes_back.ensures rows text all says) in
     builds ∙ ap (built true now) (ap cookies_in (sym makes ∙ reads)) ∙ c.rebuilt.ensures (cut_rows rows) now (rows_cut rows are)

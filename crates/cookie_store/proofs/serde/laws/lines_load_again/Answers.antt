@@ -1,0 +1,14 @@
+use Rattle.std.proofs.Common.{◌∙◌, true, ap, subst}
+use Rattle.std.specs.Str.Lines.{lines}
+use Rattle.cookie_laws.specs.Rows.{built}
+use Rattle.cookie_store.specs.Cuts.{cut_rows}
+use Rattle.cookie_store.specs.JsonLines.{MakesJson}
+use Rattle.cookie_store.specs.Loading.{AreCookies}
+use Rattle.cookie_store.proofs.CutRows.{rows_cut}
+use Rattle.cookie_store.proofs.serde.laws.lines_load_again.Goals as goal
+
+pub returns : goal.returns
+returns c rows loaded written now are all (texts, said, appended) (cookies, builds, made) =
+    let told = subst (λ text. AreCookies MakesJson (lines text) cookies) appended made in
+    builds ∙ ap (built true now) (c.lines_come_back.ensures rows cookies texts all said told)
+    ∙ c.rebuilt.ensures (cut_rows rows) now (rows_cut rows are)
