@@ -1,4 +1,4 @@
-// The lines 'set URL TEXT' and 'get URL' of a script over Go's net/http/cookiejar: a peer for tools/bench.
+// The lines 'set URL TEXT', 'get URL' and 'clear' of a script over Go's net/http/cookiejar: a peer for tools/bench.
 package main
 
 import (
@@ -37,6 +37,9 @@ func main() {
 				fmt.Fprint(out, cookie.Name, "=", cookie.Value)
 			}
 			fmt.Fprintln(out)
+		case "clear":
+			jar, _ = cookiejar.New(nil)
+			fmt.Fprintln(out, "cleared")
 		}
 	}
 	if err := lines.Err(); err != nil {

@@ -3,7 +3,7 @@ use Rattle.std.proofs.Common.{◌≡◌, ◌==◌, ◌-◌, ◌<◌, ℕ, Bool, 
 use Rattle.std.proofs.lemmas.Bool.Decides.{nat_tests}
 use Rattle.std.proofs.lemmas.List.Elements.{All-cons, All-get_or, All-head, All-nil, All-tail, All-weaker}
 use Rattle.std.proofs.lemmas.List.Splits.{length-slice_split, slice_split_at}
-use Rattle.std.specs.List.{All, slice_index, slice_split}
+use Rattle.std.specs.List.{All, AllZip, slice_index, slice_split}
 use Rattle.std.specs.Prelude.{string_bytes}
 use Rattle.std.specs.Str.Lines.{lines, lines_of_parts, strip_carriage_return}
 use Rattle.std.specs.declared.alloc.Global.{Global}
@@ -25,6 +25,10 @@ use Rattle.cookie_store.specs.JsonLines.{json_cookie, MakesJson, SaysJson, SaysT
 use Rattle.cookie_store.specs.Loading.{AreCookies}
 use Rattle.cookie_store.specs.Saving.{lines_text, AreTexts}
 use Rattle.cookie_store.proofs.CutRows.{row_cut}
+
+-- a line reads as a cookie
+abbrev ReadsAs : List ℕ → Row → Type 0
+ReadsAs line cookie = json_cookie line ≡ Ok cookie
 
 -- a byte that is no control character
 abbrev IsAbove : ℕ → Type 0
@@ -98,22 +102,30 @@ module _ (comes_back : (cookie : Row) → reading (cookie_text cookie.raw) ≡ O
       ∙ line_more (string_bytes text) (lines_text texts) (said_back row text (All-head ReadsBack row rows back) said.0).0
       ∙ ap (λ others. string_bytes text ∷ others) (lines_back rows texts (All-tail ReadsBack row rows back) said.1)
 
-  -- of which the rows are made
-  made_back : (rows cookies : List Row) (texts : List (String Global)) → All ReadsBack rows → AreTexts SaysJson rows texts
-      → AreCookies MakesJson (map string_bytes texts) cookies → cookies ≡ cut_rows rows
-  made_back [] [] [] back said made = refl
-  made_back [] cookies (text ∷ texts) back said made = absurd said
-  made_back [] (cookie ∷ cookies) [] back said made = absurd made
-  made_back (row ∷ rows) cookies [] back said made = absurd said
-  made_back (row ∷ rows) [] (text ∷ texts) back said made = absurd made
-  made_back (row ∷ rows) (cookie ∷ cookies) (text ∷ texts) back said ((valid, made), others) =
-      let same = sym made ∙ (said_back row text (All-head ReadsBack row rows back) said.0).1 in
-      let one : cookie ≡ cut_row row = cc in
-      let rest = made_back rows cookies texts (All-tail ReadsBack row rows back) said.1 others in
-      rw (one, rest) refl
+  -- of which each reads as its row
+  each_back : (rows : List Row) (texts : List (String Global)) → All ReadsBack rows → AreTexts SaysJson rows texts
+      → AllZip ReadsAs (map string_bytes texts) (cut_rows rows)
+  each_back [] [] back said = tt
+  each_back [] (text ∷ texts) back said = absurd said
+  each_back (row ∷ rows) [] back said = absurd said
+  each_back (row ∷ rows) (text ∷ texts) back said = (
+    (said_back row text (All-head ReadsBack row rows back) said.0).1,
+    each_back rows texts (All-tail ReadsBack row rows back) said.1,
+  )
 
-  pub come_back : (rows cookies : List Row) (texts : List (String Global)) → All ReadsBack rows → AreTexts SaysJson rows texts
-      → AreCookies MakesJson (lines (lines_text texts)) cookies → cookies ≡ cut_rows rows
-  come_back rows cookies texts back said made =
-      made_back rows cookies texts back said
-      (subst (λ ls. AreCookies MakesJson ls cookies) (lines_back rows texts back said) made)
+  pub come_back : (rows : List Row) (texts : List (String Global)) → All ReadsBack rows → AreTexts SaysJson rows texts
+      → AllZip ReadsAs (lines (lines_text texts)) (cut_rows rows)
+  come_back rows texts back said =
+      subst (λ ls. AllZip ReadsAs ls (cut_rows rows)) (sym (lines_back rows texts back said)) (each_back rows texts back said)
+
+-- cookies that are made of lines are those which the lines read as
+pub made_as_read : (texts : List (List ℕ)) (made read : List Row) → AreCookies MakesJson texts made → AllZip ReadsAs texts read → made ≡ read
+made_as_read [] [] [] are reads = refl
+made_as_read [] [] (row ∷ read) are reads = absurd reads
+made_as_read [] (cookie ∷ made) read are reads = absurd are
+made_as_read (text ∷ texts) [] read are reads = absurd are
+made_as_read (text ∷ texts) (cookie ∷ made) [] are reads = absurd reads
+made_as_read (text ∷ texts) (cookie ∷ made) (row ∷ read) ((valid, is), others) (reads, rest) =
+    let same = sym is ∙ reads in
+    let one : cookie ≡ row = cc in
+    rw (one, made_as_read texts made read others rest) refl

@@ -15,7 +15,7 @@ use Rattle.cookie_parts.specs.Passage.{cookie_of_saved}
 use Rattle.cookie_parts.specs.declared.cookie_error.CookieError.{CookieError}
 use Rattle.cookie_parts.specs.declared.error.Error.{Error}
 use Rattle.cookie_parts.specs.declared.error.Error.TheVariants.{Io}
-use Rattle.cookie_store.specs.JsonLists.{cookies_of_saved, MakesJsonList}
+use Rattle.cookie_store.specs.JsonLists.{cookies_of_saved}
 use Rattle.cookie_store.specs.Lists.{FailsToSaveList, MakesCookies, MakesVec, RefusesText, WritesList}
 use Rattle.cookie_store.specs.Saving.{line_text}
 use Rattle.cookie_store.proofs.SavedLines.{filter_around}
@@ -49,18 +49,19 @@ module _ (makes : List ℕ → Result (Vec Row Global) Error → Type 0) where
   refused_at_once text (Ok cookies) valid answers = tt
   refused_at_once text (Err error) valid answers = inr (valid, (Err error, answers, refl))
 
--- the cookies that are made of a list in JSON, or why there are none
-pub json_made : (text : List ℕ) (answer : Result (Vec Row Global) Error) → IsTrue (is_utf8 text)
-    → MakesJsonList text (result_map_both (λ cookies. cookies.items) (λ error. error) answer)
-    → IfOk answer (λ cookies. MakesCookies MakesJsonList text cookies.items)
-json_made text (Ok cookies) valid makes = (valid, makes)
-json_made text (Err error) valid makes = tt
+module _ (makes : List ℕ → Result (List Row) Error → Type 0) (text : List ℕ) where
+  -- the cookies that are made of a list as text, or why there are none
+  pub list_made : (answer : Result (Vec Row Global) Error) → IsTrue (is_utf8 text)
+      → makes text (result_map_both (λ cookies. cookies.items) (λ error. error) answer)
+      → IfOk answer (λ cookies. MakesCookies makes text cookies.items)
+  list_made (Ok cookies) valid made = (valid, made)
+  list_made (Err error) valid made = tt
 
-pub json_refused : (text : List ℕ) (answer : Result (Vec Row Global) Error) → IsTrue (is_utf8 text)
-    → MakesJsonList text (result_map_both (λ cookies. cookies.items) (λ error. error) answer)
-    → IfErr answer (λ error. RefusesText MakesJsonList error text)
-json_refused text (Ok cookies) valid makes = tt
-json_refused text (Err error) valid makes = inr (valid, makes)
+  pub list_refused : (answer : Result (Vec Row Global) Error) → IsTrue (is_utf8 text)
+      → makes text (result_map_both (λ cookies. cookies.items) (λ error. error) answer)
+      → IfErr answer (λ error. RefusesText makes error text)
+  list_refused (Ok cookies) valid made = tt
+  list_refused (Err error) valid made = inr (valid, made)
 
 module _ (says : List Row → Result (String Global) Error → Type 0) (rows : List Row) (text : String Global) (said : says rows (Ok text)) {T : Type 0} where
   -- the text of the rows was written, and a line feed

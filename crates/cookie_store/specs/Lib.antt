@@ -9,6 +9,7 @@ pub use Rattle.cookie_rows.specs.Requests
 pub mod CallViews
 pub mod Contents
 pub mod Cuts
+pub mod Forms
 pub mod JsonLines
 pub mod JsonLists
 pub mod Lists

@@ -58,13 +58,12 @@ module _ (makes : List ℕ → Result (List Row) Error → Type 0) where
       (text : List ℕ) × IsAll known text
       × (RefusesText error text ⊎ ((error ≡ Memory) × (cookies : List Row) × MakesCookies text cookies × (cookies ≢ [])))
 
--- the reading stopped within the text: of what was read, each read brought a byte, and the others are left
+-- the reading stopped within the text, after no more reads than bytes came; the others are left
 abbrev pub StopsWithin : Option (List ℕ) → ℕ → ℕ → List ℕ → Type 0
 StopsWithin rest reads_left reads_left' text =
     (given left : List ℕ) × (text ≡ given ++ left) × (rest ≡ Some left) × (reads_left ≤ reads_left' + length given)
 
--- all was read, and it is refused; or a read failed, which raised the count of failures by one, or memory ran out before the end was
--- seen
+-- all was read, and it is refused; or the reading stopped: a read failed, which raised the count of failures by one, or memory ran out
 abbrev pub FailsToLoadList : (List ℕ → Result (List Row) Error → Type 0) → Error → Option (List ℕ) → Option (List ℕ) → ℕ → ℕ → ℕ → ℕ → Type 0
 FailsToLoadList makes error known rest failures failures' reads_left reads_left' =
     (RefusesList makes error known × IsAtEnd rest × (failures' ≡ failures))

@@ -44,7 +44,7 @@ module _ (makes : List ℕ → Result Row Error → Type 0) where
       × (bytes ≡ front ++ part) × (position (λ b. b == 10) part ≡ None)
       × (lines bytes ≡ before ++ lines part) × AreCookies before cookies
 
-  -- such bytes were read of the text, by reads of which each brought one, and the others are left
+  -- such bytes were read of the text, by no more reads than there are of them, and the others are left
   abbrev pub StopsWithinLine : Option (List ℕ) → ℕ → ℕ → List ℕ → Type 0
   StopsWithinLine rest reads_left reads_left' text =
       (given left : List ℕ) × (text ≡ given ++ left) × (rest ≡ Some left) × EndsWithinLine given
@@ -61,8 +61,8 @@ module _ (makes : List ℕ → Result Row Error → Type 0) where
       (cookies : List Row) × (rows ≡ built include_expired now cookies)
       × IfSome known (λ text. AreCookies (lines text) cookies)
 
-  -- it fails at a line; or within one of the text, where that is known, before its end was seen: a read failed, which raised the
-  -- count of failures by one, or memory ran out
+  -- it fails at a line; or within one of the text, where that is known: a read failed, which raised the count of failures by one, or
+  -- memory ran out
   abbrev pub FailsToLoad : Error → Option (List ℕ) → Option (List ℕ) → ℕ → ℕ → ℕ → ℕ → Type 0
   FailsToLoad error known rest failures failures' reads_left reads_left' =
       (StopsAtLine error known × (failures' ≡ failures))

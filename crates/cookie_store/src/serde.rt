@@ -14,6 +14,7 @@ use cookie_parts::{Cookie, Error, StoreResult};
 use jiff::civil::DateTime;
 use std::alloc::Global;
 
+mod forms;
 pub mod json;
 pub mod laws;
 

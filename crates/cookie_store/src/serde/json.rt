@@ -1,30 +1,18 @@
 //! A store that is saved as a list in JSON, and loaded from one.
-ghost use Rattle.std.specs.Prelude.{◌≡◌, ◌⊎◌, ◌-◌, ◌^◌, ◌<◌, false, true, map, filter, option_map, None, Err, IfErr, IfOk, Ok, OnErr, OnOk};
+ghost use Rattle.std.specs.Prelude.{◌≡◌, ◌-◌, ◌^◌, ◌<◌, false, true, None, IfErr, IfOk, OnOk};
 ghost use Rattle.std.specs.Io.KnownBytes.{IsAtEnd};
-ghost use Rattle.std.specs.List.{list_any};
-ghost use Rattle.std.specs.Result.{result_map_both};
-ghost use Rattle.serde_json.specs.View.{view};
 ghost use Rattle.cookie_words.specs.Moments.{moment_of};
-ghost use Rattle.cookie_saved.specs.ReadTrees.{list_at};
-ghost use Rattle.cookie_saved.specs.Saved.{saved_view};
-ghost use Rattle.cookie_saved.specs.WrittenTrees.{is_early};
-ghost use Rattle.cookie_parts.specs.Passage.{saved_of};
-ghost use Rattle.cookie_store.specs.JsonLists.{cookies_of_saved, tree_cookies, MakesJsonList, SaysJsonList};
-ghost use Rattle.cookie_store.specs.Lists.{BuildsFromList, FailsToLoadList, FailsToSaveList, MakesCookies, RefusesText, WritesList};
+ghost use Rattle.cookie_store.specs.JsonLists.{MakesJsonList, SaysJsonList};
+ghost use Rattle.cookie_store.specs.Lists.{BuildsFromList, FailsToLoadList, FailsToSaveList, WritesList};
 ghost use Rattle.cookie_store.specs.Loading.{ReadsEachOnce};
-ghost use Rattle.cookie_store.specs.Saving.{is_among, saved_rows};
+ghost use Rattle.cookie_store.specs.Saving.{saved_rows};
 
+use super::forms::{Form, load_rows, save_rows};
 use crate::CookieStore;
-use crate::json_lines::ends_early;
-use crate::lists::{read_bytes, rows_of, write_text};
-use crate::saving::is_among;
 use cookie_device::{Sink, Source};
-use cookie_parts::{Cookie, Error, StoreResult};
-use cookie_rows::Rows;
-use cookie_saved::{Saved, SavedError, list_from_value, list_to_text};
+use cookie_parts::StoreResult;
 use jiff::civil::DateTime;
-use serde_json::Value;
-use std::alloc::{AllocError, Global};
+use std::alloc::Global;
 
 /// Writes the cookies that have not ended by the moment and end at one as a list in JSON, an item or a member a line, in the store's
 /// order, and a line feed. Where one ends before the year 0 the list is refused `Saved(Moment)`, and no memory is wanted before that.
@@ -37,7 +25,7 @@ pub fn save<W: Sink>(store: &CookieStore, writer: &mut W, now: DateTime) -> Stor
     ensures stopped { IfErr result (λ error. FailsToSaveList SaysJsonList error (saved_rows (moment_of now) store.now.rows)
         (W.contents writer.old) (W.contents writer.new) (W.failed writer.old) (W.failed writer.new)) }
 {
-    save_rows(store.alloc(), store.rows(), writer, Some(now))
+    save_rows(Form::Json, store.alloc(), store.rows(), writer, Some(now))
 }
 
 /// The same of all cookies, also those that have ended and those that end with the session.
@@ -51,7 +39,7 @@ pub fn save_incl_expired_and_nonpersistent<W: Sink>(
     ensures stopped { IfErr result (λ error. FailsToSaveList SaysJsonList error store.now.rows
         (W.contents writer.old) (W.contents writer.new) (W.failed writer.old) (W.failed writer.new)) }
 {
-    save_rows(store.alloc(), store.rows(), writer, None)
+    save_rows(Form::Json, store.alloc(), store.rows(), writer, None)
 }
 
 /// A store of the cookies of a list in JSON, which is all that the reader gives, each in the place of an earlier one of its domain,
@@ -68,7 +56,7 @@ pub fn load<R: Source>(alloc: Global, reader: &mut R, now: DateTime) -> StoreRes
         (R.reads_left reader.old) (R.reads_left reader.new)) }
     ensures reads { ReadsEachOnce (R.remaining reader.old) (R.reads_left reader.old) (R.reads_left reader.new) }
 {
-    let rows = load_rows(alloc, reader, false, now)?;
+    let rows = load_rows(Form::Json, alloc, reader, false, now)?;
     Ok(CookieStore::of_rows(alloc, rows))
 }
 
@@ -83,128 +71,6 @@ pub fn load_all<R: Source>(alloc: Global, reader: &mut R, now: DateTime) -> Stor
         (R.reads_left reader.old) (R.reads_left reader.new)) }
     ensures reads { ReadsEachOnce (R.remaining reader.old) (R.reads_left reader.old) (R.reads_left reader.new) }
 {
-    let rows = load_rows(alloc, reader, true, now)?;
+    let rows = load_rows(Form::Json, alloc, reader, true, now)?;
     Ok(CookieStore::of_rows(alloc, rows))
-}
-
-// Writes the list of the rows that are saved at the moment, or of all where there is none, and a line feed.
-fn save_rows<W: Sink>(
-    alloc: Global,
-    rows: &Rows,
-    sink: &mut W,
-    now: Option<DateTime>,
-) -> Result<(), Error>
-    requires writable { W.failed sink.old < 2 ^ 64 - 1 }
-    ensures whole { OnOk result (WritesList SaysJsonList (filter (is_among (option_map moment_of now)) rows.now)
-        (W.contents sink.old) (W.contents sink.new)) }
-    ensures count { OnOk result (W.failed sink.new ≡ W.failed sink.old) }
-    ensures stopped { IfErr result (λ error. FailsToSaveList SaysJsonList error
-        (filter (is_among (option_map moment_of now)) rows.now)
-        (W.contents sink.old) (W.contents sink.new) (W.failed sink.old) (W.failed sink.new)) }
-{
-    let text = text_of(alloc, rows, &now)?;
-    write_text(sink, &text)
-}
-
-// The list of those rows as text. An end before the year 0 is refused `Saved(Moment)`, and no memory is wanted before that.
-fn text_of(alloc: Global, rows: &Rows, now: &Option<DateTime>) -> Result<String, Error>
-    ensures { SaysJsonList (filter (is_among (option_map moment_of now.now)) rows.now) result }
-{
-    if any_early(rows, now) {
-        return Err(Error::Saved(SavedError::Moment));
-    }
-    let list = saved_list(alloc, rows, now)?;
-    Ok(list_to_text(alloc, &list)?)
-}
-
-// Whether one of those rows ends before the year 0.
-fn any_early(rows: &Rows, now: &Option<DateTime>) -> bool
-    ensures { result ≡ list_any is_early (map saved_of (filter (is_among (option_map moment_of now.now)) rows.now)) }
-{
-    for row in rows.iter() {
-        if is_among(row, now) && ends_early(row) {
-            return true;
-        }
-    }
-    false
-}
-
-// The saved forms of those rows.
-fn saved_list(alloc: Global, rows: &Rows, now: &Option<DateTime>) -> Result<Vec<Saved>, AllocError>
-    ensures { IfOk result (λ list. map saved_view list.items
-        ≡ map saved_of (filter (is_among (option_map moment_of now.now)) rows.now)) }
-{
-    let mut list = Vec::new(alloc);
-    for row in rows.iter() {
-        if is_among(row, now) {
-            list.push(row.to_saved(alloc)?)?;
-        }
-    }
-    Ok(list)
-}
-
-// The rows of the cookies of the list that the source gives, all or those that have not ended.
-fn load_rows<R: Source>(
-    alloc: Global,
-    source: &mut R,
-    include_expired: bool,
-    now: DateTime,
-) -> Result<Rows, Error>
-    requires readable { R.failed source.old < 2 ^ 64 - 1 }
-    ensures built { IfOk result (λ rows. BuildsFromList MakesJsonList (R.remaining source.old) include_expired (moment_of now) rows) }
-    ensures read { OnOk result (IsAtEnd (R.remaining source.new) × (R.failed source.new ≡ R.failed source.old)) }
-    ensures failed { IfErr result (λ error. FailsToLoadList MakesJsonList error
-        (R.remaining source.old) (R.remaining source.new) (R.failed source.old) (R.failed source.new)
-        (R.reads_left source.old) (R.reads_left source.new)) }
-    ensures reads { ReadsEachOnce (R.remaining source.old) (R.reads_left source.old) (R.reads_left source.new) }
-{
-    let bytes = read_bytes(alloc, source)?;
-    let cookies = cookies_of_bytes(alloc, &bytes)?;
-    rows_of(alloc, cookies, include_expired, now)
-}
-
-// The cookies of a list as bytes.
-fn cookies_of_bytes(alloc: Global, bytes: &[u8]) -> Result<Vec<Cookie<'static>>, Error>
-    ensures made { IfOk result (λ cookies. MakesCookies MakesJsonList bytes.now cookies.items) }
-    ensures refused { IfErr result (λ error. RefusesText MakesJsonList error bytes.now) }
-{
-    match str::from_utf8(bytes) {
-        Ok(text) => cookies_of_text(alloc, text),
-        Err(_) => Err(Error::NotUtf8),
-    }
-}
-
-// The cookies of a list as text. `Saved(Json)` where it is no JSON, and else what its tree is refused for.
-fn cookies_of_text(alloc: Global, text: &str) -> Result<Vec<Cookie<'static>>, Error>
-    ensures { MakesJsonList text.now (result_map_both (λ cookies. cookies.items) (λ error. error) result) }
-{
-    match Value::from_str(alloc, text) {
-        Ok(tree) => cookies_of_tree(alloc, &tree),
-        Err(error) if error.is_memory() => Err(Error::Memory),
-        Err(_) => Err(Error::Saved(SavedError::Json)),
-    }
-}
-
-// The cookies of a list's tree: `Saved(Shape)` or `Saved(Moment)` where it is none, and `Cookie(Parse)` where the text of a raw cookie
-// is none. A fault of the form is told whatever memory is left.
-fn cookies_of_tree(alloc: Global, tree: &Value) -> Result<Vec<Cookie<'static>>, Error>
-    ensures cookies { IfOk result (λ cookies. tree_cookies (view tree.now) ≡ Ok cookies.items) }
-    ensures refused { IfErr result (λ error. (error ≡ Error.Memory) ⊎ (tree_cookies (view tree.now) ≡ Err error)) }
-    ensures early { (fault : SavedError) → list_at (view tree.now) ≡ Err fault → result ≡ Err (Error.Saved fault) }
-{
-    let list = list_from_value(alloc, tree)?;
-    cookies_of_list(alloc, list)
-}
-
-// The cookies of saved forms, or `Cookie(Parse)` where the text of one is no cookie.
-fn cookies_of_list(alloc: Global, list: Vec<Saved>) -> Result<Vec<Cookie<'static>>, Error>
-    ensures cookies { IfOk result (λ cookies. cookies_of_saved (map saved_view list.items) ≡ Ok cookies.items) }
-    ensures refused { IfErr result (λ error. (error ≡ Error.Memory)
-        ⊎ (result_map_both (λ cookies. cookies) Error.Cookie (cookies_of_saved (map saved_view list.items)) ≡ Err error)) }
-{
-    let mut cookies = Vec::new(alloc);
-    for saved in list {
-        cookies.push(Cookie::from_saved(alloc, saved)?)?;
-    }
-    Ok(cookies)
 }

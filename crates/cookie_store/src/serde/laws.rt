@@ -1,5 +1,5 @@
 //! Laws of what is saved and loaded, over the definitions alone.
-ghost use Rattle.std.specs.List.{All};
+ghost use Rattle.std.specs.List.{All, AllZip};
 ghost use Rattle.std.specs.Prelude.{◌≡◌, ℕ, [], true, List, Ok, Some};
 ghost use Rattle.std.specs.Str.Lines.{lines};
 ghost use Rattle.std.specs.declared.alloc.Global.{Global};
@@ -8,10 +8,10 @@ ghost use Rattle.cookie_words.specs.Moments.{Moment};
 ghost use Rattle.cookie_parts.specs.Cookie.{Row};
 ghost use Rattle.cookie_laws.specs.Rows.{are_rows};
 ghost use Rattle.cookie_store.specs.Cuts.{cut_rows, ReadsBack};
-ghost use Rattle.cookie_store.specs.JsonLines.{MakesJson, SaysJson};
+ghost use Rattle.cookie_store.specs.JsonLines.{json_cookie, MakesJson, SaysJson};
 ghost use Rattle.cookie_store.specs.JsonLists.{json_cookies, MakesJsonList, SaysJsonList};
 ghost use Rattle.cookie_store.specs.Lists.{BuildsFromList, WritesList};
-ghost use Rattle.cookie_store.specs.Loading.{AreCookies, BuildsFrom};
+ghost use Rattle.cookie_store.specs.Loading.{BuildsFrom};
 ghost use Rattle.cookie_store.specs.Saving.{line_text, lines_text, AreTexts, WritesRows};
 
 use cookie_parts::laws::comes_back;
@@ -40,11 +40,11 @@ pub fn list_loads_again()
     cookie_laws::rebuilt();
 }
 
-/// What is said of rows as lines of JSON is as many lines, and the cookies that are made of them are those rows, each end cut to whole
-/// seconds, where the text of each raw cookie reads as that raw cookie.
+/// What is said of rows as lines of JSON is as many lines, and the cookies of these are those rows, each end cut to whole seconds, where
+/// the text of each raw cookie reads as that raw cookie.
 pub fn lines_come_back()
-    ensures { (rows cookies : List Row) (texts : List (String Global)) → All ReadsBack rows → AreTexts SaysJson rows texts
-        → AreCookies MakesJson (lines (lines_text texts)) cookies → cookies ≡ cut_rows rows }
+    ensures { (rows : List Row) (texts : List (String Global)) → All ReadsBack rows → AreTexts SaysJson rows texts
+        → AllZip (λ line cookie. json_cookie line ≡ Ok cookie) (lines (lines_text texts)) (cut_rows rows) }
 {
     reads_back();
     compact_texts_are_lines();

@@ -2,5 +2,5 @@ use Rattle.cookie_store.proofs.LinesBack.{come_back}
 use Rattle.cookie_store.proofs.serde.laws.lines_come_back.Goals as goal
 
 pub returns : goal.returns
-returns c rows cookies texts all said made =
-    come_back c.comes_back.ensures c.reads_back.ensures c.compact_texts_are_lines.ensures rows cookies texts all said made
+returns c rows texts all said =
+    come_back c.comes_back.ensures c.reads_back.ensures c.compact_texts_are_lines.ensures rows texts all said

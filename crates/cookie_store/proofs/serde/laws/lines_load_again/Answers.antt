@@ -5,10 +5,11 @@ use Rattle.cookie_store.specs.Cuts.{cut_rows}
 use Rattle.cookie_store.specs.JsonLines.{MakesJson}
 use Rattle.cookie_store.specs.Loading.{AreCookies}
 use Rattle.cookie_store.proofs.CutRows.{rows_cut}
+use Rattle.cookie_store.proofs.LinesBack.{made_as_read}
 use Rattle.cookie_store.proofs.serde.laws.lines_load_again.Goals as goal
 
 pub returns : goal.returns
 returns c rows loaded written now are all (texts, said, appended) (cookies, builds, made) =
     let told = subst (λ text. AreCookies MakesJson (lines text) cookies) appended made in
-    builds ∙ ap (built true now) (c.lines_come_back.ensures rows cookies texts all said told)
+    builds ∙ ap (built true now) (made_as_read _ cookies (cut_rows rows) told (c.lines_come_back.ensures rows texts all said))
     ∙ c.rebuilt.ensures (cut_rows rows) now (rows_cut rows are)

@@ -1,6 +1,6 @@
 use Rattle.serde_json.specs.View.{view}
 use Rattle.cookie_store.proofs.MadeOfJson.{tree_makes_list}
-use Rattle.cookie_store.proofs.serde.json.cookies_of_text.Goals as goal
+use Rattle.cookie_store.proofs.serde.forms.cookies_of_json.Goals as goal
 
 pub returns-in-Ok : goal.returns-in-Ok
 returns-in-Ok c =

@@ -5,7 +5,7 @@ use Rattle.cookie_words.specs.Moments.{moment_of}
 use Rattle.cookie_saved.specs.WrittenTrees.{is_early}
 use Rattle.cookie_parts.specs.Passage.{saved_of}
 use Rattle.cookie_store.specs.Saving.{is_among}
-use Rattle.cookie_store.proofs.serde.json.any_early.Given as goal
+use Rattle.cookie_store.proofs.serde.forms.any_early.Given as goal
 
 abbrev pub invariant-loop-row : goal.invariant-loop-row
 invariant-loop-row l = record {

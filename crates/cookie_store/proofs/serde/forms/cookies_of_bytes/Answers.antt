@@ -1,18 +1,19 @@
 use Rattle.std.proofs.Common.{inl, refl}
 use Rattle.std.proofs.lemmas.Bool.{false_from_ne_true}
 use Rattle.std.proofs.lemmas.Str.{IsUtf8-from_is_utf8, is_utf8-from_IsUtf8}
-use Rattle.cookie_store.proofs.ListedRows.{json_made, json_refused}
-use Rattle.cookie_store.proofs.serde.json.cookies_of_bytes.Goals as goal
+use Rattle.cookie_store.specs.Forms.{MakesList}
+use Rattle.cookie_store.proofs.ListedRows.{list_made, list_refused}
+use Rattle.cookie_store.proofs.serde.forms.cookies_of_bytes.Goals as goal
 
 pub returns-in-Ok-clause-made : goal.returns-in-Ok-clause-made
 returns-in-Ok-clause-made c =
     let (same, valid) = c.in-Ok.ensures.cases in
-    json_made c.args.bytes.now c.cookies_of_text.result (is_utf8-from_IsUtf8 _ valid) (rw same at c.cookies_of_text.ensures)
+    list_made (MakesList c.args.form) c.args.bytes.now c.cookies_of_text.result (is_utf8-from_IsUtf8 _ valid) (rw same at c.cookies_of_text.ensures)
 
 pub returns-in-Ok-clause-refused : goal.returns-in-Ok-clause-refused
 returns-in-Ok-clause-refused c =
     let (same, valid) = c.in-Ok.ensures.cases in
-    json_refused c.args.bytes.now c.cookies_of_text.result (is_utf8-from_IsUtf8 _ valid) (rw same at c.cookies_of_text.ensures)
+    list_refused (MakesList c.args.form) c.args.bytes.now c.cookies_of_text.result (is_utf8-from_IsUtf8 _ valid) (rw same at c.cookies_of_text.ensures)
 
 pub returns-in-Err-clause-refused : goal.returns-in-Err-clause-refused
 returns-in-Err-clause-refused c =

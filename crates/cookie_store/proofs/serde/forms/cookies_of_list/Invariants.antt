@@ -4,7 +4,7 @@ use Rattle.std.specs.Result.{result_map_both}
 use Rattle.std.specs.Vec.Iter.{into_iter_items}
 use Rattle.cookie_saved.specs.Saved.{saved_view}
 use Rattle.cookie_store.specs.JsonLists.{cookies_of_saved}
-use Rattle.cookie_store.proofs.serde.json.cookies_of_list.Given as goal
+use Rattle.cookie_store.proofs.serde.forms.cookies_of_list.Given as goal
 
 abbrev pub invariant-loop-saved : goal.invariant-loop-saved
 invariant-loop-saved l = record {

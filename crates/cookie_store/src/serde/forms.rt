@@ -1,0 +1,169 @@
+//! Lists of saved cookies in the forms that a store is saved in, and loaded from.
+ghost use Rattle.std.specs.Prelude.{◌≡◌, ◌⊎◌, ◌-◌, ◌^◌, ◌<◌, map, filter, option_map, Err, IfErr, IfOk, Ok, OnErr, OnOk};
+ghost use Rattle.std.specs.Io.KnownBytes.{IsAtEnd};
+ghost use Rattle.std.specs.List.{list_any};
+ghost use Rattle.std.specs.Result.{result_map_both};
+ghost use Rattle.serde_json.specs.View.{view};
+ghost use Rattle.cookie_words.specs.Moments.{moment_of};
+ghost use Rattle.cookie_saved.specs.ReadTrees.{list_at};
+ghost use Rattle.cookie_saved.specs.Saved.{saved_view};
+ghost use Rattle.cookie_saved.specs.WrittenTrees.{is_early};
+ghost use Rattle.cookie_parts.specs.Passage.{saved_of};
+ghost use Rattle.cookie_store.specs.Forms.{MakesList, SaysList};
+ghost use Rattle.cookie_store.specs.JsonLists.{cookies_of_saved, tree_cookies, MakesJsonList};
+ghost use Rattle.cookie_store.specs.Lists.{BuildsFromList, FailsToLoadList, FailsToSaveList, MakesCookies, RefusesText, WritesList};
+ghost use Rattle.cookie_store.specs.Loading.{ReadsEachOnce};
+ghost use Rattle.cookie_store.specs.Saving.{is_among};
+
+use crate::json_lines::ends_early;
+use crate::lists::{read_bytes, rows_of, write_text};
+use crate::saving::is_among;
+use cookie_device::{Sink, Source};
+use cookie_parts::{Cookie, Error};
+use cookie_rows::Rows;
+use cookie_saved::{Saved, SavedError, list_from_value, list_to_text};
+use jiff::civil::DateTime;
+use serde_json::Value;
+use std::alloc::{AllocError, Global};
+
+/// What a list of saved cookies is written in.
+#[derive(Clone, Copy)]
+pub enum Form {
+    /// A tree of JSON, laid out a line for each item and member.
+    Json,
+}
+
+/// Writes the list of the rows that are saved at the moment, or of all where there is none, and a line feed.
+pub(crate) fn save_rows<W: Sink>(
+    form: Form,
+    alloc: Global,
+    rows: &Rows,
+    sink: &mut W,
+    now: Option<DateTime>,
+) -> Result<(), Error>
+    requires writable { W.failed sink.old < 2 ^ 64 - 1 }
+    ensures whole { OnOk result (WritesList (SaysList form) (filter (is_among (option_map moment_of now)) rows.now)
+        (W.contents sink.old) (W.contents sink.new)) }
+    ensures count { OnOk result (W.failed sink.new ≡ W.failed sink.old) }
+    ensures stopped { IfErr result (λ error. FailsToSaveList (SaysList form) error
+        (filter (is_among (option_map moment_of now)) rows.now)
+        (W.contents sink.old) (W.contents sink.new) (W.failed sink.old) (W.failed sink.new)) }
+{
+    let text = text_of(form, alloc, rows, &now)?;
+    write_text(sink, &text)
+}
+
+// The list of those rows as text. An end before the year 0 is refused `Saved(Moment)`, and no memory is wanted before that.
+fn text_of(form: Form, alloc: Global, rows: &Rows, now: &Option<DateTime>) -> Result<String, Error>
+    ensures { SaysList form (filter (is_among (option_map moment_of now.now)) rows.now) result }
+{
+    if any_early(rows, now) {
+        return Err(Error::Saved(SavedError::Moment));
+    }
+    let list = saved_list(alloc, rows, now)?;
+    match form {
+        Form::Json => Ok(list_to_text(alloc, &list)?),
+    }
+}
+
+// Whether one of those rows ends before the year 0.
+fn any_early(rows: &Rows, now: &Option<DateTime>) -> bool
+    ensures { result ≡ list_any is_early (map saved_of (filter (is_among (option_map moment_of now.now)) rows.now)) }
+{
+    for row in rows.iter() {
+        if is_among(row, now) && ends_early(row) {
+            return true;
+        }
+    }
+    false
+}
+
+// The saved forms of those rows.
+fn saved_list(alloc: Global, rows: &Rows, now: &Option<DateTime>) -> Result<Vec<Saved>, AllocError>
+    ensures { IfOk result (λ list. map saved_view list.items
+        ≡ map saved_of (filter (is_among (option_map moment_of now.now)) rows.now)) }
+{
+    let mut list = Vec::new(alloc);
+    for row in rows.iter() {
+        if is_among(row, now) {
+            list.push(row.to_saved(alloc)?)?;
+        }
+    }
+    Ok(list)
+}
+
+/// The rows of the cookies of the list that the source gives, all or those that have not ended.
+pub(crate) fn load_rows<R: Source>(
+    form: Form,
+    alloc: Global,
+    source: &mut R,
+    include_expired: bool,
+    now: DateTime,
+) -> Result<Rows, Error>
+    requires readable { R.failed source.old < 2 ^ 64 - 1 }
+    ensures built { IfOk result (λ rows. BuildsFromList (MakesList form) (R.remaining source.old) include_expired (moment_of now) rows) }
+    ensures read { OnOk result (IsAtEnd (R.remaining source.new) × (R.failed source.new ≡ R.failed source.old)) }
+    ensures failed { IfErr result (λ error. FailsToLoadList (MakesList form) error
+        (R.remaining source.old) (R.remaining source.new) (R.failed source.old) (R.failed source.new)
+        (R.reads_left source.old) (R.reads_left source.new)) }
+    ensures reads { ReadsEachOnce (R.remaining source.old) (R.reads_left source.old) (R.reads_left source.new) }
+{
+    let bytes = read_bytes(alloc, source)?;
+    let cookies = cookies_of_bytes(form, alloc, &bytes)?;
+    rows_of(alloc, cookies, include_expired, now)
+}
+
+// The cookies of a list as bytes.
+fn cookies_of_bytes(form: Form, alloc: Global, bytes: &[u8]) -> Result<Vec<Cookie<'static>>, Error>
+    ensures made { IfOk result (λ cookies. MakesCookies (MakesList form) bytes.now cookies.items) }
+    ensures refused { IfErr result (λ error. RefusesText (MakesList form) error bytes.now) }
+{
+    match str::from_utf8(bytes) {
+        Ok(text) => cookies_of_text(form, alloc, text),
+        Err(_) => Err(Error::NotUtf8),
+    }
+}
+
+// The cookies of a list as text.
+fn cookies_of_text(form: Form, alloc: Global, text: &str) -> Result<Vec<Cookie<'static>>, Error>
+    ensures { MakesList form text.now (result_map_both (λ cookies. cookies.items) (λ error. error) result) }
+{
+    match form {
+        Form::Json => cookies_of_json(alloc, text),
+    }
+}
+
+// The cookies of a list as JSON. `Saved(Json)` where it is none, and else what its tree is refused for.
+fn cookies_of_json(alloc: Global, text: &str) -> Result<Vec<Cookie<'static>>, Error>
+    ensures { MakesJsonList text.now (result_map_both (λ cookies. cookies.items) (λ error. error) result) }
+{
+    match Value::from_str(alloc, text) {
+        Ok(tree) => cookies_of_tree(alloc, &tree),
+        Err(error) if error.is_memory() => Err(Error::Memory),
+        Err(_) => Err(Error::Saved(SavedError::Json)),
+    }
+}
+
+// The cookies of a list's tree: `Saved(Shape)` or `Saved(Moment)` where it is none, and `Cookie(Parse)` where the text of a raw cookie
+// is none. A fault of the form is told whatever memory is left.
+fn cookies_of_tree(alloc: Global, tree: &Value) -> Result<Vec<Cookie<'static>>, Error>
+    ensures cookies { IfOk result (λ cookies. tree_cookies (view tree.now) ≡ Ok cookies.items) }
+    ensures refused { IfErr result (λ error. (error ≡ Error.Memory) ⊎ (tree_cookies (view tree.now) ≡ Err error)) }
+    ensures early { (fault : SavedError) → list_at (view tree.now) ≡ Err fault → result ≡ Err (Error.Saved fault) }
+{
+    let list = list_from_value(alloc, tree)?;
+    cookies_of_list(alloc, list)
+}
+
+// The cookies of saved forms, or `Cookie(Parse)` where the text of one is no cookie.
+fn cookies_of_list(alloc: Global, list: Vec<Saved>) -> Result<Vec<Cookie<'static>>, Error>
+    ensures cookies { IfOk result (λ cookies. cookies_of_saved (map saved_view list.items) ≡ Ok cookies.items) }
+    ensures refused { IfErr result (λ error. (error ≡ Error.Memory)
+        ⊎ (result_map_both (λ cookies. cookies) Error.Cookie (cookies_of_saved (map saved_view list.items)) ≡ Err error)) }
+{
+    let mut cookies = Vec::new(alloc);
+    for saved in list {
+        cookies.push(Cookie::from_saved(alloc, saved)?)?;
+    }
+    Ok(cookies)
+}
