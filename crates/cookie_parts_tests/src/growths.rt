@@ -9,6 +9,7 @@ use cookie_parts::cookie_domain::is_match;
 use cookie_parts::{Cookie, CookieDomain, CookieError, CookieExpiration, CookiePath, Error};
 use cookie_psl::{List, ListError};
 use cookie_raw::RawCookie;
+use cookie_ron::{from_ron, to_ron};
 use cookie_saved::{
     Saved, SavedDomain, SavedError, SavedExpiry, from_value, list_from_value, list_to_value,
     moment_text, to_value,
@@ -569,5 +570,42 @@ fn list_of_saved(rt: HostRuntime) -> Result<(), Fail> {
     let saved = made(rt.alloc(), list_from_value(rt.alloc(), &list)?)?;
     let written = list_to_value(rt.alloc(), &saved);
     holds(&rt, is_tree(written, &list), &TREE);
+    Ok(())
+}
+
+// The list of two such forms in RON.
+const RON: &str = r#"[
+    (
+        raw_cookie: "a=1; Path=/foo; Domain=bücher.example",
+        path: ("/foo", true),
+        domain: Suffix("xn--bcher-kva.example"),
+        expires: SessionEnd,
+    ),
+    (
+        raw_cookie: "a=1; Path=/foo; Domain=bücher.example",
+        path: ("/foo", true),
+        domain: Suffix("xn--bcher-kva.example"),
+        expires: SessionEnd,
+    ),
+]"#;
+
+fn is_ron(printed: Result<String, SavedError>) -> bool {
+    match printed {
+        Ok(text) => text.as_str() == RON,
+        Err(fault) => fault.is_wanting(),
+    }
+}
+
+#[test]
+fn saved_of_ron(rt: HostRuntime) -> Result<(), Fail> {
+    let text = made(rt.alloc(), RON)?;
+    holds(&rt, are_forms(from_ron(rt.alloc(), text)), &RON);
+    Ok(())
+}
+
+#[test]
+fn ron_of_saved(rt: HostRuntime) -> Result<(), Fail> {
+    let saved = made(rt.alloc(), from_ron(rt.alloc(), RON)?)?;
+    holds(&rt, is_ron(to_ron(rt.alloc(), &saved)), &RON);
     Ok(())
 }

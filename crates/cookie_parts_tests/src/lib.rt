@@ -27,4 +27,6 @@ mod psl;
 #[cfg(test)]
 mod raw;
 #[cfg(test)]
+mod ron;
+#[cfg(test)]
 mod saved;

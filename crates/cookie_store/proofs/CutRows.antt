@@ -1,5 +1,5 @@
 -- Rows whose ends are cut, and what is read of their saved forms.
-use Rattle.std.proofs.Common.{◌≡◌, ℕ, true, List, [], ◌∷◌, ◌++◌, map, Result, Ok, Err, refl, sym, ap, ◌∙◌}
+use Rattle.std.proofs.Common.{◌≡◌, ℕ, true, List, [], ◌∷◌, ◌++◌, map, Result, Ok, Err, refl, sym, ap, subst, ◌∙◌}
 use Rattle.std.specs.List.{All}
 use Rattle.std.proofs.lemmas.List.Elements.{All-head, All-map, All-tail, All-weaker}
 use Rattle.std.specs.declared.alloc.Global.{Global}
@@ -8,7 +8,8 @@ use Rattle.std.specs.Prelude.{option_map, string_bytes}
 use Rattle.serde_json.specs.Data.{Data}
 use Rattle.serde_json.specs.Read.{read}
 use Rattle.cookie_saved.specs.ReadTrees.{cut, list_at}
-use Rattle.cookie_saved.specs.Saved.{EndsAtMoment}
+use Rattle.cookie_saved.specs.Saved.{saved_view, EndsAtMoment}
+use Rattle.cookie_saved.specs.declared.saved.Saved.{Saved}
 use Rattle.cookie_saved.specs.WrittenTrees.{list_written}
 use Rattle.cookie_saved.specs.declared.error.SavedError.{SavedError}
 use Rattle.cookie_raw.specs.CookieText.{cookie_text}
@@ -19,7 +20,8 @@ use Rattle.cookie_parts.specs.declared.error.Error.{Error}
 use Rattle.cookie_parts.specs.Passage.{cookie_of_saved, saved_end, saved_of}
 use Rattle.cookie_laws.specs.Rows.{are_rows, key_of}
 use Rattle.cookie_store.specs.Cuts.{cut_end, cut_row, cut_rows, ReadsBack}
-use Rattle.cookie_store.specs.JsonLists.{cookies_of_saved, json_cookies, tree_cookies, SaysJsonList, SaysListTree}
+use Rattle.cookie_store.specs.JsonLists.{json_cookies, tree_cookies, SaysJsonList, SaysListTree}
+use Rattle.cookie_store.specs.SavedForms.{cookies_of_saved}
 use Rattle.cookie_store.specs.Saving.{line_text}
 use Rattle.cookie_saved.specs.MomentText.{whole_seconds}
 
@@ -37,10 +39,9 @@ pub row_cut : ((cookie : Row) → reading (cookie_text cookie.raw) ≡ Ok cookie
     → (row : Row) → ReadsBack row → cookie_of_saved (cut (saved_of row)) ≡ Ok (cut_row row)
 row_cut comes_back row back = ap cookie_of_saved (sym (saved_cut row)) ∙ comes_back (cut_row row) back.0
 
-module _ (comes_back : (cookie : Row) → reading (cookie_text cookie.raw) ≡ Ok cookie.raw → cookie_of_saved (saved_of cookie) ≡ Ok cookie)
-    (blank : (text : List ℕ) → read (text ++ 10 ∷ []) ≡ read text) where
+module _ (comes_back : (cookie : Row) → reading (cookie_text cookie.raw) ≡ Ok cookie.raw → cookie_of_saved (saved_of cookie) ≡ Ok cookie) where
   -- rows come back from their saved forms, cut
-  cookies_cut : (rows : List Row) → All ReadsBack rows → cookies_of_saved (map cut (map saved_of rows)) ≡ Ok (cut_rows rows)
+  pub cookies_cut : (rows : List Row) → All ReadsBack rows → cookies_of_saved (map cut (map saved_of rows)) ≡ Ok (cut_rows rows)
   cookies_cut [] all = refl
   cookies_cut (row ∷ rows) all =
       rw (row_cut comes_back row (All-head ReadsBack row rows all), cookies_cut rows (All-tail ReadsBack row rows all)) refl
@@ -50,18 +51,19 @@ module _ (comes_back : (cookie : Row) → reading (cookie_text cookie.raw) ≡ O
       → tree_cookies tree ≡ Ok (cut_rows rows)
   tree_comes_back rows tree all is = rw (is, cookies_cut rows all) refl
 
-  -- what is said of them is read so, also with a line feed behind it
-  text_comes_back : (rows : List Row) (told : Result Data SavedError) (text : String Global) → All ReadsBack rows
-      → ((tree : Data) → told ≡ Ok tree → list_at tree ≡ Ok (map cut (map saved_of rows)))
-      → SaysListTree told (Ok text) → json_cookies (line_text text) ≡ Ok (cut_rows rows)
-  text_comes_back rows (Ok tree) text all reads (is, is_read) =
-      rw (json_cookies, blank (string_bytes text) ∙ is_read) (tree_comes_back rows tree all (reads tree refl))
-  text_comes_back rows (Err fault) text all reads says = absurd (cc)
+  module _ (blank : (text : List ℕ) → read (text ++ 10 ∷ []) ≡ read text) where
+    -- what is said of them is read so, also with a line feed behind it
+    text_comes_back : (rows : List Row) (told : Result Data SavedError) (text : String Global) → All ReadsBack rows
+        → ((tree : Data) → told ≡ Ok tree → list_at tree ≡ Ok (map cut (map saved_of rows)))
+        → SaysListTree told (Ok text) → json_cookies (line_text text) ≡ Ok (cut_rows rows)
+    text_comes_back rows (Ok tree) text all reads (is, is_read) =
+        rw (json_cookies, blank (string_bytes text) ∙ is_read) (tree_comes_back rows tree all (reads tree refl))
+    text_comes_back rows (Err fault) text all reads says = absurd (cc)
 
-  pub said_comes_back : (rows : List Row) (text : String Global) → All ReadsBack rows
-      → ((tree : Data) → list_written (map saved_of rows) ≡ Ok tree → list_at tree ≡ Ok (map cut (map saved_of rows)))
-      → SaysJsonList rows (Ok text) → json_cookies (line_text text) ≡ Ok (cut_rows rows)
-  said_comes_back rows text all reads says = text_comes_back rows (list_written (map saved_of rows)) text all reads says
+    pub said_comes_back : (rows : List Row) (text : String Global) → All ReadsBack rows
+        → ((tree : Data) → list_written (map saved_of rows) ≡ Ok tree → list_at tree ≡ Ok (map cut (map saved_of rows)))
+        → SaysJsonList rows (Ok text) → json_cookies (line_text text) ≡ Ok (cut_rows rows)
+    said_comes_back rows text all reads says = text_comes_back rows (list_written (map saved_of rows)) text all reads says
 
 -- a cut row has its key
 keys_cut : (rows : List Row) → map key_of (cut_rows rows) ≡ map key_of rows
@@ -77,7 +79,19 @@ abbrev pub cookies_in : Result (List Row) Error → List Row
 cookies_in (Ok cookies) = cookies
 cookies_in (Err error) = []
 
--- their saved forms end at moments
-pub forms_end : (rows : List Row) → All ReadsBack rows → All EndsAtMoment (map saved_of rows)
-forms_end rows all =
-    All-map EndsAtMoment saved_of rows (All-weaker ReadsBack (λ row. EndsAtMoment (saved_of row)) (λ row back. back.1) rows all)
+-- their saved forms
+pub forms_of : (rows : List Row) → All ReadsBack rows → (forms : List Saved) × (map saved_view forms ≡ map saved_of rows)
+forms_of [] all = ([], refl)
+forms_of (row ∷ rows) all =
+    let back = All-head ReadsBack row rows all in
+    let others = forms_of rows (All-tail ReadsBack row rows all) in
+    (back.1 ∷ others.0, rw (back.2, others.1) refl)
+
+-- end at moments, if each saved cookie does
+module _ (ends : (saved : Saved) → EndsAtMoment (saved_view saved)) where
+  pub form_ends : (row : Row) → ReadsBack row → EndsAtMoment (saved_of row)
+  form_ends row back = subst EndsAtMoment back.2 (ends back.1)
+
+  pub forms_end : (rows : List Row) → All ReadsBack rows → All EndsAtMoment (map saved_of rows)
+  forms_end rows all =
+      All-map EndsAtMoment saved_of rows (All-weaker ReadsBack (λ row. EndsAtMoment (saved_of row)) form_ends rows all)

@@ -6,7 +6,9 @@ pub mod LoadedAlike
 pub mod LoadedLines
 pub mod LongerRuns
 pub mod MadeOfJson
+pub mod MadeOfRon
 pub mod Pairs
+pub mod RonBack
 pub mod SavedAlike
 pub mod SavedLines
 pub mod Walked

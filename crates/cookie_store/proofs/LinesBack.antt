@@ -14,7 +14,8 @@ use Rattle.cookie_raw.specs.CookieText.{cookie_text}
 use Rattle.cookie_raw.specs.Reading.{reading}
 use Rattle.cookie_words.specs.Moments.{Moment}
 use Rattle.cookie_saved.specs.ReadTrees.{cut, saved_at}
-use Rattle.cookie_saved.specs.Saved.{EndsAtMoment, Parts}
+use Rattle.cookie_saved.specs.Saved.{saved_view, EndsAtMoment, Parts}
+use Rattle.cookie_saved.specs.declared.saved.Saved.{Saved}
 use Rattle.cookie_saved.specs.Texts.{has_no_control}
 use Rattle.cookie_saved.specs.WrittenTrees.{written}
 use Rattle.cookie_saved.specs.declared.error.SavedError.{SavedError}
@@ -24,7 +25,7 @@ use Rattle.cookie_store.specs.Cuts.{cut_row, cut_rows, ReadsBack}
 use Rattle.cookie_store.specs.JsonLines.{json_cookie, MakesJson, SaysJson, SaysTree}
 use Rattle.cookie_store.specs.Loading.{AreCookies}
 use Rattle.cookie_store.specs.Saving.{lines_text, AreTexts}
-use Rattle.cookie_store.proofs.CutRows.{row_cut}
+use Rattle.cookie_store.proofs.CutRows.{form_ends, row_cut}
 
 -- a line reads as a cookie
 abbrev ReadsAs : List ℕ → Row → Type 0
@@ -76,13 +77,14 @@ line_more text rest none =
 
 module _ (comes_back : (cookie : Row) → reading (cookie_text cookie.raw) ≡ Ok cookie.raw → cookie_of_saved (saved_of cookie) ≡ Ok cookie)
     (reads_back : (saved : Parts Moment) (tree : Data) → EndsAtMoment saved → written saved ≡ Ok tree → saved_at tree ≡ Ok (cut saved))
-    (are_lines : (saved : Parts Moment) (tree : Data) → written saved ≡ Ok tree → has_no_control (compact_text tree) ≡ true) where
+    (are_lines : (saved : Parts Moment) (tree : Data) → written saved ≡ Ok tree → has_no_control (compact_text tree) ≡ true)
+    (ends : (saved : Saved) → EndsAtMoment (saved_view saved)) where
   of_tree : (row : Row) (told : Result Data SavedError) (text : String Global) → ReadsBack row → written (saved_of row) ≡ told
       → SaysTree told (Ok text)
       → (has_no_control (string_bytes text) ≡ true) × (json_cookie (string_bytes text) ≡ Ok (cut_row row))
   of_tree row (Ok tree) text back is (says, reads) = (
     subst (λ t. has_no_control t ≡ true) (sym says) (are_lines (saved_of row) tree is),
-    rw (json_cookie, reads, reads_back (saved_of row) tree back.1 is, row_cut comes_back row back) refl,
+    rw (json_cookie, reads, reads_back (saved_of row) tree (form_ends ends row back) is, row_cut comes_back row back) refl,
   )
   of_tree row (Err fault) text back is says = absurd (cc)
 

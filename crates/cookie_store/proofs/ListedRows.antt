@@ -15,7 +15,7 @@ use Rattle.cookie_parts.specs.Passage.{cookie_of_saved}
 use Rattle.cookie_parts.specs.declared.cookie_error.CookieError.{CookieError}
 use Rattle.cookie_parts.specs.declared.error.Error.{Error}
 use Rattle.cookie_parts.specs.declared.error.Error.TheVariants.{Io}
-use Rattle.cookie_store.specs.JsonLists.{cookies_of_saved}
+use Rattle.cookie_store.specs.SavedForms.{cookies_of_saved}
 use Rattle.cookie_store.specs.Lists.{FailsToSaveList, MakesCookies, MakesVec, RefusesText, WritesList}
 use Rattle.cookie_store.specs.Saving.{line_text}
 use Rattle.cookie_store.proofs.SavedLines.{filter_around}

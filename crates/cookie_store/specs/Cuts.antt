@@ -3,14 +3,15 @@ use Rattle.std.specs.Prelude.{◌≡◌, List, map, Ok}
 use Rattle.cookie_raw.specs.CookieText.{cookie_text}
 use Rattle.cookie_raw.specs.Reading.{reading}
 use Rattle.cookie_saved.specs.MomentText.{whole_seconds}
-use Rattle.cookie_saved.specs.Saved.{EndsAtMoment}
+use Rattle.cookie_saved.specs.Saved.{saved_view}
+use Rattle.cookie_saved.specs.declared.saved.Saved.{Saved}
 use Rattle.cookie_parts.specs.Cookie.{Row}
 use Rattle.cookie_parts.specs.Expiry.{Expiry, AtUtc, SessionEnd}
 use Rattle.cookie_parts.specs.Passage.{saved_of}
 
--- the text of its raw cookie reads as that raw cookie, and its end, if it is at a moment, is at one that the calendar has
+-- it has a saved form, and the text of its raw cookie reads as that raw cookie
 abbrev pub ReadsBack : Row → Type 0
-ReadsBack row = (reading (cookie_text row.raw) ≡ Ok row.raw) × EndsAtMoment (saved_of row)
+ReadsBack row = (reading (cookie_text row.raw) ≡ Ok row.raw) × (form : Saved) × (saved_view form ≡ saved_of row)
 
 -- an end cut to whole seconds
 abbrev pub cut_end : Expiry → Expiry

@@ -1,22 +1,19 @@
 -- Rows that are saved as one text of JSON, and made of one.
-use Rattle.std.specs.Prelude.{◌≡◌, ◌≢◌, ◌⊎◌, ℕ, List, [], ◌∷◌, map, string_bytes, None, Some, Result, Ok, Err}
-use Rattle.std.specs.Result.{result_map_both}
+use Rattle.std.specs.Prelude.{◌≡◌, ◌≢◌, ◌⊎◌, ℕ, List, [], map, string_bytes, None, Some, Result, Ok, Err}
 use Rattle.std.specs.declared.alloc.Global.{Global}
 use Rattle.std.specs.declared.string.String.{String}
 use Rattle.serde_json.specs.Data.{Data}
 use Rattle.serde_json.specs.Read.{read}
-use Rattle.cookie_words.specs.Moments.{Moment}
 use Rattle.cookie_saved.specs.ReadTrees.{list_at}
-use Rattle.cookie_saved.specs.Saved.{Parts}
 use Rattle.cookie_saved.specs.Texts.{pretty_text}
 use Rattle.cookie_saved.specs.WrittenTrees.{list_written}
 use Rattle.cookie_saved.specs.declared.error.SavedError.{SavedError}
 use Rattle.cookie_saved.specs.declared.error.SavedError.TheVariants.{Json}
-use Rattle.cookie_parts.specs.Cookie.{Row, and_then}
-use Rattle.cookie_parts.specs.Passage.{cookie_of_saved, saved_of}
-use Rattle.cookie_parts.specs.declared.cookie_error.CookieError.{CookieError}
+use Rattle.cookie_parts.specs.Cookie.{Row}
+use Rattle.cookie_parts.specs.Passage.{saved_of}
 use Rattle.cookie_parts.specs.declared.error.Error.{Error}
-use Rattle.cookie_parts.specs.declared.error.Error.TheVariants.{Cookie, Memory, Saved}
+use Rattle.cookie_parts.specs.declared.error.Error.TheVariants.{Memory, Saved}
+use Rattle.cookie_store.specs.SavedForms.{read_cookies}
 
 -- a list's tree is said by its text with a line for each item and member, which reads as it, unless memory is wanting; without a
 -- tree its fault is the answer
@@ -29,18 +26,9 @@ SaysListTree (Err fault) answer = answer ≡ Err (Saved fault)
 abbrev pub SaysJsonList : List Row → Result (String Global) Error → Type 0
 SaysJsonList rows answer = SaysListTree (list_written (map saved_of rows)) answer
 
--- the cookies of saved forms, or why the first that has none has none
-abbrev pub cookies_of_saved : List (Parts Moment) → Result (List Row) CookieError
-cookies_of_saved [] = Ok []
-cookies_of_saved (form ∷ forms) =
-    and_then (cookie_of_saved form) (λ cookie.
-    result_map_both (λ cookies. cookie ∷ cookies) (λ fault. fault) (cookies_of_saved forms))
-
 -- the cookies of a list's tree, or why there are none
 abbrev pub tree_cookies : Data → Result (List Row) Error
-tree_cookies tree =
-    and_then (result_map_both (λ list. list) Saved (list_at tree))
-    (λ list. result_map_both (λ cookies. cookies) Cookie (cookies_of_saved list))
+tree_cookies tree = read_cookies (list_at tree)
 
 -- the cookies of a text: those of its tree, and `Saved(Json)` where it is no JSON
 abbrev pub json_cookies : List ℕ → Result (List Row) Error

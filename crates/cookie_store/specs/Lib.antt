@@ -15,4 +15,6 @@ pub mod JsonLists
 pub mod Lists
 pub mod Loading
 pub mod Responses
+pub mod RonLists
+pub mod SavedForms
 pub mod Saving

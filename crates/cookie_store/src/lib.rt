@@ -10,6 +10,7 @@ mod json_lines;
 mod lists;
 mod loading;
 mod response;
+pub mod saved;
 mod saving;
 pub mod serde;
 
@@ -26,5 +27,4 @@ pub use cookie_psl as psl;
 pub use cookie_raw as raw;
 pub use cookie_raw::{RawCookie, RawCookieParseError};
 pub use cookie_rows::{HashKey, IterAny, IterUnexpired, RequestCookies, RequestValues};
-pub use cookie_saved as saved;
 pub use cookie_store::{CookieStore, InsertResult};

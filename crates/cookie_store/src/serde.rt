@@ -17,6 +17,7 @@ use std::alloc::Global;
 mod forms;
 pub mod json;
 pub mod laws;
+pub mod ron;
 
 /// Writes what the function says of the cookies that have not ended by the moment and end at one, in the store's order, and a line
 /// feed. The function is handed copies of them, once, before anything is written. Its error, or `Memory` where there was no room for

@@ -3,7 +3,7 @@ use crate::built::{Came, cookie, items, store_of};
 use crate::calls::{Asked, CALLS, all_calls, are_told, call};
 use crate::checks::{end_of, is_equal};
 use crate::json::{load_json, save_json};
-use crate::lists::{load_list, save_list};
+use crate::lists::{Form, load_list, save_list};
 use crate::loaded::{cookie_of, load_cookies};
 use crate::responses::raw_cookies;
 use crate::saved::{LASTING, Which};
@@ -584,39 +584,64 @@ fn all_loaded_from_json(rt: HostRuntime) {
     are_loaded_from_json(&rt, rt.alloc(), &Which::All);
 }
 
-fn are_saved_as_a_list(rt: &impl Abort, alloc: Global, which: &Which) {
+fn are_saved_as_a_list(rt: &impl Abort, form: Form, alloc: Global, which: &Which) {
     let store = store_of(rt, alloc, &LASTING);
     let room = Vec::with_capacity(alloc, 1_024).expect(rt, "memory");
     let fake = Fake::new(room, usize::MAX, 0);
     start(alloc);
-    let (outcome, failures, written) = save_list(&store, which, fake);
+    let (outcome, failures, written) = save_list(form, &store, which, fake);
     end(alloc);
     is_equal(rt, &failures, &0, which);
     match &outcome {
-        Ok(()) => is_equal(rt, &written.ends_with(b"  }\n]\n"), &true, which),
+        Ok(()) => is_equal(rt, &written.ends_with(b"\n]\n"), &true, which),
         Err(error) => is_equal(rt, &(error, written.len()), &(&Error::Memory, 0), which),
     }
 }
 
 #[test]
 fn saved_as_a_list(rt: HostRuntime) {
-    are_saved_as_a_list(&rt, rt.alloc(), &Which::At(new_year()));
+    are_saved_as_a_list(&rt, Form::Json, rt.alloc(), &Which::At(new_year()));
 }
 
 #[test]
 fn all_saved_as_a_list(rt: HostRuntime) {
-    are_saved_as_a_list(&rt, rt.alloc(), &Which::All);
+    are_saved_as_a_list(&rt, Form::Json, rt.alloc(), &Which::All);
 }
 
-const LIST: &[u8] =
-    br#"[{"domain":{"Suffix":"example.com"},"expires":"SessionEnd","path":["/",true],"raw_cookie":"y=1"},
-{"domain":{"HostOnly":"a.b.example.com"},"expires":{"AtUtc":"2100-08-03T00:38:37Z"},"path":["/p",false],"raw_cookie":"u=1"}]
-"#;
+#[test]
+fn saved_in_ron(rt: HostRuntime) {
+    are_saved_as_a_list(&rt, Form::Ron, rt.alloc(), &Which::At(new_year()));
+}
 
-fn are_loaded_from_a_list(rt: &impl Abort, alloc: Global, which: &Which) {
-    let fake = Fake::new(LIST, usize::MAX, 0);
+#[test]
+fn all_saved_in_ron(rt: HostRuntime) {
+    are_saved_as_a_list(&rt, Form::Ron, rt.alloc(), &Which::All);
+}
+
+const LISTS: [(Form, &[u8]); 2] = [
+    (
+        Form::Json,
+        br#"[{"domain":{"Suffix":"example.com"},"expires":"SessionEnd","path":["/",true],"raw_cookie":"y=1"},
+{"domain":{"HostOnly":"a.b.example.com"},"expires":{"AtUtc":"2100-08-03T00:38:37Z"},"path":["/p",false],"raw_cookie":"u=1"}]
+"#,
+    ),
+    (
+        Form::Ron,
+        br#"[(raw_cookie: "y=1", path: ("/", true), domain: Suffix("example.com"), expires: SessionEnd),
+(raw_cookie: "u=1", path: ("/p", false), domain: HostOnly("a.b.example.com"), expires: AtUtc("2100-08-03T00:38:37Z"))]
+"#,
+    ),
+];
+
+fn are_loaded_from_a_list(
+    rt: &impl Abort,
+    alloc: Global,
+    list: &(Form, &'static [u8]),
+    which: &Which,
+) {
+    let fake = Fake::new(list.1, usize::MAX, 0);
     start(alloc);
-    let (outcome, failures) = load_list(alloc, which, fake);
+    let (outcome, failures) = load_list(list.0, alloc, which, fake);
     end(alloc);
     is_equal(rt, &failures, &0, which);
     match &outcome {
@@ -627,12 +652,22 @@ fn are_loaded_from_a_list(rt: &impl Abort, alloc: Global, which: &Which) {
 
 #[test]
 fn loaded_from_a_list(rt: HostRuntime) {
-    are_loaded_from_a_list(&rt, rt.alloc(), &Which::At(new_year()));
+    are_loaded_from_a_list(&rt, rt.alloc(), &LISTS[0], &Which::At(new_year()));
 }
 
 #[test]
 fn all_loaded_from_a_list(rt: HostRuntime) {
-    are_loaded_from_a_list(&rt, rt.alloc(), &Which::All);
+    are_loaded_from_a_list(&rt, rt.alloc(), &LISTS[0], &Which::All);
+}
+
+#[test]
+fn loaded_from_ron(rt: HostRuntime) {
+    are_loaded_from_a_list(&rt, rt.alloc(), &LISTS[1], &Which::At(new_year()));
+}
+
+#[test]
+fn all_loaded_from_ron(rt: HostRuntime) {
+    are_loaded_from_a_list(&rt, rt.alloc(), &LISTS[1], &Which::All);
 }
 
 // An empty text where all rows are handed over, and else an error that is no want of memory.

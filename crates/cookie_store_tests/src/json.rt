@@ -118,6 +118,7 @@ pub fn fault_of(outcome: &Result<CookieStore, Error>) -> &'static str {
         Ok(_) => "none",
         Err(Error::Saved(SavedError::Json)) => "no JSON",
         Err(Error::Saved(SavedError::Shape)) => "another shape",
+        Err(Error::Saved(SavedError::Ron)) => "no RON",
         Err(Error::Saved(SavedError::Moment)) => "no moment",
         Err(Error::Cookie(CookieError::Parse)) => "no cookie",
         Err(Error::NotUtf8) => "no UTF-8",

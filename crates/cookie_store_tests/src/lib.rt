@@ -26,6 +26,8 @@ mod matching;
 #[cfg(test)]
 mod responses;
 #[cfg(test)]
+mod ron;
+#[cfg(test)]
 mod rows;
 #[cfg(test)]
 mod saved;

@@ -12,37 +12,60 @@ use jiff::civil::date;
 use std::alloc::Global;
 use std::process::Abort;
 
+/// What a list is written in.
+#[derive(Clone, Copy, Debug)]
+pub enum Form {
+    Json,
+    Ron,
+}
+
 // How saving ends, how many writes failed, and what is written.
 pub fn save_list(
+    form: Form,
     store: &CookieStore,
     which: &Which,
     fake: Fake<Vec<u8>>,
 ) -> (Result<(), Error>, u64, Vec<u8>) {
     let mut writer = Counted::new(fake);
-    let outcome = match which {
-        Which::All => serde::json::save_incl_expired_and_nonpersistent(store, &mut writer),
-        Which::At(now) => serde::json::save(store, &mut writer, *now),
+    let outcome = match (form, which) {
+        (Form::Json, Which::All) => {
+            serde::json::save_incl_expired_and_nonpersistent(store, &mut writer)
+        }
+        (Form::Json, Which::At(now)) => serde::json::save(store, &mut writer, *now),
+        (Form::Ron, Which::All) => {
+            serde::ron::save_incl_expired_and_nonpersistent(store, &mut writer)
+        }
+        (Form::Ron, Which::At(now)) => serde::ron::save(store, &mut writer, *now),
     };
     (outcome, writer.failures(), writer.into_inner().inner)
 }
 
 // How loading ends, and how many reads failed.
 pub fn load_list(
+    form: Form,
     alloc: Global,
     which: &Which,
     fake: Fake<&[u8]>,
 ) -> (Result<CookieStore, Error>, u64) {
     let mut reader = Counted::new(fake);
-    let outcome = match which {
-        Which::All => serde::json::load_all(alloc, &mut reader, new_year()),
-        Which::At(now) => serde::json::load(alloc, &mut reader, *now),
+    let outcome = match (form, which) {
+        (Form::Json, Which::All) => serde::json::load_all(alloc, &mut reader, new_year()),
+        (Form::Json, Which::At(now)) => serde::json::load(alloc, &mut reader, *now),
+        (Form::Ron, Which::All) => serde::ron::load_all(alloc, &mut reader, new_year()),
+        (Form::Ron, Which::At(now)) => serde::ron::load(alloc, &mut reader, *now),
     };
     (outcome, reader.failures())
 }
 
-fn loaded(rt: &impl Abort, alloc: Global, which: &Which, text: &str) -> CookieStore {
+pub fn loaded(
+    rt: &impl Abort,
+    form: Form,
+    alloc: Global,
+    which: &Which,
+    text: &str,
+) -> CookieStore {
     let fake = Fake::new(text.as_bytes(), 100, 0);
-    load_list(alloc, which, fake).0.expect(rt, "a store")
+    load_list(form, alloc, which, fake).0.expect(rt, "a store")
 }
 
 // A list as Rust's crate writes it, with its members in the order of their declaration.
@@ -181,7 +204,7 @@ const ROWS: [&str; 2] = [
 #[test]
 fn a_list_of_the_rust_crate_is_loaded(rt: HostRuntime) {
     for (which, wanted) in &[(Which::All, ROWS[0]), (Which::At(new_year()), ROWS[1])] {
-        let store = loaded(&rt, rt.alloc(), which, TEN);
+        let store = loaded(&rt, Form::Json, rt.alloc(), which, TEN);
         let rows = all_listed(&rt, rt.alloc(), &store);
         is_equal(&rt, &rows.as_str(), wanted, which);
         let row = store
@@ -191,7 +214,7 @@ fn a_list_of_the_rust_crate_is_loaded(rt: HostRuntime) {
     }
 }
 
-const CAME: [Came; 2] = [
+pub const CAME: [Came; 2] = [
     (
         "http://test.com/",
         "2=two; SameSite=None; Secure; Path=/; Expires=Tue, 03 Aug 2100 00:38:37 GMT",
@@ -246,9 +269,16 @@ const WRITTEN: [&str; 2] = [
 "#,
 ];
 
-fn is_written(rt: &impl Abort, alloc: Global, store: &CookieStore, which: &Which, wanted: &str) {
+pub fn is_written(
+    rt: &impl Abort,
+    form: Form,
+    alloc: Global,
+    store: &CookieStore,
+    which: &Which,
+    wanted: &str,
+) {
     let fake = Fake::new(Vec::new(alloc), usize::MAX, 0);
-    let (outcome, failures, written) = save_list(store, which, fake);
+    let (outcome, failures, written) = save_list(form, store, which, fake);
     is_equal(rt, &outcome, &Ok(()), which);
     is_equal(rt, &failures, &0, which);
     let text = str::from_utf8(written.as_slice()).expect(rt, "UTF-8");
@@ -258,16 +288,23 @@ fn is_written(rt: &impl Abort, alloc: Global, store: &CookieStore, which: &Which
 #[test]
 fn rows_are_saved_as_a_list(rt: HostRuntime) {
     let store = store_of(&rt, rt.alloc(), &CAME);
-    is_written(&rt, rt.alloc(), &store, &Which::All, WRITTEN[0]);
-    is_written(&rt, rt.alloc(), &store, &Which::At(new_year()), WRITTEN[1]);
+    is_written(&rt, Form::Json, rt.alloc(), &store, &Which::All, WRITTEN[0]);
+    is_written(
+        &rt,
+        Form::Json,
+        rt.alloc(),
+        &store,
+        &Which::At(new_year()),
+        WRITTEN[1],
+    );
     let later = Which::At(date(2100, 8, 4).at(0, 0, 0, 0));
-    is_written(&rt, rt.alloc(), &store, &later, "[]\n");
+    is_written(&rt, Form::Json, rt.alloc(), &store, &later, "[]\n");
 }
 
 #[test]
 fn what_is_saved_as_a_list_loads_again(rt: HostRuntime) {
     let store = store_of(&rt, rt.alloc(), &CAME);
-    let again = loaded(&rt, rt.alloc(), &Which::All, WRITTEN[0]);
+    let again = loaded(&rt, Form::Json, rt.alloc(), &Which::All, WRITTEN[0]);
     let listed = all_listed(&rt, rt.alloc(), &store);
     is_equal(
         &rt,
@@ -298,14 +335,14 @@ const ENDED: &str = r#"[
 
 #[test]
 fn a_cookie_that_has_ended_is_kept_by_load_all(rt: HostRuntime) {
-    let live = loaded(&rt, rt.alloc(), &Which::At(new_year()), ENDED);
+    let live = loaded(&rt, Form::Json, rt.alloc(), &Which::At(new_year()), ENDED);
     is_equal(
         &rt,
         &all_listed(&rt, rt.alloc(), &live).as_str(),
         &"",
         &"load",
     );
-    let all = loaded(&rt, rt.alloc(), &Which::All, ENDED);
+    let all = loaded(&rt, Form::Json, rt.alloc(), &Which::All, ENDED);
     is_equal(
         &rt,
         &all_listed(&rt, rt.alloc(), &all).as_str(),
@@ -314,8 +351,15 @@ fn a_cookie_that_has_ended_is_kept_by_load_all(rt: HostRuntime) {
     );
     let rows = unexpired(&rt, rt.alloc(), &all, new_year());
     is_equal(&rt, &rows.len(), &0, &"iter_unexpired");
-    is_written(&rt, rt.alloc(), &all, &Which::At(new_year()), "[]\n");
-    is_written(&rt, rt.alloc(), &all, &Which::All, ENDED);
+    is_written(
+        &rt,
+        Form::Json,
+        rt.alloc(),
+        &all,
+        &Which::At(new_year()),
+        "[]\n",
+    );
+    is_written(&rt, Form::Json, rt.alloc(), &all, &Which::All, ENDED);
 }
 
 // Bytes that are no list, and what they are refused for.
@@ -369,7 +413,7 @@ fn bad_lists_are_refused(rt: HostRuntime) {
     for (bytes, wanted) in REFUSED {
         for which in &[Which::All, Which::At(new_year())] {
             let fake = Fake::new(bytes, usize::MAX, 0);
-            let (outcome, failures) = load_list(rt.alloc(), which, fake);
+            let (outcome, failures) = load_list(Form::Json, rt.alloc(), which, fake);
             is_equal(&rt, &fault_of(&outcome), &wanted, &bytes);
             is_equal(&rt, &failures, &0, &bytes);
         }
@@ -382,7 +426,7 @@ fn a_list_nests_so_deep_and_no_deeper(rt: HostRuntime) {
     let closing = "]".repeat(rt.alloc(), 200).expect(&rt, "memory");
     text.push_str(closing.as_str()).expect(&rt, "memory");
     let fake = Fake::new(text.as_bytes(), usize::MAX, 0);
-    let (outcome, _) = load_list(rt.alloc(), &Which::All, fake);
+    let (outcome, _) = load_list(Form::Json, rt.alloc(), &Which::All, fake);
     is_equal(&rt, &fault_of(&outcome), &"no JSON", &"200 deep");
 }
 
@@ -392,7 +436,7 @@ fn a_list_that_is_cut_off_is_refused(rt: HostRuntime) {
     let bytes = WRITTEN[0].as_bytes();
     for length in 0..bytes.len() {
         let fake = Fake::new(&bytes[..length], usize::MAX, 0);
-        let (outcome, _) = load_list(rt.alloc(), &Which::All, fake);
+        let (outcome, _) = load_list(Form::Json, rt.alloc(), &Which::All, fake);
         let is_whole = length.saturating_add(1) == bytes.len();
         let wanted = if is_whole { "none" } else { "no JSON" };
         is_equal(&rt, &fault_of(&outcome), &wanted, &length);
@@ -405,7 +449,7 @@ fn lists_and_lines_are_told_apart(rt: HostRuntime) {
     let fake = Fake::new(Vec::new(rt.alloc()), usize::MAX, 0);
     let (_, lines) = save_json(&store, &Which::All, fake);
     let fake = Fake::new(lines.as_slice(), usize::MAX, 0);
-    let (outcome, _) = load_list(rt.alloc(), &Which::All, fake);
+    let (outcome, _) = load_list(Form::Json, rt.alloc(), &Which::All, fake);
     is_equal(
         &rt,
         &fault_of(&outcome),
@@ -422,16 +466,17 @@ fn lists_and_lines_are_told_apart(rt: HostRuntime) {
     );
 }
 
-// Which rows are saved, by writes of at most how many bytes, and the write that fails.
+// The list of a store as text, by writes of at most how many bytes, and the write that fails.
 fn is_whole(
     rt: &impl Abort,
     alloc: Global,
     store: &CookieStore,
-    row: &(&Which, usize, usize),
+    list: &(Form, &str),
+    row: &(usize, usize),
 ) -> bool {
-    let (which, most, fails_at) = *row;
-    let fake = Fake::new(Vec::new(alloc), most, fails_at);
-    let (outcome, failures, written) = save_list(store, which, fake);
+    let (form, text) = *list;
+    let fake = Fake::new(Vec::new(alloc), row.0, row.1);
+    let (outcome, failures, written) = save_list(form, store, &Which::All, fake);
     let is_whole = outcome.is_ok();
     let wanted = if is_whole {
         (Ok(()), 0)
@@ -440,15 +485,21 @@ fn is_whole(
     };
     is_equal(rt, &outcome, &wanted.0, row);
     is_equal(rt, &failures, &wanted.1, row);
-    let is_beginning = WRITTEN[0].as_bytes().starts_with(&written);
+    let is_beginning = text.as_bytes().starts_with(&written);
     is_equal(rt, &is_beginning, &true, row);
-    is_equal(rt, &(written.len() == WRITTEN[0].len()), &is_whole, row);
+    is_equal(rt, &(written.len() == text.len()), &is_whole, row);
     is_whole
 }
 
-fn each_write_fails(rt: &impl Abort, alloc: Global, store: &CookieStore, most: usize) {
+pub fn each_write_fails(
+    rt: &impl Abort,
+    alloc: Global,
+    store: &CookieStore,
+    list: &(Form, &str),
+    most: usize,
+) {
     for fails_at in 1..1_000 {
-        if is_whole(rt, alloc, store, &(&Which::All, most, fails_at)) {
+        if is_whole(rt, alloc, store, list, &(most, fails_at)) {
             return;
         }
     }
@@ -459,18 +510,22 @@ fn each_write_fails(rt: &impl Abort, alloc: Global, store: &CookieStore, most: u
 fn a_failed_write_leaves_a_beginning_of_a_list(rt: HostRuntime) {
     let store = store_of(&rt, rt.alloc(), &CAME);
     for most in [1, 100, usize::MAX] {
-        each_write_fails(&rt, rt.alloc(), &store, most);
+        each_write_fails(&rt, rt.alloc(), &store, &(Form::Json, WRITTEN[0]), most);
+    }
+}
+
+pub fn each_read_fails(rt: &impl Abort, form: Form, alloc: Global, text: &str) {
+    for fails_at in 1..=12 {
+        let fake = Fake::new(text.as_bytes(), 16, fails_at);
+        let (outcome, failures) = load_list(form, alloc, &Which::All, fake);
+        is_equal(rt, &end_of(&outcome), &"a device", &fails_at);
+        is_equal(rt, &failures, &1, &fails_at);
     }
 }
 
 #[test]
 fn a_failed_read_makes_no_store_of_a_list(rt: HostRuntime) {
-    for fails_at in 1..=12 {
-        let fake = Fake::new(WRITTEN[1].as_bytes(), 25, fails_at);
-        let (outcome, failures) = load_list(rt.alloc(), &Which::All, fake);
-        is_equal(&rt, &end_of(&outcome), &"a device", &fails_at);
-        is_equal(&rt, &failures, &1, &fails_at);
-    }
+    each_read_fails(&rt, Form::Json, rt.alloc(), WRITTEN[1]);
 }
 
 // The names of the cookies, or `Other` where there are none.

@@ -10,9 +10,11 @@ ghost use Rattle.cookie_saved.specs.Saved.{saved_view};
 ghost use Rattle.cookie_saved.specs.WrittenTrees.{is_early};
 ghost use Rattle.cookie_parts.specs.Passage.{saved_of};
 ghost use Rattle.cookie_store.specs.Forms.{MakesList, SaysList};
-ghost use Rattle.cookie_store.specs.JsonLists.{cookies_of_saved, tree_cookies, MakesJsonList};
+ghost use Rattle.cookie_store.specs.JsonLists.{tree_cookies, MakesJsonList};
 ghost use Rattle.cookie_store.specs.Lists.{BuildsFromList, FailsToLoadList, FailsToSaveList, MakesCookies, RefusesText, WritesList};
 ghost use Rattle.cookie_store.specs.Loading.{ReadsEachOnce};
+ghost use Rattle.cookie_store.specs.RonLists.{MakesRonList};
+ghost use Rattle.cookie_store.specs.SavedForms.{cookies_of_saved};
 ghost use Rattle.cookie_store.specs.Saving.{is_among};
 
 use crate::json_lines::ends_early;
@@ -20,6 +22,7 @@ use crate::lists::{read_bytes, rows_of, write_text};
 use crate::saving::is_among;
 use cookie_device::{Sink, Source};
 use cookie_parts::{Cookie, Error};
+use cookie_ron::{from_ron, to_ron};
 use cookie_rows::Rows;
 use cookie_saved::{Saved, SavedError, list_from_value, list_to_text};
 use jiff::civil::DateTime;
@@ -31,6 +34,8 @@ use std::alloc::{AllocError, Global};
 pub enum Form {
     /// A tree of JSON, laid out a line for each item and member.
     Json,
+    /// A list in RON.
+    Ron,
 }
 
 /// Writes the list of the rows that are saved at the moment, or of all where there is none, and a line feed.
@@ -63,6 +68,7 @@ fn text_of(form: Form, alloc: Global, rows: &Rows, now: &Option<DateTime>) -> Re
     let list = saved_list(alloc, rows, now)?;
     match form {
         Form::Json => Ok(list_to_text(alloc, &list)?),
+        Form::Ron => Ok(to_ron(alloc, &list)?),
     }
 }
 
@@ -130,6 +136,7 @@ fn cookies_of_text(form: Form, alloc: Global, text: &str) -> Result<Vec<Cookie<'
 {
     match form {
         Form::Json => cookies_of_json(alloc, text),
+        Form::Ron => cookies_of_ron(alloc, text),
     }
 }
 
@@ -142,6 +149,15 @@ fn cookies_of_json(alloc: Global, text: &str) -> Result<Vec<Cookie<'static>>, Er
         Err(error) if error.is_memory() => Err(Error::Memory),
         Err(_) => Err(Error::Saved(SavedError::Json)),
     }
+}
+
+// The cookies of a list in RON. `Saved(Ron)` where it is none, `Saved(Moment)` where the text of an end is no moment, and
+// `Cookie(Parse)` where that of a raw cookie is none.
+fn cookies_of_ron(alloc: Global, text: &str) -> Result<Vec<Cookie<'static>>, Error>
+    ensures { MakesRonList text.now (result_map_both (λ cookies. cookies.items) (λ error. error) result) }
+{
+    let list = from_ron(alloc, text)?;
+    cookies_of_list(alloc, list)
 }
 
 // The cookies of a list's tree: `Saved(Shape)` or `Saved(Moment)` where it is none, and `Cookie(Parse)` where the text of a raw cookie

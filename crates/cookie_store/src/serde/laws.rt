@@ -12,21 +12,24 @@ ghost use Rattle.cookie_store.specs.JsonLines.{json_cookie, MakesJson, SaysJson}
 ghost use Rattle.cookie_store.specs.JsonLists.{json_cookies, MakesJsonList, SaysJsonList};
 ghost use Rattle.cookie_store.specs.Lists.{BuildsFromList, WritesList};
 ghost use Rattle.cookie_store.specs.Loading.{BuildsFrom};
+ghost use Rattle.cookie_store.specs.RonLists.{MakesRonList, RonCookies, SaysRonList};
 ghost use Rattle.cookie_store.specs.Saving.{line_text, lines_text, AreTexts, WritesRows};
 
 use cookie_parts::laws::comes_back;
+use cookie_ron::laws::{answers_are_one, printed_reads_back};
 use cookie_saved::laws::{
-    compact_texts_are_lines, line_feeds_are_blank, list_reads_back, reads_back,
+    compact_texts_are_lines, ends_are_moments, line_feeds_are_blank, list_reads_back, reads_back,
 };
 
-/// What is said of rows as a list of JSON, and a line feed behind it, is the text of those rows, each end cut to whole seconds, where
-/// the text of each raw cookie reads as that raw cookie.
+/// What is said of rows as a list in JSON, and a line feed behind it, is the text of those rows, each end cut to whole seconds, where
+/// the text of each raw cookie reads as that raw cookie. The saved form that each row is asked to have is what `to_saved` answers.
 pub fn list_comes_back()
     ensures { (rows : List Row) (text : String Global) → All ReadsBack rows → SaysJsonList rows (Ok text)
         → json_cookies (line_text text) ≡ Ok (cut_rows rows) }
 {
     list_reads_back();
     line_feeds_are_blank();
+    ends_are_moments();
     comes_back();
 }
 
@@ -40,6 +43,27 @@ pub fn list_loads_again()
     cookie_laws::rebuilt();
 }
 
+/// The same of a list in RON.
+pub fn ron_list_comes_back()
+    ensures { (rows : List Row) (text : String Global) → All ReadsBack rows → SaysRonList rows (Ok text)
+        → RonCookies (line_text text) (Ok (cut_rows rows)) }
+{
+    printed_reads_back();
+    comes_back();
+}
+
+/// So a list in RON of all rows of such a store, which was saved from its beginning, loads as those rows in the same order, as the
+/// list in JSON does.
+pub fn ron_list_loads_again()
+    ensures { (rows loaded : List Row) (written : List ℕ) (now : Moment) → are_rows rows ≡ true → All ReadsBack rows
+        → WritesList SaysRonList rows (Some []) (Some written) → BuildsFromList MakesRonList (Some written) true now loaded
+        → loaded ≡ cut_rows rows }
+{
+    ron_list_comes_back();
+    answers_are_one();
+    cookie_laws::rebuilt();
+}
+
 /// What is said of rows as lines of JSON is as many lines, and the cookies of these are those rows, each end cut to whole seconds, where
 /// the text of each raw cookie reads as that raw cookie.
 pub fn lines_come_back()
@@ -48,6 +72,7 @@ pub fn lines_come_back()
 {
     reads_back();
     compact_texts_are_lines();
+    ends_are_moments();
     comes_back();
 }
 

@@ -1,0 +1,33 @@
+-- A text says one thing, since it is of the grammar of one list at most.
+use Rattle.std.proofs.Common.{◌≡◌, ℕ, List, Option, Some, None, Result, Ok, Err, inl, inr, sym, ap, ◌∙◌}
+use Rattle.std.specs.Str.{chars}
+use Rattle.cookie_words.specs.Moments.{Moment}
+use Rattle.cookie_saved.specs.ReadTrees.{all_with_moment}
+use Rattle.cookie_saved.specs.Saved.{Parts}
+use Rattle.cookie_saved.specs.declared.error.SavedError.{SavedError}
+use Rattle.cookie_ron.specs.Grammar.{IsList}
+use Rattle.cookie_ron.specs.RonLists.{SaysRon}
+
+module _ (one : (parts others : List (Parts (List ℕ))) (text : List ℕ) → IsList parts text → IsList others text → parts ≡ others) where
+  -- of two lists that a text has the moments are the same
+  same_moments : (text : List ℕ) (parts others : List (Parts (List ℕ))) (a b : Option (List (Parts Moment)))
+      → IsList parts (chars text) → all_with_moment parts ≡ a → IsList others (chars text) → all_with_moment others ≡ b → a ≡ b
+  same_moments text parts others a b is reads are read =
+      sym reads ∙ ap all_with_moment (one parts others (chars text) is are) ∙ read
+
+  pub one_answer : (text : List ℕ) (answer other : Result (List (Parts Moment)) SavedError) → SaysRon text answer → SaysRon text other
+      → answer ≡ other
+  one_answer text (Ok list) (Ok lists) (parts, is, reads) (others, are, read) =
+      let some = same_moments text parts others (Some list) (Some lists) is reads are read in
+      let same : list ≡ lists = cc in
+      ap Ok same
+  one_answer text (Ok list) (Err fault) (parts, is, reads) (inl (ron, none)) = absurd (none parts is)
+  one_answer text (Ok list) (Err fault) (parts, is, reads) (inr (moment, others, are, none)) =
+      let clash = same_moments text parts others (Some list) None is reads are none in absurd (cc)
+  one_answer text (Err fault) (Ok list) (inl (ron, none)) (parts, is, reads) = absurd (none parts is)
+  one_answer text (Err fault) (Ok list) (inr (moment, others, are, none)) (parts, is, reads) =
+      let clash = same_moments text parts others (Some list) None is reads are none in absurd (cc)
+  one_answer text (Err fault) (Err faults) (inl (ron, none)) (inl (rons, nones)) = ap Err (ron ∙ sym rons)
+  one_answer text (Err fault) (Err faults) (inl (ron, none)) (inr (moment, others, are, no_moment)) = absurd (none others are)
+  one_answer text (Err fault) (Err faults) (inr (moment, others, are, no_moment)) (inl (ron, none)) = absurd (none others are)
+  one_answer text (Err fault) (Err faults) (inr (moment, parts, is, none)) (inr (moments, others, are, nones)) = ap Err (moment ∙ sym moments)

@@ -1,0 +1,63 @@
+-- What is printed of a list says that list, its ends cut to whole seconds.
+use Rattle.std.proofs.Common.{◌≡◌, ℕ, ℤ, pos, negsuc, ◌≤ℤ◌, int_lt, List, [], ◌∷◌, ◌++◌, map, Bool, true, false, true≢false, Some, Ok, Err, is_ok, option_map, if◌then◌else◌, refl, sym, ap, subst, arith}
+use Rattle.std.specs.List.{list_any}
+use Rattle.jiff_core.proofs.SignedLemmas.{signed_arith}
+use Rattle.jiff_core.specs.declared.civil.datetime.DateTime.{DateTime}
+use Rattle.cookie_words.specs.Moments.{moment_of}
+use Rattle.cookie_saved.specs.MomentText.{moment_at, moment_text, whole_seconds}
+use Rattle.cookie_saved.specs.ReadTrees.{all_with_moment, cut, ends_at, with_moment}
+use Rattle.cookie_saved.specs.Saved.{expiry_view, saved_view}
+use Rattle.cookie_saved.specs.WrittenTrees.{ends_early, is_early, with_ends, with_text}
+use Rattle.cookie_saved.specs.declared.error.SavedError.{SavedError}
+use Rattle.cookie_saved.specs.declared.error.SavedError.TheVariants as Fault
+use Rattle.cookie_saved.specs.declared.saved.Saved.{Saved}
+use Rattle.cookie_saved.specs.declared.saved.SavedExpiry.{SavedExpiry}
+use Rattle.cookie_saved.specs.declared.saved.SavedExpiry.TheVariants as Expiry
+use Rattle.cookie_ron.specs.Printed.{ron_written}
+use Rattle.cookie_ron.specs.RonLists.{SaysRon}
+use Rattle.cookie_ron.proofs.Bools.{both_false}
+use Rattle.cookie_ron.proofs.PrintedLists.{line_is_list, printed_is_list}
+
+-- the text of a moment reads as that moment
+abbrev ReadsBack : Type 0
+ReadsBack = (moment : DateTime) → pos 0 ≤ℤ moment.date.year → moment_at (moment_text (moment_of moment)) ≡ Some (whole_seconds (moment_of moment))
+
+from_zero : (z : ℤ) → int_lt z (pos 0) ≡ false → pos 0 ≤ℤ z
+from_zero (pos n) h = omega (arith, signed_arith)
+from_zero (negsuc n) h = absurd (true≢false h)
+
+end_kept : ReadsBack → (e : SavedExpiry) → ends_early (expiry_view e) ≡ false
+    → ends_at (option_map moment_text (expiry_view e)) ≡ Some (option_map whole_seconds (expiry_view e))
+end_kept back (Expiry.AtUtc time) h = ap (option_map (λ m. Some m)) (back time (from_zero time.date.year h))
+end_kept back Expiry.SessionEnd h = refl
+
+kept : ReadsBack → (s : Saved) → is_early (saved_view s) ≡ false → with_moment (with_text (saved_view s)) ≡ Some (cut (saved_view s))
+kept back s h = ap (option_map (λ ends. with_ends (saved_view s) ends)) (end_kept back s.expires h)
+
+all_kept : ReadsBack → (list : List Saved) → list_any is_early (map saved_view list) ≡ false
+    → all_with_moment (map with_text (map saved_view list)) ≡ Some (map cut (map saved_view list))
+all_kept back [] h = refl
+all_kept back (s ∷ list) h =
+    let none = both_false (is_early (saved_view s)) (list_any is_early (map saved_view list)) h in
+    rw (kept back s none.0, all_kept back list none.1) refl
+
+-- what is printed where nothing is refused
+printed_of : (early : Bool) (fault : SavedError) (printed text : List ℕ) → (if early then Err fault else Ok printed) ≡ Ok text
+    → (early ≡ false) × (printed ≡ text)
+printed_of true fault printed text h = absurd (true≢false (sym (ap is_ok h)))
+printed_of false fault printed text h = (refl, cc)
+
+pub read_back : ReadsBack → (list : List Saved) (text : List ℕ) → ron_written (map saved_view list) ≡ Ok text
+    → SaysRon text (Ok (map cut (map saved_view list)))
+read_back back list text h =
+    let is = printed_of (list_any is_early (map saved_view list)) Fault.Moment _ text h in
+    subst (λ t. SaysRon t (Ok (map cut (map saved_view list)))) is.1
+    (map with_text (map saved_view list), printed_is_list list, all_kept back list is.0)
+
+-- also as a line
+pub line_back : ReadsBack → (list : List Saved) (text : List ℕ) → ron_written (map saved_view list) ≡ Ok text
+    → SaysRon (text ++ 10 ∷ []) (Ok (map cut (map saved_view list)))
+line_back back list text h =
+    let is = printed_of (list_any is_early (map saved_view list)) Fault.Moment _ text h in
+    subst (λ t. SaysRon (t ++ 10 ∷ []) (Ok (map cut (map saved_view list)))) is.1
+    (map with_text (map saved_view list), line_is_list list, all_kept back list is.0)

@@ -1,0 +1,127 @@
+-- What is printed of a character stands for it, and so for the characters of a text.
+use Rattle.std.proofs.Common.{◌≡◌, ◌≤◌, ◌<◌, ◌==◌, ◌||◌, ◌⊎◌, ℕ, List, [], ◌∷◌, ◌++◌, length, Bool, true, false, flat_map, if◌then◌else◌, Some, codes, inl, inr, append-nil, append_assoc, refl, sym, ap, subst, ◌∙◌, arith}
+use Rattle.std.proofs.lemmas.Bool.{eqb-true}
+use Rattle.std.proofs.lemmas.Bool.Decides.{Decides-eqb, nat_tests, not_from_Decides}
+use Rattle.std.proofs.lemmas.Fmt.{digits_is_IsNumeral, hex_one_digit, hex_two_digits}
+use Rattle.std.proofs.lemmas.List.Folds.{list_all-append}
+use Rattle.std.proofs.lemmas.Str.{IsUtf8-encode, IsUtf8-nil, IsUtf8-append, chars-append, chars-nil, chars_past_char, encodes-chars, scalars-chars}
+use Rattle.std.specs.Char.{IsScalar, digit_value, encode_utf8, is_ascii, is_ascii_hexdigit, is_control}
+use Rattle.std.specs.Fmt.{digits}
+use Rattle.std.specs.List.{list_all}
+use Rattle.std.specs.Str.{IsUtf8, all_scalars, chars}
+use Rattle.std.specs.Str.Parse.{AllDigits, digits_value}
+use Rattle.cookie_ron.specs.Grammar.{StandsFor, StandFor, Text, escaped_by, is_blank}
+use Rattle.cookie_ron.specs.Printed.{printed_char, quoted}
+use Rattle.cookie_ron.proofs.Bools.{both_false, both_true}
+use Rattle.cookie_ron.proofs.Says.{Says, both, ascii_chars, ascii_utf8, just, sign}
+
+-- one of two texts
+choose : (P : List ℕ → Type 0) (test : Bool) (a b : List ℕ) → (test ≡ true → P a) → (test ≡ false → P b) → P (if test then a else b)
+choose P true a b here there = here refl
+choose P false a b here there = there refl
+
+-- a backslash and a letter
+short : (c letter : ℕ) → is_ascii letter ≡ true → escaped_by letter ≡ Some c → Says (StandsFor c) (codes "\\" ++ letter ∷ [])
+short c letter low is =
+    let all_low : list_all is_ascii (codes "\\" ++ letter ∷ []) ≡ true = rw low refl in
+    record {
+      utf8 = ascii_utf8 (codes "\\" ++ letter ∷ []) all_low;
+      says = inr (inl (letter, ascii_chars (codes "\\" ++ letter ∷ []) all_low, is));
+    }
+
+-- a quote or a backslash
+escaped : (c : ℕ) → (c ≡ 34) ⊎ (c ≡ 92) → Says (StandsFor c) (codes "\\" ++ c ∷ [])
+escaped c (inl quote) = subst (λ x. Says (StandsFor x) (codes "\\" ++ x ∷ [])) (sym quote) (short 34 34 refl refl)
+escaped c (inr slash) = subst (λ x. Says (StandsFor x) (codes "\\" ++ x ∷ [])) (sym slash) (short 92 92 refl refl)
+
+is_escaped : (c : ℕ) → ((c == 34) || (c == 92)) ≡ true → (c ≡ 34) ⊎ (c ≡ 92)
+is_escaped c h = grind (arith, nat_tests)
+
+-- another that has a letter
+lettered : (c d letter : ℕ) → (c == d) ≡ true → is_ascii letter ≡ true → escaped_by letter ≡ Some d → Says (StandsFor c) (codes "\\" ++ letter ∷ [])
+lettered c d letter h low is = subst (λ x. Says (StandsFor x) (codes "\\" ++ letter ∷ [])) (sym (eqb-true c d h)) (short d letter low is)
+
+-- a character as itself
+plain : (c : ℕ) → IsScalar c → ((c == 34) || (c == 92)) ≡ false → Says (StandsFor c) (encode_utf8 c)
+plain c s h = record {
+  utf8 = IsUtf8-encode c s;
+  says = inl (
+    chars_past_char (encode_utf8 c) [] c (IsUtf8-encode c s) (sym (append-nil _)) ∙ ap (λ cs. c ∷ cs) chars-nil,
+    not_from_Decides (c == 34) (Decides-eqb c 34) (both_false (c == 34) (c == 92) h).0,
+    not_from_Decides (c == 92) (Decides-eqb c 92) (both_false (c == 34) (c == 92) h).1,
+  );
+}
+
+hexdigit : (x : ℕ) → digit_value x < 16 → is_ascii_hexdigit x ≡ true
+hexdigit x h = grind (arith, nat_tests)
+
+low_digit : (x : ℕ) → is_ascii_hexdigit x ≡ true → is_ascii x ≡ true
+low_digit x h = grind (arith, nat_tests)
+
+hexdigits : (ds : List ℕ) → AllDigits 16 ds → list_all is_ascii_hexdigit ds ≡ true
+hexdigits [] h = refl
+hexdigits (x ∷ ds) h = rw (hexdigit x h.0, hexdigits ds h.1) refl
+
+low_digits : (ds : List ℕ) → list_all is_ascii_hexdigit ds ≡ true → list_all is_ascii ds ≡ true
+low_digits [] h = refl
+low_digits (x ∷ ds) h =
+    let each = both_true (is_ascii_hexdigit x) (list_all is_ascii_hexdigit ds) h in
+    rw (low_digit x each.0, low_digits ds each.1) refl
+
+-- its number in digits
+numbered : (c : ℕ) (ds : List ℕ) → IsScalar c → AllDigits 16 ds → 1 ≤ length ds → length ds ≤ 6 → digits_value 16 ds ≡ c
+    → Says (StandsFor c) (codes "\\u{" ++ ds ++ codes "}")
+numbered c ds s all some few is =
+    let hex : list_all is_ascii_hexdigit ds ≡ true = hexdigits ds all in
+    let low : list_all is_ascii (ds ++ codes "}") ≡ true = rw (list_all-append is_ascii ds (codes "}"), low_digits ds hex) refl in
+    record {
+      utf8 = ascii_utf8 (codes "\\u{" ++ ds ++ codes "}") low;
+      says = inr (inr (inr (ds, ascii_chars (codes "\\u{" ++ ds ++ codes "}") low, some, few, (hex, is), s)));
+    }
+
+control_below : (c : ℕ) → is_control c ≡ true → c < 256
+control_below c h = grind (arith, nat_tests)
+
+one_or_two : (c : ℕ) → c < 256 → (c < 16) ⊎ (16 ≤ c) → length (digits 16 false c) ≤ 6
+one_or_two c small (inl one) = omega (arith, ap length (hex_one_digit false c one))
+one_or_two c small (inr two) = omega (arith, ap length (hex_two_digits false c two small))
+
+-- a control character
+control : (c : ℕ) → IsScalar c → is_control c ≡ true → Says (StandsFor c) (codes "\\u{" ++ digits 16 false c ++ codes "}")
+control c s h =
+    let small : c < 256 = control_below c h in
+    let is = digits_is_IsNumeral 16 false (omega arith) (omega arith) c (omega arith) in
+    numbered c (digits 16 false c) s is.0.1 is.0.0 (one_or_two c small (grind arith)) is.1
+
+pub stands_for : (c : ℕ) → IsScalar c → Says (StandsFor c) (printed_char c)
+stands_for c s =
+    choose (Says (StandsFor c)) ((c == 34) || (c == 92)) (codes "\\" ++ c ∷ []) _ (λ h. escaped c (is_escaped c h)) (λ not_escaped.
+    choose (Says (StandsFor c)) (c == 10) (codes "\\n") _ (λ h. lettered c 10 110 h refl refl) (λ _.
+    choose (Says (StandsFor c)) (c == 13) (codes "\\r") _ (λ h. lettered c 13 114 h refl refl) (λ _.
+    choose (Says (StandsFor c)) (c == 9) (codes "\\t") _ (λ h. lettered c 9 116 h refl refl) (λ _.
+    choose (Says (StandsFor c)) (is_control c) (codes "\\u{" ++ digits 16 false c ++ codes "}") (encode_utf8 c) (control c s) (λ _.
+    plain c s not_escaped)))))
+
+pub stand_for : (cs : List ℕ) → all_scalars cs ≡ true → Says (StandFor cs) (flat_map printed_char cs)
+stand_for [] h = record { utf8 = IsUtf8-nil; says = ([], chars-nil, tt) }
+stand_for (c ∷ cs) h =
+    let each = both_true _ (all_scalars cs) h in
+    let one = stands_for c each.0 in
+    let others = stand_for cs each.1 in
+    record {
+      utf8 = IsUtf8-append (printed_char c) (flat_map printed_char cs) one.utf8 others.utf8;
+      says = (
+        chars (printed_char c) ∷ others.says.0,
+        chars-append (printed_char c) (flat_map printed_char cs) one.utf8 ∙ ap (λ s. chars (printed_char c) ++ s) others.says.1,
+        (one.says, others.says.2),
+      );
+    }
+
+-- a text in quotes
+pub text_in_quotes : (blanks text : List ℕ) → list_all is_blank blanks ≡ true → list_all is_ascii (blanks ++ codes "\"") ≡ true → IsUtf8 text
+    → Says (Text text) (blanks ++ quoted text)
+text_in_quotes blanks text b low u =
+    let whole = both (sign blanks (codes "\"") b low) (both (stand_for (chars text) (scalars-chars text u)) (just (codes "\"") refl)) in
+    let said : Says (Text text) ((blanks ++ codes "\"") ++ (flat_map printed_char (chars text) ++ codes "\"")) =
+    record { utf8 = whole.utf8; says = (chars text, sym (encodes-chars text u), whole.says) } in
+    subst (Says (Text text)) (append_assoc blanks (codes "\"") (flat_map printed_char (chars text) ++ codes "\"")) said

@@ -1,0 +1,36 @@
+-- What a text says, by the list that it is read as.
+use Rattle.std.proofs.Common.{◌≡◌, ℕ, List, Some, None, Ok, Err, ◌⊎◌, inl, inr, sym, subst}
+use Rattle.std.specs.Str.{chars}
+use Rattle.cookie_words.specs.Moments.{Moment}
+use Rattle.cookie_saved.specs.Saved.{Parts}
+use Rattle.cookie_saved.specs.ReadTrees.{all_with_moment}
+use Rattle.cookie_saved.specs.declared.error.SavedError.{SavedError}
+use Rattle.cookie_saved.specs.declared.error.SavedError.TheVariants as Fault
+use Rattle.cookie_ron.specs.Grammar.{IsList}
+use Rattle.cookie_ron.specs.Reading.{list_at}
+use Rattle.cookie_ron.specs.RonLists.{SaysRon}
+use Rattle.cookie_ron.proofs.ListFronts.{list_front, list_read}
+
+none_read : (s : List ℕ) (parts : List (Parts (List ℕ))) → list_at s ≡ None → ¬ IsList parts s
+none_read s parts none is = let some = list_read s parts is in cc
+
+-- a text that is of no list
+pub says_none : (text s : List ℕ) (e : SavedError) → s ≡ chars text → (e ≡ Fault.Memory) ⊎ ((e ≡ Fault.Ron) × (list_at s ≡ None))
+    → (e ≡ Fault.Memory) ⊎ SaysRon text (Err e)
+says_none text s e same told = elim told [
+  | inl memory ↦ inl memory
+  | inr (ron, none) ↦ inr (inl (ron, λ parts is. none_read s parts none (subst (λ t. IsList parts t) (sym same) is)))
+]
+
+-- one of a list whose ends are moments
+pub says_list : (text s : List ℕ) (parts : List (Parts (List ℕ))) (list : List (Parts Moment)) → s ≡ chars text → list_at s ≡ Some parts
+    → all_with_moment parts ≡ Some list → SaysRon text (Ok list)
+says_list text s parts list same read moments = (parts, subst (λ t. IsList parts t) same (list_front s parts read), moments)
+
+-- and one of a list with an end that is none
+pub says_no_moment : (text s : List ℕ) (parts : List (Parts (List ℕ))) (e : SavedError) → s ≡ chars text → list_at s ≡ Some parts
+    → (e ≡ Fault.Memory) ⊎ ((e ≡ Fault.Moment) × (all_with_moment parts ≡ None)) → (e ≡ Fault.Memory) ⊎ SaysRon text (Err e)
+says_no_moment text s parts e same read told = elim told [
+  | inl memory ↦ inl memory
+  | inr (moment, none) ↦ inr (inr (moment, parts, subst (λ t. IsList parts t) same (list_front s parts read), none))
+]

@@ -1,0 +1,26 @@
+use Rattle.std.proofs.Common.{map, ◌∙◌}
+use Rattle.std.proofs.lemmas.Result.{IfOk-weaker, IfErr-weaker, err_from_is_err_and}
+use Rattle.cookie_saved.specs.Saved.{saved_view}
+use Rattle.cookie_ron.specs.Entries.{entry_view}
+use Rattle.cookie_ron.proofs.Told.{says_none, says_list, says_no_moment}
+use Rattle.cookie_ron.proofs.reading.from_ron.Goals as goal
+
+pub returns-in_err-list_at-clause-refused : goal.returns-in_err-list_at-clause-refused
+returns-in_err-list_at-clause-refused c =
+    let fault = err_from_is_err_and c.from_residual-in_err-list_at.result c.from_residual-in_err-list_at.ensures.1 in
+    rw (fault.1, fault.2)
+    (says_none c.args.text.now c.deref.result.now c.in_err-list_at.field-0.0 (c.deref.ensures.value ∙ c.in_ok-input.ensures) c.in_err-list_at.ensures.refused)
+
+pub returns-clause-list : goal.returns-clause-list
+returns-clause-list c =
+    IfOk-weaker c.with_moments.result _ _
+    (λ list moments. says_list c.args.text.now c.deref.result.now (map entry_view c.in_ok-list_at.field-0.items) (map saved_view list.items)
+    (c.deref.ensures.value ∙ c.in_ok-input.ensures) c.in_ok-list_at.ensures.read moments)
+    c.with_moments.ensures.read
+
+pub returns-clause-refused : goal.returns-clause-refused
+returns-clause-refused c =
+    IfErr-weaker c.with_moments.result _ _
+    (λ e told. says_no_moment c.args.text.now c.deref.result.now (map entry_view c.in_ok-list_at.field-0.items) e
+    (c.deref.ensures.value ∙ c.in_ok-input.ensures) c.in_ok-list_at.ensures.read told)
+    c.with_moments.ensures.refused

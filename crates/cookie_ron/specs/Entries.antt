@@ -1,0 +1,13 @@
+-- What contracts see of a cookie whose end is not read yet.
+use Rattle.std.specs.Prelude.{ℕ, List, option_map, string_bytes}
+use Rattle.cookie_saved.specs.Saved.{Parts, domain_view}
+use Rattle.cookie_ron.specs.declared.reading.Entry.{Entry}
+
+abbrev pub entry_view : Entry → Parts (List ℕ)
+entry_view e = record {
+  raw_cookie = string_bytes e.raw_cookie;
+  path = string_bytes e.path;
+  from_attr = e.from_attr;
+  domain = domain_view e.domain;
+  ends = option_map string_bytes e.ends;
+}

@@ -1,0 +1,63 @@
+-- The text that is printed of a list of saved cookies, as bytes in UTF-8.
+use Rattle.std.specs.Prelude.{◌==◌, ◌||◌, ℕ, Bool, false, List, [], ◌∷◌, ◌++◌, codes, flat_map, map, Option, Some, None, Result, Ok, Err, if◌then◌else◌}
+use Rattle.std.specs.Char.{encode_utf8, is_control}
+use Rattle.std.specs.Fmt.{digits}
+use Rattle.std.specs.List.{list_any}
+use Rattle.std.specs.Str.{byte, chars}
+use Rattle.cookie_words.specs.Moments.{Moment}
+use Rattle.cookie_saved.specs.Saved.{Domain, host_only, suffix, not_present, empty, Parts}
+use Rattle.cookie_saved.specs.WrittenTrees.{is_early, with_text}
+use Rattle.cookie_saved.specs.declared.error.SavedError.{SavedError}
+use Rattle.cookie_saved.specs.declared.error.SavedError.TheVariants as Fault
+
+-- a character: a quote, a backslash and a control character as an escape, each other as itself
+abbrev pub printed_char : ℕ → List ℕ
+printed_char c =
+    if (c == byte "\"") || (c == byte "\\") then codes "\\" ++ c ∷ []
+    else (if c == 10 then codes "\\n"
+    else (if c == 13 then codes "\\r"
+    else (if c == 9 then codes "\\t"
+    else (if is_control c then codes "\\u{" ++ digits 16 false c ++ codes "}" else encode_utf8 c))))
+
+-- a text in quotes
+abbrev pub quoted : List ℕ → List ℕ
+quoted text = codes "\"" ++ flat_map printed_char (chars text) ++ codes "\""
+
+abbrev pub printed_flag : Bool → List ℕ
+printed_flag flag = if flag then codes "true" else codes "false"
+
+abbrev pub printed_path : List ℕ → Bool → List ℕ
+printed_path path from_attr = codes "(" ++ quoted path ++ codes ", " ++ printed_flag from_attr ++ codes ")"
+
+abbrev pub printed_domain : Domain → List ℕ
+printed_domain (host_only text) = codes "HostOnly(" ++ quoted text ++ codes ")"
+printed_domain (suffix text) = codes "Suffix(" ++ quoted text ++ codes ")"
+printed_domain not_present = codes "NotPresent"
+printed_domain empty = codes "Empty"
+
+abbrev pub printed_end : Option (List ℕ) → List ℕ
+printed_end (Some text) = codes "AtUtc(" ++ quoted text ++ codes ")"
+printed_end None = codes "SessionEnd"
+
+-- a field on a line of its own
+abbrev pub printed_field : List ℕ → List ℕ → List ℕ
+printed_field name value = codes "        " ++ name ++ codes ": " ++ value ++ codes ",\n"
+
+-- a saved cookie, on six lines
+abbrev pub printed_cookie : Parts (List ℕ) → List ℕ
+printed_cookie p =
+    codes "    (\n"
+    ++ printed_field (codes "raw_cookie") (quoted p.raw_cookie)
+    ++ printed_field (codes "path") (printed_path p.path p.from_attr)
+    ++ printed_field (codes "domain") (printed_domain p.domain)
+    ++ printed_field (codes "expires") (printed_end p.ends)
+    ++ codes "    ),\n"
+
+-- a list: `[]` without cookies, and else a bracket on a line, the cookies, and a bracket
+abbrev pub printed_list : List (Parts (List ℕ)) → List ℕ
+printed_list [] = codes "[]"
+printed_list (p ∷ ps) = codes "[\n" ++ flat_map printed_cookie (p ∷ ps) ++ codes "]"
+
+-- the text of a list; a list with an end before the year 0 is refused
+abbrev pub ron_written : List (Parts Moment) → Result (List ℕ) SavedError
+ron_written ps = if list_any is_early ps then Err Fault.Moment else Ok (printed_list (map with_text ps))

@@ -1,0 +1,11 @@
+//! Lists of saved cookies in RON.
+#![tactic(auto)]
+
+pub mod laws;
+mod printing;
+mod reading;
+mod signs;
+mod texts;
+
+pub use printing::to_ron;
+pub use reading::from_ron;

@@ -1,0 +1,190 @@
+//! Lists of saved cookies as texts of RON.
+ghost use Rattle.std.specs.Prelude.{◌≡◌, ◌⊎◌, ◌++◌, codes, false, flat_map, Err, IfErr, IfOk, map, Ok, OnOk, option_map, string_bytes};
+ghost use Rattle.std.specs.Str.{chars};
+ghost use Rattle.std.specs.List.{list_any};
+ghost use Rattle.cookie_saved.specs.MomentText.{moment_text};
+ghost use Rattle.cookie_saved.specs.Saved.{domain_view, expiry_view, saved_view};
+ghost use Rattle.cookie_saved.specs.WrittenTrees.{ends_early, is_early, with_text};
+ghost use Rattle.cookie_ron.specs.Printed.{printed_char, quoted, printed_path, printed_domain, printed_end, printed_cookie, printed_list, ron_written};
+
+use cookie_saved::{Saved, SavedDomain, SavedError, SavedExpiry, moment_text};
+use std::alloc::{AllocError, Global};
+
+/// The text of a list: `[]` of no cookies, and else a line for each bracket and field, indented, and no line feed at its end. Ends are
+/// cut to whole seconds. An end before the year 0 anywhere in the list is refused `Moment`, and no memory is wanted before that.
+pub fn to_ron(alloc: Global, list: &[Saved]) -> Result<String, SavedError>
+    ensures text { IfOk result (λ text. ron_written (map saved_view list.now) ≡ Ok (string_bytes text)) }
+    ensures early { ron_written (map saved_view list.now) ≡ Err SavedError.Moment → result ≡ Err SavedError.Moment }
+    ensures refused { IfErr result (λ e. (e ≡ SavedError.Memory) ⊎ (ron_written (map saved_view list.now) ≡ Err e)) }
+{
+    if any_early(list) {
+        return Err(SavedError::Moment);
+    }
+    let mut text = String::new(alloc);
+    push_list(alloc, &mut text, list)?;
+    Ok(text)
+}
+
+// Whether a moment of the list is before the year 0.
+fn any_early(list: &[Saved]) -> bool
+    ensures { result ≡ list_any is_early (map saved_view list.now) }
+{
+    for saved in list {
+        if is_early(saved.expires) {
+            return true;
+        }
+    }
+    false
+}
+
+// Whether the moment, if there is one, is before the year 0.
+fn is_early(expires: SavedExpiry) -> bool
+    ensures { result ≡ ends_early (expiry_view expires) }
+{
+    match expires {
+        SavedExpiry::AtUtc(moment) => moment.year() < 0,
+        SavedExpiry::SessionEnd => false,
+    }
+}
+
+// Appends a list of cookies that end from the year 0 on.
+fn push_list(alloc: Global, text: &mut String, list: &[Saved]) -> Result<(), SavedError>
+    requires { list_any is_early (map saved_view list.now) ≡ false }
+    ensures text { OnOk result (string_bytes text.new ≡ string_bytes text.old ++ printed_list (map with_text (map saved_view list.now))) }
+    ensures refused { IfErr result (λ e. e ≡ SavedError.Memory) }
+{
+    if list.is_empty() {
+        return Ok(text.push_str("[]")?);
+    }
+    text.push_str("[\n")?;
+    push_cookies(alloc, text, list)?;
+    Ok(text.push(']')?)
+}
+
+// Appends the cookies one after the other.
+fn push_cookies(alloc: Global, text: &mut String, list: &[Saved]) -> Result<(), SavedError>
+    requires { list_any is_early (map saved_view list.now) ≡ false }
+    ensures text { OnOk result (string_bytes text.new ≡ string_bytes text.old
+        ++ flat_map printed_cookie (map with_text (map saved_view list.now))) }
+    ensures refused { IfErr result (λ e. e ≡ SavedError.Memory) }
+{
+    for saved in list {
+        push_cookie(alloc, text, saved)?;
+    }
+    Ok(())
+}
+
+// Appends a cookie that ends from the year 0 on.
+fn push_cookie(alloc: Global, text: &mut String, saved: &Saved) -> Result<(), SavedError>
+    requires { is_early (saved_view saved.now) ≡ false }
+    ensures text { OnOk result (string_bytes text.new ≡ string_bytes text.old ++ printed_cookie (with_text (saved_view saved.now))) }
+    ensures refused { IfErr result (λ e. e ≡ SavedError.Memory) }
+{
+    text.push_str("    (\n")?;
+    push_name(text, "raw_cookie")?;
+    push_quoted(text, &saved.raw_cookie)?;
+    text.push_str(",\n")?;
+    push_name(text, "path")?;
+    push_path(text, &saved.path, saved.from_attr)?;
+    text.push_str(",\n")?;
+    push_name(text, "domain")?;
+    push_domain(text, &saved.domain)?;
+    text.push_str(",\n")?;
+    push_name(text, "expires")?;
+    push_end(alloc, text, saved.expires)?;
+    text.push_str(",\n")?;
+    Ok(text.push_str("    ),\n")?)
+}
+
+// Appends a field's indent and name, and the colon.
+fn push_name(text: &mut String, name: &str) -> Result<(), AllocError>
+    ensures { OnOk result (string_bytes text.new ≡ string_bytes text.old ++ (codes "        " ++ name.now ++ codes ": ")) }
+{
+    text.push_str("        ")?;
+    text.push_str(name)?;
+    text.push_str(": ")
+}
+
+// Appends a path's text and whether a Path attribute set it.
+fn push_path(text: &mut String, path: &str, from_attr: bool) -> Result<(), AllocError>
+    ensures { OnOk result (string_bytes text.new ≡ string_bytes text.old ++ printed_path path.now from_attr) }
+{
+    text.push('(')?;
+    push_quoted(text, path)?;
+    text.push_str(", ")?;
+    text.push_str(if from_attr { "true" } else { "false" })?;
+    text.push(')')
+}
+
+// Appends a domain.
+fn push_domain(text: &mut String, domain: &SavedDomain) -> Result<(), AllocError>
+    ensures { OnOk result (string_bytes text.new ≡ string_bytes text.old ++ printed_domain (domain_view domain.now)) }
+{
+    match domain {
+        SavedDomain::HostOnly(host) => push_tagged(text, "HostOnly", host),
+        SavedDomain::Suffix(suffix) => push_tagged(text, "Suffix", suffix),
+        SavedDomain::NotPresent => text.push_str("NotPresent"),
+        SavedDomain::Empty => text.push_str("Empty"),
+    }
+}
+
+// Appends an end from the year 0 on.
+fn push_end(alloc: Global, text: &mut String, expires: SavedExpiry) -> Result<(), SavedError>
+    requires { ends_early (expiry_view expires) ≡ false }
+    ensures text { OnOk result (string_bytes text.new ≡ string_bytes text.old ++ printed_end (option_map moment_text (expiry_view expires))) }
+    ensures refused { IfErr result (λ e. e ≡ SavedError.Memory) }
+{
+    match expires {
+        SavedExpiry::AtUtc(moment) => {
+            let written = moment_text(alloc, moment)?;
+            Ok(push_tagged(text, "AtUtc", &written)?)
+        }
+        SavedExpiry::SessionEnd => Ok(text.push_str("SessionEnd")?),
+    }
+}
+
+// Appends a tag, and a text in quotes and brackets.
+fn push_tagged(text: &mut String, tag: &str, argument: &str) -> Result<(), AllocError>
+    ensures { OnOk result (string_bytes text.new ≡ string_bytes text.old ++ (tag.now ++ codes "(" ++ quoted argument.now ++ codes ")")) }
+{
+    text.push_str(tag)?;
+    text.push('(')?;
+    push_quoted(text, argument)?;
+    text.push(')')
+}
+
+// Appends a text in quotes.
+fn push_quoted(text: &mut String, content: &str) -> Result<(), AllocError>
+    ensures { OnOk result (string_bytes text.new ≡ string_bytes text.old ++ quoted content.now) }
+{
+    text.push('"')?;
+    push_chars(text, content)?;
+    text.push('"')
+}
+
+// Appends what stands for the characters of a text.
+fn push_chars(text: &mut String, content: &str) -> Result<(), AllocError>
+    ensures { OnOk result (string_bytes text.new ≡ string_bytes text.old ++ flat_map printed_char (chars content.now)) }
+{
+    for c in content.chars() {
+        push_char(text, c)?;
+    }
+    Ok(())
+}
+
+// Appends what stands for a character.
+fn push_char(text: &mut String, c: char) -> Result<(), AllocError>
+    ensures { OnOk result (string_bytes text.new ≡ string_bytes text.old ++ printed_char c) }
+{
+    match c {
+        '"' | '\\' => {
+            text.push('\\')?;
+            text.push(c)
+        }
+        '\n' => text.push_str("\\n"),
+        '\r' => text.push_str("\\r"),
+        '\t' => text.push_str("\\t"),
+        _ if c.is_control() => write!(text, "\\u{{{:x}}}", u32::from(c)),
+        _ => text.push(c),
+    }
+}

@@ -1,0 +1,75 @@
+//! Blanks and signs of RON.
+ghost use Rattle.std.specs.Prelude.{◌≡◌, None, Some, IfOk, IfErr};
+ghost use Rattle.cookie_ron.specs.Grammar.{is_blank};
+ghost use Rattle.cookie_ron.specs.Reading.{drop_blanks, behind, sign_at, close_at, name_at};
+
+use cookie_saved::SavedError;
+
+// Whether it is a space, a tab, a line feed or a carriage return.
+fn is_blank(c: char) -> bool
+    ensures { result ≡ is_blank c }
+{
+    c == ' ' || c == '\t' || c == '\n' || c == '\r'
+}
+
+// What is behind any blanks.
+pub(crate) fn drop_blanks(input: &[char]) -> &[char]
+    ensures { result.now ≡ drop_blanks input.now }
+{
+    let mut rest = input;
+    while let [c, behind @ ..] = rest {
+        if !is_blank(*c) {
+            return rest;
+        }
+        rest = behind;
+    }
+    rest
+}
+
+// What is behind these characters.
+pub(crate) fn behind<'a>(sign: &[u8], input: &'a [char]) -> Result<&'a [char], SavedError>
+    ensures read { IfOk result (λ rest. behind sign.now input.now ≡ Some rest.now) }
+    ensures refused { IfErr result (λ e. (e ≡ SavedError.Ron) × (behind sign.now input.now ≡ None)) }
+{
+    let mut rest = input;
+    for byte in sign {
+        match rest {
+            [c, behind @ ..] => {
+                if *c != char::from(*byte) {
+                    return Err(SavedError::Ron);
+                }
+                rest = behind;
+            }
+            [] => return Err(SavedError::Ron),
+        }
+    }
+    Ok(rest)
+}
+
+// What is behind a sign.
+pub(crate) fn sign_at<'a>(sign: &[u8], input: &'a [char]) -> Result<&'a [char], SavedError>
+    ensures read { IfOk result (λ rest. sign_at sign.now input.now ≡ Some rest.now) }
+    ensures refused { IfErr result (λ e. (e ≡ SavedError.Ron) × (sign_at sign.now input.now ≡ None)) }
+{
+    behind(sign, drop_blanks(input))
+}
+
+// What is behind a closing sign, before which a comma may stand.
+pub(crate) fn close_at<'a>(sign: &[u8], input: &'a [char]) -> Result<&'a [char], SavedError>
+    ensures read { IfOk result (λ rest. close_at sign.now input.now ≡ Some rest.now) }
+    ensures refused { IfErr result (λ e. (e ≡ SavedError.Ron) × (close_at sign.now input.now ≡ None)) }
+{
+    match sign_at(b",", input) {
+        Ok(rest) => sign_at(sign, rest),
+        Err(_) => sign_at(sign, input),
+    }
+}
+
+// What is behind a field's name and its colon.
+#[tactic(auto, unfolding(crate::specs::Reading::name_at))]
+pub(crate) fn name_at<'a>(name: &[u8], input: &'a [char]) -> Result<&'a [char], SavedError>
+    ensures read { IfOk result (λ rest. name_at name.now input.now ≡ Some rest.now) }
+    ensures refused { IfErr result (λ e. (e ≡ SavedError.Ron) × (name_at name.now input.now ≡ None)) }
+{
+    sign_at(b":", sign_at(name, input)?)
+}

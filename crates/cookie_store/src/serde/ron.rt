@@ -1,0 +1,76 @@
+//! A store that is saved as a list in RON, and loaded from one.
+ghost use Rattle.std.specs.Prelude.{◌≡◌, ◌-◌, ◌^◌, ◌<◌, false, true, None, IfErr, IfOk, OnOk};
+ghost use Rattle.std.specs.Io.KnownBytes.{IsAtEnd};
+ghost use Rattle.cookie_words.specs.Moments.{moment_of};
+ghost use Rattle.cookie_store.specs.RonLists.{MakesRonList, SaysRonList};
+ghost use Rattle.cookie_store.specs.Lists.{BuildsFromList, FailsToLoadList, FailsToSaveList, WritesList};
+ghost use Rattle.cookie_store.specs.Loading.{ReadsEachOnce};
+ghost use Rattle.cookie_store.specs.Saving.{saved_rows};
+
+use super::forms::{Form, load_rows, save_rows};
+use crate::CookieStore;
+use cookie_device::{Sink, Source};
+use cookie_parts::StoreResult;
+use jiff::civil::DateTime;
+use std::alloc::Global;
+
+/// Writes the cookies that have not ended by the moment and end at one as a list in RON, a field a line, in the store's order, and a
+/// line feed. Where one ends before the year 0 the list is refused `Saved(Moment)`, and no memory is wanted before that.
+/// Nothing is written then, nor where memory is wanting; `Io` where the writer failed.
+pub fn save<W: Sink>(store: &CookieStore, writer: &mut W, now: DateTime) -> StoreResult<()>
+    requires writable { W.failed writer.old < 2 ^ 64 - 1 }
+    ensures whole { OnOk result (WritesList SaysRonList (saved_rows (moment_of now) store.now.rows)
+        (W.contents writer.old) (W.contents writer.new)) }
+    ensures count { OnOk result (W.failed writer.new ≡ W.failed writer.old) }
+    ensures stopped { IfErr result (λ error. FailsToSaveList SaysRonList error (saved_rows (moment_of now) store.now.rows)
+        (W.contents writer.old) (W.contents writer.new) (W.failed writer.old) (W.failed writer.new)) }
+{
+    save_rows(Form::Ron, store.alloc(), store.rows(), writer, Some(now))
+}
+
+/// The same of all cookies, also those that have ended and those that end with the session.
+pub fn save_incl_expired_and_nonpersistent<W: Sink>(
+    store: &CookieStore,
+    writer: &mut W,
+) -> StoreResult<()>
+    requires writable { W.failed writer.old < 2 ^ 64 - 1 }
+    ensures whole { OnOk result (WritesList SaysRonList store.now.rows (W.contents writer.old) (W.contents writer.new)) }
+    ensures count { OnOk result (W.failed writer.new ≡ W.failed writer.old) }
+    ensures stopped { IfErr result (λ error. FailsToSaveList SaysRonList error store.now.rows
+        (W.contents writer.old) (W.contents writer.new) (W.failed writer.old) (W.failed writer.new)) }
+{
+    save_rows(Form::Ron, store.alloc(), store.rows(), writer, None)
+}
+
+/// A store of the cookies of a list in RON, which is all that the reader gives, each in the place of an earlier one of its domain,
+/// path and name, without a public suffix list. Those that have ended are passed over. In this order: `Io` where the reader failed;
+/// `NotUtf8`; `Saved(Ron)` where the text is no list in RON; `Saved(Moment)` where the text of an end is no moment; `Cookie(Parse)` where
+/// that of a raw cookie is none. `Memory` where there was no room.
+pub fn load<R: Source>(alloc: Global, reader: &mut R, now: DateTime) -> StoreResult<CookieStore>
+    requires readable { R.failed reader.old < 2 ^ 64 - 1 }
+    ensures built { IfOk result (λ store. BuildsFromList MakesRonList (R.remaining reader.old) false (moment_of now) store.rows) }
+    ensures suffixes { IfOk result (λ store. store.suffixes ≡ None) }
+    ensures read { OnOk result (IsAtEnd (R.remaining reader.new) × (R.failed reader.new ≡ R.failed reader.old)) }
+    ensures failed { IfErr result (λ error. FailsToLoadList MakesRonList error
+        (R.remaining reader.old) (R.remaining reader.new) (R.failed reader.old) (R.failed reader.new)
+        (R.reads_left reader.old) (R.reads_left reader.new)) }
+    ensures reads { ReadsEachOnce (R.remaining reader.old) (R.reads_left reader.old) (R.reads_left reader.new) }
+{
+    let rows = load_rows(Form::Ron, alloc, reader, false, now)?;
+    Ok(CookieStore::of_rows(alloc, rows))
+}
+
+/// The same, where cookies that have ended are kept. The moment is not looked at.
+pub fn load_all<R: Source>(alloc: Global, reader: &mut R, now: DateTime) -> StoreResult<CookieStore>
+    requires readable { R.failed reader.old < 2 ^ 64 - 1 }
+    ensures built { IfOk result (λ store. BuildsFromList MakesRonList (R.remaining reader.old) true (moment_of now) store.rows) }
+    ensures suffixes { IfOk result (λ store. store.suffixes ≡ None) }
+    ensures read { OnOk result (IsAtEnd (R.remaining reader.new) × (R.failed reader.new ≡ R.failed reader.old)) }
+    ensures failed { IfErr result (λ error. FailsToLoadList MakesRonList error
+        (R.remaining reader.old) (R.remaining reader.new) (R.failed reader.old) (R.failed reader.new)
+        (R.reads_left reader.old) (R.reads_left reader.new)) }
+    ensures reads { ReadsEachOnce (R.remaining reader.old) (R.reads_left reader.old) (R.reads_left reader.new) }
+{
+    let rows = load_rows(Form::Ron, alloc, reader, true, now)?;
+    Ok(CookieStore::of_rows(alloc, rows))
+}
