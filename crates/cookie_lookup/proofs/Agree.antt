@@ -1,16 +1,15 @@
 -- The look-ups of the texts that a URL is looked up by give what a walk of all groups gives, in another order.
-use Rattle.std.proofs.Common.{◌≡◌, ℕ, zero, suc, ◌+◌, ◌-◌, ◌*◌, ◌^◌, ◌<◌, ◌≤◌, ◌⊎◌, Bool, true, false, cond, not, ◌&&◌, ◌||◌, eqb, ltb, List, [], ◌∷◌, ◌++◌, length, map, Option, Some, None, refl, sym, ◌∙◌, ap, subst, inl, inr, bytes_eq, arith, rules}
-use Rattle.std.specs.Prelude.{if◌then◌else◌, option_map, IsTrue}
+use Rattle.std.proofs.Common.{◌≡◌, ℕ, suc, ◌+◌, Bool, true, false, cond, List, [], ◌∷◌, map, Option, Some, None, refl, sym, ◌∙◌, ap, subst, inl, inr, bytes_eq, arith}
+use Rattle.std.specs.Prelude.{option_map}
 use Rattle.std.specs.List.{AllByRecursion, sum_by, list_any, flat_map}
 use Rattle.std.proofs.lemmas.List.Sums.{sum_by-cons, sum_by-append}
 use Rattle.std.proofs.lemmas.Bool.Decides.{nat_tests}
 use Rattle.std.proofs.lemmas.Slice.Eq.{bytes_eq-Decides}
 use Rattle.cookie_parts.specs.Cookie.{Row}
 use Rattle.cookie_laws.specs.Rows.{differ}
-use Rattle.cookie_lookup.specs.Groups.{PathGroups, DomainGroups, AreGroups}
+use Rattle.cookie_lookup.specs.Groups.{PathGroups, DomainGroups}
 use Rattle.cookie_lookup.specs.Seen.{Spot, place_of, under, row_spots, path_spots, domain_spots, at_path, at_domain}
 use Rattle.cookie_lookup.proofs.Cuts.{bool_cases}
-use Rattle.cookie_lookup.proofs.Order.{SameSums}
 
 module _ {X : Type 0} (F : ℕ → List X → ℕ) where
   -- what F says of the group under a text, where the first group is at n, and of all groups

@@ -1,17 +1,15 @@
 -- How many domains are found, and how often they are looked up.
-use Rattle.std.proofs.Common.{◌≡◌, ℕ, suc, ◌+◌, ◌*◌, ◌^◌, ◌<◌, ◌≤◌, ◌⊎◌, Bool, true, false, cond, ◌||◌, List, [], ◌∷◌, ◌++◌, length, map, Option, Some, None, refl, sym, ◌∙◌, ap, subst, inl, inr, eqb, bytes_eq, arith}
+use Rattle.std.proofs.Common.{◌≡◌, ℕ, suc, ◌+◌, ◌*◌, ◌^◌, ◌<◌, ◌≤◌, Bool, true, false, cond, List, [], ◌∷◌, length, Option, Some, None, refl, sym, ◌∙◌, ap, inl, inr, eqb, bytes_eq, arith}
 use Rattle.std.specs.Prelude.{is_some, option_map, count_by}
-use Rattle.std.specs.List.{AllByRecursion, list_any, sum_by}
-use Rattle.std.proofs.lemmas.Bool.Decides.{nat_tests}
+use Rattle.std.specs.List.{AllByRecursion, list_any}
 use Rattle.std.proofs.lemmas.List.Sums.{sum_by-cons}
 use Rattle.std.proofs.Math.Nat.{mul-le-mul_left, mul-le-mul_right}
 use Rattle.url.specs.Parts.{Parts}
 use Rattle.cookie_parts.specs.Cookie.{Row}
-use Rattle.cookie_parts.specs.Domain.{domain_text}
 use Rattle.cookie_parts.specs.Hosts.{host_of}
 use Rattle.cookie_lookup.specs.Groups.{PathGroups, DomainGroups, flat_paths, flat, Of, Filled, ArePaths, AreGroups}
 use Rattle.cookie_lookup.specs.Seen.{place_of, how_many_found, domains_found, is_of_domain}
-use Rattle.cookie_lookup.specs.Texts.{related_texts, domain_texts, dots, slashes, most_domains}
+use Rattle.cookie_lookup.specs.Texts.{domain_texts, dots, slashes, most_domains}
 use Rattle.cookie_lookup.proofs.Cuts.{bool_cases}
 use Rattle.cookie_lookup.proofs.PathTexts.{any_append}
 

@@ -1,6 +1,6 @@
 -- The texts that a path is looked up by are those of the definition, and a path that path-matches is among them.
-use Rattle.std.proofs.Common.{◌≡◌, ℕ, zero, suc, ◌+◌, ◌<◌, ◌≤◌, ◌⊎◌, Bool, true, false, ◌||◌, List, [], ◌∷◌, ◌++◌, length, take, drop, get_or, refl, sym, ◌∙◌, ap, subst, inl, inr, eqb, bytes_eq, arith, length-append, append_assoc, append-nil}
-use Rattle.std.specs.Prelude.{if◌then◌else◌, nat_eq}
+use Rattle.std.proofs.Common.{◌≡◌, ℕ, zero, suc, ◌+◌, ◌<◌, ◌⊎◌, Bool, true, ◌||◌, List, [], ◌∷◌, ◌++◌, length, take, drop, get_or, refl, sym, ◌∙◌, ap, subst, inl, inr, eqb, bytes_eq, arith, length-append, append_assoc, append-nil}
+use Rattle.std.specs.Prelude.{nat_eq}
 use Rattle.std.specs.Bool.{Decides}
 use Rattle.std.specs.List.{list_any, starts_with}
 use Rattle.std.proofs.Math.ListN.{get_or-append}
@@ -8,8 +8,8 @@ use Rattle.std.proofs.Math.Seq.{get_or-append_seam, take-length}
 use Rattle.std.proofs.lemmas.Bool.{or_cases, or_left, or_right}
 use Rattle.std.proofs.lemmas.Bool.Decides.{nat_tests}
 use Rattle.std.proofs.lemmas.Slice.Eq.{bytes_eq-Decides}
-use Rattle.cookie_parts.specs.Path.{covers_path, CoversPath}
-use Rattle.cookie_lookup.specs.Texts.{ends_text, front_texts, path_texts, IsPathText}
+use Rattle.cookie_parts.specs.Path.{CoversPath}
+use Rattle.cookie_lookup.specs.Texts.{ends_text, front_texts, path_texts, IsPathText, IsRelated}
 use Rattle.cookie_lookup.proofs.Cuts.{bool_cases}
 use Rattle.cookie_lookup.proofs.PathTexts.{any_append}
 
@@ -111,7 +111,7 @@ front_begins [] at h = absurd (cc)
 front_begins (b ∷ r) at h = grind (arith, nat_tests, h)
 
 -- a path text is one that begins with a slash and covers the path
-covers_it : (path text : List ℕ) → IsPathText path text → CoversPath text path
+pub covers_it : (path text : List ℕ) → IsPathText path text → CoversPath text path
 covers_it path text w = elim w.1 [
   | inl s ↦ ([], sym s ∙ sym (append-nil text), inl refl)
   | inr f ↦ elim f.3 [
@@ -134,3 +134,9 @@ path_texts_are path text = (there path text, λ w. covering_among text path (cov
           )
       | inr e ↦ let h' = rw e at h in absurd (cc)
     ]
+
+-- what follows a dot of a host is related to it
+pub behind_dot : (host : List ℕ) (at : ℕ) → at < length host → get_or host at 0 ≡ 46 → IsRelated host (drop (at + 1) host)
+behind_dot host at below dot =
+    let next : suc at ≡ at + 1 = omega arith in
+    inr (take at host, split_at host at below ∙ ap (λ b. take at host ++ b ∷ drop (suc at) host) dot ∙ ap (λ n. take at host ++ 46 ∷ drop n host) next)

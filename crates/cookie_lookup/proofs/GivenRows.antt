@@ -1,10 +1,9 @@
 -- The rows at the positions that a walk gives are the rows that pass.
-use Rattle.std.proofs.Common.{◌≡◌, ℕ, zero, suc, ◌+◌, ◌<◌, ◌⊎◌, Bool, true, false, cond, not, ◌&&◌, List, [], ◌∷◌, ◌++◌, length, map, take, get_or, refl, sym, ◌∙◌, ap, subst, inl, inr, bytes_eq, Option, Some, None, arith, append-nil, length-append}
-use Rattle.std.specs.Prelude.{String, slice_get, filter, IsTrue, option_map, if◌then◌else◌}
-use Rattle.std.specs.List.{flat_map, AllByRecursion}
+use Rattle.std.proofs.Common.{◌≡◌, ℕ, suc, ◌+◌, Bool, List, [], ◌∷◌, ◌++◌, length, refl, sym, ◌∙◌, ap, inl, inr, arith, length-append}
+use Rattle.std.specs.Prelude.{slice_get, filter}
+use Rattle.std.specs.List.{flat_map}
 use Rattle.std.proofs.lemmas.Bool.Decides.{nat_tests}
 use Rattle.std.proofs.lemmas.Grind.{flat_map-append}
-use Rattle.std.proofs.lemmas.List.{map-append}
 use Rattle.cookie_parts.specs.Cookie.{Row}
 use Rattle.cookie_lookup.specs.Seen.{under, row_spots, path_spots, domain_spots, list_of, rows_at}
 use Rattle.cookie_lookup.specs.Groups.{DomainGroups, PathGroups, flat, flat_paths}

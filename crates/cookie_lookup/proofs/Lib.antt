@@ -1,10 +1,12 @@
 pub mod Agree
+pub mod AskedRows
 pub mod Bounds
 pub mod Counts
 pub mod CoveringTexts
 pub mod Cuts
 pub mod GivenRows
 pub mod HostTexts
+pub mod Known
 pub mod Order
 pub mod PathTexts
 pub mod RelatedRows

@@ -1,27 +1,23 @@
 -- What is found, in order, is what a walk of all groups gives.
-use Rattle.std.proofs.Common.{◌≡◌, ℕ, zero, suc, ◌+◌, ◌-◌, ◌*◌, ◌^◌, ◌<◌, ◌≤◌, ◌⊎◌, Bool, true, false, cond, not, ◌&&◌, ◌||◌, eqb, ltb, List, [], ◌∷◌, ◌++◌, length, map, Option, Some, None, refl, sym, ◌∙◌, ap, subst, inl, inr, bytes_eq, arith, rules, IsPermutation}
-use Rattle.std.specs.Prelude.{if◌then◌else◌, option_map, ◌≢◌, IsTrue}
-use Rattle.std.specs.List.{AllByRecursion, sum_by, list_any, flat_map, starts_with}
+use Rattle.std.proofs.Common.{◌≡◌, ℕ, ◌+◌, ◌*◌, ◌<◌, ◌≤◌, Bool, true, false, List, [], ◌∷◌, ◌++◌, length, Some, None, refl, sym, ◌∙◌, ap, subst, inl, inr, bytes_eq, arith, IsPermutation}
+use Rattle.std.specs.Prelude.{◌≢◌}
+use Rattle.std.specs.List.{AllByRecursion, sum_by, list_any, flat_map}
 use Rattle.std.specs.List.Sorted.{IsSortedBy}
-use Rattle.std.proofs.lemmas.List.Sums.{sum_by-append, sum_by-cons}
+use Rattle.std.proofs.lemmas.List.Sums.{sum_by-cons}
 use Rattle.std.proofs.lemmas.Bool.Decides.{nat_tests}
-use Rattle.std.proofs.Math.Nat.{mul-le-mul_left}
-use Rattle.std.proofs.lemmas.List.{length-map}
-use Rattle.url.specs.Parts.{Parts, cannot_be_a_base}
-use Rattle.cookie_words.specs.Moments.{Moment, moment_of}
-use Rattle.cookie_parts.specs.Cookie.{Row, is_expired, cookie_matches}
-use Rattle.cookie_parts.specs.Domain.{domain_text, domain_matches, is_for_host}
-use Rattle.cookie_parts.specs.Hosts.{host_of, passes}
-use Rattle.cookie_parts.specs.Path.{is_absolute, path_matches}
-use Rattle.cookie_laws.specs.Rows.{differ}
+use Rattle.url.specs.Parts.{Parts}
+use Rattle.cookie_words.specs.Moments.{Moment}
+use Rattle.cookie_parts.specs.Cookie.{Row}
+use Rattle.cookie_parts.specs.Domain.{domain_text}
+use Rattle.cookie_parts.specs.Hosts.{host_of}
 use Rattle.cookie_lookup.specs.Texts.{related_texts, domain_texts, path_texts, most_paths}
 use Rattle.cookie_laws.specs.Given.{is_given}
-use Rattle.cookie_lookup.specs.Groups.{PathGroups, DomainGroups, AreGroups, ArePaths, Filled, Of}
-use Rattle.cookie_lookup.specs.Seen.{Spot, row_spots, path_spots, domain_spots, given_spots, at_path, at_domain, how_many_found}
+use Rattle.cookie_lookup.specs.Groups.{PathGroups, DomainGroups, AreGroups, ArePaths, Filled}
+use Rattle.cookie_lookup.specs.Seen.{Spot, row_spots, path_spots, domain_spots, given_spots, at_domain, how_many_found}
 use Rattle.cookie_lookup.proofs.Cuts.{bool_cases}
 use Rattle.cookie_lookup.proofs.HostTexts.{related_differ}
 use Rattle.cookie_lookup.proofs.PathTexts.{path_differ}
-use Rattle.cookie_lookup.proofs.Order.{SameSums, Ascends, ascends_append, all_append, all_weaker, stands_before, stands_tests, sorted_is}
+use Rattle.cookie_lookup.proofs.Order.{Ascends, ascends_append, all_append, all_weaker, stands_before, stands_tests, sorted_is}
 use Rattle.cookie_lookup.proofs.Agree.{Missed, Agree, rows_sum, paths_sum, paths_agree, domains_agree}
 
 -- the walk ascends

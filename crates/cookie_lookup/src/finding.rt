@@ -1,12 +1,14 @@
 //! The search.
 ghost use Rattle.std.specs.List.{flat_map};
-ghost use Rattle.std.specs.Prelude.{◌≡◌, ◌≢◌, ◌≤◌, ◌<◌, ◌+◌, ◌*◌, ◌^◌, [], ◌++◌, ◌∷◌, length, IfOk, OnErr, OnOk};
+ghost use Rattle.std.specs.Prelude.{◌≡◌, ◌≢◌, ◌≤◌, ◌<◌, ◌+◌, ◌*◌, ◌^◌, [], ◌++◌, ◌∷◌, length, IfOk, OnErr, OnOk, Some};
 ghost use Rattle.cookie_words.specs.Moments.{moment_of};
 ghost use Rattle.cookie_laws.specs.Given.{is_given};
+ghost use Rattle.cookie_lookup.specs.Asked.{is_asked_for};
 ghost use Rattle.cookie_lookup.specs.Seen.{at_domain, at_path, given_spots, how_many_found, row_spots, rows_in, under};
-ghost use Rattle.cookie_lookup.specs.Texts.{domain_texts, dots, ends_text, most_domains, most_paths, path_texts, related_texts};
+ghost use Rattle.cookie_lookup.specs.Texts.{domain_texts, dots, ends_text, most_domains, most_paths, path_texts, related_texts, IsRelated};
+ghost use Rattle.cookie_parts.specs.Hosts.{host_of};
 
-use crate::given::is_given;
+use crate::asked::Asked;
 use crate::laws;
 use crate::search::Search;
 use jiff::civil::DateTime;
@@ -51,6 +53,7 @@ fn push_domains<S: Search>(
     now: DateTime,
     spots: &mut Vec<(usize, usize, usize)>,
 ) -> Result<(), AllocError>
+    requires host { host_of url.now ≡ Some host.now }
     requires domains { (S.seen search.old).domains + (1 + dots host.now) < 2 ^ 128 }
     requires paths { (S.seen search.old).paths + (1 + dots host.now) * most_paths url.now < 2 ^ 128 }
     ensures spots { OnOk result (spots.new.items ≡ spots.old.items
@@ -62,24 +65,27 @@ fn push_domains<S: Search>(
     ensures memory { OnErr result
         (flat_map (at_domain (is_given url.now (moment_of now)) (S.seen search.old).groups (path_texts url.now.path)) (related_texts host.now) ≢ []) }
 {
-    push_domain(search, host, url, now, spots)?;
+    push_domain(search, host, host, url, now, spots)?;
     let bytes = host.as_bytes();
     for at in 0..bytes.len() {
         if bytes[at] == b'.' {
-            push_domain(search, &host[at + 1..], url, now, spots)?;
+            push_domain(search, &host[at + 1..], host, url, now, spots)?;
         }
     }
     Ok(())
 }
 
-// Adds the spots under the text of a domain.
+// Adds the spots under a text that the host is looked up by.
 fn push_domain<S: Search>(
     search: &mut S,
     text: &str,
+    host: &str,
     url: &Url,
     now: DateTime,
     spots: &mut Vec<(usize, usize, usize)>,
 ) -> Result<(), AllocError>
+    requires host { host_of url.now ≡ Some host.now }
+    requires related { IsRelated host.now text.now }
     requires domains { (S.seen search.old).domains + 1 < 2 ^ 128 }
     requires paths { (S.seen search.old).paths + most_paths url.now < 2 ^ 128 }
     ensures spots { OnOk result (spots.new.items ≡ spots.old.items
@@ -92,7 +98,7 @@ fn push_domain<S: Search>(
         (at_domain (is_given url.now (moment_of now)) (S.seen search.old).groups (path_texts url.now.path) text.now ≢ []) }
 {
     match search.domain(text) {
-        Some(domain) => push_paths(search, domain, url, now, spots),
+        Some(domain) => push_paths(search, domain, &Asked::under(text, host, url, now), spots),
         None => Ok(()),
     }
 }
@@ -101,26 +107,25 @@ fn push_domain<S: Search>(
 fn push_paths<S: Search>(
     search: &mut S,
     domain: usize,
-    url: &Url,
-    now: DateTime,
+    asked: &Asked<'_>,
     spots: &mut Vec<(usize, usize, usize)>,
 ) -> Result<(), AllocError>
-    requires room { (S.seen search.old).paths + most_paths url.now < 2 ^ 128 }
+    requires room { (S.seen search.old).paths + most_paths asked.now.url.now < 2 ^ 128 }
     requires domain { domain < length (S.seen search.old).groups }
     ensures spots { OnOk result (spots.new.items ≡ spots.old.items
-        ++ flat_map (at_path (is_given url.now (moment_of now)) domain (under domain (S.seen search.old).groups)) (path_texts url.now.path)) }
+        ++ flat_map (at_path (is_asked_for asked.now.host_only asked.now.suffix asked.now.url.now (moment_of asked.now.moment)) domain (under domain (S.seen search.old).groups)) (path_texts asked.now.url.now.path)) }
     ensures groups { (S.seen search.new).groups ≡ (S.seen search.old).groups }
     ensures domains { (S.seen search.new).domains ≡ (S.seen search.old).domains }
-    ensures paths { (S.seen search.new).paths ≤ (S.seen search.old).paths + most_paths url.now }
+    ensures paths { (S.seen search.new).paths ≤ (S.seen search.old).paths + most_paths asked.now.url.now }
     ensures memory { OnErr result
-        (flat_map (at_path (is_given url.now (moment_of now)) domain (under domain (S.seen search.old).groups)) (path_texts url.now.path) ≢ []) }
+        (flat_map (at_path (is_asked_for asked.now.host_only asked.now.suffix asked.now.url.now (moment_of asked.now.moment)) domain (under domain (S.seen search.old).groups)) (path_texts asked.now.url.now.path) ≢ []) }
 {
-    let path = url.path();
+    let path = asked.url.path();
     let bytes = path.as_bytes();
     if bytes.starts_with(b"/") {
         for at in 0..bytes.len() {
             if ends_text(bytes, at) {
-                push_path(search, domain, &path[..at + 1], url, now, spots)?;
+                push_path(search, domain, &path[..at + 1], asked, spots)?;
             }
         }
     }
@@ -140,22 +145,21 @@ fn push_path<S: Search>(
     search: &mut S,
     domain: usize,
     text: &str,
-    url: &Url,
-    now: DateTime,
+    asked: &Asked<'_>,
     spots: &mut Vec<(usize, usize, usize)>,
 ) -> Result<(), AllocError>
     requires room { (S.seen search.old).paths + 1 < 2 ^ 128 }
     requires domain { domain < length (S.seen search.old).groups }
     ensures spots { OnOk result (spots.new.items ≡ spots.old.items
-        ++ at_path (is_given url.now (moment_of now)) domain (under domain (S.seen search.old).groups) text.now) }
+        ++ at_path (is_asked_for asked.now.host_only asked.now.suffix asked.now.url.now (moment_of asked.now.moment)) domain (under domain (S.seen search.old).groups) text.now) }
     ensures groups { (S.seen search.new).groups ≡ (S.seen search.old).groups }
     ensures domains { (S.seen search.new).domains ≡ (S.seen search.old).domains }
     ensures paths { (S.seen search.new).paths ≡ (S.seen search.old).paths + 1 }
     ensures memory { OnErr result
-        (at_path (is_given url.now (moment_of now)) domain (under domain (S.seen search.old).groups) text.now ≢ []) }
+        (at_path (is_asked_for asked.now.host_only asked.now.suffix asked.now.url.now (moment_of asked.now.moment)) domain (under domain (S.seen search.old).groups) text.now ≢ []) }
 {
     match search.path(domain, text) {
-        Some(path) => push_rows(search, domain, path, url, now, spots),
+        Some(path) => push_rows(search, domain, path, asked, spots),
         None => Ok(()),
     }
 }
@@ -165,18 +169,17 @@ fn push_rows<S: Search>(
     search: &S,
     domain: usize,
     path: usize,
-    url: &Url,
-    now: DateTime,
+    asked: &Asked<'_>,
     spots: &mut Vec<(usize, usize, usize)>,
 ) -> Result<(), AllocError>
     ensures spots { OnOk result (spots.new.items ≡ spots.old.items
-        ++ row_spots (is_given url.now (moment_of now)) domain path 0 (rows_in (S.seen search.now).current)) }
+        ++ row_spots (is_asked_for asked.now.host_only asked.now.suffix asked.now.url.now (moment_of asked.now.moment)) domain path 0 (rows_in (S.seen search.now).current)) }
     ensures memory { OnErr result
-        (row_spots (is_given url.now (moment_of now)) domain path 0 (rows_in (S.seen search.now).current) ≢ []) }
+        (row_spots (is_asked_for asked.now.host_only asked.now.suffix asked.now.url.now (moment_of asked.now.moment)) domain path 0 (rows_in (S.seen search.now).current) ≢ []) }
 {
     let mut row = 0;
     while let Some(cookie) = search.cookie(row) {
-        if is_given(cookie, url, now) {
+        if asked.gives(cookie) {
             spots.push((domain, path, row))?;
         }
         row += 1;

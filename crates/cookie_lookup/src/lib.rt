@@ -5,8 +5,8 @@
 //! path or before one. `found` looks these texts up, each once, and nothing else.
 #![tactic(auto)]
 
+mod asked;
 mod finding;
-mod given;
 pub mod laws;
 mod lookups;
 mod search;

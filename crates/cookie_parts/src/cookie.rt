@@ -26,13 +26,14 @@ pub type CookieResult<'a> = Result<Cookie<'a>, CookieError>;
 /// A cookie of a user agent: a raw cookie, the hosts and paths that it is for, and its end.
 #[derive(Debug, Drop)]
 pub struct Cookie<'a> {
-    pub(crate) raw: RawCookie<'a>,
-    /// The paths that it is for.
-    pub path: CookiePath,
+    // What a request looks at stands first, so that it lies together: fields lie in the order of the source.
     /// The hosts that it is for.
     pub domain: CookieDomain,
     /// When it ends.
     pub expires: CookieExpiration,
+    pub(crate) raw: RawCookie<'a>,
+    /// The paths that it is for.
+    pub path: CookiePath,
 }
 
 impl<'a> Model for Cookie<'a> {

@@ -50,10 +50,23 @@ const THREE: &str = r#"[
     ),
 ]"#;
 
+const COMPACT: &str = r#"[
+    (
+        raw_cookie: "a=1",
+        path: ("/", false),
+        domain: Empty,
+        expires: SessionEnd,
+    ),
+]"#;
+
 // A text, and how its list is printed.
-const TEXTS: [(&str, Result<&str, SavedError>); 14] = [
+const TEXTS: [(&str, Result<&str, SavedError>); 15] = [
     (ONE, Ok(ONE)),
     (THREE, Ok(THREE)),
+    (
+        r#"[(raw_cookie:"a=1",path:("/",false),domain:Empty,expires:SessionEnd)]"#,
+        Ok(COMPACT),
+    ),
     ("[]", Ok("[]")),
     (" [\t] \n\r", Ok("[]")),
     (
@@ -159,6 +172,79 @@ fn texts_in_ron_are_read_and_printed(rt: HostRuntime) -> Result<(), Fail> {
         is_quoted_again(&rt, rt.alloc(), row)?;
     }
     Ok(())
+}
+
+#[test]
+fn a_text_is_printed_with_its_escapes(rt: HostRuntime) -> Result<(), Fail> {
+    let saved = Saved {
+        raw_cookie: String::from_str(rt.alloc(), "a\t\"\u{7}é")?,
+        path: String::from_str(rt.alloc(), "/")?,
+        from_attr: true,
+        domain: SavedDomain::Empty,
+        expires: SavedExpiry::SessionEnd,
+    };
+    let wanted = list_with(rt.alloc(), r#"a\t\"\u{7}é"#)?;
+    let printed = to_ron(rt.alloc(), &[saved]);
+    let is_it = printed.is_ok_and(|text| text.as_str() == wanted.as_str());
+    is_equal(&rt, is_it, true, &"escapes");
+    Ok(())
+}
+
+const FOUR: &str = r#"[
+    (raw_cookie: "\x41\u{1F36A}\0", path: ("/", false), domain: HostOnly("a.com"), expires: SessionEnd),
+    (raw_cookie: "", path: ("", true), domain: Suffix("b.com"), expires: AtUtc("2100-08-03T00:38:37.75Z")),
+    (raw_cookie: "\'", path: ("/\"", true), domain: NotPresent, expires: AtUtc("0000-01-01T00:00:00Z")),
+    (raw_cookie: "d=4", path: ("/", false), domain: Empty, expires: SessionEnd),
+]"#;
+
+// Of a saved cookie its text, its path, whether an attribute set that, its domain's kind and text, and of an end the year and the
+// nanoseconds of its second.
+type Read = (
+    &'static str,
+    &'static str,
+    bool,
+    (&'static str, &'static str),
+    Option<(i16, i32)>,
+);
+
+const READ: [Read; 4] = [
+    ("A🍪\0", "/", false, ("HostOnly", "a.com"), None),
+    ("", "", true, ("Suffix", "b.com"), Some((2100, 750_000_000))),
+    ("'", "/\"", true, ("NotPresent", ""), Some((0, 0))),
+    ("d=4", "/", false, ("Empty", ""), None),
+];
+
+fn kind_of(domain: &SavedDomain) -> (&str, &str) {
+    match domain {
+        SavedDomain::HostOnly(text) => ("HostOnly", text.as_str()),
+        SavedDomain::Suffix(text) => ("Suffix", text.as_str()),
+        SavedDomain::NotPresent => ("NotPresent", ""),
+        SavedDomain::Empty => ("Empty", ""),
+    }
+}
+
+fn end_of(expires: SavedExpiry) -> Option<(i16, i32)> {
+    match expires {
+        SavedExpiry::AtUtc(moment) => Some((moment.year(), moment.subsec_nanosecond())),
+        SavedExpiry::SessionEnd => None,
+    }
+}
+
+fn is_read(rt: &impl Abort, saved: &Saved, wanted: &Read) {
+    let texts = (saved.raw_cookie.as_str(), saved.path.as_str());
+    is_equal(rt, texts, (wanted.0, wanted.1), wanted);
+    is_equal(rt, saved.from_attr, wanted.2, wanted);
+    is_equal(rt, kind_of(&saved.domain), wanted.3, wanted);
+    is_equal(rt, end_of(saved.expires), wanted.4, wanted);
+}
+
+#[test]
+fn all_parts_are_read_of_ron(rt: HostRuntime) {
+    let list = from_ron(rt.alloc(), FOUR).expect(&rt, "a list");
+    is_equal(&rt, list.len(), READ.len(), &"cookies");
+    for (saved, wanted) in list.iter().zip(READ.iter()) {
+        is_read(&rt, saved, wanted);
+    }
 }
 
 #[test]

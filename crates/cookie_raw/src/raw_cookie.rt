@@ -22,11 +22,11 @@ use std::marker::Model;
 pub struct RawCookie<'a> {
     pub(crate) name: CowStr<'a>,
     pub(crate) value: CowStr<'a>,
-    pub(crate) domain: Option<CowStr<'a>>,
-    pub(crate) path: Option<CowStr<'a>>,
     pub(crate) secure: Option<bool>,
     pub(crate) http_only: Option<bool>,
     pub(crate) same_site: Option<SameSite>,
+    pub(crate) domain: Option<CowStr<'a>>,
+    pub(crate) path: Option<CowStr<'a>>,
     pub(crate) max_age: Option<SignedDuration>,
     pub(crate) expires: Option<Expiration>,
 }

@@ -1,5 +1,5 @@
 -- What a text says, by the list that it is read as.
-use Rattle.std.proofs.Common.{◌≡◌, ℕ, List, Some, None, Ok, Err, ◌⊎◌, inl, inr, sym, subst}
+use Rattle.std.proofs.Common.{◌≡◌, ℕ, List, [], Option, Some, None, Result, Ok, Err, ◌⊎◌, inl, inr, refl, sym, subst}
 use Rattle.std.specs.Str.{chars}
 use Rattle.cookie_words.specs.Moments.{Moment}
 use Rattle.cookie_saved.specs.Saved.{Parts}
@@ -34,3 +34,22 @@ says_no_moment text s parts e same read told = elim told [
   | inl memory ↦ inl memory
   | inr (moment, none) ↦ inr (inr (moment, parts, subst (λ t. IsList parts t) same (list_front s parts read), none))
 ]
+
+-- the empty text is of no list
+pub empty_says_none : (text : List ℕ) → text ≡ [] → (Fault.Ron ≡ Fault.Memory) ⊎ SaysRon text (Err Fault.Ron)
+unfolding list_at chars
+empty_says_none text none =
+    let unread : list_at (chars text) ≡ None = rw none refl in
+    says_none text (chars text) Fault.Ron refl (inr (refl, unread))
+
+-- each text says something
+pub says : (text : List ℕ) → (answer : Result (List (Parts Moment)) SavedError) × SaysRon text answer
+says text = by_list (list_at (chars text)) refl
+  where
+    by_list : (read : Option (List (Parts (List ℕ)))) → list_at (chars text) ≡ read → (answer : Result (List (Parts Moment)) SavedError) × SaysRon text answer
+    by_list None e = (Err Fault.Ron, inl (refl, λ parts is. none_read (chars text) parts e is))
+    by_list (Some parts) e = by_ends (all_with_moment parts) refl
+      where
+        by_ends : (read : Option (List (Parts Moment))) → all_with_moment parts ≡ read → (answer : Result (List (Parts Moment)) SavedError) × SaysRon text answer
+        by_ends None m = (Err Fault.Moment, inr (refl, parts, list_front (chars text) parts e, m))
+        by_ends (Some list) m = (Ok list, (parts, list_front (chars text) parts e, m))

@@ -11,18 +11,23 @@ ghost use Rattle.cookie_ron.specs.RonLists.{SaysRon};
 
 use cookie_saved::laws::moments_read_back;
 
-/// A text is of the grammar of one list at most.
+/// A text, as its characters, is of the grammar of one list at most.
 pub fn texts_say_one_list()
     ensures { (parts others : List (Parts (List ℕ))) (text : List ℕ) → IsList parts text → IsList others text → parts ≡ others }
 {}
 
-/// So it says one list, or is refused for one thing.
+/// So a text, as its bytes, says at most one thing: one list, or one refusal.
 pub fn answers_are_one()
     ensures { (text : List ℕ) (answer other : Result (List (Parts Moment)) SavedError) → SaysRon text answer → SaysRon text other
         → answer ≡ other }
 {
     texts_say_one_list();
 }
+
+/// And each says something.
+pub fn all_texts_say()
+    ensures { (text : List ℕ) → (answer : Result (List (Parts Moment)) SavedError) × SaysRon text answer }
+{}
 
 /// What is printed of a list says that list, each end cut to whole seconds, also with a line feed behind it.
 pub fn printed_reads_back()

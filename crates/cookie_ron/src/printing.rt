@@ -10,8 +10,21 @@ ghost use Rattle.cookie_ron.specs.Printed.{printed_char, quoted, printed_path, p
 use cookie_saved::{Saved, SavedDomain, SavedError, SavedExpiry, moment_text};
 use std::alloc::{AllocError, Global};
 
-/// The text of a list: `[]` of no cookies, and else a line for each bracket and field, indented, and no line feed at its end. Ends are
-/// cut to whole seconds. An end before the year 0 anywhere in the list is refused `Moment`, and no memory is wanted before that.
+/// The text of a list: `[]` of no cookies, and else a bracket, each cookie, and a bracket, without a line feed at its end:
+///
+/// ```text
+/// [
+///     (
+///         raw_cookie: "a=1; Path=/",
+///         path: ("/", true),
+///         domain: HostOnly("test.com"),
+///         expires: AtUtc("2100-08-03T00:38:37Z"),
+///     ),
+/// ]
+/// ```
+///
+/// In texts a quote, a backslash and each control character is an escape. Ends are cut to whole seconds. An end before the year 0
+/// anywhere in the list is refused `Moment`, and no memory is wanted before that; `Memory` where there was no room.
 pub fn to_ron(alloc: Global, list: &[Saved]) -> Result<String, SavedError>
     ensures text { IfOk result (λ text. ron_written (map saved_view list.now) ≡ Ok (string_bytes text)) }
     ensures early { ron_written (map saved_view list.now) ≡ Err SavedError.Moment → result ≡ Err SavedError.Moment }

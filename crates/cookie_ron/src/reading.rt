@@ -1,5 +1,5 @@
 //! Saved cookies out of a list in RON.
-ghost use Rattle.std.specs.Prelude.{◌≡◌, ◌⊎◌, None, Some, Ok, Err, IfOk, IfErr, length, map, option_map, suc, string_bytes};
+ghost use Rattle.std.specs.Prelude.{◌≡◌, ◌⊎◌, [], None, Some, Ok, Err, IfOk, IfErr, length, map, option_map, suc, string_bytes};
 ghost use Rattle.std.specs.Str.{chars};
 ghost use Rattle.cookie_saved.specs.Saved.{saved_view, domain_view, expiry_view};
 ghost use Rattle.cookie_saved.specs.ReadTrees.{ends_at, with_moment, all_with_moment};
@@ -22,11 +22,19 @@ struct Entry {
     ends: Option<String>,
 }
 
-/// The saved cookies of a list in RON. `Ron` where the text is none, and else `Moment` where the text of an end is no moment.
+/// The saved cookies of a list in RON: of what [`to_ron`](crate::to_ron) prints, of the same with other blanks, with or without the commas
+/// before closing signs, and with any of Rust's escapes in its texts, as in
+/// `[(raw_cookie:"\x61=1",path:("/",true),domain:Suffix("a.com"),expires:AtUtc("2100-08-03T00:38:37.5Z"))]`. An end keeps the fraction
+/// of its second. `Ron` where the text is of no list, and else `Moment` where the text of an end is no moment. `Memory` where there was
+/// no room, which may be found before either, but for the empty text.
 pub fn from_ron(alloc: Global, text: &str) -> Result<Vec<Saved>, SavedError>
     ensures list { IfOk result (λ list. SaysRon text.now (Ok (map saved_view list.items))) }
     ensures refused { IfErr result (λ e. (e ≡ SavedError.Memory) ⊎ SaysRon text.now (Err e)) }
+    ensures empty { text.now ≡ [] → result ≡ Err SavedError.Ron }
 {
+    if text.is_empty() {
+        return Err(SavedError::Ron);
+    }
     let input = chars_of(alloc, text)?;
     with_moments(alloc, list_at(alloc, &input)?)
 }

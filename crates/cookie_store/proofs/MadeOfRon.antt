@@ -1,11 +1,12 @@
 -- What is made of a list in RON.
-use Rattle.std.proofs.Common.{◌≡◌, ℕ, List, Result, Ok, Err, inl, inr, refl, sym}
-use Rattle.std.specs.Prelude.{◌⊎◌, IfOk, IfErr}
+use Rattle.std.proofs.Common.{◌≡◌, ℕ, List, [], Result, Ok, Err, inl, inr, refl, sym, ◌∙◌}
+use Rattle.std.specs.Prelude.{◌≢◌, ◌⊎◌, IfOk, IfErr}
 use Rattle.std.specs.Result.{result_map_both}
 use Rattle.std.specs.declared.alloc.Global.{Global}
 use Rattle.std.specs.declared.vec.Vec.{Vec}
 use Rattle.cookie_words.specs.Moments.{Moment}
 use Rattle.cookie_saved.specs.Saved.{Parts}
+use Rattle.cookie_saved.specs.declared.saved.Saved.{Saved}
 use Rattle.cookie_saved.specs.declared.error.SavedError.{SavedError}
 use Rattle.cookie_saved.specs.declared.error.SavedError.TheVariants as Fault
 use Rattle.cookie_ron.specs.RonLists.{SaysRon}
@@ -16,19 +17,22 @@ use Rattle.cookie_parts.specs.declared.error.Error.TheVariants.{Cookie, Memory}
 use Rattle.cookie_store.specs.RonLists.{MakesRonList}
 use Rattle.cookie_store.specs.SavedForms.{cookies_of_saved}
 
-module _ (text : List ℕ) where
+module _ (text : List ℕ) (result : Result (Vec Saved Global) SavedError) (empty : text ≡ [] → result ≡ Err Fault.Ron) where
+  is_some : (e : SavedError) → result ≡ Err e → e ≡ Fault.Memory → text ≢ []
+  is_some e told memory none = let fault = sym told ∙ empty none in absurd (cc)
+
   -- what is made of its list is made of the text
-  pub ron_made : (list : List (Parts Moment)) (answer : Result (Vec Row Global) Error) → SaysRon text (Ok list)
+  pub ron_made : (saved : Vec Saved Global) → result ≡ Ok saved → (list : List (Parts Moment)) (answer : Result (Vec Row Global) Error) → SaysRon text (Ok list)
       → IfOk answer (λ cookies. cookies_of_saved list ≡ Ok cookies.items)
       → IfErr answer (λ error. (error ≡ Memory) ⊎ (result_map_both (λ cookies. cookies) Cookie (cookies_of_saved list) ≡ Err error))
       → MakesRonList text (result_map_both (λ cookies. cookies.items) (λ error. error) answer)
-  ron_made list (Ok cookies) says made refused = (Ok list, says, rw made refl)
-  ron_made list (Err error) says made (inl memory) = inr memory
-  ron_made list (Err error) says made (inr refused) = inl (Ok list, says, sym refused)
+  ron_made saved read list (Ok cookies) says made refused = (Ok list, says, rw made refl)
+  ron_made saved read list (Err error) says made (inl memory) = inr (memory, λ none. let clash = sym read ∙ empty none in absurd (cc))
+  ron_made saved read list (Err error) says made (inr refused) = inl (Ok list, says, sym refused)
 
   -- and what the text is refused for is what is made of it
-  pub ron_refused : (fault : SavedError) → (fault ≡ Fault.Memory) ⊎ SaysRon text (Err fault)
+  pub ron_refused : (fault : SavedError) → result ≡ Err fault → (fault ≡ Fault.Memory) ⊎ SaysRon text (Err fault)
       → MakesRonList text (Err (fault_of_saved fault))
-  ron_refused fault (inl memory) = rw memory (inr refl)
-  ron_refused fault (inr (inl (ron, none))) = rw ron (inl (Err Fault.Ron, inl (refl, none), refl))
-  ron_refused fault (inr (inr (moment, parts, are, none))) = rw moment (inl (Err Fault.Moment, inr (refl, parts, are, none), refl))
+  ron_refused fault told (inl memory) = rw memory (inr (refl, is_some fault told memory))
+  ron_refused fault told (inr (inl (ron, none))) = rw ron (inl (Err Fault.Ron, inl (refl, none), refl))
+  ron_refused fault told (inr (inr (moment, parts, are, none))) = rw moment (inl (Err Fault.Moment, inr (refl, parts, are, none), refl))

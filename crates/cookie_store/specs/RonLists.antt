@@ -1,5 +1,5 @@
 -- Rows that are saved as one text of RON, and made of one.
-use Rattle.std.specs.Prelude.{◌≡◌, ◌⊎◌, ℕ, List, map, string_bytes, Result, Ok, Err}
+use Rattle.std.specs.Prelude.{◌≡◌, ◌≢◌, ◌⊎◌, ℕ, List, [], map, string_bytes, Result, Ok, Err}
 use Rattle.std.specs.declared.alloc.Global.{Global}
 use Rattle.std.specs.declared.string.String.{String}
 use Rattle.cookie_words.specs.Moments.{Moment}
@@ -28,7 +28,7 @@ abbrev pub RonCookies : List ℕ → Result (List Row) Error → Type 0
 RonCookies text answer =
     (told : Result (List (Parts Moment)) SavedError) × SaysRon text told × (answer ≡ read_cookies told)
 
--- what is made of a text: its cookies, or why there are none, unless memory is wanting
+-- what is made of a text: its cookies, or why there are none, unless memory is wanting, which no empty text is told for
 abbrev pub MakesRonList : List ℕ → Result (List Row) Error → Type 0
 MakesRonList text (Ok cookies) = RonCookies text (Ok cookies)
-MakesRonList text (Err error) = RonCookies text (Err error) ⊎ (error ≡ Memory)
+MakesRonList text (Err error) = RonCookies text (Err error) ⊎ ((error ≡ Memory) × (text ≢ []))

@@ -8,11 +8,17 @@ pub fn is_equal<T: Debug + PartialEq>(rt: &impl Abort, value: &T, wanted: &T, ro
     assert_eq!(rt; value, wanted, "at {row:?}");
 }
 
-// The rows that both stores have at a place are equal.
+// The stores have the same rows in the same order.
 pub fn has_the_same_rows(rt: &impl Abort, store: &CookieStore, other: &CookieStore) {
-    for (row, same) in store.iter_any().zip(other.iter_any()) {
-        is_equal(rt, &(row == same), &true, &row.name());
+    let mut rows = store.iter_any();
+    for same in other.iter_any() {
+        let is_same = match rows.next() {
+            Some(row) => row == same,
+            None => false,
+        };
+        is_equal(rt, &is_same, &true, &same.name());
     }
+    is_equal(rt, &rows.next().is_none(), &true, &"a row behind all");
 }
 
 // How a call ended: done, or by what error.

@@ -584,6 +584,14 @@ fn all_loaded_from_json(rt: HostRuntime) {
     are_loaded_from_json(&rt, rt.alloc(), &Which::All);
 }
 
+// The list begins as one of its form does.
+fn begins_as(form: Form, written: &[u8]) -> bool {
+    match form {
+        Form::Json => written.starts_with(b"[\n  {"),
+        Form::Ron => written.starts_with(b"[\n    ("),
+    }
+}
+
 fn are_saved_as_a_list(rt: &impl Abort, form: Form, alloc: Global, which: &Which) {
     let store = store_of(rt, alloc, &LASTING);
     let room = Vec::with_capacity(alloc, 1_024).expect(rt, "memory");
@@ -593,7 +601,10 @@ fn are_saved_as_a_list(rt: &impl Abort, form: Form, alloc: Global, which: &Which
     end(alloc);
     is_equal(rt, &failures, &0, which);
     match &outcome {
-        Ok(()) => is_equal(rt, &written.ends_with(b"\n]\n"), &true, which),
+        Ok(()) => {
+            let is_whole = begins_as(form, &written) && written.ends_with(b"\n]\n");
+            is_equal(rt, &is_whole, &true, which);
+        }
         Err(error) => is_equal(rt, &(error, written.len()), &(&Error::Memory, 0), which),
     }
 }

@@ -223,7 +223,7 @@ pub const CAME: [Came; 2] = [
 ];
 
 // Their lists: of both, and of the one that ends at a moment.
-const WRITTEN: [&str; 2] = [
+pub const WRITTEN: [&str; 2] = [
     r#"[
   {
     "domain": {

@@ -2,9 +2,8 @@
 use crate::built::store_of;
 use crate::checks::{has_the_same_rows, is_equal};
 use crate::json::fault_of;
-use crate::lists::{
-    CAME, Form, each_read_fails, each_write_fails, is_written, load_list, loaded, save_list,
-};
+use crate::lists;
+use crate::lists::{CAME, Form, each_read_fails, each_write_fails, is_written, load_list, loaded};
 use crate::saved::Which;
 use crate::steps::new_year;
 use crate::texts::{all_listed, unexpired};
@@ -64,16 +63,39 @@ fn what_is_saved_in_ron_loads_again(rt: HostRuntime) {
     is_written(&rt, Form::Ron, rt.alloc(), &again, &Which::All, WRITTEN[0]);
 }
 
-// What was saved in either form loads as the same rows.
+// A list in either form loads as the same rows.
 #[test]
 fn both_forms_say_the_same_rows(rt: HostRuntime) {
     let store = store_of(&rt, rt.alloc(), &CAME);
-    for form in [Form::Json, Form::Ron] {
-        let fake = Fake::new(Vec::new(rt.alloc()), usize::MAX, 0);
-        let (_, _, written) = save_list(form, &store, &Which::All, fake);
-        let fake = Fake::new(written.as_slice(), 100, 0);
-        let (outcome, _) = load_list(form, rt.alloc(), &Which::All, fake);
-        has_the_same_rows(&rt, &outcome.expect(&rt, "a store"), &store);
+    for (form, text) in [(Form::Json, lists::WRITTEN[0]), (Form::Ron, WRITTEN[0])] {
+        let again = loaded(&rt, form, rt.alloc(), &Which::All, text);
+        has_the_same_rows(&rt, &again, &store);
+    }
+}
+
+#[test]
+fn no_rows_are_saved_in_ron(rt: HostRuntime) {
+    let store = CookieStore::new(rt.alloc());
+    for which in &[Which::All, Which::At(new_year())] {
+        is_written(&rt, Form::Ron, rt.alloc(), &store, which, "[]\n");
+    }
+}
+
+// The one row is live, and each save writes it.
+fn has_one_row(rt: &impl Abort, alloc: Global, store: &CookieStore) {
+    are_listed(rt, alloc, store, "test.com / 2");
+    let rows = unexpired(rt, alloc, store, new_year());
+    is_equal(rt, &rows.len(), &1, &"iter_unexpired");
+    for which in &[Which::All, Which::At(new_year())] {
+        is_written(rt, Form::Ron, alloc, store, which, WRITTEN[1]);
+    }
+}
+
+#[test]
+fn a_cookie_that_lasts_is_loaded_of_ron(rt: HostRuntime) {
+    for which in &[Which::All, Which::At(new_year())] {
+        let store = loaded(&rt, Form::Ron, rt.alloc(), which, WRITTEN[1]);
+        has_one_row(&rt, rt.alloc(), &store);
     }
 }
 
@@ -106,7 +128,7 @@ fn a_cookie_that_has_ended_is_kept_in_ron(rt: HostRuntime) {
 }
 
 // Lists, and what they are refused for.
-const REFUSED: [(&[u8], &str); 20] = [
+const REFUSED: [(&[u8], &str); 31] = [
     (b"", "no RON"),
     (b"\n", "no RON"),
     (b"[", "no RON"),
@@ -155,15 +177,73 @@ const REFUSED: [(&[u8], &str); 20] = [
         "none",
     ),
     (b" [ ] ", "none"),
+    (b"[(raw_cookie: \"\xc3", "no UTF-8"),
+    (
+        br#"[(raw_cookie: r"a=1", path: ("/", true), domain: Empty, expires: SessionEnd)]"#,
+        "no RON",
+    ),
+    (
+        br#"[(raw_cookie: b"a=1", path: ("/", true), domain: Empty, expires: SessionEnd)]"#,
+        "no RON",
+    ),
+    (
+        br#"[Cookie(raw_cookie: "a=1", path: ("/", true), domain: Empty, expires: SessionEnd)]"#,
+        "no RON",
+    ),
+    (
+        br#"[(raw_cookie: "a=1", path: ("/", true), domain: Empty)]"#,
+        "no RON",
+    ),
+    (
+        br#"[(raw_cookie: "a=1", path: ("/", true), domain: Empty, expires: SessionEnd, secure: true)]"#,
+        "no RON",
+    ),
+    (
+        br#"[(raw_cookie: "a=1" path: ("/", true), domain: Empty, expires: SessionEnd)]"#,
+        "no RON",
+    ),
+    (
+        br#"[(raw_cookie: "a=\u{41", path: ("/", true), domain: Empty, expires: SessionEnd)]"#,
+        "no RON",
+    ),
+    (
+        br#"[(raw_cookie: "a=1", path: ("/", true), domain: Empty, expires: SessionEnd), // one
+        ]"#,
+        "no RON",
+    ),
+    (
+        br#"[(raw_cookie: "a=1", path: ("\x2f", true), domain: HostOnly("a\x2ecom"), expires: AtUtc("\x32100-08-03T00:38:37Z"))]"#,
+        "none",
+    ),
+    (
+        b"[\r\n(raw_cookie:\"a=1\",\r\npath:(\"/\",true),\r\ndomain:Empty,\r\nexpires:SessionEnd)\r\n]\r\n",
+        "none",
+    ),
 ];
+
+fn is_refused_so(rt: &impl Abort, alloc: Global, which: &Which, list: &(&'static [u8], &str)) {
+    let fake = Fake::new(list.0, usize::MAX, 0);
+    let (outcome, failures) = load_list(Form::Ron, alloc, which, fake);
+    is_equal(rt, &fault_of(&outcome), &list.1, &list.0);
+    is_equal(rt, &failures, &0, &list.0);
+}
 
 #[test]
 fn bad_lists_in_ron_are_refused(rt: HostRuntime) {
-    for (bytes, wanted) in REFUSED {
-        let fake = Fake::new(bytes, usize::MAX, 0);
-        let (outcome, failures) = load_list(Form::Ron, rt.alloc(), &Which::All, fake);
-        is_equal(&rt, &fault_of(&outcome), &wanted, &bytes);
-        is_equal(&rt, &failures, &0, &bytes);
+    for list in &REFUSED {
+        is_refused_so(&rt, rt.alloc(), &Which::All, list);
+        is_refused_so(&rt, rt.alloc(), &Which::At(new_year()), list);
+    }
+}
+
+// No text drives the reader deep.
+#[test]
+fn a_row_of_brackets_is_no_ron(rt: HostRuntime) {
+    for bracket in ["[", "(", "[("] {
+        let text = bracket.repeat(rt.alloc(), 50_000).expect(&rt, "memory");
+        let fake = Fake::new(text.as_bytes(), usize::MAX, 0);
+        let (outcome, _) = load_list(Form::Ron, rt.alloc(), &Which::All, fake);
+        is_equal(&rt, &fault_of(&outcome), &"no RON", &bracket);
     }
 }
 

@@ -1,6 +1,5 @@
-use Rattle.std.proofs.Common.{◌≡◌, ◌+◌, ◌≤◌, length, arith, ap, ◌∙◌, sym}
+use Rattle.std.proofs.Common.{length, arith, ap, ◌∙◌}
 use Rattle.cookie_words.specs.Moments.{moment_of}
-use Rattle.cookie_lookup.specs.Seen.{given_spots}
 use Rattle.cookie_lookup.proofs.Bounds.{domains_most, paths_fit}
 use Rattle.cookie_lookup.proofs.Results.{either_way}
 use Rattle.cookie_lookup.proofs.Whole.{found_sorted, from_none, none_found, paths_bound, some_found}

@@ -7,9 +7,10 @@ use Rattle.cookie_laws.specs.Given.{is_given}
 use Rattle.cookie_laws.specs.Related.{after_dots}
 use Rattle.cookie_lookup.specs.Groups.{DomainGroups}
 use Rattle.cookie_lookup.specs.Seen.{at_domain, how_many_found}
-use Rattle.cookie_lookup.specs.Texts.{path_texts, most_paths, dots}
+use Rattle.cookie_lookup.specs.Texts.{path_texts, most_paths, dots, IsRelated}
 use Rattle.cookie_lookup.proofs.Counts.{paths_next, room_next, room_here}
 use Rattle.cookie_lookup.proofs.Cuts.{after_byte, at_dot, at_no_dot}
+use Rattle.cookie_lookup.proofs.CoveringTexts.{behind_dot}
 use Rattle.cookie_lookup.proofs.HostTexts.{length_dots}
 use Rattle.cookie_lookup.proofs.Results.{either_way}
 use Rattle.cookie_lookup.proofs.Spots.{some_given}
@@ -42,6 +43,14 @@ range_from-requires g c =
     let below : c.loop-at.at < length c.args.host.now = omega arith in
     let dot : get_or c.args.host.now c.loop-at.at 0 ≡ 46 = rw (← c.as_bytes-bytes.ensures.value) c.if-bytes-at-eq46.true in
     λ _. after_byte c.args.host.now c.loop-at.at 46 c.utf8.host below dot (lit< tt)
+
+pub push_domain-requires-then-bytes-at-eq46-clause-related : goal.push_domain-requires-then-bytes-at-eq46-clause-related
+push_domain-requires-then-bytes-at-eq46-clause-related g c =
+    let host = c.args.host.now in
+    let below : c.loop-at.at < length host = omega arith in
+    let dot : get_or host c.loop-at.at 0 ≡ 46 = rw (← c.as_bytes-bytes.ensures.value) c.if-bytes-at-eq46.true in
+    let text : c.range_from.result.now ≡ drop (c.loop-at.at + 1) host = rw c.range_from.ensures.value (grind arith) in
+    subst (IsRelated host) (sym text) (behind_dot host c.loop-at.at below dot)
 
 pub push_domain-requires-then-bytes-at-eq46-clause-paths : goal.push_domain-requires-then-bytes-at-eq46-clause-paths
 push_domain-requires-then-bytes-at-eq46-clause-paths g c =

@@ -1,13 +1,12 @@
-use Rattle.std.proofs.Common.{◌≡◌, ◌+◌, ◌<◌, ◌≤◌, ◌++◌, List, ℕ, true, false, length, take, arith, ap, ◌∙◌, sym, subst, nat_eq, ◌∷◌, []}
+use Rattle.std.proofs.Common.{◌≡◌, ◌+◌, ◌<◌, ◌++◌, List, ℕ, true, false, length, take, arith, ap, ◌∙◌, sym, subst, refl, nat_eq, ◌∷◌, []}
 use Rattle.std.specs.Prelude.{◌≢◌}
 use Rattle.std.specs.List.{flat_map, starts_with}
 use Rattle.cookie_words.specs.Moments.{moment_of}
-use Rattle.cookie_laws.specs.Given.{is_given}
+use Rattle.cookie_lookup.specs.Asked.{is_asked_for}
 use Rattle.cookie_lookup.specs.Groups.{DomainGroups}
 use Rattle.cookie_lookup.specs.Seen.{at_path, under}
 use Rattle.cookie_lookup.specs.Texts.{ends_text, front_texts, path_texts}
 use Rattle.cookie_lookup.proofs.Cuts.{cut_boundary, front_same}
-use Rattle.cookie_lookup.proofs.PathTexts.{length_paths}
 use Rattle.cookie_lookup.proofs.Results.{either_way}
 use Rattle.cookie_lookup.proofs.Steps.{fronts_room, front_pushed, front_kept, front_gives, one_front, fronts_most}
 use Rattle.cookie_lookup.proofs.finding.push_paths.Goals.{then-ends_text+in_ok-push_path, else-ends_text}
@@ -20,7 +19,7 @@ range-requires-clause-end_boundary g c =
 
 pub push_path-requires-clause-room : goal.push_path-requires-clause-room
 push_path-requires-clause-room g c =
-    let url = c.args.url.now in
+    let url = c.args.asked.now.url.now in
     let bytes : c.as_bytes-bytes.result.now ≡ url.path = c.as_bytes-bytes.ensures.value ∙ c.path-path.ensures.value in
     let begins : starts_with nat_eq url.path (47 ∷ []) ≡ true = subst (λ b. starts_with nat_eq b (47 ∷ []) ≡ true) bytes (sym c.starts_with.ensures.value ∙ c.if-starts_with.true) in
     let ends : ends_text url.path c.loop-at.at ≡ true = subst (λ b. ends_text b c.loop-at.at ≡ true) bytes (sym c.ends_text.ensures ∙ c.if-ends_text.true) in
@@ -29,7 +28,7 @@ push_path-requires-clause-room g c =
 
 pub returns-in_err-push_path-clause-paths : goal.returns-in_err-push_path-clause-paths
 returns-in_err-push_path-clause-paths g c =
-    let url = c.args.url.now in
+    let url = c.args.asked.now.url.now in
     let bytes : c.as_bytes-bytes.result.now ≡ url.path = c.as_bytes-bytes.ensures.value ∙ c.path-path.ensures.value in
     let begins : starts_with nat_eq url.path (47 ∷ []) ≡ true = subst (λ b. starts_with nat_eq b (47 ∷ []) ≡ true) bytes (sym c.starts_with.ensures.value ∙ c.if-starts_with.true) in
     let ends : ends_text url.path c.loop-at.at ≡ true = subst (λ b. ends_text b c.loop-at.at ≡ true) bytes (sym c.ends_text.ensures ∙ c.if-ends_text.true) in
@@ -38,8 +37,8 @@ returns-in_err-push_path-clause-paths g c =
 
 pub returns-in_err-push_path-clause-memory : goal.returns-in_err-push_path-clause-memory
 returns-in_err-push_path-clause-memory g c =
-    let url = c.args.url.now in
-    let look : DomainGroups → List ℕ → List (ℕ × ℕ × ℕ) = λ groups. at_path (is_given url (moment_of c.args.now)) c.args.domain (under c.args.domain groups) in
+    let url = c.args.asked.now.url.now in
+    let look : DomainGroups → List ℕ → List (ℕ × ℕ × ℕ) = λ groups. at_path (is_asked_for c.args.asked.now.host_only c.args.asked.now.suffix url (moment_of c.args.asked.now.moment)) c.args.domain (under c.args.domain groups) in
     let bytes : c.as_bytes-bytes.result.now ≡ url.path = c.as_bytes-bytes.ensures.value ∙ c.path-path.ensures.value in
     let begins : starts_with nat_eq url.path (47 ∷ []) ≡ true = subst (λ b. starts_with nat_eq b (47 ∷ []) ≡ true) bytes (sym c.starts_with.ensures.value ∙ c.if-starts_with.true) in
     let ends : ends_text url.path c.loop-at.at ≡ true = subst (λ b. ends_text b c.loop-at.at ≡ true) bytes (sym c.ends_text.ensures ∙ c.if-ends_text.true) in
@@ -53,9 +52,9 @@ returns-in_err-push_path-clause-memory g c =
 
 pub loop-at-preserved : goal.loop-at-preserved
 loop-at-preserved g c =
-    let url = c.args.url.now in
+    let url = c.args.asked.now.url.now in
     let first = g.S.Search.seen c.args.search.now in
-    let look : DomainGroups → List ℕ → List (ℕ × ℕ × ℕ) = λ groups. at_path (is_given url (moment_of c.args.now)) c.args.domain (under c.args.domain groups) in
+    let look : DomainGroups → List ℕ → List (ℕ × ℕ × ℕ) = λ groups. at_path (is_asked_for c.args.asked.now.host_only c.args.asked.now.suffix url (moment_of c.args.asked.now.moment)) c.args.domain (under c.args.domain groups) in
     let bytes : c.as_bytes-bytes.result.now ≡ url.path = c.as_bytes-bytes.ensures.value ∙ c.path-path.ensures.value in
     elim c.if-ends_text.branch [
       | then-ends_text+in_ok-push_path w ↦
@@ -82,8 +81,19 @@ loop-at-preserved g c =
 
 pub returns-after-loop-at-clause-paths : goal.returns-after-loop-at-clause-paths
 returns-after-loop-at-clause-paths g c =
-    let url = c.args.url.now in
+    let url = c.args.asked.now.url.now in
     let bytes : c.as_bytes-bytes.result.now ≡ url.path = c.as_bytes-bytes.ensures.value ∙ c.path-path.ensures.value in
     let begins : starts_with nat_eq url.path (47 ∷ []) ≡ true = subst (λ b. starts_with nat_eq b (47 ∷ []) ≡ true) bytes (sym c.starts_with.ensures.value ∙ c.if-starts_with.true) in
     let whole : c.loop-at.at ≡ length c.as_bytes-bytes.result.now = omega arith in
     omega (arith, c.loop-at.invariant.paths, fronts_most url.path c.loop-at.at begins (whole ∙ ap length bytes))
+
+pub returns-after-loop-at-clause-spots : goal.returns-after-loop-at-clause-spots
+returns-after-loop-at-clause-spots g c =
+    let asked = c.args.asked.now in
+    let path = asked.url.now.path in
+    let look = at_path (is_asked_for asked.host_only asked.suffix asked.url.now (moment_of asked.moment)) c.args.domain (under c.args.domain (g.S.Search.seen c.args.search.now).groups) in
+    let bytes : c.as_bytes-bytes.result.now ≡ path = c.as_bytes-bytes.ensures.value ∙ c.path-path.ensures.value in
+    let begins : starts_with nat_eq path (47 ∷ []) ≡ true = subst (λ b. starts_with nat_eq b (47 ∷ []) ≡ true) bytes (sym c.starts_with.ensures.value ∙ c.if-starts_with.true) in
+    let whole : c.loop-at.at ≡ length c.as_bytes-bytes.result.now = omega arith in
+    let all : path_texts path ≡ front_texts path (length path) = rw (path_texts, begins) refl in
+    c.loop-at.invariant.spots ∙ ap (λ texts. c.args.spots.now.items ++ flat_map look texts) (ap (front_texts path) (whole ∙ ap length bytes) ∙ sym all)

@@ -1,4 +1,3 @@
-use Rattle.std.proofs.Common.{◌≡◌}
 use Rattle.cookie_parts.specs.Domain.{domain_text}
 use Rattle.cookie_lookup.proofs.HostTexts.{related_differ, length_related, related_texts_are}
 use Rattle.cookie_lookup.proofs.PathTexts.{path_differ, length_paths}

@@ -1,8 +1,10 @@
-use Rattle.std.proofs.Common.{map, ◌∙◌}
+use Rattle.std.proofs.Common.{◌≡◌, length, map, ◌∙◌, arith}
+use Rattle.std.proofs.lemmas.Bool.Decides.{nat_tests}
+use Rattle.std.proofs.lemmas.List.{nil_from_length}
 use Rattle.std.proofs.lemmas.Result.{IfOk-weaker, IfErr-weaker, err_from_is_err_and}
 use Rattle.cookie_saved.specs.Saved.{saved_view}
 use Rattle.cookie_ron.specs.Entries.{entry_view}
-use Rattle.cookie_ron.proofs.Told.{says_none, says_list, says_no_moment}
+use Rattle.cookie_ron.proofs.Told.{empty_says_none, says_none, says_list, says_no_moment}
 use Rattle.cookie_ron.proofs.reading.from_ron.Goals as goal
 
 pub returns-in_err-list_at-clause-refused : goal.returns-in_err-list_at-clause-refused
@@ -24,3 +26,8 @@ returns-clause-refused c =
     (λ e told. says_no_moment c.args.text.now c.deref.result.now (map entry_view c.in_ok-list_at.field-0.items) e
     (c.deref.ensures.value ∙ c.in_ok-input.ensures) c.in_ok-list_at.ensures.read told)
     c.with_moments.ensures.refused
+
+pub returns-then-is_empty-clause-refused : goal.returns-then-is_empty-clause-refused
+returns-then-is_empty-clause-refused c =
+    let none : length c.args.text.now ≡ 0 = grind (arith, nat_tests, c.if-is_empty.ensures) in
+    empty_says_none c.args.text.now (nil_from_length c.args.text.now none)
