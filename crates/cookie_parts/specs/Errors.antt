@@ -3,9 +3,9 @@ use Rattle.std.specs.Prelude.{ℕ, List, codes, Option, Some, None, string_bytes
 use Rattle.idna.specs.Errors.{errors_text}
 use Rattle.idna.specs.declared.Errors.{Errors}
 use Rattle.idna.specs.declared.Errors.TheVariants as Idna
-use Rattle.cookie_saved.specs.Errors.{saved_error_text}
-use Rattle.cookie_saved.specs.declared.error.SavedError.{SavedError}
-use Rattle.cookie_saved.specs.declared.error.SavedError.TheVariants as Saved
+use Rattle.cookie_forms.specs.Errors.{saved_error_text}
+use Rattle.cookie_forms.specs.declared.error.SavedError.{SavedError}
+use Rattle.cookie_forms.specs.declared.error.SavedError.TheVariants as Saved
 use Rattle.cookie_parts.specs.declared.cookie_error.CookieError.{CookieError}
 use Rattle.cookie_parts.specs.declared.cookie_error.CookieError.TheVariants.{NonHttpScheme, NonRelativeScheme, DomainMismatch, Expired, Parse, PublicSuffix, UnspecifiedDomain, Memory}
 use Rattle.cookie_parts.specs.declared.error.Error.{Error}

@@ -2,7 +2,7 @@
 use Rattle.std.specs.Prelude.{Option, Some, None, Result, Ok}
 use Rattle.cookie_words.specs.Moments.{Moment}
 use Rattle.cookie_raw.specs.CookieText.{cookie_text}
-use Rattle.cookie_saved.specs.Saved as Saved
+use Rattle.cookie_forms.specs.Saved as Saved
 use Rattle.cookie_parts.specs.Cookie.{Row, and_then, raw_cookie}
 use Rattle.cookie_parts.specs.Domain.{DomainValue}
 use Rattle.cookie_parts.specs.Domain as Domain

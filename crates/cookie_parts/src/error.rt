@@ -1,6 +1,6 @@
 //! Why a call that is not about one cookie failed.
 use crate::CookieError;
-use cookie_saved::SavedError;
+use cookie_forms::SavedError;
 use std::alloc::{AllocError, AllocFailed};
 use std::fmt;
 

@@ -2,11 +2,11 @@
 ghost use Rattle.std.specs.Prelude.{◌≡◌, ◌⊎◌, Err, IfErr, IfOk, Ok};
 ghost use Rattle.cookie_parts.specs.Passage.{cookie_of_saved, domain_of_saved, end_of_saved, saved_domain, saved_end, saved_of};
 ghost use Rattle.cookie_parts.specs.Views.{domain_value, expiry_value};
-ghost use Rattle.cookie_saved.specs.Saved.{domain_view, expiry_view, saved_view};
+ghost use Rattle.cookie_forms.specs.Saved.{domain_view, expiry_view, saved_view};
 
 use crate::{Cookie, CookieDomain, CookieError, CookieExpiration, CookiePath, Error};
+use cookie_forms::{Saved, SavedDomain, SavedExpiry};
 use cookie_raw::RawCookie;
-use cookie_saved::{Saved, SavedDomain, SavedExpiry};
 use std::alloc::{AllocError, Global};
 
 impl<'a> Cookie<'a> {

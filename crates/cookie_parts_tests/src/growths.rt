@@ -9,10 +9,9 @@ use cookie_parts::cookie_domain::is_match;
 use cookie_parts::{Cookie, CookieDomain, CookieError, CookieExpiration, CookiePath, Error};
 use cookie_psl::{List, ListError};
 use cookie_raw::RawCookie;
-use cookie_ron::{from_ron, to_ron};
 use cookie_saved::{
-    Saved, SavedDomain, SavedError, SavedExpiry, from_value, list_from_value, list_to_value,
-    moment_text, to_value,
+    Saved, SavedDomain, SavedError, SavedExpiry, from_ron, from_value, list_from_value,
+    list_to_value, moment_text, to_ron, to_value,
 };
 use jiff::civil::DateTime;
 use serde_json::Value;

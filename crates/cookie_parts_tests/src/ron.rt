@@ -1,6 +1,5 @@
 use crate::checks::is_equal;
-use cookie_ron::{from_ron, to_ron};
-use cookie_saved::{Saved, SavedDomain, SavedError, SavedExpiry};
+use cookie_saved::{Saved, SavedDomain, SavedError, SavedExpiry, from_ron, to_ron};
 use jiff::civil::date;
 use std::alloc::Global;
 use std::process::Abort;

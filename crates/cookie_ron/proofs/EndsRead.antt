@@ -2,8 +2,8 @@
 use Rattle.std.proofs.Common.{◌≡◌, List, [], ◌∷◌, ◌++◌, ℕ, Option, Some, None, option_map, refl, sym, ap}
 use Rattle.std.proofs.lemmas.List.{append_assoc}
 use Rattle.cookie_words.specs.Moments.{Moment}
-use Rattle.cookie_saved.specs.Saved.{Parts}
-use Rattle.cookie_saved.specs.ReadTrees.{with_moment, all_with_moment}
+use Rattle.cookie_forms.specs.Saved.{Parts}
+use Rattle.cookie_forms.specs.ReadTrees.{with_moment, all_with_moment}
 
 moved : (front : List (Parts Moment)) (q : Parts Moment) (o : Option (List (Parts Moment)))
     → option_map (λ rest. front ++ rest) (option_map (λ qs. q ∷ qs) o) ≡ option_map (λ rest. (front ++ q ∷ []) ++ rest) o

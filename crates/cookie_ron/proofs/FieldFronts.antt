@@ -1,7 +1,7 @@
 -- Fields of a cookie and their values.
 use Rattle.std.proofs.Common.{◌≡◌, ℕ, List, Bool, true, false, Option, Some, None, option_map, codes, refl, ap, subst}
 use Rattle.std.proofs.lemmas.Option.{option_and_then_some, same_Some}
-use Rattle.cookie_saved.specs.Saved.{Domain, host_only, suffix, not_present, empty, Parts}
+use Rattle.cookie_forms.specs.Saved.{Domain, host_only, suffix, not_present, empty, Parts}
 use Rattle.cookie_ron.specs.Grammar.{◌▸◌, Sign, Text, Flag, Argument, PathPair, DomainValue, Ends, Field, Cookie}
 use Rattle.cookie_ron.specs.Reading.{sign_at, either, close_at, text_at, flag_at, argument_at, path_at, domain_at, end_at, name_at, field_at, first_fields_at, last_fields_at, cookie_at}
 use Rattle.cookie_ron.proofs.Fronts.{Front, Takes, Misses, joined, front_of, chain, last, here, here_alone, there, missed, grouped, spread, takes_of}

@@ -2,7 +2,7 @@
 use Rattle.std.proofs.Common.{◌≡◌, ℕ, zero, suc, ◌<◌, ◌≤◌, List, [], ◌∷◌, ◌++◌, length, Option, Some, None, option_and_then, codes, length-append, inl, inr, refl, sym, ap, subst, ◌∙◌, arith}
 use Rattle.std.proofs.lemmas.Option.{option_and_then_some, same_Some}
 use Rattle.std.proofs.lemmas.List.{append_assoc, append-nil}
-use Rattle.cookie_saved.specs.Saved.{Parts}
+use Rattle.cookie_forms.specs.Saved.{Parts}
 use Rattle.cookie_ron.specs.Grammar.{Sign, Close, Cookie, Cookies, IsList}
 use Rattle.cookie_ron.specs.Reading.{drop_blanks, sign_at, either, onto, behind_cookie, cookie_at, cookies_at, if_empty, list_at}
 use Rattle.cookie_ron.proofs.Onto.{onto_both}

@@ -2,9 +2,9 @@
 use Rattle.std.proofs.Common.{◌≡◌, ℕ, List, Option, Some, None, Result, Ok, Err, inl, inr, sym, ap, ◌∙◌}
 use Rattle.std.specs.Str.{chars}
 use Rattle.cookie_words.specs.Moments.{Moment}
-use Rattle.cookie_saved.specs.ReadTrees.{all_with_moment}
-use Rattle.cookie_saved.specs.Saved.{Parts}
-use Rattle.cookie_saved.specs.declared.error.SavedError.{SavedError}
+use Rattle.cookie_forms.specs.ReadTrees.{all_with_moment}
+use Rattle.cookie_forms.specs.Saved.{Parts}
+use Rattle.cookie_forms.specs.declared.error.SavedError.{SavedError}
 use Rattle.cookie_ron.specs.Grammar.{IsList}
 use Rattle.cookie_ron.specs.RonLists.{SaysRon}
 

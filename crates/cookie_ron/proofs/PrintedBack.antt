@@ -4,15 +4,15 @@ use Rattle.std.specs.List.{list_any}
 use Rattle.jiff_core.proofs.SignedLemmas.{signed_arith}
 use Rattle.jiff_core.specs.declared.civil.datetime.DateTime.{DateTime}
 use Rattle.cookie_words.specs.Moments.{moment_of}
-use Rattle.cookie_saved.specs.MomentText.{moment_at, moment_text, whole_seconds}
-use Rattle.cookie_saved.specs.ReadTrees.{all_with_moment, cut, ends_at, with_moment}
-use Rattle.cookie_saved.specs.Saved.{expiry_view, saved_view}
-use Rattle.cookie_saved.specs.WrittenTrees.{ends_early, is_early, with_ends, with_text}
-use Rattle.cookie_saved.specs.declared.error.SavedError.{SavedError}
-use Rattle.cookie_saved.specs.declared.error.SavedError.TheVariants as Fault
-use Rattle.cookie_saved.specs.declared.saved.Saved.{Saved}
-use Rattle.cookie_saved.specs.declared.saved.SavedExpiry.{SavedExpiry}
-use Rattle.cookie_saved.specs.declared.saved.SavedExpiry.TheVariants as Expiry
+use Rattle.cookie_forms.specs.MomentText.{moment_at, moment_text, whole_seconds}
+use Rattle.cookie_forms.specs.ReadTrees.{all_with_moment, cut, ends_at, with_moment}
+use Rattle.cookie_forms.specs.Saved.{expiry_view, saved_view}
+use Rattle.cookie_forms.specs.WrittenTrees.{ends_early, is_early, with_ends, with_text}
+use Rattle.cookie_forms.specs.declared.error.SavedError.{SavedError}
+use Rattle.cookie_forms.specs.declared.error.SavedError.TheVariants as Fault
+use Rattle.cookie_forms.specs.declared.saved.Saved.{Saved}
+use Rattle.cookie_forms.specs.declared.saved.SavedExpiry.{SavedExpiry}
+use Rattle.cookie_forms.specs.declared.saved.SavedExpiry.TheVariants as Expiry
 use Rattle.cookie_ron.specs.Printed.{ron_written}
 use Rattle.cookie_ron.specs.RonLists.{SaysRon}
 use Rattle.cookie_ron.proofs.Bools.{both_false}

@@ -2,14 +2,14 @@
 use Rattle.std.proofs.Common.{◌≡◌, ℕ, List, [], ◌∷◌, ◌++◌, Bool, true, false, map, flat_map, codes, option_map, string_bytes, append-nil, append_assoc, refl, sym, ap, subst, ◌∙◌}
 use Rattle.std.proofs.lemmas.Str.{IsUtf8-string_bytes, IsUtf8-nil, chars-nil}
 use Rattle.std.specs.Str.{IsUtf8, chars}
-use Rattle.cookie_saved.specs.MomentText.{moment_text}
-use Rattle.cookie_saved.specs.Saved.{Parts, domain_view, expiry_view, saved_view}
-use Rattle.cookie_saved.specs.WrittenTrees.{with_text}
-use Rattle.cookie_saved.specs.declared.saved.Saved.{Saved}
-use Rattle.cookie_saved.specs.declared.saved.SavedDomain.{SavedDomain}
-use Rattle.cookie_saved.specs.declared.saved.SavedDomain.TheVariants as Kind
-use Rattle.cookie_saved.specs.declared.saved.SavedExpiry.{SavedExpiry}
-use Rattle.cookie_saved.specs.declared.saved.SavedExpiry.TheVariants as Expiry
+use Rattle.cookie_forms.specs.MomentText.{moment_text}
+use Rattle.cookie_forms.specs.Saved.{Parts, domain_view, expiry_view, saved_view}
+use Rattle.cookie_forms.specs.WrittenTrees.{with_text}
+use Rattle.cookie_forms.specs.declared.saved.Saved.{Saved}
+use Rattle.cookie_forms.specs.declared.saved.SavedDomain.{SavedDomain}
+use Rattle.cookie_forms.specs.declared.saved.SavedDomain.TheVariants as Kind
+use Rattle.cookie_forms.specs.declared.saved.SavedExpiry.{SavedExpiry}
+use Rattle.cookie_forms.specs.declared.saved.SavedExpiry.TheVariants as Expiry
 use Rattle.cookie_ron.specs.Grammar.{Blanks, Flag, Argument, PathPair, DomainValue, Ends, Cookie, Cookies, IsList}
 use Rattle.cookie_ron.specs.Printed.{quoted, printed_flag, printed_path, printed_domain, printed_end, printed_cookie, printed_list}
 use Rattle.cookie_ron.proofs.MomentTexts.{moment_utf8}

@@ -1,6 +1,6 @@
 -- What contracts see of a cookie whose end is not read yet.
 use Rattle.std.specs.Prelude.{ℕ, List, option_map, string_bytes}
-use Rattle.cookie_saved.specs.Saved.{Parts, domain_view}
+use Rattle.cookie_forms.specs.Saved.{Parts, domain_view}
 use Rattle.cookie_ron.specs.declared.reading.Entry.{Entry}
 
 abbrev pub entry_view : Entry → Parts (List ℕ)

@@ -4,7 +4,7 @@ use Rattle.std.specs.Char.{is_ascii_hexdigit, IsScalar}
 use Rattle.std.specs.List.{list_all, AllZip}
 use Rattle.std.specs.Str.{byte, encode_utf8_all}
 use Rattle.std.specs.Str.Parse.{digits_value}
-use Rattle.cookie_saved.specs.Saved.{Domain, host_only, suffix, not_present, empty, Parts}
+use Rattle.cookie_forms.specs.Saved.{Domain, host_only, suffix, not_present, empty, Parts}
 
 infixr 5 ◌▸◌
 -- a text of one rule, and behind it one of another

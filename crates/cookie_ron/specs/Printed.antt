@@ -5,10 +5,10 @@ use Rattle.std.specs.Fmt.{digits}
 use Rattle.std.specs.List.{list_any}
 use Rattle.std.specs.Str.{byte, chars}
 use Rattle.cookie_words.specs.Moments.{Moment}
-use Rattle.cookie_saved.specs.Saved.{Domain, host_only, suffix, not_present, empty, Parts}
-use Rattle.cookie_saved.specs.WrittenTrees.{is_early, with_text}
-use Rattle.cookie_saved.specs.declared.error.SavedError.{SavedError}
-use Rattle.cookie_saved.specs.declared.error.SavedError.TheVariants as Fault
+use Rattle.cookie_forms.specs.Saved.{Domain, host_only, suffix, not_present, empty, Parts}
+use Rattle.cookie_forms.specs.WrittenTrees.{is_early, with_text}
+use Rattle.cookie_forms.specs.declared.error.SavedError.{SavedError}
+use Rattle.cookie_forms.specs.declared.error.SavedError.TheVariants as Fault
 
 -- a character: a quote, a backslash and a control character as an escape, each other as itself
 abbrev pub printed_char : ℕ → List ℕ

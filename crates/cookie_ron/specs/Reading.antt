@@ -6,7 +6,7 @@ use Rattle.std.specs.List.{list_all, position}
 use Rattle.std.specs.Str.{byte}
 use Rattle.std.specs.Str.Parse.{digits_value}
 use Rattle.cookie_words.specs.Steps.{◌>>=◌}
-use Rattle.cookie_saved.specs.Saved.{Domain, host_only, suffix, not_present, empty, Parts}
+use Rattle.cookie_forms.specs.Saved.{Domain, host_only, suffix, not_present, empty, Parts}
 use Rattle.cookie_ron.specs.Grammar.{is_blank, escaped_by}
 
 -- what is behind any blanks

@@ -2,10 +2,10 @@
 use Rattle.std.specs.Prelude.{◌≡◌, ◌⊎◌, ℕ, List, Some, None, Result, Ok, Err}
 use Rattle.std.specs.Str.{chars}
 use Rattle.cookie_words.specs.Moments.{Moment}
-use Rattle.cookie_saved.specs.ReadTrees.{all_with_moment}
-use Rattle.cookie_saved.specs.Saved.{Parts}
-use Rattle.cookie_saved.specs.declared.error.SavedError.{SavedError}
-use Rattle.cookie_saved.specs.declared.error.SavedError.TheVariants as Fault
+use Rattle.cookie_forms.specs.ReadTrees.{all_with_moment}
+use Rattle.cookie_forms.specs.Saved.{Parts}
+use Rattle.cookie_forms.specs.declared.error.SavedError.{SavedError}
+use Rattle.cookie_forms.specs.declared.error.SavedError.TheVariants as Fault
 use Rattle.cookie_ron.specs.Grammar.{IsList}
 
 -- The text is of the grammar, of a list whose texts of ends are moments; or it is of none, `Ron`; or of one of whose ends some text

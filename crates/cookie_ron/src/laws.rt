@@ -1,15 +1,15 @@
 //! Laws of lists in RON, over their definitions alone.
 ghost use Rattle.std.specs.Prelude.{◌≡◌, ◌++◌, ℕ, List, [], ◌∷◌, map, Ok, Result};
 ghost use Rattle.cookie_words.specs.Moments.{Moment};
-ghost use Rattle.cookie_saved.specs.ReadTrees.{cut};
-ghost use Rattle.cookie_saved.specs.Saved.{saved_view, Parts};
-ghost use Rattle.cookie_saved.specs.declared.error.SavedError.{SavedError};
-ghost use Rattle.cookie_saved.specs.declared.saved.Saved.{Saved};
+ghost use Rattle.cookie_forms.specs.ReadTrees.{cut};
+ghost use Rattle.cookie_forms.specs.Saved.{saved_view, Parts};
+ghost use Rattle.cookie_forms.specs.declared.error.SavedError.{SavedError};
+ghost use Rattle.cookie_forms.specs.declared.saved.Saved.{Saved};
 ghost use Rattle.cookie_ron.specs.Grammar.{IsList};
 ghost use Rattle.cookie_ron.specs.Printed.{ron_written};
 ghost use Rattle.cookie_ron.specs.RonLists.{SaysRon};
 
-use cookie_saved::laws::moments_read_back;
+use cookie_forms::laws::moments_read_back;
 
 /// A text, as its characters, is of the grammar of one list at most.
 pub fn texts_say_one_list()

@@ -2,12 +2,12 @@
 ghost use Rattle.std.specs.Prelude.{◌≡◌, ◌⊎◌, ◌++◌, codes, false, flat_map, Err, IfErr, IfOk, map, Ok, OnOk, option_map, string_bytes};
 ghost use Rattle.std.specs.Str.{chars};
 ghost use Rattle.std.specs.List.{list_any};
-ghost use Rattle.cookie_saved.specs.MomentText.{moment_text};
-ghost use Rattle.cookie_saved.specs.Saved.{domain_view, expiry_view, saved_view};
-ghost use Rattle.cookie_saved.specs.WrittenTrees.{ends_early, is_early, with_text};
+ghost use Rattle.cookie_forms.specs.MomentText.{moment_text};
+ghost use Rattle.cookie_forms.specs.Saved.{domain_view, expiry_view, saved_view};
+ghost use Rattle.cookie_forms.specs.WrittenTrees.{ends_early, is_early, with_text};
 ghost use Rattle.cookie_ron.specs.Printed.{printed_char, quoted, printed_path, printed_domain, printed_end, printed_cookie, printed_list, ron_written};
 
-use cookie_saved::{Saved, SavedDomain, SavedError, SavedExpiry, moment_text};
+use cookie_forms::{Saved, SavedDomain, SavedError, SavedExpiry, moment_text};
 use std::alloc::{AllocError, Global};
 
 /// The text of a list: `[]` of no cookies, and else a bracket, each cookie, and a bracket, without a line feed at its end:

@@ -1,15 +1,15 @@
 //! Saved cookies out of a list in RON.
 ghost use Rattle.std.specs.Prelude.{◌≡◌, ◌⊎◌, [], None, Some, Ok, Err, IfOk, IfErr, length, map, option_map, suc, string_bytes};
 ghost use Rattle.std.specs.Str.{chars};
-ghost use Rattle.cookie_saved.specs.Saved.{saved_view, domain_view, expiry_view};
-ghost use Rattle.cookie_saved.specs.ReadTrees.{ends_at, with_moment, all_with_moment};
+ghost use Rattle.cookie_forms.specs.Saved.{saved_view, domain_view, expiry_view};
+ghost use Rattle.cookie_forms.specs.ReadTrees.{ends_at, with_moment, all_with_moment};
 ghost use Rattle.cookie_ron.specs.Entries.{entry_view};
 ghost use Rattle.cookie_ron.specs.Reading.{flag_at, argument_at, path_at, domain_at, end_at, first_fields_at, last_fields_at, cookie_at, cookies_at, list_at};
 ghost use Rattle.cookie_ron.specs.RonLists.{SaysRon};
 
 use crate::signs::{close_at, drop_blanks, name_at, sign_at};
 use crate::texts::text_at;
-use cookie_saved::{Saved, SavedDomain, SavedError, SavedExpiry, read_moment};
+use cookie_forms::{Saved, SavedDomain, SavedError, SavedExpiry, read_moment};
 use std::alloc::{AllocError, Global};
 
 // A saved cookie whose end is not read yet.

@@ -3,7 +3,7 @@ ghost use Rattle.std.specs.Prelude.{◌≡◌, None, Some, IfOk, IfErr};
 ghost use Rattle.cookie_ron.specs.Grammar.{is_blank};
 ghost use Rattle.cookie_ron.specs.Reading.{drop_blanks, behind, sign_at, close_at, name_at};
 
-use cookie_saved::SavedError;
+use cookie_forms::SavedError;
 
 // Whether it is a space, a tab, a line feed or a carriage return.
 fn is_blank(c: char) -> bool

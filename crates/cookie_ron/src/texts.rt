@@ -4,7 +4,7 @@ ghost use Rattle.cookie_ron.specs.Grammar.{escaped_by};
 ghost use Rattle.cookie_ron.specs.Reading.{hex_value, byte_at, code_of, brace_in, in_braces, code_at, escape_at, char_at, text_at};
 
 use crate::signs::{behind, sign_at};
-use cookie_saved::SavedError;
+use cookie_forms::SavedError;
 use std::alloc::Global;
 
 // The number that hexadecimal digits write.

@@ -1,17 +1,8 @@
-//! The saved form of a cookie: trees of JSON, and the text of a moment.
+//! Saved cookies: trees of JSON, lists in RON, and the text of a moment.
 #![tactic(auto)]
 
-mod error;
-pub mod laws;
-mod moment;
-mod reading;
-mod saved;
-mod text;
-mod writing;
-
-pub use error::SavedError;
-pub use moment::{moment_text, read_moment};
-pub use reading::{from_value, list_from_value};
-pub use saved::{Saved, SavedDomain, SavedExpiry};
-pub use text::list_to_text;
-pub use writing::{list_to_value, to_value};
+pub use cookie_forms::{
+    Saved, SavedDomain, SavedError, SavedExpiry, from_value, laws, list_from_value, list_to_text,
+    list_to_value, moment_text, read_moment, to_value,
+};
+pub use cookie_ron::{from_ron, laws as ron_laws, to_ron};

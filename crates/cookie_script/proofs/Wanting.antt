@@ -2,7 +2,7 @@
 use Rattle.std.proofs.Common.{◌≡◌, ℕ, Bool, true, false, cond, ◌&&◌, List, Option, Some, None, option_and_then, option_map, is_some, refl, bytes_eq, codes}
 use Rattle.std.specs.Option.{option_map_or}
 use Rattle.std.specs.Str.{is_utf8}
-use Rattle.cookie_saved.specs.MomentText.{moment_at}
+use Rattle.cookie_forms.specs.MomentText.{moment_at}
 use Rattle.cookie_script.specs.Commands.{Command, Now, Get, ListRows, Clear, command_may_want, command_of, first_word, lone_command, may_want, one_word, remove_command, set_command, text_command, url_at, verb_command, verb_may_want}
 
 -- a command that is made without a URL wants none

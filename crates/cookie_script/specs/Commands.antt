@@ -9,7 +9,7 @@ use Rattle.url.specs.Parts.{Parts}
 use Rattle.cookie_words.specs.Moments.{Moment}
 use Rattle.cookie_parts.specs.Cookie.{early}
 use Rattle.cookie_raw.specs.Reading.{reading}
-use Rattle.cookie_saved.specs.MomentText.{moment_at}
+use Rattle.cookie_forms.specs.MomentText.{moment_at}
 use Rattle.cookie_store.specs.Rows.{Key, key_at}
 
 -- `now MOMENT`, `set URL TEXT`, `get URL`, `list`, `remove DOMAIN PATH NAME` and `clear`

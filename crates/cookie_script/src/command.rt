@@ -2,7 +2,7 @@
 ghost use Rattle.std.specs.Prelude.{◌≡◌, ◌↔◌, option_and_then, option_map, IfOk, IsErr, IsErrAnd, IsSome, IsTrue, OnErr};
 ghost use Rattle.std.specs.Result.{result_ok};
 ghost use Rattle.url.specs.Parser.{IsOutOfRoom};
-ghost use Rattle.cookie_saved.specs.MomentText.{moment_at};
+ghost use Rattle.cookie_forms.specs.MomentText.{moment_at};
 ghost use Rattle.cookie_script.specs.Commands as Spec;
 ghost use Rattle.cookie_script.specs.Commands.{command_of, first_word, lone_command, may_want, one_word, remove_command, set_command, url_at, verb_command, verb_may_want};
 ghost use Rattle.cookie_script.specs.CommandViews.{command_view, words_view};

@@ -7,11 +7,11 @@ use Rattle.std.specs.declared.string.String.{String}
 use Rattle.std.specs.Prelude.{option_map, string_bytes}
 use Rattle.serde_json.specs.Data.{Data}
 use Rattle.serde_json.specs.Read.{read}
-use Rattle.cookie_saved.specs.ReadTrees.{cut, list_at}
-use Rattle.cookie_saved.specs.Saved.{saved_view, EndsAtMoment}
-use Rattle.cookie_saved.specs.declared.saved.Saved.{Saved}
-use Rattle.cookie_saved.specs.WrittenTrees.{list_written}
-use Rattle.cookie_saved.specs.declared.error.SavedError.{SavedError}
+use Rattle.cookie_forms.specs.ReadTrees.{cut, list_at}
+use Rattle.cookie_forms.specs.Saved.{saved_view, EndsAtMoment}
+use Rattle.cookie_forms.specs.declared.saved.Saved.{Saved}
+use Rattle.cookie_forms.specs.WrittenTrees.{list_written}
+use Rattle.cookie_forms.specs.declared.error.SavedError.{SavedError}
 use Rattle.cookie_raw.specs.CookieText.{cookie_text}
 use Rattle.cookie_raw.specs.Reading.{reading}
 use Rattle.cookie_parts.specs.Cookie.{Row}
@@ -23,7 +23,7 @@ use Rattle.cookie_store.specs.Cuts.{cut_end, cut_row, cut_rows, ReadsBack}
 use Rattle.cookie_store.specs.JsonLists.{json_cookies, tree_cookies, SaysJsonList, SaysListTree}
 use Rattle.cookie_store.specs.SavedForms.{cookies_of_saved}
 use Rattle.cookie_store.specs.Saving.{line_text}
-use Rattle.cookie_saved.specs.MomentText.{whole_seconds}
+use Rattle.cookie_forms.specs.MomentText.{whole_seconds}
 
 -- a cut end is saved as the end, cut
 end_cut : (end : Expiry) → saved_end (cut_end end) ≡ option_map whole_seconds (saved_end end)

@@ -13,12 +13,12 @@ use Rattle.serde_json.specs.Written.{compact_text}
 use Rattle.cookie_raw.specs.CookieText.{cookie_text}
 use Rattle.cookie_raw.specs.Reading.{reading}
 use Rattle.cookie_words.specs.Moments.{Moment}
-use Rattle.cookie_saved.specs.ReadTrees.{cut, saved_at}
-use Rattle.cookie_saved.specs.Saved.{saved_view, EndsAtMoment, Parts}
-use Rattle.cookie_saved.specs.declared.saved.Saved.{Saved}
-use Rattle.cookie_saved.specs.Texts.{has_no_control}
-use Rattle.cookie_saved.specs.WrittenTrees.{written}
-use Rattle.cookie_saved.specs.declared.error.SavedError.{SavedError}
+use Rattle.cookie_forms.specs.ReadTrees.{cut, saved_at}
+use Rattle.cookie_forms.specs.Saved.{saved_view, EndsAtMoment, Parts}
+use Rattle.cookie_forms.specs.declared.saved.Saved.{Saved}
+use Rattle.cookie_forms.specs.Texts.{has_no_control}
+use Rattle.cookie_forms.specs.WrittenTrees.{written}
+use Rattle.cookie_forms.specs.declared.error.SavedError.{SavedError}
 use Rattle.cookie_parts.specs.Cookie.{Row}
 use Rattle.cookie_parts.specs.Passage.{cookie_of_saved, saved_of}
 use Rattle.cookie_store.specs.Cuts.{cut_row, cut_rows, ReadsBack}

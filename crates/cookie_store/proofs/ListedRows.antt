@@ -9,7 +9,7 @@ use Rattle.std.specs.declared.string.String.{String}
 use Rattle.std.specs.declared.vec.Vec.{Vec}
 use Rattle.cookie_words.specs.Moments.{Moment}
 use Rattle.cookie_device.specs.Device.{AppendsBeginning}
-use Rattle.cookie_saved.specs.Saved.{Parts}
+use Rattle.cookie_forms.specs.Saved.{Parts}
 use Rattle.cookie_parts.specs.Cookie.{Row}
 use Rattle.cookie_parts.specs.Passage.{cookie_of_saved}
 use Rattle.cookie_parts.specs.declared.cookie_error.CookieError.{CookieError}

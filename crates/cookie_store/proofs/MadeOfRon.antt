@@ -5,10 +5,10 @@ use Rattle.std.specs.Result.{result_map_both}
 use Rattle.std.specs.declared.alloc.Global.{Global}
 use Rattle.std.specs.declared.vec.Vec.{Vec}
 use Rattle.cookie_words.specs.Moments.{Moment}
-use Rattle.cookie_saved.specs.Saved.{Parts}
-use Rattle.cookie_saved.specs.declared.saved.Saved.{Saved}
-use Rattle.cookie_saved.specs.declared.error.SavedError.{SavedError}
-use Rattle.cookie_saved.specs.declared.error.SavedError.TheVariants as Fault
+use Rattle.cookie_forms.specs.Saved.{Parts}
+use Rattle.cookie_forms.specs.declared.saved.Saved.{Saved}
+use Rattle.cookie_forms.specs.declared.error.SavedError.{SavedError}
+use Rattle.cookie_forms.specs.declared.error.SavedError.TheVariants as Fault
 use Rattle.cookie_ron.specs.RonLists.{SaysRon}
 use Rattle.cookie_parts.specs.Cookie.{Row}
 use Rattle.cookie_parts.specs.Errors.{fault_of_saved}

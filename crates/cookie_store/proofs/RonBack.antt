@@ -6,10 +6,10 @@ use Rattle.std.specs.declared.alloc.Global.{Global}
 use Rattle.std.specs.declared.string.String.{String}
 use Rattle.cookie_raw.specs.CookieText.{cookie_text}
 use Rattle.cookie_raw.specs.Reading.{reading}
-use Rattle.cookie_saved.specs.ReadTrees.{cut}
-use Rattle.cookie_saved.specs.Saved.{saved_view}
-use Rattle.cookie_saved.specs.declared.error.SavedError.{SavedError}
-use Rattle.cookie_saved.specs.declared.saved.Saved.{Saved}
+use Rattle.cookie_forms.specs.ReadTrees.{cut}
+use Rattle.cookie_forms.specs.Saved.{saved_view}
+use Rattle.cookie_forms.specs.declared.error.SavedError.{SavedError}
+use Rattle.cookie_forms.specs.declared.saved.Saved.{Saved}
 use Rattle.cookie_ron.specs.Printed.{ron_written}
 use Rattle.cookie_ron.specs.RonLists.{SaysRon}
 use Rattle.cookie_parts.specs.Cookie.{Row}

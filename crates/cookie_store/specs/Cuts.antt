@@ -2,9 +2,9 @@
 use Rattle.std.specs.Prelude.{◌≡◌, List, map, Ok}
 use Rattle.cookie_raw.specs.CookieText.{cookie_text}
 use Rattle.cookie_raw.specs.Reading.{reading}
-use Rattle.cookie_saved.specs.MomentText.{whole_seconds}
-use Rattle.cookie_saved.specs.Saved.{saved_view}
-use Rattle.cookie_saved.specs.declared.saved.Saved.{Saved}
+use Rattle.cookie_forms.specs.MomentText.{whole_seconds}
+use Rattle.cookie_forms.specs.Saved.{saved_view}
+use Rattle.cookie_forms.specs.declared.saved.Saved.{Saved}
 use Rattle.cookie_parts.specs.Cookie.{Row}
 use Rattle.cookie_parts.specs.Expiry.{Expiry, AtUtc, SessionEnd}
 use Rattle.cookie_parts.specs.Passage.{saved_of}

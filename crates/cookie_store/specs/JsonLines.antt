@@ -6,10 +6,10 @@ use Rattle.std.specs.declared.string.String.{String}
 use Rattle.serde_json.specs.Data.{Data}
 use Rattle.serde_json.specs.Read.{read}
 use Rattle.serde_json.specs.Written.{compact_text}
-use Rattle.cookie_saved.specs.ReadTrees.{saved_at}
-use Rattle.cookie_saved.specs.WrittenTrees.{written}
-use Rattle.cookie_saved.specs.declared.error.SavedError.{SavedError}
-use Rattle.cookie_saved.specs.declared.error.SavedError.TheVariants.{Json}
+use Rattle.cookie_forms.specs.ReadTrees.{saved_at}
+use Rattle.cookie_forms.specs.WrittenTrees.{written}
+use Rattle.cookie_forms.specs.declared.error.SavedError.{SavedError}
+use Rattle.cookie_forms.specs.declared.error.SavedError.TheVariants.{Json}
 use Rattle.cookie_parts.specs.Cookie.{Row, and_then}
 use Rattle.cookie_parts.specs.Passage.{cookie_of_saved, saved_of}
 use Rattle.cookie_parts.specs.declared.error.Error.{Error}

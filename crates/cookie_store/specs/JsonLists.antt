@@ -4,11 +4,11 @@ use Rattle.std.specs.declared.alloc.Global.{Global}
 use Rattle.std.specs.declared.string.String.{String}
 use Rattle.serde_json.specs.Data.{Data}
 use Rattle.serde_json.specs.Read.{read}
-use Rattle.cookie_saved.specs.ReadTrees.{list_at}
-use Rattle.cookie_saved.specs.Texts.{pretty_text}
-use Rattle.cookie_saved.specs.WrittenTrees.{list_written}
-use Rattle.cookie_saved.specs.declared.error.SavedError.{SavedError}
-use Rattle.cookie_saved.specs.declared.error.SavedError.TheVariants.{Json}
+use Rattle.cookie_forms.specs.ReadTrees.{list_at}
+use Rattle.cookie_forms.specs.Texts.{pretty_text}
+use Rattle.cookie_forms.specs.WrittenTrees.{list_written}
+use Rattle.cookie_forms.specs.declared.error.SavedError.{SavedError}
+use Rattle.cookie_forms.specs.declared.error.SavedError.TheVariants.{Json}
 use Rattle.cookie_parts.specs.Cookie.{Row}
 use Rattle.cookie_parts.specs.Passage.{saved_of}
 use Rattle.cookie_parts.specs.declared.error.Error.{Error}

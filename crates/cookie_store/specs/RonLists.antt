@@ -3,8 +3,8 @@ use Rattle.std.specs.Prelude.{◌≡◌, ◌≢◌, ◌⊎◌, ℕ, List, [], ma
 use Rattle.std.specs.declared.alloc.Global.{Global}
 use Rattle.std.specs.declared.string.String.{String}
 use Rattle.cookie_words.specs.Moments.{Moment}
-use Rattle.cookie_saved.specs.Saved.{Parts}
-use Rattle.cookie_saved.specs.declared.error.SavedError.{SavedError}
+use Rattle.cookie_forms.specs.Saved.{Parts}
+use Rattle.cookie_forms.specs.declared.error.SavedError.{SavedError}
 use Rattle.cookie_ron.specs.Printed.{ron_written}
 use Rattle.cookie_ron.specs.RonLists.{SaysRon}
 use Rattle.cookie_parts.specs.Cookie.{Row}

@@ -15,11 +15,11 @@ ghost use Rattle.cookie_store.specs.Loading.{BuildsFrom};
 ghost use Rattle.cookie_store.specs.RonLists.{MakesRonList, RonCookies, SaysRonList};
 ghost use Rattle.cookie_store.specs.Saving.{line_text, lines_text, AreTexts, WritesRows};
 
-use cookie_parts::laws::comes_back;
-use cookie_ron::laws::{answers_are_one, printed_reads_back};
-use cookie_saved::laws::{
+use cookie_forms::laws::{
     compact_texts_are_lines, ends_are_moments, line_feeds_are_blank, list_reads_back, reads_back,
 };
+use cookie_parts::laws::comes_back;
+use cookie_ron::laws::{answers_are_one, printed_reads_back};
 
 /// What is said of rows as a list in JSON, and a line feed behind it, is the text of those rows, each end cut to whole seconds, where
 /// the text of each raw cookie reads as that raw cookie. The saved form that each row is asked to have is what `to_saved` answers.

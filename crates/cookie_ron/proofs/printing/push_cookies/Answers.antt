@@ -1,9 +1,9 @@
 use Rattle.std.proofs.Common.{◌≡◌, ℕ, List, [], ◌∷◌, ◌++◌, ◌+◌, drop, take, flat_map, get_or, map, string_bytes, sym, ap, ◌∙◌}
 use Rattle.std.specs.List.{list_any}
 use Rattle.std.proofs.lemmas.List.{drop_more, flat_map_more, map_push, take_more}
-use Rattle.cookie_saved.specs.Saved.{saved_view}
-use Rattle.cookie_saved.specs.WrittenTrees.{is_early, with_text}
-use Rattle.cookie_saved.specs.declared.saved.Saved.{Saved}
+use Rattle.cookie_forms.specs.Saved.{saved_view}
+use Rattle.cookie_forms.specs.WrittenTrees.{is_early, with_text}
+use Rattle.cookie_forms.specs.declared.saved.Saved.{Saved}
 use Rattle.cookie_ron.specs.Printed.{printed_cookie}
 use Rattle.cookie_ron.proofs.Bools.{both_false}
 use Rattle.cookie_ron.proofs.printing.push_cookies.Goals as goal

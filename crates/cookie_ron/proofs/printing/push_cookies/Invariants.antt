@@ -1,7 +1,7 @@
 use Rattle.std.proofs.Common.{◌≡◌, ◌++◌, drop, take, false, flat_map, map, string_bytes}
 use Rattle.std.specs.List.{list_any}
-use Rattle.cookie_saved.specs.Saved.{saved_view}
-use Rattle.cookie_saved.specs.WrittenTrees.{is_early, with_text}
+use Rattle.cookie_forms.specs.Saved.{saved_view}
+use Rattle.cookie_forms.specs.WrittenTrees.{is_early, with_text}
 use Rattle.cookie_ron.specs.Printed.{printed_cookie}
 use Rattle.cookie_ron.proofs.printing.push_cookies.Given as goal
 

@@ -1,6 +1,6 @@
 use Rattle.std.proofs.Common.{◌≡◌, ℕ, List, ◌++◌, Option, Some, sym, ap, ◌∙◌}
-use Rattle.cookie_saved.specs.MomentText.{moment_text}
-use Rattle.cookie_saved.specs.Saved.{expiry_view}
+use Rattle.cookie_forms.specs.MomentText.{moment_text}
+use Rattle.cookie_forms.specs.Saved.{expiry_view}
 use Rattle.std.specs.Prelude.{option_map}
 use Rattle.cookie_ron.specs.Printed.{printed_end}
 use Rattle.cookie_ron.proofs.printing.push_end.Goals as goal

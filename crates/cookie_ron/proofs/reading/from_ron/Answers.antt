@@ -2,7 +2,7 @@ use Rattle.std.proofs.Common.{◌≡◌, length, map, ◌∙◌, arith}
 use Rattle.std.proofs.lemmas.Bool.Decides.{nat_tests}
 use Rattle.std.proofs.lemmas.List.{nil_from_length}
 use Rattle.std.proofs.lemmas.Result.{IfOk-weaker, IfErr-weaker, err_from_is_err_and}
-use Rattle.cookie_saved.specs.Saved.{saved_view}
+use Rattle.cookie_forms.specs.Saved.{saved_view}
 use Rattle.cookie_ron.specs.Entries.{entry_view}
 use Rattle.cookie_ron.proofs.Told.{empty_says_none, says_none, says_list, says_no_moment}
 use Rattle.cookie_ron.proofs.reading.from_ron.Goals as goal

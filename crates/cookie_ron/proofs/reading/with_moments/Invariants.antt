@@ -1,8 +1,8 @@
 -- The saved cookies so far stand before those of the entries that are left.
 use Rattle.std.proofs.Common.{◌≡◌, ◌++◌, map, option_map}
 use Rattle.std.specs.Vec.Iter.{into_iter_items}
-use Rattle.cookie_saved.specs.Saved.{saved_view}
-use Rattle.cookie_saved.specs.ReadTrees.{all_with_moment}
+use Rattle.cookie_forms.specs.Saved.{saved_view}
+use Rattle.cookie_forms.specs.ReadTrees.{all_with_moment}
 use Rattle.cookie_ron.specs.Entries.{entry_view}
 use Rattle.cookie_ron.proofs.reading.with_moments.Given as goal
 

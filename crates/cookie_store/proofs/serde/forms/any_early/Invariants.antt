@@ -2,7 +2,7 @@
 use Rattle.std.proofs.Common.{◌≡◌, ◌++◌, false, filter, map, option_map}
 use Rattle.std.specs.List.{list_any}
 use Rattle.cookie_words.specs.Moments.{moment_of}
-use Rattle.cookie_saved.specs.WrittenTrees.{is_early}
+use Rattle.cookie_forms.specs.WrittenTrees.{is_early}
 use Rattle.cookie_parts.specs.Passage.{saved_of}
 use Rattle.cookie_store.specs.Saving.{is_among}
 use Rattle.cookie_store.proofs.serde.forms.any_early.Given as goal

@@ -2,7 +2,7 @@
 use Rattle.std.proofs.Common.{◌≡◌, ◌++◌, map}
 use Rattle.std.specs.Result.{result_map_both}
 use Rattle.std.specs.Vec.Iter.{into_iter_items}
-use Rattle.cookie_saved.specs.Saved.{saved_view}
+use Rattle.cookie_forms.specs.Saved.{saved_view}
 use Rattle.cookie_store.specs.SavedForms.{cookies_of_saved}
 use Rattle.cookie_store.proofs.serde.forms.cookies_of_list.Given as goal
 

@@ -1,6 +1,6 @@
 use Rattle.std.proofs.Common.{map}
 use Rattle.std.proofs.lemmas.Result.{err_from_is_err_and}
-use Rattle.cookie_saved.specs.Saved.{saved_view}
+use Rattle.cookie_forms.specs.Saved.{saved_view}
 use Rattle.cookie_store.proofs.MadeOfRon.{ron_made, ron_refused}
 use Rattle.cookie_store.proofs.serde.forms.cookies_of_ron.Goals as goal
 

@@ -1,7 +1,7 @@
 -- The list has the saved forms of the rows so far that are among them.
 use Rattle.std.proofs.Common.{◌≡◌, ◌++◌, filter, map, option_map}
 use Rattle.cookie_words.specs.Moments.{moment_of}
-use Rattle.cookie_saved.specs.Saved.{saved_view}
+use Rattle.cookie_forms.specs.Saved.{saved_view}
 use Rattle.cookie_parts.specs.Passage.{saved_of}
 use Rattle.cookie_store.specs.Saving.{is_among}
 use Rattle.cookie_store.proofs.serde.forms.saved_list.Given as goal

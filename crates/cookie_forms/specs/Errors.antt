@@ -1,0 +1,11 @@
+-- The texts of the faults of saved forms.
+use Rattle.std.specs.Prelude.{ℕ, List, codes}
+use Rattle.cookie_forms.specs.declared.error.SavedError.{SavedError}
+use Rattle.cookie_forms.specs.declared.error.SavedError.TheVariants.{Json, Shape, Ron, Moment, Memory}
+
+abbrev pub saved_error_text : SavedError → List ℕ
+saved_error_text Json = codes "a text is not JSON"
+saved_error_text Shape = codes "a value has not the shape of a saved cookie"
+saved_error_text Ron = codes "a text is not a list in RON"
+saved_error_text Moment = codes "a text is no moment, or a moment is before the year 0"
+saved_error_text Memory = codes "out of memory"

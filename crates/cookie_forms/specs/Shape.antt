@@ -1,0 +1,22 @@
+-- The shape of saved cookies in JSON.
+use Rattle.std.specs.Prelude.{◌≡◌, ℕ, false, List, codes, Some}
+use Rattle.std.specs.List.{AllZip}
+use Rattle.serde_json.specs.Data.{Data, string, array}
+use Rattle.serde_json.specs.Find.{get}
+use Rattle.serde_json.specs.View.{items_of}
+use Rattle.serde_json.specs.Written.{has_float}
+use Rattle.cookie_forms.specs.Saved.{Parts}
+use Rattle.cookie_forms.specs.WrittenTrees.{path_tree, domain_tree, ends_tree}
+
+-- an object whose members of these names are the trees of the parts, whatever other members it has; no float stands in it
+abbrev pub HasShape : Data → Parts (List ℕ) → Type 0
+HasShape d p =
+    (get (codes "raw_cookie") d ≡ Some (string p.raw_cookie))
+    × (get (codes "path") d ≡ Some (path_tree p.path p.from_attr))
+    × (get (codes "domain") d ≡ Some (domain_tree p.domain))
+    × (get (codes "expires") d ≡ Some (ends_tree p.ends))
+    × (has_float d ≡ false)
+
+-- an array of such objects, one for each
+abbrev pub HasListShape : Data → List (Parts (List ℕ)) → Type 0
+HasListShape d ps = (ds : List Data) × (d ≡ array (items_of ds)) × AllZip HasShape ds ps

@@ -1,0 +1,152 @@
+//! The text that a moment is saved as.
+
+ghost use Rattle.std.specs.Prelude.{◌≡◌, ◌↔◌, ◌⊎◌, ◌+◌, ◌++◌, ◌^◌, ◌<◌, ◌≤◌, ◌<ℤ◌, ◌≤ℤ◌, pos, unsigned_abs, Err, IfErr, IfOk, IfSome, OnOk, drop, option_map, string_bytes};
+ghost use Rattle.cookie_words.specs.Moments.{moment_of};
+ghost use Rattle.cookie_forms.specs.MomentText.{number_in, has_signs, nanoseconds_in, fraction_of, moment_at, moment_text, two_digits, four_digits, date_text, clock_text};
+
+use crate::SavedError;
+use cookie_words::{calendar_date, clock_time, digits_value};
+use jiff::civil::DateTime;
+use std::alloc::{AllocError, Global};
+
+/// The text of a moment, as `2026-01-31T23:59:59Z`, its fraction cut. A moment before the year 0 is refused `Moment`, and no memory is
+/// wanted before that.
+pub fn moment_text(alloc: Global, moment: DateTime) -> Result<String, SavedError>
+    ensures text { IfOk result (λ text. string_bytes text ≡ moment_text (moment_of moment)) }
+    ensures early { (moment.date.year <ℤ pos 0) ↔ (result ≡ Err SavedError.Moment) }
+    ensures refused { IfErr result (λ e. (e ≡ SavedError.Moment) ⊎ (e ≡ SavedError.Memory)) }
+{
+    if moment.year() < 0 {
+        return Err(SavedError::Moment);
+    }
+    Ok(written(alloc, moment)?)
+}
+
+// The text of a moment from the year 0 on.
+pub(crate) fn written(alloc: Global, moment: DateTime) -> Result<String, AllocError>
+    requires { pos 0 ≤ℤ moment.date.year }
+    ensures { IfOk result (λ text. string_bytes text ≡ moment_text (moment_of moment)) }
+{
+    let mut text = String::new(alloc);
+    push_date(&mut text, moment)?;
+    text.push('T')?;
+    push_clock(&mut text, moment)?;
+    text.push('Z')?;
+    Ok(text)
+}
+
+// Appends the date.
+fn push_date(text: &mut String, moment: DateTime) -> Result<(), AllocError>
+    requires { pos 0 ≤ℤ moment.date.year }
+    ensures { OnOk result (string_bytes text.new ≡ string_bytes text.old
+        ++ date_text (unsigned_abs moment.date.year) moment.date.month moment.date.day) }
+{
+    push_year(text, moment.year())?;
+    text.push('-')?;
+    push_two_digits(text, moment.month() as u8)?;
+    text.push('-')?;
+    push_two_digits(text, moment.day() as u8)
+}
+
+// Appends a year in four digits.
+fn push_year(text: &mut String, year: i16) -> Result<(), AllocError>
+    requires low { pos 0 ≤ℤ year }
+    requires high { year ≤ℤ pos 9999 }
+    ensures { OnOk result (string_bytes text.new ≡ string_bytes text.old ++ four_digits (unsigned_abs year)) }
+{
+    push_two_digits(text, (year / 100) as u8)?;
+    push_two_digits(text, (year % 100) as u8)
+}
+
+// Appends the time of day.
+fn push_clock(text: &mut String, moment: DateTime) -> Result<(), AllocError>
+    ensures { OnOk result (string_bytes text.new ≡ string_bytes text.old
+        ++ clock_text moment.time.hour moment.time.minute moment.time.second) }
+{
+    push_two_digits(text, moment.hour() as u8)?;
+    text.push(':')?;
+    push_two_digits(text, moment.minute() as u8)?;
+    text.push(':')?;
+    push_two_digits(text, moment.second() as u8)
+}
+
+// Appends a number in two digits.
+fn push_two_digits(text: &mut String, number: u8) -> Result<(), AllocError>
+    requires { number < 100 }
+    ensures { OnOk result (string_bytes text.new ≡ string_bytes text.old ++ two_digits number) }
+{
+    text.push(char::from(b'0' + number / 10))?;
+    text.push(char::from(b'0' + number % 10))
+}
+
+/// The moment that the text writes as `2026-01-31T23:59:59Z`, or with up to nine digits of the
+/// second's fraction as `2026-01-31T23:59:59.5Z`.
+#[tactic(auto, unfolding(crate::specs::MomentText::moment_at))]
+pub fn read_moment(text: &str) -> Option<DateTime>
+    ensures { option_map moment_of result ≡ moment_at text.now }
+{
+    let text = text.as_bytes();
+    let year = number(text, 0, 4)?;
+    let month = number(text, 5, 2)?;
+    let day = number(text, 8, 2)?;
+    let hour = number(text, 11, 2)?;
+    let minute = number(text, 14, 2)?;
+    let second = number(text, 17, 2)?;
+    let nanosecond = fraction(text)?;
+    if !has_signs(text) {
+        return None;
+    }
+    let date = calendar_date(year, month, day)?;
+    let time = clock_time(hour, minute, second, nanosecond)?;
+    Some(date.to_datetime(time))
+}
+
+// Whether the signs between the numbers stand where they belong.
+#[tactic(auto, unfolding(crate::specs::MomentText::has_signs))]
+fn has_signs(text: &[u8]) -> bool
+    ensures { result ≡ has_signs text.now }
+{
+    text.get(4) == Some(&b'-')
+        && text.get(7) == Some(&b'-')
+        && text.get(10) == Some(&b'T')
+        && text.get(13) == Some(&b':')
+        && text.get(16) == Some(&b':')
+}
+
+// The number that the digits at a place write.
+#[tactic(auto, unfolding(crate::specs::MomentText::number_in))]
+fn number(text: &[u8], from: usize, count: usize) -> Option<u32>
+    requires place { from + count < 2 ^ 64 }
+    requires several { 0 < count }
+    requires few { count ≤ 9 }
+    ensures value { result ≡ number_in text.now from count }
+    ensures bound { IfSome result (λ n. n < 10 ^ count) }
+{
+    digits_value(text.get(from..from + count)?)
+}
+
+// The nanoseconds of what follows the seconds.
+#[tactic(auto, unfolding(crate::specs::MomentText::fraction_of))]
+fn fraction(text: &[u8]) -> Option<u32>
+    ensures value { result ≡ fraction_of (drop 19 text.now) }
+    ensures bound { IfSome result (λ n. n < 1_000_000_000) }
+{
+    match text.get(19..)? {
+        [b'Z'] => Some(0),
+        [b'.', digits @ .., b'Z'] => nanoseconds(digits),
+        _ => None,
+    }
+}
+
+// The nanoseconds that the digits after the point write.
+#[tactic(auto, unfolding(crate::specs::MomentText::nanoseconds_in))]
+fn nanoseconds(digits: &[u8]) -> Option<u32>
+    ensures value { result ≡ nanoseconds_in digits.now }
+    ensures bound { IfSome result (λ n. n < 1_000_000_000) }
+{
+    if digits.is_empty() || digits.len() > 9 {
+        return None;
+    }
+    let value = digits_value(digits)?;
+    Some(value * 10_u32.pow(9 - digits.len() as u32))
+}

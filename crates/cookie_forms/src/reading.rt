@@ -1,0 +1,338 @@
+//! Saved cookies out of trees of JSON.
+ghost use Rattle.std.specs.Prelude.{◌≡◌, ◌⊎◌, [], IsOk, IfOk, IfErr, Ok, Err, map, option_map, option_and_then, is_some, None, Some};
+ghost use Rattle.serde_json.specs.View.{view, items_view, members_view};
+ghost use Rattle.serde_json.specs.Written.{has_float};
+ghost use Rattle.cookie_forms.specs.Saved.{saved_view, domain_view, expiry_view};
+ghost use Rattle.cookie_forms.specs.Lent.{lent_parts, lent_domain};
+ghost use Rattle.cookie_forms.specs.ReadTrees.{only_text, tagged_in, pair_in, path_in, domain_in, domain_named, domain_tagged, ends_in, ends_named, ends_tagged, parts_in, all_parts_in, ends_at, with_moment, all_with_moment, all_in, then_read, saved_at, list_at};
+ghost use Rattle.cookie_forms.specs.WrittenTrees.{with_ends};
+
+use crate::moment::read_moment;
+use crate::{Saved, SavedDomain, SavedError, SavedExpiry};
+use serde_json::Value;
+use serde_json::value::Map;
+use std::alloc::{AllocError, Global};
+
+// The parts of a saved cookie as they stand in its tree.
+#[derive(Clone, Copy)]
+struct LentParts<'a> {
+    raw_cookie: &'a str,
+    path: &'a str,
+    from_attr: bool,
+    domain: LentDomain<'a>,
+    ends: Option<&'a str>,
+}
+
+// A domain as it stands in a tree.
+#[derive(Clone, Copy)]
+enum LentDomain<'a> {
+    HostOnly(&'a str),
+    Suffix(&'a str),
+    NotPresent,
+    Empty,
+}
+
+/// The saved cookie of a tree: an object of `raw_cookie`, `path`, `domain` and `expires`, whose further members are passed over.
+/// `Shape` where the tree is none, or a float stands anywhere in it, and else `Moment` where the text of its end is no moment; no
+/// memory is wanted before that.
+pub fn from_value(alloc: Global, value: &Value) -> Result<Saved, SavedError>
+    ensures saved { IfOk result (λ saved. saved_at (view value.now) ≡ Ok (saved_view saved)) }
+    ensures refused { IfErr result (λ e. (e ≡ SavedError.Memory) ⊎ (saved_at (view value.now) ≡ Err e)) }
+    ensures early { (e : SavedError) → saved_at (view value.now) ≡ Err e → result ≡ Err e }
+{
+    if holds_float(value) {
+        return Err(SavedError::Shape);
+    }
+    match parts_in(value) {
+        Some(parts) => saved_from(alloc, parts),
+        None => Err(SavedError::Shape),
+    }
+}
+
+/// The saved cookies of a list's tree: an array of theirs. `Shape` where the tree is none, or a float stands anywhere in it, and else
+/// `Moment` where the text of an end is no moment; no memory is wanted before that, nor for no cookies.
+pub fn list_from_value(alloc: Global, value: &Value) -> Result<Vec<Saved>, SavedError>
+    ensures saved { IfOk result (λ list. list_at (view value.now) ≡ Ok (map saved_view list.items)) }
+    ensures refused { IfErr result (λ e. (e ≡ SavedError.Memory) ⊎ (list_at (view value.now) ≡ Err e)) }
+    ensures early { (e : SavedError) → list_at (view value.now) ≡ Err e → result ≡ Err e }
+    ensures memory { list_at (view value.now) ≡ Ok [] → IsOk result }
+{
+    if holds_float(value) {
+        return Err(SavedError::Shape);
+    }
+    match value.as_array() {
+        Some(items) => list_of(alloc, items),
+        None => Err(SavedError::Shape),
+    }
+}
+
+// The saved cookies of these trees.
+fn list_of(alloc: Global, items: &[Value]) -> Result<Vec<Saved>, SavedError>
+    ensures saved { IfOk result (λ list. then_read all_with_moment (all_parts_in (items_view items.now))
+        ≡ Ok (map saved_view list.items)) }
+    ensures refused { IfErr result (λ e. (e ≡ SavedError.Memory)
+        ⊎ (then_read all_with_moment (all_parts_in (items_view items.now)) ≡ Err e)) }
+    ensures early { (e : SavedError) → then_read all_with_moment (all_parts_in (items_view items.now)) ≡ Err e
+        → result ≡ Err e }
+    ensures memory { then_read all_with_moment (all_parts_in (items_view items.now)) ≡ Ok [] → IsOk result }
+{
+    if !all_have_shape(items) {
+        return Err(SavedError::Shape);
+    }
+    if !all_read(items) {
+        return Err(SavedError::Moment);
+    }
+    all_in(alloc, items)
+}
+
+// Whether each tree has the shape of a saved cookie.
+#[tactic(auto, using(crate::proofs::ReadLists::shape_steps))]
+fn all_have_shape(items: &[Value]) -> bool
+    ensures { result ≡ is_some (all_parts_in (items_view items.now)) }
+{
+    for item in items {
+        if parts_in(item).is_none() {
+            return false;
+        }
+    }
+    true
+}
+
+// Whether each tree is that of a saved cookie.
+#[tactic(auto, using(crate::proofs::ReadLists::flag_steps))]
+fn all_read(items: &[Value]) -> bool
+    ensures { result ≡ is_some (all_in (items_view items.now)) }
+{
+    for item in items {
+        match parts_in(item) {
+            Some(parts) => {
+                if !has_moment(parts) {
+                    return false;
+                }
+            }
+            None => return false,
+        }
+    }
+    true
+}
+
+// Whether the text of the end is a moment.
+fn has_moment(parts: LentParts<'_>) -> bool
+    ensures { result ≡ is_some (with_moment (lent_parts parts.entry)) }
+{
+    expiry_at(parts.ends).is_some()
+}
+
+// The saved cookies of these trees, where all of them read.
+#[tactic(auto, using(crate::proofs::ReadLists::read_steps))]
+fn all_in(alloc: Global, items: &[Value]) -> Result<Vec<Saved>, SavedError>
+    ensures saved { IfOk result (λ list. all_in (items_view items.now) ≡ Some (map saved_view list.items)) }
+    ensures refused { IfErr result (λ e. (e ≡ SavedError.Memory) ⊎ (all_in (items_view items.now) ≡ None)) }
+    ensures memory { all_in (items_view items.now) ≡ Some [] → IsOk result }
+{
+    let mut list = Vec::new(alloc);
+    for item in items {
+        match parts_in(item) {
+            Some(parts) => list.push(saved_from(alloc, parts)?)?,
+            None => return Err(SavedError::Shape),
+        }
+    }
+    Ok(list)
+}
+
+// The saved cookie of these parts, where the text of its end is a moment.
+fn saved_from(alloc: Global, parts: LentParts<'_>) -> Result<Saved, SavedError>
+    ensures saved { IfOk result (λ saved. with_moment (lent_parts parts.entry) ≡ Some (saved_view saved)) }
+    ensures refused { IfErr result (λ e. (e ≡ SavedError.Memory)
+        ⊎ ((e ≡ SavedError.Moment) × (with_moment (lent_parts parts.entry) ≡ None))) }
+    ensures early { with_moment (lent_parts parts.entry) ≡ None → result ≡ Err SavedError.Moment }
+{
+    match expiry_at(parts.ends) {
+        Some(expires) => Ok(copied(alloc, parts, expires)?),
+        None => Err(SavedError::Moment),
+    }
+}
+
+// The end that a text writes, or the end of the session without one.
+fn expiry_at(ends: Option<&str>) -> Option<SavedExpiry>
+    ensures { option_map expiry_view result ≡ ends_at (option_map (λ text. text.now) ends.entry) }
+{
+    match ends {
+        Some(text) => Some(SavedExpiry::AtUtc(read_moment(text)?)),
+        None => Some(SavedExpiry::SessionEnd),
+    }
+}
+
+// The parts in texts of their own, with this end.
+fn copied(alloc: Global, parts: LentParts<'_>, expires: SavedExpiry) -> Result<Saved, AllocError>
+    ensures { IfOk result (λ saved. saved_view saved ≡ with_ends (lent_parts parts.entry) (expiry_view expires)) }
+{
+    Ok(Saved {
+        raw_cookie: parts.raw_cookie.to_string(alloc)?,
+        path: parts.path.to_string(alloc)?,
+        from_attr: parts.from_attr,
+        domain: domain_copied(alloc, parts.domain)?,
+        expires,
+    })
+}
+
+// The domain in a text of its own.
+fn domain_copied(alloc: Global, domain: LentDomain<'_>) -> Result<SavedDomain, AllocError>
+    ensures { IfOk result (λ copy. domain_view copy ≡ lent_domain domain.entry) }
+{
+    Ok(match domain {
+        LentDomain::HostOnly(text) => SavedDomain::HostOnly(text.to_string(alloc)?),
+        LentDomain::Suffix(text) => SavedDomain::Suffix(text.to_string(alloc)?),
+        LentDomain::NotPresent => SavedDomain::NotPresent,
+        LentDomain::Empty => SavedDomain::Empty,
+    })
+}
+
+// The parts of an object that has the shape of a saved cookie.
+#[tactic(auto, unfolding(crate::specs::ReadTrees::parts_in))]
+fn parts_in(value: &Value) -> Option<LentParts<'_>>
+    ensures { option_map lent_parts result ≡ parts_in (view value.now) }
+{
+    let raw_cookie = value.get("raw_cookie")?.as_str()?;
+    let (path, from_attr) = path_in(value.get("path")?)?;
+    let domain = domain_in(value.get("domain")?)?;
+    let ends = ends_in(value.get("expires")?)?;
+    Some(LentParts {
+        raw_cookie,
+        path,
+        from_attr,
+        domain,
+        ends,
+    })
+}
+
+// A path, and whether a Path attribute set it.
+#[tactic(auto, unfolding(crate::specs::ReadTrees::path_in))]
+fn path_in(value: &Value) -> Option<(&str, bool)>
+    ensures { option_map (λ p. (p.0.now, p.1)) result ≡ path_in (view value.now) }
+{
+    let (path, from_attr) = pair_in(value.as_array()?)?;
+    Some((path.as_str()?, from_attr.as_bool()?))
+}
+
+// The items where they are two.
+fn pair_in(items: &[Value]) -> Option<(&Value, &Value)>
+    ensures { option_map (λ p. (view p.0.now, view p.1.now)) result ≡ pair_in (items_view items.now) }
+{
+    match items {
+        [first, second] => Some((first, second)),
+        [] | [_] => None,
+        [_, _, _, ..] => None,
+    }
+}
+
+// The domain of a name, or of an object of one member.
+#[tactic(auto, unfolding(crate::specs::ReadTrees::domain_in))]
+fn domain_in(value: &Value) -> Option<LentDomain<'_>>
+    ensures { option_map lent_domain result ≡ domain_in (view value.now) }
+{
+    match value.as_str() {
+        Some(name) => domain_named(name),
+        None => domain_tagged(value),
+    }
+}
+
+// The domain that has no text.
+fn domain_named(name: &str) -> Option<LentDomain<'_>>
+    ensures { option_map lent_domain result ≡ domain_named name.now }
+{
+    match name {
+        "NotPresent" => Some(LentDomain::NotPresent),
+        "Empty" => Some(LentDomain::Empty),
+        _ => None,
+    }
+}
+
+// The domain that has one.
+fn domain_tagged(value: &Value) -> Option<LentDomain<'_>>
+    ensures { option_map lent_domain result ≡ option_and_then domain_tagged (tagged_in (view value.now)) }
+{
+    let (tag, text) = tagged_in(value)?;
+    match tag {
+        "HostOnly" => Some(LentDomain::HostOnly(text)),
+        "Suffix" => Some(LentDomain::Suffix(text)),
+        _ => None,
+    }
+}
+
+// The text of an end, and `Some(None)` for the end of the session.
+#[tactic(auto, unfolding(crate::specs::ReadTrees::ends_in))]
+fn ends_in(value: &Value) -> Option<Option<&str>>
+    ensures { option_map (λ o. option_map (λ text. text.now) o) result ≡ ends_in (view value.now) }
+{
+    match value.as_str() {
+        Some(name) => ends_named(name),
+        None => ends_tagged(value),
+    }
+}
+
+// The end of the session.
+fn ends_named(name: &str) -> Option<Option<&str>>
+    ensures { option_map (λ o. option_map (λ text. text.now) o) result ≡ ends_named name.now }
+{
+    match name {
+        "SessionEnd" => Some(None),
+        _ => None,
+    }
+}
+
+// The end at a moment.
+fn ends_tagged(value: &Value) -> Option<Option<&str>>
+    ensures { option_map (λ o. option_map (λ text. text.now) o) result
+        ≡ option_and_then ends_tagged (tagged_in (view value.now)) }
+{
+    let (tag, text) = tagged_in(value)?;
+    match tag {
+        "AtUtc" => Some(Some(text)),
+        _ => None,
+    }
+}
+
+// The name and the text of an object's one member, where it is a text.
+fn tagged_in(value: &Value) -> Option<(&str, &str)>
+    ensures { option_map (λ p. (p.0.now, p.1.now)) result ≡ tagged_in (view value.now) }
+{
+    only_text(value.as_object()?)
+}
+
+// The name and the text of the one member, where it is a text.
+fn only_text(members: &Map<String, Value>) -> Option<(&str, &str)>
+    ensures { option_map (λ p. (p.0.now, p.1.now)) result ≡ only_text (members_view members.now.entries) }
+{
+    if members.len() != 1 {
+        return None;
+    }
+    let (tag, text) = members.first_key_value()?;
+    Some((tag.as_str(), text.as_str()?))
+}
+
+// Whether a float stands anywhere in the tree.
+fn holds_float(value: &Value) -> bool
+    ensures { result ≡ has_float (view value.now) }
+{
+    match value {
+        Value::Null | Value::Bool(_) | Value::String(_) => false,
+        Value::Number(number) => number.is_f64(),
+        Value::Array(items) => {
+            for item in items {
+                if holds_float(item) {
+                    return true;
+                }
+            }
+            false
+        }
+        Value::Object(members) => {
+            for (_, item) in members {
+                if holds_float(item) {
+                    return true;
+                }
+            }
+            false
+        }
+    }
+}

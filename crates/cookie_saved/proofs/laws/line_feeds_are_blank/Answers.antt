@@ -1,5 +1,0 @@
-use Rattle.cookie_saved.proofs.LineFeeds.{read_before_line_feed}
-use Rattle.cookie_saved.proofs.laws.line_feeds_are_blank.Goals as goal
-
-pub returns : goal.returns
-returns c = read_before_line_feed

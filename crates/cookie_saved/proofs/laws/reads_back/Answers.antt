@@ -1,5 +1,0 @@
-use Rattle.cookie_saved.proofs.TreesBack.{saved_back}
-use Rattle.cookie_saved.proofs.laws.reads_back.Goals as goal
-
-pub returns : goal.returns
-returns c = saved_back
