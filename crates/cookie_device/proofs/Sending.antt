@@ -1,5 +1,7 @@
 -- How what is put into an output by one call and by the next goes together.
-use Rattle.std.proofs.Common.{◌≡◌, ℕ, List, [], ◌∷◌, ◌++◌, Option, Bor, refl, sym, ap, ◌∙◌, append_assoc, append-nil}
+use Rattle.std.proofs.Common.{◌≡◌, ℕ, ◌+◌, ◌<◌, List, [], ◌∷◌, ◌++◌, Option, Bor, arith, drop, get_or, length, refl, suc, sym, ap, take, ◌∙◌, append_assoc, append-nil}
+use Rattle.std.proofs.Math.Seq.{take-suc}
+use Rattle.std.proofs.lemmas.List.{take-append-drop}
 use Rattle.std.proofs.lemmas.Grind.{flat_map-append}
 use Rattle.std.proofs.KnownBytes.{Appends-trans, Appends-nil}
 use Rattle.cookie_device.specs.Device.{AppendsBeginning, Sends}
@@ -56,7 +58,16 @@ part_of_rest a b c t g sends part = record {
   };
 }
 
--- the texts and one more
-pub joined_more : (texts : List (Bor (List ℕ))) (text : Bor (List ℕ)) → joined (texts ++ text ∷ []) ≡ joined texts ++ text.now
-joined_more texts text =
-    flat_map-append (λ t. t.now) texts (text ∷ []) ∙ ap (λ last. joined texts ++ last) (append-nil text.now)
+-- the first texts and the next one
+pub joined_next : (texts : List (Bor (List ℕ))) (i : ℕ) (d : Bor (List ℕ)) (text : List ℕ) → i < length texts
+    → text ≡ (get_or texts i d).now → joined (take (i + 1) texts) ≡ joined (take i texts) ++ text
+joined_next texts i d text small is =
+    let next : i + 1 ≡ suc i = omega arith in
+    ap (λ n. joined (take n texts)) next ∙ ap joined (take-suc texts i d small)
+    ∙ flat_map-append (λ t. t.now) (take i texts) (get_or texts i d ∷ [])
+    ∙ ap (λ last. joined (take i texts) ++ last) (append-nil (get_or texts i d).now ∙ sym is)
+
+-- the first texts and the others
+pub joined_parts : (texts : List (Bor (List ℕ))) (i : ℕ) → joined (take i texts) ++ joined (drop i texts) ≡ joined texts
+joined_parts texts i =
+    sym (flat_map-append (λ t. t.now) (take i texts) (drop i texts)) ∙ ap joined (take-append-drop i texts)

@@ -1,9 +1,8 @@
 //! Text that is gathered before it goes out.
 ghost use Rattle.std.specs.Prelude.{◌≡◌, ◌+◌, ◌-◌, ◌^◌, ◌<◌, ◌≤◌, [], ◌++◌, length, IfOk, IsOk, OnOk, OnErr};
 ghost use Rattle.std.specs.Io.KnownBytes.{Appends};
-ghost use Rattle.std.specs.Iterator.{IsFinite};
 ghost use Rattle.cookie_device.specs.Device.{AppendsBeginning, CountsFailure, Sends};
-ghost use Rattle.cookie_device.specs.Texts.{SendsAll, SendsSome};
+ghost use Rattle.cookie_device.specs.Texts.{joined};
 
 use crate::device::{DeviceFailed, Sink, write_all};
 use std::alloc::{AllocError, Global};
@@ -63,18 +62,13 @@ impl Output {
         Ok(())
     }
 
-    /// Gathers each text that the iterator gives, as [`put`](Self::put) does. Where a write failed, a beginning of the texts up
-    /// to this one went out, and nothing stays gathered.
-    pub fn put_all<'t, W: Sink, I: Iterator<Item = &'t str> + Drop>(
-        &mut self,
-        sink: &mut W,
-        texts: I,
-    ) -> Result<(), DeviceFailed>
-        requires writable { W.failed sink.old < 2 ^ 64 - 1 }
-        requires can { I.can_next texts }
-        requires ends { IsFinite (I.remaining texts) }
-        ensures whole { OnOk result (SendsAll I.next_gives texts (W.contents sink.old) (W.contents sink.new) self.old self.new) }
-        ensures part { OnErr result (SendsSome I.next_gives texts (W.contents sink.old) (W.contents sink.new) self.old) }
+    /// Gathers the texts, one after the other, as [`put`](Self::put) does.
+    pub fn put_all<W: Sink>(&mut self, sink: &mut W, texts: &[&str]) -> Result<(), DeviceFailed>
+        requires { W.failed sink.old < 2 ^ 64 - 1 }
+        ensures whole { OnOk result (Sends (W.contents sink.old) (W.contents sink.new)
+            (self.old ++ joined texts.now) self.new) }
+        ensures part { AppendsBeginning (W.contents sink.old) (W.contents sink.new)
+            (self.old ++ joined texts.now) }
         ensures dropped { OnErr result (self.new ≡ []) }
         ensures count { CountsFailure result (W.failed sink.old) (W.failed sink.new) }
     {

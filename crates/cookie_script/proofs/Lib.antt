@@ -1,7 +1,6 @@
 pub mod Answered
+pub mod Gathering
 pub mod OtherWords
-pub mod Pieces
-pub mod PieceTexts
 pub mod Progress
 pub mod Wanting
 pub mod WholeLines

@@ -1,10 +1,9 @@
+pub mod Answering
 pub mod Answers
 pub mod Arguments
 pub mod Commands
 pub mod CommandViews
 pub mod Faults
-pub mod Pieces
 pub mod Progress
-pub mod Rest
 pub mod Script
 pub mod Suffixes

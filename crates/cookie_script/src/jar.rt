@@ -1,9 +1,9 @@
 //! The state of a script, and what a line comes to.
 ghost use Rattle.std.specs.Prelude.{◌≡◌, ◌≢◌, Err, IfOk, IsTrue, OnErr, OnOk, Some};
+ghost use Rattle.cookie_script.specs.Answering.{answer_text};
 ghost use Rattle.cookie_script.specs.Answers.{told_may_want, told_text};
 ghost use Rattle.cookie_script.specs.CommandViews.{command_view};
 ghost use Rattle.cookie_script.specs.Commands.{command_may_want, may_want};
-ghost use Rattle.cookie_script.specs.Pieces.{joined};
 ghost use Rattle.cookie_script.specs.Script.{command_turn, start, turn};
 
 use crate::answer::Answer;
@@ -109,15 +109,15 @@ impl Jar {
 
     /// The answer to a line, after what it came to.
     pub fn answer(&self, told: Told) -> Result<Answer<'_>, AllocError>
-        ensures text { IfOk result (λ answer. joined answer ≡ told_text told self.now) }
+        ensures text { IfOk result (λ answer. answer_text answer ≡ told_text told self.now) }
         ensures wants { OnErr result (IsTrue (told_may_want told)) }
     {
         match told {
-            Told::Nothing => Ok(Answer::nothing()),
-            Told::BadLine => Ok(Answer::line("bad line")),
+            Told::Nothing => Ok(Answer::Nothing),
+            Told::BadLine => Ok(Answer::Line("", "bad line")),
             Told::Said(reply) => Ok(Answer::reply(reply)),
-            Told::Cookies(url) => Ok(Answer::header(self.store.matches(&url, self.moment)?)),
-            Told::Rows => Ok(Answer::rows(self.store.iter_any())),
+            Told::Cookies(url) => Ok(Answer::Header(self.store.matches(&url, self.moment)?)),
+            Told::Rows => Ok(Answer::Rows(self.store.iter_any())),
         }
     }
 }

@@ -115,5 +115,5 @@ fn answer_line<W: Sink>(
     ensures count { (reads : ℕ) → CountsFault result reads reads (W.failed sink.old) (W.failed sink.new) }
 {
     let told = jar.turn(alloc, line)?;
-    Ok(out.put_all(sink, jar.answer(told)?)?)
+    Ok(jar.answer(told)?.put(out, sink)?)
 }

@@ -1,13 +1,11 @@
 -- No call has failed, and of what was gathered and the texts so far all but what is gathered now went out.
-use Rattle.std.proofs.Common.{◌≡◌, ◌++◌}
+use Rattle.std.proofs.Common.{◌≡◌, ◌++◌, take}
 use Rattle.cookie_device.specs.Device.{Sends}
 use Rattle.cookie_device.specs.Texts.{joined}
 use Rattle.cookie_device.proofs.output.Output.put_all.Given as goal
 
 abbrev pub invariant-loop-text : goal.invariant-loop-text
 invariant-loop-text g l = record {
-  can : (goal.iterator-loop-text g).can_next l.text-iterator;
-  ends : (goal.iterator-loop-text g).is_finite l.text-iterator;
-  sent : Sends (g.W.Sink.contents l.initial.sink) (g.W.Sink.contents l.sink) (l.initial.self ++ joined l.yielded) l.self;
+  sent : Sends (g.W.Sink.contents l.initial.sink) (g.W.Sink.contents l.sink) (l.initial.self ++ joined (take l.text-index l.texts)) l.self;
   count : g.W.Sink.failed l.sink ≡ g.W.Sink.failed l.initial.sink;
 }

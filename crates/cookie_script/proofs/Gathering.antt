@@ -1,0 +1,87 @@
+-- How texts are gathered one after the other.
+use Rattle.std.proofs.Common.{◌≡◌, ◌≤◌, ◌<◌, ℕ, ◌+◌, List, [], ◌∷◌, ◌++◌, Bor, Option, Result, Ok, Err, ap, append_assoc, append-nil, arith, codes, drop, flat_map, get_or, length, map, refl, subst, suc, sym, take, ◌∙◌}
+use Rattle.std.proofs.Math.Seq.{take-suc}
+use Rattle.std.proofs.lemmas.Bool.{false≢true}
+use Rattle.std.proofs.lemmas.Grind.{flat_map-append}
+use Rattle.std.proofs.lemmas.List.{map-append, take-append-drop}
+use Rattle.std.proofs.lemmas.List.Folds.{flat_map-map}
+use Rattle.std.specs.Result.{IsErr}
+use Rattle.cookie_device.proofs.Sending.{nothing_part, nothing_put, part_longer, part_then, put_then}
+use Rattle.cookie_parts.specs.Cookie.{Row}
+use Rattle.cookie_script.specs.Answering.{Gathers}
+use Rattle.cookie_script.specs.Script.{header_text, line_text, pair_text, row_line, rows_text}
+
+-- nothing was gathered
+pub gathers_nothing : {E : Type 0} (a : Option (List ℕ)) (g : List ℕ) (n : ℕ) → Gathers {T = Unit {0}} {E = E} (Ok tt) a a g g n n []
+gathers_nothing a g n = record { whole = nothing_put a g; part = nothing_part a (g ++ []); count = refl }
+
+-- one text was gathered, and then another was to be
+pub gathers_then : {T U E : Type 0} (r : Result U E) (ok : T) {a b c : Option (List ℕ)} {g h k : List ℕ} {m n o : ℕ} (t u : List ℕ)
+    → Gathers {T = T} {E = E} (Ok ok) a b g h m n t → Gathers r b c h k n o u → Gathers r a c g k m o (t ++ u)
+gathers_then (Ok done) ok {a} {b} {c} {g} {h} {k} t u first next = record {
+  whole = put_then a b c g t u h k first.whole next.whole;
+  part = part_then a b c g t u h first.whole next.part;
+  count = next.count ∙ first.count;
+}
+gathers_then (Err fault) ok {a} {b} {c} {g} {h} {k} t u first next = record {
+  whole = tt;
+  part = part_then a b c g t u h first.whole next.part;
+  count = next.count ∙ ap (λ n. n + 1) first.count;
+}
+
+-- a write failed, and a text more was to follow
+pub gathers_stopped : {T U E : Type 0} (r : Result U E) (fault : E) {a b : Option (List ℕ)} {g h : List ℕ} {m n : ℕ} (t u : List ℕ)
+    → IsErr r → Gathers {T = T} {E = E} (Err fault) a b g h m n t → Gathers r a b g h m n (t ++ u)
+gathers_stopped (Ok done) fault t u is first = absurd (false≢true is)
+gathers_stopped (Err told) fault {a} {b} {g} t u is first =
+    record { whole = tt; part = part_longer a b g t u first.part; count = first.count }
+
+module _ {A : Type 0} (f : A → List ℕ) (items : List A) where
+  -- the texts of the first items and of the next one
+  pub next_text : (i : ℕ) (d item : A) → i < length items → item ≡ get_or items i d
+      → flat_map f (take (i + 1) items) ≡ flat_map f (take i items) ++ f item
+  next_text i d item small is =
+      let next : i + 1 ≡ suc i = omega arith in
+      ap (λ n. flat_map f (take n items)) next ∙ ap (flat_map f) (take-suc items i d small)
+      ∙ flat_map-append f (take i items) (get_or items i d ∷ [])
+      ∙ ap (λ last. flat_map f (take i items) ++ last) (append-nil (f (get_or items i d)) ∙ ap f (sym is))
+
+  -- the texts of the first items and of the others, and a text behind
+  pub parts_text : (i : ℕ) (behind : List ℕ) → flat_map f (take i items) ++ (flat_map f (drop i items) ++ behind) ≡ flat_map f items ++ behind
+  parts_text i behind =
+      sym (append_assoc (flat_map f (take i items)) (flat_map f (drop i items)) behind)
+      ∙ ap (λ all. all ++ behind) (sym (flat_map-append f (take i items) (drop i items)) ∙ ap (flat_map f) (take-append-drop i items))
+
+-- a header of cookies: the first one, and the others
+pub header_parts : {A : Type 0} (row : A → Row) (cookies : List A) (first : A) (others : List A) → cookies ≡ first ∷ others
+    → line_text (header_text (map row cookies))
+    ≡ (codes "Cookie: " ++ pair_text (row first)) ++ line_text (flat_map (λ c. codes "; " ++ pair_text (row c)) others)
+header_parts row cookies first others are =
+    let before = codes "Cookie: " ++ pair_text (row first) in
+    ap (λ cs. line_text (header_text (map row cs))) are
+    ∙ append_assoc before (flat_map (λ c. codes "; " ++ pair_text c) (map row others)) (10 ∷ [])
+    ∙ ap (λ text. before ++ line_text text) (flat_map-map (λ c. codes "; " ++ pair_text c) row others)
+
+module _ (seen : List (Bor Row)) (row : Bor Row) where
+  -- the rows that came, and one more
+  rows_more : map (λ c. c.now) (seen ++ row ∷ []) ≡ map (λ c. c.now) seen ++ row.now ∷ []
+  rows_more = map-append (λ c. c.now) seen (row ∷ [])
+
+  -- the lines of the rows that came, and of one more
+  pub next_row : rows_text (map (λ c. c.now) (seen ++ row ∷ [])) ≡ rows_text (map (λ c. c.now) seen) ++ row_line row.now
+  next_row =
+      ap rows_text rows_more ∙ flat_map-append row_line (map (λ c. c.now) seen) (row.now ∷ [])
+      ∙ ap (λ last. rows_text (map (λ c. c.now) seen) ++ last) (append-nil (row_line row.now))
+
+  module _ (left after rows : List Row) (steps : left ≡ row.now ∷ after) (rest : map (λ c. c.now) seen ++ left ≡ rows) where
+    -- the rows that came, one more, and those that are left then
+    pub rows_passed : map (λ c. c.now) (seen ++ row ∷ []) ++ after ≡ rows
+    rows_passed =
+        ap (λ xs. xs ++ after) rows_more ∙ append_assoc (map (λ c. c.now) seen) (row.now ∷ []) after
+        ∙ ap (λ xs. map (λ c. c.now) seen ++ xs) (sym steps) ∙ rest
+
+    -- their lines
+    pub rows_parts : (rows_text (map (λ c. c.now) seen) ++ row_line row.now) ++ rows_text after ≡ rows_text rows
+    rows_parts =
+        ap (λ text. text ++ rows_text after) (sym next_row)
+        ∙ sym (flat_map-append row_line (map (λ c. c.now) (seen ++ row ∷ [])) after) ∙ ap rows_text rows_passed

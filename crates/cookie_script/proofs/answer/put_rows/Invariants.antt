@@ -1,0 +1,16 @@
+-- No call has failed, and of what was gathered and the rows so far all but what is gathered now went out.
+use Rattle.std.proofs.Common.{◌≡◌, ◌++◌, Ok, map}
+use Rattle.cookie_device.specs.declared.device.DeviceFailed.{DeviceFailed}
+use Rattle.cookie_script.specs.Answering.{Gathers}
+use Rattle.cookie_script.specs.Script.{rows_text}
+use Rattle.cookie_script.proofs.answer.put_rows.Given as goal
+
+abbrev pub invariant-loop-row : goal.invariant-loop-row
+invariant-loop-row g l = record {
+  can : (goal.iterator-loop-row g).can_next l.row-iterator;
+  ends : (goal.iterator-loop-row g).is_finite l.row-iterator;
+  rest : map (λ c. c.now) l.yielded ++ l.row-iterator ≡ l.fn.rows;
+  gathered :
+      Gathers {T = Unit {0}} {E = DeviceFailed} (Ok tt) (g.W.Sink.contents l.initial.sink) (g.W.Sink.contents l.sink) l.initial.out l.out
+      (g.W.Sink.failed l.initial.sink) (g.W.Sink.failed l.sink) (rows_text (map (λ c. c.now) l.yielded));
+}
