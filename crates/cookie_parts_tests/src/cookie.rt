@@ -9,10 +9,10 @@ use std::test::Fail;
 use url::Url;
 
 // What a Set-Cookie text is wanted to make: the hosts and the path of its cookie, or the refusal.
-type Made = Result<(Hosts, &'static str), CookieError>;
+pub(crate) type Made = Result<(Hosts, &'static str), CookieError>;
 
 // A text, the URL that it comes from, and what it makes.
-const COOKIES: &[(&str, &str, Made)] = &[
+pub(crate) const COOKIES: &[(&str, &str, Made)] = &[
     (
         "a=1; Domain=example.com",
         "http://foo.example.com",
@@ -54,6 +54,26 @@ const COOKIES: &[(&str, &str, Made)] = &[
         Err(CookieError::DomainMismatch),
     ),
     (
+        "k=1; Domain=a.b",
+        "foo://x.A.B/",
+        Err(CookieError::DomainMismatch),
+    ),
+    (
+        "a=1; Domain=0.0.1",
+        "http://127.0.0.1/",
+        Err(CookieError::DomainMismatch),
+    ),
+    (
+        "a=1; Domain=..",
+        "http://a.com/",
+        Err(CookieError::DomainMismatch),
+    ),
+    (
+        "a=1; Domain=127.0.0.1",
+        "http://127.0.0.1/",
+        Ok((Hosts::Suffix("127.0.0.1"), "/")),
+    ),
+    (
         "a=1; Domain=EXAMPLE.com",
         "http://example.com",
         Ok((Hosts::Suffix("example.com"), "/")),
@@ -92,7 +112,7 @@ const COOKIES: &[(&str, &str, Made)] = &[
     ),
 ];
 
-fn is_wanted(cookie: &Cookie<'_>, wanted: &Made) -> bool {
+pub(crate) fn is_wanted(cookie: &Cookie<'_>, wanted: &Made) -> bool {
     match wanted {
         Ok((hosts, path)) => is_for(&cookie.domain, hosts) && cookie.path.as_str() == *path,
         Err(_) => false,

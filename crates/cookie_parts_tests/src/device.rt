@@ -29,7 +29,7 @@ fn take_or_read(
 }
 
 // Reads once, unless a line is at hand or too many reads have failed.
-fn fill(
+pub(crate) fn fill(
     buffer: &mut LineBuffer,
     source: &mut Counted<Fake<&[u8]>>,
 ) -> Option<Result<bool, FillError>> {
@@ -91,7 +91,7 @@ const LINES: &[(&[u8], &[u8])] = &[
 
 #[test]
 fn lines_come_whole(rt: HostRuntime) -> Result<(), Fail> {
-    for fails_at in 0..6 {
+    for fails_at in 0..20 {
         for (input, wanted) in LINES {
             comes_as(&rt, rt.alloc(), input, wanted, &[1, 2, 3, 5_000], fails_at)?;
         }
@@ -130,6 +130,34 @@ fn all_bytes_come(rt: HostRuntime) -> Result<(), Fail> {
         }
     }
     all_come(&rt, rt.alloc(), b"", 1, 0);
+    Ok(())
+}
+
+// Reads to the end, unless too many reads have failed.
+fn read_rest(alloc: Global, source: &mut Counted<Fake<&[u8]>>) -> Result<Vec<u8>, FillError> {
+    if source.failures() == u64::MAX {
+        return Err(FillError::Read);
+    }
+    read_all(alloc, source)
+}
+
+// The read of "abc" that fails, one byte each, and what comes where it is read to the end once more.
+const RESTS: &[(usize, &[u8])] = &[(1, b"abc"), (2, b"bc"), (3, b"c"), (4, b"")];
+
+fn is_read_in_two(alloc: Global, row: &(usize, &[u8])) -> Result<bool, Fail> {
+    let (fails_at, rest) = *row;
+    let mut source = Counted::new(Fake::new(b"abc".as_slice(), 1, fails_at));
+    let fault = read_rest(alloc, &mut source).err();
+    let came = read_rest(alloc, &mut source)?;
+    let is_counted = source.failures() == 1 && source.into_inner().calls == 5;
+    Ok(is_counted && fault == Some(FillError::Read) && came.as_slice() == rest)
+}
+
+#[test]
+fn all_that_is_left_comes_after_a_failed_read(rt: HostRuntime) -> Result<(), Fail> {
+    for row in RESTS {
+        holds(&rt, is_read_in_two(rt.alloc(), row)?, row);
+    }
     Ok(())
 }
 
@@ -187,32 +215,32 @@ fn read(source: &mut Counted<Fake<&[u8]>>) -> Result<usize, DeviceFailed> {
     source.read(&mut [0])
 }
 
-// What reads of "ab" answer, one byte each, of which the second fails, and how many have failed then. The end is no failure.
-const READS: &[(Result<usize, DeviceFailed>, u64)] = &[
-    (Ok(1), 0),
-    (Err(DeviceFailed), 1),
-    (Ok(1), 1),
-    (Ok(0), 1),
-    (Ok(0), 1),
+const FAILED: Result<usize, DeviceFailed> = Err(DeviceFailed);
+
+// The read of "ab" that fails, one byte each, and what four reads answer. The end is no failure.
+const READS: &[(usize, &[Result<usize, DeviceFailed>])] = &[
+    (1, &[FAILED, Ok(1), Ok(1), Ok(0)]),
+    (2, &[Ok(1), FAILED, Ok(1), Ok(0)]),
+    (3, &[Ok(1), Ok(1), FAILED, Ok(0)]),
+    (4, &[Ok(1), Ok(1), Ok(0), FAILED]),
 ];
 
-fn reads_as(
-    rt: &impl Abort,
-    source: &mut Counted<Fake<&[u8]>>,
-    row: &(Result<usize, DeviceFailed>, u64),
-) {
-    let (answer, failures) = *row;
-    is_equal(rt, read(source), answer, row);
-    is_equal(rt, source.failures(), failures, row);
+// Each read answers as the row says, and the one that failed is counted.
+fn reads_as(rt: &impl Abort, row: &(usize, &[Result<usize, DeviceFailed>])) {
+    let (fails_at, answers) = *row;
+    let mut source = Counted::new(Fake::new(b"ab".as_slice(), 1, fails_at));
+    for wanted in answers {
+        is_equal(rt, read(&mut source), *wanted, row);
+    }
+    let counts = (source.failures(), source.into_inner().calls);
+    is_equal(rt, counts, (1, 4), row);
 }
 
 #[test]
 fn a_failed_read_is_not_tried_again(rt: HostRuntime) {
-    let mut source = Counted::new(Fake::new(b"ab".as_slice(), 1, 2));
     for row in READS {
-        reads_as(&rt, &mut source, row);
+        reads_as(&rt, row);
     }
-    is_equal(&rt, source.into_inner().calls, READS.len(), &"reads");
 }
 
 // So many writes have failed, and these bytes are out.
@@ -227,7 +255,9 @@ const WRITES: &[(usize, usize, &[u8])] = &[
     (100, 0, b"Set-Cookie"),
     (1, 4, b"Set"),
     (3, 1, b""),
+    (3, 2, b"Set"),
     (3, 3, b"Set-Co"),
+    (3, 4, b"Set-Cooki"),
 ];
 
 fn is_written(alloc: Global, row: &(usize, usize, &[u8])) -> Result<bool, Fail> {
@@ -305,6 +335,47 @@ fn a_line_goes_out_with_its_line_feed(rt: HostRuntime) -> Result<(), Fail> {
         holds(&rt, lines_are_written(rt.alloc(), row)?, row);
     }
     Ok(())
+}
+
+// Writes a line, unless too many writes have failed.
+fn line(sink: &mut Counted<Fake<Vec<u8>>>, text: &[u8]) -> Result<(), DeviceFailed> {
+    if sink.failures() == u64::MAX {
+        return Err(DeviceFailed);
+    }
+    write_line(sink, text)
+}
+
+// Of two calls, the first fails and the second is served.
+const SECOND: (Result<(), DeviceFailed>, Result<(), DeviceFailed>) = (Err(DeviceFailed), Ok(()));
+
+// How many bytes of the lines "abc" and "d" a call takes, the call that fails, all calls, and what is out then.
+const SECOND_LINES: &[(usize, usize, usize, &[u8])] = &[
+    (1, 1, 3, b"d\n"),
+    (1, 2, 4, b"ad\n"),
+    (1, 3, 5, b"abd\n"),
+    (1, 4, 6, b"abcd\n"),
+    (2, 1, 3, b"d\n"),
+    (2, 2, 4, b"abd\n"),
+    (2, 3, 5, b"abcd\n"),
+    (100, 1, 3, b"d\n"),
+    (100, 2, 4, b"abcd\n"),
+];
+
+// The first line is cut at the call that fails, and the second is written.
+fn is_line_cut(alloc: Global, row: &(usize, usize, usize, &[u8])) -> bool {
+    let (most, fails_at, calls, out) = *row;
+    let mut sink = Counted::new(Fake::new(Vec::new(alloc), most, fails_at));
+    let outcomes = (line(&mut sink, b"abc"), line(&mut sink, b"d"));
+    let is_counted = outcomes == SECOND && sink.failures() == 1;
+    let fake = sink.into_inner();
+    is_counted && fake.calls == calls && fake.inner.as_slice() == out
+}
+
+#[test]
+fn a_line_is_cut_where_a_write_fails(rt: HostRuntime) {
+    for row in SECOND_LINES {
+        holds(&rt, is_line_cut(rt.alloc(), row), row);
+    }
 }
 
 #[test]
@@ -410,6 +481,80 @@ fn output_is_dropped_where_a_write_fails(rt: HostRuntime) -> Result<(), Fail> {
         is_dropped(rt.alloc())?,
         &"a long text behind a short one",
     );
+    Ok(())
+}
+
+// How many bytes a call takes of the texts that are put, the call that fails, all calls where "de" is put and flushed then, and how
+// many bytes are out.
+type Cut = (usize, usize, usize, usize);
+
+const SHORT_CUTS: &[Cut] = &[
+    (1, 1, 3, 2),
+    (1, 2, 4, 3),
+    (1, 3, 5, 4),
+    (1, 4, 6, 5),
+    (3, 1, 2, 2),
+    (3, 2, 3, 5),
+];
+
+const LONG_CUTS: &[Cut] = &[
+    (usize::MAX, 1, 2, 2),
+    (usize::MAX, 2, 3, 65_538),
+    (usize::MAX, 3, 4, 65_539),
+    (usize::MAX, 4, 5, 131_076),
+];
+
+// What was put before the write that failed is dropped, and nothing is written twice.
+fn is_output_cut(alloc: Global, texts: &[&[u8]], row: &Cut) -> Result<bool, Fail> {
+    let (most, fails_at, calls, out) = *row;
+    let mut output = Output::new(alloc)?;
+    let mut sink = Counted::new(Fake::new(Vec::new(alloc), most, fails_at));
+    let first = put_all(&mut output, &mut sink, texts);
+    let outcomes = (first, put_all(&mut output, &mut sink, &[b"de"]));
+    let is_counted = outcomes == SECOND && sink.failures() == 1;
+    let fake = sink.into_inner();
+    Ok(is_counted && fake.calls == calls && fake.inner.len() == out)
+}
+
+#[test]
+fn output_is_cut_at_each_write(rt: HostRuntime) -> Result<(), Fail> {
+    for row in SHORT_CUTS {
+        holds(&rt, is_output_cut(rt.alloc(), &[b"ab", b"cd"], row)?, row);
+    }
+    let long = vec![in rt.alloc(); b'x'; Output::LIMIT + 1]?;
+    let texts: &[&[u8]] = &[b"a", &long[2..], b"b", &long, b"c"];
+    for row in LONG_CUTS {
+        holds(&rt, is_output_cut(rt.alloc(), texts, row)?, row);
+    }
+    Ok(())
+}
+
+// Puts each text of a line, unless too many writes have failed.
+fn put_words(
+    output: &mut Output,
+    sink: &mut Counted<Fake<Vec<u8>>>,
+    words: &str,
+) -> Result<(), DeviceFailed> {
+    if sink.failures() == u64::MAX {
+        return Err(DeviceFailed);
+    }
+    output.put_all(sink, words.split(' '))
+}
+
+// Whether a line feed and an output fail once each where no byte is taken.
+fn is_stuck(alloc: Global) -> Result<bool, Fail> {
+    let mut output = Output::new(alloc)?;
+    let mut sink = Counted::new(Fake::new(Vec::new(alloc), 0, 0));
+    let line = line(&mut sink, b"");
+    let words = put_words(&mut output, &mut sink, "a bc");
+    let outcomes = (flush(&mut output, &mut sink), flush(&mut output, &mut sink));
+    let is_so = line == Err(DeviceFailed) && words == Ok(()) && outcomes == SECOND;
+    Ok(is_so && sink.failures() == 2 && sink.into_inner().calls == 2)
+}
+
+#[test]
+fn nothing_goes_on_where_no_byte_is_taken(rt: HostRuntime) -> Result<(), Fail> {
+    holds(&rt, is_stuck(rt.alloc())?, &"a line and an output");
     Ok(())
 }
 

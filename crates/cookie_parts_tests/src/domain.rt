@@ -11,7 +11,7 @@ use std::process::Abort;
 use std::test::Fail;
 use url::Url;
 
-const DOMAINS: &[(&str, Hosts)] = &[
+pub(crate) const DOMAINS: &[(&str, Hosts)] = &[
     ("", Hosts::Empty),
     (".", Hosts::Empty),
     ("..", Hosts::Suffix(".")),
@@ -58,13 +58,24 @@ fn an_attribute_names_a_domain(rt: HostRuntime) -> Result<(), Fail> {
     Ok(())
 }
 
+// Texts that `idna` refuses.
+pub(crate) const NO_DOMAINS: &[&str] = &["xn--a", "xn--a.example"];
+
+#[test]
+fn idna_refuses_a_text_that_is_no_domain_name(rt: HostRuntime) {
+    for text in NO_DOMAINS {
+        let fault = idna::domain_to_ascii(rt.alloc(), text).err();
+        is_equal(&rt, fault, Some(idna::Errors::Invalid), text);
+    }
+}
+
 fn is_refused(domain: Result<CookieDomain, Error>) -> bool {
     matches!(&domain, Err(Error::Idna(_)))
 }
 
 #[test]
 fn a_text_that_is_no_domain_name_is_refused(rt: HostRuntime) -> Result<(), Fail> {
-    for text in &["xn--a", "xn--a.example"] {
+    for text in NO_DOMAINS {
         let named = CookieDomain::try_from_str(rt.alloc(), text);
         holds(&rt, is_refused(named), text);
     }

@@ -99,6 +99,32 @@ fn seconds_end_at_a_moment(rt: HostRuntime) -> Result<(), Fail> {
     Ok(())
 }
 
+const FIRST: &str = "-009999-01-01T00:00:00";
+
+// A moment, and the end of one second from there on.
+const SECONDS: &[(&str, &str)] = &[
+    (FIRST, "-009999-01-01T00:00:01"),
+    (NOW, "2026-01-01T00:00:01"),
+    ("9999-12-31T23:59:58.5", LATEST),
+    ("9999-12-31T23:59:59.5", LATEST),
+    ("9999-12-31T23:59:59.999999999", LATEST),
+];
+
+fn lasts_a_second(row: &(&str, &str)) -> Result<bool, Fail> {
+    let (from, wanted) = *row;
+    let end = CookieExpiration::from_duration(SignedDuration::from_secs(1), moment(from)?);
+    ends_at(&end, Some(wanted))
+}
+
+#[test]
+fn a_second_ends_at_a_moment(rt: HostRuntime) -> Result<(), Fail> {
+    is_equal(&rt, moment(FIRST)?, DateTime::MIN, &FIRST);
+    for row in SECONDS {
+        holds(&rt, lasts_a_second(row)?, row);
+    }
+    Ok(())
+}
+
 // Seconds from `NOW` on, a moment, and whether they have ended by it.
 const AGES: &[(u64, &str, bool)] = &[
     (0, NOW, true),

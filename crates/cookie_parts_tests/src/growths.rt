@@ -1,17 +1,22 @@
 //! Each call that takes memory answers as it does with ample memory, or says that memory is wanting.
 use crate::checks::holds;
-use crate::parts::{Hosts, domain_of, is_for, is_path};
-use crate::psl::{EVERY_KIND, says};
-use crate::raw::{Parts, has_parts};
-use crate::saved::list_of;
+use crate::cookie::{COOKIES, Made, is_wanted};
+use crate::device;
+use crate::domain::{DOMAINS, NO_DOMAINS};
+use crate::parts::{Hosts, cookie_from, domain_of, is_for, is_path};
+use crate::psl::{BAD, EVERY_KIND, says};
+use crate::raw::{EMPTY, Parts, has_parts, until_the_end_of};
+use crate::ron::{FOUR, TEXTS, printed_again};
+use crate::saved::{TREES, list_of, refusal_of};
 use cookie_device::{Counted, FillError, LineBuffer, Output};
+use cookie_fakes::Fake;
 use cookie_parts::cookie_domain::is_match;
 use cookie_parts::{Cookie, CookieDomain, CookieError, CookieExpiration, CookiePath, Error};
 use cookie_psl::{List, ListError};
 use cookie_raw::RawCookie;
 use cookie_saved::{
     Saved, SavedDomain, SavedError, SavedExpiry, from_ron, from_value, list_from_value,
-    list_to_value, moment_text, to_ron, to_value,
+    list_to_text, list_to_value, moment_text, to_ron, to_value,
 };
 use jiff::civil::DateTime;
 use serde_json::Value;
@@ -80,6 +85,23 @@ fn fill(rt: HostRuntime) -> Result<(), Fail> {
         Err(fault) => fault == FillError::Memory && rest == (b"", b"get\n"),
     };
     holds(&rt, is_whole, &"a line");
+    Ok(())
+}
+
+#[test]
+fn fill_again(rt: HostRuntime) -> Result<(), Fail> {
+    let mut source = Counted::new(Fake::new(b"onetwo".as_slice(), 3, 0));
+    let mut lines = LineBuffer::new(rt.alloc());
+    let first = device::fill(&mut lines, &mut source);
+    start(rt.alloc())?;
+    let second = device::fill(&mut lines, &mut source);
+    let rest = (lines.rest(), source.into_inner().calls);
+    let is_whole = match second {
+        Some(Ok(came)) => came && rest == (b"onetwo", 2),
+        Some(Err(fault)) => fault == FillError::Memory && rest == (b"one", 1),
+        None => false,
+    };
+    holds(&rt, first == Some(Ok(true)) && is_whole, &"two reads");
     Ok(())
 }
 
@@ -157,19 +179,49 @@ fn clone_raw(rt: HostRuntime) -> Result<(), Fail> {
     Ok(())
 }
 
-fn is_text(text: Result<String, AllocError>, wanted: &str) -> bool {
-    match text {
-        Ok(text) => text.as_str() == wanted,
+// Whether it is owned as what it says, and copied.
+fn is_kept(alloc: Global, cookie: RawCookie<'_>, parts: &Parts) -> bool {
+    match cookie.into_owned(alloc) {
+        Ok(owned) => has_parts(&owned, parts) && is_equal_to_copy(&owned),
         Err(AllocError) => true,
     }
 }
 
 #[test]
+fn empty_parts_of_raw(rt: HostRuntime) -> Result<(), Fail> {
+    start(rt.alloc())?;
+    for (text, parts) in EMPTY {
+        let cookie = RawCookie::parse(text)?;
+        holds(&rt, is_kept(rt.alloc(), cookie, parts), text);
+    }
+    Ok(())
+}
+
+fn is_text(text: Result<String, impl Fault + Drop>, wanted: &str) -> bool {
+    match text {
+        Ok(text) => text.as_str() == wanted,
+        Err(fault) => fault.is_wanting(),
+    }
+}
+
+// A text of every part, as it is printed.
+const WHOLE: &str =
+    "c=3; HttpOnly; SameSite=Lax; Secure; Path=/p; Domain=d.org; Max-Age=5; Expires=Tue, 03 Aug 2100 00:38:37 GMT";
+
+#[test]
 fn text_of_raw(rt: HostRuntime) -> Result<(), Fail> {
     start(rt.alloc())?;
-    let cookie = RawCookie::parse(PAIR)?;
+    let cookie = RawCookie::parse(WHOLE)?;
     let text = cookie.to_text(rt.alloc());
-    holds(&rt, is_text(text, "a=1; Path=/x; Domain=a.com"), &PAIR);
+    holds(&rt, is_text(text, WHOLE), &WHOLE);
+    Ok(())
+}
+
+#[test]
+fn text_of_raw_before_the_year_0(rt: HostRuntime) -> Result<(), Fail> {
+    let cookie = made(rt.alloc(), until_the_end_of(rt.alloc(), -1)?)?;
+    let text = cookie.to_text(rt.alloc());
+    holds(&rt, is_text(text, "a=1"), &"the year -1");
     Ok(())
 }
 
@@ -185,6 +237,32 @@ fn list_from_text(rt: HostRuntime) -> Result<(), Fail> {
     start(rt.alloc())?;
     let list = List::from_text(rt.alloc(), EVERY_KIND);
     holds(&rt, is_list(list, "a.foo.ck", "foo.ck"), &EVERY_KIND);
+    Ok(())
+}
+
+#[test]
+fn list_from_text_beyond_ascii(rt: HostRuntime) -> Result<(), Fail> {
+    start(rt.alloc())?;
+    let list = List::from_text(rt.alloc(), "cn\n公司.cn");
+    let is_whole = is_list(list, "a.xn--55qx5d.cn", "xn--55qx5d.cn");
+    holds(&rt, is_whole, &"a label beyond ASCII");
+    Ok(())
+}
+
+fn is_bad(alloc: Global, row: &(&str, usize)) -> bool {
+    let (text, line) = *row;
+    match List::from_text(alloc, text) {
+        Ok(_) => false,
+        Err(fault) => fault.is_wanting() || fault == ListError::BadRule { line },
+    }
+}
+
+#[test]
+fn bad_list_from_text(rt: HostRuntime) -> Result<(), Fail> {
+    start(rt.alloc())?;
+    for row in BAD {
+        holds(&rt, is_bad(rt.alloc(), row), row);
+    }
     Ok(())
 }
 
@@ -227,8 +305,27 @@ fn host_only(rt: HostRuntime) -> Result<(), Fail> {
 #[test]
 fn try_from_str(rt: HostRuntime) -> Result<(), Fail> {
     start(rt.alloc())?;
-    let domain = CookieDomain::try_from_str(rt.alloc(), ".bücher.example");
-    holds(&rt, is_domain(domain, &DOMAIN), &DOMAIN);
+    for (text, wanted) in DOMAINS {
+        let domain = CookieDomain::try_from_str(rt.alloc(), text);
+        holds(&rt, is_domain(domain, wanted), wanted);
+    }
+    Ok(())
+}
+
+fn is_no_domain(domain: Result<CookieDomain, Error>) -> bool {
+    match domain {
+        Ok(_) => false,
+        Err(fault) => fault.is_wanting() || matches!(&fault, Error::Idna(_)),
+    }
+}
+
+#[test]
+fn try_from_no_domain(rt: HostRuntime) -> Result<(), Fail> {
+    start(rt.alloc())?;
+    for text in NO_DOMAINS {
+        let domain = CookieDomain::try_from_str(rt.alloc(), text);
+        holds(&rt, is_no_domain(domain), text);
+    }
     Ok(())
 }
 
@@ -367,6 +464,27 @@ fn parse(rt: HostRuntime) -> Result<(), Fail> {
     Ok(())
 }
 
+// Whether the text makes what is wanted, where there is memory for the URL.
+fn is_made(alloc: Global, row: &(&str, &str, Made)) -> bool {
+    let (text, from, wanted) = row;
+    let Ok(url) = Url::parse(alloc, from) else {
+        return true;
+    };
+    match Cookie::parse(alloc, text, &url, DateTime::ZERO) {
+        Ok(cookie) => is_wanted(&cookie, wanted),
+        Err(refusal) => refusal.is_wanting() || matches!(wanted, Err(reason) if *reason == refusal),
+    }
+}
+
+#[test]
+fn parse_all(rt: HostRuntime) -> Result<(), Fail> {
+    start(rt.alloc())?;
+    for row in COOKIES {
+        holds(&rt, is_made(rt.alloc(), row), row);
+    }
+    Ok(())
+}
+
 fn is_for_host_alone(cookie: Result<Cookie<'_>, CookieError>) -> bool {
     match cookie {
         Ok(cookie) => is_for(&cookie.domain, &HOST) && is_path(&cookie.path, "/foo", false),
@@ -408,6 +526,23 @@ fn owned_cookie(alloc: Global) -> Result<Cookie<'static>, Fail> {
 fn clone(rt: HostRuntime) -> Result<(), Fail> {
     let is_copied = is_copied(&made(rt.alloc(), owned_cookie(rt.alloc())?)?);
     holds(&rt, is_copied, &TEXT);
+    Ok(())
+}
+
+// A cookie without a value, whose path and domain are those of the URL.
+fn empty_cookie(alloc: Global) -> Result<Cookie<'static>, Fail> {
+    let text = "a=; Path=; Domain=.";
+    Ok(cookie_from(alloc, text, "http://a.com/", DateTime::ZERO)?.into_owned(alloc)?)
+}
+
+#[test]
+fn clone_of_empty_parts(rt: HostRuntime) -> Result<(), Fail> {
+    let cookie = made(rt.alloc(), empty_cookie(rt.alloc())?)?;
+    let is_equal = match cookie.clone() {
+        Ok(copy) => copy == cookie,
+        Err(AllocError) => true,
+    };
+    holds(&rt, is_equal, &"empty parts");
     Ok(())
 }
 
@@ -492,28 +627,20 @@ fn line(alloc: Global, url: &Url) -> Result<String, Error> {
     Ok(cookie.raw().to_text(alloc)?)
 }
 
-fn is_line(line: Result<String, Error>) -> bool {
-    match line {
-        Ok(line) => line.as_str() == LINE,
-        Err(fault) => fault.is_wanting(),
-    }
-}
-
 #[test]
 fn line_of_a_cookie(rt: HostRuntime) -> Result<(), Fail> {
     let line = line(rt.alloc(), &made_url(rt.alloc())?);
-    holds(&rt, is_line(line), &TEXT);
+    holds(&rt, is_text(line, LINE), &TEXT);
     Ok(())
 }
 
 #[test]
 fn text_of_a_moment(rt: HostRuntime) -> Result<(), Fail> {
     start(rt.alloc())?;
-    let is_whole = match moment_text(rt.alloc(), DateTime::ZERO) {
-        Ok(text) => text.as_str() == "0000-01-01T00:00:00Z",
-        Err(fault) => fault.is_wanting(),
-    };
-    holds(&rt, is_whole, &"a moment");
+    let text = moment_text(rt.alloc(), DateTime::ZERO);
+    holds(&rt, is_text(text, "0000-01-01T00:00:00Z"), &"a moment");
+    let early = refusal_of(&moment_text(rt.alloc(), DateTime::MIN));
+    holds(&rt, early == Some(SavedError::Moment), &"before the year 0");
     Ok(())
 }
 
@@ -530,6 +657,24 @@ fn tree(alloc: Global) -> Result<Value, Fail> {
 fn saved_of_a_tree(rt: HostRuntime) -> Result<(), Fail> {
     let tree = made(rt.alloc(), tree(rt.alloc())?)?;
     holds(&rt, is_saved(from_value(rt.alloc(), &tree)), &TREE);
+    Ok(())
+}
+
+// Whether the tree of the text is refused so, or is not, where there is memory for the tree.
+fn is_read(alloc: Global, row: &(&str, Option<SavedError>)) -> bool {
+    let Ok(tree) = Value::from_str(alloc, row.0) else {
+        return true;
+    };
+    let refusal = refusal_of(&from_value(alloc, &tree));
+    refusal == row.1 || refusal == Some(SavedError::Memory)
+}
+
+#[test]
+fn saved_of_trees(rt: HostRuntime) -> Result<(), Fail> {
+    start(rt.alloc())?;
+    for row in TREES {
+        holds(&rt, is_read(rt.alloc(), row), row);
+    }
     Ok(())
 }
 
@@ -572,6 +717,15 @@ fn list_of_saved(rt: HostRuntime) -> Result<(), Fail> {
     Ok(())
 }
 
+#[test]
+fn text_of_a_list(rt: HostRuntime) -> Result<(), Fail> {
+    let saved = from_ron(rt.alloc(), FOUR)?;
+    let wanted = made(rt.alloc(), list_to_text(rt.alloc(), &saved)?)?;
+    let text = list_to_text(rt.alloc(), &saved);
+    holds(&rt, is_text(text, &wanted), &FOUR);
+    Ok(())
+}
+
 // The list of two such forms in RON.
 const RON: &str = r#"[
     (
@@ -588,13 +742,6 @@ const RON: &str = r#"[
     ),
 ]"#;
 
-fn is_ron(printed: Result<String, SavedError>) -> bool {
-    match printed {
-        Ok(text) => text.as_str() == RON,
-        Err(fault) => fault.is_wanting(),
-    }
-}
-
 #[test]
 fn saved_of_ron(rt: HostRuntime) -> Result<(), Fail> {
     let text = made(rt.alloc(), RON)?;
@@ -605,6 +752,24 @@ fn saved_of_ron(rt: HostRuntime) -> Result<(), Fail> {
 #[test]
 fn ron_of_saved(rt: HostRuntime) -> Result<(), Fail> {
     let saved = made(rt.alloc(), from_ron(rt.alloc(), RON)?)?;
-    holds(&rt, is_ron(to_ron(rt.alloc(), &saved)), &RON);
+    holds(&rt, is_text(to_ron(rt.alloc(), &saved), RON), &RON);
+    Ok(())
+}
+
+fn is_printed(alloc: Global, row: &(&str, Result<&str, SavedError>)) -> bool {
+    match (printed_again(alloc, row.0), row.1) {
+        (Ok(text), Ok(wanted)) => text.as_str() == wanted,
+        (Err(fault), Err(wanted)) => fault == wanted || fault.is_wanting(),
+        (Err(fault), Ok(_)) => fault.is_wanting(),
+        (Ok(_), Err(_)) => false,
+    }
+}
+
+#[test]
+fn ron_printed_again(rt: HostRuntime) -> Result<(), Fail> {
+    start(rt.alloc())?;
+    for row in &TEXTS {
+        holds(&rt, is_printed(rt.alloc(), row), row);
+    }
     Ok(())
 }

@@ -34,6 +34,8 @@ const ROWS: &[Row] = &[
     ("com", "COM", Some(("COM", false))),
     ("com", "com..", Some((".", false))),
     ("com\ncom\n", "a.b.com", Some(("com", true))),
+    ("com\r\n net\n", "com", Some(("com", true))),
+    ("com\r\n net\n", "net", Some(("net", false))),
     ("co.uk\nuk", "a.co.uk", Some(("co.uk", true))),
     ("", "a.b", Some(("b", false))),
 ];
@@ -59,7 +61,7 @@ fn finds_suffixes(rt: HostRuntime) -> Result<(), Fail> {
 }
 
 // A text that is no list, and the number of its first bad line.
-const BAD: &[(&str, usize)] = &[
+pub(crate) const BAD: &[(&str, usize)] = &[
     ("com\n\n.", 3),
     ("a..b", 1),
     ("com\norg.\nnet", 2),
@@ -68,6 +70,11 @@ const BAD: &[(&str, usize)] = &[
     ("// com\n!com\n..", 2),
     ("com\nxn--a", 2),
     ("*.!.com\n!*.\n", 2),
+    ("com\r\n net\na..b", 3),
+    ("com\r\n net\n!com", 3),
+    ("com\r\n net\n.", 3),
+    ("com\r\n net\n!", 3),
+    ("com\r\n net\ncom.", 3),
 ];
 
 #[test]
@@ -105,6 +112,33 @@ fn takes_rules_of_127_labels(rt: HostRuntime) -> Result<(), Fail> {
         let answer = is_known(rt.alloc(), &labels(rt.alloc(), *count)?);
         is_equal(&rt, answer, *wanted, count);
     }
+    Ok(())
+}
+
+// Whether a rule of 128 labels is the first bad line behind two that are none.
+fn is_bad_behind_two(alloc: Global) -> Result<bool, Fail> {
+    let rule = labels(alloc, 128)?;
+    let text = format!(in alloc; "com\r\n net\n{rule}")?;
+    Ok(List::from_text(alloc, &text).err() == Some(ListError::BadRule { line: 3 }))
+}
+
+#[test]
+fn a_rule_of_128_labels_is_the_bad_line(rt: HostRuntime) -> Result<(), Fail> {
+    holds(&rt, is_bad_behind_two(rt.alloc())?, &"the third line");
+    Ok(())
+}
+
+// Whether the last 127 of 10,000 labels are the suffix, by a rule of so many.
+fn is_last_labels(alloc: Global) -> Result<bool, Fail> {
+    let rule = labels(alloc, 127)?;
+    let domain = labels(alloc, 10_000)?;
+    let list = List::from_text(alloc, &rule)?;
+    Ok(says(&list, &domain, Some((rule.as_str(), true))))
+}
+
+#[test]
+fn a_long_domain_has_a_long_suffix(rt: HostRuntime) -> Result<(), Fail> {
+    holds(&rt, is_last_labels(rt.alloc())?, &"10,000 labels");
     Ok(())
 }
 

@@ -31,6 +31,15 @@ const ROWS: &[(&str, Result<Parts, RawCookieParseError>)] = &[
     ("a", Err(MissingPair)),
     ("; a=1", Err(MissingPair)),
     ("=1", Err(EmptyName)),
+    ("=;a=1", Err(EmptyName)),
+    ("\u{a0}a\u{a0}=1", Ok(PAIR)),
+    (
+        "a\nb=1",
+        Ok(Parts {
+            name: "a\nb",
+            ..PAIR
+        }),
+    ),
     ("a=", Ok(Parts { value: "", ..PAIR })),
     (
         " a = \"b=c\" ",
@@ -87,6 +96,23 @@ fn reads_the_table(rt: HostRuntime) {
     }
 }
 
+// Whether it is the pair `a` and `1`, with no attribute.
+fn is_bare(cookie: &RawCookie<'_>) -> bool {
+    has_parts(cookie, &PAIR)
+        && cookie.secure().is_none()
+        && cookie.http_only().is_none()
+        && cookie.same_site().is_none()
+        && cookie.max_age().is_none()
+        && cookie.expires().is_none()
+}
+
+#[test]
+fn empty_attributes_say_nothing(rt: HostRuntime) -> Result<(), Fail> {
+    let text = "a=1;;; ;=x;Domain";
+    holds(&rt, is_bare(&RawCookie::parse(text)?), &text);
+    Ok(())
+}
+
 // Whether its copy has these parts, as it has itself, and is equal to it.
 fn is_copied(cookie: &RawCookie<'_>, parts: &Parts) -> Result<bool, Fail> {
     let copy = cookie.clone()?;
@@ -94,7 +120,7 @@ fn is_copied(cookie: &RawCookie<'_>, parts: &Parts) -> Result<bool, Fail> {
 }
 
 // A text with parts that are empty, and what it says.
-const EMPTY: &[(&str, Parts)] = &[
+pub(crate) const EMPTY: &[(&str, Parts)] = &[
     ("a=", Parts { value: "", ..PAIR }),
     (
         "a=1; Path=",
@@ -171,6 +197,25 @@ fn reads_ages(rt: HostRuntime) -> Result<(), Fail> {
     Ok(())
 }
 
+// A digit that stands a thousand times, what follows it, and the seconds of the Max-Age of both.
+const LONG_AGES: &[(&str, &str, i64)] = &[("0", "5", 5), ("9", "", 9223372036854775807)];
+
+fn has_long_age(alloc: Global, row: &(&str, &str, i64)) -> Result<bool, Fail> {
+    let (digit, last, seconds) = *row;
+    let digits = digit.repeat(alloc, 1_000)?;
+    let text = format!(in alloc; "a=1; Max-Age={digits}{last}")?;
+    let age = RawCookie::parse(&text)?.max_age();
+    Ok(age == Some(SignedDuration::from_secs(seconds)))
+}
+
+#[test]
+fn reads_ages_of_many_digits(rt: HostRuntime) -> Result<(), Fail> {
+    for row in LONG_AGES {
+        holds(&rt, has_long_age(rt.alloc(), row)?, row);
+    }
+    Ok(())
+}
+
 // A text, and the moment that it writes as a cookie's date.
 const DATES: &[(&str, Option<Fields>)] = &[
     (
@@ -192,9 +237,18 @@ const DATES: &[(&str, Option<Fields>)] = &[
     ("01 Jan 69 00:00:00", Some((2069, 1, 1, 0, 0, 0, 0))),
     ("01 Jan 70 00:00:00", Some((1970, 1, 1, 0, 0, 0, 0))),
     ("31 Dec 99 23:59:59", Some((1999, 12, 31, 23, 59, 59, 0))),
+    ("1:2:3 1 jan 70", Some((1970, 1, 1, 1, 2, 3, 0))),
+    ("31 Dec 1600 00:00:00", None),
     ("31 Dec 1600 23:59:59", None),
-    ("1 Jan 1601 0:0:0", Some((1601, 1, 1, 0, 0, 0, 0))),
+    ("1 Jan 1601 00:00:00", Some((1601, 1, 1, 0, 0, 0, 0))),
+    ("29 Feb 2096 23:59:59", Some((2096, 2, 29, 23, 59, 59, 0))),
+    ("29 Feb 2100 00:00:00", None),
     ("31 Feb 2100 00:00:00", None),
+    ("1 Jan 10000 0:0:0", None),
+    ("24:00:00 1 Jan 2020", None),
+    ("23:59:60 1 Jan 2020", None),
+    ("0:0:0 0 Jan 2020", None),
+    ("0:0:0 32 Jan 2020", None),
     ("1 Jan 2000 24:00:00", None),
     ("1 Jan 2000 00:60:00", None),
     ("1 Jan 2000 00:00:60", None),
@@ -206,6 +260,12 @@ const DATES: &[(&str, Option<Fields>)] = &[
         Some((2000, 1, 1, 10, 20, 30, 0)),
     ),
     ("10:20:30 1 Jan 11:22:33", Some((2011, 1, 1, 10, 20, 30, 0))),
+    ("12 11 10:00:00 Feb", Some((2011, 2, 12, 10, 0, 0, 0))),
+    (
+        "10:00:00 11:30:00 Feb 2020",
+        Some((2020, 2, 11, 10, 0, 0, 0)),
+    ),
+    ("10:00:00 2020 05 Feb", Some((2020, 2, 5, 10, 0, 0, 0))),
     (
         "12:00:00 13:00:00 Jan 2000",
         Some((2000, 1, 13, 12, 0, 0, 0)),
@@ -387,7 +447,7 @@ const LAST_YEARS: &[(i16, &str)] = &[
     (-9999, "a=1"),
 ];
 
-fn until_the_end_of(alloc: Global, year: i16) -> Result<RawCookie<'static>, Fail> {
+pub(crate) fn until_the_end_of(alloc: Global, year: i16) -> Result<RawCookie<'static>, Fail> {
     let end = Expiration::DateTime(DateTime::new(year, 12, 31, 0, 0, 0, 0)?);
     Ok(builder(alloc, "a", "1")?.expires(end).build())
 }

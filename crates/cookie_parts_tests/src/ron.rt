@@ -6,7 +6,7 @@ use std::process::Abort;
 use std::test::Fail;
 
 // How the list of a text is printed again, or why the text says none.
-fn printed_again(alloc: Global, text: &str) -> Result<String, SavedError> {
+pub(crate) fn printed_again(alloc: Global, text: &str) -> Result<String, SavedError> {
     let list = from_ron(alloc, text)?;
     to_ron(alloc, &list)
 }
@@ -49,6 +49,15 @@ const THREE: &str = r#"[
     ),
 ]"#;
 
+const ESCAPES: &str = r#"[
+    (
+        raw_cookie: "A🍪\u{0}\"",
+        path: ("/", false),
+        domain: Empty,
+        expires: SessionEnd,
+    ),
+]"#;
+
 const COMPACT: &str = r#"[
     (
         raw_cookie: "a=1",
@@ -59,12 +68,16 @@ const COMPACT: &str = r#"[
 ]"#;
 
 // A text, and how its list is printed.
-const TEXTS: [(&str, Result<&str, SavedError>); 15] = [
+pub(crate) const TEXTS: [(&str, Result<&str, SavedError>); 16] = [
     (ONE, Ok(ONE)),
     (THREE, Ok(THREE)),
     (
         r#"[(raw_cookie:"a=1",path:("/",false),domain:Empty,expires:SessionEnd)]"#,
         Ok(COMPACT),
+    ),
+    (
+        r#"[(raw_cookie:"\x41\u{1F36A}\0\"",path:("/",false),domain:Empty,expires:SessionEnd)]"#,
+        Ok(ESCAPES),
     ),
     ("[]", Ok("[]")),
     (" [\t] \n\r", Ok("[]")),
@@ -189,7 +202,7 @@ fn a_text_is_printed_with_its_escapes(rt: HostRuntime) -> Result<(), Fail> {
     Ok(())
 }
 
-const FOUR: &str = r#"[
+pub(crate) const FOUR: &str = r#"[
     (raw_cookie: "\x41\u{1F36A}\0", path: ("/", false), domain: HostOnly("a.com"), expires: SessionEnd),
     (raw_cookie: "", path: ("", true), domain: Suffix("b.com"), expires: AtUtc("2100-08-03T00:38:37.75Z")),
     (raw_cookie: "\'", path: ("/\"", true), domain: NotPresent, expires: AtUtc("0000-01-01T00:00:00Z")),

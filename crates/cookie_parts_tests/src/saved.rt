@@ -1,8 +1,8 @@
 use crate::checks::{holds, is_equal};
 use crate::parts::{Fields, moment_of};
 use cookie_saved::{
-    Saved, SavedError, SavedExpiry, from_value, list_from_value, list_to_value, moment_text,
-    read_moment, to_value,
+    Saved, SavedError, SavedExpiry, from_value, list_from_value, list_to_text, list_to_value,
+    moment_text, read_moment, to_value,
 };
 use jiff::civil::DateTime;
 use serde_json::Value;
@@ -90,7 +90,7 @@ const NO_SHAPE: &str = r#"{"raw_cookie": "a=1", "path": ["/"],
     "domain": "Empty", "expires": "SessionEnd"}"#;
 
 // A tree, and why it is refused, if it is.
-const TREES: &[(&str, Option<SavedError>)] = &[
+pub(crate) const TREES: &[(&str, Option<SavedError>)] = &[
     (WHOLE, None),
     (
         r#"{"x": 1, "expires": "SessionEnd", "domain": {"Suffix": ""}, "path": ["", false],
@@ -135,7 +135,7 @@ const TREES: &[(&str, Option<SavedError>)] = &[
 ];
 
 // Why there is no value, if there is none.
-fn refusal_of<T>(outcome: &Result<T, SavedError>) -> Option<SavedError> {
+pub(crate) fn refusal_of<T>(outcome: &Result<T, SavedError>) -> Option<SavedError> {
     match outcome {
         Ok(_) => None,
         Err(fault) => Some(*fault),
@@ -189,12 +189,17 @@ fn a_tree_is_no_list(rt: HostRuntime) -> Result<(), Fail> {
     Ok(())
 }
 
+// Whether the list is the tree, and its text says that tree.
+fn is_written(alloc: Global, saved: &[Saved], list: &Value) -> Result<bool, Fail> {
+    let text = list_to_text(alloc, saved)?;
+    Ok(list_to_value(alloc, saved)? == *list && Value::from_str(alloc, &text)? == *list)
+}
+
 #[test]
 fn a_list_is_written_as_it_was_read(rt: HostRuntime) -> Result<(), Fail> {
     let list = list_of(rt.alloc(), &[WHOLE, WHOLE])?;
     let saved = list_from_value(rt.alloc(), &list)?;
-    let written = list_to_value(rt.alloc(), &saved)?;
-    holds(&rt, written == list, &WHOLE);
+    holds(&rt, is_written(rt.alloc(), &saved, &list)?, &WHOLE);
     Ok(())
 }
 
@@ -212,5 +217,7 @@ fn an_end_before_the_year_0_has_no_tree(rt: HostRuntime) -> Result<(), Fail> {
     is_equal(&rt, refusal_of(&tree), Some(SavedError::Moment), &"a tree");
     let tree = list_to_value(rt.alloc(), &list);
     is_equal(&rt, refusal_of(&tree), Some(SavedError::Moment), &"a list");
+    let text = list_to_text(rt.alloc(), &list);
+    is_equal(&rt, refusal_of(&text), Some(SavedError::Moment), &"a text");
     Ok(())
 }
