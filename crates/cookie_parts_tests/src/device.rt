@@ -529,16 +529,12 @@ fn output_is_cut_at_each_write(rt: HostRuntime) -> Result<(), Fail> {
     Ok(())
 }
 
-// Puts each text of a line, unless too many writes have failed.
-fn put_words(
-    output: &mut Output,
-    sink: &mut Counted<Fake<Vec<u8>>>,
-    words: &str,
-) -> Result<(), DeviceFailed> {
+// Puts two texts at once, unless too many writes have failed.
+fn put_both(output: &mut Output, sink: &mut Counted<Fake<Vec<u8>>>) -> Result<(), DeviceFailed> {
     if sink.failures() == u64::MAX {
         return Err(DeviceFailed);
     }
-    output.put_all(sink, words.split(' '))
+    output.put_all(sink, &["a", "bc"])
 }
 
 // Whether a line feed and an output fail once each where no byte is taken.
@@ -546,9 +542,9 @@ fn is_stuck(alloc: Global) -> Result<bool, Fail> {
     let mut output = Output::new(alloc)?;
     let mut sink = Counted::new(Fake::new(Vec::new(alloc), 0, 0));
     let line = line(&mut sink, b"");
-    let words = put_words(&mut output, &mut sink, "a bc");
+    let both = put_both(&mut output, &mut sink);
     let outcomes = (flush(&mut output, &mut sink), flush(&mut output, &mut sink));
-    let is_so = line == Err(DeviceFailed) && words == Ok(()) && outcomes == SECOND;
+    let is_so = line == Err(DeviceFailed) && both == Ok(()) && outcomes == SECOND;
     Ok(is_so && sink.failures() == 2 && sink.into_inner().calls == 2)
 }
 
