@@ -1,5 +1,5 @@
 //! Scripts whose reader or writer fails.
-use crate::scripts::{HOSTS, HOSTS_OUTPUT};
+use crate::scripts::{HOSTS, HOSTS_OUTPUT, output};
 use cookie_device::Counted;
 use cookie_fakes::Fake;
 use cookie_script::HashKey;
@@ -9,77 +9,91 @@ use std::alloc::Global;
 use std::process::Abort;
 use std::test::Fail;
 
-// How a script ended, what it wrote, and how many calls its reader or its writer had.
-#[derive(Drop)]
-struct Ended {
-    outcome: Result<(), RunFault>,
-    written: Vec<u8>,
-    calls: usize,
-}
-
-// The script of a reader that gives at most so many bytes a call, and fails at one.
-fn read_from(alloc: Global, most: usize, fails_at: usize) -> Ended {
-    let mut source = Counted::new(Fake::new(HOSTS, most, fails_at));
+// How the script of a reader ended, what it wrote, and the reader.
+fn read_from<'a>(
+    alloc: Global,
+    fake: Fake<&'a [u8]>,
+) -> (Result<(), RunFault>, Vec<u8>, Fake<&'a [u8]>) {
+    let mut source = Counted::new(fake);
     let mut sink = Counted::new(Vec::new(alloc));
     let outcome = run(alloc, &mut source, &mut sink, None, HashKey::Fixed);
-    Ended {
-        outcome,
-        written: sink.into_inner(),
-        calls: source.into_inner().calls,
-    }
+    (outcome, sink.into_inner(), source.into_inner())
 }
 
-// The script to a writer that takes at most so many bytes a call, and fails at one.
-fn written_to(alloc: Global, most: usize, fails_at: usize) -> Ended {
+// How the script to a writer ended, and the writer.
+fn written_to(alloc: Global, fake: Fake<Vec<u8>>) -> (Result<(), RunFault>, Fake<Vec<u8>>) {
     let mut source = Counted::new(HOSTS);
-    let mut sink = Counted::new(Fake::new(Vec::new(alloc), most, fails_at));
+    let mut sink = Counted::new(fake);
     let outcome = run(alloc, &mut source, &mut sink, None, HashKey::Fixed);
-    let Fake { inner, calls, .. } = sink.into_inner();
-    Ended {
-        outcome,
-        written: inner,
-        calls,
-    }
+    (outcome, sink.into_inner())
 }
 
-fn has_ended(rt: &impl Abort, ended: &Ended, outcome: Result<(), RunFault>, fails_at: usize) {
-    assert_eq!(rt; ended.outcome, outcome, "failing at {fails_at}");
+fn has_ended(
+    rt: &impl Abort,
+    outcome: Result<(), RunFault>,
+    wanted: Result<(), RunFault>,
+    fails_at: usize,
+) {
+    assert_eq!(rt; outcome, wanted, "failing at {fails_at}");
 }
 
-fn is_all(rt: &impl Abort, ended: &Ended) {
-    assert_eq!(rt; ended.written.as_slice(), HOSTS_OUTPUT.as_bytes());
+fn is_text(rt: &impl Abort, written: &[u8], wanted: &[u8], fails_at: usize) {
+    assert_eq!(rt; written, wanted, "failing at {fails_at}");
 }
 
-fn is_beginning(rt: &impl Abort, ended: &Ended, fails_at: usize) {
+fn is_beginning(rt: &impl Abort, written: &[u8], fails_at: usize) {
     assert!(rt;
-        HOSTS_OUTPUT.as_bytes().starts_with(&ended.written),
+        HOSTS_OUTPUT.as_bytes().starts_with(written),
         "failing at {fails_at}"
     );
 }
 
-fn has_written(rt: &impl Abort, ended: &Ended, count: usize) {
-    assert_eq!(rt; ended.written.len(), count);
+fn is_count(rt: &impl Abort, count: usize, wanted: usize) {
+    assert_eq!(rt; count, wanted);
 }
 
-// Whether the call that was to fail came. It ended the script with the fault; without it all went out.
-fn was_stopped(rt: &impl Abort, ended: &Ended, fails_at: usize, fault: RunFault) -> bool {
-    if ended.calls < fails_at {
-        has_ended(rt, ended, Ok(()), fails_at);
-        is_all(rt, ended);
+// Whether the call that was to fail came. It was the last one, and ended the script with the fault; without it all went out.
+fn was_stopped(
+    rt: &impl Abort,
+    outcome: Result<(), RunFault>,
+    calls: usize,
+    written: &[u8],
+    fails_at: usize,
+    fault: RunFault,
+) -> bool {
+    if calls < fails_at {
+        has_ended(rt, outcome, Ok(()), fails_at);
+        is_text(rt, written, HOSTS_OUTPUT.as_bytes(), fails_at);
         return false;
     }
-    has_ended(rt, ended, Err(fault), fails_at);
-    is_beginning(rt, ended, fails_at);
+    has_ended(rt, outcome, Err(fault), fails_at);
+    is_count(rt, calls, fails_at);
+    is_beginning(rt, written, fails_at);
     true
+}
+
+// The reader works again: the next script is what it still has.
+fn reads_on(
+    rt: &impl Abort,
+    alloc: Global,
+    fake: Fake<&[u8]>,
+    fails_at: usize,
+) -> Result<(), Fail> {
+    let wanted = output(alloc, fake.inner, None)?;
+    let (outcome, written, _) = read_from(alloc, fake);
+    has_ended(rt, outcome, Ok(()), fails_at);
+    is_text(rt, &written, &wanted, fails_at);
+    Ok(())
 }
 
 // Runs the script once for each read, which fails, and last with no failure.
 fn each_read_fails(rt: &impl Abort, alloc: Global, most: usize) -> Result<(), Fail> {
     for fails_at in 1..1_001 {
-        let ended = read_from(alloc, most, fails_at);
-        if !was_stopped(rt, &ended, fails_at, RunFault::Read) {
+        let (outcome, written, fake) = read_from(alloc, Fake::new(HOSTS, most, fails_at));
+        if !was_stopped(rt, outcome, fake.calls, &written, fails_at, RunFault::Read) {
             return Ok(());
         }
+        reads_on(rt, alloc, fake, fails_at)?;
     }
     Err(Fail::from("reading has no end"))
 }
@@ -90,21 +104,44 @@ fn a_failed_read_ends_the_script(rt: HostRuntime) -> Result<(), Fail> {
     each_read_fails(&rt, rt.alloc(), 7)
 }
 
-#[test]
-fn a_failed_write_ends_the_script(rt: HostRuntime) -> Result<(), Fail> {
+// The writer works again: the next script's answers stand behind what it has.
+fn writes_on(rt: &impl Abort, alloc: Global, fake: Fake<Vec<u8>>, fails_at: usize) {
+    let part = fake.inner.len();
+    let (outcome, fake) = written_to(alloc, fake);
+    has_ended(rt, outcome, Ok(()), fails_at);
+    let behind = fake.inner.as_slice().get(part..).unwrap_or(&[]);
+    is_text(rt, behind, HOSTS_OUTPUT.as_bytes(), fails_at);
+}
+
+// Runs the script once for each write, of one byte, which fails, and last with no failure.
+fn each_write_fails(rt: &impl Abort, alloc: Global) -> Result<(), Fail> {
     for fails_at in 1..1_001 {
-        let ended = written_to(rt.alloc(), 1, fails_at);
-        if !was_stopped(&rt, &ended, fails_at, RunFault::Write) {
+        let (outcome, fake) = written_to(alloc, Fake::new(Vec::new(alloc), 1, fails_at));
+        if !was_stopped(
+            rt,
+            outcome,
+            fake.calls,
+            &fake.inner,
+            fails_at,
+            RunFault::Write,
+        ) {
             return Ok(());
         }
-        has_written(&rt, &ended, fails_at - 1);
+        is_count(rt, fake.inner.len(), fails_at - 1);
+        writes_on(rt, alloc, fake, fails_at);
     }
     Err(Fail::from("writing has no end"))
 }
 
 #[test]
+fn a_failed_write_ends_the_script(rt: HostRuntime) -> Result<(), Fail> {
+    each_write_fails(&rt, rt.alloc())
+}
+
+#[test]
 fn a_writer_that_takes_nothing_has_failed(rt: HostRuntime) {
-    let ended = written_to(rt.alloc(), 0, 0);
-    has_ended(&rt, &ended, Err(RunFault::Write), 0);
-    has_written(&rt, &ended, 0);
+    let (outcome, fake) = written_to(rt.alloc(), Fake::new(Vec::new(rt.alloc()), 0, 0));
+    has_ended(&rt, outcome, Err(RunFault::Write), 0);
+    is_count(&rt, fake.calls, 1);
+    is_count(&rt, fake.inner.len(), 0);
 }

@@ -1,9 +1,11 @@
 //! Each call that takes memory answers as it does with ample memory, or says that memory is wanting.
 use crate::built::{Came, cookie, items, store_of};
 use crate::calls::{Asked, CALLS, all_calls, are_told, call};
-use crate::checks::{end_of, is_equal};
-use crate::json::{load_json, save_json};
-use crate::lists::{Form, load_list, save_list};
+use crate::checks::{end_of, has_the_same_rows, is_equal};
+use crate::devices;
+use crate::devices::{JSON, JSON_LINES, LINES, RON, Shape, TEXT};
+use crate::json::load_json;
+use crate::lists::{Form, load_list};
 use crate::loaded::{cookie_of, load_cookies};
 use crate::responses::raw_cookies;
 use crate::saved::{LASTING, Which};
@@ -12,8 +14,8 @@ use crate::texts::{add, all_listed, given, header, url};
 use cookie_fakes::Fake;
 use cookie_store::device::Counted;
 use cookie_store::{
-    Bulk, Call, Cookie, CookieError, CookieStore, Error, HashKey, InsertResult, RawCookie, Reply,
-    RequestCookies, RequestValues, serde,
+    Bulk, Call, Cookie, CookieError, CookieStore, Error, HashKey, InsertResult, Lookups, RawCookie,
+    Reply, RequestCookies, RequestValues, serde,
 };
 use log::sink::Discard;
 use std::alloc::{AllocError, Global};
@@ -61,10 +63,17 @@ fn add_rows(rt: &impl Abort, store: &mut CookieStore, url: &Url) {
     }
 }
 
+// Under a list.
 fn store_of_rows(rt: &impl Abort, alloc: Global, url: &Url) -> CookieStore {
-    let mut store = CookieStore::new(alloc);
+    let mut store = store_under(rt, alloc, "com");
     add_rows(rt, &mut store, url);
     store
+}
+
+// The store obeys that list.
+fn obeys_its_list(rt: &impl Abort, store: &mut CookieStore, url: &Url) {
+    let reply = store.parse("s=1; Domain=com", url, new_year());
+    is_equal(rt, &reply, &Err(CookieError::PublicSuffix), &"the list");
 }
 
 // The store gives this text for `FROM`.
@@ -76,11 +85,11 @@ fn gives(rt: &impl Abort, alloc: Global, store: &CookieStore, wanted: &str, row:
 // A text, the reply, and what the store gives afterwards.
 type Case = (&'static str, InsertResult, &'static str);
 
-// A row after those of its domain and path, after those of its domain, at the end, and in the place of one of its key; a
-// row that is ended, and a cookie that has ended.
+// A row after those of its domain and path, where its domain is put to ASCII first, after those of its domain, at the end, and
+// in the place of one of its key; a row that is ended, and a cookie that has ended.
 const CASES: [Case; 6] = [
     (
-        "w=1; Domain=b.example.com; Path=/",
+        "w=1; Domain=\u{ff42}.example.com; Path=/",
         INSERTED,
         "x=1; w=1; z=1; y=1; u=1",
     ),
@@ -192,7 +201,7 @@ fn may_want(way: Way, wanted: InsertResult) -> bool {
     }
 }
 
-// After the reply the store gives what the case says, or for want of memory what it gave before.
+// After the reply the store gives what the case says, or for want of memory has the rows that it had before.
 fn is_answered(
     rt: &impl Abort,
     alloc: Global,
@@ -200,11 +209,12 @@ fn is_answered(
     way: Way,
     case: &Case,
     reply: InsertResult,
+    url: &Url,
 ) {
     let (text, wanted, after) = *case;
     if reply == Err(CookieError::Memory) {
         is_equal(rt, &may_want(way, wanted), &true, &(way, case));
-        gives(rt, alloc, store, GIVEN, text);
+        has_the_same_rows(rt, store, &store_of_rows(rt, alloc, url));
     } else {
         is_equal(rt, &reply, &wanted, &(way, case));
         gives(rt, alloc, store, after, text);
@@ -216,7 +226,8 @@ fn are_answered(rt: &impl Abort, alloc: Global, way: Way) {
     for case in &CASES {
         let mut store = store_of_rows(rt, alloc, &url);
         let reply = reply_by(rt, alloc, way, &mut store, case, &url);
-        is_answered(rt, alloc, &store, way, case, reply);
+        is_answered(rt, alloc, &store, way, case, reply, &url);
+        obeys_its_list(rt, &mut store, &url);
     }
 }
 
@@ -265,6 +276,13 @@ fn matches(rt: HostRuntime) {
     gives(&rt, rt.alloc(), &store, GIVEN_OF_FIVE, "the rows that stay");
 }
 
+// As it is where memory is ample.
+fn is_counted(rt: &impl Abort, store: &CookieStore, url: &Url, counted: &Lookups) {
+    let found = store.matches_counted(url, new_year());
+    let (_, again) = found.expect(rt, "memory");
+    is_equal(rt, counted, &again, &FROM);
+}
+
 #[test]
 fn matches_counted(rt: HostRuntime) {
     let url = url(&rt, rt.alloc(), FROM);
@@ -272,8 +290,9 @@ fn matches_counted(rt: HostRuntime) {
     start(rt.alloc());
     let outcome = store.matches_counted(&url, new_year());
     end(rt.alloc());
-    if let Ok((cookies, _)) = &outcome {
+    if let Ok((cookies, counted)) = &outcome {
         are_given(&rt, rt.alloc(), cookies.as_slice());
+        is_counted(&rt, &store, &url, counted);
     }
     gives(&rt, rt.alloc(), &store, GIVEN_OF_FIVE, "the rows that stay");
 }
@@ -321,20 +340,13 @@ fn get_request_cookies(rt: HostRuntime) {
 // The copy has the rows, and the list too.
 fn is_copied(rt: &impl Abort, alloc: Global, copy: &mut CookieStore, url: &Url) {
     gives(rt, alloc, copy, GIVEN, "the copied rows");
-    let reply = copy.parse("s=1; Domain=com", url, new_year());
-    is_equal(
-        rt,
-        &reply,
-        &Err(CookieError::PublicSuffix),
-        &"the copied list",
-    );
+    obeys_its_list(rt, copy, url);
 }
 
 #[test]
 fn clone(rt: HostRuntime) {
     let url = url(&rt, rt.alloc(), FROM);
-    let mut store = store_under(&rt, rt.alloc(), "com");
-    add_rows(&rt, &mut store, &url);
+    let store = store_of_rows(&rt, rt.alloc(), &url);
     start(rt.alloc());
     let mut outcome: Result<CookieStore, AllocError> = store.clone();
     end(rt.alloc());
@@ -457,6 +469,7 @@ fn store_response_cookies(rt: HostRuntime) {
     let count = stored_of_response(&rt, rt.alloc(), &mut store, &mut cookies, &url);
     let wanted = AFTER.get(count).expect(&rt, "no more cookies than came");
     gives(&rt, rt.alloc(), &store, wanted, "after the response");
+    obeys_its_list(&rt, &mut store, &url);
 }
 
 // The name of a row, or an empty text where memory is wanting.
@@ -493,18 +506,94 @@ fn are_saved(rt: &impl Abort, alloc: Global, which: &Which) {
     is_equal(rt, &lines, &LASTING.len(), which);
 }
 
+// What may be written where memory is wanting: whole lines of first rows, and nothing of one text.
+fn is_cut_off_well(case: &devices::Case, written: &[u8]) -> bool {
+    match case.0 {
+        Shape::Lines | Shape::JsonLines => {
+            case.1.as_bytes().starts_with(written)
+                && (written.is_empty() || written.ends_with(b"\n"))
+        }
+        Shape::Text | Shape::List(_) => written.is_empty(),
+    }
+}
+
+fn is_saved(rt: &impl Abort, case: &devices::Case, outcome: &Result<(), Error>, written: &[u8]) {
+    match outcome {
+        Ok(()) => is_equal(rt, &written, &case.1.as_bytes(), case),
+        Err(error) => {
+            is_equal(rt, error, &Error::Memory, case);
+            is_equal(rt, &is_cut_off_well(case, written), &true, &(case, written));
+        }
+    }
+}
+
+// The rows are saved, or memory is wanting. The store has them afterwards.
+fn are_saved_as(rt: &impl Abort, alloc: Global, case: &devices::Case, which: &Which) {
+    let store = store_of(rt, alloc, &devices::CAME);
+    let room = Vec::with_capacity(alloc, 1_024).expect(rt, "memory");
+    let fake = Fake::new(room, usize::MAX, 0);
+    start(alloc);
+    let (outcome, failures, fake) = devices::save(alloc, case.0, &store, which, fake);
+    end(alloc);
+    is_equal(rt, &failures, &0, case);
+    is_saved(rt, case, &outcome, fake.inner.as_slice());
+    has_the_same_rows(rt, &store, &store_of(rt, alloc, &devices::CAME));
+}
+
 #[test]
 fn save(rt: HostRuntime) {
     are_saved(&rt, rt.alloc(), &Which::At(new_year()));
+    are_saved_as(&rt, rt.alloc(), &LINES, &Which::At(new_year()));
 }
 
 #[test]
 fn save_incl_expired_and_nonpersistent(rt: HostRuntime) {
     are_saved(&rt, rt.alloc(), &Which::All);
+    are_saved_as(&rt, rt.alloc(), &LINES, &Which::All);
+}
+
+#[test]
+fn handed_over(rt: HostRuntime) {
+    are_saved_as(&rt, rt.alloc(), &TEXT, &Which::At(new_year()));
+}
+
+#[test]
+fn all_handed_over(rt: HostRuntime) {
+    are_saved_as(&rt, rt.alloc(), &TEXT, &Which::All);
+}
+
+#[test]
+fn saved_as_json(rt: HostRuntime) {
+    are_saved_as(&rt, rt.alloc(), &JSON_LINES, &Which::At(new_year()));
+}
+
+#[test]
+fn all_saved_as_json(rt: HostRuntime) {
+    are_saved_as(&rt, rt.alloc(), &JSON_LINES, &Which::All);
+}
+
+#[test]
+fn saved_as_a_list(rt: HostRuntime) {
+    are_saved_as(&rt, rt.alloc(), &JSON, &Which::At(new_year()));
+}
+
+#[test]
+fn all_saved_as_a_list(rt: HostRuntime) {
+    are_saved_as(&rt, rt.alloc(), &JSON, &Which::All);
+}
+
+#[test]
+fn saved_in_ron(rt: HostRuntime) {
+    are_saved_as(&rt, rt.alloc(), &RON, &Which::At(new_year()));
+}
+
+#[test]
+fn all_saved_in_ron(rt: HostRuntime) {
+    are_saved_as(&rt, rt.alloc(), &RON, &Which::All);
 }
 
 // The lines of the store of five rows.
-const LINES: &[u8] = b"x=1; Domain=b.example.com; Path=/\n\
+const FIVE_LINES: &[u8] = b"x=1; Domain=b.example.com; Path=/\n\
     z=1; Domain=b.example.com; Path=/p\n\
     y=1; Domain=example.com; Path=/\n\
     u=1; Domain=example.com; Path=/p\n\
@@ -512,7 +601,7 @@ const LINES: &[u8] = b"x=1; Domain=b.example.com; Path=/\n\
 
 fn are_loaded(rt: &impl Abort, alloc: Global, which: &Which) {
     let url = url(rt, alloc, FROM);
-    let fake = Fake::new(LINES, usize::MAX, 0);
+    let fake = Fake::new(FIVE_LINES, usize::MAX, 0);
     start(alloc);
     let (outcome, failures) = load_cookies(alloc, &url, which, fake);
     end(alloc);
@@ -533,38 +622,13 @@ fn load_all(rt: HostRuntime) {
     are_loaded(&rt, rt.alloc(), &Which::All);
 }
 
-fn are_saved_as_json(rt: &impl Abort, alloc: Global, which: &Which) {
-    let store = store_of(rt, alloc, &LASTING);
-    let room = Vec::with_capacity(alloc, 1_024).expect(rt, "memory");
-    let fake = Fake::new(room, usize::MAX, 0);
-    start(alloc);
-    let (outcome, written) = save_json(&store, which, fake);
-    end(alloc);
-    let is_whole = written.is_empty() || written.ends_with(b"\n");
-    is_equal(rt, &is_whole, &true, which);
-    match &outcome {
-        Ok(()) => is_equal(rt, &line_feeds(&written), &LASTING.len(), which),
-        Err(error) => is_equal(rt, error, &Error::Memory, which),
-    }
-}
-
-#[test]
-fn saved_as_json(rt: HostRuntime) {
-    are_saved_as_json(&rt, rt.alloc(), &Which::At(new_year()));
-}
-
-#[test]
-fn all_saved_as_json(rt: HostRuntime) {
-    are_saved_as_json(&rt, rt.alloc(), &Which::All);
-}
-
-const JSON: &[u8] =
+const TWO_LINES: &[u8] =
     br#"{"domain":{"Suffix":"example.com"},"expires":"SessionEnd","path":["/",true],"raw_cookie":"y=1"}
 {"domain":{"HostOnly":"a.b.example.com"},"expires":{"AtUtc":"2100-08-03T00:38:37Z"},"path":["/p",false],"raw_cookie":"u=1"}
 "#;
 
 fn are_loaded_from_json(rt: &impl Abort, alloc: Global, which: &Which) {
-    let fake = Fake::new(JSON, usize::MAX, 0);
+    let fake = Fake::new(TWO_LINES, usize::MAX, 0);
     start(alloc);
     let outcome = load_json(alloc, which, fake);
     end(alloc);
@@ -582,51 +646,6 @@ fn loaded_from_json(rt: HostRuntime) {
 #[test]
 fn all_loaded_from_json(rt: HostRuntime) {
     are_loaded_from_json(&rt, rt.alloc(), &Which::All);
-}
-
-// The list begins as one of its form does.
-fn begins_as(form: Form, written: &[u8]) -> bool {
-    match form {
-        Form::Json => written.starts_with(b"[\n  {"),
-        Form::Ron => written.starts_with(b"[\n    ("),
-    }
-}
-
-fn are_saved_as_a_list(rt: &impl Abort, form: Form, alloc: Global, which: &Which) {
-    let store = store_of(rt, alloc, &LASTING);
-    let room = Vec::with_capacity(alloc, 1_024).expect(rt, "memory");
-    let fake = Fake::new(room, usize::MAX, 0);
-    start(alloc);
-    let (outcome, failures, written) = save_list(form, &store, which, fake);
-    end(alloc);
-    is_equal(rt, &failures, &0, which);
-    match &outcome {
-        Ok(()) => {
-            let is_whole = begins_as(form, &written) && written.ends_with(b"\n]\n");
-            is_equal(rt, &is_whole, &true, which);
-        }
-        Err(error) => is_equal(rt, &(error, written.len()), &(&Error::Memory, 0), which),
-    }
-}
-
-#[test]
-fn saved_as_a_list(rt: HostRuntime) {
-    are_saved_as_a_list(&rt, Form::Json, rt.alloc(), &Which::At(new_year()));
-}
-
-#[test]
-fn all_saved_as_a_list(rt: HostRuntime) {
-    are_saved_as_a_list(&rt, Form::Json, rt.alloc(), &Which::All);
-}
-
-#[test]
-fn saved_in_ron(rt: HostRuntime) {
-    are_saved_as_a_list(&rt, Form::Ron, rt.alloc(), &Which::At(new_year()));
-}
-
-#[test]
-fn all_saved_in_ron(rt: HostRuntime) {
-    are_saved_as_a_list(&rt, Form::Ron, rt.alloc(), &Which::All);
 }
 
 const LISTS: [(Form, &[u8]); 2] = [
@@ -679,45 +698,6 @@ fn loaded_from_ron(rt: HostRuntime) {
 #[test]
 fn all_loaded_from_ron(rt: HostRuntime) {
     are_loaded_from_a_list(&rt, rt.alloc(), &LISTS[1], &Which::All);
-}
-
-// An empty text where all rows are handed over, and else an error that is no want of memory.
-fn say_all(alloc: Global, cookies: &Vec<Cookie<'_>>) -> Result<String, Error> {
-    if cookies.len() == LASTING.len() {
-        Ok(String::new(alloc))
-    } else {
-        Err(Error::NotUtf8)
-    }
-}
-
-fn are_handed_over(rt: &impl Abort, alloc: Global, which: &Which) {
-    let store = store_of(rt, alloc, &LASTING);
-    let mut writer = Counted::new(Cursor::new([0; 1]));
-    start(alloc);
-    let outcome = match which {
-        Which::All => serde::save_incl_expired_and_nonpersistent(
-            &store,
-            &mut writer,
-            |cookies| say_all(alloc, cookies),
-        ),
-        Which::At(now) => {
-            serde::save(&store, &mut writer, |cookies| say_all(alloc, cookies), *now)
-        }
-    };
-    end(alloc);
-    if let Err(error) = &outcome {
-        is_equal(rt, error, &Error::Memory, which);
-    }
-}
-
-#[test]
-fn handed_over(rt: HostRuntime) {
-    are_handed_over(&rt, rt.alloc(), &Which::At(new_year()));
-}
-
-#[test]
-fn all_handed_over(rt: HostRuntime) {
-    are_handed_over(&rt, rt.alloc(), &Which::All);
 }
 
 // The cookies of a list of two.

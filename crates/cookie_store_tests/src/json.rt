@@ -5,7 +5,7 @@ use crate::saved::Which;
 use crate::steps::new_year;
 use crate::texts::all_listed;
 use cookie_fakes::Fake;
-use cookie_store::device::Counted;
+use cookie_store::device::{Counted, Sink, Source};
 use cookie_store::saved::SavedError;
 use cookie_store::{Bulk, CookieError, CookieStore, Error};
 use std::alloc::Global;
@@ -47,34 +47,44 @@ fn text_of(rt: &impl Abort, alloc: Global, lines: &[&str]) -> String {
     text
 }
 
-// How saving ends, and what is written.
+// How saving ends, how many writes failed, and the writer.
 pub fn save_json(
     store: &CookieStore,
     which: &Which,
     fake: Fake<Vec<u8>>,
-) -> (Result<(), Error>, Vec<u8>) {
+) -> (Result<(), Error>, u64, Fake<Vec<u8>>) {
     let mut writer = Counted::new(fake);
     let outcome = match which {
         Which::All => store.save_incl_expired_and_nonpersistent_json(&mut writer),
         Which::At(now) => store.save_json(&mut writer, *now),
     };
-    (outcome, writer.into_inner().inner)
+    (outcome, writer.failures(), writer.into_inner())
+}
+
+// How loading ends, how many reads failed, and the reader.
+pub fn load_json_from<'a>(
+    alloc: Global,
+    which: &Which,
+    fake: Fake<&'a [u8]>,
+) -> (Result<CookieStore, Error>, u64, Fake<&'a [u8]>) {
+    let mut reader = Counted::new(fake);
+    let outcome = match which {
+        Which::All => CookieStore::load_json_all(alloc, &mut reader, new_year()),
+        Which::At(now) => CookieStore::load_json(alloc, &mut reader, *now),
+    };
+    (outcome, reader.failures(), reader.into_inner())
 }
 
 // How loading ends.
 pub fn load_json(alloc: Global, which: &Which, fake: Fake<&[u8]>) -> Result<CookieStore, Error> {
-    let mut reader = Counted::new(fake);
-    match which {
-        Which::All => CookieStore::load_json_all(alloc, &mut reader, new_year()),
-        Which::At(now) => CookieStore::load_json(alloc, &mut reader, *now),
-    }
+    load_json_from(alloc, which, fake).0
 }
 
 fn is_written(rt: &impl Abort, alloc: Global, store: &CookieStore, which: &Which, lines: &[&str]) {
     let fake = Fake::new(Vec::new(alloc), usize::MAX, 0);
-    let (outcome, written) = save_json(store, which, fake);
+    let (outcome, _, fake) = save_json(store, which, fake);
     is_equal(rt, &outcome, &Ok(()), which);
-    let text = str::from_utf8(written.as_slice()).expect(rt, "UTF-8");
+    let text = str::from_utf8(fake.inner.as_slice()).expect(rt, "UTF-8");
     is_equal(rt, &text, &text_of(rt, alloc, lines).as_str(), which);
 }
 
@@ -168,5 +178,41 @@ fn bad_lines_are_refused(rt: HostRuntime) {
         let fake = Fake::new(bytes, usize::MAX, 0);
         let outcome = load_json(rt.alloc(), &Which::All, fake);
         is_equal(&rt, &fault_of(&outcome), &wanted, &bytes);
+    }
+}
+
+fn ends_within_an_object(front: &str) -> bool {
+    let is_at_an_end = front.is_empty()
+        || front.ends_with('\n')
+        || LINES.iter().any(|line| front.ends_with(*line));
+    !is_at_an_end
+}
+
+// The rows are so many first ones.
+fn has_first_rows(rt: &impl Abort, alloc: Global, store: &CookieStore, count: usize) {
+    let same = store_of(rt, alloc, &CAME[..count.min(CAME.len())]);
+    has_the_same_rows(rt, store, &same);
+}
+
+// A front of the lines that ends within an object is no JSON; any other one loads as the objects that it holds, the last one
+// also without its line feed.
+fn is_front_of_lines(rt: &impl Abort, alloc: Global, front: &str) {
+    let fake = Fake::new(front.as_bytes(), usize::MAX, 0);
+    let outcome = load_json(alloc, &Which::All, fake);
+    let is_within = ends_within_an_object(front);
+    let wanted = if is_within { "no JSON" } else { "none" };
+    is_equal(rt, &fault_of(&outcome), &wanted, &front.len());
+    if let Ok(store) = &outcome {
+        has_first_rows(rt, alloc, store, front.lines().count());
+    }
+}
+
+#[test]
+fn lines_that_are_cut_off_within_an_object_are_refused(rt: HostRuntime) {
+    let text = text_of(&rt, rt.alloc(), &LINES);
+    let bytes = text.as_bytes();
+    for length in 0..bytes.len() {
+        let front = str::from_utf8(&bytes[..length]).expect(&rt, "ASCII");
+        is_front_of_lines(&rt, rt.alloc(), front);
     }
 }

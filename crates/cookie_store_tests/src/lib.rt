@@ -8,6 +8,8 @@ mod calls;
 #[cfg(test)]
 mod checks;
 #[cfg(test)]
+mod devices;
+#[cfg(test)]
 mod growths;
 #[cfg(test)]
 mod insertion;

@@ -19,13 +19,13 @@ pub enum Form {
     Ron,
 }
 
-// How saving ends, how many writes failed, and what is written.
+// How saving ends, how many writes failed, and the writer.
 pub fn save_list(
     form: Form,
     store: &CookieStore,
     which: &Which,
     fake: Fake<Vec<u8>>,
-) -> (Result<(), Error>, u64, Vec<u8>) {
+) -> (Result<(), Error>, u64, Fake<Vec<u8>>) {
     let mut writer = Counted::new(fake);
     let outcome = match (form, which) {
         (Form::Json, Which::All) => {
@@ -37,7 +37,24 @@ pub fn save_list(
         }
         (Form::Ron, Which::At(now)) => serde::ron::save(store, &mut writer, *now),
     };
-    (outcome, writer.failures(), writer.into_inner().inner)
+    (outcome, writer.failures(), writer.into_inner())
+}
+
+// How loading ends, how many reads failed, and the reader.
+pub fn load_list_from<'a>(
+    form: Form,
+    alloc: Global,
+    which: &Which,
+    fake: Fake<&'a [u8]>,
+) -> (Result<CookieStore, Error>, u64, Fake<&'a [u8]>) {
+    let mut reader = Counted::new(fake);
+    let outcome = match (form, which) {
+        (Form::Json, Which::All) => serde::json::load_all(alloc, &mut reader, new_year()),
+        (Form::Json, Which::At(now)) => serde::json::load(alloc, &mut reader, *now),
+        (Form::Ron, Which::All) => serde::ron::load_all(alloc, &mut reader, new_year()),
+        (Form::Ron, Which::At(now)) => serde::ron::load(alloc, &mut reader, *now),
+    };
+    (outcome, reader.failures(), reader.into_inner())
 }
 
 // How loading ends, and how many reads failed.
@@ -47,14 +64,8 @@ pub fn load_list(
     which: &Which,
     fake: Fake<&[u8]>,
 ) -> (Result<CookieStore, Error>, u64) {
-    let mut reader = Counted::new(fake);
-    let outcome = match (form, which) {
-        (Form::Json, Which::All) => serde::json::load_all(alloc, &mut reader, new_year()),
-        (Form::Json, Which::At(now)) => serde::json::load(alloc, &mut reader, *now),
-        (Form::Ron, Which::All) => serde::ron::load_all(alloc, &mut reader, new_year()),
-        (Form::Ron, Which::At(now)) => serde::ron::load(alloc, &mut reader, *now),
-    };
-    (outcome, reader.failures())
+    let (outcome, failures, _) = load_list_from(form, alloc, which, fake);
+    (outcome, failures)
 }
 
 pub fn loaded(
@@ -278,10 +289,10 @@ pub fn is_written(
     wanted: &str,
 ) {
     let fake = Fake::new(Vec::new(alloc), usize::MAX, 0);
-    let (outcome, failures, written) = save_list(form, store, which, fake);
+    let (outcome, failures, fake) = save_list(form, store, which, fake);
     is_equal(rt, &outcome, &Ok(()), which);
     is_equal(rt, &failures, &0, which);
-    let text = str::from_utf8(written.as_slice()).expect(rt, "UTF-8");
+    let text = str::from_utf8(fake.inner.as_slice()).expect(rt, "UTF-8");
     is_equal(rt, &text, &wanted, which);
 }
 
@@ -425,9 +436,11 @@ fn a_list_nests_so_deep_and_no_deeper(rt: HostRuntime) {
     let mut text = "[".repeat(rt.alloc(), 200).expect(&rt, "memory");
     let closing = "]".repeat(rt.alloc(), 200).expect(&rt, "memory");
     text.push_str(closing.as_str()).expect(&rt, "memory");
-    let fake = Fake::new(text.as_bytes(), usize::MAX, 0);
-    let (outcome, _) = load_list(Form::Json, rt.alloc(), &Which::All, fake);
-    is_equal(&rt, &fault_of(&outcome), &"no JSON", &"200 deep");
+    for which in &[Which::All, Which::At(new_year())] {
+        let fake = Fake::new(text.as_bytes(), usize::MAX, 0);
+        let (outcome, _) = load_list(Form::Json, rt.alloc(), which, fake);
+        is_equal(&rt, &fault_of(&outcome), &"no JSON", which);
+    }
 }
 
 // Each proper front of a list is refused, but for the one that lacks the line feed alone.
@@ -447,8 +460,8 @@ fn a_list_that_is_cut_off_is_refused(rt: HostRuntime) {
 fn lists_and_lines_are_told_apart(rt: HostRuntime) {
     let store = store_of(&rt, rt.alloc(), &CAME[..1]);
     let fake = Fake::new(Vec::new(rt.alloc()), usize::MAX, 0);
-    let (_, lines) = save_json(&store, &Which::All, fake);
-    let fake = Fake::new(lines.as_slice(), usize::MAX, 0);
+    let (_, _, lines) = save_json(&store, &Which::All, fake);
+    let fake = Fake::new(lines.inner.as_slice(), usize::MAX, 0);
     let (outcome, _) = load_list(Form::Json, rt.alloc(), &Which::All, fake);
     is_equal(
         &rt,
@@ -464,68 +477,6 @@ fn lists_and_lines_are_told_apart(rt: HostRuntime) {
         &"no JSON",
         &"a list read as lines",
     );
-}
-
-// The list of a store as text, by writes of at most how many bytes, and the write that fails.
-fn is_whole(
-    rt: &impl Abort,
-    alloc: Global,
-    store: &CookieStore,
-    list: &(Form, &str),
-    row: &(usize, usize),
-) -> bool {
-    let (form, text) = *list;
-    let fake = Fake::new(Vec::new(alloc), row.0, row.1);
-    let (outcome, failures, written) = save_list(form, store, &Which::All, fake);
-    let is_whole = outcome.is_ok();
-    let wanted = if is_whole {
-        (Ok(()), 0)
-    } else {
-        (Err(Error::Io), 1)
-    };
-    is_equal(rt, &outcome, &wanted.0, row);
-    is_equal(rt, &failures, &wanted.1, row);
-    let is_beginning = text.as_bytes().starts_with(&written);
-    is_equal(rt, &is_beginning, &true, row);
-    is_equal(rt, &(written.len() == text.len()), &is_whole, row);
-    is_whole
-}
-
-pub fn each_write_fails(
-    rt: &impl Abort,
-    alloc: Global,
-    store: &CookieStore,
-    list: &(Form, &str),
-    most: usize,
-) {
-    for fails_at in 1..1_000 {
-        if is_whole(rt, alloc, store, list, &(most, fails_at)) {
-            return;
-        }
-    }
-    panic!(rt; "writing has no end");
-}
-
-#[test]
-fn a_failed_write_leaves_a_beginning_of_a_list(rt: HostRuntime) {
-    let store = store_of(&rt, rt.alloc(), &CAME);
-    for most in [1, 100, usize::MAX] {
-        each_write_fails(&rt, rt.alloc(), &store, &(Form::Json, WRITTEN[0]), most);
-    }
-}
-
-pub fn each_read_fails(rt: &impl Abort, form: Form, alloc: Global, text: &str) {
-    for fails_at in 1..=12 {
-        let fake = Fake::new(text.as_bytes(), 16, fails_at);
-        let (outcome, failures) = load_list(form, alloc, &Which::All, fake);
-        is_equal(rt, &end_of(&outcome), &"a device", &fails_at);
-        is_equal(rt, &failures, &1, &fails_at);
-    }
-}
-
-#[test]
-fn a_failed_read_makes_no_store_of_a_list(rt: HostRuntime) {
-    each_read_fails(&rt, Form::Json, rt.alloc(), WRITTEN[1]);
 }
 
 // The names of the cookies, or `Other` where there are none.

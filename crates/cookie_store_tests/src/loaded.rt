@@ -129,13 +129,14 @@ fn the_first_refusal_ends_the_loading(rt: HostRuntime) {
     }
 }
 
-// Loads the cookies of the lines: all, or those that have not ended by the moment. Answers how many reads failed, too.
-pub fn load_cookies(
+// Loads the cookies of the lines: all, or those that have not ended by the moment. Answers how many reads failed, and the
+// reader, too.
+pub fn load_cookies_from<'a>(
     alloc: Global,
     url: &Url,
     which: &Which,
-    fake: Fake<&[u8]>,
-) -> (Result<CookieStore, Error>, u64) {
+    fake: Fake<&'a [u8]>,
+) -> (Result<CookieStore, Error>, u64, Fake<&'a [u8]>) {
     let mut reader = Counted::new(fake);
     let outcome = match which {
         Which::All => CookieStore::load_all(
@@ -151,7 +152,18 @@ pub fn load_cookies(
             *now,
         ),
     };
-    (outcome, reader.failures())
+    (outcome, reader.failures(), reader.into_inner())
+}
+
+// The same without the reader.
+pub fn load_cookies(
+    alloc: Global,
+    url: &Url,
+    which: &Which,
+    fake: Fake<&[u8]>,
+) -> (Result<CookieStore, Error>, u64) {
+    let (outcome, failures, _) = load_cookies_from(alloc, url, which, fake);
+    (outcome, failures)
 }
 
 // The store of the cookies of the lines, which came from `FROM`.
@@ -187,51 +199,6 @@ fn cookies_that_have_ended_are_passed_over(rt: HostRuntime) {
         load_as(&rt, rt.alloc(), lines, &Which::At(new_year()), at_once);
         load_as(&rt, rt.alloc(), lines, &Which::At(later), after);
         load_as(&rt, rt.alloc(), lines, &Which::All, all);
-    }
-}
-
-const THREE: &[u8] = b"a=1\r\nlonger=2; Domain=example.com; Path=/\nb=3";
-
-const THREE_ROWS: &str = "a=1; b=3; longer=2";
-
-// Which rows are loaded, by reads of at most how many bytes, and the read that fails.
-type Failing<'a> = (&'a Which, usize, usize);
-
-// All rows are loaded, or else a read failed, which ended the loading. Says whether it is all.
-fn is_loaded_whole(rt: &impl Abort, alloc: Global, url: &Url, row: &Failing<'_>) -> bool {
-    let (which, most, fails_at) = *row;
-    let fake = Fake::new(THREE, most, fails_at);
-    let (outcome, failures) = load_cookies(alloc, url, which, fake);
-    match &outcome {
-        Ok(store) => {
-            is_equal(rt, &failures, &0, row);
-            let rows = all_rows(rt, alloc, store);
-            is_equal(rt, &rows.as_str(), &THREE_ROWS, row);
-        }
-        Err(_) => {
-            is_equal(rt, &end_of(&outcome), &"a device", row);
-            is_equal(rt, &failures, &1, row);
-        }
-    }
-    outcome.is_ok()
-}
-
-// Loads once for each read, which fails, and last with no failure.
-fn each_read_fails(rt: &impl Abort, alloc: Global, url: &Url, which: &Which, most: usize) {
-    for fails_at in 1..1_000 {
-        if is_loaded_whole(rt, alloc, url, &(which, most, fails_at)) {
-            return;
-        }
-    }
-    panic!(rt; "reading has no end");
-}
-
-#[test]
-fn a_failed_read_ends_the_loading(rt: HostRuntime) {
-    let url = url(&rt, rt.alloc(), FROM);
-    for most in [1, 3, usize::MAX] {
-        each_read_fails(&rt, rt.alloc(), &url, &Which::All, most);
-        each_read_fails(&rt, rt.alloc(), &url, &Which::At(new_year()), most);
     }
 }
 

@@ -1,4 +1,6 @@
 //! Cookies that are given for a URL.
+use crate::lists::{Form, loaded};
+use crate::saved::Which;
 use crate::steps::{INSERTED, Step, new_year, take, take_all};
 use cookie_store::CookieStore;
 use jiff::civil::DateTime;
@@ -51,4 +53,37 @@ fn secure_cookies_stay_within_this_machine(rt: HostRuntime) {
         ];
         take_all(&rt, rt.alloc(), &mut store, &steps, new_year());
     }
+}
+
+// Rows as they may be loaded: the domain of some is no name, the path of some does not begin with `/`, and the last one is
+// as any other.
+const LOADED: &str = r#"[
+    (raw_cookie: "a=1", path: ("/", false), domain: HostOnly(""), expires: SessionEnd),
+    (raw_cookie: "b=1", path: ("/", false), domain: Suffix(""), expires: SessionEnd),
+    (raw_cookie: "c=1", path: ("/", false), domain: NotPresent, expires: SessionEnd),
+    (raw_cookie: "d=1", path: ("/", false), domain: Empty, expires: SessionEnd),
+    (raw_cookie: "e=1", path: ("/", false), domain: HostOnly("."), expires: SessionEnd),
+    (raw_cookie: "f=1", path: ("/", false), domain: Suffix("."), expires: SessionEnd),
+    (raw_cookie: "g=1", path: ("", false), domain: HostOnly("a.com"), expires: SessionEnd),
+    (raw_cookie: "h=1", path: ("p", true), domain: HostOnly("a.com"), expires: SessionEnd),
+    (raw_cookie: "k=1", path: ("/", false), domain: HostOnly("a.com"), expires: SessionEnd),
+]"#;
+
+// All stand, and the last one alone is given for a URL.
+const STANDING: [Step; 9] = [
+    Step::Listed(" / a,  / b,  / c,  / d, . / e, . / f, a.com  g, a.com p h, a.com / k"),
+    Step::Given("http://a.com/p", "k=1"),
+    Step::Given("http://a.com./p", ""),
+    Step::Given("http://a.com../p", ""),
+    Step::Given("http://./p", ""),
+    Step::Given("foo://./p", ""),
+    Step::Given("foo:///p", ""),
+    Step::Given("foo:p", ""),
+    Step::Given("data:p", ""),
+];
+
+#[test]
+fn a_row_of_no_name_or_no_absolute_path_is_given_for_no_url(rt: HostRuntime) {
+    let mut store = loaded(&rt, Form::Ron, rt.alloc(), &Which::All, LOADED);
+    take_all(&rt, rt.alloc(), &mut store, &STANDING, new_year());
 }

@@ -3,7 +3,7 @@ use crate::built::store_of;
 use crate::checks::{has_the_same_rows, is_equal};
 use crate::json::fault_of;
 use crate::lists;
-use crate::lists::{CAME, Form, each_read_fails, each_write_fails, is_written, load_list, loaded};
+use crate::lists::{CAME, Form, is_written, load_list, loaded};
 use crate::saved::Which;
 use crate::steps::new_year;
 use crate::texts::{all_listed, unexpired};
@@ -258,17 +258,4 @@ fn a_list_in_ron_that_is_cut_off_is_refused(rt: HostRuntime) {
         let wanted = if is_whole { "none" } else { "no RON" };
         is_equal(&rt, &fault_of(&outcome), &wanted, &length);
     }
-}
-
-#[test]
-fn a_failed_write_leaves_a_beginning_in_ron(rt: HostRuntime) {
-    let store = store_of(&rt, rt.alloc(), &CAME);
-    for most in [1, 100, usize::MAX] {
-        each_write_fails(&rt, rt.alloc(), &store, &(Form::Ron, WRITTEN[0]), most);
-    }
-}
-
-#[test]
-fn a_failed_read_makes_no_store_of_ron(rt: HostRuntime) {
-    each_read_fails(&rt, Form::Ron, rt.alloc(), WRITTEN[1]);
 }
