@@ -1,5 +1,5 @@
 -- How what is put into an output by one call and by the next goes together.
-use Rattle.std.proofs.Common.{◌≡◌, ℕ, ◌+◌, ◌<◌, List, [], ◌∷◌, ◌++◌, Option, Bor, arith, drop, get_or, length, refl, suc, sym, ap, take, ◌∙◌, append_assoc, append-nil}
+use Rattle.std.proofs.Common.{◌≡◌, ℕ, ◌+◌, ◌<◌, ◌≤◌, List, [], ◌∷◌, ◌++◌, Option, Bor, arith, drop, get_or, length, length-append, refl, suc, sym, ap, take, ◌∙◌, append_assoc, append-nil}
 use Rattle.std.proofs.Math.Seq.{take-suc}
 use Rattle.std.proofs.lemmas.List.{take-append-drop}
 use Rattle.std.proofs.lemmas.Grind.{flat_map-append}
@@ -71,3 +71,17 @@ joined_next texts i d text small is =
 pub joined_parts : (texts : List (Bor (List ℕ))) (i : ℕ) → joined (take i texts) ++ joined (drop i texts) ≡ joined texts
 joined_parts texts i =
     sym (flat_map-append (λ t. t.now) (take i texts) (drop i texts)) ∙ ap joined (take-append-drop i texts)
+
+-- where all texts fit behind what is gathered, the next one fits behind the first, and is gathered behind them
+pub next_gathered : (texts : List (Bor (List ℕ))) (i : ℕ) (d : Bor (List ℕ)) (text g h : List ℕ) (most : ℕ) → i < length texts
+    → text ≡ (get_or texts i d).now → length g + length (joined texts) ≤ most → h ≡ g ++ joined (take i texts)
+    → (length h + length text ≤ most) × (h ++ text ≡ g ++ joined (take (i + 1) texts))
+next_gathered texts i d text g h most small is fits so_far =
+    let first = joined (take i texts) in
+    let next = joined_next texts i d text small is in
+    let parts : (first ++ text) ++ joined (drop (i + 1) texts) ≡ joined texts
+    = ap (λ xs. xs ++ joined (drop (i + 1) texts)) (sym next) ∙ joined_parts texts (i + 1) in
+    let others = joined (drop (i + 1) texts) in (
+      omega (arith, fits, ap length parts, ap length so_far, length-append g first, length-append (first ++ text) others, length-append first text),
+      ap (λ xs. xs ++ text) so_far ∙ append_assoc g first text ∙ ap (λ xs. g ++ xs) (sym next),
+    )

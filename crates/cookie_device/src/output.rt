@@ -47,6 +47,8 @@ impl Output {
             (self.old ++ text.now) }
         ensures gathered { length self.old + length text.now ≤ Output.LIMIT
             → IsOk result × (self.new ≡ self.old ++ text.now) }
+        ensures alone { Output.LIMIT < length self.old + length text.now → length text.now ≤ Output.LIMIT
+            → OnOk result (self.new ≡ text.now) }
         ensures dropped { OnErr result (self.new ≡ []) }
         ensures count { CountsFailure result (W.failed sink.old) (W.failed sink.new) }
     {
@@ -62,13 +64,15 @@ impl Output {
         Ok(())
     }
 
-    /// Gathers the texts, one after the other, as [`put`](Self::put) does.
+    /// Gathers the texts, one after the other, each as [`put`](Self::put) does.
     pub fn put_all<W: Sink>(&mut self, sink: &mut W, texts: &[&str]) -> Result<(), DeviceFailed>
         requires { W.failed sink.old < 2 ^ 64 - 1 }
         ensures whole { OnOk result (Sends (W.contents sink.old) (W.contents sink.new)
             (self.old ++ joined texts.now) self.new) }
         ensures part { AppendsBeginning (W.contents sink.old) (W.contents sink.new)
             (self.old ++ joined texts.now) }
+        ensures gathered { length self.old + length (joined texts.now) ≤ Output.LIMIT
+            → IsOk result × (self.new ≡ self.old ++ joined texts.now) }
         ensures dropped { OnErr result (self.new ≡ []) }
         ensures count { CountsFailure result (W.failed sink.old) (W.failed sink.new) }
     {

@@ -1,5 +1,5 @@
 -- How texts are gathered one after the other.
-use Rattle.std.proofs.Common.{◌≡◌, ◌≤◌, ◌<◌, ℕ, ◌+◌, List, [], ◌∷◌, ◌++◌, Bor, Option, Result, Ok, Err, ap, append_assoc, append-nil, arith, codes, drop, flat_map, get_or, length, map, refl, subst, suc, sym, take, ◌∙◌}
+use Rattle.std.proofs.Common.{◌≡◌, ◌≤◌, ◌<◌, ℕ, ◌+◌, List, [], ◌∷◌, ◌++◌, Bor, Option, Result, Ok, Err, ap, append_assoc, append-nil, arith, codes, drop, flat_map, get_or, length, length-append, map, refl, subst, suc, sym, take, ◌∙◌}
 use Rattle.std.proofs.Math.Seq.{take-suc}
 use Rattle.std.proofs.lemmas.Bool.{false≢true}
 use Rattle.std.proofs.lemmas.Grind.{flat_map-append}
@@ -13,7 +13,20 @@ use Rattle.cookie_script.specs.Script.{header_text, line_text, pair_text, row_li
 
 -- nothing was gathered
 pub gathers_nothing : {E : Type 0} (a : Option (List ℕ)) (g : List ℕ) (n : ℕ) → Gathers {T = Unit {0}} {E = E} (Ok tt) a a g g n n []
-gathers_nothing a g n = record { whole = nothing_put a g; part = nothing_part a (g ++ []); count = refl }
+gathers_nothing a g n = record {
+  whole = nothing_put a g;
+  part = nothing_part a (g ++ []);
+  gathered = λ fits. (refl, sym (append-nil g));
+  count = refl;
+}
+
+-- where both texts fit, the first one does, and the second behind it
+both_fit : (most : ℕ) (g t u : List ℕ) → length g + length (t ++ u) ≤ most
+    → (length g + length t ≤ most) × ((h : List ℕ) → h ≡ g ++ t → length h + length u ≤ most)
+both_fit most g t u fits = (
+  omega (arith, fits, length-append t u),
+  λ h is. omega (arith, fits, length-append t u, length-append g t, ap length is),
+)
 
 -- one text was gathered, and then another was to be
 pub gathers_then : {T U E : Type 0} (r : Result U E) (ok : T) {a b c : Option (List ℕ)} {g h k : List ℕ} {m n o : ℕ} (t u : List ℕ)
@@ -21,11 +34,18 @@ pub gathers_then : {T U E : Type 0} (r : Result U E) (ok : T) {a b c : Option (L
 gathers_then (Ok done) ok {a} {b} {c} {g} {h} {k} t u first next = record {
   whole = put_then a b c g t u h k first.whole next.whole;
   part = part_then a b c g t u h first.whole next.part;
+  gathered = λ fits.
+      let both = both_fit 65_536 g t u fits in
+      let one = (first.gathered both.0).1 in
+      (refl, (next.gathered (both.1 h one)).1 ∙ ap (λ xs. xs ++ u) one ∙ append_assoc g t u);
   count = next.count ∙ first.count;
 }
 gathers_then (Err fault) ok {a} {b} {c} {g} {h} {k} t u first next = record {
   whole = tt;
   part = part_then a b c g t u h first.whole next.part;
+  gathered = λ fits.
+      let both = both_fit 65_536 g t u fits in
+      absurd (false≢true (next.gathered (both.1 h (first.gathered both.0).1)).0);
   count = next.count ∙ ap (λ n. n + 1) first.count;
 }
 
@@ -34,7 +54,12 @@ pub gathers_stopped : {T U E : Type 0} (r : Result U E) (fault : E) {a b : Optio
     → IsErr r → Gathers {T = T} {E = E} (Err fault) a b g h m n t → Gathers r a b g h m n (t ++ u)
 gathers_stopped (Ok done) fault t u is first = absurd (false≢true is)
 gathers_stopped (Err told) fault {a} {b} {g} t u is first =
-    record { whole = tt; part = part_longer a b g t u first.part; count = first.count }
+    record {
+      whole = tt;
+      part = part_longer a b g t u first.part;
+      gathered = λ fits. absurd (false≢true (first.gathered (both_fit 65_536 g t u fits).0).0);
+      count = first.count;
+    }
 
 module _ {A : Type 0} (f : A → List ℕ) (items : List A) where
   -- the texts of the first items and of the next one

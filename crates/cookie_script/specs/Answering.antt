@@ -1,5 +1,5 @@
 -- The texts of answers, and what became of a text that was to be gathered.
-use Rattle.std.specs.Prelude.{ℕ, List, [], ◌++◌, Option, Result, OnOk, map}
+use Rattle.std.specs.Prelude.{◌≡◌, ℕ, ◌+◌, ◌≤◌, List, [], ◌++◌, Option, Result, IsOk, OnOk, length, map}
 use Rattle.cookie_device.specs.Device.{AppendsBeginning, CountsFailure, Sends}
 use Rattle.cookie_script.specs.Script.{header_text, line_text, rows_text}
 use Rattle.cookie_script.specs.declared.answer.Answer.{Answer}
@@ -12,8 +12,10 @@ answer_text (Line mark text) = line_text (mark.now ++ text.now)
 answer_text (Header cookies) = line_text (header_text (map (λ c. c.now) cookies.items))
 answer_text (Rows rows) = rows_text rows
 
--- of what was gathered and the text all but what is gathered now went out, or a write failed and a beginning did
+-- Of what was gathered and the text all but what is gathered now went out, which is nothing where both fit, or a write failed and a
+-- beginning went out.
 pub record Gathers {T E : Type 0} (outcome : Result T E) (old new : Option (List ℕ)) (before after : List ℕ) (failures then : ℕ) (text : List ℕ) : Type 0 where
   pub whole : OnOk outcome (Sends old new (before ++ text) after)
   pub part : AppendsBeginning old new (before ++ text)
+  pub gathered : length before + length text ≤ 65_536 → IsOk outcome × (after ≡ before ++ text)
   pub count : CountsFailure outcome failures then

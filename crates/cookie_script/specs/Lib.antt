@@ -1,9 +1,9 @@
 pub mod Answering
-pub mod Answers
 pub mod Arguments
-pub mod Commands
 pub mod CommandViews
+pub mod Commands
 pub mod Faults
 pub mod Progress
 pub mod Script
 pub mod Suffixes
+pub mod Told

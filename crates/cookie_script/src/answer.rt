@@ -43,7 +43,7 @@ impl<'a> Answer<'a> {
         }
     }
 
-    /// Gathers the text in the output, and sends what is gathered where it fills it up.
+    /// Gathers the text in the output. Where a part of it doesn't fit any more, what is gathered goes out first.
     pub fn put<W: Sink>(self, out: &mut Output, sink: &mut W) -> Result<(), DeviceFailed>
         requires { W.failed sink.old < 2 ^ 64 - 1 }
         ensures { Gathers result (W.contents sink.old) (W.contents sink.new) out.old out.new (W.failed sink.old) (W.failed sink.new)
@@ -68,6 +68,7 @@ fn action_text(action: StoreAction) -> &'static str
     }
 }
 
+// A mark and a text, as a line.
 fn put_line<W: Sink>(
     mark: &str,
     text: &str,
@@ -130,6 +131,7 @@ fn put_pair<W: Sink>(
     out.put_all(sink, &[mark, cookie.name(), "=", cookie.value()])
 }
 
+// A line of each row.
 fn put_rows<W: Sink>(rows: IterAny<'_>, out: &mut Output, sink: &mut W) -> Result<(), DeviceFailed>
     requires { W.failed sink.old < 2 ^ 64 - 1 }
     ensures { Gathers result (W.contents sink.old) (W.contents sink.new) out.old out.new (W.failed sink.old) (W.failed sink.new)

@@ -1,7 +1,7 @@
 //! The state of a script, and what a line comes to.
 ghost use Rattle.std.specs.Prelude.{◌≡◌, ◌≢◌, Err, IfOk, IsTrue, OnErr, OnOk, Some};
 ghost use Rattle.cookie_script.specs.Answering.{answer_text};
-ghost use Rattle.cookie_script.specs.Answers.{told_may_want, told_text};
+ghost use Rattle.cookie_script.specs.Told.{told_may_want, told_text};
 ghost use Rattle.cookie_script.specs.CommandViews.{command_view};
 ghost use Rattle.cookie_script.specs.Commands.{command_may_want, may_want};
 ghost use Rattle.cookie_script.specs.Script.{command_turn, start, turn};

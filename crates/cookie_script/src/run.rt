@@ -15,8 +15,9 @@ use cookie_store::psl::List;
 use std::alloc::Global;
 
 /// Runs the script that the source gives, and writes its answers to the sink. The store obeys the public suffix list, if
-/// there is one, and its maps hash by the key, which changes no answer. Where a read failed, the answers to all whole lines that were read went out, and nothing else. Where memory
-/// ran out, those did, or the answers to the lines before one that may want memory.
+/// there is one, and its maps hash by the key, which changes no answer. Where a read failed, the answers to all whole lines
+/// that were read went out, and nothing else. Where memory ran out, those did, or the answers to the lines before one that
+/// may want memory.
 pub fn run<R: Source, W: Sink>(
     alloc: Global,
     source: &mut R,

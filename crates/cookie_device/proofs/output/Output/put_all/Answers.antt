@@ -1,6 +1,7 @@
 use Rattle.std.proofs.Common.{◌≡◌, ◌+◌, ◌++◌, ◌∙◌, drop, take}
 use Rattle.cookie_device.specs.Texts.{joined}
-use Rattle.cookie_device.proofs.Sending.{joined_next, joined_parts, part_longer, part_then, put_then}
+use Rattle.std.proofs.lemmas.Bool.{false≢true}
+use Rattle.cookie_device.proofs.Sending.{joined_next, joined_parts, next_gathered, part_longer, part_then, put_then}
 use Rattle.cookie_device.proofs.output.Output.put_all.Goals as goal
 
 pub loop-text-preserved : goal.loop-text-preserved
@@ -8,6 +9,9 @@ loop-text-preserved g c = record {
   sent =
       rw (joined_next _ _ _ _ c.loop-text-test.true c.as_bytes.ensures.value)
       (put_then _ _ _ _ _ _ _ _ c.loop-text.invariant.sent c.in_ok-put.ensures.whole);
+  gathered = λ fits.
+      let next = next_gathered _ _ _ _ _ _ _ c.loop-text-test.true c.as_bytes.ensures.value fits (c.loop-text.invariant.gathered fits) in
+      (c.in_ok-put.ensures.gathered next.0).1 ∙ next.1;
   count = c.in_ok-put.ensures.count ∙ c.loop-text.invariant.count;
 }
 
@@ -22,3 +26,8 @@ returns-in_err-put-clause-part g c =
     rw (← joined_parts texts (at + 1), joined_next _ _ _ _ c.loop-text-test.true c.as_bytes.ensures.value)
     (part_longer from to c.args.self.now (put ++ text) (joined (drop (at + 1) texts))
     (part_then from (g.W.Sink.contents c.loop-text.sink) to c.args.self.now put text c.loop-text.self c.loop-text.invariant.sent c.in_err-put.ensures.part))
+
+pub returns-in_err-put-clause-gathered : goal.returns-in_err-put-clause-gathered
+returns-in_err-put-clause-gathered g c = λ fits.
+    let next = next_gathered _ _ _ _ _ _ _ c.loop-text-test.true c.as_bytes.ensures.value fits (c.loop-text.invariant.gathered fits) in
+    absurd (false≢true (c.in_err-put.ensures.gathered next.0).0)
