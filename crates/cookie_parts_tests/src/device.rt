@@ -413,7 +413,7 @@ fn flush(output: &mut Output, sink: &mut Counted<Fake<Vec<u8>>>) -> Result<(), D
 }
 
 // Puts one text behind the other, and flushes before and after.
-fn put_all(
+fn put_each(
     output: &mut Output,
     sink: &mut Counted<Fake<Vec<u8>>>,
     texts: &[&[u8]],
@@ -430,10 +430,10 @@ fn gathered(alloc: Global) -> Result<Fake<Vec<u8>>, Fail> {
     let long = vec![in alloc; b'x'; Output::LIMIT + 1]?;
     let mut output = Output::new(alloc)?;
     let mut sink = Counted::new(Fake::new(Vec::new(alloc), usize::MAX, 0));
-    put_all(
+    put_each(
         &mut output,
         &mut sink,
-        &[b"a", &long[2..], b"b", &long, b"c"],
+        &[b"a", &long[2..], b"b", b"b", &long, b"c"],
     )?;
     Ok(sink.into_inner())
 }
@@ -443,12 +443,13 @@ const BYTES: &[(usize, Option<u8>)] = &[
     (0, Some(b'a')),
     (65_535, Some(b'x')),
     (65_536, Some(b'b')),
-    (65_537, Some(b'x')),
-    (131_074, Some(b'c')),
-    (131_075, None),
+    (65_537, Some(b'b')),
+    (65_538, Some(b'x')),
+    (131_075, Some(b'c')),
+    (131_076, None),
 ];
 
-// The first 65,536 bytes, "b", the long text and "c" went out.
+// The first 65,536 bytes, "bb", the long text and "c" went out.
 fn is_gathered(rt: &impl Abort, fake: &Fake<Vec<u8>>) {
     is_equal(rt, fake.calls, 4, &"writes");
     for row in BYTES {
@@ -500,8 +501,8 @@ const SHORT_CUTS: &[Cut] = &[
 const LONG_CUTS: &[Cut] = &[
     (usize::MAX, 1, 2, 2),
     (usize::MAX, 2, 3, 65_538),
-    (usize::MAX, 3, 4, 65_539),
-    (usize::MAX, 4, 5, 131_076),
+    (usize::MAX, 3, 4, 65_540),
+    (usize::MAX, 4, 5, 131_077),
 ];
 
 // What was put before the write that failed is dropped, and nothing is written twice.
@@ -509,8 +510,8 @@ fn is_output_cut(alloc: Global, texts: &[&[u8]], row: &Cut) -> Result<bool, Fail
     let (most, fails_at, calls, out) = *row;
     let mut output = Output::new(alloc)?;
     let mut sink = Counted::new(Fake::new(Vec::new(alloc), most, fails_at));
-    let first = put_all(&mut output, &mut sink, texts);
-    let outcomes = (first, put_all(&mut output, &mut sink, &[b"de"]));
+    let first = put_each(&mut output, &mut sink, texts);
+    let outcomes = (first, put_each(&mut output, &mut sink, &[b"de"]));
     let is_counted = outcomes == SECOND && sink.failures() == 1;
     let fake = sink.into_inner();
     Ok(is_counted && fake.calls == calls && fake.inner.len() == out)
@@ -522,7 +523,7 @@ fn output_is_cut_at_each_write(rt: HostRuntime) -> Result<(), Fail> {
         holds(&rt, is_output_cut(rt.alloc(), &[b"ab", b"cd"], row)?, row);
     }
     let long = vec![in rt.alloc(); b'x'; Output::LIMIT + 1]?;
-    let texts: &[&[u8]] = &[b"a", &long[2..], b"b", &long, b"c"];
+    let texts: &[&[u8]] = &[b"a", &long[2..], b"b", b"b", &long, b"c"];
     for row in LONG_CUTS {
         holds(&rt, is_output_cut(rt.alloc(), texts, row)?, row);
     }
@@ -534,17 +535,54 @@ fn put_both(output: &mut Output, sink: &mut Counted<Fake<Vec<u8>>>) -> Result<()
     if sink.failures() == u64::MAX {
         return Err(DeviceFailed);
     }
-    output.put_all(sink, &["a", "bc"])
+    output.put_all(sink, &["ab", "cd"])
+}
+
+// How many bytes a call takes of "ab" and "cd", which are put at once and flushed, and of "ef", which is put and flushed then, the
+// call that fails, all calls, and what is out.
+const BOTH_CUTS: &[(usize, usize, usize, &[u8])] = &[
+    (100, 0, 2, b"abcdef"),
+    (100, 1, 2, b"ef"),
+    (100, 2, 2, b"abcd"),
+    (3, 0, 3, b"abcdef"),
+    (3, 1, 2, b"ef"),
+    (3, 2, 3, b"abcef"),
+    (3, 3, 3, b"abcd"),
+    (1, 2, 4, b"aef"),
+    (1, 4, 6, b"abcef"),
+    (1, 6, 6, b"abcde"),
+];
+
+// Both texts are gathered, and what was not out at the write that failed is dropped.
+fn is_both_cut(alloc: Global, row: &(usize, usize, usize, &[u8])) -> Result<bool, Fail> {
+    let (most, fails_at, calls, out) = *row;
+    let mut output = Output::new(alloc)?;
+    let mut sink = Counted::new(Fake::new(Vec::new(alloc), most, fails_at));
+    let both = put_both(&mut output, &mut sink);
+    let first = flush(&mut output, &mut sink);
+    let second = put_each(&mut output, &mut sink, &[b"ef"]);
+    let failures = u64::from(first.is_err()) + u64::from(second.is_err());
+    let is_counted = sink.failures() == failures && failures == u64::from(fails_at != 0);
+    let fake = sink.into_inner();
+    Ok(both.is_ok() && is_counted && fake.calls == calls && fake.inner.as_slice() == out)
+}
+
+#[test]
+fn texts_that_are_put_at_once_are_cut_at_each_write(rt: HostRuntime) -> Result<(), Fail> {
+    for row in BOTH_CUTS {
+        holds(&rt, is_both_cut(rt.alloc(), row)?, row);
+    }
+    Ok(())
 }
 
 // Whether a line feed and an output fail once each where no byte is taken.
 fn is_stuck(alloc: Global) -> Result<bool, Fail> {
     let mut output = Output::new(alloc)?;
     let mut sink = Counted::new(Fake::new(Vec::new(alloc), 0, 0));
-    let line = line(&mut sink, b"");
+    let first = line(&mut sink, b"");
     let both = put_both(&mut output, &mut sink);
     let outcomes = (flush(&mut output, &mut sink), flush(&mut output, &mut sink));
-    let is_so = line == Err(DeviceFailed) && both == Ok(()) && outcomes == SECOND;
+    let is_so = first == Err(DeviceFailed) && both == Ok(()) && outcomes == SECOND;
     Ok(is_so && sink.failures() == 2 && sink.into_inner().calls == 2)
 }
 

@@ -6,7 +6,7 @@ use crate::domain::{DOMAINS, NO_DOMAINS};
 use crate::parts::{Hosts, cookie_from, domain_of, is_for, is_path};
 use crate::psl::{BAD, EVERY_KIND, says};
 use crate::raw::{EMPTY, Parts, has_parts, until_the_end_of};
-use crate::ron::{FOUR, TEXTS, printed_again};
+use crate::ron::{ONE, TEXTS, printed_again};
 use crate::saved::{TREES, list_of, refusal_of};
 use cookie_device::{Counted, FillError, LineBuffer, Output};
 use cookie_fakes::Fake;
@@ -22,7 +22,7 @@ use jiff::civil::DateTime;
 use serde_json::Value;
 use std::alloc::{AllocError, Global};
 use std::test::Fail;
-use url::Url;
+use url::{ParseError, Url};
 
 // A growth of so many bytes: those after it are the ones to refuse.
 const START: usize = 48_271;
@@ -70,6 +70,18 @@ impl Fault for ListError {
 impl Fault for SavedError {
     fn is_wanting(&self) -> bool {
         *self == SavedError::Memory
+    }
+}
+
+impl Fault for ParseError {
+    fn is_wanting(&self) -> bool {
+        *self == ParseError::OutOfMemory
+    }
+}
+
+impl Fault for serde_json::Error {
+    fn is_wanting(&self) -> bool {
+        self.is_memory()
     }
 }
 
@@ -467,8 +479,9 @@ fn parse(rt: HostRuntime) -> Result<(), Fail> {
 // Whether the text makes what is wanted, where there is memory for the URL.
 fn is_made(alloc: Global, row: &(&str, &str, Made)) -> bool {
     let (text, from, wanted) = row;
-    let Ok(url) = Url::parse(alloc, from) else {
-        return true;
+    let url = match Url::parse(alloc, from) {
+        Ok(url) => url,
+        Err(fault) => return fault.is_wanting(),
     };
     match Cookie::parse(alloc, text, &url, DateTime::ZERO) {
         Ok(cookie) => is_wanted(&cookie, wanted),
@@ -662,8 +675,9 @@ fn saved_of_a_tree(rt: HostRuntime) -> Result<(), Fail> {
 
 // Whether the tree of the text is refused so, or is not, where there is memory for the tree.
 fn is_read(alloc: Global, row: &(&str, Option<SavedError>)) -> bool {
-    let Ok(tree) = Value::from_str(alloc, row.0) else {
-        return true;
+    let tree = match Value::from_str(alloc, row.0) {
+        Ok(tree) => tree,
+        Err(fault) => return fault.is_wanting(),
     };
     let refusal = refusal_of(&from_value(alloc, &tree));
     refusal == row.1 || refusal == Some(SavedError::Memory)
@@ -717,12 +731,28 @@ fn list_of_saved(rt: HostRuntime) -> Result<(), Fail> {
     Ok(())
 }
 
+// The text in JSON of the list of `ONE`.
+const JSON: &str = r#"[
+  {
+    "domain": {
+      "HostOnly": "test.com"
+    },
+    "expires": {
+      "AtUtc": "2100-08-03T00:38:37Z"
+    },
+    "path": [
+      "/",
+      true
+    ],
+    "raw_cookie": "2=two; SameSite=None; Secure; Path=/; Expires=Tue, 03 Aug 2100 00:38:37 GMT"
+  }
+]"#;
+
 #[test]
 fn text_of_a_list(rt: HostRuntime) -> Result<(), Fail> {
-    let saved = from_ron(rt.alloc(), FOUR)?;
-    let wanted = made(rt.alloc(), list_to_text(rt.alloc(), &saved)?)?;
+    let saved = made(rt.alloc(), from_ron(rt.alloc(), ONE)?)?;
     let text = list_to_text(rt.alloc(), &saved);
-    holds(&rt, is_text(text, &wanted), &FOUR);
+    holds(&rt, is_text(text, JSON), &ONE);
     Ok(())
 }
 

@@ -19,7 +19,7 @@ fn is_printed_again(rt: &impl Abort, alloc: Global, text: &str, wanted: Result<&
     }
 }
 
-const ONE: &str = r#"[
+pub(crate) const ONE: &str = r#"[
     (
         raw_cookie: "2=two; SameSite=None; Secure; Path=/; Expires=Tue, 03 Aug 2100 00:38:37 GMT",
         path: ("/", true),
@@ -202,7 +202,7 @@ fn a_text_is_printed_with_its_escapes(rt: HostRuntime) -> Result<(), Fail> {
     Ok(())
 }
 
-pub(crate) const FOUR: &str = r#"[
+const FOUR: &str = r#"[
     (raw_cookie: "\x41\u{1F36A}\0", path: ("/", false), domain: HostOnly("a.com"), expires: SessionEnd),
     (raw_cookie: "", path: ("", true), domain: Suffix("b.com"), expires: AtUtc("2100-08-03T00:38:37.75Z")),
     (raw_cookie: "\'", path: ("/\"", true), domain: NotPresent, expires: AtUtc("0000-01-01T00:00:00Z")),
