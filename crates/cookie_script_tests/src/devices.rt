@@ -72,13 +72,17 @@ fn was_stopped(
     true
 }
 
-// The reader works again: the next script is what it still has.
+// The reader works again, and still has all but what the reads before the one that failed took: that is the next script.
 fn reads_on(
     rt: &impl Abort,
     alloc: Global,
     fake: Fake<&[u8]>,
+    most: usize,
     fails_at: usize,
 ) -> Result<(), Fail> {
+    let taken = fails_at.saturating_sub(1).saturating_mul(most);
+    let left = HOSTS.get(taken.min(HOSTS.len())..).unwrap_or(&[]);
+    is_text(rt, fake.inner, left, fails_at);
     let wanted = output(alloc, fake.inner, None)?;
     let (outcome, written, _) = read_from(alloc, fake);
     has_ended(rt, outcome, Ok(()), fails_at);
@@ -93,7 +97,7 @@ fn each_read_fails(rt: &impl Abort, alloc: Global, most: usize) -> Result<(), Fa
         if !was_stopped(rt, outcome, fake.calls, &written, fails_at, RunFault::Read) {
             return Ok(());
         }
-        reads_on(rt, alloc, fake, fails_at)?;
+        reads_on(rt, alloc, fake, most, fails_at)?;
     }
     Err(Fail::from("reading has no end"))
 }

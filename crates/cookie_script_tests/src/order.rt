@@ -96,11 +96,17 @@ fn answers_are_out_before_the_next_read(rt: HostRuntime) -> Result<(), Fail> {
     Ok(())
 }
 
-// A line so many times.
-fn repeated(alloc: Global, line: &[u8], times: usize) -> Result<Vec<u8>, AllocError> {
+// Behind the first lines, others so many times.
+fn repeated(
+    alloc: Global,
+    first: &[u8],
+    lines: &[u8],
+    times: usize,
+) -> Result<Vec<u8>, AllocError> {
     let mut script = Vec::new(alloc);
+    script.extend_from_slice(first)?;
     for _ in 0..times {
-        script.extend_from_slice(line)?;
+        script.extend_from_slice(lines)?;
     }
     Ok(script)
 }
@@ -116,11 +122,25 @@ fn calls_of(alloc: Global, script: &[u8]) -> Result<(usize, usize, usize), RunFa
 
 #[test]
 fn answers_go_out_together(rt: HostRuntime) -> Result<(), Fail> {
-    let script = repeated(rt.alloc(), b"get http://a.com/\n", 1_000)?;
+    let script = repeated(rt.alloc(), b"", b"get http://a.com/\n", 1_000)?;
     // The script has 18,000 bytes, and the last read finds its end.
     let (reads, writes, written) = calls_of(rt.alloc(), &script)?;
     is_count(&rt, reads, 6);
     is_at_most(&rt, writes, 7);
     is_count(&rt, written, 8_000);
+    Ok(())
+}
+
+const TWO: &[u8] = b"now 2026-01-01T00:00:00Z\nset http://a.com/ a=1\nset http://a.com/ b=2\n";
+
+#[test]
+fn answers_of_many_pieces_go_out_together(rt: HostRuntime) -> Result<(), Fail> {
+    let script = repeated(rt.alloc(), TWO, b"get http://a.com/\nlist\n", 500)?;
+    // The script has 69 bytes and 500 times 23, and the last read finds its end.
+    let (reads, writes, written) = calls_of(rt.alloc(), &script)?;
+    is_count(&rt, reads, 4);
+    is_at_most(&rt, writes, 5);
+    // Two answers of 9 bytes, and 500 times one of 17 and two lines of 10.
+    is_count(&rt, written, 18_518);
     Ok(())
 }

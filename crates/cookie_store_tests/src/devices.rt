@@ -289,7 +289,7 @@ fn a_failed_write_ends_the_saving(rt: HostRuntime) {
     }
 }
 
-fn is_taken_nowhere(
+fn nothing_is_taken(
     rt: &impl Abort,
     alloc: Global,
     store: &CookieStore,
@@ -307,8 +307,8 @@ fn is_taken_nowhere(
 fn a_writer_that_takes_nothing_has_failed(rt: HostRuntime) {
     let store = store_of(&rt, rt.alloc(), &CAME);
     for (shape, _) in CASES {
-        is_taken_nowhere(&rt, rt.alloc(), &store, shape, &Which::All);
-        is_taken_nowhere(&rt, rt.alloc(), &store, shape, &Which::At(new_year()));
+        nothing_is_taken(&rt, rt.alloc(), &store, shape, &Which::All);
+        nothing_is_taken(&rt, rt.alloc(), &store, shape, &Which::At(new_year()));
     }
 }
 
@@ -349,8 +349,18 @@ fn outcome_of(
     load(alloc, row.0, url, row.1, Fake::new(bytes, usize::MAX, 0)).0
 }
 
-// What the reader still has is loaded as if it were all.
-fn is_rest_loaded(rt: &impl Abort, alloc: Global, url: &Url, row: &Failing<'_>, fake: Fake<&[u8]>) {
+// The reader still has all but what the reads before the one that failed took, and that is loaded as if it were all.
+fn is_rest_loaded(
+    rt: &impl Abort,
+    alloc: Global,
+    url: &Url,
+    text: &str,
+    row: &Failing<'_>,
+    fake: Fake<&[u8]>,
+) {
+    let taken = row.3.saturating_sub(1).saturating_mul(row.2);
+    let left = text.as_bytes().get(taken.min(text.len())..);
+    is_equal(rt, &Some(fake.inner), &left, row);
     let wanted = outcome_of(alloc, url, row, fake.inner);
     is_loaded_so(rt, alloc, url, row, fake, &wanted);
 }
@@ -374,7 +384,7 @@ fn is_loaded_whole(
         Err(_) => {
             is_equal(rt, &end_of(&outcome), &"a device", row);
             is_equal(rt, &(failures, fake.calls), &(1, row.3), row);
-            is_rest_loaded(rt, alloc, url, row, fake);
+            is_rest_loaded(rt, alloc, url, text, row, fake);
         }
     }
     outcome.is_ok()

@@ -7,6 +7,7 @@ use crate::devices::{JSON, JSON_LINES, LINES, RON, Shape, TEXT};
 use crate::json::load_json;
 use crate::lists::{Form, load_list};
 use crate::loaded::{cookie_of, load_cookies};
+use crate::lookups::{Wanted, are_between};
 use crate::responses::raw_cookies;
 use crate::saved::{LASTING, Which};
 use crate::steps::{ENDED, INSERTED, UPDATED, new_year, store_under};
@@ -14,8 +15,8 @@ use crate::texts::{add, all_listed, given, header, url};
 use cookie_fakes::Fake;
 use cookie_store::device::Counted;
 use cookie_store::{
-    Bulk, Call, Cookie, CookieError, CookieStore, Error, HashKey, InsertResult, Lookups, RawCookie,
-    Reply, RequestCookies, RequestValues, serde,
+    Bulk, Call, Cookie, CookieError, CookieStore, Error, HashKey, InsertResult, RawCookie, Reply,
+    RequestCookies, RequestValues, serde,
 };
 use log::sink::Discard;
 use std::alloc::{AllocError, Global};
@@ -276,12 +277,13 @@ fn matches(rt: HostRuntime) {
     gives(&rt, rt.alloc(), &store, GIVEN_OF_FIVE, "the rows that stay");
 }
 
-// As it is where memory is ample.
-fn is_counted(rt: &impl Abort, store: &CookieStore, url: &Url, counted: &Lookups) {
-    let found = store.matches_counted(url, new_year());
-    let (_, again) = found.expect(rt, "memory");
-    is_equal(rt, counted, &again, &FROM);
-}
+// The host has four labels, of which three domains have five paths; for each at most once more than twice two slashes.
+const COUNTED: Wanted = Wanted {
+    from: FROM,
+    given: GIVEN_OF_FIVE,
+    least: (3, 5),
+    most: (4, 15),
+};
 
 #[test]
 fn matches_counted(rt: HostRuntime) {
@@ -292,7 +294,7 @@ fn matches_counted(rt: HostRuntime) {
     end(rt.alloc());
     if let Ok((cookies, counted)) = &outcome {
         are_given(&rt, rt.alloc(), cookies.as_slice());
-        is_counted(&rt, &store, &url, counted);
+        are_between(&rt, *counted, &COUNTED);
     }
     gives(&rt, rt.alloc(), &store, GIVEN_OF_FIVE, "the rows that stay");
 }

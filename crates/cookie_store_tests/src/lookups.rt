@@ -21,11 +21,11 @@ const ROWS: [Step; 6] = [
 
 // What is given for a URL, and how often domains and paths are looked up for it, at least and at most.
 #[derive(Clone, Copy, Debug)]
-struct Wanted {
-    from: &'static str,
-    given: &'static str,
-    least: (u128, u128),
-    most: (u128, u128),
+pub struct Wanted {
+    pub from: &'static str,
+    pub given: &'static str,
+    pub least: (u128, u128),
+    pub most: (u128, u128),
 }
 
 const COUNTED: [Wanted; 5] = [
@@ -62,7 +62,7 @@ const COUNTED: [Wanted; 5] = [
 ];
 
 // They are no fewer and no more.
-fn are_between(rt: &impl Abort, counted: Lookups, wanted: &Wanted) {
+pub fn are_between(rt: &impl Abort, counted: Lookups, wanted: &Wanted) {
     let (least, most) = (wanted.least, wanted.most);
     let domains = least.0 <= counted.domains && counted.domains <= most.0;
     let paths = least.1 <= counted.paths && counted.paths <= most.1;
