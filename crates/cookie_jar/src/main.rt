@@ -2,7 +2,8 @@
 //!
 //! Each line of standard input is `now MOMENT`, `set URL TEXT`, `get URL`, `list`, `remove DOMAIN PATH NAME` or `clear`; the
 //! answers go to standard output.
-//! With `--suffixes FILE` the store obeys the public suffix list of that file.
+//! With `--suffixes FILE` the store obeys the public suffix list of that file, and with `--limit N` no insertion leaves more than N
+//! cookies of its domain.
 #![tactic(auto)]
 
 use cookie_device::Counted;
@@ -28,14 +29,22 @@ fn script(rt: &HostRuntime) -> Result<(), MainFault> {
         .map_err(arguments::words_fault)?
         .collect(rt.alloc())?;
     let own = arguments::own_words(words.as_slice());
-    let list = match arguments::options(own)?.suffixes {
+    let options = arguments::options(own)?;
+    let list = match options.suffixes {
         Some(file) => Some(read_list(rt, file)?),
         None => None,
     };
     let mut source = Counted::new(rt.stdin());
     let mut sink = Counted::new(rt.stdout());
     let hash_key = HashKey::Drawn(RandomState::new(rt).map_err(fault::draw_fault)?);
-    Ok(run::run(rt.alloc(), &mut source, &mut sink, list, hash_key)?)
+    Ok(run::run(
+        rt.alloc(),
+        &mut source,
+        &mut sink,
+        list,
+        options.limit,
+        hash_key,
+    )?)
 }
 
 // The public suffix list of a file.

@@ -1,5 +1,5 @@
--- What becomes of the rows whose keys pass a test, as a cookie is accepted.
-use Rattle.std.proofs.Common.{◌≡◌, Bool, true, false, not, List, Option, Result, Ok, Err, ◌∙◌, refl, ap}
+-- What becomes of a store with those rows whose keys pass a test, as a cookie is accepted.
+use Rattle.std.proofs.Common.{◌≡◌, Bool, true, false, not, Option, Result, Ok, Err, ◌∙◌, refl, ap}
 use Rattle.std.proofs.lemmas.Bool.{cond_both}
 use Rattle.url.specs.Parts.{Parts}
 use Rattle.cookie_words.specs.Moments.{Moment}
@@ -8,9 +8,11 @@ use Rattle.cookie_parts.specs.Cookie.{Row, and_then, is_out_of_reach}
 use Rattle.cookie_parts.specs.Domain.{HostOnly, domain_matches, domain_text, host_is_identical}
 use Rattle.cookie_parts.specs.declared.cookie_error.CookieError.{CookieError}
 use Rattle.cookie_parts.specs.declared.cookie_error.CookieError.TheVariants.{NonHttpScheme, DomainMismatch, PublicSuffix}
+use Rattle.cookie_laws.specs.Contents.{Contents}
 use Rattle.cookie_laws.specs.Rows.{Key, key_of, row_of}
 use Rattle.cookie_laws.specs.Acceptance.{Outcome, by_scheme, is_listed, by_list, by_domain, admitted, reply_at, outcome_by, entered, accept}
-use Rattle.cookie_laws.proofs.RowsOfKeys.{KeepsPlaces, passing, row_of-passing, rows_by-passing, rows_by-other}
+use Rattle.cookie_laws.proofs.RowsOfKeys.{IsByDomain, row_of-passing}
+use Rattle.cookie_laws.proofs.StoresOfKeys.{passing_store, store_by-other, store_by-passing}
 
 -- the cookie has the key, if there is one
 abbrev pub HasKey : Key → Result Row CookieError → Type 0
@@ -47,34 +49,35 @@ admitted-HasKey suffixes url cookie =
 
 -- an outcome with the rows whose keys pass
 abbrev pub passing_outcome : (Key → Bool) → Outcome → Outcome
-passing_outcome test outcome = record { reply = outcome.reply; rows = passing test outcome.rows }
+passing_outcome test outcome = record { reply = outcome.reply; store = passing_store test outcome.store }
 
--- a cookie that may enter, whose key passes, has the same outcome among the rows that pass
-entered-passing : (test : Key → Bool) → KeepsPlaces test → (key : Key) (made : Result Row CookieError) (url : Parts) (now : Moment) (rows : List Row) → HasKey key made → test key ≡ true
-    → entered made url now (passing test rows) ≡ passing_outcome test (entered made url now rows)
-entered-passing test places key (Err refusal) url now rows same here = refl
-entered-passing test places key (Ok cookie) url now rows same here =
-    let passes : test (key_of cookie) ≡ true = ap test same ∙ here in
-    let reply = reply_at (row_of (key_of cookie) rows) cookie url now in
-    ap (λ row. outcome_by (reply_at row cookie url now) (passing test rows) cookie) (row_of-passing test (key_of cookie) rows passes)
-    ∙ ap {B = Outcome} (λ zs. record { reply = reply; rows = zs }) (rows_by-passing test places reply rows cookie passes)
+module _ (test : Key → Bool) (by_domain : IsByDomain test) where
+  -- a cookie that may enter, whose key passes, has the same outcome among the rows that pass
+  entered-passing : (key : Key) (made : Result Row CookieError) (url : Parts) (now : Moment) (store : Contents) → HasKey key made → test key ≡ true
+      → entered made url now (passing_store test store) ≡ passing_outcome test (entered made url now store)
+  entered-passing key (Err refusal) url now store same here = refl
+  entered-passing key (Ok cookie) url now store same here =
+      let passes : test (key_of cookie) ≡ true = ap test same ∙ here in
+      let reply = reply_at (row_of (key_of cookie) store.rows) cookie url now in
+      ap (λ row. outcome_by (reply_at row cookie url now) (passing_store test store) cookie now) (row_of-passing test (key_of cookie) store.rows passes)
+      ∙ ap {B = Outcome} (λ after. record { reply = reply; store = after }) (store_by-passing test by_domain reply store cookie now passes)
 
--- one whose key does not pass changes nothing among them
-entered-other : (test : Key → Bool) (key : Key) (made : Result Row CookieError) (url : Parts) (now : Moment) (rows : List Row) → HasKey key made → test key ≡ false
-    → passing test (entered made url now rows).rows ≡ passing test rows
-entered-other test key (Err refusal) url now rows same away = refl
-entered-other test key (Ok cookie) url now rows same away =
-    rows_by-other test (reply_at (row_of (key_of cookie) rows) cookie url now) rows cookie (ap test same ∙ away)
+  -- one whose key does not pass changes nothing among them
+  entered-other : (key : Key) (made : Result Row CookieError) (url : Parts) (now : Moment) (store : Contents) → HasKey key made → test key ≡ false
+      → passing_store test (entered made url now store).store ≡ passing_store test store
+  entered-other key (Err refusal) url now store same away = refl
+  entered-other key (Ok cookie) url now store same away =
+      store_by-other test by_domain (reply_at (row_of (key_of cookie) store.rows) cookie url now) store cookie now (ap test same ∙ away)
 
--- the same of any cookie that comes
-pub accept-passing : (test : Key → Bool) → KeepsPlaces test → (suffixes : Option RuleList) (rows : List Row) (cookie : Row) (url : Parts) (now : Moment) → test (key_of cookie) ≡ true
-    → accept suffixes (passing test rows) cookie url now ≡ passing_outcome test (accept suffixes rows cookie url now)
-unfolding accept
-accept-passing test places suffixes rows cookie url now here =
-    entered-passing test places (key_of cookie) (admitted suffixes url cookie) url now rows (admitted-HasKey suffixes url cookie) here
+  -- the same of any cookie that comes
+  pub accept-passing : (store : Contents) (cookie : Row) (url : Parts) (now : Moment) → test (key_of cookie) ≡ true
+      → accept (passing_store test store) cookie url now ≡ passing_outcome test (accept store cookie url now)
+  unfolding accept
+  accept-passing store cookie url now here =
+      entered-passing (key_of cookie) (admitted store.suffixes url cookie) url now store (admitted-HasKey store.suffixes url cookie) here
 
-pub accept-other : (test : Key → Bool) (suffixes : Option RuleList) (rows : List Row) (cookie : Row) (url : Parts) (now : Moment) → test (key_of cookie) ≡ false
-    → passing test (accept suffixes rows cookie url now).rows ≡ passing test rows
-unfolding accept
-accept-other test suffixes rows cookie url now away =
-    entered-other test (key_of cookie) (admitted suffixes url cookie) url now rows (admitted-HasKey suffixes url cookie) away
+  pub accept-other : (store : Contents) (cookie : Row) (url : Parts) (now : Moment) → test (key_of cookie) ≡ false
+      → passing_store test (accept store cookie url now).store ≡ passing_store test store
+  unfolding accept
+  accept-other store cookie url now away =
+      entered-other (key_of cookie) (admitted store.suffixes url cookie) url now store (admitted-HasKey store.suffixes url cookie) away

@@ -1,17 +1,17 @@
 -- What holds of each cookie that a run puts, and of it with another end, holds of each row that the run leaves.
-use Rattle.std.proofs.Common.{◌≡◌, ℕ, zero, suc, Bool, not, ◌&&◌, List, [], ◌∷◌, Option, Some, Result, Ok, Err, inl, inr, refl, ap}
+use Rattle.std.proofs.Common.{◌≡◌, ℕ, zero, suc, Bool, not, ◌&&◌, List, [], ◌∷◌, Some, Result, Ok, Err, inl, inr, refl, ap, subst}
 use Rattle.std.specs.List.{list_any, All}
 use Rattle.std.proofs.lemmas.Bool.{cond_both}
-use Rattle.std.proofs.lemmas.List.Elements.{All-nil, All-cons, All-head, All-tail}
+use Rattle.std.proofs.lemmas.List.Elements.{All-filter, All-nil, All-cons, All-head, All-tail}
 use Rattle.url.specs.Parts.{Parts}
 use Rattle.cookie_words.specs.Moments.{Moment}
-use Rattle.cookie_psl.specs.Rules.{RuleList}
 use Rattle.cookie_parts.specs.Cookie.{Row, and_then, cookie_at, ended}
 use Rattle.cookie_parts.specs.declared.cookie_error.CookieError.{CookieError}
 use Rattle.cookie_parts.specs.declared.store_action.StoreAction.{StoreAction}
 use Rattle.cookie_parts.specs.declared.store_action.StoreAction.TheVariants.{Inserted, ExpiredExisting, UpdatedExisting}
+use Rattle.cookie_laws.specs.Contents.{Contents, is_none_of, leaving, without}
 use Rattle.cookie_laws.specs.Rows.{key_of, has_key, in_domain, in_group, row_of, after_last, changed, replaced, removed, placed, put}
-use Rattle.cookie_laws.specs.Acceptance.{IsPut, accept, admitted, entered, received, reply_at, rows_by}
+use Rattle.cookie_laws.specs.Acceptance.{IsPut, accept, admitted, entered, received, reply_at, store_by}
 use Rattle.cookie_laws.specs.Confinement.{Accepts, Brings, SaysPut}
 use Rattle.cookie_laws.specs.Runs.{Call, Set, Insert, Remove, Clear, Stored, rows_after, step}
 
@@ -51,6 +51,39 @@ says_put : (reply : Result StoreAction CookieError) → IsPut reply → SaysPut 
 says_put reply (inl is) = inl (ap (λ r. Some (Stored r)) is)
 says_put reply (inr is) = inr (ap (λ r. Some (Stored r)) is)
 
+-- no reply changes the list
+store_by-suffixes : (reply : Result StoreAction CookieError) (store : Contents) (cookie : Row) (now : Moment) → (store_by reply store cookie now).suffixes ≡ store.suffixes
+store_by-suffixes (Ok Inserted) store cookie now = refl
+store_by-suffixes (Ok UpdatedExisting) store cookie now = refl
+store_by-suffixes (Ok ExpiredExisting) store cookie now = refl
+store_by-suffixes (Err refusal) store cookie now = refl
+
+-- so no cookie does
+entered-suffixes : (made : Result Row CookieError) (url : Parts) (now : Moment) (store : Contents) → (entered made url now store).store.suffixes ≡ store.suffixes
+entered-suffixes (Err refusal) url now store = refl
+entered-suffixes (Ok cookie) url now store = store_by-suffixes (reply_at (row_of (key_of cookie) store.rows) cookie url now) store cookie now
+
+accept-suffixes : (store : Contents) (cookie : Row) (url : Parts) (now : Moment) → (accept store cookie url now).store.suffixes ≡ store.suffixes
+unfolding accept
+accept-suffixes store cookie url now = entered-suffixes (admitted store.suffixes url cookie) url now store
+
+received-suffixes : (store : Contents) (made : Result Row CookieError) (url : Parts) (now : Moment) → (received store made url now).store.suffixes ≡ store.suffixes
+received-suffixes store (Ok cookie) url now = accept-suffixes store cookie url now
+received-suffixes store (Err refusal) url now = refl
+
+-- and no call
+step-suffixes : (call : Call) (store : Contents) → (step call store).store.suffixes ≡ store.suffixes
+step-suffixes (Set text url now) store = received-suffixes store (cookie_at text url now) url now
+step-suffixes (Insert cookie url now) store = accept-suffixes store cookie url now
+step-suffixes (Remove key) store = refl
+step-suffixes Clear store = refl
+
+-- a call that puts a cookie does so one place later where another stands before
+Accepts-later : (call : Call) (calls : List Call) (store : Contents) (place : ℕ) (from : Parts) (cookie : Row)
+    → Accepts calls (step call store).store place from cookie → Accepts (call ∷ calls) store (suc place) from cookie
+Accepts-later call calls store place from cookie ((at, is, brings), says) =
+    ((at, is, subst (λ suffixes. Brings suffixes at from cookie) (step-suffixes call store) brings), says)
+
 -- what holds of a row, and of it once ended
 module _ (P : Row → Type 0) (ends : (row : Row) → P row → P (ended row)) where
   -- after a new row is placed
@@ -70,55 +103,58 @@ module _ (P : Row → Type 0) (ends : (row : Row) → P row → P (ended row)) w
       (λ _. All-placed rows cookie new old)
 
   -- after a reply to a cookie, which holds of it where it is put
-  All-rows_by : (reply : Result StoreAction CookieError) (rows : List Row) (cookie : Row) → (IsPut reply → P cookie) → All P rows → All P (rows_by reply rows cookie)
-  All-rows_by (Ok Inserted) rows cookie new old = All-put rows cookie (new (inl refl)) old
-  All-rows_by (Ok UpdatedExisting) rows cookie new old = All-put rows cookie (new (inr refl)) old
-  All-rows_by (Ok ExpiredExisting) rows cookie new old = All-changed P (has_key (key_of cookie)) ended ends rows old
-  All-rows_by (Err refusal) rows cookie new old = old
+  All-store_by : (reply : Result StoreAction CookieError) (store : Contents) (cookie : Row) (now : Moment) → (IsPut reply → P cookie) → All P store.rows → All P (store_by reply store cookie now).rows
+  All-store_by (Ok Inserted) store cookie now new old =
+      let rest = without (leaving store now (key_of cookie)) store in
+      All-put rest.rows cookie (new (inl refl)) (All-filter (λ row. is_none_of (leaving store now (key_of cookie)) (key_of row)) P store.rows old)
+  All-store_by (Ok UpdatedExisting) store cookie now new old = All-put store.rows cookie (new (inr refl)) old
+  All-store_by (Ok ExpiredExisting) store cookie now new old = All-changed P (has_key (key_of cookie)) ended ends store.rows old
+  All-store_by (Err refusal) store cookie now new old = old
 
   -- after a cookie that may enter, if there is one
-  All-entered : (made : Result Row CookieError) (url : Parts) (now : Moment) (rows : List Row)
-      → ((cookie : Row) → made ≡ Ok cookie → IsPut (entered made url now rows).reply → P cookie) → All P rows → All P (entered made url now rows).rows
-  All-entered (Err refusal) url now rows new old = old
-  All-entered (Ok cookie) url now rows new old =
-      All-rows_by (reply_at (row_of (key_of cookie) rows) cookie url now) rows cookie (new cookie refl) old
+  All-entered : (made : Result Row CookieError) (url : Parts) (now : Moment) (store : Contents)
+      → ((cookie : Row) → made ≡ Ok cookie → IsPut (entered made url now store).reply → P cookie) → All P store.rows → All P (entered made url now store).store.rows
+  All-entered (Err refusal) url now store new old = old
+  All-entered (Ok cookie) url now store new old =
+      All-store_by (reply_at (row_of (key_of cookie) store.rows) cookie url now) store cookie now (new cookie refl) old
 
   -- after a cookie that comes
-  All-accept : (suffixes : Option RuleList) (rows : List Row) (given : Row) (url : Parts) (now : Moment)
-      → ((cookie : Row) → admitted suffixes url given ≡ Ok cookie → IsPut (accept suffixes rows given url now).reply → P cookie)
-      → All P rows → All P (accept suffixes rows given url now).rows
+  All-accept : (store : Contents) (given : Row) (url : Parts) (now : Moment)
+      → ((cookie : Row) → admitted store.suffixes url given ≡ Ok cookie → IsPut (accept store given url now).reply → P cookie)
+      → All P store.rows → All P (accept store given url now).store.rows
   unfolding accept
-  All-accept suffixes rows given url now new old = All-entered (admitted suffixes url given) url now rows new old
+  All-accept store given url now new old = All-entered (admitted store.suffixes url given) url now store new old
 
   -- after one that comes if it was made
-  All-received : (suffixes : Option RuleList) (rows : List Row) (made : Result Row CookieError) (url : Parts) (now : Moment)
-      → ((cookie : Row) → and_then made (admitted suffixes url) ≡ Ok cookie → IsPut (received suffixes rows made url now).reply → P cookie)
-      → All P rows → All P (received suffixes rows made url now).rows
-  All-received suffixes rows (Ok given) url now new old = All-accept suffixes rows given url now new old
-  All-received suffixes rows (Err refusal) url now new old = old
+  All-received : (store : Contents) (made : Result Row CookieError) (url : Parts) (now : Moment)
+      → ((cookie : Row) → and_then made (admitted store.suffixes url) ≡ Ok cookie → IsPut (received store made url now).reply → P cookie)
+      → All P store.rows → All P (received store made url now).store.rows
+  All-received store (Ok given) url now new old = All-accept store given url now new old
+  All-received store (Err refusal) url now new old = old
 
   -- after a call
-  All-step : (suffixes : Option RuleList) (call : Call) (rows : List Row)
-      → ((from : Parts) (cookie : Row) → Brings suffixes call from cookie → SaysPut (Some (step suffixes call rows).reply) → P cookie)
-      → All P rows → All P (step suffixes call rows).rows
-  All-step suffixes (Set text url now) rows new old =
+  All-step : (call : Call) (store : Contents)
+      → ((from : Parts) (cookie : Row) → Brings store.suffixes call from cookie → SaysPut (Some (step call store).reply) → P cookie)
+      → All P store.rows → All P (step call store).store.rows
+  All-step (Set text url now) store new old =
       let made = cookie_at text url now in
-      All-received suffixes rows made url now
-      (λ cookie enters is_put. new url cookie (refl, enters) (says_put (received suffixes rows made url now).reply is_put))
+      All-received store made url now
+      (λ cookie enters is_put. new url cookie (refl, enters) (says_put (received store made url now).reply is_put))
       old
-  All-step suffixes (Insert given url now) rows new old =
-      All-accept suffixes rows given url now
-      (λ cookie enters is_put. new url cookie (refl, enters) (says_put (accept suffixes rows given url now).reply is_put))
+  All-step (Insert given url now) store new old =
+      All-accept store given url now
+      (λ cookie enters is_put. new url cookie (refl, enters) (says_put (accept store given url now).reply is_put))
       old
-  All-step suffixes (Remove key) rows new old = All-removed P (has_key key) rows old
-  All-step suffixes Clear rows new old = All-nil P
+  All-step (Remove key) store new old = All-removed P (has_key key) store.rows old
+  All-step Clear store new old = All-nil P
 
   -- after calls
-  pub All-rows_after : (suffixes : Option RuleList) (calls : List Call) (rows : List Row)
-      → ((place : ℕ) (from : Parts) (cookie : Row) → Accepts suffixes calls rows place from cookie → P cookie)
-      → All P rows → All P (rows_after suffixes calls rows)
-  All-rows_after suffixes [] rows new old = old
-  All-rows_after suffixes (call ∷ calls) rows new old =
-      All-rows_after suffixes calls (step suffixes call rows).rows
-      (λ place from cookie accepts. new (suc place) from cookie accepts)
-      (All-step suffixes call rows (λ from cookie brings says. new zero from cookie ((call, refl, brings), says)) old)
+  pub All-rows_after : (calls : List Call) (store : Contents)
+      → ((place : ℕ) (from : Parts) (cookie : Row) → Accepts calls store place from cookie → P cookie)
+      → All P store.rows → All P (rows_after calls store)
+  All-rows_after [] store new old = old
+  All-rows_after (call ∷ calls) store new old =
+      let after = (step call store).store in
+      All-rows_after calls after
+      (λ place from cookie accepts. new (suc place) from cookie (Accepts-later call calls store place from cookie accepts))
+      (All-step call store (λ from cookie brings says. new zero from cookie ((call, refl, brings), says)) old)

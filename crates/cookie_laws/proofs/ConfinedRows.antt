@@ -16,6 +16,7 @@ use Rattle.cookie_parts.specs.declared.cookie_error.CookieError.{CookieError}
 use Rattle.cookie_parts.specs.declared.cookie_error.CookieError.TheVariants.{DomainMismatch, PublicSuffix}
 use Rattle.cookie_laws.specs.Acceptance.{admitted, by_domain, by_list, by_scheme, is_listed}
 use Rattle.cookie_laws.specs.Confinement.{Accepts, Brings, HaveOneHost, IsConfined, IsConfinedAsPut, IsShared, IsPutOrEnded, IsUnlisted}
+use Rattle.cookie_laws.specs.Contents.{Contents}
 use Rattle.cookie_laws.specs.Given.{given, is_given}
 use Rattle.cookie_laws.specs.Runs.{Call, Set, Insert, Remove, Clear, rows_after}
 use Rattle.cookie_laws.proofs.AcceptedRows.{All-rows_after}
@@ -77,9 +78,9 @@ Brings-MayCome suffixes (Remove key) from cookie brings = absurd brings
 Brings-MayCome suffixes Clear from cookie brings = absurd brings
 
 -- a call of the run put the row, which may have ended since
-abbrev WasAccepted : Option RuleList → List Call → Row → Type 0
-WasAccepted suffixes calls row =
-    (place : ℕ) × (from : Parts) × (accepted : Row) × Accepts suffixes calls [] place from accepted × IsPutOrEnded accepted row
+abbrev WasAccepted : List Call → Contents → Row → Type 0
+WasAccepted calls store row =
+    (place : ℕ) × (from : Parts) × (accepted : Row) × Accepts calls store place from accepted × IsPutOrEnded accepted row
 
 -- a row that was put stays so as it ends
 ends-IsPutOrEnded : (accepted row : Row) → IsPutOrEnded accepted row → IsPutOrEnded accepted (ended row)
@@ -92,11 +93,11 @@ same_domain accepted row (inl is) = sym (ap (λ c. c.domain) is)
 same_domain accepted row (inr is) = sym (ap (λ c. c.domain) is)
 
 -- each row was put
-rows-accepted : (suffixes : Option RuleList) (calls : List Call) → All (WasAccepted suffixes calls) (rows_after suffixes calls [])
-rows-accepted suffixes calls =
-    All-rows_after (WasAccepted suffixes calls) (λ row was. (was.0, was.1, was.2, was.3, ends-IsPutOrEnded was.2 row was.4)) suffixes calls []
+rows-accepted : (calls : List Call) (store : Contents) → store.rows ≡ [] → All (WasAccepted calls store) (rows_after calls store)
+rows-accepted calls store empty =
+    All-rows_after (WasAccepted calls store) (λ row was. (was.0, was.1, was.2, was.3, ends-IsPutOrEnded was.2 row was.4)) calls store
     (λ place from cookie accepts. (place, from, cookie, accepts, inl refl))
-    (All-nil (WasAccepted suffixes calls))
+    (subst (All (WasAccepted calls store)) (sym empty) (All-nil (WasAccepted calls store)))
 
 -- there is a value that passes
 passes-value : {T : Type 0} (test : T → Bool) (value : Option T) → passes test value ≡ true → (x : T) × (value ≡ Some x) × (test x ≡ true)
@@ -137,24 +138,24 @@ given-matches url now row is =
     (and_parts _ _ (and_parts _ _ (and_parts _ _ matches).0).0).0
 
 -- a row that was put and is given is confined
-row-confined : (suffixes : Option RuleList) (url : Parts) (now : Moment) (calls : List Call) (row : Row)
-    → WasAccepted suffixes calls row → is_given url now row ≡ true → IsConfined suffixes calls url row
-row-confined suffixes url now calls row was is =
+row-confined : (url : Parts) (now : Moment) (calls : List Call) (store : Contents) (row : Row)
+    → WasAccepted calls store row → is_given url now row ≡ true → IsConfined calls store url row
+row-confined url now calls store row was is =
     let from = was.1 in
     let accepted = was.2 in
     let same : accepted.domain ≡ row.domain = same_domain accepted row was.4 in
-    let may = Brings-MayCome suffixes was.3.0.0 from accepted was.3.0.2 in
+    let may = Brings-MayCome store.suffixes was.3.0.0 from accepted was.3.0.2 in
     let first : domain_matches row.domain from ≡ true = sym (ap (λ domain. domain_matches domain from) same) ∙ may.matches in
     let shares = λ (domain : List ℕ) (suffix : row.domain ≡ Suffix domain). may.shares domain (same ∙ suffix) in
-    (was.0, from, accepted, was.3, was.4, hosts_of suffixes row from url row.domain refl shares first (given-matches url now row is))
+    (was.0, from, accepted, was.3, was.4, hosts_of store.suffixes row from url row.domain refl shares first (given-matches url now row is))
 
 -- what is given after calls from no rows is confined
-pub given-confined : (suffixes : Option RuleList) (url : Parts) (now : Moment) (calls : List Call)
-    → All (IsConfined suffixes calls url) (given url now (rows_after suffixes calls []))
-given-confined suffixes url now calls k d within =
-    let rows = rows_after suffixes calls [] in
-    let was = All-filter (is_given url now) (WasAccepted suffixes calls) rows (rows-accepted suffixes calls) k d within in
-    row-confined suffixes url now calls _ was (filter_passes (is_given url now) rows k d within)
+pub given-confined : (url : Parts) (now : Moment) (calls : List Call) (store : Contents) → store.rows ≡ []
+    → All (IsConfined calls store url) (given url now (rows_after calls store))
+given-confined url now calls store empty k d within =
+    let rows = rows_after calls store in
+    let was = All-filter (is_given url now) (WasAccepted calls store) rows (rows-accepted calls store empty) k d within in
+    row-confined url now calls store _ was (filter_passes (is_given url now) rows k d within)
 
 -- a row that is given has not ended
 given-live : (url : Parts) (now : Moment) (row : Row) → is_given url now row ≡ true → is_expired now row ≡ false
@@ -165,19 +166,19 @@ ended-expired : (now : Moment) (row : Row) → nanoseconds epoch ≤ℤ nanoseco
 ended-expired now row later = grind (arith, ints, later)
 
 -- so what is given then is the cookie that was put
-confined-as_put : (suffixes : Option RuleList) (url : Parts) (now : Moment) (calls : List Call) (row : Row) → nanoseconds epoch ≤ℤ nanoseconds now
-    → is_given url now row ≡ true → IsConfined suffixes calls url row → IsConfinedAsPut suffixes calls url row
-confined-as_put suffixes url now calls row later is (place, from, accepted, accepts, same, hosts) =
-    ⊎_elim (λ put. (place, from, subst (Accepts suffixes calls [] place from) (sym put) accepts, hosts))
+confined-as_put : (url : Parts) (now : Moment) (calls : List Call) (store : Contents) (row : Row) → nanoseconds epoch ≤ℤ nanoseconds now
+    → is_given url now row ≡ true → IsConfined calls store url row → IsConfinedAsPut calls store url row
+confined-as_put url now calls store row later is (place, from, accepted, accepts, same, hosts) =
+    ⊎_elim (λ put. (place, from, subst (Accepts calls store place from) (sym put) accepts, hosts))
     (λ ends.
     let over : is_expired now row ≡ true = ap (is_expired now) ends ∙ ended-expired now accepted later in
     absurd (both_ways (is_expired now row) (given-live url now row is) over))
     same
 
 -- what is given after calls from no rows, at a moment from the epoch on, is confined as it was put
-pub given-confined_as_put : (suffixes : Option RuleList) (url : Parts) (now : Moment) (calls : List Call) → nanoseconds epoch ≤ℤ nanoseconds now
-    → All (IsConfinedAsPut suffixes calls url) (given url now (rows_after suffixes calls []))
-given-confined_as_put suffixes url now calls later k d within =
-    confined-as_put suffixes url now calls _ later
-    (filter_passes (is_given url now) (rows_after suffixes calls []) k d within)
-    (given-confined suffixes url now calls k d within)
+pub given-confined_as_put : (url : Parts) (now : Moment) (calls : List Call) (store : Contents) → store.rows ≡ [] → nanoseconds epoch ≤ℤ nanoseconds now
+    → All (IsConfinedAsPut calls store url) (given url now (rows_after calls store))
+given-confined_as_put url now calls store empty later k d within =
+    confined-as_put url now calls store _ later
+    (filter_passes (is_given url now) (rows_after calls store) k d within)
+    (given-confined url now calls store empty k d within)

@@ -1,9 +1,12 @@
--- The row that is found of a cookie's key, once the cookie was put or ended that row.
-use Rattle.std.proofs.Common.{◌≡◌, Bool, true, false, List, [], ◌∷◌, Some, arith}
+-- The row that is found of a key, once a cookie was put, a row ended, or rows left.
+use Rattle.std.proofs.Common.{◌≡◌, Bool, true, false, not, List, [], ◌∷◌, Some, None, ⊎_elim, ◌∙◌, refl, sym, ap, arith}
 use Rattle.std.specs.List.{find, list_any}
-use Rattle.std.proofs.lemmas.Bool.{cond_both}
+use Rattle.std.proofs.lemmas.Bool.{both_ways, cases_Bool, cond_both, not-true}
 use Rattle.cookie_parts.specs.Cookie.{Row, ended}
-use Rattle.cookie_laws.specs.Rows.{Key, changed, key_of, has_key, in_domain, in_group, row_of, after_last, replaced, placed, put, same_key_equiv}
+use Rattle.cookie_laws.specs.Contents.{Contents, is_none_of, without}
+use Rattle.cookie_laws.specs.Rows.{Key, changed, key_of, has_key, in_domain, in_group, row_of, after_last, replaced, placed, put, same_key, same_key-true, same_key_equiv}
+use Rattle.cookie_laws.proofs.Filtered.{none-apart}
+use Rattle.cookie_laws.proofs.RowsOfKeys.{ended-other, put-other, row_of-passing}
 
 -- y in the place of the first item that passes is the first one, if it passes too
 find-replaced : {T : Type 0} (test : T → Bool) (xs : List T) (y : T) → list_any test xs ≡ true → test y ≡ true → find test (replaced test xs y) ≡ Some y
@@ -43,3 +46,36 @@ find-changed test change after (x ∷ xs) found here = grind (arith, here, after
 -- the row of the key has ended, where that row was ended
 pub row_of-ended : (key : Key) (rows : List Row) (row : Row) → row_of key rows ≡ Some row → row_of key (changed (has_key key) ended rows) ≡ Some (ended row)
 row_of-ended key rows row held = find-changed (has_key key) ended (λ _ same. same) rows row held
+
+-- a row of another key is found where a cookie is put as it was
+pub row_of-put_other : (key : Key) (rows : List Row) (cookie : Row) → same_key key (key_of cookie) ≡ false → row_of key (put rows cookie) ≡ row_of key rows
+row_of-put_other key rows cookie away =
+    let test = same_key key in
+    let here : test key ≡ true = same_key_equiv.refl key in
+    sym (row_of-passing test key (put rows cookie) here) ∙ ap (row_of key) (put-other test rows cookie away) ∙ row_of-passing test key rows here
+
+-- and where the row of another ends
+pub row_of-ended_other : (key own : Key) (rows : List Row) → same_key key own ≡ false → row_of key (changed (has_key own) ended rows) ≡ row_of key rows
+row_of-ended_other key own rows away =
+    let test = same_key key in
+    let here : test key ≡ true = same_key_equiv.refl key in
+    sym (row_of-passing test key (changed (has_key own) ended rows) here) ∙ ap (row_of key) (ended-other test own rows away) ∙ row_of-passing test key rows here
+
+-- where no item passes, none is found
+find-none : {T : Type 0} (test : T → Bool) (xs : List T) → list_any test xs ≡ false → find test xs ≡ None
+find-none test [] none = refl
+find-none test (x ∷ xs) none = grind (arith, find-none test xs)
+
+-- the row of a key that stays is found among the rows that stay
+pub row_of-stays : (keys : List Key) (key : Key) (store : Contents) → list_any (same_key key) keys ≡ false → row_of key (without keys store).rows ≡ row_of key store.rows
+row_of-stays keys key store stays = row_of-passing (is_none_of keys) key store.rows (ap not stays)
+
+-- the row of a key that leaves is not
+pub row_of-leaves : (keys : List Key) (key : Key) (store : Contents) → list_any (same_key key) keys ≡ true → row_of key (without keys store).rows ≡ None
+row_of-leaves keys key store leaves =
+    let rest = λ (row : Row). is_none_of keys (key_of row) in
+    let apart : (row : Row) → rest row ≡ true → has_key key row ≡ false = λ row left.
+    ⊎_elim (λ same. absurd (both_ways (list_any (same_key (key_of row)) keys) (not-true _ left) (sym (ap (λ k. list_any (same_key k) keys) (same_key-true key (key_of row) same)) ∙ leaves)))
+    (λ differs. differs)
+    (cases_Bool (has_key key row)) in
+    find-none (has_key key) (without keys store).rows (none-apart (has_key key) rest apart store.rows)

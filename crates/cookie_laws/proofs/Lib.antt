@@ -1,6 +1,6 @@
 pub mod AcceptanceOfKeys
 pub mod AcceptedRows
-pub mod CallsOfKey
+pub mod CallsOfDomain
 pub mod ConfinedRows
 pub mod CoveredHosts
 pub mod Filtered
@@ -11,3 +11,4 @@ pub mod RelatedCalls
 pub mod RowsOfKeys
 pub mod RunsOfKeys
 pub mod SingleInsertions
+pub mod StoresOfKeys

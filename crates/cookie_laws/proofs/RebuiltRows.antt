@@ -62,5 +62,5 @@ put_all-next before (row ∷ after) h =
     ∙ one
 
 -- rows are built from themselves
-pub rebuilt : (rows : List Row) (now : Moment) → are_rows rows ≡ true → built true now rows ≡ rows
+pub rebuilt : (rows : List Row) (now : Moment) → are_rows rows ≡ true → (built true now rows).rows ≡ rows
 rebuilt rows now h = put_all-next [] rows h

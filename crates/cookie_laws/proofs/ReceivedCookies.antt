@@ -1,5 +1,5 @@
 -- What one insertion does with a cookie that may have been refused as it was made.
-use Rattle.std.proofs.Common.{◌≡◌, true, false, List, Option, Some, Result, Ok, Err, ◌∙◌, refl, sym, ap, arith}
+use Rattle.std.proofs.Common.{◌≡◌, true, false, Option, Some, Result, Ok, Err, ◌⊎◌, ⊎_elim, inl, inr, ◌∙◌, refl, sym, ap, arith}
 use Rattle.url.specs.Parts.{Parts}
 use Rattle.cookie_words.specs.Moments.{Moment}
 use Rattle.cookie_psl.specs.Rules.{RuleList}
@@ -8,7 +8,8 @@ use Rattle.cookie_parts.specs.Domain.{HostOnly, domain_matches, domain_text}
 use Rattle.cookie_parts.specs.Hosts.{host_of}
 use Rattle.cookie_parts.specs.declared.cookie_error.CookieError.{CookieError}
 use Rattle.cookie_parts.specs.declared.store_action.StoreAction.TheVariants.{ExpiredExisting}
-use Rattle.cookie_laws.specs.Acceptance.{IsPut, admitted, is_listed, received}
+use Rattle.cookie_laws.specs.Acceptance.{IsPut, admitted, is_listed, received, Leaves}
+use Rattle.cookie_laws.specs.Contents.{Contents}
 use Rattle.cookie_laws.specs.Rows.{Key, changed, has_key, is_live, key_of, row_of, same_key}
 use Rattle.cookie_laws.proofs.ConfinedRows.{IfOk_at, MayCome, admitted-MayCome, own_host}
 use Rattle.cookie_laws.proofs.SingleInsertions.{accept-ended_row, accept-ends, accept-guarded, accept-live, accept-other_row, accept-put, refused-put}
@@ -20,52 +21,54 @@ admitted-host suffixes url cookie entered enters alone =
     let may = IfOk_at (MayCome suffixes url) (admitted suffixes url cookie) entered (admitted-MayCome suffixes url cookie) enters in
     own_host (domain_text entered.domain) url (sym (ap (λ domain. domain_matches domain url) alone) ∙ may.matches)
 
-module _ (suffixes : Option RuleList) (rows : List Row) (url : Parts) (now : Moment) where
+module _ (store : Contents) (url : Parts) (now : Moment) where
   -- one that is put is the row of its key, and for the URL's host alone where its domain is on the list
-  pub received-put : (made : Result Row CookieError) → IsPut (received suffixes rows made url now).reply
-      → (cookie : Row) × (entered : Row) × (made ≡ Ok cookie) × (admitted suffixes url cookie ≡ Ok entered)
-      × (row_of (key_of cookie) (received suffixes rows made url now).rows ≡ Some entered)
-      × (is_listed suffixes entered.domain ≡ true → (entered.domain ≡ HostOnly (domain_text entered.domain)) × (host_of url ≡ Some (domain_text entered.domain)))
+  pub received-put : (made : Result Row CookieError) → IsPut (received store made url now).reply
+      → (cookie : Row) × (entered : Row) × (made ≡ Ok cookie) × (admitted store.suffixes url cookie ≡ Ok entered)
+      × (row_of (key_of cookie) (received store made url now).store.rows ≡ Some entered)
+      × (is_listed store.suffixes entered.domain ≡ true → (entered.domain ≡ HostOnly (domain_text entered.domain)) × (host_of url ≡ Some (domain_text entered.domain)))
   received-put (Err refusal) was_put = absurd (refused-put refusal was_put)
   received-put (Ok cookie) was_put =
-      let (entered, enters, found, own) = accept-put suffixes rows cookie url now was_put in (
+      let (entered, enters, found, own) = accept-put store cookie url now was_put in (
         cookie,
         entered,
         refl,
         enters,
         found,
-        λ listed. (own listed, admitted-host suffixes url cookie entered enters (own listed)),
+        λ listed. (own listed, admitted-host store.suffixes url cookie entered enters (own listed)),
       )
 
   -- one that ends a row was made, and ends a row that had not ended
-  pub received-live : (made : Result Row CookieError) → (received suffixes rows made url now).reply ≡ Ok ExpiredExisting
-      → (cookie : Row) × (row : Row) × (made ≡ Ok cookie) × (row_of (key_of cookie) rows ≡ Some row) × (is_live now row ≡ true)
+  pub received-live : (made : Result Row CookieError) → (received store made url now).reply ≡ Ok ExpiredExisting
+      → (cookie : Row) × (row : Row) × (made ≡ Ok cookie) × (row_of (key_of cookie) store.rows ≡ Some row) × (is_live now row ≡ true)
   received-live (Err refusal) ends = absurd (grind (arith, ends))
   received-live (Ok cookie) ends =
-      let (row, held, live) = accept-live suffixes rows cookie url now ends in (cookie, row, refl, held, live)
+      let (row, held, live) = accept-live store cookie url now ends in (cookie, row, refl, held, live)
 
-  module _ (made : Result Row CookieError) (cookie : Row) (is : made ≡ Ok cookie) (ends : (received suffixes rows made url now).reply ≡ Ok ExpiredExisting) where
-    came : (received suffixes rows (Ok cookie) url now).reply ≡ Ok ExpiredExisting
-    came = sym (ap (λ m. (received suffixes rows m url now).reply) is) ∙ ends
+  module _ (made : Result Row CookieError) (cookie : Row) (is : made ≡ Ok cookie) (ends : (received store made url now).reply ≡ Ok ExpiredExisting) where
+    came : (received store (Ok cookie) url now).reply ≡ Ok ExpiredExisting
+    came = sym (ap (λ m. (received store m url now).reply) is) ∙ ends
 
     -- it ends the row of its key
-    pub received-ends : (received suffixes rows made url now).rows ≡ changed (has_key (key_of cookie)) ended rows
-    received-ends = ap (λ m. (received suffixes rows m url now).rows) is ∙ accept-ends suffixes rows cookie url now came
+    pub received-ends : (received store made url now).store ≡ record store { rows = changed (has_key (key_of cookie)) ended store.rows }
+    received-ends = ap (λ m. (received store m url now).store) is ∙ accept-ends store cookie url now came
 
-    pub received-ended_row : (row : Row) → row_of (key_of cookie) rows ≡ Some row
-        → row_of (key_of cookie) (received suffixes rows made url now).rows ≡ Some (ended row)
+    pub received-ended_row : (row : Row) → row_of (key_of cookie) store.rows ≡ Some row
+        → row_of (key_of cookie) (received store made url now).store.rows ≡ Some (ended row)
     received-ended_row row held =
-        ap (λ m. row_of (key_of cookie) (received suffixes rows m url now).rows) is
-        ∙ accept-ended_row suffixes rows cookie url now row came held
+        ap (λ m. row_of (key_of cookie) (received store m url now).store.rows) is
+        ∙ accept-ended_row store cookie url now row came held
 
     -- and leaves the rows of all others
     pub received-other_row : (key : Key) → same_key key (key_of cookie) ≡ false
-        → row_of key (received suffixes rows made url now).rows ≡ row_of key rows
+        → row_of key (received store made url now).store.rows ≡ row_of key store.rows
     received-other_row key away =
-        ap (λ m. row_of key (received suffixes rows m url now).rows) is ∙ accept-other_row suffixes rows cookie url now key away
+        ap (λ m. row_of key (received store m url now).store.rows) is ∙ accept-other_row store cookie url now key came away
 
-  -- a row out of the URL's reach that has not ended stays
-  pub received-guarded : (made : Result Row CookieError) (key : Key) (row : Row) → row_of key rows ≡ Some row → is_live now row ≡ true
-      → is_out_of_reach row.raw url ≡ true → row_of key (received suffixes rows made url now).rows ≡ Some row
-  received-guarded (Err refusal) key row held live out = held
-  received-guarded (Ok cookie) key row held live out = accept-guarded suffixes rows cookie url now key row held live out
+  -- a row out of the URL's reach that has not ended stays, or leaves for a cookie that is inserted
+  pub received-guarded : (made : Result Row CookieError) (key : Key) (row : Row) → row_of key store.rows ≡ Some row → is_live now row ≡ true
+      → is_out_of_reach row.raw url ≡ true → (row_of key (received store made url now).store.rows ≡ Some row) ⊎ Leaves store made url now key
+  received-guarded (Err refusal) key row held live out = inl held
+  received-guarded (Ok cookie) key row held live out =
+      ⊎_elim (λ stays. inl stays) (λ (reply, leaves, gone). inr (cookie, refl, reply, leaves, gone))
+      (accept-guarded store cookie url now key row held live out)

@@ -6,47 +6,31 @@ use Rattle.std.proofs.lemmas.Bool.{and_parts, or_cases, or_left, or_right, cond_
 use Rattle.std.proofs.lemmas.Slice.Eq.{bytes_eq-Decides}
 use Rattle.url.specs.Parts.{Parts}
 use Rattle.cookie_words.specs.Moments.{Moment}
-use Rattle.cookie_psl.specs.Rules.{RuleList}
 use Rattle.cookie_parts.specs.Cookie.{Row}
 use Rattle.cookie_parts.specs.Domain.{DomainValue, HostOnly, Suffix, NotPresent, Empty, domain_text, is_for_host}
 use Rattle.cookie_parts.specs.Hosts.{host_of, passes}
+use Rattle.cookie_laws.specs.Contents.{Contents}
 use Rattle.cookie_laws.specs.Given.{given, is_given}
-use Rattle.cookie_laws.specs.Rows.{Key, key_of, in_domain, in_group, after_last}
+use Rattle.cookie_laws.specs.Rows.{Key, key_of}
 use Rattle.cookie_laws.specs.Runs.{Call, replies, rows_after}
 use Rattle.cookie_laws.specs.Related.{after_dots, is_related, passes_or_none, concerns, left, replies_to}
 use Rattle.cookie_laws.proofs.CoveredHosts.{front-ends_with}
-use Rattle.cookie_laws.proofs.Filtered.{filter-within, list_any-kept, after_last-kept}
-use Rattle.cookie_laws.proofs.RowsOfKeys.{KeepsPlaces, passing, cond_alike}
-use Rattle.cookie_laws.proofs.RunsOfKeys.{IsOfKeys, same_rows, same_replies}
+use Rattle.cookie_laws.proofs.Filtered.{filter-within}
+use Rattle.cookie_laws.proofs.RowsOfKeys.{IsByDomain}
+use Rattle.cookie_laws.proofs.RunsOfKeys.{IsOfKeys, same_stores, same_replies}
 
 -- the key's domain is related to the URL
 abbrev is_key_related : Parts → Key → Bool
 is_key_related url key = is_related url key.domain
 
--- a row of a domain that is related is related
-in_domain-related : (url : Parts) (key : Key) → is_key_related url key ≡ true → (row : Row) → in_domain key row ≡ true → is_key_related url (key_of row) ≡ true
-in_domain-related url key here row same =
-    ap (is_related url) (sym ((bytes_eq-Decides key.domain (domain_text row.domain)).0 same)) ∙ here
-
--- a new row of a related domain is placed among the related rows as among all
-related_places : (url : Parts) → KeepsPlaces (is_key_related url)
-related_places url rows cookie here new =
-    let test = is_key_related url in
-    let key = key_of cookie in
-    let pass = λ (row : Row). test (key_of row) in
-    let domain = in_domain-related url key here in
-    let group = λ (row : Row) (same : in_group key row ≡ true). domain row (and_parts _ _ same).0 in
-    cond_alike (passing test) (list_any (in_group key) rows) (list_any (in_group key) (passing test rows))
-    (after_last (in_group key) rows cookie) (after_last (in_domain key) rows cookie)
-    (after_last (in_group key) (passing test rows) cookie) (after_last (in_domain key) (passing test rows) cookie)
-    (list_any-kept pass (in_group key) group rows)
-    (λ _. after_last-kept pass (in_group key) rows cookie here group)
-    (λ _. after_last-kept pass (in_domain key) rows cookie here domain)
+-- keys of one domain are related alike
+related_domains : (url : Parts) → IsByDomain (is_key_related url)
+related_domains url a b same = ap (is_related url) ((bytes_eq-Decides a.domain b.domain).0 same)
 
 -- the calls that concern a URL are those for related domains, and `Clear`
 related_calls : (url : Parts) → IsOfKeys (is_key_related url) (concerns url)
 related_calls url = record {
-  places = related_places url;
+  domains = related_domains url;
   calls = λ call key is. ap (passes_or_none (is_key_related url)) is;
   clear = refl;
 }
@@ -89,16 +73,15 @@ given-related url now row is =
     passes-weaker (is_for_host row.domain) (λ host. list_any (bytes_eq (domain_text row.domain)) (host ∷ after_dots host)) (for_host-related row.domain) (host_of url) for_url
 
 -- what is given for a URL depends on the calls for related domains alone
-pub same_given : (suffixes : Option RuleList) (url : Parts) (now : Moment) (calls : List Call) (rows : List Row)
-    → given url now (rows_after suffixes calls rows) ≡ given url now (rows_after suffixes (left url calls) rows)
-same_given suffixes url now calls rows =
+pub same_given : (url : Parts) (now : Moment) (calls : List Call) (store : Contents)
+    → given url now (rows_after calls store) ≡ given url now (rows_after (left url calls) store)
+same_given url now calls store =
     let test = is_key_related url in
     let within = filter-within (λ row. test (key_of row)) (is_given url now) (given-related url now) in
-    sym (within (rows_after suffixes calls rows))
-    ∙ ap (given url now) (same_rows (related_calls url) suffixes calls rows)
-    ∙ within (rows_after suffixes (left url calls) rows)
+    sym (within (rows_after calls store))
+    ∙ ap (λ after. given url now after.rows) (same_stores (related_calls url) calls store)
+    ∙ within (rows_after (left url calls) store)
 
 -- so do the replies to them
-pub same_related_replies : (suffixes : Option RuleList) (url : Parts) (calls : List Call) (rows : List Row)
-    → replies_to (concerns url) suffixes calls rows ≡ replies suffixes (left url calls) rows
-same_related_replies suffixes url calls rows = same_replies (related_calls url) suffixes calls rows
+pub same_related_replies : (url : Parts) (calls : List Call) (store : Contents) → replies_to (concerns url) calls store ≡ replies (left url calls) store
+same_related_replies url calls store = same_replies (related_calls url) calls store

@@ -1,14 +1,10 @@
--- The rows whose keys pass a test, as cookies are put and accepted.
-use Rattle.std.proofs.Common.{◌≡◌, Bool, true, false, cond, List, Result, Ok, Err, ◌∙◌, refl, sym, ap}
+-- The rows whose keys pass a test, as cookies are put and rows end or are removed.
+use Rattle.std.proofs.Common.{◌≡◌, Bool, true, false, cond, List, ◌∙◌, refl, sym, ap}
 use Rattle.std.specs.List.{filter, list_any}
-use Rattle.std.proofs.lemmas.Bool.{cond_both}
+use Rattle.std.proofs.lemmas.Bool.{and_parts, cond_both}
 use Rattle.cookie_parts.specs.Cookie.{Row, ended}
-use Rattle.cookie_parts.specs.declared.cookie_error.CookieError.{CookieError}
-use Rattle.cookie_parts.specs.declared.store_action.StoreAction.{StoreAction}
-use Rattle.cookie_parts.specs.declared.store_action.StoreAction.TheVariants.{Inserted, ExpiredExisting, UpdatedExisting}
-use Rattle.cookie_laws.specs.Rows.{Key, key_of, has_key, in_domain, in_group, row_of, after_last, replaced, removed, placed, put, same_key-true}
-use Rattle.cookie_laws.specs.Acceptance.{rows_by}
-use Rattle.cookie_laws.proofs.Filtered.{find-kept, list_any-kept, after_last-lost, changed-kept, changed-lost, removed-kept, removed-lost}
+use Rattle.cookie_laws.specs.Rows.{Key, key_of, has_key, in_domain, in_group, row_of, after_last, changed, replaced, removed, placed, put, same_domain, same_key-true}
+use Rattle.cookie_laws.proofs.Filtered.{find-kept, list_any-kept, after_last-kept, after_last-lost, changed-kept, changed-lost, removed-kept, removed-lost}
 
 -- the rows whose keys pass
 abbrev pub passing : (Key → Bool) → List Row → List Row
@@ -37,14 +33,27 @@ cond_alike f true false x y u v same first second = cc
 cond_alike f false true x y u v same first second = cc
 cond_alike f false false x y u v same first second = second refl
 
+-- the test looks at the domain of a key alone
+abbrev pub IsByDomain : (Key → Bool) → Type 0
+IsByDomain test = (a b : Key) → same_domain a b ≡ true → test a ≡ test b
+
 -- a new row of a key that passes is placed among the rows that pass as among all
-abbrev pub KeepsPlaces : (Key → Bool) → Type 0
-KeepsPlaces test = (rows : List Row) (cookie : Row) → test (key_of cookie) ≡ true → list_any (has_key (key_of cookie)) rows ≡ false
-    → passing test (placed rows cookie) ≡ placed (passing test rows) cookie
+placed-passing : (test : Key → Bool) → IsByDomain test → (rows : List Row) (cookie : Row) → test (key_of cookie) ≡ true → passing test (placed rows cookie) ≡ placed (passing test rows) cookie
+placed-passing test by_domain rows cookie here =
+    let key = key_of cookie in
+    let pass = λ (row : Row). test (key_of row) in
+    let domain = λ (row : Row) (same : in_domain key row ≡ true). sym (by_domain key (key_of row) same) ∙ here in
+    let group = λ (row : Row) (same : in_group key row ≡ true). domain row (and_parts _ _ same).0 in
+    cond_alike (passing test) (list_any (in_group key) rows) (list_any (in_group key) (passing test rows))
+    (after_last (in_group key) rows cookie) (after_last (in_domain key) rows cookie)
+    (after_last (in_group key) (passing test rows) cookie) (after_last (in_domain key) (passing test rows) cookie)
+    (list_any-kept pass (in_group key) group rows)
+    (λ _. after_last-kept pass (in_group key) rows cookie here group)
+    (λ _. after_last-kept pass (in_domain key) rows cookie here domain)
 
 -- a cookie is put whose key passes
-put-passing : (test : Key → Bool) → KeepsPlaces test → (rows : List Row) (cookie : Row) → test (key_of cookie) ≡ true → passing test (put rows cookie) ≡ put (passing test rows) cookie
-put-passing test places rows cookie here =
+pub put-passing : (test : Key → Bool) → IsByDomain test → (rows : List Row) (cookie : Row) → test (key_of cookie) ≡ true → passing test (put rows cookie) ≡ put (passing test rows) cookie
+put-passing test by_domain rows cookie here =
     let key = key_of cookie in
     let pass = λ (row : Row). test (key_of row) in
     let kept = has_key-passes test key true here in
@@ -53,7 +62,7 @@ put-passing test places rows cookie here =
     (replaced (has_key key) (passing test rows) cookie) (placed (passing test rows) cookie)
     (list_any-kept pass (has_key key) kept rows)
     (λ some. changed-kept pass (has_key key) (λ _. cookie) kept (λ _ _. here) rows)
-    (λ new. places rows cookie here new)
+    (λ _. placed-passing test by_domain rows cookie here)
 
 -- a cookie is placed whose key does not pass
 placed-other : (test : Key → Bool) (rows : List Row) (cookie : Row) → test (key_of cookie) ≡ false → passing test (placed rows cookie) ≡ passing test rows
@@ -66,7 +75,7 @@ placed-other test rows cookie away =
     (λ _. after_last-lost pass (in_domain key) rows cookie away)
 
 -- a cookie is put whose key does not pass
-put-other : (test : Key → Bool) (rows : List Row) (cookie : Row) → test (key_of cookie) ≡ false → passing test (put rows cookie) ≡ passing test rows
+pub put-other : (test : Key → Bool) (rows : List Row) (cookie : Row) → test (key_of cookie) ≡ false → passing test (put rows cookie) ≡ passing test rows
 put-other test rows cookie away =
     let key = key_of cookie in
     let pass = λ (row : Row). test (key_of row) in
@@ -75,20 +84,14 @@ put-other test rows cookie away =
     (λ _. changed-lost pass (has_key key) (λ _. cookie) (has_key-passes test key false away) (λ _ _. away) rows)
     (λ _. placed-other test rows cookie away)
 
--- the rows that a reply leaves, for a cookie whose key passes
-pub rows_by-passing : (test : Key → Bool) → KeepsPlaces test → (reply : Result StoreAction CookieError) (rows : List Row) (cookie : Row) → test (key_of cookie) ≡ true → rows_by reply (passing test rows) cookie ≡ passing test (rows_by reply rows cookie)
-rows_by-passing test places (Ok Inserted) rows cookie here = sym (put-passing test places rows cookie here)
-rows_by-passing test places (Ok UpdatedExisting) rows cookie here = sym (put-passing test places rows cookie here)
-rows_by-passing test places (Ok ExpiredExisting) rows cookie here =
-    let kept = has_key-passes test (key_of cookie) true here in
-    sym (changed-kept (λ row. test (key_of row)) (has_key (key_of cookie)) ended kept kept rows)
-rows_by-passing test places (Err refusal) rows cookie here = refl
+-- the row of a key ends that passes
+pub ended-passing : (test : Key → Bool) (key : Key) (rows : List Row) → test key ≡ true → passing test (changed (has_key key) ended rows) ≡ changed (has_key key) ended (passing test rows)
+ended-passing test key rows here =
+    let kept = has_key-passes test key true here in
+    changed-kept (λ row. test (key_of row)) (has_key key) ended kept kept rows
 
--- and for one whose key does not
-pub rows_by-other : (test : Key → Bool) (reply : Result StoreAction CookieError) (rows : List Row) (cookie : Row) → test (key_of cookie) ≡ false → passing test (rows_by reply rows cookie) ≡ passing test rows
-rows_by-other test (Ok Inserted) rows cookie away = put-other test rows cookie away
-rows_by-other test (Ok UpdatedExisting) rows cookie away = put-other test rows cookie away
-rows_by-other test (Ok ExpiredExisting) rows cookie away =
-    let lost = has_key-passes test (key_of cookie) false away in
-    changed-lost (λ row. test (key_of row)) (has_key (key_of cookie)) ended lost lost rows
-rows_by-other test (Err refusal) rows cookie away = refl
+-- the row of a key ends that does not
+pub ended-other : (test : Key → Bool) (key : Key) (rows : List Row) → test key ≡ false → passing test (changed (has_key key) ended rows) ≡ passing test rows
+ended-other test key rows away =
+    let lost = has_key-passes test key false away in
+    changed-lost (λ row. test (key_of row)) (has_key key) ended lost lost rows

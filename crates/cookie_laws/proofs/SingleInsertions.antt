@@ -1,5 +1,6 @@
 -- What one insertion does: what is put, what it ends, and what it leaves alone.
-use Rattle.std.proofs.Common.{◌≡◌, true, false, not, ◌&&◌, List, Option, Some, None, Result, Ok, Err, ⊎_elim, ◌∙◌, refl, sym, ap, arith}
+use Rattle.std.proofs.Common.{◌≡◌, true, false, not, ◌&&◌, List, Option, Some, None, Result, Ok, Err, ◌⊎◌, ⊎_elim, inl, inr, subst, ◌∙◌, refl, sym, ap, arith}
+use Rattle.std.specs.List.{list_any}
 use Rattle.std.proofs.lemmas.Bool.{cond_both, cond-true, and_from, not-true, both_ways, cases_Bool}
 use Rattle.url.specs.Parts.{Parts}
 use Rattle.cookie_words.specs.Moments.{Moment}
@@ -9,12 +10,12 @@ use Rattle.cookie_parts.specs.Domain.{HostOnly, domain_matches, domain_text, hos
 use Rattle.cookie_parts.specs.declared.cookie_error.CookieError.{CookieError}
 use Rattle.cookie_parts.specs.declared.cookie_error.CookieError.TheVariants.{NonHttpScheme, DomainMismatch, PublicSuffix}
 use Rattle.cookie_parts.specs.declared.store_action.StoreAction.{StoreAction}
-use Rattle.cookie_parts.specs.declared.store_action.StoreAction.TheVariants.{ExpiredExisting}
-use Rattle.cookie_laws.specs.Rows.{Key, changed, has_key, is_live, key_of, row_of, put, same_key, same_key_equiv, same_key-true}
-use Rattle.cookie_laws.specs.Acceptance.{IsPut, by_scheme, is_listed, by_list, by_domain, admitted, put_action, reply_at, rows_by, entered, accept}
-use Rattle.cookie_laws.proofs.RowsOfKeys.{row_of-passing}
-use Rattle.cookie_laws.proofs.AcceptanceOfKeys.{HasKey, admitted-HasKey, accept-other}
-use Rattle.cookie_laws.proofs.FoundRows.{row_of-ended, row_of-put}
+use Rattle.cookie_parts.specs.declared.store_action.StoreAction.TheVariants.{Inserted, ExpiredExisting, UpdatedExisting}
+use Rattle.cookie_laws.specs.Contents.{Contents, leaving, without}
+use Rattle.cookie_laws.specs.Rows.{Key, changed, has_key, is_live, key_of, row_of, same_key, same_key-true}
+use Rattle.cookie_laws.specs.Acceptance.{Outcome, IsPut, by_scheme, is_listed, by_list, by_domain, admitted, put_action, reply_at, store_by, outcome_by, entered, accept}
+use Rattle.cookie_laws.proofs.AcceptanceOfKeys.{HasKey, admitted-HasKey}
+use Rattle.cookie_laws.proofs.FoundRows.{row_of-ended, row_of-ended_other, row_of-leaves, row_of-put, row_of-put_other, row_of-stays}
 
 -- a row whose domain is on the list, if there is one, is for that host alone
 abbrev IsOwnIfListed : Option RuleList → Row → Type 0
@@ -56,9 +57,13 @@ admitted-own suffixes url cookie =
     (and_then-makes suffixes (by_scheme url cookie) (by_list suffixes url) (by_list-makes suffixes url))
     (by_domain-keeps suffixes url)
 
--- the rows that a reply leaves which says that the cookie was put
-rows_by-put : (reply : Result StoreAction CookieError) (rows : List Row) (cookie : Row) → IsPut reply → rows_by reply rows cookie ≡ put rows cookie
-rows_by-put reply rows cookie h = ⊎_elim (λ new. ap (λ r. rows_by r rows cookie) new) (λ again. ap (λ r. rows_by r rows cookie) again) h
+-- a reply which says that the cookie was put leaves it as the row of its key
+row_of-store_by : (reply : Result StoreAction CookieError) (store : Contents) (cookie : Row) (now : Moment) → IsPut reply → row_of (key_of cookie) (store_by reply store cookie now).rows ≡ Some cookie
+row_of-store_by reply store cookie now (inl new) =
+    let rest = without (leaving store now (key_of cookie)) store in
+    ap (λ r. row_of (key_of cookie) (store_by r store cookie now).rows) new ∙ row_of-put rest.rows cookie
+row_of-store_by reply store cookie now (inr again) =
+    ap (λ r. row_of (key_of cookie) (store_by r store cookie now).rows) again ∙ row_of-put store.rows cookie
 
 -- a refusal says no such thing
 pub refused-put : (refusal : CookieError) → IsPut (Err refusal) → ⊥
@@ -69,37 +74,36 @@ abbrev EntersAsOwn : Option RuleList → Key → Result Row CookieError → List
 EntersAsOwn suffixes key made rows = (cookie : Row) × (made ≡ Ok cookie) × (row_of key rows ≡ Some cookie) × IsOwnIfListed suffixes cookie
 
 -- a cookie of the key that is put is the row of that key
-entered-put : (suffixes : Option RuleList) (key : Key) (made : Result Row CookieError) (url : Parts) (now : Moment) (rows : List Row) → HasKey key made → MakesOwn suffixes made → IsPut (entered made url now rows).reply
-    → EntersAsOwn suffixes key made (entered made url now rows).rows
-entered-put suffixes key (Err refusal) url now rows same own was_put = absurd (refused-put refusal was_put)
-entered-put suffixes key (Ok cookie) url now rows same own was_put =
-    let reply = reply_at (row_of (key_of cookie) rows) cookie url now in
-    let left : rows_by reply rows cookie ≡ put rows cookie = rows_by-put reply rows cookie was_put in
-    let found : row_of key (rows_by reply rows cookie) ≡ Some cookie =
-    ap (λ k. row_of k (rows_by reply rows cookie)) (sym same) ∙ (ap (λ zs. row_of (key_of cookie) zs) left ∙ row_of-put rows cookie) in
+entered-put : (key : Key) (made : Result Row CookieError) (url : Parts) (now : Moment) (store : Contents) → HasKey key made → MakesOwn store.suffixes made → IsPut (entered made url now store).reply
+    → EntersAsOwn store.suffixes key made (entered made url now store).store.rows
+entered-put key (Err refusal) url now store same own was_put = absurd (refused-put refusal was_put)
+entered-put key (Ok cookie) url now store same own was_put =
+    let reply = reply_at (row_of (key_of cookie) store.rows) cookie url now in
+    let found : row_of key (store_by reply store cookie now).rows ≡ Some cookie =
+    ap (λ k. row_of k (store_by reply store cookie now).rows) (sym same) ∙ row_of-store_by reply store cookie now was_put in
     (cookie, refl, found, own)
 
 -- the same of any cookie that comes
-pub accept-put : (suffixes : Option RuleList) (rows : List Row) (cookie : Row) (url : Parts) (now : Moment) → IsPut (accept suffixes rows cookie url now).reply
-    → EntersAsOwn suffixes (key_of cookie) (admitted suffixes url cookie) (accept suffixes rows cookie url now).rows
+pub accept-put : (store : Contents) (cookie : Row) (url : Parts) (now : Moment) → IsPut (accept store cookie url now).reply
+    → EntersAsOwn store.suffixes (key_of cookie) (admitted store.suffixes url cookie) (accept store cookie url now).store.rows
 unfolding accept
-accept-put suffixes rows cookie url now was_put =
-    entered-put suffixes (key_of cookie) (admitted suffixes url cookie) url now rows
-    (admitted-HasKey suffixes url cookie) (admitted-own suffixes url cookie) was_put
+accept-put store cookie url now was_put =
+    entered-put (key_of cookie) (admitted store.suffixes url cookie) url now store
+    (admitted-HasKey store.suffixes url cookie) (admitted-own store.suffixes url cookie) was_put
 
--- a cookie of the key that ends a row ends the row of that key, and leaves the others
-entered-ends : (key : Key) (made : Result Row CookieError) (url : Parts) (now : Moment) (rows : List Row) → HasKey key made → (entered made url now rows).reply ≡ Ok ExpiredExisting
-    → (entered made url now rows).rows ≡ changed (has_key key) ended rows
-entered-ends key (Err refusal) url now rows same ends = absurd (grind (arith, ends))
-entered-ends key (Ok cookie) url now rows same ends =
-    ap (λ reply. rows_by reply rows cookie) ends ∙ ap (λ k. changed (has_key k) ended rows) same
+-- a cookie of the key that ends a row ends the row of that key, and leaves all else
+entered-ends : (key : Key) (made : Result Row CookieError) (url : Parts) (now : Moment) (store : Contents) → HasKey key made → (entered made url now store).reply ≡ Ok ExpiredExisting
+    → (entered made url now store).store ≡ record store { rows = changed (has_key key) ended store.rows }
+entered-ends key (Err refusal) url now store same ends = absurd (grind (arith, ends))
+entered-ends key (Ok cookie) url now store same ends =
+    ap (λ reply. store_by reply store cookie now) ends ∙ ap {B = Contents} (λ k. record store { rows = changed (has_key k) ended store.rows }) same
 
 -- the same of any cookie that comes
-pub accept-ends : (suffixes : Option RuleList) (rows : List Row) (cookie : Row) (url : Parts) (now : Moment) → (accept suffixes rows cookie url now).reply ≡ Ok ExpiredExisting
-    → (accept suffixes rows cookie url now).rows ≡ changed (has_key (key_of cookie)) ended rows
+pub accept-ends : (store : Contents) (cookie : Row) (url : Parts) (now : Moment) → (accept store cookie url now).reply ≡ Ok ExpiredExisting
+    → (accept store cookie url now).store ≡ record store { rows = changed (has_key (key_of cookie)) ended store.rows }
 unfolding accept
-accept-ends suffixes rows cookie url now ends =
-    entered-ends (key_of cookie) (admitted suffixes url cookie) url now rows (admitted-HasKey suffixes url cookie) ends
+accept-ends store cookie url now ends =
+    entered-ends (key_of cookie) (admitted store.suffixes url cookie) url now store (admitted-HasKey store.suffixes url cookie) ends
 
 -- no other reply than to a live row says that a row was ended
 put_action-not_ended : (row : Option Row) → put_action row ≡ ExpiredExisting → ⊥
@@ -116,64 +120,99 @@ reply_at-live None cookie url now ends = absurd (grind (arith, ends, put_action-
 reply_at-live (Some row) cookie url now ends = (row, refl, grind (arith, ends, put_action-not_ended (Some row)))
 
 -- so the row of the cookie's key had not ended
-entered-live : (key : Key) (made : Result Row CookieError) (url : Parts) (now : Moment) (rows : List Row) → HasKey key made → (entered made url now rows).reply ≡ Ok ExpiredExisting
-    → HasLive now (row_of key rows)
-entered-live key (Err refusal) url now rows same ends = absurd (grind (arith, ends))
-entered-live key (Ok cookie) url now rows same ends =
-    let live : HasLive now (row_of (key_of cookie) rows) = reply_at-live (row_of (key_of cookie) rows) cookie url now ends in
-    (live.0, ap (λ k. row_of k rows) (sym same) ∙ live.1, live.2)
+entered-live : (key : Key) (made : Result Row CookieError) (url : Parts) (now : Moment) (store : Contents) → HasKey key made → (entered made url now store).reply ≡ Ok ExpiredExisting
+    → HasLive now (row_of key store.rows)
+entered-live key (Err refusal) url now store same ends = absurd (grind (arith, ends))
+entered-live key (Ok cookie) url now store same ends =
+    let live : HasLive now (row_of (key_of cookie) store.rows) = reply_at-live (row_of (key_of cookie) store.rows) cookie url now ends in
+    (live.0, ap (λ k. row_of k store.rows) (sym same) ∙ live.1, live.2)
 
 -- the same of any cookie that comes
-pub accept-live : (suffixes : Option RuleList) (rows : List Row) (cookie : Row) (url : Parts) (now : Moment) → (accept suffixes rows cookie url now).reply ≡ Ok ExpiredExisting
-    → HasLive now (row_of (key_of cookie) rows)
+pub accept-live : (store : Contents) (cookie : Row) (url : Parts) (now : Moment) → (accept store cookie url now).reply ≡ Ok ExpiredExisting
+    → HasLive now (row_of (key_of cookie) store.rows)
 unfolding accept
-accept-live suffixes rows cookie url now ends =
-    entered-live (key_of cookie) (admitted suffixes url cookie) url now rows (admitted-HasKey suffixes url cookie) ends
+accept-live store cookie url now ends =
+    entered-live (key_of cookie) (admitted store.suffixes url cookie) url now store (admitted-HasKey store.suffixes url cookie) ends
 
 -- the row that it ended
-pub accept-ended_row : (suffixes : Option RuleList) (rows : List Row) (cookie : Row) (url : Parts) (now : Moment) (row : Row) → (accept suffixes rows cookie url now).reply ≡ Ok ExpiredExisting
-    → row_of (key_of cookie) rows ≡ Some row → row_of (key_of cookie) (accept suffixes rows cookie url now).rows ≡ Some (ended row)
-accept-ended_row suffixes rows cookie url now row ends held =
-    ap (row_of (key_of cookie)) (accept-ends suffixes rows cookie url now ends) ∙ row_of-ended (key_of cookie) rows row held
+pub accept-ended_row : (store : Contents) (cookie : Row) (url : Parts) (now : Moment) (row : Row) → (accept store cookie url now).reply ≡ Ok ExpiredExisting
+    → row_of (key_of cookie) store.rows ≡ Some row → row_of (key_of cookie) (accept store cookie url now).store.rows ≡ Some (ended row)
+accept-ended_row store cookie url now row ends held =
+    ap (λ after. row_of (key_of cookie) after.rows) (accept-ends store cookie url now ends) ∙ row_of-ended (key_of cookie) store.rows row held
+
+-- the row of another key stays
+pub accept-other_row : (store : Contents) (cookie : Row) (url : Parts) (now : Moment) (key : Key) → (accept store cookie url now).reply ≡ Ok ExpiredExisting
+    → same_key key (key_of cookie) ≡ false → row_of key (accept store cookie url now).store.rows ≡ row_of key store.rows
+accept-other_row store cookie url now key ends away =
+    ap (λ after. row_of key after.rows) (accept-ends store cookie url now ends) ∙ row_of-ended_other key (key_of cookie) store.rows away
 
 -- a row out of the URL's reach that has not ended refuses every cookie
 reply_at-guarded : (row cookie : Row) (url : Parts) (now : Moment) → is_live now row ≡ true → is_out_of_reach row.raw url ≡ true → reply_at (Some row) cookie url now ≡ Err NonHttpScheme
 reply_at-guarded row cookie url now live out =
     cond-true (is_live now row && is_out_of_reach row.raw url) _ _ (and_from (is_live now row) (is_out_of_reach row.raw url) live out)
 
--- so a cookie of its key leaves the rows
-entered-guarded : (key : Key) (made : Result Row CookieError) (url : Parts) (now : Moment) (rows : List Row) (row : Row) → HasKey key made
-    → row_of key rows ≡ Some row → is_live now row ≡ true → is_out_of_reach row.raw url ≡ true → (entered made url now rows).rows ≡ rows
-entered-guarded key (Err refusal) url now rows row same held live out = refl
-entered-guarded key (Ok cookie) url now rows row same held live out =
-    let found : row_of (key_of cookie) rows ≡ Some row = ap (λ k. row_of k rows) same ∙ held in
-    ap (λ reply. rows_by reply rows cookie)
+-- so a cookie of its key leaves the store
+entered-guarded_same : (key : Key) (made : Result Row CookieError) (url : Parts) (now : Moment) (store : Contents) (row : Row) → HasKey key made
+    → row_of key store.rows ≡ Some row → is_live now row ≡ true → is_out_of_reach row.raw url ≡ true → (entered made url now store).store ≡ store
+entered-guarded_same key (Err refusal) url now store row same held live out = refl
+entered-guarded_same key (Ok cookie) url now store row same held live out =
+    let found : row_of (key_of cookie) store.rows ≡ Some row = ap (λ k. row_of k store.rows) same ∙ held in
+    ap (λ reply. store_by reply store cookie now)
     (ap (λ r. reply_at r cookie url now) found ∙ reply_at-guarded row cookie url now live out)
 
 -- the same of any cookie of that key that comes
-accept-guarded_same : (suffixes : Option RuleList) (rows : List Row) (cookie : Row) (url : Parts) (now : Moment) (row : Row)
-    → row_of (key_of cookie) rows ≡ Some row → is_live now row ≡ true → is_out_of_reach row.raw url ≡ true → (accept suffixes rows cookie url now).rows ≡ rows
+accept-guarded_same : (store : Contents) (cookie : Row) (url : Parts) (now : Moment) (row : Row)
+    → row_of (key_of cookie) store.rows ≡ Some row → is_live now row ≡ true → is_out_of_reach row.raw url ≡ true → (accept store cookie url now).store ≡ store
 unfolding accept
-accept-guarded_same suffixes rows cookie url now row held live out =
-    entered-guarded (key_of cookie) (admitted suffixes url cookie) url now rows row (admitted-HasKey suffixes url cookie) held live out
+accept-guarded_same store cookie url now row held live out =
+    entered-guarded_same (key_of cookie) (admitted store.suffixes url cookie) url now store row (admitted-HasKey store.suffixes url cookie) held live out
 
--- a cookie of another key leaves the row of this one
-pub accept-other_row : (suffixes : Option RuleList) (rows : List Row) (cookie : Row) (url : Parts) (now : Moment) (key : Key) → same_key key (key_of cookie) ≡ false
-    → row_of key (accept suffixes rows cookie url now).rows ≡ row_of key rows
-accept-other_row suffixes rows cookie url now key away =
-    let test = same_key key in
-    let here : test key ≡ true = same_key_equiv.refl key in
-    let after = (accept suffixes rows cookie url now).rows in
-    sym (row_of-passing test key after here)
-    ∙ (ap (row_of key) (accept-other test suffixes rows cookie url now away) ∙ row_of-passing test key rows here)
+-- the row of the key leaves for a cookie of this key that is inserted, and is not among the rows after it
+abbrev LeavesFor : Contents → Moment → Key → Key → Outcome → Type 0
+LeavesFor store now key own outcome =
+    (outcome.reply ≡ Ok Inserted) × (list_any (same_key key) (leaving store now own) ≡ true) × (row_of key outcome.store.rows ≡ None)
 
--- so no cookie from that URL touches that row
-pub accept-guarded : (suffixes : Option RuleList) (rows : List Row) (cookie : Row) (url : Parts) (now : Moment) (key : Key) (row : Row)
-    → row_of key rows ≡ Some row → is_live now row ≡ true → is_out_of_reach row.raw url ≡ true → row_of key (accept suffixes rows cookie url now).rows ≡ Some row
-accept-guarded suffixes rows cookie url now key row held live out =
-    let own : same_key key (key_of cookie) ≡ true → row_of key (accept suffixes rows cookie url now).rows ≡ Some row = λ same.
-    let found : row_of (key_of cookie) rows ≡ Some row = ap (λ k. row_of k rows) (sym (same_key-true key (key_of cookie) same)) ∙ held in
-    ap (row_of key) (accept-guarded_same suffixes rows cookie url now row found live out) ∙ held in
-    let other : same_key key (key_of cookie) ≡ false → row_of key (accept suffixes rows cookie url now).rows ≡ Some row = λ away.
-    accept-other_row suffixes rows cookie url now key away ∙ held in
-    ⊎_elim own other (cases_Bool (same_key key (key_of cookie)))
+-- the row of the key stays as it was, or leaves so
+abbrev StaysOrLeaves : Contents → Moment → Key → Key → Outcome → Type 0
+StaysOrLeaves store now key own outcome = (row_of key outcome.store.rows ≡ row_of key store.rows) ⊎ LeavesFor store now key own outcome
+
+-- one of both becomes of it under each reply to a cookie of another key
+outcome_by-other : (reply : Result StoreAction CookieError) (store : Contents) (cookie : Row) (now : Moment) (key : Key) → same_key key (key_of cookie) ≡ false
+    → StaysOrLeaves store now key (key_of cookie) (outcome_by reply store cookie now)
+outcome_by-other (Ok Inserted) store cookie now key away =
+    let keys = leaving store now (key_of cookie) in
+    let rest = without keys store in
+    let put_other = row_of-put_other key rest.rows cookie away in
+    ⊎_elim (λ leaves. inr (refl, leaves, put_other ∙ row_of-leaves keys key store leaves))
+    (λ stays. inl (put_other ∙ row_of-stays keys key store stays))
+    (cases_Bool (list_any (same_key key) keys))
+outcome_by-other (Ok UpdatedExisting) store cookie now key away = inl (row_of-put_other key store.rows cookie away)
+outcome_by-other (Ok ExpiredExisting) store cookie now key away = inl (row_of-ended_other key (key_of cookie) store.rows away)
+outcome_by-other (Err refusal) store cookie now key away = inl refl
+
+-- so it does with a cookie that may enter, if there is one
+entered-other_key : (own : Key) (made : Result Row CookieError) (url : Parts) (now : Moment) (store : Contents) (key : Key) → HasKey own made → same_key key own ≡ false
+    → StaysOrLeaves store now key own (entered made url now store)
+entered-other_key own (Err refusal) url now store key same away = inl refl
+entered-other_key own (Ok cookie) url now store key same away =
+    let reply = reply_at (row_of (key_of cookie) store.rows) cookie url now in
+    subst (λ k. StaysOrLeaves store now key k (outcome_by reply store cookie now)) same
+    (outcome_by-other reply store cookie now key (ap (same_key key) same ∙ away))
+
+-- and with any that comes
+accept-other_key : (store : Contents) (cookie : Row) (url : Parts) (now : Moment) (key : Key) → same_key key (key_of cookie) ≡ false
+    → StaysOrLeaves store now key (key_of cookie) (accept store cookie url now)
+unfolding accept
+accept-other_key store cookie url now key away =
+    entered-other_key (key_of cookie) (admitted store.suffixes url cookie) url now store key (admitted-HasKey store.suffixes url cookie) away
+
+-- so no cookie from that URL touches that row, but that it may leave for one that is inserted
+pub accept-guarded : (store : Contents) (cookie : Row) (url : Parts) (now : Moment) (key : Key) (row : Row)
+    → row_of key store.rows ≡ Some row → is_live now row ≡ true → is_out_of_reach row.raw url ≡ true
+    → (row_of key (accept store cookie url now).store.rows ≡ Some row) ⊎ LeavesFor store now key (key_of cookie) (accept store cookie url now)
+accept-guarded store cookie url now key row held live out =
+    ⊎_elim (λ same.
+    let found : row_of (key_of cookie) store.rows ≡ Some row = ap (λ k. row_of k store.rows) (sym (same_key-true key (key_of cookie) same)) ∙ held in
+    inl (ap (λ after. row_of key after.rows) (accept-guarded_same store cookie url now row found live out) ∙ held))
+    (λ away. ⊎_elim (λ stays. inl (stays ∙ held)) (λ leaves. inr leaves) (accept-other_key store cookie url now key away))
+    (cases_Bool (same_key key (key_of cookie)))

@@ -1,5 +1,6 @@
 -- What a store does with a cookie that came from a URL, after RFC 6265 5.3.
-use Rattle.std.specs.Prelude.{◌≡◌, Bool, not, ◌&&◌, List, Option, Result, Ok, Err, is_some, ⊤, ◌⊎◌, if◌then◌else◌}
+use Rattle.std.specs.Prelude.{◌≡◌, Bool, not, ◌&&◌, Option, None, Result, Ok, Err, is_some, IsTrue, ⊤, ◌⊎◌, if◌then◌else◌}
+use Rattle.std.specs.List.{list_any}
 use Rattle.url.specs.Parts.{Parts}
 use Rattle.cookie_words.specs.Moments.{Moment}
 use Rattle.cookie_psl.specs.Rules.{RuleList}
@@ -10,12 +11,13 @@ use Rattle.cookie_parts.specs.declared.cookie_error.CookieError.{CookieError}
 use Rattle.cookie_parts.specs.declared.cookie_error.CookieError.TheVariants.{NonHttpScheme, NonRelativeScheme, DomainMismatch, Expired, Parse, PublicSuffix, UnspecifiedDomain}
 use Rattle.cookie_parts.specs.declared.store_action.StoreAction.{StoreAction}
 use Rattle.cookie_parts.specs.declared.store_action.StoreAction.TheVariants.{Inserted, ExpiredExisting, UpdatedExisting}
-use Rattle.cookie_laws.specs.Rows.{changed, has_key, is_live, key_of, row_of, put}
+use Rattle.cookie_laws.specs.Contents.{Contents, keep, leaving, without}
+use Rattle.cookie_laws.specs.Rows.{Key, changed, has_key, is_live, key_of, row_of, same_key}
 
--- the reply to an insertion, and the rows after it
+-- the reply to an insertion, and the store after it
 pub record Outcome : Type 0 where
   pub reply : Result StoreAction CookieError
-  pub rows : List Row
+  pub store : Contents
 
 -- step 10: an HttpOnly cookie comes by HTTP alone, else `NonHttpScheme`
 abbrev pub by_scheme : Parts → Row → Result Row CookieError
@@ -55,31 +57,33 @@ reply_at row cookie url now =
     else (if is_expired now cookie then Err Expired
     else Ok (put_action row)))
 
--- the rows that a reply leaves: a cookie that entered was put, or ended the row of its key
-abbrev pub rows_by : Result StoreAction CookieError → List Row → Row → List Row
-rows_by (Ok Inserted) rows cookie = put rows cookie
-rows_by (Ok UpdatedExisting) rows cookie = put rows cookie
-rows_by (Ok ExpiredExisting) rows cookie = changed (has_key (key_of cookie)) ended rows
-rows_by (Err refusal) rows cookie = rows
+-- what a reply leaves: a cookie that is inserted enters after those rows left that leave for it, one that takes a row's place enters
+-- there, and one that has ended ends the row of its key
+abbrev pub store_by : Result StoreAction CookieError → Contents → Row → Moment → Contents
+store_by (Ok Inserted) store cookie now = keep (without (leaving store now (key_of cookie)) store) cookie
+store_by (Ok UpdatedExisting) store cookie now = keep store cookie
+store_by (Ok ExpiredExisting) store cookie now =
+    record store { rows = changed (has_key (key_of cookie)) ended store.rows }
+store_by (Err refusal) store cookie now = store
 
--- the reply, and the rows that it leaves
-abbrev pub outcome_by : Result StoreAction CookieError → List Row → Row → Outcome
-outcome_by reply rows cookie = record { reply = reply; rows = rows_by reply rows cookie }
+-- the reply, and what it leaves
+abbrev pub outcome_by : Result StoreAction CookieError → Contents → Row → Moment → Outcome
+outcome_by reply store cookie now = record { reply = reply; store = store_by reply store cookie now }
 
--- a refusal leaves the rows
-abbrev pub entered : Result Row CookieError → Parts → Moment → List Row → Outcome
-entered (Err refusal) url now rows = record { reply = Err refusal; rows = rows }
-entered (Ok cookie) url now rows =
-    outcome_by (reply_at (row_of (key_of cookie) rows) cookie url now) rows cookie
+-- a refusal leaves the store
+abbrev pub entered : Result Row CookieError → Parts → Moment → Contents → Outcome
+entered (Err refusal) url now store = record { reply = Err refusal; store = store }
+entered (Ok cookie) url now store =
+    outcome_by (reply_at (row_of (key_of cookie) store.rows) cookie url now) store cookie now
 
--- 5.3: what becomes of a cookie from the URL at the moment, in a store under a list, if there is one
-unfoldable pub accept : Option RuleList → List Row → Row → Parts → Moment → Outcome
-accept suffixes rows cookie url now = entered (admitted suffixes url cookie) url now rows
+-- 5.3: what becomes of a cookie from the URL at the moment
+unfoldable pub accept : Contents → Row → Parts → Moment → Outcome
+accept store cookie url now = entered (admitted store.suffixes url cookie) url now store
 
--- 5.3: the same of a cookie that may have been refused as it was made, which leaves the rows
-abbrev pub received : Option RuleList → List Row → Result Row CookieError → Parts → Moment → Outcome
-received suffixes rows (Err refusal) url now = record { reply = Err refusal; rows = rows }
-received suffixes rows (Ok cookie) url now = accept suffixes rows cookie url now
+-- 5.3: the same of a cookie that may have been refused as it was made, which leaves the store
+abbrev pub received : Contents → Result Row CookieError → Parts → Moment → Outcome
+received store (Err refusal) url now = record { reply = Err refusal; store = store }
+received store (Ok cookie) url now = accept store cookie url now
 
 -- a cookie was put
 abbrev pub IsPut : Result StoreAction CookieError → Type 0
@@ -91,3 +95,10 @@ MayRefuse NonRelativeScheme = ⊥
 MayRefuse Parse = ⊥
 MayRefuse UnspecifiedDomain = ⊥
 MayRefuse other = ⊤
+
+-- the row of the key leaves for a cookie that was made, and is inserted
+abbrev pub Leaves : Contents → Result Row CookieError → Parts → Moment → Key → Type 0
+Leaves store made url now key =
+    (cookie : Row) × (made ≡ Ok cookie) × ((received store made url now).reply ≡ Ok Inserted)
+    × IsTrue (list_any (same_key key) (leaving store now (key_of cookie)))
+    × (row_of key (received store made url now).store.rows ≡ None)

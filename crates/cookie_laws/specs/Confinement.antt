@@ -1,5 +1,5 @@
 -- Where the cookies of a run came from, and which hosts they are for, after RFC 6265 5.3.
-use Rattle.std.specs.Prelude.{◌≡◌, ℕ, false, List, [], slice_get, Option, Some, Ok, ◌⊎◌}
+use Rattle.std.specs.Prelude.{◌≡◌, ℕ, false, List, slice_get, Option, Some, Ok, ◌⊎◌}
 use Rattle.url.specs.Parts.{Parts}
 use Rattle.cookie_psl.specs.Rules.{RuleList, listed}
 use Rattle.cookie_parts.specs.Cookie.{Row, and_then, cookie_at, ended}
@@ -7,6 +7,7 @@ use Rattle.cookie_parts.specs.Domain.{Suffix}
 use Rattle.cookie_parts.specs.Hosts.{host_of, passes, Covers}
 use Rattle.cookie_parts.specs.declared.store_action.StoreAction.TheVariants.{Inserted, UpdatedExisting}
 use Rattle.cookie_laws.specs.Acceptance.{admitted}
+use Rattle.cookie_laws.specs.Contents.{Contents}
 use Rattle.cookie_laws.specs.Runs.{Call, Set, Insert, Remove, Clear, Reply, Stored, replies}
 
 -- the call came from this URL, and its cookie may enter as this one
@@ -21,11 +22,11 @@ Brings suffixes Clear from cookie = ⊥
 abbrev pub SaysPut : Option Reply → Type 0
 SaysPut reply = (reply ≡ Some (Stored (Ok Inserted))) ⊎ (reply ≡ Some (Stored (Ok UpdatedExisting)))
 
--- in the run of these calls from these rows, the call at this place came from this URL, and put this cookie
-abbrev pub Accepts : Option RuleList → List Call → List Row → ℕ → Parts → Row → Type 0
-Accepts suffixes calls rows place from cookie =
-    ((call : Call) × (slice_get calls place ≡ Some call) × Brings suffixes call from cookie)
-    × SaysPut (slice_get (replies suffixes calls rows) place)
+-- in the run of these calls from this store, the call at this place came from this URL, and put this cookie
+abbrev pub Accepts : List Call → Contents → ℕ → Parts → Row → Type 0
+Accepts calls store place from cookie =
+    ((call : Call) × (slice_get calls place ≡ Some call) × Brings store.suffixes call from cookie)
+    × SaysPut (slice_get (replies calls store) place)
 
 -- the cookie as it was put, or ended since
 abbrev pub IsPutOrEnded : Row → Row → Type 0
@@ -49,15 +50,15 @@ IsShared suffixes cookie a b =
     (domain : List ℕ) × (cookie.domain ≡ Suffix domain) × IsUnlisted suffixes domain
     × CoversHostOf domain a × CoversHostOf domain b
 
--- a call of the run from no rows put this cookie, which may have ended since, and came from the host of the URL, or shares the
+-- a call of the run from this store put this cookie, which may have ended since, and came from the host of the URL, or shares the
 -- cookie with it
-abbrev pub IsConfined : Option RuleList → List Call → Parts → Row → Type 0
-IsConfined suffixes calls url cookie =
-    (place : ℕ) × (from : Parts) × (accepted : Row) × Accepts suffixes calls [] place from accepted
-    × IsPutOrEnded accepted cookie × (HaveOneHost from url ⊎ IsShared suffixes cookie from url)
+abbrev pub IsConfined : List Call → Contents → Parts → Row → Type 0
+IsConfined calls store url cookie =
+    (place : ℕ) × (from : Parts) × (accepted : Row) × Accepts calls store place from accepted
+    × IsPutOrEnded accepted cookie × (HaveOneHost from url ⊎ IsShared store.suffixes cookie from url)
 
 -- the same of the very cookie that the call put, end and all
-abbrev pub IsConfinedAsPut : Option RuleList → List Call → Parts → Row → Type 0
-IsConfinedAsPut suffixes calls url cookie =
-    (place : ℕ) × (from : Parts) × Accepts suffixes calls [] place from cookie
-    × (HaveOneHost from url ⊎ IsShared suffixes cookie from url)
+abbrev pub IsConfinedAsPut : List Call → Contents → Parts → Row → Type 0
+IsConfinedAsPut calls store url cookie =
+    (place : ℕ) × (from : Parts) × Accepts calls store place from cookie
+    × (HaveOneHost from url ⊎ IsShared store.suffixes cookie from url)

@@ -1,5 +1,6 @@
 pub mod Acceptance
 pub mod Confinement
+pub mod Contents
 pub mod Given
 pub mod Related
 pub mod Rows

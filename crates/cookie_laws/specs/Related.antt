@@ -1,12 +1,13 @@
--- Which calls of a run touch what is given for a URL, and which touch the row of a key.
+-- Which calls of a run touch what is given for a URL, and which touch the rows of a domain.
 use Rattle.std.specs.Prelude.{ℕ, ◌==◌, Bool, true, false, ◌||◌, List, [], ◌∷◌, bytes_eq, filter, Option, Some, None, option_map, if◌then◌else◌}
 use Rattle.std.specs.List.{list_any}
 use Rattle.std.specs.Result.{result_ok}
 use Rattle.url.specs.Parts.{Parts}
-use Rattle.cookie_psl.specs.Rules.{RuleList}
 use Rattle.cookie_parts.specs.Cookie.{Row, cookie_at}
+use Rattle.cookie_parts.specs.Domain.{domain_text}
 use Rattle.cookie_parts.specs.Hosts.{host_of, passes}
-use Rattle.cookie_laws.specs.Rows.{Key, key_of, same_key}
+use Rattle.cookie_laws.specs.Contents.{Contents}
+use Rattle.cookie_laws.specs.Rows.{Key, key_of}
 use Rattle.cookie_laws.specs.Runs.{Call, Set, Insert, Remove, Clear, Reply, step}
 
 -- the texts that follow the dots of a text
@@ -43,17 +44,25 @@ abbrev pub is_clear : Call → Bool
 is_clear Clear = true
 is_clear other = false
 
--- a call is for the key, or `Clear`
-abbrev pub is_of_key : Key → Call → Bool
-is_of_key key call = is_clear call || passes (same_key key) (call_key call)
+-- a call is for the domain, or `Clear`
+abbrev pub is_of_domain : List ℕ → Call → Bool
+is_of_domain domain call = is_clear call || passes (λ key. bytes_eq domain key.domain) (call_key call)
 
--- the calls for the key, and `Clear`
-abbrev pub of_key : Key → List Call → List Call
-of_key key calls = filter (is_of_key key) calls
+-- the calls for the domain, and `Clear`
+abbrev pub domain_calls : List ℕ → List Call → List Call
+domain_calls domain calls = filter (is_of_domain domain) calls
+
+-- the rows of the domain
+abbrev pub domain_rows : List ℕ → List Row → List Row
+domain_rows domain rows = filter (λ row. bytes_eq domain (domain_text row.domain)) rows
+
+-- the keys of the domain
+abbrev pub domain_keys : List ℕ → List Key → List Key
+domain_keys domain keys = filter (λ key. bytes_eq domain key.domain) keys
 
 -- in the run of all calls, the replies to those that pass the test
-abbrev pub replies_to : (Call → Bool) → Option RuleList → List Call → List Row → List Reply
-replies_to test suffixes [] rows = []
-replies_to test suffixes (call ∷ calls) rows =
-    if test call then (step suffixes call rows).reply ∷ replies_to test suffixes calls (step suffixes call rows).rows
-    else replies_to test suffixes calls (step suffixes call rows).rows
+abbrev pub replies_to : (Call → Bool) → List Call → Contents → List Reply
+replies_to test [] store = []
+replies_to test (call ∷ calls) store =
+    if test call then (step call store).reply ∷ replies_to test calls (step call store).store
+    else replies_to test calls (step call store).store

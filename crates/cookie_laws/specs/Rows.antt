@@ -1,5 +1,5 @@
 -- The rows of a store: one list of cookies, each under its key.
-use Rattle.std.specs.Prelude.{◌≡◌, ℕ, Bool, true, not, ◌&&◌, ◌||◌, List, [], ◌∷◌, bytes_eq, filter, find, map, Option, Some, None, if◌then◌else◌}
+use Rattle.std.specs.Prelude.{◌≡◌, ℕ, Bool, true, not, ◌&&◌, ◌||◌, List, [], ◌∷◌, ◌++◌, bytes_eq, filter, find, map, Option, Some, None, if◌then◌else◌}
 use Rattle.std.specs.Cmp.{IsEquivalence}
 use Rattle.std.specs.List.{list_any}
 use Rattle.std.proofs.lemmas.Bool.{and_parts}
@@ -121,13 +121,29 @@ abbrev pub put_all : List Row → List Row → List Row
 put_all rows [] = rows
 put_all rows (cookie ∷ cookies) = put_all (put rows cookie) cookies
 
+-- a key that is put is made last, unless it was made before
+abbrev pub make : List Key → Key → List Key
+make made key = if list_any (same_key key) made then made else made ++ key ∷ []
+
+-- the keys by making after these were put, one after the other
+abbrev pub make_all : List Key → List Key → List Key
+make_all made [] = made
+make_all made (key ∷ keys) = make_all (make made key) keys
+
 -- of cookies, all or those that have not ended
 abbrev pub included : Bool → Moment → List Row → List Row
 included include_expired now cookies = if include_expired then cookies else live_rows now cookies
 
--- the rows that are built from cookies, of which those that have ended may be passed over
-abbrev pub built : Bool → Moment → List Row → List Row
-built include_expired now cookies = put_all [] (included include_expired now cookies)
+-- rows, and their keys by making, the one that was made least recently first
+pub record Kept : Type 0 where
+  pub rows : List Row
+  pub made : List Key
+
+-- the rows that are built from cookies, of which those that have ended may be passed over; they are made as they come
+abbrev pub built : Bool → Moment → List Row → Kept
+built include_expired now cookies =
+    let taken = included include_expired now cookies in
+    record { rows = put_all [] taken; made = make_all [] (map key_of taken) }
 
 -- no two items are alike
 abbrev pub differ : {T : Type 0} → (T → T → Bool) → List T → Bool

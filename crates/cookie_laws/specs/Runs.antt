@@ -2,13 +2,13 @@
 use Rattle.std.specs.Prelude.{◌≡◌, ℕ, List, [], ◌∷◌, Option, Result, Ok, Err, ⊤}
 use Rattle.url.specs.Parts.{Parts}
 use Rattle.cookie_words.specs.Moments.{Moment}
-use Rattle.cookie_psl.specs.Rules.{RuleList}
 use Rattle.cookie_parts.specs.Cookie.{Row, cookie_at}
 use Rattle.cookie_parts.specs.declared.cookie_error.CookieError.{CookieError}
 use Rattle.cookie_parts.specs.declared.cookie_error.CookieError.TheVariants.{Memory}
 use Rattle.cookie_parts.specs.declared.store_action.StoreAction.{StoreAction}
 use Rattle.cookie_laws.specs.Acceptance.{Outcome, accept, received}
-use Rattle.cookie_laws.specs.Rows.{Key, has_key, removed, row_of}
+use Rattle.cookie_laws.specs.Contents.{Contents}
+use Rattle.cookie_laws.specs.Rows.{Key, has_key, removed, row_of, same_key}
 
 -- a Set-Cookie text, and a cookie, that came from a URL at a moment; that the row of a key is to go; and that all are
 pub data Call : Type 0 where
@@ -23,32 +23,38 @@ pub data Reply : Type 0 where
   Removed : Option Row → Reply
   Cleared : Reply
 
--- a reply, and the rows after the call
+-- a reply, and the store after the call
 pub record Step : Type 0 where
   pub reply : Reply
-  pub rows : List Row
+  pub store : Contents
 
 -- the step of an insertion
 abbrev pub stored : Outcome → Step
-stored outcome = record { reply = Stored outcome.reply; rows = outcome.rows }
+stored outcome = record { reply = Stored outcome.reply; store = outcome.store }
 
--- RFC 6265 5.3: what a call replies and leaves, in a store under a list, if there is one
-abbrev pub step : Option RuleList → Call → List Row → Step
-step suffixes (Set text url now) rows = stored (received suffixes rows (cookie_at text url now) url now)
-step suffixes (Insert cookie url now) rows = stored (accept suffixes rows cookie url now)
-step suffixes (Remove key) rows = record { reply = Removed (row_of key rows); rows = removed (has_key key) rows }
-step suffixes Clear rows = record { reply = Cleared; rows = [] }
+-- RFC 6265 5.3: what a call replies and leaves
+abbrev pub step : Call → Contents → Step
+step (Set text url now) store = stored (received store (cookie_at text url now) url now)
+step (Insert cookie url now) store = stored (accept store cookie url now)
+step (Remove key) store = record {
+  reply = Removed (row_of key store.rows);
+  store = record store { rows = removed (has_key key) store.rows; made = removed (same_key key) store.made };
+}
+step Clear store = record { reply = Cleared; store = record store { rows = []; made = [] } }
 
--- the replies to a list of calls, each from the rows that the one before it left
-abbrev pub replies : Option RuleList → List Call → List Row → List Reply
-replies suffixes [] rows = []
-replies suffixes (call ∷ calls) rows =
-    (step suffixes call rows).reply ∷ replies suffixes calls (step suffixes call rows).rows
+-- the replies to a list of calls, each from the store that the one before it left
+abbrev pub replies : List Call → Contents → List Reply
+replies [] store = []
+replies (call ∷ calls) store = (step call store).reply ∷ replies calls (step call store).store
 
--- the rows after a list of calls
-abbrev pub rows_after : Option RuleList → List Call → List Row → List Row
-rows_after suffixes [] rows = rows
-rows_after suffixes (call ∷ calls) rows = rows_after suffixes calls (step suffixes call rows).rows
+-- the store after a list of calls
+abbrev pub store_after : List Call → Contents → Contents
+store_after [] store = store
+store_after (call ∷ calls) store = store_after calls (step call store).store
+
+-- its rows
+abbrev pub rows_after : List Call → Contents → List Row
+rows_after calls store = (store_after calls store).rows
 
 -- the result is the reply, unless memory ran out
 abbrev pub IsReply : Result StoreAction CookieError → Reply → Type 0

@@ -103,7 +103,7 @@ module _ {X : Type 0} (f : List X → List X) (t : List ℕ) where
   differ_kept k (x ∷ xs) gs d = d
 
   -- and after a group was lessened
-  differ_lessened : (gs : List (List ℕ × List X)) → differ bytes_eq (map (λ g. g.0) gs) ≡ true → differ bytes_eq (map (λ g. g.0) (lessened_at f t gs)) ≡ true
+  pub differ_lessened : (gs : List (List ℕ × List X)) → differ bytes_eq (map (λ g. g.0) gs) ≡ true → differ bytes_eq (map (λ g. g.0) (lessened_at f t gs)) ≡ true
   differ_lessened [] d = d
   differ_lessened (g ∷ gs) d = elim (cases_Bool (bytes_eq t g.0)) [
     | inl e ↦ rw e (differ_kept g.0 (f g.1) gs d)
@@ -121,7 +121,7 @@ module _ {X : Type 0} (f : List X → List X) (t : List ℕ) where
   all_kept P k (x ∷ xs) gs s a = (s (omega arith), a)
 
   -- what holds of each group holds after a change that keeps it where something is left
-  all_lessened : (P : List ℕ × List X → Type 0) (gs : List (List ℕ × List X)) → ((k : List ℕ) (v : List X) → P (k, v) → 0 < length (f v) → P (k, f v)) → AllByRecursion P gs → AllByRecursion P (lessened_at f t gs)
+  pub all_lessened : (P : List ℕ × List X → Type 0) (gs : List (List ℕ × List X)) → ((k : List ℕ) (v : List X) → P (k, v) → 0 < length (f v) → P (k, f v)) → AllByRecursion P gs → AllByRecursion P (lessened_at f t gs)
   all_lessened P [] s a = tt
   all_lessened P (g ∷ gs) s a = elim (cases_Bool (bytes_eq t g.0)) [
     | inl e ↦ rw e (all_kept P g.0 (f g.1) gs (s g.0 g.1 a.0) a.1)

@@ -1,53 +1,55 @@
--- A map of rows under their names is a list of rows.
-use Rattle.std.proofs.Common.{◌≡◌, ℕ, Bool, true, false, List, [], ◌∷◌, refl, sym, ◌∙◌, ap, inl, inr, bytes_eq, Some, None}
-use Rattle.std.specs.Prelude.{string_bytes, String}
+-- A map of items under their names is a list of items.
+use Rattle.std.proofs.Common.{◌≡◌, ℕ, Bool, true, false, List, [], ◌∷◌, refl, sym, ◌∙◌, ap, subst, inl, inr, bytes_eq, Some, None}
+use Rattle.std.specs.Prelude.{string_bytes, String, option_map}
 use Rattle.std.specs.String.{string_eq}
-use Rattle.std.specs.List.{AllZip}
+use Rattle.std.specs.List.{AllByRecursion, AllZip}
 use Rattle.std.specs.Map.{values_of, lookup, set_value, remove_entry}
 use Rattle.std.proofs.lemmas.Bool.{cases_Bool}
 use Rattle.std.proofs.lemmas.Slice.Eq.{bytes_eq-Decides}
 use Rattle.indexmap.specs.IndexMap.{insert_entry}
 use Rattle.cookie_parts.specs.Cookie.{Row, ended}
-use Rattle.cookie_rows.specs.Groups.{AreNamed, is_named, put_name, row_named, end_name, remove_name}
+use Rattle.cookie_rows.specs.Groups.{row_named, texts_of}
+use Rattle.cookie_rows.specs.Items.{AreNamed, Item, end_item, is_item_named, put_item, remove_item, rows_of}
 
 module _ {A : Type 0} where
   -- the test of a key by a text
   abbrev pub at_text : List ℕ → String A → Bool
   at_text q k = bytes_eq q (string_bytes k)
 
-  -- the key's test is the row's
-  same_test : (q : List ℕ) (e : String A × Row) → string_bytes e.0 ≡ e.1.raw.name → (b : Bool) → at_text q e.0 ≡ b → is_named q e.1 ≡ b
+  -- the key's test is the item's
+  same_test : (q : List ℕ) (e : String A × Item) → string_bytes e.0 ≡ e.1.row.raw.name → (b : Bool) → at_text q e.0 ≡ b → is_item_named q e.1 ≡ b
   same_test q e is b h = ap (bytes_eq q) (sym is) ∙ h
 
   -- the row under a name is the row of that name
-  pub row_found : (q : List ℕ) (es : List (String A × Row)) → AreNamed es → lookup (at_text q) es ≡ row_named q (values_of es)
+  pub row_found : (q : List ℕ) (es : List (String A × Item)) → AreNamed es → option_map (λ (x : Item). x.row) (lookup (at_text q) es) ≡ row_named q (rows_of (values_of es))
   row_found q [] g = refl
   row_found q (e ∷ es) g = elim (cases_Bool (at_text q e.0)) [
     | inl t ↦ rw (t, same_test q e g.0 true t) refl
     | inr f ↦ rw (f, same_test q e g.0 false f) (row_found q es g.1)
   ]
 
-  module _ (q : List ℕ) (w : Row) (is : w.raw.name ≡ q) where
+  module _ (q : List ℕ) (w : Row) (n : ℕ) (is : w.raw.name ≡ q) where
     -- a row of the name was written there
-    pub named_set : (es : List (String A × Row)) → AreNamed es → AreNamed (set_value (at_text q) es w)
-    named_set [] g = tt
-    named_set (e ∷ es) g = elim (cases_Bool (at_text q e.0)) [
+    pub named_set : (v : Item) (es : List (String A × Item)) → AreNamed es → AreNamed (set_value (at_text q) es (record v { row = w }))
+    named_set v [] g = tt
+    named_set v (e ∷ es) g = elim (cases_Bool (at_text q e.0)) [
       | inl t ↦ rw t (sym ((bytes_eq-Decides q (string_bytes e.0)).0 t) ∙ sym is, g.1)
-      | inr f ↦ rw f (g.0, named_set es g.1)
+      | inr f ↦ rw f (g.0, named_set v es g.1)
     ]
 
     -- it is put in the place of the other
-    pub put_set : (v : Row) (es : List (String A × Row)) → AreNamed es → Some v ≡ lookup (at_text q) es → values_of (set_value (at_text q) es w) ≡ put_name w (values_of es)
+    pub put_set : (v : Item) (es : List (String A × Item)) → AreNamed es → Some v ≡ lookup (at_text q) es → values_of (set_value (at_text q) es (record v { row = w })) ≡ put_item w n (values_of es)
     put_set v [] g l = absurd (cc)
     put_set v (e ∷ es) g l = elim (cases_Bool (at_text q e.0)) [
-      | inl t ↦ let n : is_named w.raw.name e.1 ≡ true = ap (λ x. is_named x e.1) is ∙ same_test q e g.0 true t in rw (t, n) refl
-      | inr f ↦ let n : is_named w.raw.name e.1 ≡ false = ap (λ x. is_named x e.1) is ∙ same_test q e g.0 false f in
-          let l' = rw f at l in rw (f, n) (ap (λ xs. e.1 ∷ xs) (put_set v es g.1 l'))
+      | inl t ↦ let m : is_item_named w.raw.name e.1 ≡ true = ap (λ x. is_item_named x e.1) is ∙ same_test q e g.0 true t in
+          let l' = rw t at l in let same : v ≡ e.1 = cc in rw (t, m) (ap (λ (x : Item). record x { row = w } ∷ values_of es) same)
+      | inr f ↦ let m : is_item_named w.raw.name e.1 ≡ false = ap (λ x. is_item_named x e.1) is ∙ same_test q e g.0 false f in
+          let l' = rw f at l in rw (f, m) (ap (λ xs. e.1 ∷ xs) (put_set v es g.1 l'))
     ]
 
     module _ (k : String A) (key : string_bytes k ≡ q) where
       -- a row of the name came under it
-      pub named_insert : (es : List (String A × Row)) → AreNamed es → AreNamed (insert_entry string_eq es k w)
+      pub named_insert : (es : List (String A × Item)) → AreNamed es → AreNamed (insert_entry string_eq es k (record { row = w; number = n }))
       named_insert [] g = (key ∙ sym is, tt)
       named_insert (e ∷ es) g = elim (cases_Bool (string_eq k e.0)) [
         | inl t ↦ rw t (sym ((bytes_eq-Decides (string_bytes k) (string_bytes e.0)).0 t) ∙ key ∙ sym is, g.1)
@@ -55,34 +57,35 @@ module _ {A : Type 0} where
       ]
 
       -- it is put last
-      pub put_insert : (es : List (String A × Row)) → AreNamed es → values_of (insert_entry string_eq es k w) ≡ put_name w (values_of es)
-      put_insert [] g = refl
-      put_insert (e ∷ es) g =
-          let n : string_eq k e.0 ≡ is_named w.raw.name e.1 = ap (λ t. bytes_eq t (string_bytes e.0)) (key ∙ sym is) ∙ ap (bytes_eq w.raw.name) g.0 in
-          elim (cases_Bool (is_named w.raw.name e.1)) [
-            | inl t ↦ rw (n, t) refl
-            | inr f ↦ rw (n, f) (ap (λ xs. e.1 ∷ xs) (put_insert es g.1))
+      pub put_insert : (es : List (String A × Item)) → AreNamed es → None ≡ lookup (at_text q) es → values_of (insert_entry string_eq es k (record { row = w; number = n })) ≡ put_item w n (values_of es)
+      put_insert [] g l = refl
+      put_insert (e ∷ es) g l =
+          let same : string_eq k e.0 ≡ at_text q e.0 = ap (λ t. bytes_eq t (string_bytes e.0)) key in
+          elim (cases_Bool (at_text q e.0)) [
+            | inl t ↦ let l' = rw t at l in absurd (cc)
+            | inr f ↦ let m : is_item_named w.raw.name e.1 ≡ false = ap (λ x. is_item_named x e.1) is ∙ same_test q e g.0 false f in
+                let l' = rw f at l in rw (same, f, m) (ap (λ xs. e.1 ∷ xs) (put_insert es g.1 l'))
           ]
 
   module _ (q : List ℕ) where
     -- the row under the name ended
-    pub named_ended : (v : Row) (es : List (String A × Row)) → AreNamed es → Some v ≡ lookup (at_text q) es → AreNamed (set_value (at_text q) es (ended v))
+    pub named_ended : (v : Item) (es : List (String A × Item)) → AreNamed es → Some v ≡ lookup (at_text q) es → AreNamed (set_value (at_text q) es (record v { row = ended v.row }))
     named_ended v [] g l = tt
     named_ended v (e ∷ es) g l = elim (cases_Bool (at_text q e.0)) [
-      | inl t ↦ let l' = rw t at l in let same : e.1 ≡ v = cc in rw t (g.0 ∙ ap (λ r. r.raw.name) same, g.1)
+      | inl t ↦ let l' = rw t at l in let same : e.1 ≡ v = cc in rw t (g.0 ∙ ap (λ (x : Item). x.row.raw.name) same, g.1)
       | inr f ↦ let l' = rw f at l in rw f (g.0, named_ended v es g.1 l')
     ]
 
-    -- as `end_name` says
-    pub end_set : (v : Row) (es : List (String A × Row)) → AreNamed es → Some v ≡ lookup (at_text q) es → values_of (set_value (at_text q) es (ended v)) ≡ end_name q (values_of es)
+    -- as `end_item` says
+    pub end_set : (v : Item) (es : List (String A × Item)) → AreNamed es → Some v ≡ lookup (at_text q) es → values_of (set_value (at_text q) es (record v { row = ended v.row })) ≡ end_item q (values_of es)
     end_set v [] g l = absurd (cc)
     end_set v (e ∷ es) g l = elim (cases_Bool (at_text q e.0)) [
-      | inl t ↦ let l' = rw t at l in let same : v ≡ e.1 = cc in rw (t, same_test q e g.0 true t) (ap (λ x. ended x ∷ values_of es) same)
+      | inl t ↦ let l' = rw t at l in let same : v ≡ e.1 = cc in rw (t, same_test q e g.0 true t) (ap (λ (x : Item). record x { row = ended x.row } ∷ values_of es) same)
       | inr f ↦ let l' = rw f at l in rw (f, same_test q e g.0 false f) (ap (λ xs. e.1 ∷ xs) (end_set v es g.1 l'))
     ]
 
     -- there is none, so none ends
-    pub end_none : (es : List (String A × Row)) → AreNamed es → None ≡ lookup (at_text q) es → values_of es ≡ end_name q (values_of es)
+    pub end_none : (es : List (String A × Item)) → AreNamed es → None ≡ lookup (at_text q) es → values_of es ≡ end_item q (values_of es)
     end_none [] g l = refl
     end_none (e ∷ es) g l = elim (cases_Bool (at_text q e.0)) [
       | inl t ↦ let l' = rw t at l in absurd (cc)
@@ -90,31 +93,49 @@ module _ {A : Type 0} where
     ]
 
     -- the entry under the name was removed
-    pub named_removed : (es : List (String A × Row)) → AreNamed es → AreNamed (remove_entry (at_text q) es)
+    pub named_removed : (es : List (String A × Item)) → AreNamed es → AreNamed (remove_entry (at_text q) es)
     named_removed [] g = tt
     named_removed (e ∷ es) g = elim (cases_Bool (at_text q e.0)) [
       | inl t ↦ rw t g.1
       | inr f ↦ rw f (g.0, named_removed es g.1)
     ]
 
-    -- as `remove_name` says
-    pub remove_values : (es : List (String A × Row)) → AreNamed es → values_of (remove_entry (at_text q) es) ≡ remove_name q (values_of es)
+    -- as `remove_item` says
+    pub remove_values : (es : List (String A × Item)) → AreNamed es → values_of (remove_entry (at_text q) es) ≡ remove_item q (values_of es)
     remove_values [] g = refl
     remove_values (e ∷ es) g = elim (cases_Bool (at_text q e.0)) [
       | inl t ↦ rw (t, same_test q e g.0 true t) refl
       | inr f ↦ rw (f, same_test q e g.0 false f) (ap (λ xs. e.1 ∷ xs) (remove_values es g.1))
     ]
 
--- clones of the entries have the same names and rows
-pub named_clones : {A : Type 0} (es fs : List (String A × Row)) → AllZip (λ p q. (string_bytes q.0 ≡ string_bytes p.0) × (q.1 ≡ p.1)) es fs → AreNamed es → AreNamed fs
+-- clones of the entries have the same names and items
+pub named_clones : {A : Type 0} (es fs : List (String A × Item)) → AllZip (λ p q. (string_bytes q.0 ≡ string_bytes p.0) × (q.1 ≡ p.1)) es fs → AreNamed es → AreNamed fs
 named_clones [] [] z g = tt
 named_clones [] (f ∷ fs) z g = absurd z
 named_clones (e ∷ es) [] z g = absurd z
-named_clones (e ∷ es) (f ∷ fs) z g = (z.0.0 ∙ g.0 ∙ ap (λ r. r.raw.name) (sym z.0.1), named_clones es fs z.1 g.1)
+named_clones (e ∷ es) (f ∷ fs) z g = (z.0.0 ∙ g.0 ∙ ap (λ (x : Item). x.row.raw.name) (sym z.0.1), named_clones es fs z.1 g.1)
 
--- and the same rows
-pub value_clones : {A : Type 0} (es fs : List (String A × Row)) → AllZip (λ p q. (string_bytes q.0 ≡ string_bytes p.0) × (q.1 ≡ p.1)) es fs → values_of fs ≡ values_of es
+-- and the same items
+pub value_clones : {A : Type 0} (es fs : List (String A × Item)) → AllZip (λ p q. (string_bytes q.0 ≡ string_bytes p.0) × (q.1 ≡ p.1)) es fs → values_of fs ≡ values_of es
 value_clones [] [] z = refl
 value_clones [] (f ∷ fs) z = absurd z
 value_clones (e ∷ es) [] z = absurd z
 value_clones (e ∷ es) (f ∷ fs) z = ap (λ x. x ∷ values_of fs) z.0.1 ∙ ap (λ xs. e.1 ∷ xs) (value_clones es fs z.1)
+
+-- each text is the name of its item
+abbrev AreNames : List (List ℕ × Item) → Type 0
+AreNames gs = AllByRecursion (λ g. g.0 ≡ g.1.row.raw.name) gs
+
+-- of keys so are their texts
+names_of_texts : {A : Type 0} (es : List (String A × Item)) → AreNamed es → AreNames (texts_of es)
+names_of_texts [] g = tt
+names_of_texts (e ∷ es) g = (g.0, names_of_texts es g.1)
+
+-- and of texts the keys
+names_of_keys : {A : Type 0} (es : List (String A × Item)) → AreNames (texts_of es) → AreNamed es
+names_of_keys [] g = tt
+names_of_keys (e ∷ es) g = (g.0, names_of_keys es g.1)
+
+-- entries of the same texts and items have the same names
+pub named_texts : {A : Type 0} (es fs : List (String A × Item)) → texts_of fs ≡ texts_of es → AreNamed es → AreNamed fs
+named_texts es fs same g = names_of_keys fs (subst AreNames (sym same) (names_of_texts es g))

@@ -1,5 +1,5 @@
 -- Where a text's group stands in a map.
-use Rattle.std.proofs.Common.{◌≡◌, ℕ, zero, suc, ◌+◌, ◌<◌, ◌⊎◌, Bool, true, false, cond, List, [], ◌∷◌, ◌++◌, length, get_or, map, refl, sym, ◌∙◌, ap, subst, inl, inr, bytes_eq, Option, Some, None, arith}
+use Rattle.std.proofs.Common.{◌≡◌, ℕ, zero, suc, ◌+◌, ◌<◌, ◌⊎◌, Bool, true, false, List, [], ◌∷◌, ◌++◌, length, get_or, map, refl, sym, ◌∙◌, ap, inl, inr, bytes_eq, Option, Some, None, arith}
 use Rattle.std.specs.Prelude.{string_bytes, String, option_map, slice_get, position, ◌≢◌}
 use Rattle.std.specs.List.{flat_map, position_from}
 use Rattle.std.specs.Map.{keys_of}
@@ -9,6 +9,7 @@ use Rattle.cookie_parts.specs.Cookie.{Row}
 use Rattle.cookie_lookup.specs.Groups.{DomainGroups}
 use Rattle.cookie_lookup.specs.Seen.{Spot, place_of, under, rows_at, list_of}
 use Rattle.cookie_rows.specs.Groups.{texts_of}
+use Rattle.cookie_rows.specs.Items.{Item, ItemGroups, bare, rows_of}
 
 bool_cases : (b : Bool) → (b ≡ true) ⊎ (b ≡ false)
 bool_cases true = inl refl
@@ -58,3 +59,27 @@ some_row groups [] at default row below here none = absurd (omega (arith, below)
 some_row groups (s ∷ spots) zero default row below here none = let clash : row ∷ flat_map (rows_at groups) spots ≡ [] = ap (λ o. list_of o ++ flat_map (rows_at groups) spots) here ∙ none in absurd (cc)
 some_row groups (s ∷ spots) (suc at) default row below here none =
     some_row groups spots at default row (omega (arith, below)) here (nothing_right (rows_at groups s) (flat_map (rows_at groups) spots) none)
+
+-- groups of items, seen as groups of rows
+
+-- the place of a text among what is seen of groups
+pub seen_place : {A B : Type 0} (see : A → B) (text : List ℕ) (gs : List (List ℕ × A)) → place_of text gs ≡ place_of text (map (λ g. (g.0, see g.1)) gs)
+seen_place see text [] = refl
+seen_place see text (g ∷ gs) = elim (bool_cases (bytes_eq text g.0)) [
+  | inl t ↦ rw t refl
+  | inr t ↦ rw t (ap (option_map suc) (seen_place see text gs))
+]
+
+-- what stands under a place in it
+seen_under : {A B : Type 0} (see : A → B) (n : ℕ) (gs : List (List ℕ × List A)) → map see (under n gs) ≡ under n (map (λ g. (g.0, map see g.1)) gs)
+seen_under see n [] = refl
+seen_under see zero (g ∷ gs) = refl
+seen_under see (suc n) (g ∷ gs) = seen_under see n gs
+
+-- the place of a path in a domain
+pub bare_place : (text : List ℕ) (d : ℕ) (gs : ItemGroups) → place_of text (under d gs) ≡ place_of text (under d (bare gs))
+bare_place text d gs = seen_place rows_of text (under d gs) ∙ ap (place_of text) (seen_under (λ (p : List ℕ × List Item). (p.0, rows_of p.1)) d gs)
+
+-- the rows under a path in a domain
+pub bare_rows : (d p : ℕ) (gs : ItemGroups) → rows_of (under p (under d gs)) ≡ under p (under d (bare gs))
+bare_rows d p gs = seen_under (λ (item : Item). item.row) p (under d gs) ∙ ap (under p) (seen_under (λ (p : List ℕ × List Item). (p.0, rows_of p.1)) d gs)

@@ -29,7 +29,7 @@ begins-none p [] h = refl
 begins-none p (x ∷ xs) h = grind arith
 
 -- the first of the items that follow x may go: where it is like x, those after it follow it as they follow x
-begins-rest : {T : Type 0} {alike : T → T → Bool} → IsEquivalence alike → (x y : T) (ys : List T) → begins (alike x) (y ∷ ys) ≡ true → begins (alike y) ys ≡ true → begins (alike x) ys ≡ true
+pub begins-rest : {T : Type 0} {alike : T → T → Bool} → IsEquivalence alike → (x y : T) (ys : List T) → begins (alike x) (y ∷ ys) ≡ true → begins (alike y) ys ≡ true → begins (alike x) ys ≡ true
 begins-rest {alike = alike} laws x y ys first next = grind (arith, begins_congr laws x y ys, begins-none (alike x) ys)
 
 -- an item after the first one may go

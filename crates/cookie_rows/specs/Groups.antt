@@ -1,14 +1,9 @@
 -- What becomes of rows in groups.
-use Rattle.std.specs.Prelude.{ℕ, ◌≡◌, Bool, false, ◌==◌, List, [], ◌∷◌, length, map, string_bytes, String, bytes_eq, find, Option, None, if◌then◌else◌}
-use Rattle.std.specs.List.{AllByRecursion, flat_map}
+use Rattle.std.specs.Prelude.{ℕ, Bool, false, ◌==◌, List, [], ◌∷◌, length, map, string_bytes, String, bytes_eq, find, Option, None, if◌then◌else◌}
 use Rattle.cookie_parts.specs.Cookie.{Row, ended}
 use Rattle.cookie_parts.specs.Domain.{domain_text}
 use Rattle.cookie_laws.specs.Rows.{Key, changed, removed}
 use Rattle.cookie_lookup.specs.Groups.{PathGroups, DomainGroups}
-
--- each row's name is its key
-abbrev pub AreNamed : {A : Type 0} → List (String A × Row) → Type 0
-AreNamed es = AllByRecursion (λ e. string_bytes e.0 ≡ e.1.raw.name) es
 
 -- the entries of a map, with the keys as texts
 abbrev pub texts_of : {A X : Type 0} → List (String A × X) → List (List ℕ × X)
@@ -103,13 +98,3 @@ remove_paths path name paths = lessened_at (remove_name name) path paths
 -- the row of a key removed
 abbrev pub remove_groups : Key → DomainGroups → DomainGroups
 remove_groups key groups = lessened_at (remove_paths key.path key.name) key.domain groups
-
--- one list
-
--- the rows of groups
-abbrev pub joined : List (List Row) → List Row
-joined groups = flat_map (λ rows. rows) groups
-
--- the groups of domains
-abbrev pub all_groups : List PathGroups → List (List Row)
-all_groups domains = flat_map (λ paths. map (λ p. p.1) paths) domains

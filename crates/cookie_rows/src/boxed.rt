@@ -1,23 +1,46 @@
-//! A cookie in a box: a map that reserves places for rows then reserves places for pointers.
+//! A numbered cookie in a box: a map that reserves places for rows then reserves places for pointers.
 ghost use Rattle.std.specs.Prelude.{◌≡◌, IfOk};
+ghost use Rattle.cookie_words.specs.Moments.{moment_of};
 ghost use Rattle.cookie_parts.specs.Cookie.{ended};
+ghost use Rattle.cookie_rows.specs.Turns.{turn_of};
 
 use cookie_parts::Cookie;
+use jiff::civil::DateTime;
 use std::alloc::{AllocError, Global};
 use std::marker::Model;
 
-/// A cookie in a box.
+/// A cookie, and its number, which is less than that of every row that was made later. Requests read the cookie, so it comes first.
+#[derive(Drop)]
+struct Numbered {
+    cookie: Cookie<'static>,
+    number: u64,
+}
+
+impl Clone for Numbered {
+    ghost use Rattle.std.specs.Prelude.{◌≡◌};
+
+    ghost is_clone = { λ numbered copy. copy ≡ numbered };
+
+    fn clone(&self) -> Result<Numbered, AllocError> {
+        Ok(Numbered {
+            cookie: self.cookie.clone()?,
+            number: self.number,
+        })
+    }
+}
+
+/// A cookie in a box, with its number.
 #[derive(Drop)]
 pub(crate) struct BoxedCookie {
-    inner: Box<Cookie<'static>>,
+    inner: Box<Numbered>,
 }
 
 impl Model for BoxedCookie {
-    ghost use Rattle.cookie_parts.specs.Cookie.{Row};
+    ghost use Rattle.cookie_rows.specs.Items.{Item};
 
-    ghost Value = { Row };
+    ghost Value = { Item };
 
-    ghost view = { λ boxed. boxed.inner.value };
+    ghost view = { λ boxed. record { row = boxed.inner.value.cookie; number = boxed.inner.value.number } };
 }
 
 impl Clone for BoxedCookie {
@@ -33,40 +56,52 @@ impl Clone for BoxedCookie {
 }
 
 impl BoxedCookie {
-    // The cookie, in a box.
-    pub(crate) fn new(alloc: Global, cookie: Cookie<'static>) -> Result<BoxedCookie, AllocError>
-        ensures { IfOk result (λ boxed. boxed ≡ cookie.entry) }
+    // The cookie with this number, in a box.
+    pub(crate) fn new(
+        alloc: Global,
+        cookie: Cookie<'static>,
+        number: u64,
+    ) -> Result<BoxedCookie, AllocError>
+        ensures { IfOk result (λ boxed. boxed ≡ record { row = cookie.entry; number = number }) }
     {
         Ok(BoxedCookie {
-            inner: Box::new(alloc, cookie)?,
+            inner: Box::new(alloc, Numbered { cookie, number })?,
         })
     }
 
     // The cookie.
     pub(crate) fn cookie(&self) -> &Cookie<'static>
-        ensures { result.now ≡ self.now }
+        ensures { result.now ≡ self.now.row }
     {
-        self.inner.as_ref()
+        &self.inner.as_ref().cookie
     }
 
-    // Puts this cookie in the place of the other.
-    pub(crate) fn set(&mut self, cookie: Cookie<'static>)
-        ensures { self.new ≡ cookie.entry }
+    // When the row leaves, at the moment: one that has ended before one that has not, and else the one that was made less recently.
+    pub(crate) fn turn(&self, now: DateTime) -> (bool, u64)
+        ensures { result ≡ turn_of (moment_of now) self.now }
     {
-        let _old = Box::replace(&mut self.inner, cookie);
+        let inner = self.inner.as_ref();
+        (!inner.cookie.is_expired(now), inner.number)
+    }
+
+    // Puts this cookie in the place of the other, with its number.
+    pub(crate) fn set(&mut self, cookie: Cookie<'static>)
+        ensures { self.new ≡ record self.old { row = cookie.entry } }
+    {
+        self.inner.as_mut().cookie = cookie;
     }
 
     // Ends the cookie.
     pub(crate) fn expire(&mut self)
-        ensures { self.new ≡ ended self.old }
+        ensures { self.new ≡ record self.old { row = ended self.old.row } }
     {
-        self.inner.as_mut().expire();
+        self.inner.as_mut().cookie.expire();
     }
 
     // The cookie, out of its box.
     pub(crate) fn into_cookie(self) -> Cookie<'static>
-        ensures { result ≡ self }
+        ensures { result ≡ self.row }
     {
-        Box::into_inner(self.inner)
+        Box::into_inner(self.inner).cookie
     }
 }

@@ -2,7 +2,7 @@
 ghost use Rattle.std.specs.Prelude.{◌≡◌};
 ghost use Rattle.cookie_words.specs.Moments.{moment_of};
 ghost use Rattle.cookie_laws.specs.Rows.{live_rows};
-ghost use Rattle.cookie_rows.specs.Groups.{all_groups, joined};
+ghost use Rattle.cookie_rows.specs.Items.{all_groups, joined, rows_of};
 
 use crate::boxed::BoxedCookie;
 use crate::names::Names;
@@ -22,10 +22,9 @@ struct Groups<'a> {
 impl<'a> Model for Groups<'a> {
     ghost use Rattle.std.specs.Prelude.{◌++◌, List};
     ghost use Rattle.std.specs.Slice.Iter.{iter_rest};
-    ghost use Rattle.cookie_parts.specs.Cookie.{Row};
-    ghost use Rattle.cookie_rows.specs.Groups.{all_groups};
+    ghost use Rattle.cookie_rows.specs.Items.{all_groups, Item};
 
-    ghost Value = { List (List Row) };
+    ghost Value = { List (List Item) };
 
     ghost view = { λ iter. iter_rest iter.paths ++ all_groups (iter_rest iter.domains) };
 }
@@ -75,17 +74,17 @@ impl<'a> Model for IterAny<'a> {
     ghost use Rattle.std.specs.Prelude.{◌++◌, List};
     ghost use Rattle.std.specs.Slice.Iter.{iter_rest};
     ghost use Rattle.cookie_parts.specs.Cookie.{Row};
-    ghost use Rattle.cookie_rows.specs.Groups.{joined};
+    ghost use Rattle.cookie_rows.specs.Items.{joined, rows_of};
 
     ghost Value = { List Row };
 
-    ghost view = { λ iter. iter_rest iter.rows ++ joined iter.groups };
+    ghost view = { λ iter. rows_of (iter_rest iter.rows ++ joined iter.groups) };
 }
 
 impl<'a> IterAny<'a> {
     /// Over the rows of these domains.
     pub(crate) fn new(domains: &'a [Paths]) -> IterAny<'a>
-        ensures { result ≡ joined (all_groups domains.now) }
+        ensures { result ≡ rows_of (joined (all_groups domains.now)) }
     {
         let none: &'a [BoxedCookie] = &[];
         IterAny {

@@ -8,6 +8,7 @@ ghost use Rattle.cookie_lookup.specs.Groups.{flat, AreGroups};
 ghost use Rattle.cookie_lookup.specs.Seen.{domains_found, rows_at, under};
 ghost use Rattle.cookie_lookup.specs.Texts.{most_domains, most_paths};
 ghost use Rattle.cookie_rows.specs.Groups.{texts_of};
+ghost use Rattle.cookie_rows.specs.Items.{bare, rows_of};
 
 use crate::hashing::HashKey;
 use crate::names::Names;
@@ -25,17 +26,17 @@ struct MapSearch<'a> {
     groups: &'a IndexMap<String, Paths, HashKey>,
     current: Option<&'a Names>,
     lookups: Lookups,
-    ghost rows: { AreGroups (texts_of groups.now.entries) } by { Prim.hlevel props },
+    ghost rows: { AreGroups (bare (texts_of groups.now.entries)) } by { Prim.hlevel props },
 }
 
 impl<'a> Search for MapSearch<'a> {
     ghost use Rattle.cookie_lookup.specs.Seen.{Seen};
 
     ghost seen = { λ search. record {
-      groups = texts_of search.groups.now.entries;
+      groups = bare (texts_of search.groups.now.entries);
       domains = search.lookups.domains;
       paths = search.lookups.paths;
-      current = option_map (λ names. names.now) search.current;
+      current = option_map (λ names. rows_of names.now) search.current;
     } };
 
     fn domain(&mut self, text: &str) -> Option<usize> {
@@ -66,13 +67,13 @@ pub(crate) fn searched<'a>(
     url: &Url,
     now: DateTime,
 ) -> Result<(Vec<&'a Cookie<'static>>, Lookups), AllocError>
-    requires { AreGroups (texts_of groups.now.entries) }
+    requires { AreGroups (bare (texts_of groups.now.entries)) }
     ensures given { IfOk result
-        (λ found. map (λ c. c.now) found.0.items ≡ given url.now (moment_of now) (flat (texts_of groups.now.entries))) }
+        (λ found. map (λ c. c.now) found.0.items ≡ given url.now (moment_of now) (flat (bare (texts_of groups.now.entries)))) }
     ensures domains { IfOk result (λ found. found.1.domains ≤ most_domains url.now) }
     ensures paths { IfOk result
-        (λ found. found.1.paths ≤ domains_found url.now (flat (texts_of groups.now.entries)) * most_paths url.now) }
-    ensures memory { OnErr result (given url.now (moment_of now) (flat (texts_of groups.now.entries)) ≢ []) }
+        (λ found. found.1.paths ≤ domains_found url.now (flat (bare (texts_of groups.now.entries))) * most_paths url.now) }
+    ensures memory { OnErr result (given url.now (moment_of now) (flat (bare (texts_of groups.now.entries))) ≢ []) }
 {
     laws::rows_at_spots();
     let mut search = MapSearch {
@@ -95,8 +96,8 @@ fn rows_at<'a>(
     spots: &[(usize, usize, usize)],
 ) -> Result<Vec<&'a Cookie<'static>>, AllocError>
     ensures rows { IfOk result
-        (λ cookies. map (λ c. c.now) cookies.items ≡ flat_map (rows_at (texts_of groups.now.entries)) spots.now) }
-    ensures memory { OnErr result (flat_map (rows_at (texts_of groups.now.entries)) spots.now ≢ []) }
+        (λ cookies. map (λ c. c.now) cookies.items ≡ flat_map (rows_at (bare (texts_of groups.now.entries))) spots.now) }
+    ensures memory { OnErr result (flat_map (rows_at (bare (texts_of groups.now.entries))) spots.now ≢ []) }
 {
     let mut cookies = Vec::new(alloc);
     for spot in spots {
@@ -115,7 +116,7 @@ fn row_at<'a>(
     row: usize,
 ) -> Option<&'a Cookie<'static>>
     ensures { option_map (λ c. c.now) result
-        ≡ slice_get (under path (under domain (texts_of groups.now.entries))) row }
+        ≡ slice_get (under path (under domain (bare (texts_of groups.now.entries)))) row }
 {
     match groups.get_index(domain) {
         Some((_, paths)) => match paths.at(path) {

@@ -5,7 +5,7 @@ use Rattle.std.specs.Str.Lines.{lines}
 use Rattle.std.proofs.KnownBytes.{Appends-trans}
 use Rattle.cookie_device.specs.Device.{AppendsBeginning, Sends}
 use Rattle.cookie_device.proofs.Sending.{part_longer, part_of_rest, part_then, put_then}
-use Rattle.cookie_psl.specs.Rules.{RuleList}
+use Rattle.cookie_store.specs.Contents.{Contents}
 use Rattle.cookie_script.specs.Progress.{AnswersFirst}
 use Rattle.cookie_script.specs.Script.{State, start, turn, outputs, output_of}
 
@@ -30,36 +30,36 @@ state_after-append (line ∷ passed) more state = state_after-append passed more
 
 -- The first lines of the input were answered, and the others are still to be, from this state on. What had been gathered
 -- before and the answers went out, but for what is gathered.
-pub record Answered (suffixes : Option RuleList) (input : List ℕ) (old : Option (List ℕ)) (before : List ℕ) (passed more : List (List ℕ)) (state : State) (new : Option (List ℕ)) (gathered : List ℕ) : Type 0 where
+pub record Answered (store : Contents) (input : List ℕ) (old : Option (List ℕ)) (before : List ℕ) (passed more : List (List ℕ)) (state : State) (new : Option (List ℕ)) (gathered : List ℕ) : Type 0 where
   pub split : lines input ≡ passed ++ more
-  pub state_is : state ≡ state_after passed (start suffixes)
-  pub sends : Sends old new (before ++ outputs passed (start suffixes)) gathered
+  pub state_is : state ≡ state_after passed (start store)
+  pub sends : Sends old new (before ++ outputs passed (start store)) gathered
 
 -- the output is that of some first lines, and of the others after them
-split_output : (suffixes : Option RuleList) (input : List ℕ) (passed more : List (List ℕ)) → lines input ≡ passed ++ more
-    → output_of suffixes input ≡ outputs passed (start suffixes) ++ outputs more (state_after passed (start suffixes))
-split_output suffixes input passed more split =
-    ap (λ ls. outputs ls (start suffixes)) split ∙ outputs-append passed more (start suffixes)
+split_output : (store : Contents) (input : List ℕ) (passed more : List (List ℕ)) → lines input ≡ passed ++ more
+    → output_of store input ≡ outputs passed (start store) ++ outputs more (state_after passed (start store))
+split_output store input passed more split =
+    ap (λ ls. outputs ls (start store)) split ∙ outputs-append passed more (start store)
 
-module _ {suffixes : Option RuleList} {input : List ℕ} {old : Option (List ℕ)} {before : List ℕ} (passed : List (List ℕ)) where
+module _ {store : Contents} {input : List ℕ} {old : Option (List ℕ)} {before : List ℕ} (passed : List (List ℕ)) where
   -- the output is the answers so far and those that are to come
-  all_output : (more : List (List ℕ)) (state : State) (new : Option (List ℕ)) (g : List ℕ) (a : Answered suffixes input old before passed more state new g)
-      → output_of suffixes input ≡ outputs passed (start suffixes) ++ outputs more state
+  all_output : (more : List (List ℕ)) (state : State) (new : Option (List ℕ)) (g : List ℕ) (a : Answered store input old before passed more state new g)
+      → output_of store input ≡ outputs passed (start store) ++ outputs more state
   all_output more state new g a =
-      split_output suffixes input passed more a.split ∙ ap (λ s. outputs passed (start suffixes) ++ outputs more s) (sym a.state_is)
+      split_output store input passed more a.split ∙ ap (λ s. outputs passed (start store) ++ outputs more s) (sym a.state_is)
 
   -- the next line is answered
   pub next_answered : (line : List ℕ) (more : List (List ℕ)) (state : State) (new then : Option (List ℕ)) (g h : List ℕ)
-      → Answered suffixes input old before passed (line ∷ more) state new g → Sends new then (g ++ (turn line state).text) h
-      → Answered suffixes input old before (passed ++ line ∷ []) more (turn line state).state then h
+      → Answered store input old before passed (line ∷ more) state new g → Sends new then (g ++ (turn line state).text) h
+      → Answered store input old before (passed ++ line ∷ []) more (turn line state).state then h
   next_answered line more state new then g h a sends =
-      let done = outputs passed (start suffixes) in
-      let longer : outputs (passed ++ line ∷ []) (start suffixes) ≡ done ++ (turn line state).text
-      = outputs-append passed (line ∷ []) (start suffixes) ∙ ap (λ s. done ++ outputs (line ∷ []) s) (sym a.state_is)
+      let done = outputs passed (start store) in
+      let longer : outputs (passed ++ line ∷ []) (start store) ≡ done ++ (turn line state).text
+      = outputs-append passed (line ∷ []) (start store) ∙ ap (λ s. done ++ outputs (line ∷ []) s) (sym a.state_is)
       ∙ ap (λ text. done ++ text) (append-nil (turn line state).text) in
       record {
         split = a.split ∙ sym (append_assoc passed (line ∷ []) more);
-        state_is = ap (λ s. (turn line s).state) a.state_is ∙ sym (state_after-append passed (line ∷ []) (start suffixes));
+        state_is = ap (λ s. (turn line s).state) a.state_is ∙ sym (state_after-append passed (line ∷ []) (start store));
         sends =
             subst (λ (text : List ℕ). Sends old then (before ++ text) h) (sym longer)
             (put_then old new then before done (turn line state).text g h a.sends sends);
@@ -67,18 +67,18 @@ module _ {suffixes : Option RuleList} {input : List ℕ} {old : Option (List ℕ
 
   -- a beginning of what is gathered goes out: it is one of the output
   pub part_sent : (more : List (List ℕ)) (state : State) (new then : Option (List ℕ)) (g : List ℕ)
-      → Answered suffixes input old before passed more state new g → AppendsBeginning new then g → AppendsBeginning old then (before ++ output_of suffixes input)
+      → Answered store input old before passed more state new g → AppendsBeginning new then g → AppendsBeginning old then (before ++ output_of store input)
   part_sent more state new then g a part =
-      let done = outputs passed (start suffixes) in
+      let done = outputs passed (start store) in
       subst (λ (text : List ℕ). AppendsBeginning old then (before ++ text)) (sym (all_output more state new g a))
       (part_longer old then before done (outputs more state) (part_of_rest old new then (before ++ done) g a.sends part))
 
   -- so is a beginning of the next answer
   pub next_part : (line : List ℕ) (more : List (List ℕ)) (state : State) (new then : Option (List ℕ)) (g : List ℕ)
-      → Answered suffixes input old before passed (line ∷ more) state new g → AppendsBeginning new then (g ++ (turn line state).text)
-      → AppendsBeginning old then (before ++ output_of suffixes input)
+      → Answered store input old before passed (line ∷ more) state new g → AppendsBeginning new then (g ++ (turn line state).text)
+      → AppendsBeginning old then (before ++ output_of store input)
   next_part line more state new then g a part =
-      let done = outputs passed (start suffixes) in
+      let done = outputs passed (start store) in
       let others = outputs more (turn line state).state in
       subst (λ (text : List ℕ). AppendsBeginning old then (before ++ text))
       (append_assoc done (turn line state).text others ∙ sym (all_output (line ∷ more) state new g a))
@@ -87,14 +87,14 @@ module _ {suffixes : Option RuleList} {input : List ℕ} {old : Option (List ℕ
 
   -- all lines are answered
   pub all_sent : (state : State) (new : Option (List ℕ)) (g : List ℕ)
-      → Answered suffixes input old before passed [] state new g → Sends old new (before ++ output_of suffixes input) g
+      → Answered store input old before passed [] state new g → Sends old new (before ++ output_of store input) g
   all_sent state new g a =
       subst (λ (text : List ℕ). Sends old new (before ++ text) g)
-      (sym (all_output [] state new g a ∙ append-nil (outputs passed (start suffixes)))) a.sends
+      (sym (all_output [] state new g a ∙ append-nil (outputs passed (start store)))) a.sends
 
   -- what was gathered goes out
   pub gathered_sent : (more : List (List ℕ)) (state : State) (new then : Option (List ℕ)) (g h : List ℕ)
-      → Answered suffixes input old before passed more state new g → Appends new then g → h ≡ [] → Answered suffixes input old before passed more state then h
+      → Answered store input old before passed more state new g → Appends new then g → h ≡ [] → Answered store input old before passed more state then h
   gathered_sent more state new then g h a whole empty = record {
     split = a.split;
     state_is = a.state_is;
@@ -111,15 +111,15 @@ sent_all a b text g sends empty =
     subst (Appends a b) (sym (sends.split ∙ ap (λ rest. sends.sent ++ rest) empty ∙ append-nil sends.sent)) sends.appended
 
 -- of the answers to some first lines all but the rest went out, and then a beginning of the rest: it is one of the output
-pub first_part : (suffixes : Option RuleList) (input : List ℕ) (Holds : List (List ℕ) → List (List ℕ) → Type 0) (a b c : Option (List ℕ)) (g : List ℕ)
-    → AnswersFirst suffixes input Holds (λ text. Sends a b text g) → AppendsBeginning b c g → AppendsBeginning a c (output_of suffixes input)
-first_part suffixes input Holds a b c g (first, more, split, holds, sends) part =
-    subst (AppendsBeginning a c) (sym (split_output suffixes input first more split))
-    (part_longer a c [] (outputs first (start suffixes)) (outputs more (state_after first (start suffixes)))
-    (part_of_rest a b c (outputs first (start suffixes)) g sends part))
+pub first_part : (store : Contents) (input : List ℕ) (Holds : List (List ℕ) → List (List ℕ) → Type 0) (a b c : Option (List ℕ)) (g : List ℕ)
+    → AnswersFirst store input Holds (λ text. Sends a b text g) → AppendsBeginning b c g → AppendsBeginning a c (output_of store input)
+first_part store input Holds a b c g (first, more, split, holds, sends) part =
+    subst (AppendsBeginning a c) (sym (split_output store input first more split))
+    (part_longer a c [] (outputs first (start store)) (outputs more (state_after first (start store)))
+    (part_of_rest a b c (outputs first (start store)) g sends part))
 
 -- and where all of the rest went out, the answers to some first lines did
-pub first_appended : (suffixes : Option RuleList) (input : List ℕ) (Holds : List (List ℕ) → List (List ℕ) → Type 0) (a b c : Option (List ℕ)) (g : List ℕ)
-    → AnswersFirst suffixes input Holds (λ text. Sends a b text g) → Appends b c g → AnswersFirst suffixes input Holds (Appends a c)
-first_appended suffixes input Holds a b c g (first, more, split, holds, sends) whole =
+pub first_appended : (store : Contents) (input : List ℕ) (Holds : List (List ℕ) → List (List ℕ) → Type 0) (a b c : Option (List ℕ)) (g : List ℕ)
+    → AnswersFirst store input Holds (λ text. Sends a b text g) → Appends b c g → AnswersFirst store input Holds (Appends a c)
+first_appended store input Holds a b c g (first, more, split, holds, sends) whole =
     (first, more, split, holds, subst (Appends a c) (sym sends.split) (Appends-trans a b c sends.sent g sends.appended whole))

@@ -1,5 +1,6 @@
 pub mod Answered
 pub mod Gathering
+pub mod Limits
 pub mod OtherWords
 pub mod Progress
 pub mod Wanting

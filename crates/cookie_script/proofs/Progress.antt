@@ -5,27 +5,27 @@ use Rattle.std.specs.Str.Lines.{lines, lines_of_parts, strip_carriage_return}
 use Rattle.cookie_device.specs.Device.{AppendsBeginning, Sends}
 use Rattle.cookie_device.specs.Lines.{EndsLine, IsLastLine}
 use Rattle.cookie_device.proofs.Sending.{nothing_part, nothing_put}
-use Rattle.cookie_psl.specs.Rules.{RuleList}
+use Rattle.cookie_store.specs.Contents.{Contents}
 use Rattle.cookie_script.specs.Progress.{AreRead}
 use Rattle.cookie_script.specs.Script.{State, start, turn, output_of}
 use Rattle.cookie_script.proofs.Answered.{Answered, gathered_sent, next_answered, part_sent}
 use Rattle.cookie_script.proofs.WholeLines.{WholeLines, line_cut, no_lines, one_more}
 
 -- whole lines were passed and answered, and the bytes at hand and what the source has left are still to be
-pub record Progress (suffixes : Option RuleList) (input : List ℕ) (old : Option (List ℕ)) (before at_hand : List ℕ) (rest : Option (List ℕ)) (state : State) (new : Option (List ℕ)) (gathered : List ℕ) : Type 0 where
+pub record Progress (store : Contents) (input : List ℕ) (old : Option (List ℕ)) (before at_hand : List ℕ) (rest : Option (List ℕ)) (state : State) (new : Option (List ℕ)) (gathered : List ℕ) : Type 0 where
   pub gone : List ℕ
   pub left : List ℕ
   pub passed : List (List ℕ)
   pub cut : input ≡ gone ++ left
   pub known : prepend_known at_hand rest ≡ Some left
   pub whole : WholeLines gone passed
-  pub answered : Answered suffixes input old before passed (lines left) state new gathered
+  pub answered : Answered store input old before passed (lines left) state new gathered
 
 -- at first all is left
-pub begun : (suffixes : Option RuleList) (rest : Option (List ℕ)) (a : Option (List ℕ)) (before : List ℕ)
-    → IfSome rest (λ input. Progress suffixes input a before [] rest (start suffixes) a before)
-begun suffixes None a before = tt
-begun suffixes (Some input) a before = record {
+pub begun : (store : Contents) (rest : Option (List ℕ)) (a : Option (List ℕ)) (before : List ℕ)
+    → IfSome rest (λ input. Progress store input a before [] rest (start store) a before)
+begun store None a before = tt
+begun store (Some input) a before = record {
   gone = [];
   left = input;
   passed = [];
@@ -86,22 +86,22 @@ cut_unread input gone at_hand left passed (Some more) cut known whole none =
       sym (append-nil passed) ∙ sym (whole.are []) ∙ ap lines (append-nil gone ∙ sym (whole.cut at_hand none)),
     )
 
-module _ {suffixes : Option RuleList} {input : List ℕ} {old : Option (List ℕ)} {before : List ℕ} {rest : Option (List ℕ)} {state : State} {new : Option (List ℕ)} {g : List ℕ} where
+module _ {store : Contents} {input : List ℕ} {old : Option (List ℕ)} {before : List ℕ} {rest : Option (List ℕ)} {state : State} {new : Option (List ℕ)} {g : List ℕ} where
   -- the line that was found at hand comes next
-  pub found : (at_hand line : List ℕ) (end : ℕ) (p : Progress suffixes input old before at_hand rest state new g) → EndsLine at_hand end
+  pub found : (at_hand line : List ℕ) (end : ℕ) (p : Progress store input old before at_hand rest state new g) → EndsLine at_hand end
       → line ≡ strip_carriage_return (take end at_hand)
-      → (more : List ℕ) × (rest ≡ Some more) × Answered suffixes input old before p.passed (line ∷ lines (drop (end + 1) at_hand ++ more)) state new g
+      → (more : List ℕ) × (rest ≡ Some more) × Answered store input old before p.passed (line ∷ lines (drop (end + 1) at_hand ++ more)) state new g
   found at_hand line end p ends is =
       let (more, known, ls) = left_lines at_hand p.left rest end p.known ends in (
         more,
         known,
-        subst (λ next. Answered suffixes input old before p.passed next state new g) (ls ∙ ap (λ l. l ∷ lines (drop (end + 1) at_hand ++ more)) (sym is)) p.answered,
+        subst (λ next. Answered store input old before p.passed next state new g) (ls ∙ ap (λ l. l ∷ lines (drop (end + 1) at_hand ++ more)) (sym is)) p.answered,
       )
 
   -- it is answered
-  pub line_answered : (at_hand line : List ℕ) (end : ℕ) (then : Option (List ℕ)) (h : List ℕ) → Progress suffixes input old before at_hand rest state new g
+  pub line_answered : (at_hand line : List ℕ) (end : ℕ) (then : Option (List ℕ)) (h : List ℕ) → Progress store input old before at_hand rest state new g
       → position (λ b. eqb b 10) at_hand ≡ Some end → EndsLine at_hand end → line ≡ strip_carriage_return (take end at_hand)
-      → Sends new then (g ++ (turn line state).text) h → Progress suffixes input old before (drop (end + 1) at_hand) rest (turn line state).state then h
+      → Sends new then (g ++ (turn line state).text) h → Progress store input old before (drop (end + 1) at_hand) rest (turn line state).state then h
   line_answered at_hand line end then h p first ends is sends =
       let (more, known, next) = found at_hand line end p ends is in
       record {
@@ -117,8 +117,8 @@ module _ {suffixes : Option RuleList} {input : List ℕ} {old : Option (List ℕ
       }
 
   -- what was gathered goes out
-  pub flushed : (at_hand : List ℕ) (then : Option (List ℕ)) (h : List ℕ) → Progress suffixes input old before at_hand rest state new g → Appends new then g
-      → h ≡ [] → Progress suffixes input old before at_hand rest state then h
+  pub flushed : (at_hand : List ℕ) (then : Option (List ℕ)) (h : List ℕ) → Progress store input old before at_hand rest state new g → Appends new then g
+      → h ≡ [] → Progress store input old before at_hand rest state then h
   flushed at_hand then h p out empty = record {
     gone = p.gone;
     left = p.left;
@@ -130,8 +130,8 @@ module _ {suffixes : Option RuleList} {input : List ℕ} {old : Option (List ℕ
   }
 
   -- more is read ahead
-  pub read_ahead : (at_hand more : List ℕ) (less : Option (List ℕ)) → Progress suffixes input old before at_hand rest state new g
-      → Keeps (prepend_known at_hand rest) (prepend_known more less) → Progress suffixes input old before more less state new g
+  pub read_ahead : (at_hand more : List ℕ) (less : Option (List ℕ)) → Progress store input old before at_hand rest state new g
+      → Keeps (prepend_known at_hand rest) (prepend_known more less) → Progress store input old before more less state new g
   read_ahead at_hand more less p kept = record {
     gone = p.gone;
     left = p.left;
@@ -143,34 +143,34 @@ module _ {suffixes : Option RuleList} {input : List ℕ} {old : Option (List ℕ
   }
 
   -- at the end of the source the bytes at hand are the last line, unless there are none
-  last_lines : (at_hand : List ℕ) (p : Progress suffixes input old before at_hand rest state new g) → IsAtEnd rest → IsLastLine at_hand
-      → Answered suffixes input old before p.passed (lines_of_parts (at_hand ∷ [])) state new g
+  last_lines : (at_hand : List ℕ) (p : Progress store input old before at_hand rest state new g) → IsAtEnd rest → IsLastLine at_hand
+      → Answered store input old before p.passed (lines_of_parts (at_hand ∷ [])) state new g
   last_lines at_hand p end one =
-      subst (λ next. Answered suffixes input old before p.passed next state new g) (ap lines (all_at_hand at_hand p.left rest p.known end) ∙ one) p.answered
+      subst (λ next. Answered store input old before p.passed next state new g) (ap lines (all_at_hand at_hand p.left rest p.known end) ∙ one) p.answered
 
   -- nothing is left to answer
-  pub no_line_left : (at_hand : List ℕ) (p : Progress suffixes input old before at_hand rest state new g) → IsAtEnd rest → IsLastLine at_hand
-      → length at_hand ≡ 0 → Answered suffixes input old before p.passed [] state new g
+  pub no_line_left : (at_hand : List ℕ) (p : Progress store input old before at_hand rest state new g) → IsAtEnd rest → IsLastLine at_hand
+      → length at_hand ≡ 0 → Answered store input old before p.passed [] state new g
   no_line_left at_hand p end one empty =
-      subst (λ next. Answered suffixes input old before p.passed next state new g) (nothing_last (length at_hand) at_hand empty) (last_lines at_hand p end one)
+      subst (λ next. Answered store input old before p.passed next state new g) (nothing_last (length at_hand) at_hand empty) (last_lines at_hand p end one)
 
   -- one line is left to answer
-  pub one_line_left : (at_hand line : List ℕ) (p : Progress suffixes input old before at_hand rest state new g) → IsAtEnd rest → IsLastLine at_hand
-      → length at_hand ≢ 0 → line ≡ at_hand → Answered suffixes input old before p.passed (line ∷ []) state new g
+  pub one_line_left : (at_hand line : List ℕ) (p : Progress store input old before at_hand rest state new g) → IsAtEnd rest → IsLastLine at_hand
+      → length at_hand ≢ 0 → line ≡ at_hand → Answered store input old before p.passed (line ∷ []) state new g
   one_line_left at_hand line p end one some is =
-      subst (λ next. Answered suffixes input old before p.passed next state new g)
+      subst (λ next. Answered store input old before p.passed next state new g)
       (something_last (length at_hand) at_hand some ∙ ap (λ l. l ∷ []) (sym is)) (last_lines at_hand p end one)
 
   -- a beginning of what was gathered is one of the output
-  pub flush_part : (at_hand : List ℕ) (then : Option (List ℕ)) → Progress suffixes input old before at_hand rest state new g → AppendsBeginning new then g
-      → AppendsBeginning old then (before ++ output_of suffixes input)
+  pub flush_part : (at_hand : List ℕ) (then : Option (List ℕ)) → Progress store input old before at_hand rest state new g → AppendsBeginning new then g
+      → AppendsBeginning old then (before ++ output_of store input)
   flush_part at_hand then p part = part_sent p.passed (lines p.left) state new then g p.answered part
 
   -- so is what went out so far
-  pub part_so_far : (at_hand : List ℕ) → Progress suffixes input old before at_hand rest state new g → AppendsBeginning old new (before ++ output_of suffixes input)
+  pub part_so_far : (at_hand : List ℕ) → Progress store input old before at_hand rest state new g → AppendsBeginning old new (before ++ output_of store input)
   part_so_far at_hand p = part_sent p.passed (lines p.left) state new new g p.answered (nothing_part new g)
 
   -- where no line feed is at hand, the lines that were answered are those that were read
-  pub are_read : (at_hand : List ℕ) (p : Progress suffixes input old before at_hand rest state new g) → position (λ b. eqb b 10) at_hand ≡ None
+  pub are_read : (at_hand : List ℕ) (p : Progress store input old before at_hand rest state new g) → position (λ b. eqb b 10) at_hand ≡ None
       → AreRead input rest p.passed
   are_read at_hand p none = cut_unread input p.gone at_hand p.left p.passed rest p.cut p.known p.whole none

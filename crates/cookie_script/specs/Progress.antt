@@ -2,7 +2,7 @@
 use Rattle.std.specs.Prelude.{◌≡◌, ℕ, ◌-◌, ◌==◌, not, List, [], ◌∷◌, ◌++◌, length, take, IsTrue, Option, Some}
 use Rattle.std.specs.List.{suffix_len}
 use Rattle.std.specs.Str.Lines.{lines}
-use Rattle.cookie_psl.specs.Rules.{RuleList}
+use Rattle.cookie_store.specs.Contents.{Contents}
 use Rattle.cookie_script.specs.Commands.{may_want}
 use Rattle.cookie_script.specs.Script.{outputs, start}
 
@@ -21,6 +21,6 @@ NextMayWant [] = ⊥
 NextMayWant (line ∷ more) = IsTrue (may_want line)
 
 -- the answers to some first lines, each whole, are what went out, and the condition holds of these lines and the others
-abbrev pub AnswersFirst : Option RuleList → List ℕ → (List (List ℕ) → List (List ℕ) → Type 0) → (List ℕ → Type 0) → Type 0
-AnswersFirst suffixes input Holds WentOut = (first more : List (List ℕ)) × (lines input ≡ first ++ more)
-    × Holds first more × WentOut (outputs first (start suffixes))
+abbrev pub AnswersFirst : Contents → List ℕ → (List (List ℕ) → List (List ℕ) → Type 0) → (List ℕ → Type 0) → Type 0
+AnswersFirst store input Holds WentOut = (first more : List (List ℕ)) × (lines input ≡ first ++ more)
+    × Holds first more × WentOut (outputs first (start store))

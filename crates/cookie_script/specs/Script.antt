@@ -7,20 +7,24 @@ use Rattle.cookie_parts.specs.Cookie.{Row}
 use Rattle.cookie_parts.specs.Domain.{domain_text}
 use Rattle.cookie_parts.specs.Errors.{error_text}
 use Rattle.cookie_parts.specs.declared.store_action.StoreAction.TheVariants.{Inserted, ExpiredExisting, UpdatedExisting}
+use Rattle.cookie_store.specs.Contents.{Contents}
 use Rattle.cookie_store.specs.Given.{given}
 use Rattle.cookie_store.specs.Runs as Runs
 use Rattle.cookie_store.specs.Runs.{Reply, Stored, Removed, Cleared, Step, step}
 use Rattle.cookie_script.specs.Commands.{Command, Now, Set, Get, ListRows, Remove, Clear, command_of}
 
--- the rows of the store, its public suffix list if there is one, and the moment that the script has come to
+-- the store, and the moment that the script has come to
 pub record State : Type 0 where
-  pub rows : List Row
-  pub suffixes : Option RuleList
+  pub store : Contents
   pub moment : Moment
 
--- a script begins with an empty store under the list, if there is one, at the epoch
-abbrev pub start : Option RuleList → State
-start suffixes = record { rows = []; suffixes = suffixes; moment = epoch }
+-- a store without rows, under a list and a limit, if there are any
+abbrev pub empty : Option RuleList → Option ℕ → Contents
+empty suffixes limit = record { rows = []; made = []; suffixes = suffixes; limit = limit }
+
+-- a script begins with a store at the epoch
+abbrev pub start : Contents → State
+start store = record { store = store; moment = epoch }
 
 -- what a line writes, and the state after it
 pub record Turn : Type 0 where
@@ -65,18 +69,18 @@ rows_text rows = flat_map row_line rows
 
 -- what a step of the store writes, and the state after it
 abbrev pub stored_turn : Step → State → Turn
-stored_turn step state = record { text = line_text (reply_text step.reply); state = record state { rows = step.rows } }
+stored_turn step state = record { text = line_text (reply_text step.reply); state = record state { store = step.store } }
 
 -- what a command writes and leaves, and `bad line` for none
 unfoldable pub command_turn : Option Command → State → Turn
 command_turn None state = record { text = line_text (codes "bad line"); state = state }
 command_turn (Some (Now moment)) state = record { text = []; state = record state { moment = moment } }
 command_turn (Some (Set url text)) state =
-    stored_turn (step state.suffixes (Runs.Set text url state.moment) state.rows) state
-command_turn (Some (Get url)) state = record { text = line_text (header_text (given url state.moment state.rows)); state = state }
-command_turn (Some ListRows) state = record { text = rows_text state.rows; state = state }
-command_turn (Some (Remove key)) state = stored_turn (step state.suffixes (Runs.Remove key) state.rows) state
-command_turn (Some Clear) state = stored_turn (step state.suffixes Runs.Clear state.rows) state
+    stored_turn (step (Runs.Set text url state.moment) state.store) state
+command_turn (Some (Get url)) state = record { text = line_text (header_text (given url state.moment state.store.rows)); state = state }
+command_turn (Some ListRows) state = record { text = rows_text state.store.rows; state = state }
+command_turn (Some (Remove key)) state = stored_turn (step (Runs.Remove key) state.store) state
+command_turn (Some Clear) state = stored_turn (step Runs.Clear state.store) state
 
 -- what a line writes and leaves
 abbrev pub turn : List ℕ → State → Turn
@@ -87,6 +91,6 @@ abbrev pub outputs : List (List ℕ) → State → List ℕ
 outputs [] state = []
 outputs (line ∷ more) state = (turn line state).text ++ outputs more (turn line state).state
 
--- what a script writes under a public suffix list, if there is one: it is read line by line, from the start
-abbrev pub output_of : Option RuleList → List ℕ → List ℕ
-output_of suffixes input = outputs (lines input) (start suffixes)
+-- what a script writes that begins with a store: it is read line by line, from the start
+abbrev pub output_of : Contents → List ℕ → List ℕ
+output_of store input = outputs (lines input) (start store)

@@ -11,8 +11,8 @@ abbrev pub told_text : Told → State → List ℕ
 told_text Nothing state = []
 told_text BadLine state = line_text (codes "bad line")
 told_text (Said reply) state = line_text (reply_text (reply_view reply))
-told_text (Cookies url) state = line_text (header_text (given url state.moment state.rows))
-told_text Rows state = rows_text state.rows
+told_text (Cookies url) state = line_text (header_text (given url state.moment state.store.rows))
+told_text Rows state = rows_text state.store.rows
 
 -- its answer may want memory
 abbrev pub told_may_want : Told → Bool

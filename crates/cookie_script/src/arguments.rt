@@ -1,8 +1,10 @@
 //! The words of the command line.
-ghost use Rattle.std.specs.Prelude.{◌≡◌, drop, map, option_map, string_bytes, IfErr};
+ghost use Rattle.std.specs.Prelude.{◌≡◌, ◌≤◌, drop, map, option_map, string_bytes, IfErr, IfOk, IfSome};
+ghost use Rattle.std.specs.Char.{is_ascii_digit};
 ghost use Rattle.std.specs.IoError.{error_kind};
+ghost use Rattle.std.specs.List.{list_all};
 ghost use Rattle.std.specs.Result.{result_ok};
-ghost use Rattle.cookie_script.specs.Arguments.{options_of, options_value};
+ghost use Rattle.cookie_script.specs.Arguments.{limit_of, option_said, options_of, options_value};
 ghost use Rattle.cookie_script.specs.Faults.{words_fault};
 
 use crate::fault::{MainFault, RunFault};
@@ -27,17 +29,70 @@ pub fn words_fault(error: io::Error) -> MainFault
     }
 }
 
-/// Reads the words of the command line, without the program's own name: none, or `--suffixes FILE`. All others are
-/// `BadArguments`.
+/// Reads the words of the command line, without the program's own name: none, `--suffixes FILE`, `--limit N`, or both in either
+/// order, where N is a number of decimal digits, from 1 to the greatest `usize`. All others are `BadArguments`.
 pub fn options(words: &[String]) -> Result<Options<'_>, MainFault>
     ensures value { option_map options_value (result_ok result) ≡ options_of (map string_bytes words.now) }
     ensures refused { IfErr result (λ fault. fault ≡ MainFault.BadArguments) }
+    ensures limit { IfOk result (λ options. IfSome options.limit (λ limit. 1 ≤ limit)) }
 {
+    let none = Options {
+        suffixes: None,
+        limit: None,
+    };
     match words {
-        [] => Ok(Options { suffixes: None }),
-        [option, file] if option.as_str() == "--suffixes" => Ok(Options {
-            suffixes: Some(file.as_str()),
-        }),
+        [] => Ok(none),
+        [option, word] => said(none, option.as_str(), word.as_str()),
+        [option, word, other, second] => {
+            let options = said(none, option.as_str(), word.as_str())?;
+            said(options, other.as_str(), second.as_str())
+        }
         _ => Err(MainFault::BadArguments),
     }
+}
+
+// The options with this one, if it was not said before.
+fn said<'a>(options: Options<'a>, option: &str, word: &'a str) -> Result<Options<'a>, MainFault>
+    requires limit { IfSome options.limit (λ limit. 1 ≤ limit) }
+    ensures value { option_map options_value (result_ok result) ≡ option_said option.now word.now (options_value options.entry) }
+    ensures refused { IfErr result (λ fault. fault ≡ MainFault.BadArguments) }
+    ensures limit { IfOk result (λ options. IfSome options.limit (λ limit. 1 ≤ limit)) }
+{
+    if option == "--suffixes" && options.suffixes.is_none() {
+        return Ok(Options {
+            suffixes: Some(word),
+            ..options
+        });
+    }
+    if option == "--limit" && options.limit.is_none() {
+        return match limit_of(word) {
+            Some(limit) => Ok(Options {
+                limit: Some(limit),
+                ..options
+            }),
+            None => Err(MainFault::BadArguments),
+        };
+    }
+    Err(MainFault::BadArguments)
+}
+
+// The number of decimal digits that the word is, from 1 to the greatest `usize`.
+fn limit_of(word: &str) -> Option<usize>
+    ensures value { result ≡ limit_of word.now }
+    ensures limit { IfSome result (λ limit. 1 ≤ limit) }
+{
+    if !is_digits(word) {
+        return None;
+    }
+    match word.parse::<usize>() {
+        Ok(limit) if limit > 0 => Some(limit),
+        _ => None,
+    }
+}
+
+// Whether the word is decimal digits alone, or empty.
+fn is_digits(word: &str) -> bool
+    ensures { result ≡ list_all is_ascii_digit word.now }
+{
+    word.as_bytes().iter().all(|byte| byte.is_ascii_digit())
 }

@@ -1,10 +1,10 @@
 //! The state of a script, and what a line comes to.
-ghost use Rattle.std.specs.Prelude.{◌≡◌, ◌≢◌, Err, IfOk, IsTrue, OnErr, OnOk, Some};
+ghost use Rattle.std.specs.Prelude.{◌≡◌, ◌≢◌, ◌≤◌, Err, IfOk, IfSome, IsTrue, OnErr, OnOk, Some};
 ghost use Rattle.cookie_script.specs.Answering.{answer_text};
 ghost use Rattle.cookie_script.specs.Told.{told_may_want, told_text};
 ghost use Rattle.cookie_script.specs.CommandViews.{command_view};
 ghost use Rattle.cookie_script.specs.Commands.{command_may_want, may_want};
-ghost use Rattle.cookie_script.specs.Script.{command_turn, start, turn};
+ghost use Rattle.cookie_script.specs.Script.{command_turn, empty, start, turn};
 
 use crate::answer::Answer;
 use crate::command::{Command, read_command};
@@ -43,18 +43,23 @@ impl Model for Jar {
 
     ghost Value = { State };
 
-    ghost view = { λ j. record { rows = j.store.rows; suffixes = j.store.suffixes; moment = moment_of j.moment } };
+    ghost view = { λ j. record { store = j.store; moment = moment_of j.moment } };
 }
 
 impl Jar {
-    /// An empty store under the list, if there is one, whose maps hash by this key, at the epoch.
-    pub fn new(alloc: Global, list: Option<List>, hash_key: HashKey) -> Jar
-        ensures { result ≡ start list }
+    /// An empty store under the list and the limit, if there are any, whose maps hash by this key, at the epoch.
+    pub fn new(alloc: Global, list: Option<List>, limit: Option<usize>, hash_key: HashKey) -> Jar
+        requires { IfSome limit (λ limit. 1 ≤ limit) }
+        ensures { result ≡ start (empty list limit) }
     {
         let store = CookieStore::with_hash_key(alloc, hash_key);
+        let store = match list {
+            Some(list) => store.with_suffix_list(list),
+            None => store,
+        };
         Jar {
-            store: match list {
-                Some(list) => store.with_suffix_list(list),
+            store: match limit {
+                Some(limit) => store.with_domain_limit(limit),
                 None => store,
             },
             moment: date(1970, 1, 1).at(0, 0, 0, 0),

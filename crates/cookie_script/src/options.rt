@@ -3,4 +3,6 @@
 pub struct Options<'a> {
     /// The file of a public suffix list.
     pub suffixes: Option<&'a str>,
+    /// How many cookies of one domain may stand.
+    pub limit: Option<usize>,
 }

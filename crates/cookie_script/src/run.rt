@@ -5,7 +5,7 @@ ghost use Rattle.cookie_device.specs.Device.{AppendsBeginning, Sends};
 ghost use Rattle.cookie_script.specs.Commands.{may_want};
 ghost use Rattle.cookie_script.specs.Faults.{CountsFault};
 ghost use Rattle.cookie_script.specs.Progress.{AnswersFirst, AreRead, NextMayWant};
-ghost use Rattle.cookie_script.specs.Script.{output_of, turn};
+ghost use Rattle.cookie_script.specs.Script.{empty, output_of, turn};
 
 use crate::fault::RunFault;
 use crate::jar::Jar;
@@ -14,8 +14,8 @@ use cookie_store::HashKey;
 use cookie_store::psl::List;
 use std::alloc::Global;
 
-/// Runs the script that the source gives, and writes its answers to the sink. The store obeys the public suffix list, if
-/// there is one, and its maps hash by the key, which changes no answer. Where a read failed, the answers to all whole lines
+/// Runs the script that the source gives, and writes its answers to the sink. The store obeys the public suffix list and the limit
+/// of cookies for each domain, if there are any, and its maps hash by the key, which changes no answer. Where a read failed, the answers to all whole lines
 /// that were read went out, and nothing else. Where memory ran out, those did, or the answers to the lines before one that
 /// may want memory.
 pub fn run<R: Source, W: Sink>(
@@ -23,26 +23,28 @@ pub fn run<R: Source, W: Sink>(
     source: &mut R,
     sink: &mut W,
     list: Option<List>,
+    limit: Option<usize>,
     hash_key: HashKey,
 ) -> Result<(), RunFault>
+    requires limit { IfSome limit (λ limit. 1 ≤ limit) }
     requires readable { R.failed source.old < 2 ^ 64 - 1 }
     requires writable { W.failed sink.old < 2 ^ 64 - 1 }
     ensures whole { OnOk result (IfSome (R.remaining source.old) (λ input.
-        Appends (W.contents sink.old) (W.contents sink.new) (output_of list input))) }
+        Appends (W.contents sink.old) (W.contents sink.new) (output_of (empty list limit) input))) }
     ensures part { IfSome (R.remaining source.old) (λ input.
-        AppendsBeginning (W.contents sink.old) (W.contents sink.new) (output_of list input)) }
+        AppendsBeginning (W.contents sink.old) (W.contents sink.new) (output_of (empty list limit) input)) }
     ensures read { result ≡ Err RunFault.Read → IfSome (R.remaining source.old) (λ input.
-        AnswersFirst list input (λ first more. AreRead input (R.remaining source.new) first)
+        AnswersFirst (empty list limit) input (λ first more. AreRead input (R.remaining source.new) first)
         (Appends (W.contents sink.old) (W.contents sink.new))) }
     ensures memory { result ≡ Err RunFault.Memory → IfSome (R.remaining source.old) (λ input.
-        AnswersFirst list input (λ first more. AreRead input (R.remaining source.new) first ⊎ NextMayWant more)
+        AnswersFirst (empty list limit) input (λ first more. AreRead input (R.remaining source.new) first ⊎ NextMayWant more)
         (Appends (W.contents sink.old) (W.contents sink.new))) }
     ensures count { CountsFault result (R.failed source.old) (R.failed source.new) (W.failed sink.old) (W.failed sink.new) }
     ensures reads { IfSome (R.remaining source.old) (λ input.
         R.reads_left source.old ≤ R.reads_left source.new + length input + 1) }
 {
     let mut out = Output::new(alloc)?;
-    match answer_lines(alloc, source, &mut out, sink, list, hash_key) {
+    match answer_lines(alloc, source, &mut out, sink, list, limit, hash_key) {
         Err(RunFault::Memory) => {
             out.flush(sink)?;
             Err(RunFault::Memory)
@@ -59,26 +61,28 @@ fn answer_lines<R: Source, W: Sink>(
     out: &mut Output,
     sink: &mut W,
     list: Option<List>,
+    limit: Option<usize>,
     hash_key: HashKey,
 ) -> Result<(), RunFault>
+    requires limit { IfSome limit (λ limit. 1 ≤ limit) }
     requires readable { R.failed source.old < 2 ^ 64 - 1 }
     requires writable { W.failed sink.old < 2 ^ 64 - 1 }
     ensures whole { OnOk result (IfSome (R.remaining source.old) (λ input.
-        Sends (W.contents sink.old) (W.contents sink.new) (out.old ++ output_of list input) out.new)) }
+        Sends (W.contents sink.old) (W.contents sink.new) (out.old ++ output_of (empty list limit) input) out.new)) }
     ensures part { IfSome (R.remaining source.old) (λ input.
-        AppendsBeginning (W.contents sink.old) (W.contents sink.new) (out.old ++ output_of list input)) }
+        AppendsBeginning (W.contents sink.old) (W.contents sink.new) (out.old ++ output_of (empty list limit) input)) }
     ensures read { result ≡ Err RunFault.Read → IfSome (R.remaining source.old) (λ input.
-        AnswersFirst list input (λ first more. AreRead input (R.remaining source.new) first)
+        AnswersFirst (empty list limit) input (λ first more. AreRead input (R.remaining source.new) first)
         (λ text. Appends (W.contents sink.old) (W.contents sink.new) (out.old ++ text))) }
     ensures memory { result ≡ Err RunFault.Memory → IfSome (R.remaining source.old) (λ input.
-        AnswersFirst list input (λ first more. AreRead input (R.remaining source.new) first ⊎ NextMayWant more)
+        AnswersFirst (empty list limit) input (λ first more. AreRead input (R.remaining source.new) first ⊎ NextMayWant more)
         (λ text. Sends (W.contents sink.old) (W.contents sink.new) (out.old ++ text) out.new)) }
     ensures count { CountsFault result (R.failed source.old) (R.failed source.new) (W.failed sink.old) (W.failed sink.new) }
     ensures reads { IfSome (R.remaining source.old) (λ input.
         R.reads_left source.old ≤ R.reads_left source.new + length input + 1) }
 {
     let mut input = LineBuffer::new(alloc);
-    let mut jar = Jar::new(alloc, list, hash_key);
+    let mut jar = Jar::new(alloc, list, limit, hash_key);
     'lines: loop {
         if let Some(end) = input.line_end() {
             answer_line(alloc, &mut jar, input.line(end), out, sink)?;

@@ -16,7 +16,7 @@ fn read_from<'a>(
 ) -> (Result<(), RunFault>, Vec<u8>, Fake<&'a [u8]>) {
     let mut source = Counted::new(fake);
     let mut sink = Counted::new(Vec::new(alloc));
-    let outcome = run(alloc, &mut source, &mut sink, None, HashKey::Fixed);
+    let outcome = run(alloc, &mut source, &mut sink, None, None, HashKey::Fixed);
     (outcome, sink.into_inner(), source.into_inner())
 }
 
@@ -24,7 +24,7 @@ fn read_from<'a>(
 fn written_to(alloc: Global, fake: Fake<Vec<u8>>) -> (Result<(), RunFault>, Fake<Vec<u8>>) {
     let mut source = Counted::new(HOSTS);
     let mut sink = Counted::new(fake);
-    let outcome = run(alloc, &mut source, &mut sink, None, HashKey::Fixed);
+    let outcome = run(alloc, &mut source, &mut sink, None, None, HashKey::Fixed);
     (outcome, sink.into_inner())
 }
 
@@ -83,7 +83,7 @@ fn reads_on(
     let taken = fails_at.saturating_sub(1).saturating_mul(most);
     let left = HOSTS.get(taken.min(HOSTS.len())..).unwrap_or(&[]);
     is_text(rt, fake.inner, left, fails_at);
-    let wanted = output(alloc, fake.inner, None)?;
+    let wanted = output(alloc, fake.inner, None, None)?;
     let (outcome, written, _) = read_from(alloc, fake);
     has_ended(rt, outcome, Ok(()), fails_at);
     is_text(rt, &written, &wanted, fails_at);

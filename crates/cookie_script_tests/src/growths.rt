@@ -52,7 +52,7 @@ fn run_into(alloc: Global, room: &mut [u8]) -> (Result<(), RunFault>, usize) {
     let size = room.len();
     let mut source = Counted::new(SCRIPT);
     let mut sink = Counted::new(room);
-    let outcome = run(alloc, &mut source, &mut sink, None, HashKey::Fixed);
+    let outcome = run(alloc, &mut source, &mut sink, None, None, HashKey::Fixed);
     (outcome, size.saturating_sub(sink.into_inner().len()))
 }
 

@@ -22,7 +22,7 @@ const OUTPUT_UNDER_A_LIST: &str = "refused: domain-attribute value is a public s
 
 fn written_under_a_list(alloc: Global) -> Result<Vec<u8>, Fail> {
     let list = list_of(alloc, LIST)?;
-    output(alloc, UNDER_A_LIST, Some(list))
+    output(alloc, UNDER_A_LIST, Some(list), None)
 }
 
 #[test]

@@ -80,7 +80,7 @@ fn seen_at_reads(
         calls: 0,
     });
     let mut sink = Counted::new(CountingWriter { out });
-    run(alloc, &mut source, &mut sink, None, HashKey::Fixed)?;
+    run(alloc, &mut source, &mut sink, None, None, HashKey::Fixed)?;
     let reader = source.into_inner();
     Ok((reader.seen, reader.calls))
 }
@@ -115,7 +115,7 @@ fn repeated(
 fn calls_of(alloc: Global, script: &[u8]) -> Result<(usize, usize, usize), RunFault> {
     let mut source = Counted::new(Fake::new(script, 4_096, 0));
     let mut sink = Counted::new(Fake::new(Vec::new(alloc), usize::MAX, 0));
-    run(alloc, &mut source, &mut sink, None, HashKey::Fixed)?;
+    run(alloc, &mut source, &mut sink, None, None, HashKey::Fixed)?;
     let writer = sink.into_inner();
     Ok((source.into_inner().calls, writer.calls, writer.inner.len()))
 }

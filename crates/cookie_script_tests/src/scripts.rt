@@ -1,4 +1,6 @@
 //! What scripts write.
+ghost use Rattle.std.specs.Prelude.{◌≤◌, IfSome};
+
 use cookie_device::Counted;
 use cookie_psl::List;
 use cookie_script::HashKey;
@@ -188,11 +190,57 @@ const BAD_LINES: [(&str, &[u8]); 19] = [
     ("no UTF-8 in a text", b"set http://a.com/ a=\xff\n"),
 ];
 
-/// What a script writes under a public suffix list, if there is one.
-pub fn output(alloc: Global, script: &[u8], list: Option<List>) -> Result<Vec<u8>, Fail> {
+// A name, a limit, a script, and what it writes.
+type LimitedRow = (&'static str, usize, &'static [u8], &'static str);
+
+const LIMITED: [LimitedRow; 3] = [
+    (
+        "a cookie that takes another's place stays made when that was",
+        2,
+        b"now 2026-01-01T00:00:00Z\n\
+          set http://a.com/ x=1\n\
+          set http://a.com/ y=1; Path=/p\n\
+          set http://b.com/ k=1\n\
+          set http://a.com/ x=2\n\
+          set http://a.com/ z=1\n\
+          list\n",
+        "inserted\ninserted\ninserted\nupdated\ninserted\na.com /p y\na.com / z\nb.com / k\n",
+    ),
+    (
+        "one that has ended leaves first",
+        2,
+        b"now 2026-01-01T00:00:00Z\n\
+          set http://a.com/ x=1\n\
+          set http://a.com/ y=1; Max-Age=60\n\
+          now 2026-01-01T00:01:00Z\n\
+          set http://a.com/ z=1\n\
+          list\n",
+        "inserted\ninserted\ninserted\na.com / x\na.com / z\n",
+    ),
+    (
+        "with the only one its domain goes last",
+        1,
+        b"now 2026-01-01T00:00:00Z\n\
+          set http://a.com/ x=1\n\
+          set http://b.com/ y=1\n\
+          set http://a.com/ z=1\n\
+          list\n",
+        "inserted\ninserted\ninserted\nb.com / y\na.com / z\n",
+    ),
+];
+
+/// What a script writes under a public suffix list and a limit, if there are any.
+pub fn output(
+    alloc: Global,
+    script: &[u8],
+    list: Option<List>,
+    limit: Option<usize>,
+) -> Result<Vec<u8>, Fail>
+    requires { IfSome limit (λ limit. 1 ≤ limit) }
+{
     let mut source = Counted::new(script);
     let mut sink = Counted::new(Vec::new(alloc));
-    run(alloc, &mut source, &mut sink, list, HashKey::Fixed)?;
+    run(alloc, &mut source, &mut sink, list, limit, HashKey::Fixed)?;
     Ok(sink.into_inner())
 }
 
@@ -205,10 +253,13 @@ fn writes(
     rt: &impl Abort,
     alloc: Global,
     script: &[u8],
+    limit: Option<usize>,
     wanted: &str,
     name: &str,
-) -> Result<(), Fail> {
-    let written = output(alloc, script, None)?;
+) -> Result<(), Fail>
+    requires { IfSome limit (λ limit. 1 ≤ limit) }
+{
+    let written = output(alloc, script, None, limit)?;
     is_text(rt, str::from_utf8(&written)?, wanted, name);
     Ok(())
 }
@@ -216,7 +267,15 @@ fn writes(
 #[test]
 fn answers_scripts(rt: HostRuntime) -> Result<(), Fail> {
     for (name, script, wanted) in &SCRIPTS {
-        writes(&rt, rt.alloc(), script, wanted, name)?;
+        writes(&rt, rt.alloc(), script, None, wanted, name)?;
+    }
+    Ok(())
+}
+
+#[test]
+fn answers_scripts_under_a_limit(rt: HostRuntime) -> Result<(), Fail> {
+    for (name, limit, script, wanted) in &LIMITED {
+        writes(&rt, rt.alloc(), script, Some((*limit).max(1)), wanted, name)?;
     }
     Ok(())
 }
@@ -224,7 +283,7 @@ fn answers_scripts(rt: HostRuntime) -> Result<(), Fail> {
 #[test]
 fn tells_bad_lines(rt: HostRuntime) -> Result<(), Fail> {
     for (name, line) in &BAD_LINES {
-        writes(&rt, rt.alloc(), line, "bad line\n", name)?;
+        writes(&rt, rt.alloc(), line, None, "bad line\n", name)?;
     }
     Ok(())
 }
@@ -259,6 +318,7 @@ fn a_long_list_has_all_rows(rt: HostRuntime) -> Result<(), Fail> {
         &rt,
         rt.alloc(),
         script.as_bytes(),
+        None,
         wanted.as_str(),
         "a long list",
     )

@@ -7,15 +7,52 @@ use std::io::{Error, ErrorKind};
 use std::process::Abort;
 use std::test::Fail;
 
-// Words, and the file that they name, or None where they are bad.
-const WORDS: [(&[&str], Option<Option<&str>>); 7] = [
-    (&[], Some(None)),
-    (&["--suffixes", "list.dat"], Some(Some("list.dat"))),
-    (&["--suffixes", "--suffixes"], Some(Some("--suffixes"))),
+// The file and the limit that words ask for.
+type Asked = (Option<&'static str>, Option<usize>);
+
+// Words, and what they ask for, or None where they are bad.
+const WORDS: [(&[&str], Option<Asked>); 29] = [
+    (&[], Some((None, None))),
+    (&["--suffixes", "list.dat"], Some((Some("list.dat"), None))),
+    (
+        &["--suffixes", "--suffixes"],
+        Some((Some("--suffixes"), None)),
+    ),
     (&["--suffixes"], None),
     (&["--suffixes", "a", "b"], None),
     (&["--suffixes=a"], None),
     (&["--help"], None),
+    (&["--limit", "1"], Some((None, Some(1)))),
+    (&["--limit", "050"], Some((None, Some(50)))),
+    (
+        &["--limit", "18446744073709551615"],
+        Some((None, Some(usize::MAX))),
+    ),
+    (
+        &["--limit", "7", "--suffixes", "a"],
+        Some((Some("a"), Some(7))),
+    ),
+    (
+        &["--suffixes", "--limit", "--limit", "7"],
+        Some((Some("--limit"), Some(7))),
+    ),
+    (&["--limit"], None),
+    (&["--limit", ""], None),
+    (&["--limit", "0"], None),
+    (&["--limit", "00"], None),
+    (&["--limit", "+1"], None),
+    (&["--limit", "-1"], None),
+    (&["--limit", " 1"], None),
+    (&["--limit", "1 "], None),
+    (&["--limit", "0x1"], None),
+    (&["--limit", "\u{661}"], None),
+    (&["--limit", "18446744073709551616"], None),
+    (&["--limit=1"], None),
+    (&["--Limit", "1"], None),
+    (&["--limit", "1", "--limit", "1"], None),
+    (&["--suffixes", "a", "--suffixes", "a"], None),
+    (&["--limit", "1", "--suffixes"], None),
+    (&["--limit", "1", "--suffixes", "a", "b"], None),
 ];
 
 fn owned(alloc: Global, words: &[&str]) -> Result<Vec<String>, AllocError> {
@@ -26,17 +63,17 @@ fn owned(alloc: Global, words: &[&str]) -> Result<Vec<String>, AllocError> {
     Ok(owned)
 }
 
-// The words ask for the file, or are bad.
-fn asks_for(rt: &impl Abort, words: &[String], wanted: Option<Option<&str>>) {
+// The words ask for this, or are bad.
+fn asks_for(rt: &impl Abort, words: &[String], wanted: Option<Asked>) {
     let wanted = match wanted {
-        Some(suffixes) => Ok(Options { suffixes }),
+        Some((suffixes, limit)) => Ok(Options { suffixes, limit }),
         None => Err(MainFault::BadArguments),
     };
     assert_eq!(rt; arguments::options(words), wanted, "at {words:?}");
 }
 
 #[test]
-fn the_list_is_the_only_option(rt: HostRuntime) -> Result<(), Fail> {
+fn the_list_and_the_limit_are_the_only_options(rt: HostRuntime) -> Result<(), Fail> {
     for (words, wanted) in &WORDS {
         let owned = owned(rt.alloc(), words)?;
         asks_for(&rt, owned.as_slice(), *wanted);

@@ -1,5 +1,6 @@
 pub mod CutRows
 pub mod EarlyRefusals
+pub mod Entered
 pub mod LinesBack
 pub mod ListedRows
 pub mod LoadedAlike

@@ -7,6 +7,7 @@ use Rattle.std.specs.Str.Lines.{lines}
 use Rattle.cookie_words.specs.Moments.{Moment}
 use Rattle.cookie_parts.specs.Cookie.{Row}
 use Rattle.cookie_parts.specs.declared.error.Error.{Error}
+use Rattle.cookie_laws.specs.Rows.{Kept}
 use Rattle.cookie_store.specs.Loading.{AreCookies, BuildsFrom, EndsWithinLine, FailsAtLine, FailsToLoad, IsReached, MakesCookie, RefusesLine, StopsAtLine, StopsWithinLine}
 use Rattle.cookie_store.proofs.Pairs.{AllZip-then}
 
@@ -43,9 +44,9 @@ module _ {makes yields : List ℕ → Result Row Error → Type 0}
   stops_within_alike rest reads_left reads_left' text (given, left, split, known, ends, brought) =
       (given, left, split, known, ends_within_alike given ends, brought)
 
-  pub builds_alike : (known : Option (List ℕ)) (include_expired : Bool) (now : Moment) (rows : List Row)
-      → BuildsFrom makes known include_expired now rows → BuildsFrom yields known include_expired now rows
-  builds_alike known include_expired now rows (cookies, are_built, made) =
+  pub builds_alike : (known : Option (List ℕ)) (include_expired : Bool) (now : Moment) (loaded : Kept)
+      → BuildsFrom makes known include_expired now loaded → BuildsFrom yields known include_expired now loaded
+  builds_alike known include_expired now loaded (cookies, are_built, made) =
       (cookies, are_built, IfSome_then known made (λ text. cookies_alike (lines text) cookies))
 
   pub fails_to_load_alike : (error : Error) (known rest : Option (List ℕ)) (failures failures' reads_left reads_left' : ℕ)
@@ -60,13 +61,13 @@ module _ {makes yields : List ℕ → Result Row Error → Type 0}
 pub loaded_alike : {F : Type 0} (g : Shared F (Bor (List ℕ) × Unit {0}) (Result Row Error)) (f : F)
     (yields : List ℕ → Result Row Error → Type 0)
     → ((line : List ℕ) (answer : Result Row Error) → FnReturnsAt g f line answer → yields line answer)
-    → (result : Result (List Row) Error) (known rest : Option (List ℕ)) (failures failures' reads_left reads_left' : ℕ)
+    → (result : Result Kept Error) (known rest : Option (List ℕ)) (failures failures' reads_left reads_left' : ℕ)
     → (include_expired : Bool) (now : Moment)
     → IfErr result (λ error. FailsToLoad (FnReturnsAt g f) error known rest failures failures' reads_left reads_left')
-    → IfOk result (λ rows. BuildsFrom (FnReturnsAt g f) known include_expired now rows)
+    → IfOk result (λ loaded. BuildsFrom (FnReturnsAt g f) known include_expired now loaded)
     → IfErr result (λ error. FailsToLoad yields error known rest failures failures' reads_left reads_left')
-    × IfOk result (λ rows. BuildsFrom yields known include_expired now rows)
-loaded_alike g f yields kept (Ok rows) known rest failures failures' reads_left reads_left' include_expired now fails built =
-    (tt, builds_alike kept known include_expired now rows built)
+    × IfOk result (λ loaded. BuildsFrom yields known include_expired now loaded)
+loaded_alike g f yields kept (Ok loaded) known rest failures failures' reads_left reads_left' include_expired now fails built =
+    (tt, builds_alike kept known include_expired now loaded built)
 loaded_alike g f yields kept (Err error) known rest failures failures' reads_left reads_left' include_expired now fails built =
     (fails_to_load_alike kept error known rest failures failures' reads_left reads_left' fails, tt)

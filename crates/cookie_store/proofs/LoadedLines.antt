@@ -9,11 +9,11 @@ use Rattle.cookie_words.specs.Moments.{Moment}
 use Rattle.cookie_parts.specs.Cookie.{Row}
 use Rattle.cookie_parts.specs.declared.error.Error.{Error}
 use Rattle.cookie_store.specs.Loading.{AreCookies, IsReached, MakesCookie, RefusesLine, StopsWithinLine, TakesLine}
-use Rattle.cookie_laws.specs.Rows.{built}
+use Rattle.cookie_laws.specs.Rows.{Kept, built}
 use Rattle.cookie_store.proofs.Pairs.{AllZip-more}
 
 -- no rows are built from no cookies
-pub built_none : (include_expired : Bool) (now : Moment) → [] ≡ built include_expired now []
+pub built_none : (include_expired : Bool) (now : Moment) → record { rows = []; made = [] } ≡ built include_expired now []
 built_none true now = refl
 built_none false now = refl
 
@@ -43,7 +43,7 @@ module _ (makes : List ℕ → Result Row Error → Type 0) where
   refused line (Err error) valid answers = inr (valid, answers)
 
   -- a line that is taken brings one cookie more
-  pub taken_built : (line : List ℕ) (include_expired : Bool) (now : Moment) (old new cookies : List Row)
+  pub taken_built : (line : List ℕ) (include_expired : Bool) (now : Moment) (old new : Kept) (cookies : List Row)
       → TakesLine makes line include_expired now old new → old ≡ built include_expired now cookies
       → (cookie : Row) × MakesCookie makes line cookie × (new ≡ built include_expired now (cookies ++ cookie ∷ []))
   taken_built line include_expired now old new cookies (cookie, makes_it, taken) are_built = (

@@ -4,10 +4,10 @@ use Rattle.cookie_words.specs.Moments.{moment_of}
 use Rattle.cookie_raw.specs.Reading.{reading}
 use Rattle.cookie_parts.specs.Cookie.{early}
 use Rattle.cookie_parts.specs.declared.store_action.StoreAction.TheVariants.{Inserted}
-use Rattle.cookie_store.specs.Contents.{Contents}
+use Rattle.cookie_laws.specs.Contents.{Contents}
 use Rattle.cookie_laws.specs.Rows.{key_at}
 use Rattle.cookie_laws.specs.Runs as Runs
-use Rattle.cookie_laws.specs.Runs.{replies, rows_after, step}
+use Rattle.cookie_laws.specs.Runs.{replies, step, store_after}
 use Rattle.cookie_store.specs.declared.call as Declared
 use Rattle.cookie_store.specs.declared.call.Call.TheVariants.{Set, Insert, Remove, Clear}
 use Rattle.cookie_store.specs.declared.call.Reply.TheVariants.{Stored, Removed, Cleared}
@@ -34,14 +34,14 @@ MayWant Runs.Clear reply = ⊥
 abbrev pub StopsAfter : Declared.Stopped.Stopped → List Runs.Call → Contents → Contents → Type 0
 StopsAfter stopped calls old new =
     (stopped.count ≡ length stopped.replies.items)
-    × (map reply_view stopped.replies.items ≡ replies old.suffixes (take stopped.count calls) old.rows)
-    × (new ≡ record old { rows = rows_after old.suffixes (take stopped.count calls) old.rows })
+    × (map reply_view stopped.replies.items ≡ replies (take stopped.count calls) old)
+    × (new ≡ store_after (take stopped.count calls) old)
 
 -- memory ran out for the replies of some calls, before the first one, or in the call that comes next, which may want it
 abbrev pub StopsAt : ℕ → List Runs.Call → Contents → Type 0
 StopsAt count calls store =
     ((count ≡ 0) × (0 < length calls))
-    ⊎ ((call : Runs.Call) × (slice_get calls count ≡ Some call) × MayWant call (step store.suffixes call store.rows).reply)
+    ⊎ ((call : Runs.Call) × (slice_get calls count ≡ Some call) × MayWant call (step call store).reply)
 
 -- what is told of calls that stopped
 abbrev pub stopped_text : Declared.Stopped.Stopped → List ℕ

@@ -1,5 +1,6 @@
 pub use Rattle.cookie_laws.specs.Acceptance
 pub use Rattle.cookie_laws.specs.Confinement
+pub use Rattle.cookie_laws.specs.Contents
 pub use Rattle.cookie_laws.specs.Given
 pub use Rattle.cookie_laws.specs.Related
 pub use Rattle.cookie_laws.specs.Rows
@@ -7,7 +8,6 @@ pub use Rattle.cookie_laws.specs.Runs
 pub use Rattle.cookie_rows.specs.Building
 pub use Rattle.cookie_rows.specs.Requests
 pub mod CallViews
-pub mod Contents
 pub mod Cuts
 pub mod Forms
 pub mod JsonLines

@@ -12,7 +12,7 @@ use Rattle.cookie_device.specs.Device.{AppendsBeginning}
 use Rattle.cookie_parts.specs.Cookie.{Row}
 use Rattle.cookie_parts.specs.declared.error.Error.{Error}
 use Rattle.cookie_parts.specs.declared.error.Error.TheVariants.{Io, Memory, NotUtf8}
-use Rattle.cookie_laws.specs.Rows.{built}
+use Rattle.cookie_laws.specs.Rows.{Kept, built}
 use Rattle.cookie_store.specs.Saving.{line_text}
 
 module _ (says : List Row → Result (String Global) Error → Type 0) where
@@ -47,10 +47,10 @@ module _ (makes : List ℕ → Result (List Row) Error → Type 0) where
   RefusesText error text = ((is_utf8 text ≡ false) × (error ≡ NotUtf8)) ⊎ (IsTrue (is_utf8 text) × makes text (Err error))
 
   -- rows that are built from the cookies of a text, where that is known
-  abbrev pub BuildsFromList : Option (List ℕ) → Bool → Moment → List Row → Type 0
-  BuildsFromList known include_expired now rows =
+  abbrev pub BuildsFromList : Option (List ℕ) → Bool → Moment → Kept → Type 0
+  BuildsFromList known include_expired now kept =
       (text : List ℕ) × (cookies : List Row) × IsAll known text × MakesCookies text cookies
-      × (rows ≡ built include_expired now cookies)
+      × (kept ≡ built include_expired now cookies)
 
   -- all of the text was read: it is refused, or memory ran out for the cookies that were made of it
   abbrev pub RefusesList : Error → Option (List ℕ) → Type 0

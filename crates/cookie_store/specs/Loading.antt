@@ -7,7 +7,7 @@ use Rattle.cookie_words.specs.Moments.{Moment}
 use Rattle.cookie_parts.specs.Cookie.{Row}
 use Rattle.cookie_parts.specs.declared.error.Error.{Error}
 use Rattle.cookie_parts.specs.declared.error.Error.TheVariants.{Io, Memory, NotUtf8}
-use Rattle.cookie_laws.specs.Rows.{built}
+use Rattle.cookie_laws.specs.Rows.{Kept, built}
 use Rattle.cookie_rows.specs.Building.{TakesCookie}
 
 module _ (makes : List ℕ → Result Row Error → Type 0) where
@@ -51,14 +51,14 @@ module _ (makes : List ℕ → Result Row Error → Type 0) where
       × (reads_left ≤ reads_left' + length given)
 
   -- the rows took a cookie that the function may make of the line
-  abbrev pub TakesLine : List ℕ → Bool → Moment → List Row → List Row → Type 0
+  abbrev pub TakesLine : List ℕ → Bool → Moment → Kept → Kept → Type 0
   TakesLine line include_expired now old new =
       (cookie : Row) × MakesCookie line cookie × TakesCookie include_expired now cookie old new
 
   -- rows that are built from the cookies of the lines of a text, where that is known
-  abbrev pub BuildsFrom : Option (List ℕ) → Bool → Moment → List Row → Type 0
-  BuildsFrom known include_expired now rows =
-      (cookies : List Row) × (rows ≡ built include_expired now cookies)
+  abbrev pub BuildsFrom : Option (List ℕ) → Bool → Moment → Kept → Type 0
+  BuildsFrom known include_expired now kept =
+      (cookies : List Row) × (kept ≡ built include_expired now cookies)
       × IfSome known (λ text. AreCookies (lines text) cookies)
 
   -- it fails at a line; or within one of the text, where that is known: a read failed, which raised the count of failures by one, or

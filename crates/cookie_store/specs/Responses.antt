@@ -6,19 +6,18 @@ use Rattle.url.specs.Parts.{Parts}
 use Rattle.cookie_words.specs.Moments.{Moment}
 use Rattle.cookie_raw.specs.CookieText.{cookie_text}
 use Rattle.cookie_raw.specs.Raw.{Raw}
-use Rattle.cookie_psl.specs.Rules.{RuleList}
-use Rattle.cookie_parts.specs.Cookie.{Row, cookie_of, early_refusal, is_secure_only}
+use Rattle.cookie_parts.specs.Cookie.{cookie_of, early_refusal, is_secure_only}
 use Rattle.cookie_laws.specs.Acceptance.{received}
-use Rattle.cookie_store.specs.Contents.{Contents}
+use Rattle.cookie_laws.specs.Contents.{Contents}
 
--- the rows after raw cookies that came from the URL at the moment, one after the other; a refusal leaves the rows
-abbrev pub rows_after_response : Option RuleList → Parts → Moment → List Raw → List Row → List Row
-rows_after_response suffixes url now raws rows =
-    fold (λ before raw. (received suffixes before (cookie_of raw url now) url now).rows) rows raws
+-- the store after raw cookies that came from the URL at the moment, one after the other; a refusal leaves it
+abbrev pub store_after_response : Parts → Moment → List Raw → Contents → Contents
+store_after_response url now raws store =
+    fold (λ before raw. (received before (cookie_of raw url now) url now).store) store raws
 
 -- the store took these raw cookies
 abbrev pub Takes : Parts → Moment → List Raw → Contents → Contents → Type 0
-Takes url now raws old new = new ≡ record old { rows = rows_after_response old.suffixes url now raws old.rows }
+Takes url now raws old new = new ≡ store_after_response url now raws old
 
 -- it took all items
 abbrev pub TakesAll : {S : Type 0} → (S → Option Raw → S → Type 0) → S → Parts → Moment → Contents → Contents → Type 0

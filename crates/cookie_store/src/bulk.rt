@@ -7,7 +7,7 @@ ghost use Rattle.cookie_words.specs.Moments.{moment_of};
 ghost use Rattle.cookie_parts.specs.Cookie.{cookie_of, early_refusal};
 ghost use Rattle.cookie_laws.specs.Acceptance.{received};
 ghost use Rattle.cookie_laws.specs.Runs.{IsReply, Stored, UnlessMemory};
-ghost use Rattle.cookie_store.specs.Contents.{Contents};
+ghost use Rattle.cookie_laws.specs.Contents.{kept_of, Contents};
 ghost use Rattle.cookie_store.specs.JsonLines.{MakesJson, SaysJson};
 ghost use Rattle.cookie_store.specs.Loading.{BuildsFrom, FailsToLoad, ReadsEachOnce};
 ghost use Rattle.cookie_store.specs.Responses.{TakesAll, TakesSome};
@@ -43,10 +43,9 @@ pub trait Bulk: Drop {
     /// [`CookieStore::insert_raw`].
     fn take_raw(&mut self, raw: &RawCookie<'_>, url: &Url, now: DateTime) -> InsertResult
         ensures reply { IsReply result (Stored
-            (received (contents self.old).suffixes (contents self.old).rows (cookie_of raw.now url.now (moment_of now)) url.now (moment_of now)).reply) }
-        ensures rows { UnlessMemory result (contents self.new ≡ record (contents self.old) {
-          rows = (received (contents self.old).suffixes (contents self.old).rows (cookie_of raw.now url.now (moment_of now)) url.now (moment_of now)).rows;
-        }) }
+            (received (contents self.old) (cookie_of raw.now url.now (moment_of now)) url.now (moment_of now)).reply) }
+        ensures store { UnlessMemory result (contents self.new
+            ≡ (received (contents self.old) (cookie_of raw.now url.now (moment_of now)) url.now (moment_of now)).store) }
         ensures refused { OnErr result (contents self.new ≡ contents self.old) }
         ensures early { (refusal : CookieError) → early_refusal raw.now url.now ≡ Some refusal → result ≡ Err refusal };
 
@@ -131,8 +130,9 @@ pub trait Bulk: Drop {
         requires callable { F.IsAlwaysCallable cookie_from_str }
         requires readable { R.failed reader.old < 2 ^ 64 - 1 }
         ensures built { IfOk result (λ store. BuildsFrom (FnReturnsAt F.Fn cookie_from_str) (R.remaining reader.old)
-            false (moment_of now) (contents store).rows) }
+            false (moment_of now) (kept_of (contents store))) }
         ensures suffixes { IfOk result (λ store. (contents store).suffixes ≡ None) }
+        ensures limit { IfOk result (λ store. (contents store).limit ≡ None) }
         ensures read { OnOk result (IsAtEnd (R.remaining reader.new) × (R.failed reader.new ≡ R.failed reader.old)) }
         ensures failed { IfErr result (λ error. FailsToLoad (FnReturnsAt F.Fn cookie_from_str) error
             (R.remaining reader.old) (R.remaining reader.new) (R.failed reader.old) (R.failed reader.new)
@@ -153,8 +153,9 @@ pub trait Bulk: Drop {
         requires callable { F.IsAlwaysCallable cookie_from_str }
         requires readable { R.failed reader.old < 2 ^ 64 - 1 }
         ensures built { IfOk result (λ store. BuildsFrom (FnReturnsAt F.Fn cookie_from_str) (R.remaining reader.old)
-            true (moment_of now) (contents store).rows) }
+            true (moment_of now) (kept_of (contents store))) }
         ensures suffixes { IfOk result (λ store. (contents store).suffixes ≡ None) }
+        ensures limit { IfOk result (λ store. (contents store).limit ≡ None) }
         ensures read { OnOk result (IsAtEnd (R.remaining reader.new) × (R.failed reader.new ≡ R.failed reader.old)) }
         ensures failed { IfErr result (λ error. FailsToLoad (FnReturnsAt F.Fn cookie_from_str) error
             (R.remaining reader.old) (R.remaining reader.new) (R.failed reader.old) (R.failed reader.new)
@@ -170,8 +171,9 @@ pub trait Bulk: Drop {
     /// `Cookie(Parse)` where only its text is no cookie.
     final fn load_json<R: Source>(alloc: Global, reader: &mut R, now: DateTime) -> StoreResult<Self>
         requires readable { R.failed reader.old < 2 ^ 64 - 1 }
-        ensures built { IfOk result (λ store. BuildsFrom MakesJson (R.remaining reader.old) false (moment_of now) (contents store).rows) }
+        ensures built { IfOk result (λ store. BuildsFrom MakesJson (R.remaining reader.old) false (moment_of now) (kept_of (contents store))) }
         ensures suffixes { IfOk result (λ store. (contents store).suffixes ≡ None) }
+        ensures limit { IfOk result (λ store. (contents store).limit ≡ None) }
         ensures read { OnOk result (IsAtEnd (R.remaining reader.new) × (R.failed reader.new ≡ R.failed reader.old)) }
         ensures failed { IfErr result (λ error. FailsToLoad MakesJson error
             (R.remaining reader.old) (R.remaining reader.new) (R.failed reader.old) (R.failed reader.new)
@@ -189,8 +191,9 @@ pub trait Bulk: Drop {
         now: DateTime,
     ) -> StoreResult<Self>
         requires readable { R.failed reader.old < 2 ^ 64 - 1 }
-        ensures built { IfOk result (λ store. BuildsFrom MakesJson (R.remaining reader.old) true (moment_of now) (contents store).rows) }
+        ensures built { IfOk result (λ store. BuildsFrom MakesJson (R.remaining reader.old) true (moment_of now) (kept_of (contents store))) }
         ensures suffixes { IfOk result (λ store. (contents store).suffixes ≡ None) }
+        ensures limit { IfOk result (λ store. (contents store).limit ≡ None) }
         ensures read { OnOk result (IsAtEnd (R.remaining reader.new) × (R.failed reader.new ≡ R.failed reader.old)) }
         ensures failed { IfErr result (λ error. FailsToLoad MakesJson error
             (R.remaining reader.old) (R.remaining reader.new) (R.failed reader.old) (R.failed reader.new)

@@ -8,6 +8,7 @@ ghost use Rattle.cookie_parts.specs.Cookie.{cookie_of, early, early_refusal};
 ghost use Rattle.cookie_parts.specs.declared.cookie_error.CookieError.TheVariants.{Memory};
 ghost use Rattle.cookie_parts.specs.declared.store_action.StoreAction.TheVariants.{Inserted};
 ghost use Rattle.cookie_laws.specs.Acceptance.{received, MayRefuse};
+ghost use Rattle.cookie_laws.specs.Contents.{contents_of, kept_of};
 ghost use Rattle.cookie_lookup.specs.Seen.{domains_found};
 ghost use Rattle.cookie_lookup.specs.Texts.{most_domains, most_paths};
 ghost use Rattle.cookie_rows.specs.Building.{Builds, FailsFirst, WantsRoom};
@@ -15,7 +16,7 @@ ghost use Rattle.cookie_rows.specs.Requests.{name_and_value};
 ghost use Rattle.cookie_store.specs.CallViews.{call_view, reply_view, MayWant, StopsAfter, StopsAt};
 ghost use Rattle.cookie_laws.specs.Given.{given};
 ghost use Rattle.cookie_laws.specs.Rows.{are_rows, if_live, key_at, live_rows, row_of};
-ghost use Rattle.cookie_laws.specs.Runs.{replies, rows_after, step, Clear, Insert, IsReply, Remove, Removed, Set, Stored, UnlessMemory};
+ghost use Rattle.cookie_laws.specs.Runs.{replies, step, store_after, Clear, Insert, IsReply, Remove, Removed, Set, Stored, UnlessMemory};
 
 use crate::call::{Call, Reply, Stopped, stored};
 use crate::insertion::{accept, owned_cookie, owned_raw_cookie};
@@ -40,14 +41,15 @@ pub struct CookieStore {
     alloc: Global,
     rows: Rows,
     suffixes: Option<List>,
+    limit: Option<usize>,
 }
 
 impl Model for CookieStore {
-    ghost use Rattle.cookie_store.specs.Contents.{Contents};
+    ghost use Rattle.cookie_laws.specs.Contents.{contents_of, Contents};
 
     ghost Value = { Contents };
 
-    ghost view = { λ s. record { rows = s.rows; suffixes = s.suffixes } };
+    ghost view = { λ s. contents_of s.rows s.suffixes s.limit };
 }
 
 impl Clone for CookieStore {
@@ -60,6 +62,7 @@ impl Clone for CookieStore {
             alloc: self.alloc,
             rows: self.rows.clone()?,
             suffixes: self.suffixes.clone()?,
+            limit: self.limit,
         })
     }
 }
@@ -67,14 +70,14 @@ impl Clone for CookieStore {
 impl CookieStore {
     /// A store without cookies, and without a public suffix list.
     pub fn new(alloc: Global) -> CookieStore
-        ensures { result ≡ record { rows = []; suffixes = None } }
+        ensures { result ≡ record { rows = []; made = []; suffixes = None; limit = None } }
     {
         CookieStore::new_with_public_suffix(alloc, None)
     }
 
     /// A store without cookies, and without a public suffix list.
     pub fn default(alloc: Global) -> CookieStore
-        ensures { result ≡ record { rows = []; suffixes = None } }
+        ensures { result ≡ record { rows = []; made = []; suffixes = None; limit = None } }
     {
         CookieStore::new(alloc)
     }
@@ -82,19 +85,20 @@ impl CookieStore {
     /// A store without cookies, and without a public suffix list, whose maps hash by this key. The key changes no answer: a
     /// program that takes cookies of servers which it does not trust hands over a drawn one.
     pub fn with_hash_key(alloc: Global, hash_key: HashKey) -> CookieStore
-        ensures { result ≡ record { rows = []; suffixes = None } }
+        ensures { result ≡ record { rows = []; made = []; suffixes = None; limit = None } }
     {
         CookieStore::of_rows(alloc, Rows::with_hash_key(alloc, hash_key))
     }
 
     /// A store without cookies, under the public suffix list if there is one.
     pub fn new_with_public_suffix(alloc: Global, suffixes: Option<List>) -> CookieStore
-        ensures { result ≡ record { rows = []; suffixes = suffixes } }
+        ensures { result ≡ record { rows = []; made = []; suffixes = suffixes; limit = None } }
     {
         CookieStore {
             alloc,
             rows: Rows::new(alloc),
             suffixes,
+            limit: None,
         }
     }
 
@@ -104,6 +108,19 @@ impl CookieStore {
     {
         CookieStore {
             suffixes: Some(suffixes),
+            ..self
+        }
+    }
+
+    /// The same store, which lets no more than so many cookies of one domain stand from now on, RFC 6265 6.1: where a cookie would be
+    /// inserted into as many or more, cookies of its domain leave first, those that have ended before the others, and each time the
+    /// one that was inserted least recently. The cookies that it holds stay till then.
+    pub fn with_domain_limit(self, n: usize) -> CookieStore
+        requires { 1 ≤ n }
+        ensures { result ≡ record self { limit = Some n } }
+    {
+        CookieStore {
+            limit: Some(n),
             ..self
         }
     }
@@ -120,8 +137,9 @@ impl CookieStore {
     ) -> Result<CookieStore, Error>
         requires can { I.can_next cookies }
         requires ends { IsFinite (I.remaining cookies) }
-        ensures built { IfOk result (λ store. Builds I.next_gives cookies include_expired (moment_of now) store.rows) }
+        ensures built { IfOk result (λ store. Builds I.next_gives cookies include_expired (moment_of now) (kept_of store)) }
         ensures suffixes { IfOk result (λ store. store.suffixes ≡ None) }
+        ensures limit { IfOk result (λ store. store.limit ≡ None) }
         ensures failed { IfErr result (λ error.
             ((error ≡ Error.Memory) × WantsRoom I.next_gives cookies include_expired (moment_of now))
             ⊎ FailsFirst I.next_gives cookies error) }
@@ -136,9 +154,9 @@ impl CookieStore {
     /// host.
     pub fn parse(&mut self, text: &str, url: &Url, now: DateTime) -> InsertResult
         ensures reply { IsReply result
-            (step self.old.suffixes (Set text.now url.now (moment_of now)) self.old.rows).reply }
-        ensures rows { UnlessMemory result
-            (self.new ≡ record self.old { rows = (step self.old.suffixes (Set text.now url.now (moment_of now)) self.old.rows).rows }) }
+            (step (Set text.now url.now (moment_of now)) self.old).reply }
+        ensures store { UnlessMemory result
+            (self.new ≡ (step (Set text.now url.now (moment_of now)) self.old).store) }
         ensures refused { OnErr result (self.new ≡ self.old) }
         ensures early { (refusal : CookieError) → early (reading text.now) url.now ≡ Some refusal → result ≡ Err refusal }
         ensures memory { result ≡ Err Memory → early (reading text.now) url.now ≡ None }
@@ -156,15 +174,22 @@ impl CookieStore {
     /// inserted. A refusal leaves the store as it was.
     pub fn insert(&mut self, cookie: Cookie<'static>, url: &Url, now: DateTime) -> InsertResult
         ensures reply { IsReply result
-            (step self.old.suffixes (Insert cookie.entry url.now (moment_of now)) self.old.rows).reply }
-        ensures rows { UnlessMemory result
-            (self.new ≡ record self.old { rows = (step self.old.suffixes (Insert cookie.entry url.now (moment_of now)) self.old.rows).rows }) }
+            (step (Insert cookie.entry url.now (moment_of now)) self.old).reply }
+        ensures store { UnlessMemory result
+            (self.new ≡ (step (Insert cookie.entry url.now (moment_of now)) self.old).store) }
         ensures refused { OnErr result (self.new ≡ self.old) }
         ensures refusals { IfErr result MayRefuse }
         ensures memory { result ≡ Err Memory
-            → (step self.old.suffixes (Insert cookie.entry url.now (moment_of now)) self.old.rows).reply ≡ Stored (Ok Inserted) }
+            → (step (Insert cookie.entry url.now (moment_of now)) self.old).reply ≡ Stored (Ok Inserted) }
     {
-        accept(self.suffixes.as_ref(), &mut self.rows, cookie, url, now)
+        accept(
+            self.suffixes.as_ref(),
+            self.limit,
+            &mut self.rows,
+            cookie,
+            url,
+            now,
+        )
     }
 
     /// Takes the cookie of a raw cookie that came from the URL at the moment: the cookie that
@@ -173,10 +198,9 @@ impl CookieStore {
     /// host.
     pub fn insert_raw(&mut self, raw: &RawCookie<'_>, url: &Url, now: DateTime) -> InsertResult
         ensures reply { IsReply result (Stored
-            (received self.old.suffixes self.old.rows (cookie_of raw.now url.now (moment_of now)) url.now (moment_of now)).reply) }
-        ensures rows { UnlessMemory result (self.new ≡ record self.old {
-          rows = (received self.old.suffixes self.old.rows (cookie_of raw.now url.now (moment_of now)) url.now (moment_of now)).rows;
-        }) }
+            (received self.old (cookie_of raw.now url.now (moment_of now)) url.now (moment_of now)).reply) }
+        ensures store { UnlessMemory result
+            (self.new ≡ (received self.old (cookie_of raw.now url.now (moment_of now)) url.now (moment_of now)).store) }
         ensures refused { OnErr result (self.new ≡ self.old) }
         ensures early { (refusal : CookieError) → early_refusal raw.now url.now ≡ Some refusal → result ≡ Err refusal }
         ensures memory { result ≡ Err Memory → early_refusal raw.now url.now ≡ None }
@@ -245,10 +269,8 @@ impl CookieStore {
     /// order.
     pub fn remove(&mut self, domain: &str, path: &str, name: &str) -> Option<Cookie<'static>>
         ensures reply { Removed result
-            ≡ (step self.old.suffixes (Remove (key_at domain.now path.now name.now)) self.old.rows).reply }
-        ensures rows { self.new ≡ record self.old {
-          rows = (step self.old.suffixes (Remove (key_at domain.now path.now name.now)) self.old.rows).rows;
-        } }
+            ≡ (step (Remove (key_at domain.now path.now name.now)) self.old).reply }
+        ensures store { self.new ≡ (step (Remove (key_at domain.now path.now name.now)) self.old).store }
     {
         self.rows.remove(domain, path, name)
     }
@@ -264,7 +286,7 @@ impl CookieStore {
 
     /// Removes all cookies. The public suffix list stays.
     pub fn clear(&mut self)
-        ensures { self.new ≡ record self.old { rows = (step self.old.suffixes Clear self.old.rows).rows } }
+        ensures { self.new ≡ (step Clear self.old).store }
     {
         self.rows.clear();
     }
@@ -329,14 +351,12 @@ impl CookieStore {
     /// [`parse`](Self::parse) does, and `Insert` only where the cookie would be inserted.
     pub fn apply(&mut self, call: Call) -> Result<Reply, AllocError>
         ensures reply { IfOk result (λ reply.
-            reply_view reply ≡ (step self.old.suffixes (call_view call) self.old.rows).reply) }
+            reply_view reply ≡ (step (call_view call) self.old).reply) }
         ensures never_memory { IfOk result (λ reply. reply_view reply ≢ Stored (Err Memory)) }
-        ensures rows { OnOk result (self.new ≡ record self.old {
-          rows = (step self.old.suffixes (call_view call) self.old.rows).rows;
-        }) }
+        ensures store { OnOk result (self.new ≡ (step (call_view call) self.old).store) }
         ensures refused { OnErr result (self.new ≡ self.old) }
         ensures memory { OnErr result
-            (MayWant (call_view call) (step self.old.suffixes (call_view call) self.old.rows).reply) }
+            (MayWant (call_view call) (step (call_view call) self.old).reply) }
     {
         match call {
             Call::Set { text, url, now } => stored(self.parse(text.as_str(), &url, now)),
@@ -356,10 +376,8 @@ impl CookieStore {
     /// Does what the calls ask, one after the other, and answers their replies. Where memory runs out, the calls before stand.
     pub fn apply_all(&mut self, calls: Vec<Call>) -> Result<Vec<Reply>, Stopped>
         ensures replies { IfOk result (λ told.
-            map reply_view told.items ≡ replies self.old.suffixes (map call_view calls.items) self.old.rows) }
-        ensures rows { OnOk result (self.new ≡ record self.old {
-          rows = rows_after self.old.suffixes (map call_view calls.items) self.old.rows;
-        }) }
+            map reply_view told.items ≡ replies (map call_view calls.items) self.old) }
+        ensures store { OnOk result (self.new ≡ store_after (map call_view calls.items) self.old) }
         ensures stopped { IfErr result (λ stopped. StopsAfter stopped (map call_view calls.items) self.old self.new) }
         ensures wanting { IfErr result (λ stopped. StopsAt stopped.count (map call_view calls.items) self.new) }
     {
@@ -388,26 +406,25 @@ impl CookieStore {
     // Takes a cookie that came from the URL at the moment, unless it was refused as it was made: then that is the answer.
     fn insert_made(&mut self, made: CookieResult<'static>, url: &Url, now: DateTime) -> InsertResult
         ensures reply { IsReply result
-            (Stored (received self.old.suffixes self.old.rows made.entry url.now (moment_of now)).reply) }
-        ensures rows { UnlessMemory result (self.new ≡ record self.old {
-          rows = (received self.old.suffixes self.old.rows made.entry url.now (moment_of now)).rows;
-        }) }
+            (Stored (received self.old made.entry url.now (moment_of now)).reply) }
+        ensures store { UnlessMemory result (self.new ≡ (received self.old made.entry url.now (moment_of now)).store) }
         ensures refused { OnErr result (self.new ≡ self.old) }
         ensures unmade { (refusal : CookieError) → made.entry ≡ Err refusal → result ≡ Err refusal }
         ensures memory { result ≡ Err Memory → (made.entry ≡ Err Memory)
-            ⊎ ((received self.old.suffixes self.old.rows made.entry url.now (moment_of now)).reply ≡ Ok Inserted) }
+            ⊎ ((received self.old made.entry url.now (moment_of now)).reply ≡ Ok Inserted) }
     {
         self.insert(made?, url, now)
     }
 
     // A store of these rows, without a public suffix list.
     pub(crate) fn of_rows(alloc: Global, rows: Rows) -> CookieStore
-        ensures { result ≡ record { rows = rows; suffixes = None } }
+        ensures { result ≡ contents_of rows None None }
     {
         CookieStore {
             alloc,
             rows,
             suffixes: None,
+            limit: None,
         }
     }
 
@@ -418,7 +435,7 @@ impl CookieStore {
 
     // The rows.
     pub(crate) fn rows(&self) -> &Rows
-        ensures { result.now ≡ self.now.rows }
+        ensures { result.now ≡ kept_of self.now }
     {
         &self.rows
     }

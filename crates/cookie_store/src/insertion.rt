@@ -1,5 +1,5 @@
 //! Insertion, RFC 6265 5.3.
-ghost use Rattle.std.specs.Prelude.{◌≡◌, ◌≢◌, Err, Ok, Some, IfErr, IfSome, OnErr};
+ghost use Rattle.std.specs.Prelude.{◌≡◌, ◌≢◌, Err, None, Ok, Some, IfErr, IfSome, OnErr, OnOk};
 ghost use Rattle.std.specs.Option.{option_copied};
 ghost use Rattle.cookie_words.specs.Moments.{moment_of};
 ghost use Rattle.cookie_raw.specs.Reading.{reading};
@@ -10,6 +10,7 @@ ghost use Rattle.cookie_parts.specs.Views.{domain_value};
 ghost use Rattle.cookie_parts.specs.declared.cookie_error.CookieError.TheVariants.{Memory};
 ghost use Rattle.cookie_parts.specs.declared.store_action.StoreAction.TheVariants.{Inserted};
 ghost use Rattle.cookie_laws.specs.Acceptance.{accept, admitted, by_list, reply_at, MayRefuse};
+ghost use Rattle.cookie_laws.specs.Contents.{contents_of, kept_of};
 ghost use Rattle.cookie_laws.specs.Runs.{IsReply, Stored, UnlessMemory};
 
 use crate::InsertResult;
@@ -18,7 +19,7 @@ use cookie_psl::List;
 use cookie_raw::RawCookie;
 use cookie_rows::Rows;
 use jiff::civil::DateTime;
-use std::alloc::Global;
+use std::alloc::{AllocError, Global};
 use std::mem;
 use url::Url;
 
@@ -135,29 +136,39 @@ fn reply_at(
 #[tactic(auto, unfolding(cookie_laws::specs::Acceptance::accept))]
 pub(crate) fn accept(
     suffixes: Option<&List>,
+    limit: Option<usize>,
     rows: &mut Rows,
     cookie: Cookie<'static>,
     url: &Url,
     now: DateTime,
 ) -> InsertResult
     ensures reply { IsReply result (Stored
-        (accept (option_copied suffixes.entry) rows.old cookie.entry url.now (moment_of now)).reply) }
+        (accept (contents_of rows.old (option_copied suffixes.entry) limit) cookie.entry url.now (moment_of now)).reply) }
     ensures rows { UnlessMemory result (rows.new
-        ≡ (accept (option_copied suffixes.entry) rows.old cookie.entry url.now (moment_of now)).rows) }
+        ≡ kept_of (accept (contents_of rows.old (option_copied suffixes.entry) limit) cookie.entry url.now (moment_of now)).store) }
     ensures refused { OnErr result (rows.new ≡ rows.old) }
     ensures refusals { IfErr result MayRefuse }
     ensures memory { result ≡ Err Memory
-        → (accept (option_copied suffixes.entry) rows.old cookie.entry url.now (moment_of now)).reply ≡ Ok Inserted }
+        → (accept (contents_of rows.old (option_copied suffixes.entry) limit) cookie.entry url.now (moment_of now)).reply ≡ Ok Inserted }
 {
     let cookie = admitted(suffixes, cookie, url)?;
     match reply_at(rows.row_of(&cookie), &cookie, url, now)? {
+        StoreAction::Inserted => stored(rows.enter(cookie, limit, now), StoreAction::Inserted),
+        StoreAction::UpdatedExisting => stored(rows.put(cookie), StoreAction::UpdatedExisting),
         StoreAction::ExpiredExisting => {
             rows.end(&cookie);
             Ok(StoreAction::ExpiredExisting)
         }
-        action => match rows.put(cookie) {
-            Ok(()) => Ok(action),
-            Err(_) => Err(CookieError::Memory),
-        },
+    }
+}
+
+// What was done with a cookie, if there was memory for it.
+fn stored(outcome: Result<(), AllocError>, action: StoreAction) -> InsertResult
+    ensures stored { OnOk outcome (result ≡ Ok action) }
+    ensures memory { OnErr outcome (result ≡ Err Memory) }
+{
+    match outcome {
+        Ok(()) => Ok(action),
+        Err(_) => Err(CookieError::Memory),
     }
 }

@@ -28,11 +28,11 @@ pub(crate) fn save_json_rows<W: Sink>(
     now: Option<DateTime>,
 ) -> Result<(), Error>
     requires writable { W.failed sink.old < 2 ^ 64 - 1 }
-    ensures whole { OnOk result (WritesRows SaysJson (filter (is_among (option_map moment_of now)) rows.now)
+    ensures whole { OnOk result (WritesRows SaysJson (filter (is_among (option_map moment_of now)) rows.now.rows)
         (W.contents sink.old) (W.contents sink.new)) }
     ensures count { OnOk result (W.failed sink.new ≡ W.failed sink.old) }
     ensures stopped { IfErr result (λ error. FailsToSave SaysJson error
-        (filter (is_among (option_map moment_of now)) rows.now)
+        (filter (is_among (option_map moment_of now)) rows.now.rows)
         (W.contents sink.old) (W.contents sink.new) (W.failed sink.old) (W.failed sink.new)) }
 {
     let text_of = |cookie: &Cookie<'_>| -> Result<String, Error>

@@ -28,10 +28,10 @@ pub(crate) fn save_copies<W: Sink, F: Fn(&Vec<Cookie<'_>>) -> Result<String, Err
     requires callable { F.IsAlwaysCallable text_of }
     requires writable { W.failed sink.old < 2 ^ 64 - 1 }
     ensures whole { OnOk result (WritesList (SaysOfCopies (FnReturnsAt F.Fn text_of))
-        (filter (is_among (option_map moment_of now)) rows.now) (W.contents sink.old) (W.contents sink.new)) }
+        (filter (is_among (option_map moment_of now)) rows.now.rows) (W.contents sink.old) (W.contents sink.new)) }
     ensures count { OnOk result (W.failed sink.new ≡ W.failed sink.old) }
     ensures stopped { IfErr result (λ error. FailsToSaveList (SaysOfCopies (FnReturnsAt F.Fn text_of)) error
-        (filter (is_among (option_map moment_of now)) rows.now)
+        (filter (is_among (option_map moment_of now)) rows.now.rows)
         (W.contents sink.old) (W.contents sink.new) (W.failed sink.old) (W.failed sink.new)) }
 {
     let copies = copies_of(alloc, rows, &now)?;
@@ -45,8 +45,8 @@ fn copies_of(
     rows: &Rows,
     now: &Option<DateTime>,
 ) -> Result<Vec<Cookie<'static>>, AllocError>
-    ensures copies { IfOk result (λ copies. copies.items ≡ filter (is_among (option_map moment_of now.now)) rows.now) }
-    ensures memory { OnErr result (filter (is_among (option_map moment_of now.now)) rows.now ≢ []) }
+    ensures copies { IfOk result (λ copies. copies.items ≡ filter (is_among (option_map moment_of now.now)) rows.now.rows) }
+    ensures memory { OnErr result (filter (is_among (option_map moment_of now.now)) rows.now.rows ≢ []) }
 {
     let mut copies = Vec::new(alloc);
     for row in rows.iter() {

@@ -19,11 +19,11 @@ pub(crate) fn save_rows<W: Sink, F: Fn(&Cookie<'_>) -> Result<String, Error>>(
 ) -> Result<(), Error>
     requires callable { F.IsAlwaysCallable text_of }
     requires writable { W.failed sink.old < 2 ^ 64 - 1 }
-    ensures whole { OnOk result (WritesRows (FnReturnsAt F.Fn text_of) (filter (is_among (option_map moment_of now)) rows.now)
+    ensures whole { OnOk result (WritesRows (FnReturnsAt F.Fn text_of) (filter (is_among (option_map moment_of now)) rows.now.rows)
         (W.contents sink.old) (W.contents sink.new)) }
     ensures count { OnOk result (W.failed sink.new ≡ W.failed sink.old) }
     ensures stopped { IfErr result (λ error. FailsToSave (FnReturnsAt F.Fn text_of) error
-        (filter (is_among (option_map moment_of now)) rows.now)
+        (filter (is_among (option_map moment_of now)) rows.now.rows)
         (W.contents sink.old) (W.contents sink.new) (W.failed sink.old) (W.failed sink.new)) }
 {
     for row in rows.iter() {

@@ -3,6 +3,7 @@ ghost use Rattle.std.specs.Prelude.{◌≡◌, ◌-◌, ◌^◌, ◌<◌, false,
 ghost use Rattle.std.specs.Fn.{FnReturnsAt};
 ghost use Rattle.std.specs.Io.KnownBytes.{IsAtEnd};
 ghost use Rattle.cookie_words.specs.Moments.{moment_of};
+ghost use Rattle.cookie_laws.specs.Contents.{kept_of};
 ghost use Rattle.cookie_store.specs.Lists.{BuildsFromList, FailsToLoadList, FailsToSaveList, MakesVec, SaysOfCopies, WritesList};
 ghost use Rattle.cookie_store.specs.Loading.{ReadsEachOnce};
 ghost use Rattle.cookie_store.specs.Saving.{saved_rows};
@@ -79,8 +80,9 @@ pub fn load<S: Bulk, R: Source, F: Fn(&str) -> Result<Vec<Cookie<'_>>, Error>>(
     requires callable { F.IsAlwaysCallable cookies_from_str }
     requires readable { R.failed reader.old < 2 ^ 64 - 1 }
     ensures built { IfOk result (λ store. BuildsFromList (MakesVec (FnReturnsAt F.Fn cookies_from_str)) (R.remaining reader.old)
-        false (moment_of now) (S.contents store).rows) }
+        false (moment_of now) (kept_of (S.contents store))) }
     ensures suffixes { IfOk result (λ store. (S.contents store).suffixes ≡ None) }
+    ensures limit { IfOk result (λ store. (S.contents store).limit ≡ None) }
     ensures read { OnOk result (IsAtEnd (R.remaining reader.new) × (R.failed reader.new ≡ R.failed reader.old)) }
     ensures failed { IfErr result (λ error. FailsToLoadList (MakesVec (FnReturnsAt F.Fn cookies_from_str)) error
         (R.remaining reader.old) (R.remaining reader.new) (R.failed reader.old) (R.failed reader.new)
@@ -101,8 +103,9 @@ pub fn load_all<S: Bulk, R: Source, F: Fn(&str) -> Result<Vec<Cookie<'_>>, Error
     requires callable { F.IsAlwaysCallable cookies_from_str }
     requires readable { R.failed reader.old < 2 ^ 64 - 1 }
     ensures built { IfOk result (λ store. BuildsFromList (MakesVec (FnReturnsAt F.Fn cookies_from_str)) (R.remaining reader.old)
-        true (moment_of now) (S.contents store).rows) }
+        true (moment_of now) (kept_of (S.contents store))) }
     ensures suffixes { IfOk result (λ store. (S.contents store).suffixes ≡ None) }
+    ensures limit { IfOk result (λ store. (S.contents store).limit ≡ None) }
     ensures read { OnOk result (IsAtEnd (R.remaining reader.new) × (R.failed reader.new ≡ R.failed reader.old)) }
     ensures failed { IfErr result (λ error. FailsToLoadList (MakesVec (FnReturnsAt F.Fn cookies_from_str)) error
         (R.remaining reader.old) (R.remaining reader.new) (R.failed reader.old) (R.failed reader.new)

@@ -253,6 +253,38 @@ fn apply(rt: HostRuntime) {
     are_answered(&rt, rt.alloc(), Way::ApplyInsert);
 }
 
+// Where two cookies of a domain may stand, the one that was made first leaves, after this one the next.
+const ONE_LEAVES: Case = (
+    "v=1; Domain=b.example.com; Path=/p/q",
+    INSERTED,
+    "z=1; v=1; y=1; u=1",
+);
+
+const ANOTHER: &str = "w=1; Domain=b.example.com; Path=/";
+
+#[test]
+fn parse_under_a_limit(rt: HostRuntime) {
+    let url = url(&rt, rt.alloc(), FROM);
+    let mut store = store_of_rows(&rt, rt.alloc(), &url).with_domain_limit(2);
+    let reply = reply_to_text(rt.alloc(), &mut store, ONE_LEAVES.0, &url);
+    is_answered(
+        &rt,
+        rt.alloc(),
+        &store,
+        Way::Parse,
+        &ONE_LEAVES,
+        reply,
+        &url,
+    );
+    let left = if reply == INSERTED {
+        "v=1; w=1; y=1; u=1"
+    } else {
+        "z=1; w=1; y=1; u=1"
+    };
+    store.parse(ANOTHER, &url, new_year()).expect(&rt, "memory");
+    gives(&rt, rt.alloc(), &store, left, ANOTHER);
+}
+
 fn store_of_five(rt: &impl Abort, alloc: Global, url: &Url) -> CookieStore {
     let mut store = store_of_rows(rt, alloc, url);
     store.parse(FIFTH, url, new_year()).expect(rt, "memory");

@@ -16,6 +16,8 @@ mod insertion;
 #[cfg(test)]
 mod json;
 #[cfg(test)]
+mod limits;
+#[cfg(test)]
 mod lists;
 #[cfg(test)]
 mod loaded;

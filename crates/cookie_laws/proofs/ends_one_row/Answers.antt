@@ -3,8 +3,8 @@ use Rattle.cookie_laws.proofs.ends_one_row.Goals as goal
 
 pub returns : goal.returns
 returns c = record {
-  live = λ suffixes rows made url now. received-live suffixes rows url now made;
-  rows = λ suffixes rows made url now. received-ends suffixes rows url now made;
-  ends = λ suffixes rows made url now cookie row is ends. received-ended_row suffixes rows url now made cookie is ends row;
-  others = λ suffixes rows made url now cookie key is ends. received-other_row suffixes rows url now made cookie is ends key;
+  live = λ store made url now. received-live store url now made;
+  store = λ store made url now. received-ends store url now made;
+  ends = λ store made url now cookie row is ends. received-ended_row store url now made cookie is ends row;
+  others = λ store made url now cookie key is ends. received-other_row store url now made cookie is ends key;
 }

@@ -47,11 +47,11 @@ pub(crate) fn save_rows<W: Sink>(
     now: Option<DateTime>,
 ) -> Result<(), Error>
     requires writable { W.failed sink.old < 2 ^ 64 - 1 }
-    ensures whole { OnOk result (WritesList (SaysList form) (filter (is_among (option_map moment_of now)) rows.now)
+    ensures whole { OnOk result (WritesList (SaysList form) (filter (is_among (option_map moment_of now)) rows.now.rows)
         (W.contents sink.old) (W.contents sink.new)) }
     ensures count { OnOk result (W.failed sink.new ≡ W.failed sink.old) }
     ensures stopped { IfErr result (λ error. FailsToSaveList (SaysList form) error
-        (filter (is_among (option_map moment_of now)) rows.now)
+        (filter (is_among (option_map moment_of now)) rows.now.rows)
         (W.contents sink.old) (W.contents sink.new) (W.failed sink.old) (W.failed sink.new)) }
 {
     let text = text_of(form, alloc, rows, &now)?;
@@ -60,7 +60,7 @@ pub(crate) fn save_rows<W: Sink>(
 
 // The list of those rows as text. An end before the year 0 is refused `Saved(Moment)`, and no memory is wanted before that.
 fn text_of(form: Form, alloc: Global, rows: &Rows, now: &Option<DateTime>) -> Result<String, Error>
-    ensures { SaysList form (filter (is_among (option_map moment_of now.now)) rows.now) result }
+    ensures { SaysList form (filter (is_among (option_map moment_of now.now)) rows.now.rows) result }
 {
     if any_early(rows, now) {
         return Err(Error::Saved(SavedError::Moment));
@@ -74,7 +74,7 @@ fn text_of(form: Form, alloc: Global, rows: &Rows, now: &Option<DateTime>) -> Re
 
 // Whether one of those rows ends before the year 0.
 fn any_early(rows: &Rows, now: &Option<DateTime>) -> bool
-    ensures { result ≡ list_any is_early (map saved_of (filter (is_among (option_map moment_of now.now)) rows.now)) }
+    ensures { result ≡ list_any is_early (map saved_of (filter (is_among (option_map moment_of now.now)) rows.now.rows)) }
 {
     for row in rows.iter() {
         if is_among(row, now) && ends_early(row) {
@@ -87,7 +87,7 @@ fn any_early(rows: &Rows, now: &Option<DateTime>) -> bool
 // The saved forms of those rows.
 fn saved_list(alloc: Global, rows: &Rows, now: &Option<DateTime>) -> Result<Vec<Saved>, AllocError>
     ensures { IfOk result (λ list. map saved_view list.items
-        ≡ map saved_of (filter (is_among (option_map moment_of now.now)) rows.now)) }
+        ≡ map saved_of (filter (is_among (option_map moment_of now.now)) rows.now.rows)) }
 {
     let mut list = Vec::new(alloc);
     for row in rows.iter() {

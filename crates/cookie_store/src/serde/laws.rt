@@ -6,7 +6,7 @@ ghost use Rattle.std.specs.declared.alloc.Global.{Global};
 ghost use Rattle.std.specs.declared.string.String.{String};
 ghost use Rattle.cookie_words.specs.Moments.{Moment};
 ghost use Rattle.cookie_parts.specs.Cookie.{Row};
-ghost use Rattle.cookie_laws.specs.Rows.{are_rows};
+ghost use Rattle.cookie_laws.specs.Rows.{are_rows, Kept};
 ghost use Rattle.cookie_store.specs.Cuts.{cut_rows, ReadsBack};
 ghost use Rattle.cookie_store.specs.JsonLines.{json_cookie, MakesJson, SaysJson};
 ghost use Rattle.cookie_store.specs.JsonLists.{json_cookies, MakesJsonList, SaysJsonList};
@@ -35,9 +35,9 @@ pub fn list_comes_back()
 
 /// So a list of all rows of such a store, which was saved from its beginning, loads as those rows in the same order.
 pub fn list_loads_again()
-    ensures { (rows loaded : List Row) (written : List ℕ) (now : Moment) → are_rows rows ≡ true → All ReadsBack rows
+    ensures { (rows : List Row) (loaded : Kept) (written : List ℕ) (now : Moment) → are_rows rows ≡ true → All ReadsBack rows
         → WritesList SaysJsonList rows (Some []) (Some written) → BuildsFromList MakesJsonList (Some written) true now loaded
-        → loaded ≡ cut_rows rows }
+        → loaded.rows ≡ cut_rows rows }
 {
     list_comes_back();
     cookie_laws::rebuilt();
@@ -55,9 +55,9 @@ pub fn ron_list_comes_back()
 /// So a list in RON of all rows of such a store, which was saved from its beginning, loads as those rows in the same order, as the
 /// list in JSON does.
 pub fn ron_list_loads_again()
-    ensures { (rows loaded : List Row) (written : List ℕ) (now : Moment) → are_rows rows ≡ true → All ReadsBack rows
+    ensures { (rows : List Row) (loaded : Kept) (written : List ℕ) (now : Moment) → are_rows rows ≡ true → All ReadsBack rows
         → WritesList SaysRonList rows (Some []) (Some written) → BuildsFromList MakesRonList (Some written) true now loaded
-        → loaded ≡ cut_rows rows }
+        → loaded.rows ≡ cut_rows rows }
 {
     ron_list_comes_back();
     answers_are_one();
@@ -78,9 +78,9 @@ pub fn lines_come_back()
 
 /// So lines of all rows of such a store, which were saved from their beginning, load as those rows in the same order.
 pub fn lines_load_again()
-    ensures { (rows loaded : List Row) (written : List ℕ) (now : Moment) → are_rows rows ≡ true → All ReadsBack rows
+    ensures { (rows : List Row) (loaded : Kept) (written : List ℕ) (now : Moment) → are_rows rows ≡ true → All ReadsBack rows
         → WritesRows SaysJson rows (Some []) (Some written) → BuildsFrom MakesJson (Some written) true now loaded
-        → loaded ≡ cut_rows rows }
+        → loaded.rows ≡ cut_rows rows }
 {
     lines_come_back();
     cookie_laws::rebuilt();

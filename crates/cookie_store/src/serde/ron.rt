@@ -3,6 +3,7 @@ ghost use Rattle.std.specs.Prelude.{◌≡◌, ◌-◌, ◌^◌, ◌<◌, false,
 ghost use Rattle.std.specs.Io.KnownBytes.{IsAtEnd};
 ghost use Rattle.cookie_words.specs.Moments.{moment_of};
 ghost use Rattle.cookie_store.specs.RonLists.{MakesRonList, SaysRonList};
+ghost use Rattle.cookie_laws.specs.Contents.{kept_of};
 ghost use Rattle.cookie_store.specs.Lists.{BuildsFromList, FailsToLoadList, FailsToSaveList, WritesList};
 ghost use Rattle.cookie_store.specs.Loading.{ReadsEachOnce};
 ghost use Rattle.cookie_store.specs.Saving.{saved_rows};
@@ -48,8 +49,9 @@ pub fn save_incl_expired_and_nonpersistent<W: Sink>(
 /// that of a raw cookie is none. `Memory` where there was no room.
 pub fn load<R: Source>(alloc: Global, reader: &mut R, now: DateTime) -> StoreResult<CookieStore>
     requires readable { R.failed reader.old < 2 ^ 64 - 1 }
-    ensures built { IfOk result (λ store. BuildsFromList MakesRonList (R.remaining reader.old) false (moment_of now) store.rows) }
+    ensures built { IfOk result (λ store. BuildsFromList MakesRonList (R.remaining reader.old) false (moment_of now) (kept_of store)) }
     ensures suffixes { IfOk result (λ store. store.suffixes ≡ None) }
+    ensures limit { IfOk result (λ store. store.limit ≡ None) }
     ensures read { OnOk result (IsAtEnd (R.remaining reader.new) × (R.failed reader.new ≡ R.failed reader.old)) }
     ensures failed { IfErr result (λ error. FailsToLoadList MakesRonList error
         (R.remaining reader.old) (R.remaining reader.new) (R.failed reader.old) (R.failed reader.new)
@@ -63,8 +65,9 @@ pub fn load<R: Source>(alloc: Global, reader: &mut R, now: DateTime) -> StoreRes
 /// The same, where cookies that have ended are kept. The moment is not looked at.
 pub fn load_all<R: Source>(alloc: Global, reader: &mut R, now: DateTime) -> StoreResult<CookieStore>
     requires readable { R.failed reader.old < 2 ^ 64 - 1 }
-    ensures built { IfOk result (λ store. BuildsFromList MakesRonList (R.remaining reader.old) true (moment_of now) store.rows) }
+    ensures built { IfOk result (λ store. BuildsFromList MakesRonList (R.remaining reader.old) true (moment_of now) (kept_of store)) }
     ensures suffixes { IfOk result (λ store. store.suffixes ≡ None) }
+    ensures limit { IfOk result (λ store. store.limit ≡ None) }
     ensures read { OnOk result (IsAtEnd (R.remaining reader.new) × (R.failed reader.new ≡ R.failed reader.old)) }
     ensures failed { IfErr result (λ error. FailsToLoadList MakesRonList error
         (R.remaining reader.old) (R.remaining reader.new) (R.failed reader.old) (R.failed reader.new)

@@ -1,6 +1,6 @@
 use Rattle.std.proofs.Common.{◌∙◌, sym, ap, subst}
 use Rattle.std.specs.Map.{values_of, set_value}
-use Rattle.cookie_rows.specs.Groups.{AreNamed}
+use Rattle.cookie_rows.specs.Items.{AreNamed}
 use Rattle.cookie_rows.proofs.Named.{at_text, named_ended, end_set, end_none}
 use Rattle.cookie_rows.proofs.names.end_row.Goals as goal
 

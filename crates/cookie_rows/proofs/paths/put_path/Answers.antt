@@ -1,8 +1,9 @@
-use Rattle.std.proofs.Common.{◌∙◌, sym, ap, Some}
+use Rattle.std.proofs.Common.{List, ◌∙◌, sym, ap, Some}
 use Rattle.std.specs.String.{string_eq}
 use Rattle.std.specs.Map.{set_value}
 use Rattle.indexmap.specs.IndexMap.{insert_entry}
-use Rattle.cookie_rows.specs.Groups.{texts_of, put_at, put_name, found, row_named}
+use Rattle.cookie_rows.specs.Groups.{texts_of, put_at, found, row_named}
+use Rattle.cookie_rows.specs.Items.{put_item, rows_of, Item}
 use Rattle.cookie_rows.proofs.Maps.{at_text, put_set, same_set, put_insert, found_some, found_none}
 use Rattle.cookie_rows.proofs.Results.{on_ok_map, on_err_map, either_way}
 use Rattle.cookie_rows.proofs.paths.put_path.Goals as goal
@@ -14,8 +15,8 @@ returns-in-Some-clause-put c =
     on_ok_map c.put.result
     (λ new. ap texts_of (c.get_mut.follows.holds c.put.new.self).0
     ∙ ap (λ v. texts_of (set_value (at_text q) es v)) new
-    ∙ put_set (put_name c.args.cookie) q es c.in-Some.group.now c.in-Some.ensures.value
-    ∙ ap (λ t. put_at (put_name c.args.cookie) t (texts_of es)) c.path_text.ensures)
+    ∙ put_set (put_item c.args.cookie c.args.number) q es c.in-Some.group.now c.in-Some.ensures.value
+    ∙ ap (λ t. put_at (put_item c.args.cookie c.args.number) t (texts_of es)) c.path_text.ensures)
     c.put.ensures.put
 
 pub returns-in-Some-clause-err : goal.returns-in-Some-clause-err
@@ -27,25 +28,25 @@ returns-in-Some-clause-err c =
 pub returns-in-Some-clause-memory : goal.returns-in-Some-clause-memory
 returns-in-Some-clause-memory c =
     let es = c.args.groups.now.entries in
-    let named = row_named c.args.cookie.raw.name in
+    let named = λ (items : List Item). row_named c.args.cookie.raw.name (rows_of items) in
     on_err_map c.put.result
     (λ none. ap (λ t. found named t (texts_of es)) (sym c.path_text.ensures) ∙ sym (found_some named c.path_text.result.now es c.in-Some.group.now c.in-Some.ensures.value) ∙ none)
     c.put.ensures.memory
 
 pub returns-in_err-path-in-None-clause-memory : goal.returns-in_err-path-in-None-clause-memory
 returns-in_err-path-in-None-clause-memory c =
-    let named = row_named c.args.cookie.raw.name in
+    let named = λ (items : List Item). row_named c.args.cookie.raw.name (rows_of items) in
     either_way c.from_residual.result (ap (λ t. found named t (texts_of c.args.groups.now.entries)) (sym c.path_text.ensures) ∙ sym (found_none named c.path_text.result.now c.args.groups.now.entries c.in-None.ensures.value))
 
 pub returns-in_err-insert-in-None-clause-memory : goal.returns-in_err-insert-in-None-clause-memory
 returns-in_err-insert-in-None-clause-memory c =
-    let named = row_named c.args.cookie.raw.name in
+    let named = λ (items : List Item). row_named c.args.cookie.raw.name (rows_of items) in
     either_way c.from_residual-in_err-insert-in-None.result (ap (λ t. found named t (texts_of c.args.groups.now.entries)) (sym c.path_text.ensures) ∙ sym (found_none named c.path_text.result.now c.args.groups.now.entries c.in-None.ensures.value))
 
 pub returns-in_ok-insert-in-None-clause-put : goal.returns-in_ok-insert-in-None-clause-put
 returns-in_ok-insert-in-None-clause-put c =
     let es = c.args.groups.now.entries in
-    let change = put_name c.args.cookie in
+    let change = put_item c.args.cookie c.args.number in
     let key = c.in_ok-path-in-None.path in
     let value = c.in_ok-path-in-None.ensures.group in
     ap texts_of c.in_ok-insert-in-None.ensures.entries

@@ -2,7 +2,8 @@ use Rattle.std.proofs.Common.{◌≡◌, map, take}
 use Rattle.std.specs.List.{flat_map}
 use Rattle.cookie_lookup.specs.Seen.{rows_at}
 use Rattle.cookie_rows.specs.Groups.{texts_of}
+use Rattle.cookie_rows.specs.Items.{bare}
 use Rattle.cookie_rows.proofs.search.rows_at.Given as goal
 
 abbrev pub invariant-loop-spot : goal.invariant-loop-spot
-invariant-loop-spot l = map (λ c. c.now) l.cookies.items ≡ flat_map (rows_at (texts_of l.groups.entries)) (take l.spot-index l.spots)
+invariant-loop-spot l = map (λ c. c.now) l.cookies.items ≡ flat_map (rows_at (bare (texts_of l.groups.entries))) (take l.spot-index l.spots)

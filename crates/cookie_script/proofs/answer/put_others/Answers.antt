@@ -1,4 +1,4 @@
-use Rattle.std.proofs.Common.{◌≡◌, ◌+◌, ◌++◌, ◌∷◌, [], codes, drop, flat_map, take}
+use Rattle.std.proofs.Common.{◌+◌, ◌++◌, ◌∷◌, [], codes}
 use Rattle.cookie_script.specs.Script.{pair_text}
 use Rattle.cookie_script.proofs.Gathering.{gathers_nothing, gathers_stopped, gathers_then, next_text, parts_text}
 use Rattle.std.proofs.lemmas.List.{take_all}

@@ -2,6 +2,7 @@ use Rattle.std.proofs.Common.{◌≡◌, ◌≢◌, ◌∙◌, inl, inr, ℕ, �
 use Rattle.std.proofs.lemmas.Bool.{eqb-true, false≢true}
 use Rattle.std.proofs.lemmas.Option.{IfSome_then}
 use Rattle.cookie_device.specs.Lines.{IsLastLine}
+use Rattle.cookie_script.specs.Script.{empty}
 use Rattle.cookie_script.proofs.Answered.{all_sent, next_answered, next_part, sent_all}
 use Rattle.cookie_script.proofs.Progress.{begun, are_read, flush_part, flushed, found, line_answered, no_line_left, one_line_left, part_so_far, read_ahead}
 use Rattle.cookie_script.specs.Faults.{CountsFault}
@@ -31,7 +32,7 @@ lines-init g c =
     record {
       reads = refl;
       writes = refl;
-      progress = rw (c.new-input.ensures, c.new-jar.ensures) (begun c.args.list (g.R.Source.remaining c.args.source.now) (g.W.Sink.contents c.args.sink.now) c.args.out.now);
+      progress = rw (c.new-input.ensures, c.new-jar.ensures) (begun (empty c.args.list c.args.limit) (g.R.Source.remaining c.args.source.now) (g.W.Sink.contents c.args.sink.now) c.args.out.now);
       turns = search rules;
     }
 

@@ -1,5 +1,6 @@
 -- No call has failed, each read brought a byte, and of the output for the input so much was put as the lines passed say.
 use Rattle.std.proofs.Common.{◌≡◌, ◌+◌, ◌*◌, ◌≤◌, ℕ, List, Some, IfSome, length}
+use Rattle.cookie_script.specs.Script.{empty}
 use Rattle.cookie_script.proofs.Progress.{Progress}
 use Rattle.cookie_script.proofs.run.answer_lines.Given as goal
 
@@ -8,7 +9,7 @@ invariant-lines g l = record {
   reads : g.R.Source.failed l.source ≡ g.R.Source.failed l.initial.source;
   writes : g.W.Sink.failed l.sink ≡ g.W.Sink.failed l.initial.sink;
   progress : IfSome (g.R.Source.remaining l.initial.source) (λ input.
-      Progress l.fn.list input (g.W.Sink.contents l.initial.sink) l.initial.out l.input (g.R.Source.remaining l.source) l.jar (g.W.Sink.contents l.sink) l.out);
+      Progress (empty l.fn.list l.fn.limit) input (g.W.Sink.contents l.initial.sink) l.initial.out l.input (g.R.Source.remaining l.source) l.jar (g.W.Sink.contents l.sink) l.out);
   turns : IfSome (g.R.Source.remaining l.initial.source) (λ input. (left : List ℕ) × (g.R.Source.remaining l.source ≡ Some left)
       × (g.R.Source.reads_left l.initial.source + length left ≤ g.R.Source.reads_left l.source + length input));
 }

@@ -4,8 +4,9 @@ use Rattle.std.specs.Str.Lines.{lines}
 use Rattle.std.proofs.lemmas.Option.{IfSome_then}
 use Rattle.std.proofs.KnownBytes.{Appends-nil}
 use Rattle.cookie_device.proofs.Sending.{nothing_part, part_of_rest}
-use Rattle.cookie_psl.specs.Rules.{RuleList}
+use Rattle.cookie_store.specs.Contents.{Contents}
 use Rattle.cookie_script.specs.Progress.{AnswersFirst, AreRead, NextMayWant}
+use Rattle.cookie_script.specs.Script.{empty}
 use Rattle.cookie_script.proofs.Answered.{first_appended, first_part}
 use Rattle.cookie_script.proofs.run.run.Goals as goal
 
@@ -15,10 +16,10 @@ if_any P None each = tt
 if_any P (Some x) each = each x
 
 -- before the first read no line was read, and none is answered
-none_read : (suffixes : Option RuleList) (rest contents : Option (List ℕ)) → IfSome rest (λ input.
-    AnswersFirst suffixes input (λ first more. AreRead input rest first ⊎ NextMayWant more) (Appends contents contents))
-none_read suffixes None contents = tt
-none_read suffixes (Some input) contents = ([], lines input, refl, inl ([], input, refl, refl, refl), Appends-nil contents)
+none_read : (store : Contents) (rest contents : Option (List ℕ)) → IfSome rest (λ input.
+    AnswersFirst store input (λ first more. AreRead input rest first ⊎ NextMayWant more) (Appends contents contents))
+none_read store None contents = tt
+none_read store (Some input) contents = ([], lines input, refl, inl ([], input, refl, refl, refl), Appends-nil contents)
 
 pub returns-in_err-out-clause-part : goal.returns-in_err-out-clause-part
 returns-in_err-out-clause-part g c =
@@ -26,26 +27,26 @@ returns-in_err-out-clause-part g c =
 
 pub returns-in_err-out-clause-memory : goal.returns-in_err-out-clause-memory
 returns-in_err-out-clause-memory g c =
-    λ wants. none_read c.args.list (g.R.Source.remaining c.args.source.now) (g.W.Sink.contents c.args.sink.now)
+    λ wants. none_read (empty c.args.list c.args.limit) (g.R.Source.remaining c.args.source.now) (g.W.Sink.contents c.args.sink.now)
 
 pub returns-in_err-flush-in-Err-Memory-clause-part : goal.returns-in_err-flush-in-Err-Memory-clause-part
 returns-in_err-flush-in-Err-Memory-clause-part g c =
     let memory = c.in-Err-Memory.ensures.memory cc in
     IfSome_then (g.R.Source.remaining c.args.source.now) (rw c.in_ok-out.ensures at memory)
-    (λ input first. first_part c.args.list input _ _ _ _ _ first c.in_err-flush-in-Err-Memory.ensures.part)
+    (λ input first. first_part (empty c.args.list c.args.limit) input _ _ _ _ _ first c.in_err-flush-in-Err-Memory.ensures.part)
 
 pub returns-in-Err-Memory-clause-part : goal.returns-in-Err-Memory-clause-part
 returns-in-Err-Memory-clause-part g c =
     let memory = c.in-Err-Memory.ensures.memory cc in
     IfSome_then (g.R.Source.remaining c.args.source.now) (rw c.in_ok-out.ensures at memory)
-    (λ input first. first_part c.args.list input _ _ _ _ _ first c.in_ok-flush-in-Err-Memory.ensures.part)
+    (λ input first. first_part (empty c.args.list c.args.limit) input _ _ _ _ _ first c.in_ok-flush-in-Err-Memory.ensures.part)
 
 pub returns-in-Err-Memory-clause-memory : goal.returns-in-Err-Memory-clause-memory
 returns-in-Err-Memory-clause-memory g c =
     λ wants.
     let memory = c.in-Err-Memory.ensures.memory cc in
     IfSome_then (g.R.Source.remaining c.args.source.now) (rw c.in_ok-out.ensures at memory)
-    (λ input first. first_appended c.args.list input _ _ _ _ _ first c.in_ok-flush-in-Err-Memory.ensures.whole)
+    (λ input first. first_appended (empty c.args.list c.args.limit) input _ _ _ _ _ first c.in_ok-flush-in-Err-Memory.ensures.whole)
 
 pub returns-in_err-flush-in-Ok-clause-part : goal.returns-in_err-flush-in-Ok-clause-part
 returns-in_err-flush-in-Ok-clause-part g c =

@@ -7,5 +7,5 @@ use Rattle.cookie_store.proofs.lists.copies_of.Given as goal
 abbrev pub invariant-loop-row : goal.invariant-loop-row
 invariant-loop-row l = record {
   copied : l.copies.items ≡ filter (is_among (option_map moment_of l.now)) (map (λ c. c.now) l.yielded);
-  rest : map (λ c. c.now) l.yielded ++ l.row-iterator ≡ l.rows;
+  rest : map (λ c. c.now) l.yielded ++ l.row-iterator ≡ l.rows.rows;
 }

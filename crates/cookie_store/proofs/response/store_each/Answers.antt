@@ -10,7 +10,7 @@ use Rattle.cookie_parts.specs.declared.cookie_error.CookieError.TheVariants.{Mem
 use Rattle.cookie_parts.specs.declared.store_action.StoreAction.{StoreAction}
 use Rattle.cookie_laws.specs.Acceptance.{received}
 use Rattle.cookie_laws.specs.Runs.{UnlessMemory}
-use Rattle.cookie_store.specs.Contents.{Contents}
+use Rattle.cookie_laws.specs.Contents.{Contents}
 use Rattle.cookie_store.specs.Responses.{Takes}
 use Rattle.cookie_store.proofs.EarlyRefusals.{want_is_not_early}
 use Rattle.cookie_store.proofs.response.store_each.Goals as goal
@@ -22,13 +22,13 @@ told P (Err refusal) holds some = grind (arith, holds, some)
 
 -- the store takes one raw cookie more
 taken_more : (url : Parts) (now : Moment) (raws : List Raw) (raw : Raw) (old mid new : Contents) → Takes url now raws old mid
-    → new ≡ record mid { rows = (received mid.suffixes mid.rows (cookie_of raw url now) url now).rows }
+    → new ≡ (received mid (cookie_of raw url now) url now).store
     → Takes url now (raws ++ raw ∷ []) old new
 taken_more url now raws raw old mid new taken next = grind (arith, fold-append, taken, next)
 
 pub loop-raw-preserved : goal.loop-raw-preserved
 loop-raw-preserved g c =
-    let next = told _ c.take_raw.result c.take_raw.ensures.rows c.in_ok-refusal.ensures.refusal.1 in
+    let next = told _ c.take_raw.result c.take_raw.ensures.store c.in_ok-refusal.ensures.refusal.1 in
     record {
       can = search rules;
       ends = search rules;

@@ -16,8 +16,8 @@ returns-in_err-save_row-clause-stopped g c =
     let before = map (λ c. c.now) l.yielded in
     let after = c.next.new.self in
     rw (refused.1, refused.2)
-    (stopped_at (FnReturnsAt g.F.Fn c.args.text_of) _ (filter kept c.args.rows.now) (filter kept before) row (filter kept after) _ _ _ _ _ _
-    (ap (filter kept) (around l.yielded c.in-Some.row l.row-iterator after c.args.rows.now c.in-Some.ensures.steps l.invariant.rest)
+    (stopped_at (FnReturnsAt g.F.Fn c.args.text_of) _ (filter kept c.args.rows.now.rows) (filter kept before) row (filter kept after) _ _ _ _ _ _
+    (ap (filter kept) (around l.yielded c.in-Some.row l.row-iterator after c.args.rows.now.rows c.in-Some.ensures.steps l.invariant.rest)
     ∙ filter_around kept before row after (sym c.if-is_among.ensures))
     l.invariant.lines l.invariant.count c.in_err-save_row.ensures.stopped)
 
@@ -32,7 +32,7 @@ loop-row-preserved-in-Continue-1 g c =
           rw (ap (filter kept) (done_more l.yielded c.in-Some.row) ∙ filter_around kept before row [] (sym c.if-is_among.ensures))
           (writes_more (FnReturnsAt g.F.Fn c.args.text_of) (filter kept before) row _ _ _ l.invariant.lines c.in_ok-save_row.ensures.whole);
       count = c.in_ok-save_row.ensures.count ∙ l.invariant.count;
-      rest = walked_on l.yielded c.in-Some.row l.row-iterator c.next.new.self c.args.rows.now c.in-Some.ensures.steps l.invariant.rest;
+      rest = walked_on l.yielded c.in-Some.row l.row-iterator c.next.new.self c.args.rows.now.rows c.in-Some.ensures.steps l.invariant.rest;
     }
 
 pub loop-row-preserved : goal.loop-row-preserved
@@ -44,5 +44,5 @@ loop-row-preserved g c =
     record {
       lines = rw (ap (filter kept) (done_more l.yielded c.in-Some.row) ∙ filter_past kept before row (sym c.if-is_among.ensures)) l.invariant.lines;
       count = l.invariant.count;
-      rest = walked_on l.yielded c.in-Some.row l.row-iterator c.next.new.self c.args.rows.now c.in-Some.ensures.steps l.invariant.rest;
+      rest = walked_on l.yielded c.in-Some.row l.row-iterator c.next.new.self c.args.rows.now.rows c.in-Some.ensures.steps l.invariant.rest;
     }

@@ -10,5 +10,5 @@ invariant-loop-row g l = record {
   lines : WritesRows (FnReturnsAt g.F.Fn l.text_of) (filter (is_among (option_map moment_of l.now)) (map (λ c. c.now) l.yielded))
       (g.W.Sink.contents l.initial.sink) (g.W.Sink.contents l.sink);
   count : g.W.Sink.failed l.sink ≡ g.W.Sink.failed l.initial.sink;
-  rest : map (λ c. c.now) l.yielded ++ l.row-iterator ≡ l.rows;
+  rest : map (λ c. c.now) l.yielded ++ l.row-iterator ≡ l.rows.rows;
 }

@@ -1,7 +1,7 @@
 -- The rows that are left stay the same.
 use Rattle.std.proofs.Common.{◌≡◌, ◌++◌, length}
 use Rattle.std.specs.Slice.Iter.{iter_rest}
-use Rattle.cookie_rows.specs.Groups.{joined}
+use Rattle.cookie_rows.specs.Items.{joined}
 use Rattle.cookie_rows.proofs.iter.IterAnyIterator.next.Given as goal
 
 abbrev pub invariant-loop-row : goal.invariant-loop-row

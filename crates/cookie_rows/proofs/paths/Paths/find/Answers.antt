@@ -1,4 +1,4 @@
-use Rattle.std.proofs.Common.{◌≡◌, ◌∙◌, sym, ap, bytes_eq}
+use Rattle.std.proofs.Common.{◌∙◌, sym, ap, bytes_eq}
 use Rattle.std.specs.Prelude.{position, slice_get, string_bytes}
 use Rattle.std.specs.Map.{keys_of}
 use Rattle.cookie_lookup.specs.Seen.{place_of, under}

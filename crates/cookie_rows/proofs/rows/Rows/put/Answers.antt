@@ -1,35 +1,35 @@
 use Rattle.std.proofs.Common.{◌∙◌, sym, ap, subst}
-use Rattle.std.specs.Prelude.{IsTrue}
-use Rattle.cookie_laws.specs.Rows.{key_of, put, row_of, are_rows}
-use Rattle.cookie_lookup.specs.Groups.{DomainGroups, flat, AreGroups}
+use Rattle.cookie_laws.specs.Rows.{Kept, key_of, make, put, row_of}
 use Rattle.cookie_rows.specs.Groups.{texts_of}
-use Rattle.cookie_rows.proofs.Kept.{groups_put}
-use Rattle.cookie_rows.proofs.FoundRows.{found_in_groups}
-use Rattle.cookie_rows.proofs.KeptOrder.{are_rows-put}
-use Rattle.cookie_rows.proofs.Puts.{put_in_groups}
-use Rattle.cookie_rows.proofs.Results.{on_ok_map, on_err_map, ok_or_err}
+use Rattle.cookie_rows.specs.Items.{AreItems, kept_of}
+use Rattle.cookie_rows.proofs.AreItems.{found_items, items_put, kept_put}
+use Rattle.cookie_rows.proofs.Results.{either_way}
 use Rattle.cookie_rows.proofs.rows.Rows.put.Goals as goal
 
+pub returns-in_err-next-clause-memory : goal.returns-in_err-next-clause-memory
+returns-in_err-next-clause-memory c =
+    let key = key_of c.args.cookie in
+    either_way c.from_residual.result
+    (ap (λ (k : Kept). row_of key k.rows) (sym c.self.view_is)
+    ∙ sym (found_items c.self.inside.made (texts_of c.self.inside.groups.entries) c.self.invariant key) ∙ c.in_err-next.ensures.greatest)
+
+pub returns-in_err-put_row-clause-memory : goal.returns-in_err-put_row-clause-memory
+returns-in_err-put_row-clause-memory c =
+    let key = key_of c.args.cookie in
+    either_way c.from_residual-in_err-put_row.result
+    (ap (λ (k : Kept). row_of key k.rows) (sym c.self.view_is)
+    ∙ sym (found_items c.self.inside.made (texts_of c.self.inside.groups.entries) c.self.invariant key) ∙ c.in_err-put_row.ensures.memory)
+
 pub invariant_of-self : goal.invariant_of-self
-invariant_of-self c =
-    let gs = texts_of c.self.inside.groups.entries in
-    let AreAll : DomainGroups → Type 0 = λ gs. AreGroups gs × IsTrue (are_rows (flat gs)) in
-    ok_or_err c.put_row.result c.put_row.ensures.put c.put_row.ensures.err
-    (λ e. subst AreAll (sym e) (
-      groups_put c.args.cookie gs c.self.invariant.0,
-      subst (λ rows. IsTrue (are_rows rows)) (put_in_groups c.args.cookie gs c.self.invariant.0) (are_rows-put (flat gs) c.args.cookie c.self.invariant.1),
-    ))
-    (λ e. subst AreAll (sym e) c.self.invariant)
+invariant_of-self c = subst (AreItems c.self.inside.made) (sym c.in_err-put_row.ensures.err) c.self.invariant
+
+pub invariant_of-self-2 : goal.invariant_of-self-2
+invariant_of-self-2 c =
+    subst (AreItems c.in_ok-next.next) (sym c.in_ok-put_row.ensures.put)
+    (items_put c.self.inside.made (texts_of c.self.inside.groups.entries) c.self.invariant c.args.cookie c.in_ok-next.next c.in_ok-next.ensures.counts)
 
 pub returns-clause-put : goal.returns-clause-put
 returns-clause-put c =
-    on_ok_map c.put_row.result
-    (λ e. ap flat e ∙ sym (put_in_groups c.args.cookie (texts_of c.self.inside.groups.entries) c.self.invariant.0) ∙ ap (λ rows. put rows c.args.cookie) c.self.view_is)
-    c.put_row.ensures.put
-
-pub returns-clause-memory : goal.returns-clause-memory
-returns-clause-memory c =
-    let key = key_of c.args.cookie in
-    on_err_map c.put_row.result
-    (λ none. ap (row_of key) (sym c.self.view_is) ∙ found_in_groups key (texts_of c.self.inside.groups.entries) c.self.invariant.0 ∙ none)
-    c.put_row.ensures.memory
+    ap kept_of c.in_ok-put_row.ensures.put
+    ∙ kept_put c.self.inside.made (texts_of c.self.inside.groups.entries) c.self.invariant c.args.cookie
+    ∙ ap (λ (k : Kept). record { rows = put k.rows c.args.cookie; made = make k.made (key_of c.args.cookie) }) c.self.view_is

@@ -41,8 +41,8 @@ unfolding command_turn
 returns-in-Set-clause-state c =
     on_ok _ c.said.result
     (λ never. rw (c.in-Set.is, ← c.self.view_is)
-    (ap (λ (s : Contents). record { rows = s.rows; suffixes = s.suffixes; moment = moment_of c.self.inside.moment })
-    (unless c.parse.result c.parse.ensures.rows never)))
+    (ap (λ (s : Contents). record { store = s; moment = moment_of c.self.inside.moment })
+    (unless c.parse.result c.parse.ensures.store never)))
     c.said.ensures.said
 
 pub returns-in-Set-clause-told : goal.returns-in-Set-clause-told

@@ -2,9 +2,9 @@ use Rattle.std.proofs.Common.{◌≡◌, ◌∙◌, ◌+◌, ap, sym, [], ◌∷
 use Rattle.std.proofs.Math.Nat.{le_trans}
 use Rattle.std.proofs.lemmas.List.{length-append, map-append}
 use Rattle.cookie_store.specs.CallViews.{call_view, reply_view}
-use Rattle.cookie_store.specs.Contents.{Contents}
-use Rattle.cookie_laws.specs.Runs.{Reply, replies, rows_after, step}
-use Rattle.cookie_store.proofs.LongerRuns.{replies_more, rows_after_more}
+use Rattle.cookie_laws.specs.Contents.{Contents}
+use Rattle.cookie_laws.specs.Runs.{Reply, replies, step, store_after}
+use Rattle.cookie_store.proofs.LongerRuns.{replies_more, store_after_more}
 use Rattle.cookie_store.proofs.cookie_store.CookieStore.apply_all.Goals as goal
 
 pub loop-call-preserved : goal.loop-call-preserved
@@ -15,22 +15,21 @@ loop-call-preserved c =
     let call = call_view c.in-Some.call in
     let more = map-append call_view c.loop-call.yielded (c.in-Some.call ∷ []) in
     let pushed = rw c.unwrap.ensures at c.push.ensures.items in
-    let reply : reply_view c.in-Ok-apply.reply ≡ (step store.suffixes call (rows_after store.suffixes calls store.rows)).reply
-    = c.in-Ok-apply.ensures.reply ∙ ap (λ (s : Contents). (step s.suffixes call s.rows).reply) begun.rows in
+    let reply : reply_view c.in-Ok-apply.reply ≡ (step call (store_after calls store)).reply
+    = c.in-Ok-apply.ensures.reply ∙ ap (λ (s : Contents). (step call s).reply) begun.store in
     record {
       can = tt;
       ends = tt;
       told =
           ap (map reply_view) pushed ∙ map-append reply_view c.loop-call.told.items (c.in-Ok-apply.reply ∷ [])
           ∙ ap (λ told. told ++ reply_view c.in-Ok-apply.reply ∷ []) begun.told
-          ∙ ap (λ (r : Reply). replies store.suffixes calls store.rows ++ r ∷ []) reply
-          ∙ sym (replies_more store.suffixes calls call store.rows)
-          ∙ ap (λ cs. replies store.suffixes cs store.rows) (sym more);
-      rows =
-          c.in-Ok-apply.ensures.rows
-          ∙ ap (λ (s : Contents). record s { rows = (step s.suffixes call s.rows).rows }) begun.rows
-          ∙ ap (λ rows. record store { rows = rows })
-          (sym (rows_after_more store.suffixes calls call store.rows) ∙ ap (λ cs. rows_after store.suffixes cs store.rows) (sym more));
+          ∙ ap (λ (r : Reply). replies calls store ++ r ∷ []) reply
+          ∙ sym (replies_more calls call store)
+          ∙ ap (λ cs. replies cs store) (sym more);
+      store =
+          c.in-Ok-apply.ensures.store
+          ∙ ap (λ (s : Contents). (step call s).store) begun.store
+          ∙ sym (store_after_more calls call store) ∙ ap (λ cs. store_after cs store) (sym more);
       all =
           append_assoc c.loop-call.yielded (c.in-Some.call ∷ []) _
           ∙ ap (λ xs. c.loop-call.yielded ++ xs) (sym c.in-Some.ensures.steps.0) ∙ begun.all;

@@ -1,17 +1,17 @@
--- The replies and the rows are those of the calls so far, and there is room for the other replies.
+-- The replies and the store are those of the calls so far, and there is room for the other replies.
 use Rattle.std.proofs.Common.{◌≡◌, ◌++◌, ◌≤◌, length, map}
 use Rattle.std.specs.Vec.{vec_capacity, vec_len}
 use Rattle.std.specs.Vec.Iter.{into_iter_items}
 use Rattle.cookie_store.specs.CallViews.{call_view, reply_view}
-use Rattle.cookie_laws.specs.Runs.{replies, rows_after}
+use Rattle.cookie_laws.specs.Runs.{replies, store_after}
 use Rattle.cookie_store.proofs.cookie_store.CookieStore.apply_all.Given as goal
 
 abbrev pub invariant-loop-call : goal.invariant-loop-call
 invariant-loop-call l = record {
   can : (goal.iterator-loop-call).can_next l.call-iterator;
   ends : (goal.iterator-loop-call).is_finite l.call-iterator;
-  told : map reply_view l.told.items ≡ replies l.fn.self.suffixes (map call_view l.yielded) l.fn.self.rows;
-  rows : l.self ≡ record l.fn.self { rows = rows_after l.fn.self.suffixes (map call_view l.yielded) l.fn.self.rows };
+  told : map reply_view l.told.items ≡ replies (map call_view l.yielded) l.fn.self;
+  store : l.self ≡ store_after (map call_view l.yielded) l.fn.self;
   all : l.yielded ++ into_iter_items l.call-iterator ≡ l.fn.calls.items;
   count : vec_len l.told ≡ length l.yielded;
   room : length l.fn.calls.items ≤ vec_capacity l.told;

@@ -10,5 +10,5 @@ use Rattle.cookie_store.proofs.serde.forms.any_early.Given as goal
 abbrev pub invariant-loop-row : goal.invariant-loop-row
 invariant-loop-row l = record {
   none : list_any is_early (map saved_of (filter (is_among (option_map moment_of l.now)) (map (λ c. c.now) l.yielded))) ≡ false;
-  rest : map (λ c. c.now) l.yielded ++ l.row-iterator ≡ l.rows;
+  rest : map (λ c. c.now) l.yielded ++ l.row-iterator ≡ l.rows.rows;
 }

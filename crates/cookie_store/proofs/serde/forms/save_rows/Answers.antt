@@ -7,12 +7,12 @@ use Rattle.cookie_store.proofs.serde.forms.save_rows.Goals as goal
 
 pub returns-clause-whole : goal.returns-clause-whole
 returns-clause-whole g c =
-    let rows = filter (is_among (option_map moment_of c.args.now)) c.args.rows.now in
+    let rows = filter (is_among (option_map moment_of c.args.now)) c.args.rows.now.rows in
     let said = rw c.in_ok-text.was at c.text_of.ensures in
     list_written (SaysList c.args.form) rows c.in_ok-text.text said c.write_text.result _ _ c.write_text.ensures.whole
 
 pub returns-clause-stopped : goal.returns-clause-stopped
 returns-clause-stopped g c =
-    let rows = filter (is_among (option_map moment_of c.args.now)) c.args.rows.now in
+    let rows = filter (is_among (option_map moment_of c.args.now)) c.args.rows.now.rows in
     let said = rw c.in_ok-text.was at c.text_of.ensures in
     list_begun (SaysList c.args.form) rows c.in_ok-text.text said c.write_text.result _ _ _ _ c.write_text.ensures.stopped

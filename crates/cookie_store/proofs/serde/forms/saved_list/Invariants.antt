@@ -9,5 +9,5 @@ use Rattle.cookie_store.proofs.serde.forms.saved_list.Given as goal
 abbrev pub invariant-loop-row : goal.invariant-loop-row
 invariant-loop-row l = record {
   saved : map saved_view l.list.items ≡ map saved_of (filter (is_among (option_map moment_of l.now)) (map (λ c. c.now) l.yielded));
-  rest : map (λ c. c.now) l.yielded ++ l.row-iterator ≡ l.rows;
+  rest : map (λ c. c.now) l.yielded ++ l.row-iterator ≡ l.rows.rows;
 }

@@ -1,5 +1,5 @@
 use Rattle.std.proofs.Common.{◌≡◌, ◌∙◌, true, Ok, sym, ap, subst}
-use Rattle.cookie_laws.specs.Rows.{built}
+use Rattle.cookie_laws.specs.Rows.{Kept, built}
 use Rattle.cookie_store.specs.Cuts.{cut_rows}
 use Rattle.cookie_store.specs.RonLists.{RonCookies}
 use Rattle.cookie_store.specs.Saving.{line_text}
@@ -12,4 +12,4 @@ returns c rows loaded written now are all (text, says, appended) (whole, cookies
     let same : line_text text ≡ whole = sym appended ∙ known in
     let (read, reads, are_cut) = subst (λ t. RonCookies t (Ok (cut_rows rows))) same (c.ron_list_comes_back.ensures rows text all says) in
     let one = made ∙ ap read_cookies (c.answers_are_one.ensures whole answer read told reads) ∙ sym are_cut in
-    builds ∙ ap (built true now) (ap cookies_in one) ∙ c.rebuilt.ensures (cut_rows rows) now (rows_cut rows are)
+    ap (λ (kept : Kept). kept.rows) (builds ∙ ap (built true now) (ap cookies_in one)) ∙ c.rebuilt.ensures (cut_rows rows) now (rows_cut rows are)

@@ -1,0 +1,57 @@
+-- What a store holds, and which rows leave it for a new one.
+use Rattle.std.specs.Prelude.{ℕ, ◌+◌, ◌-◌, Bool, not, List, [], ◌++◌, filter, length, take, Option, Some, None}
+use Rattle.std.specs.List.{list_any}
+use Rattle.cookie_words.specs.Moments.{Moment}
+use Rattle.cookie_psl.specs.Rules.{RuleList}
+use Rattle.cookie_parts.specs.Cookie.{Row, is_expired}
+use Rattle.cookie_parts.specs.Hosts.{passes}
+use Rattle.cookie_laws.specs.Rows.{Key, Kept, key_of, make, put, row_of, same_domain, same_key}
+
+-- its rows, and their keys by making, the one that was made least recently first; the public suffix list that it obeys, if there
+-- is one; and how many rows of one domain it lets stand, if there is a limit
+pub record Contents : Type 0 where
+  pub rows : List Row
+  pub made : List Key
+  pub suffixes : Option RuleList
+  pub limit : Option ℕ
+
+-- its rows and their keys
+abbrev pub kept_of : Contents → Kept
+kept_of store = record { rows = store.rows; made = store.made }
+
+-- a store of these, under a list and a limit, if there are any
+abbrev pub contents_of : Kept → Option RuleList → Option ℕ → Contents
+contents_of kept suffixes limit = record { rows = kept.rows; made = kept.made; suffixes = suffixes; limit = limit }
+
+-- the row of the key has ended
+abbrev pub has_ended : Moment → List Row → Key → Bool
+has_ended now rows key = passes (is_expired now) (row_of key rows)
+
+-- keys in the turn in which their rows leave: first those of rows that have ended, and each part as it is
+abbrev pub by_turn : Moment → List Row → List Key → List Key
+by_turn now rows keys = filter (has_ended now rows) keys ++ filter (λ key. not (has_ended now rows key)) keys
+
+-- of the keys of a domain by making, those whose rows leave for a new one: so many that with it no more than the limit stand, and
+-- all where that is 0
+abbrev pub beyond : Option ℕ → Moment → List Row → List Key → List Key
+beyond None now rows keys = []
+beyond (Some limit) now rows keys = take (length keys + 1 - limit) (by_turn now rows keys)
+
+-- the keys whose rows leave for a new row of this key
+abbrev pub leaving : Contents → Moment → Key → List Key
+leaving store now key = beyond store.limit now store.rows (filter (same_domain key) store.made)
+
+-- the key is none of these
+abbrev pub is_none_of : List Key → Key → Bool
+is_none_of keys key = not (list_any (same_key key) keys)
+
+-- the store without the rows of these keys
+abbrev pub without : List Key → Contents → Contents
+without keys store = record store {
+  rows = filter (λ row. is_none_of keys (key_of row)) store.rows;
+  made = filter (is_none_of keys) store.made;
+}
+
+-- the store with the cookie in the place of the row of its key, or as a new row, which is made last
+abbrev pub keep : Contents → Row → Contents
+keep store cookie = record store { rows = put store.rows cookie; made = make store.made (key_of cookie) }

@@ -1,0 +1,111 @@
+-- What each change keeps of numbered groups, and what rows and keys it leaves.
+use Rattle.std.proofs.Common.{◌≡◌, ℕ, suc, ◌+◌, ◌<◌, ◌⊎◌, List, [], ◌∷◌, ◌++◌, length, map, refl, sym, ◌∙◌, ap, subst, inl, inr, None, arith}
+use Rattle.std.specs.Prelude.{◌≢◌, IsTrue, nat_eq}
+use Rattle.std.specs.List.{AllByRecursion}
+use Rattle.cookie_parts.specs.Cookie.{Row, ended}
+use Rattle.cookie_laws.specs.Rows.{Key, key_of, same_key, has_key, are_rows, row_of, put, make, changed, removed, differ}
+use Rattle.cookie_lookup.specs.Groups.{flat, flat_paths, AreGroups, Filled}
+use Rattle.cookie_rows.specs.Items.{Item, ItemGroups, ItemPaths, AreItems, Below, bare, bare_paths, kept_of, by_number, made_of, put_items, end_items, remove_items, find_items, rows_of}
+use Rattle.cookie_rows.proofs.Bare.{bare_put, bare_end, bare_remove, bare_found}
+use Rattle.cookie_rows.proofs.FoundRows.{found_in_groups, ended_in_groups, removed_in_groups}
+use Rattle.cookie_rows.proofs.Kept.{groups_put, groups_ended, groups_removed}
+use Rattle.cookie_rows.proofs.KeptOrder.{are_rows-put, are_rows-ended}
+use Rattle.cookie_rows.proofs.Made.{made_put, below_put, differ_put, numbered_end, made_remove, below_remove, differ_remove, stays_numbered}
+use Rattle.cookie_rows.proofs.Puts.{put_in_groups}
+use Rattle.cookie_rows.proofs.Removed.{are_rows-removed}
+
+module _ (n : ℕ) (gs : ItemGroups) (a : AreItems n gs) where
+  -- what is found is the row of the key
+  pub found_items : (key : Key) → find_items key gs ≡ row_of key (flat (bare gs))
+  found_items key = bare_found key gs ∙ sym (found_in_groups key (bare gs) a.0)
+
+  -- a row is put
+
+  module _ (row : Row) where
+    -- the rows
+    rows_put : flat (bare (put_items row n gs)) ≡ put (flat (bare gs)) row
+    rows_put = ap flat (bare_put row n gs) ∙ sym (put_in_groups row (bare gs) a.0)
+
+    -- the rows and the keys
+    pub kept_put : kept_of (put_items row n gs) ≡ record { rows = put (flat (bare gs)) row; made = make (made_of gs) (key_of row) }
+    kept_put = λ i. record { rows = rows_put i; made = made_put row n gs a.0 a.2 i }
+
+    -- the numbers are below the next count
+    below_next : (next : ℕ) → (next ≡ n + 1) ⊎ ((next ≡ n) × (find_items (key_of row) gs ≢ None)) → Below next (put_items row n gs)
+    below_next next counts = elim counts [
+      | inl e ↦ let more : suc n ≡ next = omega (arith, e) in subst (λ m. Below m (put_items row n gs)) more (below_put row n gs a.2)
+      | inr e ↦
+          let there : row_of (key_of row) (flat (bare gs)) ≢ None = λ none. e.1 (found_items (key_of row) ∙ none) in
+          subst (λ m. Below m (put_items row n gs)) (sym e.0) (subst (AllByRecursion (λ x. x.1 < n)) (sym (stays_numbered row n gs a.0 there)) a.2)
+    ]
+
+    -- the groups
+    pub items_put : (next : ℕ) → (next ≡ n + 1) ⊎ ((next ≡ n) × (find_items (key_of row) gs ≢ None)) → AreItems next (put_items row n gs)
+    items_put next counts = (
+      subst AreGroups (sym (bare_put row n gs)) (groups_put row (bare gs) a.0),
+      subst (λ rows. IsTrue (are_rows rows)) (sym rows_put) (are_rows-put (flat (bare gs)) row a.1),
+      below_next next counts,
+      differ_put row n gs a.2 a.3,
+    )
+
+  module _ (key : Key) where
+    -- a row ends
+
+    -- the rows
+    rows_ended : flat (bare (end_items key gs)) ≡ changed (has_key key) ended (flat (bare gs))
+    rows_ended = ap flat (bare_end key gs) ∙ sym (ended_in_groups key (bare gs) a.0)
+
+    -- the rows and the keys
+    pub kept_ended : kept_of (end_items key gs) ≡ record (kept_of gs) { rows = changed (has_key key) ended (flat (bare gs)) }
+    kept_ended = λ i. record { rows = rows_ended i; made = map (λ x. x.0) (by_number (numbered_end key gs i)) }
+
+    -- the groups
+    pub items_ended : AreItems n (end_items key gs)
+    items_ended = (
+      subst AreGroups (sym (bare_end key gs)) (groups_ended key (bare gs) a.0),
+      subst (λ rows. IsTrue (are_rows rows)) (sym rows_ended) (are_rows-ended (has_key key) (flat (bare gs)) a.1),
+      subst (AllByRecursion (λ x. x.1 < n)) (sym (numbered_end key gs)) a.2,
+      ap (λ xs. differ nat_eq (map (λ x. x.1) xs)) (numbered_end key gs) ∙ a.3,
+    )
+
+    -- a row goes
+
+    -- the rows
+    rows_removed : flat (bare (remove_items key gs)) ≡ removed (has_key key) (flat (bare gs))
+    rows_removed = ap flat (bare_remove key gs) ∙ sym (removed_in_groups key (bare gs) a.0)
+
+    -- the rows and the keys
+    pub kept_removed : kept_of (remove_items key gs) ≡ record { rows = removed (has_key key) (flat (bare gs)); made = removed (same_key key) (made_of gs) }
+    kept_removed = λ i. record { rows = rows_removed i; made = made_remove key gs a.0 a.1 i }
+
+    -- the groups
+    pub items_removed : AreItems n (remove_items key gs)
+    items_removed = (
+      subst AreGroups (sym (bare_remove key gs)) (groups_removed key (bare gs) a.0),
+      subst (λ rows. IsTrue (are_rows rows)) (sym rows_removed) (are_rows-removed key (flat (bare gs)) a.1),
+      below_remove n key gs a.2,
+      differ_remove key gs a.3,
+    )
+
+-- where there is a group there are rows
+
+-- a list with something in front
+some_front : (xs ys : List Row) → xs ≢ [] → xs ++ ys ≢ []
+some_front [] ys some none = some refl
+some_front (x ∷ xs) ys some none = absurd (cc)
+
+-- rows of a group
+some_names : (xs : List Item) → 0 < length (rows_of xs) → rows_of xs ≢ []
+some_names [] l none = absurd (omega (arith, l))
+some_names (x ∷ xs) l none = absurd (cc)
+
+-- those of a domain
+some_paths : (d : List ℕ) (ps : ItemPaths) → 0 < length (bare_paths ps) → Filled d (bare_paths ps) → flat_paths (bare_paths ps) ≢ []
+some_paths d [] l a = absurd (omega (arith, l))
+some_paths d (p ∷ ps) l a = some_front (rows_of p.1) (flat_paths (bare_paths ps)) (some_names p.1 a.0.0)
+
+-- those of all groups
+pub some_rows : (gs : ItemGroups) → AreGroups (bare gs) → (fs hs : ItemGroups) (g : List ℕ × ItemPaths) → fs ++ g ∷ hs ≡ gs → flat (bare gs) ≢ []
+some_rows [] a [] hs g is = absurd (cc)
+some_rows [] a (f ∷ fs) hs g is = absurd (cc)
+some_rows (g ∷ gs) a fs hs f is = some_front (flat_paths (bare_paths g.1)) (flat (bare gs)) (some_paths g.0 g.1 a.1.0.0 a.1.0.1.1)

@@ -1,0 +1,120 @@
+-- Groups without their numbers, as they change.
+use Rattle.std.proofs.Common.{◌≡◌, ℕ, List, [], ◌∷◌, map, refl, ◌∙◌, ap, inl, inr, bytes_eq}
+use Rattle.std.specs.Prelude.{Option}
+use Rattle.std.proofs.lemmas.Bool.{cases_Bool}
+use Rattle.cookie_parts.specs.Cookie.{Row}
+use Rattle.cookie_parts.specs.Domain.{domain_text}
+use Rattle.cookie_laws.specs.Rows.{Key}
+use Rattle.cookie_rows.specs.Groups.{is_named, row_named, put_name, end_name, remove_name, found, put_at, changed_at, kept, lessened_at, find_paths, find_groups, put_paths, put_groups, end_paths, end_groups, remove_paths, remove_groups}
+use Rattle.cookie_rows.specs.Items.{Item, ItemPaths, ItemGroups, rows_of, bare_paths, bare, put_item, end_item, remove_item, find_item_paths, find_items, put_item_paths, put_items, end_item_paths, end_items, remove_item_paths, remove_items}
+
+-- groups under texts, with what is in them seen through a function
+
+module _ {A B : Type 0} (see : A → B) where
+  -- each group seen through it
+  abbrev pub seen : List (List ℕ × List A) → List (List ℕ × List B)
+  seen gs = map (λ g. (g.0, map see g.1)) gs
+
+  -- the texts stay
+  pub seen_texts : (gs : List (List ℕ × List A)) → map (λ g. g.0) (seen gs) ≡ map (λ g. g.0) gs
+  seen_texts [] = refl
+  seen_texts (g ∷ gs) = ap (λ ks. g.0 ∷ ks) (seen_texts gs)
+
+  -- a group that is put is seen as one that is put
+  seen_put : (f : List A → List A) (h : List B → List B) → ((xs : List A) → map see (f xs) ≡ h (map see xs)) → (text : List ℕ) (gs : List (List ℕ × List A)) → seen (put_at f text gs) ≡ put_at h text (seen gs)
+  seen_put f h same text [] = ap (λ v. (text, v) ∷ []) (same [])
+  seen_put f h same text (g ∷ gs) = elim (cases_Bool (bytes_eq text g.0)) [
+    | inl e ↦ rw e (ap (λ v. (g.0, v) ∷ seen gs) (same g.1))
+    | inr e ↦ rw e (ap (λ xs. (g.0, map see g.1) ∷ xs) (seen_put f h same text gs))
+  ]
+
+  -- one that is changed as one that is changed
+  seen_changed : (f : List A → List A) (h : List B → List B) → ((xs : List A) → map see (f xs) ≡ h (map see xs)) → (text : List ℕ) (gs : List (List ℕ × List A)) → seen (changed_at f text gs) ≡ changed_at h text (seen gs)
+  seen_changed f h same text [] = refl
+  seen_changed f h same text (g ∷ gs) = elim (cases_Bool (bytes_eq text g.0)) [
+    | inl e ↦ rw e (ap (λ v. (g.0, v) ∷ seen gs) (same g.1))
+    | inr e ↦ rw e (ap (λ xs. (g.0, map see g.1) ∷ xs) (seen_changed f h same text gs))
+  ]
+
+  -- one that is kept or dropped as that
+  seen_kept : (text : List ℕ) (v : List A) (gs : List (List ℕ × List A)) → seen (kept text v gs) ≡ kept text (map see v) (seen gs)
+  seen_kept text [] gs = refl
+  seen_kept text (x ∷ xs) gs = refl
+
+  -- one that is lessened as one that is lessened
+  seen_lessened : (f : List A → List A) (h : List B → List B) → ((xs : List A) → map see (f xs) ≡ h (map see xs)) → (text : List ℕ) (gs : List (List ℕ × List A)) → seen (lessened_at f text gs) ≡ lessened_at h text (seen gs)
+  seen_lessened f h same text [] = refl
+  seen_lessened f h same text (g ∷ gs) = elim (cases_Bool (bytes_eq text g.0)) [
+    | inl e ↦ rw e (seen_kept g.0 (f g.1) gs ∙ ap (λ v. kept g.0 v (seen gs)) (same g.1))
+    | inr e ↦ rw e (ap (λ xs. (g.0, map see g.1) ∷ xs) (seen_lessened f h same text gs))
+  ]
+
+  -- and what is found in one is found in what is seen
+  seen_found : (f : List A → Option Row) (h : List B → Option Row) → ((xs : List A) → f xs ≡ h (map see xs)) → (text : List ℕ) (gs : List (List ℕ × List A)) → found f text gs ≡ found h text (seen gs)
+  seen_found f h same text [] = refl
+  seen_found f h same text (g ∷ gs) = elim (cases_Bool (bytes_eq text g.0)) [
+    | inl e ↦ rw e (same g.1)
+    | inr e ↦ rw e (seen_found f h same text gs)
+  ]
+
+-- a row is put
+
+module _ (row : Row) (n : ℕ) where
+  -- among items
+  bare_put_item : (xs : List Item) → rows_of (put_item row n xs) ≡ put_name row (rows_of xs)
+  bare_put_item [] = refl
+  bare_put_item (x ∷ xs) = elim (cases_Bool (is_named row.raw.name x.row)) [
+    | inl e ↦ rw e refl
+    | inr e ↦ rw e (ap (λ rs. x.row ∷ rs) (bare_put_item xs))
+  ]
+
+  -- under a path
+  bare_put_paths : (ps : ItemPaths) → bare_paths (put_item_paths row n ps) ≡ put_paths row (bare_paths ps)
+  bare_put_paths ps = seen_put (λ (i : Item). i.row) (put_item row n) (put_name row) bare_put_item row.path.text ps
+
+  -- under a domain
+  pub bare_put : (gs : ItemGroups) → bare (put_items row n gs) ≡ put_groups row (bare gs)
+  bare_put gs = seen_put (λ (p : List ℕ × List Item). (p.0, rows_of p.1)) (put_item_paths row n) (put_paths row) bare_put_paths (domain_text row.domain) gs
+
+-- the row of a key
+
+-- it ends among items
+bare_end_item : (name : List ℕ) (xs : List Item) → rows_of (end_item name xs) ≡ end_name name (rows_of xs)
+bare_end_item name [] = refl
+bare_end_item name (x ∷ xs) = elim (cases_Bool (is_named name x.row)) [
+  | inl e ↦ rw e refl
+  | inr e ↦ rw e (ap (λ rs. x.row ∷ rs) (bare_end_item name xs))
+]
+
+-- it goes from items
+bare_remove_item : (name : List ℕ) (xs : List Item) → rows_of (remove_item name xs) ≡ remove_name name (rows_of xs)
+bare_remove_item name [] = refl
+bare_remove_item name (x ∷ xs) = elim (cases_Bool (is_named name x.row)) [
+  | inl e ↦ rw e refl
+  | inr e ↦ rw e (ap (λ rs. x.row ∷ rs) (bare_remove_item name xs))
+]
+
+module _ (key : Key) where
+  -- it ends under a path
+  bare_end_paths : (ps : ItemPaths) → bare_paths (end_item_paths key.path key.name ps) ≡ end_paths key.path key.name (bare_paths ps)
+  bare_end_paths ps = seen_changed (λ (i : Item). i.row) (end_item key.name) (end_name key.name) (bare_end_item key.name) key.path ps
+
+  -- and under a domain
+  pub bare_end : (gs : ItemGroups) → bare (end_items key gs) ≡ end_groups key (bare gs)
+  bare_end gs = seen_changed (λ (p : List ℕ × List Item). (p.0, rows_of p.1)) (end_item_paths key.path key.name) (end_paths key.path key.name) bare_end_paths key.domain gs
+
+  -- it goes from under a path
+  bare_remove_paths : (ps : ItemPaths) → bare_paths (remove_item_paths key.path key.name ps) ≡ remove_paths key.path key.name (bare_paths ps)
+  bare_remove_paths ps = seen_lessened (λ (i : Item). i.row) (remove_item key.name) (remove_name key.name) (bare_remove_item key.name) key.path ps
+
+  -- and from under a domain
+  pub bare_remove : (gs : ItemGroups) → bare (remove_items key gs) ≡ remove_groups key (bare gs)
+  bare_remove gs = seen_lessened (λ (p : List ℕ × List Item). (p.0, rows_of p.1)) (remove_item_paths key.path key.name) (remove_paths key.path key.name) bare_remove_paths key.domain gs
+
+  -- it is found under a path
+  bare_found_paths : (ps : ItemPaths) → find_item_paths key.path key.name ps ≡ find_paths key.path key.name (bare_paths ps)
+  bare_found_paths ps = seen_found (λ (i : Item). i.row) (λ items. row_named key.name (rows_of items)) (row_named key.name) (λ xs. refl) key.path ps
+
+  -- and under a domain
+  pub bare_found : (gs : ItemGroups) → find_items key gs ≡ find_groups key (bare gs)
+  bare_found gs = seen_found (λ (p : List ℕ × List Item). (p.0, rows_of p.1)) (find_item_paths key.path key.name) (find_paths key.path key.name) bare_found_paths key.domain gs

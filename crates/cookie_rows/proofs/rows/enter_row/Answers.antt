@@ -1,0 +1,97 @@
+use Rattle.std.proofs.Common.{◌≡◌, ◌∙◌, ◌∷◌, [], ℕ, ◌<◌, ◌≤◌, Bool, true, false, List, String, ap, bytes_eq, inl, inr, length, refl, string_bytes, subst, sym, arith, Some, None}
+use Rattle.std.specs.Map.{lookup, set_value}
+use Rattle.std.proofs.lemmas.Bool.{cases_Bool}
+use Rattle.cookie_words.specs.Moments.{Moment, moment_of}
+use Rattle.cookie_parts.specs.Cookie.{Row}
+use Rattle.cookie_parts.specs.Domain.{domain_text}
+use Rattle.cookie_rows.specs.Groups.{texts_of}
+use Rattle.cookie_rows.specs.Items.{Item, ItemGroups, ItemPaths, put_item_paths, put_items}
+use Rattle.cookie_rows.specs.Turns.{EntersItems, EntersPaths, IsFirst, entered_paths, is_single_paths, paths_of, settled, stays, turns_of}
+use Rattle.cookie_rows.proofs.Maps.{at_text, put_set, same_set}
+use Rattle.cookie_rows.proofs.Results.{either_way, on_ok_map}
+use Rattle.cookie_rows.proofs.rows.enter_row.Goals.{then-left, else-left}
+use Rattle.cookie_rows.proofs.rows.enter_row.Goals as goal
+
+module _ {A : Type 0} (d : List ℕ) where
+  -- the groups of the domain are what stands in the map
+  paths_some : (es : List (String A × ItemPaths)) (v : ItemPaths) → Some v ≡ lookup (at_text d) es → paths_of d (texts_of es) ≡ v
+  paths_some [] v l = absurd (cc)
+  paths_some (e ∷ es) v l = elim (cases_Bool (at_text d e.0)) [
+    | inl t ↦ let l' = rw t at l in let same : v ≡ e.1 = cc in rw t (sym same)
+    | inr t ↦ let l' = rw t at l in rw t (paths_some es v l')
+  ]
+
+  -- or there are none
+  paths_none : (es : List (String A × ItemPaths)) → None ≡ lookup (at_text d) es → paths_of d (texts_of es) ≡ []
+  paths_none [] l = refl
+  paths_none (e ∷ es) l = elim (cases_Bool (at_text d e.0)) [
+    | inl t ↦ let l' = rw t at l in absurd (cc)
+    | inr t ↦ let l' = rw t at l in rw t (paths_none es l')
+  ]
+
+module _ {A : Type 0} (limit : ℕ) (now : Moment) (row : Row) (n : ℕ) (es : List (String A × ItemPaths)) (old new : ItemPaths)
+    (there : Some old ≡ lookup (at_text (domain_text row.domain)) es) where
+  -- where a row was put into the groups of its domain and none left, it was put into all
+  enters_room : (left : Bool) → EntersPaths limit now row n old new left → left ≡ false
+      → EntersItems limit now row n (texts_of es) (texts_of (set_value (at_text (domain_text row.domain)) es new))
+  enters_room left enters none = elim enters [
+    | inl e ↦
+        let d = domain_text row.domain in
+        let room = subst (λ ps. length (turns_of now ps) < limit) (sym (paths_some d es old there)) e.0 in
+        inl (room, ap (λ v. texts_of (set_value (at_text d) es v)) e.1 ∙ put_set (put_item_paths row n) d es old there)
+    | inr e ↦ let both : true ≡ false = sym e.4 ∙ none in absurd (cc)
+  ]
+
+  -- where rows left, its domain is then the last if it stands alone
+  enters_left : (left : Bool) → EntersPaths limit now row n old new left → left ≡ true
+      → EntersItems limit now row n (texts_of es) (settled is_single_paths (domain_text row.domain) (texts_of (set_value (at_text (domain_text row.domain)) es new)))
+  enters_left left enters some = elim enters [
+    | inl e ↦ let both : false ≡ true = sym e.2 ∙ some in absurd (cc)
+    | inr e ↦
+        let d = domain_text row.domain in
+        let here = sym (paths_some d es old there) in
+        inr (
+          e.0,
+          subst (λ ps. IsFirst limit now n ps e.0) here e.1,
+          subst (λ ps. limit ≤ length (turns_of now ps)) here e.2,
+          ap (λ v. settled is_single_paths d (texts_of (set_value (at_text d) es v))) e.3
+              ∙ ap (settled is_single_paths d) (put_set (entered_paths (stays now e.0) row n) d es old there),
+        )
+  ]
+
+pub returns-in_err-left-in-Some-clause-err : goal.returns-in_err-left-in-Some-clause-err
+returns-in_err-left-in-Some-clause-err c =
+    either_way c.from_residual-in_err-left-in-Some.result
+    (ap texts_of (c.get_mut.follows.holds c.enter.new.self).0
+    ∙ same_set _ c.args.groups.now.entries c.enter.new.self (ap Some c.in_err-left-in-Some.ensures.err ∙ c.in-Some.ensures.value))
+
+pub returns-in-None-clause-entered : goal.returns-in-None-clause-entered
+returns-in-None-clause-entered c =
+    let row = c.args.cookie in
+    let q = c.as_str.ensures.value ∙ c.in_ok-domain.ensures.ok ∙ c.domain_text.ensures in
+    let none = subst (λ t. None ≡ lookup (at_text t) c.args.groups.now.entries) q c.in-None.ensures.value in
+    let room = subst (λ ps. length (turns_of (moment_of c.args.now) ps) < c.args.limit) (sym (paths_none (domain_text row.domain) c.args.groups.now.entries none)) c.requires.limit in
+    on_ok_map c.put_row.result
+    (λ put. inl (room, put ∙ ap (λ m. put_items row c.args.number (texts_of m.entries)) c.get_mut.follows.holds-at-none))
+    c.put_row.ensures.put
+
+pub returns-clause-entered : goal.returns-clause-entered
+returns-clause-entered c =
+    let row = c.args.cookie in
+    let now = moment_of c.args.now in
+    let es = c.args.groups.now.entries in
+    let q = c.as_str.ensures.value ∙ c.in_ok-domain.ensures.ok ∙ c.domain_text.ensures in
+    let there = subst (λ t. Some c.in-Some.group.now ≡ lookup (at_text t) es) q c.in-Some.ensures.value in
+    let set = (c.get_mut.follows.holds c.enter.new.self).0 ∙ ap (λ t. set_value (at_text t) es c.enter.new.self) q in
+    elim c.if-left.branch [
+      | then-left w ↦
+          subst (EntersItems c.args.limit now row c.args.number (texts_of es))
+          (sym (ap (λ m. texts_of m.entries) w.groups-is ∙ w.settle_group.ensures
+          ∙ ap (λ t. settled is_single_paths t (texts_of (c.get_mut.follows.lender c.enter.new.self).entries)) (w.as_str-then-left.ensures.value ∙ c.in_ok-domain.ensures.ok ∙ c.domain_text.ensures)
+          ∙ ap (λ hs. settled is_single_paths (domain_text row.domain) (texts_of hs)) set))
+          (enters_left c.args.limit now row c.args.number es c.in-Some.group.now c.enter.new.self there c.in_ok-left-in-Some.left c.in_ok-left-in-Some.ensures.entered w.if-left.true)
+      | else-left w ↦
+          subst (EntersItems c.args.limit now row c.args.number (texts_of es))
+          (sym (ap (λ m. texts_of m.entries) w.groups-is ∙ ap texts_of set))
+          (enters_room c.args.limit now row c.args.number es c.in-Some.group.now c.enter.new.self there c.in_ok-left-in-Some.left c.in_ok-left-in-Some.ensures.entered w.if-left.false)
+    ]
