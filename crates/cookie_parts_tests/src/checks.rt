@@ -4,7 +4,6 @@ use std::cmp::Ordering;
 use std::fmt::{Debug, Display};
 use std::hash::{DefaultHasher, Hash, Hasher};
 use std::process::Abort;
-use std::test::Fail;
 
 // The answer is the wanted one.
 pub(crate) fn is_equal<T: PartialEq + Debug + Drop>(
@@ -22,15 +21,9 @@ pub(crate) fn holds(rt: &impl Abort, is_so: bool, row: &impl Debug) {
 }
 
 // The value is written so.
-pub(crate) fn is_written(
-    rt: &impl Abort,
-    alloc: Global,
-    value: &impl Display,
-    wanted: &str,
-) -> Result<(), Fail> {
-    let text = value.to_string(alloc)?;
+pub(crate) fn is_written(rt: &impl Abort, alloc: Global, value: &impl Display, wanted: &str) {
+    let text = value.to_string(alloc).expect(rt, "memory");
     is_equal(rt, text.as_str(), wanted, &wanted);
-    Ok(())
 }
 
 // The same, also where a greater width and a side are asked for.
@@ -39,11 +32,10 @@ pub(crate) fn is_written_at_any_width(
     alloc: Global,
     value: &impl Display,
     wanted: &str,
-) -> Result<(), Fail> {
-    is_written(rt, alloc, value, wanted)?;
-    let text = format!(in alloc; "{value:>200}")?;
+) {
+    is_written(rt, alloc, value, wanted);
+    let text = format!(in alloc; "{value:>200}").expect(rt, "memory");
     is_equal(rt, text.as_str(), wanted, &wanted);
-    Ok(())
 }
 
 fn hash_of<T: Hash>(value: &T) -> u64 {

@@ -6,25 +6,27 @@ use cookie_device::{
 use cookie_fakes::Fake;
 use std::alloc::Global;
 use std::process::Abort;
-use std::test::Fail;
 
 // Takes the next line and a '|', or else reads once, and says whether there may be more. A read that failed is tried
 // again.
 fn take_or_read(
+    rt: &impl Abort,
     buffer: &mut LineBuffer,
     source: &mut Counted<Fake<&[u8]>>,
     lines: &mut Vec<u8>,
-) -> Result<bool, Fail> {
+) -> bool {
     if let Some(end) = buffer.line_end() {
-        lines.extend_from_slice(buffer.line(end))?;
-        lines.push(b'|')?;
+        lines
+            .extend_from_slice(buffer.line(end))
+            .expect(rt, "memory");
+        lines.push(b'|').expect(rt, "memory");
         buffer.pass(end + 1);
-        return Ok(true);
+        return true;
     }
     match fill(buffer, source) {
-        Some(Ok(came)) => Ok(came),
-        Some(Err(FillError::Read)) => Ok(true),
-        _ => Err(Fail::from("nothing is read")),
+        Some(Ok(came)) => came,
+        Some(Err(FillError::Read)) => true,
+        _ => panic!(rt; "nothing is read"),
     }
 }
 
@@ -41,27 +43,27 @@ pub(crate) fn fill(
 
 // Takes all lines, and then the last bytes.
 fn take_all(
+    rt: &impl Abort,
     buffer: &mut LineBuffer,
     source: &mut Counted<Fake<&[u8]>>,
     lines: &mut Vec<u8>,
-) -> Result<(), Fail> {
+) {
     for _ in 0..100_000 {
-        if !take_or_read(buffer, source, lines)? {
+        if !take_or_read(rt, buffer, source, lines) {
             break;
         }
     }
-    lines.extend_from_slice(buffer.rest())?;
-    Ok(())
+    lines.extend_from_slice(buffer.rest()).expect(rt, "memory");
 }
 
 // The lines that a line feed ends, each with '|' behind it, and the last bytes, as they come by reads of at most `most`
 // bytes.
-fn cut(alloc: Global, input: &[u8], most: usize, fails_at: usize) -> Result<Vec<u8>, Fail> {
+fn cut(rt: &impl Abort, alloc: Global, input: &[u8], most: usize, fails_at: usize) -> Vec<u8> {
     let mut lines = Vec::new(alloc);
     let mut buffer = LineBuffer::new(alloc);
     let mut source = Counted::new(Fake::new(input, most, fails_at));
-    take_all(&mut buffer, &mut source, &mut lines)?;
-    Ok(lines)
+    take_all(rt, &mut buffer, &mut source, &mut lines);
+    lines
 }
 
 // The input comes as these lines, by reads of each size.
@@ -72,12 +74,11 @@ fn comes_as(
     wanted: &[u8],
     sizes: &[usize],
     fails_at: usize,
-) -> Result<(), Fail> {
+) {
     for most in sizes {
-        let lines = cut(alloc, input, *most, fails_at)?;
+        let lines = cut(rt, alloc, input, *most, fails_at);
         is_equal(rt, lines.as_slice(), wanted, &(*most, fails_at));
     }
-    Ok(())
 }
 
 const LINES: &[(&[u8], &[u8])] = &[
@@ -90,20 +91,19 @@ const LINES: &[(&[u8], &[u8])] = &[
 ];
 
 #[test]
-fn lines_come_whole(rt: HostRuntime) -> Result<(), Fail> {
+fn lines_come_whole(rt: HostRuntime) {
     for fails_at in 0..20 {
         for (input, wanted) in LINES {
-            comes_as(&rt, rt.alloc(), input, wanted, &[1, 2, 3, 5_000], fails_at)?;
+            comes_as(&rt, rt.alloc(), input, wanted, &[1, 2, 3, 5_000], fails_at);
         }
     }
-    Ok(())
 }
 
 // A line of 20,000 bytes, and what stands behind it.
-fn long_line(alloc: Global, behind: &[u8]) -> Result<Vec<u8>, Fail> {
-    let mut text = vec![in alloc; b'x'; 20_000]?;
-    text.extend_from_slice(behind)?;
-    Ok(text)
+fn long_line(rt: &impl Abort, alloc: Global, behind: &[u8]) -> Vec<u8> {
+    let mut text = vec![in alloc; b'x'; 20_000].expect(rt, "memory");
+    text.extend_from_slice(behind).expect(rt, "memory");
+    text
 }
 
 // All bytes come by reads of at most `most` bytes, unless one fails.
@@ -122,15 +122,14 @@ fn all_come(rt: &impl Abort, alloc: Global, input: &[u8], most: usize, fails_at:
 }
 
 #[test]
-fn all_bytes_come(rt: HostRuntime) -> Result<(), Fail> {
-    let input = long_line(rt.alloc(), b"\nshort")?;
+fn all_bytes_come(rt: HostRuntime) {
+    let input = long_line(&rt, rt.alloc(), b"\nshort");
     for most in [1_000, 4_095, 5_000] {
         for fails_at in 0..5 {
             all_come(&rt, rt.alloc(), input.as_slice(), most, fails_at);
         }
     }
     all_come(&rt, rt.alloc(), b"", 1, 0);
-    Ok(())
 }
 
 // Reads to the end, unless too many reads have failed.
@@ -144,27 +143,26 @@ fn read_rest(alloc: Global, source: &mut Counted<Fake<&[u8]>>) -> Result<Vec<u8>
 // The read of "abc" that fails, one byte each, and what comes where it is read to the end once more.
 const RESTS: &[(usize, &[u8])] = &[(1, b"abc"), (2, b"bc"), (3, b"c"), (4, b"")];
 
-fn is_read_in_two(alloc: Global, row: &(usize, &[u8])) -> Result<bool, Fail> {
+fn is_read_in_two(rt: &impl Abort, alloc: Global, row: &(usize, &[u8])) -> bool {
     let (fails_at, rest) = *row;
     let mut source = Counted::new(Fake::new(b"abc".as_slice(), 1, fails_at));
     let fault = read_rest(alloc, &mut source).err();
-    let came = read_rest(alloc, &mut source)?;
+    let came = read_rest(alloc, &mut source).expect(rt, "memory");
     let is_counted = source.failures() == 1 && source.into_inner().calls == 5;
-    Ok(is_counted && fault == Some(FillError::Read) && came.as_slice() == rest)
+    is_counted && fault == Some(FillError::Read) && came.as_slice() == rest
 }
 
 #[test]
-fn all_that_is_left_comes_after_a_failed_read(rt: HostRuntime) -> Result<(), Fail> {
+fn all_that_is_left_comes_after_a_failed_read(rt: HostRuntime) {
     for row in RESTS {
-        holds(&rt, is_read_in_two(rt.alloc(), row)?, row);
+        holds(&rt, is_read_in_two(&rt, rt.alloc(), row), row);
     }
-    Ok(())
 }
 
 #[test]
-fn a_long_line_comes_whole(rt: HostRuntime) -> Result<(), Fail> {
-    let input = long_line(rt.alloc(), b"\nshort\n")?;
-    let wanted = long_line(rt.alloc(), b"|short|")?;
+fn a_long_line_comes_whole(rt: HostRuntime) {
+    let input = long_line(&rt, rt.alloc(), b"\nshort\n");
+    let wanted = long_line(&rt, rt.alloc(), b"|short|");
     comes_as(
         &rt,
         rt.alloc(),
@@ -260,19 +258,18 @@ const WRITES: &[(usize, usize, &[u8])] = &[
     (3, 4, b"Set-Cooki"),
 ];
 
-fn is_written(alloc: Global, row: &(usize, usize, &[u8])) -> Result<bool, Fail> {
+fn is_written(rt: &impl Abort, alloc: Global, row: &(usize, usize, &[u8])) -> bool {
     let (most, fails_at, out) = *row;
     let mut sink = Counted::new(Fake::new(Vec::new(alloc), most, fails_at));
     let outcome = write_all(&mut sink, b"Set-Cookie");
-    Ok(outcome.is_ok() == (fails_at == 0) && has(sink, u64::from(fails_at != 0), out))
+    outcome.is_ok() == (fails_at == 0) && has(sink, u64::from(fails_at != 0), out)
 }
 
 #[test]
-fn a_write_goes_on_until_all_is_out(rt: HostRuntime) -> Result<(), Fail> {
+fn a_write_goes_on_until_all_is_out(rt: HostRuntime) {
     for row in WRITES {
-        holds(&rt, is_written(rt.alloc(), row)?, row);
+        holds(&rt, is_written(&rt, rt.alloc(), row), row);
     }
-    Ok(())
 }
 
 // How many bytes of a text a call takes, the call that fails, the calls that a whole text and then another come to, and what
@@ -286,14 +283,14 @@ const SECOND_WRITES: &[(usize, usize, usize, &[u8])] = &[
 ];
 
 // The second text is written whatever came of the first.
-fn is_served(alloc: Global, row: &(usize, usize, usize, &[u8])) -> Result<bool, Fail> {
+fn is_served(rt: &impl Abort, alloc: Global, row: &(usize, usize, usize, &[u8])) -> bool {
     let (most, fails_at, calls, out) = *row;
     let mut sink = Counted::new(Fake::new(Vec::new(alloc), most, fails_at));
     let outcomes = write_both(&mut sink, b"Set-Cookie", b": a=1");
     let failures = u64::from(outcomes.0.is_err()) + u64::from(outcomes.1.is_err());
     let is_counted = sink.failures() == failures && failures == u64::from(fails_at != 0);
     let fake = sink.into_inner();
-    Ok(is_counted && fake.calls == calls && fake.inner.as_slice() == out)
+    is_counted && fake.calls == calls && fake.inner.as_slice() == out
 }
 
 // Writes one text, and then another unless too many writes have failed.
@@ -314,27 +311,25 @@ fn write(sink: &mut Counted<Fake<Vec<u8>>>, text: &[u8]) -> Result<(), DeviceFai
 }
 
 #[test]
-fn a_failed_write_is_not_tried_again(rt: HostRuntime) -> Result<(), Fail> {
+fn a_failed_write_is_not_tried_again(rt: HostRuntime) {
     for row in SECOND_WRITES {
-        holds(&rt, is_served(rt.alloc(), row)?, row);
+        holds(&rt, is_served(&rt, rt.alloc(), row), row);
     }
-    Ok(())
 }
 
 // By calls that take at most so many bytes.
-fn lines_are_written(alloc: Global, most: &usize) -> Result<bool, Fail> {
+fn lines_are_written(rt: &impl Abort, alloc: Global, most: &usize) -> bool {
     let mut sink = Counted::new(Fake::new(Vec::new(alloc), *most, 0));
-    write_line(&mut sink, b"abc")?;
-    write_line(&mut sink, b"")?;
-    Ok(has(sink, 0, b"abc\n\n"))
+    write_line(&mut sink, b"abc").expect(rt, "memory");
+    write_line(&mut sink, b"").expect(rt, "memory");
+    has(sink, 0, b"abc\n\n")
 }
 
 #[test]
-fn a_line_goes_out_with_its_line_feed(rt: HostRuntime) -> Result<(), Fail> {
+fn a_line_goes_out_with_its_line_feed(rt: HostRuntime) {
     for row in &[1, 2, 100] {
-        holds(&rt, lines_are_written(rt.alloc(), row)?, row);
+        holds(&rt, lines_are_written(&rt, rt.alloc(), row), row);
     }
-    Ok(())
 }
 
 // Writes a line, unless too many writes have failed.
@@ -426,16 +421,17 @@ fn put_each(
 }
 
 // What short texts and long ones come to.
-fn gathered(alloc: Global) -> Result<Fake<Vec<u8>>, Fail> {
-    let long = vec![in alloc; b'x'; Output::LIMIT + 1]?;
-    let mut output = Output::new(alloc)?;
+fn gathered(rt: &impl Abort, alloc: Global) -> Fake<Vec<u8>> {
+    let long = vec![in alloc; b'x'; Output::LIMIT + 1].expect(rt, "memory");
+    let mut output = Output::new(alloc).expect(rt, "memory");
     let mut sink = Counted::new(Fake::new(Vec::new(alloc), usize::MAX, 0));
     put_each(
         &mut output,
         &mut sink,
         &[b"a", &long[2..], b"b", b"b", &long, b"c"],
-    )?;
-    Ok(sink.into_inner())
+    )
+    .expect(rt, "memory");
+    sink.into_inner()
 }
 
 // Places, and the bytes that stand there.
@@ -459,30 +455,28 @@ fn is_gathered(rt: &impl Abort, fake: &Fake<Vec<u8>>) {
 }
 
 #[test]
-fn output_gathers_up_to_its_limit(rt: HostRuntime) -> Result<(), Fail> {
-    is_gathered(&rt, &gathered(rt.alloc())?);
-    Ok(())
+fn output_gathers_up_to_its_limit(rt: HostRuntime) {
+    is_gathered(&rt, &gathered(&rt, rt.alloc()));
 }
 
 // Whether nothing is left of a short text and a long one where a write failed for the second.
-fn is_dropped(alloc: Global) -> Result<bool, Fail> {
-    let long = vec![in alloc; b'x'; Output::LIMIT]?;
-    let mut output = Output::new(alloc)?;
+fn is_dropped(rt: &impl Abort, alloc: Global) -> bool {
+    let long = vec![in alloc; b'x'; Output::LIMIT].expect(rt, "memory");
+    let mut output = Output::new(alloc).expect(rt, "memory");
     let mut sink = Counted::new(Fake::new(Vec::new(alloc), 2, 2));
     let short_is_put = put(&mut output, &mut sink, b"abc").is_ok();
     let long_is_put = put(&mut output, &mut sink, &long).is_ok();
     let is_flushed = flush(&mut output, &mut sink).is_ok();
-    Ok(short_is_put && !long_is_put && is_flushed && has(sink, 1, b"ab"))
+    short_is_put && !long_is_put && is_flushed && has(sink, 1, b"ab")
 }
 
 #[test]
-fn output_is_dropped_where_a_write_fails(rt: HostRuntime) -> Result<(), Fail> {
+fn output_is_dropped_where_a_write_fails(rt: HostRuntime) {
     holds(
         &rt,
-        is_dropped(rt.alloc())?,
+        is_dropped(&rt, rt.alloc()),
         &"a long text behind a short one",
     );
-    Ok(())
 }
 
 // How many bytes a call takes of the texts that are put, the call that fails, all calls where "de" is put and flushed then, and how
@@ -506,28 +500,29 @@ const LONG_CUTS: &[Cut] = &[
 ];
 
 // What was put before the write that failed is dropped, and nothing is written twice.
-fn is_output_cut(alloc: Global, texts: &[&[u8]], row: &Cut) -> Result<bool, Fail> {
+fn is_output_cut(rt: &impl Abort, alloc: Global, texts: &[&[u8]], row: &Cut) -> bool {
     let (most, fails_at, calls, out) = *row;
-    let mut output = Output::new(alloc)?;
+    let mut output = Output::new(alloc).expect(rt, "memory");
     let mut sink = Counted::new(Fake::new(Vec::new(alloc), most, fails_at));
     let first = put_each(&mut output, &mut sink, texts);
     let outcomes = (first, put_each(&mut output, &mut sink, &[b"de"]));
     let is_counted = outcomes == SECOND && sink.failures() == 1;
     let fake = sink.into_inner();
-    Ok(is_counted && fake.calls == calls && fake.inner.len() == out)
+    is_counted && fake.calls == calls && fake.inner.len() == out
+}
+
+fn are_output_cuts(rt: &impl Abort, alloc: Global, texts: &[&[u8]], cuts: &[Cut]) {
+    for row in cuts {
+        holds(rt, is_output_cut(rt, alloc, texts, row), row);
+    }
 }
 
 #[test]
-fn output_is_cut_at_each_write(rt: HostRuntime) -> Result<(), Fail> {
-    for row in SHORT_CUTS {
-        holds(&rt, is_output_cut(rt.alloc(), &[b"ab", b"cd"], row)?, row);
-    }
-    let long = vec![in rt.alloc(); b'x'; Output::LIMIT + 1]?;
-    let texts: &[&[u8]] = &[b"a", &long[2..], b"b", b"b", &long, b"c"];
-    for row in LONG_CUTS {
-        holds(&rt, is_output_cut(rt.alloc(), texts, row)?, row);
-    }
-    Ok(())
+fn output_is_cut_at_each_write(rt: HostRuntime) {
+    are_output_cuts(&rt, rt.alloc(), &[b"ab", b"cd"], SHORT_CUTS);
+    let long = vec![in rt.alloc(); b'x'; Output::LIMIT + 1].expect(&rt, "memory");
+    let texts: [&[u8]; 6] = [b"a", &long[2..], b"b", b"b", &long, b"c"];
+    are_output_cuts(&rt, rt.alloc(), &texts, LONG_CUTS);
 }
 
 // Puts two texts at once, unless too many writes have failed.
@@ -554,9 +549,9 @@ const BOTH_CUTS: &[(usize, usize, usize, &[u8])] = &[
 ];
 
 // Both texts are gathered, and what was not out at the write that failed is dropped.
-fn is_both_cut(alloc: Global, row: &(usize, usize, usize, &[u8])) -> Result<bool, Fail> {
+fn is_both_cut(rt: &impl Abort, alloc: Global, row: &(usize, usize, usize, &[u8])) -> bool {
     let (most, fails_at, calls, out) = *row;
-    let mut output = Output::new(alloc)?;
+    let mut output = Output::new(alloc).expect(rt, "memory");
     let mut sink = Counted::new(Fake::new(Vec::new(alloc), most, fails_at));
     let both = put_both(&mut output, &mut sink);
     let first = flush(&mut output, &mut sink);
@@ -564,32 +559,30 @@ fn is_both_cut(alloc: Global, row: &(usize, usize, usize, &[u8])) -> Result<bool
     let failures = u64::from(first.is_err()) + u64::from(second.is_err());
     let is_counted = sink.failures() == failures && failures == u64::from(fails_at != 0);
     let fake = sink.into_inner();
-    Ok(both.is_ok() && is_counted && fake.calls == calls && fake.inner.as_slice() == out)
+    both.is_ok() && is_counted && fake.calls == calls && fake.inner.as_slice() == out
 }
 
 #[test]
-fn texts_that_are_put_at_once_are_cut_at_each_write(rt: HostRuntime) -> Result<(), Fail> {
+fn texts_that_are_put_at_once_are_cut_at_each_write(rt: HostRuntime) {
     for row in BOTH_CUTS {
-        holds(&rt, is_both_cut(rt.alloc(), row)?, row);
+        holds(&rt, is_both_cut(&rt, rt.alloc(), row), row);
     }
-    Ok(())
 }
 
 // Whether a line feed and an output fail once each where no byte is taken.
-fn is_stuck(alloc: Global) -> Result<bool, Fail> {
-    let mut output = Output::new(alloc)?;
+fn is_stuck(rt: &impl Abort, alloc: Global) -> bool {
+    let mut output = Output::new(alloc).expect(rt, "memory");
     let mut sink = Counted::new(Fake::new(Vec::new(alloc), 0, 0));
     let first = line(&mut sink, b"");
     let both = put_both(&mut output, &mut sink);
     let outcomes = (flush(&mut output, &mut sink), flush(&mut output, &mut sink));
     let is_so = first == Err(DeviceFailed) && both == Ok(()) && outcomes == SECOND;
-    Ok(is_so && sink.failures() == 2 && sink.into_inner().calls == 2)
+    is_so && sink.failures() == 2 && sink.into_inner().calls == 2
 }
 
 #[test]
-fn nothing_goes_on_where_no_byte_is_taken(rt: HostRuntime) -> Result<(), Fail> {
-    holds(&rt, is_stuck(rt.alloc())?, &"a line and an output");
-    Ok(())
+fn nothing_goes_on_where_no_byte_is_taken(rt: HostRuntime) {
+    holds(&rt, is_stuck(&rt, rt.alloc()), &"a line and an output");
 }
 
 // So many bytes are put, or else the output is flushed, and whether that is done.
@@ -632,47 +625,52 @@ const TURNS: &[(&[Turn], usize, usize)] = &[
 
 // The turn ends as the row says.
 fn turns_so(
+    rt: &impl Abort,
     alloc: Global,
     output: &mut Output,
     sink: &mut Counted<Fake<Vec<u8>>>,
     turn: &Turn,
-) -> Result<bool, Fail> {
+) -> bool {
     let (size, is_done) = *turn;
     let outcome = match size {
-        Some(size) => put(output, sink, &vec![in alloc; b'x'; size]?),
+        Some(size) => put(
+            output,
+            sink,
+            &vec![in alloc; b'x'; size].expect(rt, "memory"),
+        ),
         None => flush(output, sink),
     };
-    Ok(outcome.is_ok() == is_done)
+    outcome.is_ok() == is_done
 }
 
 // All turns end as the rows say.
 fn all_turn_so(
+    rt: &impl Abort,
     alloc: Global,
     sink: &mut Counted<Fake<Vec<u8>>>,
     turns: &[Turn],
-) -> Result<bool, Fail> {
-    let mut output = Output::new(alloc)?;
+) -> bool {
+    let mut output = Output::new(alloc).expect(rt, "memory");
     for turn in turns {
-        if !turns_so(alloc, &mut output, sink, turn)? {
-            return Ok(false);
+        if !turns_so(rt, alloc, &mut output, sink, turn) {
+            return false;
         }
     }
-    Ok(true)
+    true
 }
 
-fn goes_on(alloc: Global, row: &(&[Turn], usize, usize)) -> Result<bool, Fail> {
+fn goes_on(rt: &impl Abort, alloc: Global, row: &(&[Turn], usize, usize)) -> bool {
     let (turns, out, writes) = *row;
     let mut sink = Counted::new(Fake::new(Vec::new(alloc), usize::MAX, 1));
-    let is_so = all_turn_so(alloc, &mut sink, turns)?;
+    let is_so = all_turn_so(rt, alloc, &mut sink, turns);
     let is_counted = sink.failures() == 1;
     let fake = sink.into_inner();
-    Ok(is_so && is_counted && fake.calls == writes && fake.inner.len() == out)
+    is_so && is_counted && fake.calls == writes && fake.inner.len() == out
 }
 
 #[test]
-fn output_goes_on_after_a_failed_write(rt: HostRuntime) -> Result<(), Fail> {
+fn output_goes_on_after_a_failed_write(rt: HostRuntime) {
     for row in TURNS {
-        holds(&rt, goes_on(rt.alloc(), row)?, row);
+        holds(&rt, goes_on(&rt, rt.alloc(), row), row);
     }
-    Ok(())
 }

@@ -8,10 +8,9 @@ use cookie_raw::RawCookie;
 use std::alloc::Global;
 use std::cmp::Ordering;
 use std::process::Abort;
-use std::test::Fail;
 use url::Url;
 
-pub(crate) const DOMAINS: &[(&str, Hosts)] = &[
+const DOMAINS: &[(&str, Hosts)] = &[
     ("", Hosts::Empty),
     (".", Hosts::Empty),
     ("..", Hosts::Suffix(".")),
@@ -21,17 +20,17 @@ pub(crate) const DOMAINS: &[(&str, Hosts)] = &[
     ("bücher.example", Hosts::Suffix("xn--bcher-kva.example")),
 ];
 
-fn names(alloc: Global, row: &(&str, Hosts)) -> Result<bool, Fail> {
+fn names(rt: &impl Abort, alloc: Global, row: &(&str, Hosts)) -> bool {
     let (text, wanted) = row;
-    Ok(is_for(&CookieDomain::try_from_str(alloc, text)?, wanted))
+    let domain = CookieDomain::try_from_str(alloc, text).expect(rt, "memory");
+    is_for(&domain.clone().expect(rt, "memory"), wanted) && is_for(&domain, wanted)
 }
 
 #[test]
-fn a_text_names_a_domain(rt: HostRuntime) -> Result<(), Fail> {
+fn a_text_names_a_domain(rt: HostRuntime) {
     for row in DOMAINS {
-        holds(&rt, names(rt.alloc(), row)?, row);
+        holds(&rt, names(&rt, rt.alloc(), row), row);
     }
-    Ok(())
 }
 
 const ATTRIBUTES: &[(&str, Hosts)] = &[
@@ -44,22 +43,46 @@ const ATTRIBUTES: &[(&str, Hosts)] = &[
     ),
 ];
 
-fn attribute_names(alloc: Global, row: &(&str, Hosts)) -> Result<bool, Fail> {
+fn attribute_names(rt: &impl Abort, alloc: Global, row: &(&str, Hosts)) -> bool {
     let (text, wanted) = row;
-    let raw = RawCookie::parse(text)?;
-    Ok(is_for(&CookieDomain::try_from_raw(alloc, &raw)?, wanted))
+    let raw = RawCookie::parse(text).expect(rt, "a cookie");
+    is_for(
+        &CookieDomain::try_from_raw(alloc, &raw).expect(rt, "memory"),
+        wanted,
+    )
 }
 
 #[test]
-fn an_attribute_names_a_domain(rt: HostRuntime) -> Result<(), Fail> {
+fn an_attribute_names_a_domain(rt: HostRuntime) {
     for row in ATTRIBUTES {
-        holds(&rt, attribute_names(rt.alloc(), row)?, row);
+        holds(&rt, attribute_names(&rt, rt.alloc(), row), row);
     }
-    Ok(())
+}
+
+// A domain made by hand, and its text.
+const WRITTEN: &[(Hosts, &str)] = &[
+    (Hosts::HostOnly("a.example"), "a.example"),
+    (Hosts::Suffix("example"), "example"),
+    (Hosts::NotPresent, ""),
+    (Hosts::Empty, ""),
+];
+
+fn is_written(rt: &impl Abort, alloc: Global, row: &(Hosts, &str)) -> bool {
+    let text = domain_of(rt, alloc, &row.0)
+        .to_string_in(alloc)
+        .expect(rt, "memory");
+    text.as_str() == row.1
+}
+
+#[test]
+fn a_domain_has_a_text(rt: HostRuntime) {
+    for row in WRITTEN {
+        holds(&rt, is_written(&rt, rt.alloc(), row), row);
+    }
 }
 
 // Texts that `idna` refuses.
-pub(crate) const NO_DOMAINS: &[&str] = &["xn--a", "xn--a.example"];
+const NO_DOMAINS: &[&str] = &["xn--a", "xn--a.example"];
 
 #[test]
 fn idna_refuses_a_text_that_is_no_domain_name(rt: HostRuntime) {
@@ -69,25 +92,29 @@ fn idna_refuses_a_text_that_is_no_domain_name(rt: HostRuntime) {
     }
 }
 
-fn is_refused(domain: Result<CookieDomain, Error>) -> bool {
-    matches!(&domain, Err(Error::Idna(_)))
+fn is_refused(rt: &impl Abort, fault: Option<Error>, text: &str) {
+    is_equal(rt, fault, Some(Error::from(idna::Errors::Invalid)), &text);
+}
+
+// Why the attribute of a text names no domain, if it names none.
+fn fault_of_attribute(rt: &impl Abort, alloc: Global, text: &str) -> Option<Error> {
+    let raw = RawCookie::parse(text).expect(rt, "a cookie");
+    CookieDomain::try_from_raw(alloc, &raw).err()
 }
 
 #[test]
-fn a_text_that_is_no_domain_name_is_refused(rt: HostRuntime) -> Result<(), Fail> {
+fn a_text_that_is_no_domain_name_is_refused(rt: HostRuntime) {
     for text in NO_DOMAINS {
-        let named = CookieDomain::try_from_str(rt.alloc(), text);
-        holds(&rt, is_refused(named), text);
+        let fault = CookieDomain::try_from_str(rt.alloc(), text).err();
+        is_refused(&rt, fault, text);
     }
-    let raw = RawCookie::parse("a=1; Domain=xn--a.example")?;
-    let named = CookieDomain::try_from_raw(rt.alloc(), &raw);
-    holds(&rt, is_refused(named), &"an attribute");
-    Ok(())
+    let text = "a=1; Domain=xn--a.example";
+    is_refused(&rt, fault_of_attribute(&rt, rt.alloc(), text), text);
 }
 
 // Whether the domain is for the host of the URL.
-fn is_for_host(alloc: Global, domain: &CookieDomain, at: &str) -> Result<bool, Fail> {
-    Ok(domain.matches(&Url::parse(alloc, at)?))
+fn is_for_host(rt: &impl Abort, alloc: Global, domain: &CookieDomain, at: &str) -> bool {
+    domain.matches(&Url::parse(alloc, at).expect(rt, "a URL"))
 }
 
 // The text of a domain, a URL, and whether the domain is for its host.
@@ -102,18 +129,17 @@ const MATCHES: &[(&str, &str, bool)] = &[
     ("..example.com", "http://foo.example.com", false),
 ];
 
-fn text_covers(alloc: Global, row: &(&str, &str, bool)) -> Result<bool, Fail> {
+fn text_covers(rt: &impl Abort, alloc: Global, row: &(&str, &str, bool)) -> bool {
     let (text, at, wanted) = *row;
-    let domain = CookieDomain::try_from_str(alloc, text)?;
-    Ok(is_for_host(alloc, &domain, at)? == wanted)
+    let domain = CookieDomain::try_from_str(alloc, text).expect(rt, "memory");
+    is_for_host(rt, alloc, &domain, at) == wanted
 }
 
 #[test]
-fn a_domain_covers_hosts(rt: HostRuntime) -> Result<(), Fail> {
+fn a_domain_covers_hosts(rt: HostRuntime) {
     for row in MATCHES {
-        holds(&rt, text_covers(rt.alloc(), row)?, row);
+        holds(&rt, text_covers(&rt, rt.alloc(), row), row);
     }
-    Ok(())
 }
 
 // A text, a URL, and whether a cookie for the domain that the text names is for its host.
@@ -131,17 +157,16 @@ const NAMED: &[(&str, &str, bool)] = &[
     ("example.com", "data:x", false),
 ];
 
-fn is_matched(alloc: Global, row: &(&str, &str, bool)) -> Result<bool, Fail> {
+fn is_matched(rt: &impl Abort, alloc: Global, row: &(&str, &str, bool)) -> bool {
     let (text, at, wanted) = *row;
-    Ok(is_match(alloc, text, &Url::parse(alloc, at)?)? == wanted)
+    is_match(alloc, text, &Url::parse(alloc, at).expect(rt, "a URL")).expect(rt, "memory") == wanted
 }
 
 #[test]
-fn a_text_is_for_hosts(rt: HostRuntime) -> Result<(), Fail> {
+fn a_text_is_for_hosts(rt: HostRuntime) {
     for row in NAMED {
-        holds(&rt, is_matched(rt.alloc(), row)?, row);
+        holds(&rt, is_matched(&rt, rt.alloc(), row), row);
     }
-    Ok(())
 }
 
 // A domain made by hand, a URL, and whether the domain is for its host.
@@ -154,18 +179,17 @@ const SUFFIXES: &[(&str, &str, bool)] = &[
     ("", "http://a.com/", false),
 ];
 
-fn suffix_covers(alloc: Global, row: &(&'static str, &str, bool)) -> Result<bool, Fail> {
+fn suffix_covers(rt: &impl Abort, alloc: Global, row: &(&'static str, &str, bool)) -> bool {
     let (text, at, wanted) = *row;
-    let domain = domain_of(alloc, &Hosts::Suffix(text))?;
-    Ok(is_for_host(alloc, &domain, at)? == wanted)
+    let domain = domain_of(rt, alloc, &Hosts::Suffix(text));
+    is_for_host(rt, alloc, &domain, at) == wanted
 }
 
 #[test]
-fn a_suffix_covers_hosts(rt: HostRuntime) -> Result<(), Fail> {
+fn a_suffix_covers_hosts(rt: HostRuntime) {
     for row in SUFFIXES {
-        holds(&rt, suffix_covers(rt.alloc(), row)?, row);
+        holds(&rt, suffix_covers(&rt, rt.alloc(), row), row);
     }
-    Ok(())
 }
 
 const HOSTS: &[&str] = &["http://example.com", "http://127.0.0.1", "http://[::1]"];
@@ -183,32 +207,34 @@ const VISITS: &[(&str, Option<usize>)] = &[
 ];
 
 // Whether the cookies of the host's URL alone are for the other URL.
-fn host_covers(alloc: Global, host: &str, at: &str) -> Result<bool, Fail> {
-    let domain = CookieDomain::host_only(alloc, &Url::parse(alloc, host)?)?;
-    is_for_host(alloc, &domain, at)
+fn host_covers(rt: &impl Abort, alloc: Global, host: &str, at: &str) -> bool {
+    let domain = CookieDomain::host_only(
+        alloc,
+        &Url::parse(alloc, host).expect(rt, "a URL"),
+    ).expect(rt, "memory");
+    is_for_host(rt, alloc, &domain, at)
 }
 
-fn is_visited(alloc: Global, row: &(&str, Option<usize>)) -> Result<bool, Fail> {
+fn is_visited(rt: &impl Abort, alloc: Global, row: &(&str, Option<usize>)) -> bool {
     let (at, wanted) = *row;
     for (place, host) in HOSTS.iter().enumerate() {
-        if host_covers(alloc, host, at)? != (wanted == Some(place)) {
-            return Ok(false);
+        if host_covers(rt, alloc, host, at) != (wanted == Some(place)) {
+            return false;
         }
     }
-    Ok(true)
+    true
 }
 
 #[test]
-fn a_host_is_for_itself(rt: HostRuntime) -> Result<(), Fail> {
+fn a_host_is_for_itself(rt: HostRuntime) {
     for row in VISITS {
-        holds(&rt, is_visited(rt.alloc(), row)?, row);
+        holds(&rt, is_visited(&rt, rt.alloc(), row), row);
     }
-    Ok(())
 }
 
 #[test]
-fn a_url_without_a_host_is_refused(rt: HostRuntime) -> Result<(), Fail> {
-    let url = Url::parse(rt.alloc(), "data:x")?;
+fn a_url_without_a_host_is_refused(rt: HostRuntime) {
+    let url = Url::parse(rt.alloc(), "data:x").expect(&rt, "a URL");
     let refusal = CookieDomain::host_only(rt.alloc(), &url).err();
     is_equal(
         &rt,
@@ -216,7 +242,6 @@ fn a_url_without_a_host_is_refused(rt: HostRuntime) -> Result<(), Fail> {
         Some(CookieError::NonRelativeScheme),
         &"data:x",
     );
-    Ok(())
 }
 
 // Two domains, and how the first stands to the second.
@@ -239,20 +264,18 @@ const ORDERS: &[(Hosts, Hosts, Ordering)] = &[
     (Hosts::Empty, Hosts::Empty, Ordering::Equal),
 ];
 
-fn stand_so(rt: &impl Abort, alloc: Global, row: &(Hosts, Hosts, Ordering)) -> Result<(), Fail> {
+fn stand_so(rt: &impl Abort, alloc: Global, row: &(Hosts, Hosts, Ordering)) {
     let (first, second, wanted) = row;
-    let first = domain_of(alloc, first)?;
-    let second = domain_of(alloc, second)?;
+    let first = domain_of(rt, alloc, first);
+    let second = domain_of(rt, alloc, second);
     are_ordered(rt, &first, &second, *wanted);
-    Ok(())
 }
 
 #[test]
-fn domains_are_in_order(rt: HostRuntime) -> Result<(), Fail> {
+fn domains_are_in_order(rt: HostRuntime) {
     for row in ORDERS {
-        stand_so(&rt, rt.alloc(), row)?;
+        stand_so(&rt, rt.alloc(), row);
     }
-    Ok(())
 }
 
 const LIST: &str = "com\n*.ck\n!www.ck\n*.www.ck\n";
@@ -279,18 +302,17 @@ const PUBLIC_SUFFIXES: &[(Hosts, bool)] = &[
     (Hosts::Empty, false),
 ];
 
-fn is_public(alloc: Global, row: &(Hosts, bool)) -> Result<bool, Fail> {
+fn is_public(rt: &impl Abort, alloc: Global, row: &(Hosts, bool)) -> bool {
     let (hosts, wanted) = row;
-    let list = List::from_text(alloc, LIST)?;
-    Ok(domain_of(alloc, hosts)?.is_public_suffix(&list) == *wanted)
+    let list = List::from_text(alloc, LIST).expect(rt, "a list");
+    domain_of(rt, alloc, hosts).is_public_suffix(&list) == *wanted
 }
 
 #[test]
-fn a_listed_domain_is_a_public_suffix(rt: HostRuntime) -> Result<(), Fail> {
+fn a_listed_domain_is_a_public_suffix(rt: HostRuntime) {
     for row in PUBLIC_SUFFIXES {
-        holds(&rt, is_public(rt.alloc(), row)?, row);
+        holds(&rt, is_public(&rt, rt.alloc(), row), row);
     }
-    Ok(())
 }
 
 // A host, and whether it is a name.

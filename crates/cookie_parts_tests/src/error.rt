@@ -39,34 +39,33 @@ const REFUSALS: &[(CookieError, &str)] = &[
 ];
 
 #[test]
-fn a_refusal_says_why(rt: HostRuntime) -> Result<(), Fail> {
+fn a_refusal_says_why(rt: HostRuntime) {
     for (refusal, wanted) in REFUSALS {
         is_equal(&rt, refusal.text(), *wanted, refusal);
-        is_written_at_any_width(&rt, rt.alloc(), refusal, wanted)?;
+        is_written_at_any_width(&rt, rt.alloc(), refusal, wanted);
     }
-    Ok(())
 }
 
-fn is_told(rt: &impl Abort, alloc: Global, fault: Error, wanted: &str) -> Result<(), Fail> {
+fn is_told(rt: &impl Abort, alloc: Global, fault: Error, wanted: &str) {
     is_written_at_any_width(rt, alloc, &fault, wanted)
 }
 
 #[test]
-fn each_fault_says_what_it_is(rt: HostRuntime) -> Result<(), Fail> {
+fn each_fault_says_what_it_is(rt: HostRuntime) {
     let mismatch = Error::Cookie(CookieError::DomainMismatch);
     let refusal = "request-uri does not domain-match the cookie";
-    is_told(&rt, rt.alloc(), mismatch, refusal)?;
-    is_told(&rt, rt.alloc(), Error::Io, "a read or a write failed")?;
-    let other = Error::Other(String::from_str(rt.alloc(), "no such row")?);
-    is_told(&rt, rt.alloc(), other, "no such row")?;
-    is_told(&rt, rt.alloc(), Error::Memory, "out of memory")?;
-    is_told(&rt, rt.alloc(), Error::NotUtf8, "a text is not UTF-8")?;
+    is_told(&rt, rt.alloc(), mismatch, refusal);
+    is_told(&rt, rt.alloc(), Error::Io, "a read or a write failed");
+    let other = Error::Other(String::from_str(rt.alloc(), "no such row").expect(&rt, "memory"));
+    is_told(&rt, rt.alloc(), other, "no such row");
+    is_told(&rt, rt.alloc(), Error::Memory, "out of memory");
+    is_told(&rt, rt.alloc(), Error::NotUtf8, "a text is not UTF-8");
     let invalid = Error::Idna(IdnaErrors::from(idna::Errors::Invalid));
     is_told(&rt, rt.alloc(), invalid, "invalid domain name")
 }
 
 #[test]
-fn a_fault_of_a_domain_says_what_it_is(rt: HostRuntime) -> Result<(), Fail> {
+fn a_fault_of_a_domain_says_what_it_is(rt: HostRuntime) {
     let fault = IdnaErrors::from(idna::Errors::Invalid);
     is_written_at_any_width(&rt, rt.alloc(), &fault, "invalid domain name")
 }
@@ -118,12 +117,11 @@ fn fault_of_saved(fault: &SavedError) -> Error {
 }
 
 #[test]
-fn a_fault_of_a_saved_form_is_a_fault(rt: HostRuntime) -> Result<(), Fail> {
+fn a_fault_of_a_saved_form_is_a_fault(rt: HostRuntime) {
     for (fault, wanted) in SAVED {
         is_equal(&rt, Error::from(*fault), fault_of_saved(fault), fault);
-        is_told(&rt, rt.alloc(), Error::from(*fault), wanted)?;
+        is_told(&rt, rt.alloc(), Error::from(*fault), wanted);
     }
-    Ok(())
 }
 
 #[test]
@@ -133,13 +131,13 @@ fn a_refused_growth_is_want_of_memory(rt: HostRuntime) {
     is_equal(&rt, kept, Error::Memory, &"a value without room");
 }
 
-fn other(alloc: Global, text: &str) -> Result<Error, Fail> {
-    Ok(Error::Other(String::from_str(alloc, text)?))
+fn other(rt: &impl Abort, alloc: Global, text: &str) -> Error {
+    Error::Other(String::from_str(alloc, text).expect(rt, "memory"))
 }
 
-fn are_equal(alloc: Global, texts: &(&str, &str)) -> Result<bool, Fail> {
+fn are_equal(rt: &impl Abort, alloc: Global, texts: &(&str, &str)) -> bool {
     let (first, second) = *texts;
-    Ok(other(alloc, first)? == other(alloc, second)?)
+    other(rt, alloc, first) == other(rt, alloc, second)
 }
 
 // What a caller's own function says, twice, and whether both are equal.
@@ -151,11 +149,10 @@ const OTHERS: &[((&str, &str), bool)] = &[
 ];
 
 #[test]
-fn equal_faults_say_the_same(rt: HostRuntime) -> Result<(), Fail> {
+fn equal_faults_say_the_same(rt: HostRuntime) {
     for (texts, wanted) in OTHERS {
-        is_equal(&rt, are_equal(rt.alloc(), texts)?, *wanted, texts);
+        is_equal(&rt, are_equal(&rt, rt.alloc(), texts), *wanted, texts);
     }
-    Ok(())
 }
 
 // Whether it is of a kind by itself.
@@ -164,7 +161,7 @@ fn is_alone(fault: &Error, others: &[Error]) -> bool {
 }
 
 #[test]
-fn faults_of_two_kinds_differ(rt: HostRuntime) -> Result<(), Fail> {
+fn faults_of_two_kinds_differ(rt: HostRuntime) {
     let memory = Error::Cookie(CookieError::Memory);
     let expired = Error::Cookie(CookieError::Expired);
     let invalid = Error::from(idna::Errors::Invalid);
@@ -173,10 +170,9 @@ fn faults_of_two_kinds_differ(rt: HostRuntime) -> Result<(), Fail> {
     holds(&rt, is_alone(&Error::Memory, &others), &"want of memory");
     let parse = Error::Cookie(CookieError::Parse);
     holds(&rt, is_alone(&parse, &others), &"another refusal");
-    let text = other(rt.alloc(), "out of memory")?;
+    let text = other(&rt, rt.alloc(), "out of memory");
     holds(&rt, is_alone(&text, &others), &"a text");
     holds(&rt, !is_alone(&Error::Io, &others), &"a device");
-    Ok(())
 }
 
 #[test]

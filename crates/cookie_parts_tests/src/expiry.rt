@@ -5,14 +5,14 @@ use cookie_raw::Expiration;
 use jiff::SignedDuration;
 use jiff::civil::DateTime;
 use std::alloc::Global;
-use std::test::Fail;
+use std::process::Abort;
 
 // The end at the moment that the text writes, or of the session.
-fn end_of(text: Option<&str>) -> Result<CookieExpiration, Fail> {
-    Ok(match text {
-        Some(text) => CookieExpiration::AtUtc(moment(text)?),
+fn end_of(rt: &impl Abort, text: Option<&str>) -> CookieExpiration {
+    match text {
+        Some(text) => CookieExpiration::AtUtc(moment(rt, text)),
         None => CookieExpiration::SessionEnd,
-    })
+    }
 }
 
 // An end or none, a moment, and whether the end has come by then.
@@ -26,17 +26,21 @@ const MOMENTS: &[(Option<&str>, &str, bool)] = &[
 ];
 
 #[test]
-fn a_cookie_ends_at_its_moment(rt: HostRuntime) -> Result<(), Fail> {
+fn a_cookie_ends_at_its_moment(rt: HostRuntime) {
     for row in MOMENTS {
         let (end, at, wanted) = *row;
-        is_equal(&rt, end_of(end)?.is_expired(moment(at)?), wanted, row);
+        is_equal(
+            &rt,
+            end_of(&rt, end).is_expired(moment(&rt, at)),
+            wanted,
+            row,
+        );
     }
     holds(
         &rt,
         !CookieExpiration::SessionEnd.is_expired(DateTime::MAX),
         &"the last moment",
     );
-    Ok(())
 }
 
 // Two ends, and whether they are one.
@@ -61,12 +65,11 @@ const ENDS: &[(Option<&str>, Option<&str>, bool)] = &[
 ];
 
 #[test]
-fn fractions_of_a_second_do_not_count(rt: HostRuntime) -> Result<(), Fail> {
+fn fractions_of_a_second_do_not_count(rt: HostRuntime) {
     for row in ENDS {
         let (end, other, wanted) = *row;
-        is_equal(&rt, end_of(end)? == end_of(other)?, wanted, row);
+        is_equal(&rt, end_of(&rt, end) == end_of(&rt, other), wanted, row);
     }
-    Ok(())
 }
 
 const NOW: &str = "2026-01-01T00:00:00";
@@ -76,27 +79,26 @@ const LATEST: &str = "9999-12-31T23:59:59";
 const EPOCH: &str = "1970-01-01T00:00:00";
 
 // Whether so many seconds from a moment on end as the text writes.
-fn end_so(seconds: u64, now: DateTime, wanted: &str) -> Result<bool, Fail> {
-    ends_at(&CookieExpiration::from_secs(seconds, now), Some(wanted))
+fn end_so(rt: &impl Abort, seconds: u64, now: DateTime, wanted: &str) -> bool {
+    ends_at(rt, &CookieExpiration::from_secs(seconds, now), Some(wanted))
 }
 
 #[test]
-fn seconds_end_at_a_moment(rt: HostRuntime) -> Result<(), Fail> {
-    let now = moment(NOW)?;
-    holds(&rt, end_so(u64::MAX, now, LATEST)?, &"the most seconds");
+fn seconds_end_at_a_moment(rt: HostRuntime) {
+    let now = moment(&rt, NOW);
+    holds(&rt, end_so(&rt, u64::MAX, now, LATEST), &"the most seconds");
     holds(
         &rt,
-        end_so(1, DateTime::MIN, "-009999-01-01T00:00:01")?,
+        end_so(&rt, 1, DateTime::MIN, "-009999-01-01T00:00:01"),
         &"from the first moment",
     );
     holds(
         &rt,
-        end_so(1, DateTime::MAX, LATEST)?,
+        end_so(&rt, 1, DateTime::MAX, LATEST),
         &"from the last moment",
     );
     let gone = CookieExpiration::from_duration(SignedDuration::from_secs(-1), now);
-    holds(&rt, ends_at(&gone, Some(EPOCH))?, &"-1 s");
-    Ok(())
+    holds(&rt, ends_at(&rt, &gone, Some(EPOCH)), &"-1 s");
 }
 
 const FIRST: &str = "-009999-01-01T00:00:00";
@@ -110,19 +112,18 @@ const SECONDS: &[(&str, &str)] = &[
     ("9999-12-31T23:59:59.999999999", LATEST),
 ];
 
-fn lasts_a_second(row: &(&str, &str)) -> Result<bool, Fail> {
+fn lasts_a_second(rt: &impl Abort, row: &(&str, &str)) -> bool {
     let (from, wanted) = *row;
-    let end = CookieExpiration::from_duration(SignedDuration::from_secs(1), moment(from)?);
-    ends_at(&end, Some(wanted))
+    let end = CookieExpiration::from_duration(SignedDuration::from_secs(1), moment(rt, from));
+    ends_at(rt, &end, Some(wanted))
 }
 
 #[test]
-fn a_second_ends_at_a_moment(rt: HostRuntime) -> Result<(), Fail> {
-    is_equal(&rt, moment(FIRST)?, DateTime::MIN, &FIRST);
+fn a_second_ends_at_a_moment(rt: HostRuntime) {
+    is_equal(&rt, moment(&rt, FIRST), DateTime::MIN, &FIRST);
     for row in SECONDS {
-        holds(&rt, lasts_a_second(row)?, row);
+        holds(&rt, lasts_a_second(&rt, row), row);
     }
-    Ok(())
 }
 
 // Seconds from `NOW` on, a moment, and whether they have ended by it.
@@ -134,13 +135,12 @@ const AGES: &[(u64, &str, bool)] = &[
 ];
 
 #[test]
-fn seconds_have_ended(rt: HostRuntime) -> Result<(), Fail> {
+fn seconds_have_ended(rt: HostRuntime) {
     for row in AGES {
         let (seconds, at, wanted) = *row;
-        let expires = CookieExpiration::from_secs(seconds, moment(NOW)?);
-        is_equal(&rt, expires.is_expired(moment(at)?), wanted, row);
+        let expires = CookieExpiration::from_secs(seconds, moment(&rt, NOW));
+        is_equal(&rt, expires.is_expired(moment(&rt, at)), wanted, row);
     }
-    Ok(())
 }
 
 // An end, a moment, and whether it has come by then.
@@ -150,32 +150,30 @@ const DAYS: &[(&str, &str, bool)] = &[
 ];
 
 #[test]
-fn moments_have_come(rt: HostRuntime) -> Result<(), Fail> {
+fn moments_have_come(rt: HostRuntime) {
     for row in DAYS {
         let (end, at, wanted) = *row;
-        let expires = CookieExpiration::from_moment(moment(end)?);
-        is_equal(&rt, expires.expires_by(&moment(at)?), wanted, row);
+        let expires = CookieExpiration::from_moment(moment(&rt, end));
+        is_equal(&rt, expires.expires_by(&moment(&rt, at)), wanted, row);
     }
-    Ok(())
 }
 
 #[test]
-fn an_attribute_alone_ends_after_the_latest_moment(rt: HostRuntime) -> Result<(), Fail> {
+fn an_attribute_alone_ends_after_the_latest_moment(rt: HostRuntime) {
     let capped = CookieExpiration::from_moment(DateTime::MAX);
-    holds(&rt, ends_at(&capped, Some(LATEST))?, &capped);
+    holds(&rt, ends_at(&rt, &capped, Some(LATEST)), &capped);
     let session = CookieExpiration::from_expiration(Expiration::Session);
-    holds(&rt, ends_at(&session, None)?, &session);
+    holds(&rt, ends_at(&rt, &session, None), &session);
     let said = CookieExpiration::from_expiration(Expiration::DateTime(DateTime::MAX));
     match said {
         CookieExpiration::AtUtc(end) => is_equal(&rt, end, DateTime::MAX, &said),
         CookieExpiration::SessionEnd => holds(&rt, false, &said),
     }
-    Ok(())
 }
 
 // The cookie of a text at `NOW`.
-fn cookie<'a>(alloc: Global, text: &'a str) -> Result<Cookie<'a>, Fail> {
-    cookie_from(alloc, text, "http://example.com/", moment(NOW)?)
+fn cookie<'a>(rt: &impl Abort, alloc: Global, text: &'a str) -> Cookie<'a> {
+    cookie_from(rt, alloc, text, "http://example.com/", moment(rt, NOW))
 }
 
 // A text, and when its cookie of `NOW` ends, if not with the session.
@@ -190,17 +188,16 @@ const TEXTS: &[(&str, Option<&str>)] = &[
     ),
 ];
 
-fn ends_so(alloc: Global, row: &(&str, Option<&str>)) -> Result<bool, Fail> {
+fn ends_so(rt: &impl Abort, alloc: Global, row: &(&str, Option<&str>)) -> bool {
     let (text, wanted) = *row;
-    ends_at(&cookie(alloc, text)?.expires, wanted)
+    ends_at(rt, &cookie(rt, alloc, text).expires, wanted)
 }
 
 #[test]
-fn a_text_says_when_its_cookie_ends(rt: HostRuntime) -> Result<(), Fail> {
+fn a_text_says_when_its_cookie_ends(rt: HostRuntime) {
     for row in TEXTS {
-        holds(&rt, ends_so(rt.alloc(), row)?, row);
+        holds(&rt, ends_so(&rt, rt.alloc(), row), row);
     }
-    Ok(())
 }
 
 const BOTH: &[&str] = &[
@@ -208,15 +205,14 @@ const BOTH: &[&str] = &[
     "a=1; Expires=Wed, 31 Dec 2025 00:00:00 GMT; Max-Age=60",
 ];
 
-fn has_not_ended(alloc: Global, text: &&str) -> Result<bool, Fail> {
-    let now = moment(NOW)?;
-    Ok(!cookie(alloc, text)?.is_expired(now))
+fn has_not_ended(rt: &impl Abort, alloc: Global, text: &&str) -> bool {
+    let now = moment(rt, NOW);
+    !cookie(rt, alloc, text).is_expired(now)
 }
 
 #[test]
-fn an_age_is_before_an_end(rt: HostRuntime) -> Result<(), Fail> {
+fn an_age_is_before_an_end(rt: HostRuntime) {
     for row in BOTH {
-        holds(&rt, has_not_ended(rt.alloc(), row)?, row);
+        holds(&rt, has_not_ended(&rt, rt.alloc(), row), row);
     }
-    Ok(())
 }

@@ -2,7 +2,7 @@
 use cookie_parts::{Cookie, CookieDomain, CookieExpiration, CookiePath};
 use jiff::civil::DateTime;
 use std::alloc::Global;
-use std::test::Fail;
+use std::process::Abort;
 use url::Url;
 
 // What a domain is wanted to be.
@@ -25,13 +25,17 @@ pub(crate) fn is_for(domain: &CookieDomain, hosts: &Hosts) -> bool {
 }
 
 // The domain itself.
-pub(crate) fn domain_of(alloc: Global, hosts: &Hosts) -> Result<CookieDomain, Fail> {
-    Ok(match hosts {
-        Hosts::HostOnly(text) => CookieDomain::HostOnly(String::from_str(alloc, text)?),
-        Hosts::Suffix(text) => CookieDomain::Suffix(String::from_str(alloc, text)?),
+pub(crate) fn domain_of(rt: &impl Abort, alloc: Global, hosts: &Hosts) -> CookieDomain {
+    match hosts {
+        Hosts::HostOnly(text) => CookieDomain::HostOnly(String::from_str(alloc, text).expect(
+            rt, "memory",
+        )),
+        Hosts::Suffix(text) => CookieDomain::Suffix(String::from_str(alloc, text).expect(
+            rt, "memory",
+        )),
         Hosts::NotPresent => CookieDomain::NotPresent,
         Hosts::Empty => CookieDomain::Empty,
-    })
+    }
 }
 
 // Whether it is the path of the text, from an attribute or not.
@@ -43,35 +47,38 @@ pub(crate) fn is_path(path: &CookiePath, text: &str, is_from_attribute: bool) ->
 pub(crate) type Fields = (i16, i8, i8, i8, i8, i8, i32);
 
 // The moment of the fields, if there is one.
-pub(crate) fn moment_of(fields: Option<Fields>) -> Result<Option<DateTime>, Fail> {
+pub(crate) fn moment_of(rt: &impl Abort, fields: Option<Fields>) -> Option<DateTime> {
     let Some((year, month, day, hour, minute, second, nanoseconds)) = fields else {
-        return Ok(None);
+        return None;
     };
-    let moment = DateTime::new(year, month, day, hour, minute, second, nanoseconds)?;
-    Ok(Some(moment))
+    let moment = DateTime::new(year, month, day, hour, minute, second, nanoseconds).expect(
+        rt, "a moment",
+    );
+    Some(moment)
 }
 
 // The moment that a text such as `2026-01-01T00:00:00` writes.
-pub(crate) fn moment(text: &str) -> Result<DateTime, Fail> {
-    Ok(text.parse::<DateTime>()?)
+pub(crate) fn moment(rt: &impl Abort, text: &str) -> DateTime {
+    text.parse::<DateTime>().expect(rt, "a moment")
 }
 
 // Whether it is the moment that the text writes, to the nanosecond, or the end of the session where there is no text.
-pub(crate) fn ends_at(expires: &CookieExpiration, wanted: Option<&str>) -> Result<bool, Fail> {
-    Ok(match (expires, wanted) {
-        (CookieExpiration::AtUtc(end), Some(text)) => *end == moment(text)?,
+pub(crate) fn ends_at(rt: &impl Abort, expires: &CookieExpiration, wanted: Option<&str>) -> bool {
+    match (expires, wanted) {
+        (CookieExpiration::AtUtc(end), Some(text)) => *end == moment(rt, text),
         (CookieExpiration::SessionEnd, None) => true,
         _ => false,
-    })
+    }
 }
 
 // The cookie of a text that came from the URL at the moment.
 pub(crate) fn cookie_from<'a>(
+    rt: &impl Abort,
     alloc: Global,
     text: &'a str,
     from: &str,
     now: DateTime,
-) -> Result<Cookie<'a>, Fail> {
-    let url = Url::parse(alloc, from)?;
-    Ok(Cookie::parse(alloc, text, &url, now)?)
+) -> Cookie<'a> {
+    let url = Url::parse(alloc, from).expect(rt, "a URL");
+    Cookie::parse(alloc, text, &url, now).expect(rt, "a cookie")
 }

@@ -1,11 +1,11 @@
-use crate::checks::holds;
+use crate::checks::{holds, is_equal};
 use crate::parts::{Hosts, cookie_from, domain_of, ends_at, is_for, is_path, moment};
 use cookie_parts::{Cookie, CookieError, CookieExpiration, Error};
 use cookie_saved::{Saved, SavedDomain, SavedExpiry, from_value, to_value};
 use jiff::civil::DateTime;
 use serde_json::Value;
 use std::alloc::Global;
-use std::test::Fail;
+use std::process::Abort;
 
 // A text, the URL that it comes from, and the tree that its cookie is saved as.
 const TREES: &[(&str, &str, &str)] = &[
@@ -36,20 +36,23 @@ const TREES: &[(&str, &str, &str)] = &[
 ];
 
 // Whether the cookie is saved as the tree, and comes back from it.
-fn is_saved_as(alloc: Global, cookie: &Cookie<'_>, tree: &str) -> Result<bool, Fail> {
-    let tree = Value::from_str(alloc, tree)?;
-    let written = to_value(alloc, &cookie.to_saved(alloc)?)?;
-    let back = Cookie::from_saved(alloc, from_value(alloc, &tree)?)?;
-    Ok(written == tree && back == *cookie)
+fn is_saved_as(rt: &impl Abort, alloc: Global, cookie: &Cookie<'_>, tree: &str) -> bool {
+    let tree = Value::from_str(alloc, tree).expect(rt, "a tree");
+    let written = to_value(alloc, &cookie.to_saved(alloc).expect(rt, "memory")).expect(
+        rt, "memory",
+    );
+    let back = Cookie::from_saved(alloc, from_value(alloc, &tree).expect(rt, "memory")).expect(
+        rt, "a cookie",
+    );
+    written == tree && back == *cookie
 }
 
 #[test]
-fn a_cookie_is_saved_as_a_tree(rt: HostRuntime) -> Result<(), Fail> {
+fn a_cookie_is_saved_as_a_tree(rt: HostRuntime) {
     for row in TREES {
-        let cookie = cookie_from(rt.alloc(), row.0, row.1, DateTime::ZERO)?;
-        holds(&rt, is_saved_as(rt.alloc(), &cookie, row.2)?, row);
+        let cookie = cookie_from(&rt, rt.alloc(), row.0, row.1, DateTime::ZERO);
+        holds(&rt, is_saved_as(&rt, rt.alloc(), &cookie, row.2), row);
     }
-    Ok(())
 }
 
 // The hosts that a cookie is for, and when it ends, or None where that is with the session.
@@ -68,76 +71,77 @@ const KINDS: &[(Hosts, Option<&str>)] = &[
 ];
 
 // The end at the moment that the text writes, or with the session.
-fn end_of(text: Option<&str>) -> Result<CookieExpiration, Fail> {
-    Ok(match text {
-        Some(text) => CookieExpiration::AtUtc(moment(text)?),
+fn end_of(rt: &impl Abort, text: Option<&str>) -> CookieExpiration {
+    match text {
+        Some(text) => CookieExpiration::AtUtc(moment(rt, text)),
         None => CookieExpiration::SessionEnd,
-    })
+    }
 }
 
 // A cookie that is for these hosts, and ends so.
-fn cookie_of(alloc: Global, row: &(Hosts, Option<&str>)) -> Result<Cookie<'static>, Fail> {
-    let mut cookie = cookie_from(alloc, "a=1; Path=/p", "http://a.org/", DateTime::ZERO)?;
-    cookie.domain = domain_of(alloc, &row.0)?;
-    cookie.expires = end_of(row.1)?;
-    Ok(cookie)
+fn cookie_of(rt: &impl Abort, alloc: Global, row: &(Hosts, Option<&str>)) -> Cookie<'static> {
+    let mut cookie = cookie_from(rt, alloc, "a=1; Path=/p", "http://a.org/", DateTime::ZERO);
+    cookie.domain = domain_of(rt, alloc, &row.0);
+    cookie.expires = end_of(rt, row.1);
+    cookie
 }
 
 // Whether a cookie comes back with the same hosts, the same path and the same end.
 fn comes_back(
+    rt: &impl Abort,
     alloc: Global,
     cookie: &Cookie<'_>,
     row: &(Hosts, Option<&str>),
-) -> Result<bool, Fail> {
-    let back = Cookie::from_saved(alloc, cookie.to_saved(alloc)?)?;
+) -> bool {
+    let back = Cookie::from_saved(alloc, cookie.to_saved(alloc).expect(rt, "memory")).expect(
+        rt, "a cookie",
+    );
     let is_same = is_for(&back.domain, &row.0) && is_path(&back.path, "/p", true);
-    Ok(is_same && ends_at(&back.expires, row.1)? && back == *cookie)
+    is_same && ends_at(rt, &back.expires, row.1) && back == *cookie
 }
 
 #[test]
-fn a_cookie_comes_back_from_its_saved_form(rt: HostRuntime) -> Result<(), Fail> {
+fn a_cookie_comes_back_from_its_saved_form(rt: HostRuntime) {
     for row in KINDS {
-        let cookie = cookie_of(rt.alloc(), row)?;
-        holds(&rt, comes_back(rt.alloc(), &cookie, row)?, row);
+        let cookie = cookie_of(&rt, rt.alloc(), row);
+        holds(&rt, comes_back(&rt, rt.alloc(), &cookie, row), row);
     }
-    Ok(())
 }
 
 // A saved form of a text and of a path with its mark.
-fn saved(alloc: Global, raw_cookie: &str, path: (&str, bool)) -> Result<Saved, Fail> {
-    Ok(Saved {
-        raw_cookie: String::from_str(alloc, raw_cookie)?,
-        path: String::from_str(alloc, path.0)?,
+fn saved(rt: &impl Abort, alloc: Global, raw_cookie: &str, path: (&str, bool)) -> Saved {
+    Saved {
+        raw_cookie: String::from_str(alloc, raw_cookie).expect(rt, "memory"),
+        path: String::from_str(alloc, path.0).expect(rt, "memory"),
         from_attr: path.1,
         domain: SavedDomain::NotPresent,
         expires: SavedExpiry::SessionEnd,
-    })
+    }
+}
+
+// Why the saved form of the text is no cookie, if it is none.
+fn fault_of_saved(rt: &impl Abort, alloc: Global, text: &str) -> Option<Error> {
+    Cookie::from_saved(alloc, saved(rt, alloc, text, ("/", true))).err()
 }
 
 const NO_COOKIES: &[&str] = &["", "nopair", "=1", "; a=1"];
 
-fn is_refused(cookie: &Result<Cookie<'_>, Error>) -> bool {
-    matches!(cookie, Err(Error::Cookie(CookieError::Parse)))
-}
-
 #[test]
-fn a_saved_text_that_is_no_cookie_is_refused(rt: HostRuntime) -> Result<(), Fail> {
+fn a_saved_text_that_is_no_cookie_is_refused(rt: HostRuntime) {
     for text in NO_COOKIES {
-        let cookie = Cookie::from_saved(rt.alloc(), saved(rt.alloc(), text, ("/", true))?);
-        holds(&rt, is_refused(&cookie), text);
+        let fault = fault_of_saved(&rt, rt.alloc(), text);
+        is_equal(&rt, fault, Some(Error::Cookie(CookieError::Parse)), text);
     }
-    Ok(())
 }
 
 // Paths and their marks, which the Path attribute of the text says nothing of.
 const PATHS: &[(&str, bool)] = &[("/x", true), ("/x", false), ("x/y", true), ("", false)];
 
 #[test]
-fn a_path_is_kept_as_it_was_saved(rt: HostRuntime) -> Result<(), Fail> {
+fn a_path_is_kept_as_it_was_saved(rt: HostRuntime) {
     for row in PATHS {
-        let saved = saved(rt.alloc(), "a=1; Path=/p", *row)?;
-        let cookie = Cookie::from_saved(rt.alloc(), saved)?;
+        let saved = saved(&rt, rt.alloc(), "a=1; Path=/p", *row);
+        let cookie = Cookie::from_saved(rt.alloc(), saved).expect(&rt, "a cookie");
         holds(&rt, is_path(&cookie.path, row.0, row.1), row);
     }
-    Ok(())
 }

@@ -5,7 +5,6 @@ use cookie_parts::cookie_path::is_match;
 use std::alloc::Global;
 use std::cmp::Ordering;
 use std::process::Abort;
-use std::test::Fail;
 use url::Url;
 
 // A URL, and its default-path.
@@ -22,43 +21,50 @@ const DEFAULT_PATHS: &[(&str, &str)] = &[
     ("data:foobusbar", "/"),
 ];
 
-fn has_default_path(alloc: Global, row: &(&str, &str)) -> Result<bool, Fail> {
+fn has_default_path(rt: &impl Abort, alloc: Global, row: &(&str, &str)) -> bool {
     let (from, wanted) = *row;
-    let path = CookiePath::default_path(alloc, &Url::parse(alloc, from)?)?;
-    Ok(is_path(&path, wanted, false))
+    let path = CookiePath::default_path(alloc, &Url::parse(alloc, from).expect(rt, "a URL")).expect(
+        rt, "memory",
+    );
+    let text = path
+        .clone()
+        .expect(rt, "memory")
+        .to_string_in(alloc)
+        .expect(rt, "memory");
+    is_path(&path, wanted, false) && text.as_str() == wanted
 }
 
 #[test]
-fn a_url_has_a_default_path(rt: HostRuntime) -> Result<(), Fail> {
+fn a_url_has_a_default_path(rt: HostRuntime) {
     for row in DEFAULT_PATHS {
-        holds(&rt, has_default_path(rt.alloc(), row)?, row);
+        holds(&rt, has_default_path(&rt, rt.alloc(), row), row);
     }
-    Ok(())
 }
 
 // The text of an attribute, the path that it makes below /foo/bar, and whether it is from the attribute.
 const ATTRIBUTES: &[(&str, &str, bool)] = &[("a/foo", "/foo/bar", false), ("/a", "/a", true)];
 
-fn makes(alloc: Global, row: &(&str, &str, bool)) -> Result<bool, Fail> {
+fn makes(rt: &impl Abort, alloc: Global, row: &(&str, &str, bool)) -> bool {
     let (text, wanted, is_from_attribute) = *row;
-    let url = Url::parse(alloc, "http://example.com/foo/bar/")?;
-    let path = CookiePath::new(alloc, text, &url)?;
-    Ok(is_path(&path, wanted, is_from_attribute))
+    let url = Url::parse(alloc, "http://example.com/foo/bar/").expect(rt, "a URL");
+    let path = CookiePath::new(alloc, text, &url).expect(rt, "memory");
+    is_path(&path, wanted, is_from_attribute)
 }
 
-fn is_none(alloc: Global, text: &&str) -> Result<bool, Fail> {
-    Ok(CookiePath::parse(alloc, text)?.is_none())
+fn is_none(rt: &impl Abort, alloc: Global, text: &&str) -> bool {
+    CookiePath::parse(alloc, text)
+        .expect(rt, "memory")
+        .is_none()
 }
 
 #[test]
-fn a_relative_path_does_not_count(rt: HostRuntime) -> Result<(), Fail> {
+fn a_relative_path_does_not_count(rt: HostRuntime) {
     for row in ATTRIBUTES {
-        holds(&rt, makes(rt.alloc(), row)?, row);
+        holds(&rt, makes(&rt, rt.alloc(), row), row);
     }
     for row in &["", "a/foo"] {
-        holds(&rt, is_none(rt.alloc(), row)?, row);
+        holds(&rt, is_none(&rt, rt.alloc(), row), row);
     }
-    Ok(())
 }
 
 // A cookie's path, a URL, and whether the cookie is for its path.
@@ -77,19 +83,18 @@ const PATHS: &[(&str, &str, bool)] = &[
 ];
 
 // By the path, and by its text.
-fn covers(alloc: Global, row: &(&str, &str, bool)) -> Result<bool, Fail> {
+fn covers(rt: &impl Abort, alloc: Global, row: &(&str, &str, bool)) -> bool {
     let (text, at, wanted) = *row;
-    let url = Url::parse(alloc, at)?;
-    let path = CookiePath::new(alloc, text, &url)?;
-    Ok(path.matches(&url) == wanted && is_match(text, &url) == wanted)
+    let url = Url::parse(alloc, at).expect(rt, "a URL");
+    let path = CookiePath::new(alloc, text, &url).expect(rt, "memory");
+    path.matches(&url) == wanted && is_match(text, &url) == wanted
 }
 
 #[test]
-fn a_path_covers_paths(rt: HostRuntime) -> Result<(), Fail> {
+fn a_path_covers_paths(rt: HostRuntime) {
     for row in PATHS {
-        holds(&rt, covers(rt.alloc(), row)?, row);
+        holds(&rt, covers(&rt, rt.alloc(), row), row);
     }
-    Ok(())
 }
 
 // A text that is no path of a cookie, and a URL. Not even the empty path is for one.
@@ -102,17 +107,16 @@ const RELATIVE: &[(&str, &str)] = &[
     ("foo", "data:foo"),
 ];
 
-fn is_for_none(alloc: Global, row: &(&str, &str)) -> Result<bool, Fail> {
+fn is_for_none(rt: &impl Abort, alloc: Global, row: &(&str, &str)) -> bool {
     let (text, at) = *row;
-    Ok(!is_match(text, &Url::parse(alloc, at)?))
+    !is_match(text, &Url::parse(alloc, at).expect(rt, "a URL"))
 }
 
 #[test]
-fn a_relative_path_is_for_none(rt: HostRuntime) -> Result<(), Fail> {
+fn a_relative_path_is_for_none(rt: HostRuntime) {
     for row in RELATIVE {
-        holds(&rt, is_for_none(rt.alloc(), row)?, row);
+        holds(&rt, is_for_none(&rt, rt.alloc(), row), row);
     }
-    Ok(())
 }
 
 // The text of a path, and its flag.
@@ -129,38 +133,32 @@ const ORDERS: &[(Flagged, Flagged, Ordering)] = &[
 ];
 
 // A URL whose default-path is the text.
-fn url_below(alloc: Global, text: &str) -> Result<Url, Fail> {
-    let address = format!(in alloc; "http://example.com{text}/")?;
-    Ok(Url::parse(alloc, &address)?)
+fn url_below(rt: &impl Abort, alloc: Global, text: &str) -> Url {
+    let address = format!(in alloc; "http://example.com{text}/").expect(rt, "memory");
+    Url::parse(alloc, &address).expect(rt, "a URL")
 }
 
 // The path as a Path attribute sets it, or as the default-path of a URL below it.
-fn path(alloc: Global, flagged: &Flagged) -> Result<CookiePath, Fail> {
+fn path(rt: &impl Abort, alloc: Global, flagged: &Flagged) -> CookiePath {
     let (text, is_from_attribute) = *flagged;
-    let url = url_below(alloc, text)?;
-    Ok(if is_from_attribute {
-        CookiePath::new(alloc, text, &url)?
+    let url = url_below(rt, alloc, text);
+    if is_from_attribute {
+        CookiePath::new(alloc, text, &url).expect(rt, "memory")
     } else {
-        CookiePath::default_path(alloc, &url)?
-    })
+        CookiePath::default_path(alloc, &url).expect(rt, "memory")
+    }
 }
 
-fn stand_so(
-    rt: &impl Abort,
-    alloc: Global,
-    row: &(Flagged, Flagged, Ordering),
-) -> Result<(), Fail> {
+fn stand_so(rt: &impl Abort, alloc: Global, row: &(Flagged, Flagged, Ordering)) {
     let (first, second, wanted) = row;
-    let first = path(alloc, first)?;
-    let second = path(alloc, second)?;
+    let first = path(rt, alloc, first);
+    let second = path(rt, alloc, second);
     are_ordered(rt, &first, &second, *wanted);
-    Ok(())
 }
 
 #[test]
-fn paths_are_in_order(rt: HostRuntime) -> Result<(), Fail> {
+fn paths_are_in_order(rt: HostRuntime) {
     for row in ORDERS {
-        stand_so(&rt, rt.alloc(), row)?;
+        stand_so(&rt, rt.alloc(), row);
     }
-    Ok(())
 }

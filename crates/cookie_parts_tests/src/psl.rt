@@ -1,13 +1,12 @@
 use crate::checks::{holds, is_equal, is_written_at_any_width};
 use cookie_psl::{List, ListError, laws};
 use std::alloc::Global;
-use std::test::Fail;
+use std::process::Abort;
 
 // A list, a domain, and its suffix, with whether a listed rule says so.
 type Row = (&'static str, &'static str, Option<(&'static str, bool)>);
 
-pub(crate) const EVERY_KIND: &str =
-    "// every kind of rule\ncom\n*.ck\n!www.ck to here\n\n*.www.ck\n  org\n";
+const EVERY_KIND: &str = "// every kind of rule\ncom\n*.ck\n!www.ck to here\n\n*.www.ck\n  org\n";
 
 const ROWS: &[Row] = &[
     (EVERY_KIND, "foo.ck", Some(("foo.ck", true))),
@@ -41,27 +40,27 @@ const ROWS: &[Row] = &[
 ];
 
 // Whether the list says what is wanted of the domain.
-pub(crate) fn says(list: &List, domain: &str, wanted: Option<(&str, bool)>) -> bool {
+fn says(list: &List, domain: &str, wanted: Option<(&str, bool)>) -> bool {
     let suffix = list.suffix(domain);
     suffix.map(|suffix| (suffix.as_str(), suffix.is_known())) == wanted
 }
 
-fn is_found(alloc: Global, row: &Row) -> Result<bool, Fail> {
+fn is_found(rt: &impl Abort, alloc: Global, row: &Row) -> bool {
     let (text, domain, wanted) = *row;
-    Ok(says(&List::from_text(alloc, text)?, domain, wanted))
+    let list = List::from_text(alloc, text).expect(rt, "a list");
+    says(&list.clone().expect(rt, "memory"), domain, wanted) && says(&list, domain, wanted)
 }
 
 #[test]
-fn finds_suffixes(rt: HostRuntime) -> Result<(), Fail> {
+fn finds_suffixes(rt: HostRuntime) {
     laws::same_rules_prevail();
     for row in ROWS {
-        holds(&rt, is_found(rt.alloc(), row)?, row);
+        holds(&rt, is_found(&rt, rt.alloc(), row), row);
     }
-    Ok(())
 }
 
 // A text that is no list, and the number of its first bad line.
-pub(crate) const BAD: &[(&str, usize)] = &[
+const BAD: &[(&str, usize)] = &[
     ("com\n\n.", 3),
     ("a..b", 1),
     ("com\norg.\nnet", 2),
@@ -86,12 +85,12 @@ fn tells_the_first_bad_line(rt: HostRuntime) {
 }
 
 // So many labels `a`.
-fn labels(alloc: Global, count: usize) -> Result<String, Fail> {
-    let mut text = String::from_str(alloc, "a")?;
+fn labels(rt: &impl Abort, alloc: Global, count: usize) -> String {
+    let mut text = String::from_str(alloc, "a").expect(rt, "memory");
     for _ in 1..count {
-        text.push_str(".a")?;
+        text.push_str(".a").expect(rt, "memory");
     }
-    Ok(text)
+    text
 }
 
 // Whether a list of one rule says something of the domain that is the rule.
@@ -107,39 +106,42 @@ const LABELS: &[(usize, Result<Option<bool>, ListError>)] = &[
 ];
 
 #[test]
-fn takes_rules_of_127_labels(rt: HostRuntime) -> Result<(), Fail> {
+fn takes_rules_of_127_labels(rt: HostRuntime) {
     for (count, wanted) in LABELS {
-        let answer = is_known(rt.alloc(), &labels(rt.alloc(), *count)?);
+        let answer = is_known(rt.alloc(), &labels(&rt, rt.alloc(), *count));
         is_equal(&rt, answer, *wanted, count);
     }
-    Ok(())
 }
 
-// Whether a rule of 128 labels is the first bad line behind two that are none.
-fn is_bad_behind_two(alloc: Global) -> Result<bool, Fail> {
-    let rule = labels(alloc, 128)?;
-    let text = format!(in alloc; "com\r\n net\n{rule}")?;
-    Ok(List::from_text(alloc, &text).err() == Some(ListError::BadRule { line: 3 }))
+// What is said of a rule of 128 labels behind two lines.
+fn said_behind_two(rt: &impl Abort, alloc: Global) -> Option<ListError> {
+    let rule = labels(rt, alloc, 128);
+    let text = format!(in alloc; "com\r\n net\n{rule}").expect(rt, "memory");
+    List::from_text(alloc, &text).err()
 }
 
 #[test]
-fn a_rule_of_128_labels_is_the_bad_line(rt: HostRuntime) -> Result<(), Fail> {
-    holds(&rt, is_bad_behind_two(rt.alloc())?, &"the third line");
-    Ok(())
+fn a_rule_of_128_labels_is_the_bad_line(rt: HostRuntime) {
+    let bad = Some(ListError::BadRule { line: 3 });
+    is_equal(
+        &rt,
+        said_behind_two(&rt, rt.alloc()),
+        bad,
+        &"the third line",
+    );
 }
 
 // Whether the last 127 of 10,000 labels are the suffix, by a rule of so many.
-fn is_last_labels(alloc: Global) -> Result<bool, Fail> {
-    let rule = labels(alloc, 127)?;
-    let domain = labels(alloc, 10_000)?;
-    let list = List::from_text(alloc, &rule)?;
-    Ok(says(&list, &domain, Some((rule.as_str(), true))))
+fn is_last_labels(rt: &impl Abort, alloc: Global) -> bool {
+    let rule = labels(rt, alloc, 127);
+    let domain = labels(rt, alloc, 10_000);
+    let list = List::from_text(alloc, &rule).expect(rt, "a list");
+    says(&list, &domain, Some((rule.as_str(), true)))
 }
 
 #[test]
-fn a_long_domain_has_a_long_suffix(rt: HostRuntime) -> Result<(), Fail> {
-    holds(&rt, is_last_labels(rt.alloc())?, &"10,000 labels");
-    Ok(())
+fn a_long_domain_has_a_long_suffix(rt: HostRuntime) {
+    holds(&rt, is_last_labels(&rt, rt.alloc()), &"10,000 labels");
 }
 
 #[test]
@@ -150,8 +152,8 @@ fn a_new_list_has_no_rules(rt: HostRuntime) {
 }
 
 #[test]
-fn says_why_a_text_is_no_list(rt: HostRuntime) -> Result<(), Fail> {
+fn says_why_a_text_is_no_list(rt: HostRuntime) {
     let bad = ListError::BadRule { line: 7 };
-    is_written_at_any_width(&rt, rt.alloc(), &bad, "a bad rule in line 7")?;
+    is_written_at_any_width(&rt, rt.alloc(), &bad, "a bad rule in line 7");
     is_written_at_any_width(&rt, rt.alloc(), &ListError::Memory, "out of memory")
 }

@@ -8,15 +8,14 @@ use jiff::SignedDuration;
 use jiff::civil::{DateTime, date};
 use std::alloc::{AllocError, Global};
 use std::process::Abort;
-use std::test::Fail;
 
 // What an accepted text says.
 #[derive(Clone, Copy)]
-pub(crate) struct Parts {
-    pub(crate) name: &'static str,
-    pub(crate) value: &'static str,
-    pub(crate) domain: Option<&'static str>,
-    pub(crate) path: Option<&'static str>,
+struct Parts {
+    name: &'static str,
+    value: &'static str,
+    domain: Option<&'static str>,
+    path: Option<&'static str>,
 }
 
 const PAIR: Parts = Parts {
@@ -74,7 +73,7 @@ const ROWS: &[(&str, Result<Parts, RawCookieParseError>)] = &[
     ),
 ];
 
-pub(crate) fn has_parts(cookie: &RawCookie<'_>, parts: &Parts) -> bool {
+fn has_parts(cookie: &RawCookie<'_>, parts: &Parts) -> bool {
     cookie.name() == parts.name
         && cookie.value() == parts.value
         && cookie.name_value() == (parts.name, parts.value)
@@ -107,20 +106,23 @@ fn is_bare(cookie: &RawCookie<'_>) -> bool {
 }
 
 #[test]
-fn empty_attributes_say_nothing(rt: HostRuntime) -> Result<(), Fail> {
+fn empty_attributes_say_nothing(rt: HostRuntime) {
     let text = "a=1;;; ;=x;Domain";
-    holds(&rt, is_bare(&RawCookie::parse(text)?), &text);
-    Ok(())
+    holds(
+        &rt,
+        is_bare(&RawCookie::parse(text).expect(&rt, "a cookie")),
+        &text,
+    );
 }
 
 // Whether its copy has these parts, as it has itself, and is equal to it.
-fn is_copied(cookie: &RawCookie<'_>, parts: &Parts) -> Result<bool, Fail> {
-    let copy = cookie.clone()?;
-    Ok(has_parts(cookie, parts) && has_parts(&copy, parts) && copy == *cookie)
+fn is_copied(rt: &impl Abort, cookie: &RawCookie<'_>, parts: &Parts) -> bool {
+    let copy = cookie.clone().expect(rt, "memory");
+    has_parts(cookie, parts) && has_parts(&copy, parts) && copy == *cookie
 }
 
 // A text with parts that are empty, and what it says.
-pub(crate) const EMPTY: &[(&str, Parts)] = &[
+const EMPTY: &[(&str, Parts)] = &[
     ("a=", Parts { value: "", ..PAIR }),
     (
         "a=1; Path=",
@@ -140,34 +142,36 @@ pub(crate) const EMPTY: &[(&str, Parts)] = &[
     ),
 ];
 
-fn is_owned(alloc: Global, row: &(&str, Parts)) -> Result<bool, Fail> {
+fn is_owned(rt: &impl Abort, alloc: Global, row: &(&str, Parts)) -> bool {
     let (text, parts) = row;
-    let owned = RawCookie::parse(text)?.into_owned(alloc)?;
-    Ok(is_copied(&owned, parts)? && RawCookie::parse(text)? == owned)
+    let owned = RawCookie::parse(text)
+        .expect(rt, "a cookie")
+        .into_owned(alloc)
+        .expect(rt, "memory");
+    is_copied(rt, &owned, parts) && RawCookie::parse(text).expect(rt, "a cookie") == owned
 }
 
-fn is_lent(row: &(&str, Parts)) -> Result<bool, Fail> {
+fn is_lent(rt: &impl Abort, row: &(&str, Parts)) -> bool {
     let (text, parts) = row;
-    is_copied(&RawCookie::parse(text)?, parts)
+    is_copied(rt, &RawCookie::parse(text).expect(rt, "a cookie"), parts)
 }
 
 #[test]
-fn keeps_empty_parts(rt: HostRuntime) -> Result<(), Fail> {
+fn keeps_empty_parts(rt: HostRuntime) {
     for row in EMPTY {
-        holds(&rt, is_lent(row)?, &row.0);
-        holds(&rt, is_owned(rt.alloc(), row)?, &row.0);
+        holds(&rt, is_lent(&rt, row), &row.0);
+        holds(&rt, is_owned(&rt, rt.alloc(), row), &row.0);
     }
-    Ok(())
 }
 
 #[test]
-fn says_why_a_text_is_no_cookie(rt: HostRuntime) -> Result<(), Fail> {
+fn says_why_a_text_is_no_cookie(rt: HostRuntime) {
     is_written_at_any_width(
         &rt,
         rt.alloc(),
         &MissingPair,
         "no name and value joined by `=`",
-    )?;
+    );
     is_written_at_any_width(&rt, rt.alloc(), &EmptyName, "an empty name")
 }
 
@@ -189,31 +193,29 @@ const AGES: &[(&str, Option<i64>)] = &[
 ];
 
 #[test]
-fn reads_ages(rt: HostRuntime) -> Result<(), Fail> {
+fn reads_ages(rt: HostRuntime) {
     for (text, seconds) in AGES {
-        let age = RawCookie::parse(text)?.max_age();
+        let age = RawCookie::parse(text).expect(&rt, "a cookie").max_age();
         is_equal(&rt, age, seconds.map(SignedDuration::from_secs), text);
     }
-    Ok(())
 }
 
 // A digit that stands a thousand times, what follows it, and the seconds of the Max-Age of both.
 const LONG_AGES: &[(&str, &str, i64)] = &[("0", "5", 5), ("9", "", 9223372036854775807)];
 
-fn has_long_age(alloc: Global, row: &(&str, &str, i64)) -> Result<bool, Fail> {
+fn has_long_age(rt: &impl Abort, alloc: Global, row: &(&str, &str, i64)) -> bool {
     let (digit, last, seconds) = *row;
-    let digits = digit.repeat(alloc, 1_000)?;
-    let text = format!(in alloc; "a=1; Max-Age={digits}{last}")?;
-    let age = RawCookie::parse(&text)?.max_age();
-    Ok(age == Some(SignedDuration::from_secs(seconds)))
+    let digits = digit.repeat(alloc, 1_000).expect(rt, "memory");
+    let text = format!(in alloc; "a=1; Max-Age={digits}{last}").expect(rt, "memory");
+    let age = RawCookie::parse(&text).expect(rt, "a cookie").max_age();
+    age == Some(SignedDuration::from_secs(seconds))
 }
 
 #[test]
-fn reads_ages_of_many_digits(rt: HostRuntime) -> Result<(), Fail> {
+fn reads_ages_of_many_digits(rt: HostRuntime) {
     for row in LONG_AGES {
-        holds(&rt, has_long_age(rt.alloc(), row)?, row);
+        holds(&rt, has_long_age(&rt, rt.alloc(), row), row);
     }
-    Ok(())
 }
 
 // A text, and the moment that it writes as a cookie's date.
@@ -283,24 +285,22 @@ const DATES: &[(&str, Option<Fields>)] = &[
 ];
 
 #[test]
-fn reads_dates(rt: HostRuntime) -> Result<(), Fail> {
+fn reads_dates(rt: HostRuntime) {
     for (text, fields) in DATES {
-        is_equal(&rt, read_date(text), moment_of(*fields)?, text);
+        is_equal(&rt, read_date(text), moment_of(&rt, *fields), text);
     }
-    Ok(())
 }
 
 #[test]
-fn reads_flags_sites_and_ends(rt: HostRuntime) -> Result<(), Fail> {
+fn reads_flags_sites_and_ends(rt: HostRuntime) {
     let cookie = RawCookie::parse(
         "a=1; SECURE=no; samesite=LAX; SameSite=x; Expires=Tue, 11 Aug 2015 16:41:42 GMT; Expires=x",
-    )?;
+    ).expect(&rt, "a cookie");
     let flags = (cookie.secure(), cookie.http_only());
     let site_and_end = (cookie.same_site(), cookie.expires());
     let end = Expiration::DateTime(date(2015, 8, 11).at(16, 41, 42, 0));
     let wanted = ((Some(true), None), (Some(SameSite::Lax), Some(end)));
     is_equal(&rt, (flags, site_and_end), wanted, &"each attribute");
-    Ok(())
 }
 
 // A text, the text of its cookie, and whether that is plain.
@@ -337,49 +337,36 @@ const TEXTS: &[(&str, &str, bool)] = &[
 ];
 
 // The cookie has this text, also as it is displayed.
-fn has_text(
-    rt: &impl Abort,
-    alloc: Global,
-    cookie: &RawCookie<'_>,
-    wanted: &str,
-) -> Result<(), Fail> {
-    let text = cookie.to_text(alloc)?;
+fn has_text(rt: &impl Abort, alloc: Global, cookie: &RawCookie<'_>, wanted: &str) {
+    let text = cookie.to_text(alloc).expect(rt, "memory");
     is_equal(rt, text.as_str(), wanted, &wanted);
     is_written_at_any_width(rt, alloc, cookie, wanted)
 }
 
 // The cookie has this text, which is that of an equal cookie where it is plain.
-fn prints(
-    rt: &impl Abort,
-    alloc: Global,
-    cookie: &RawCookie<'_>,
-    printed: &str,
-    is_plain: bool,
-) -> Result<(), Fail> {
-    has_text(rt, alloc, cookie, printed)?;
-    let is_same = RawCookie::parse(printed)? == *cookie;
+fn prints(rt: &impl Abort, alloc: Global, cookie: &RawCookie<'_>, printed: &str, is_plain: bool) {
+    has_text(rt, alloc, cookie, printed);
+    let is_same = RawCookie::parse(printed).expect(rt, "a cookie") == *cookie;
     is_equal(
         rt,
         (cookie.is_plain(), is_same),
         (is_plain, is_plain),
         &printed,
     );
-    Ok(())
 }
 
 #[test]
-fn prints_the_table(rt: HostRuntime) -> Result<(), Fail> {
+fn prints_the_table(rt: HostRuntime) {
     laws::reads_back();
     for (text, printed, is_plain) in TEXTS {
         prints(
             &rt,
             rt.alloc(),
-            &RawCookie::parse(text)?,
+            &RawCookie::parse(text).expect(&rt, "a cookie"),
             printed,
             *is_plain,
-        )?;
+        );
     }
-    Ok(())
 }
 
 fn builder(alloc: Global, name: &str, value: &str) -> Result<RawCookieBuilder, AllocError> {
@@ -406,37 +393,41 @@ fn whole_cookie(alloc: Global) -> Result<RawCookie<'static>, AllocError> {
     Ok(builder.build())
 }
 
-fn is_equal_to_copy(cookie: &RawCookie<'_>) -> Result<bool, Fail> {
-    let copy = cookie.clone()?;
-    Ok(copy == *cookie)
+fn is_equal_to_copy(rt: &impl Abort, cookie: &RawCookie<'_>) -> bool {
+    let copy = cookie.clone().expect(rt, "memory");
+    copy == *cookie
 }
 
-fn is_open(alloc: Global, cookie: &RawCookie<'_>) -> Result<bool, Fail> {
-    let open = open_cookie(alloc)?;
-    Ok(open == *cookie)
+fn is_open(rt: &impl Abort, alloc: Global, cookie: &RawCookie<'_>) -> bool {
+    let open = open_cookie(alloc).expect(rt, "memory");
+    open == *cookie
 }
 
 // The cookie has this text, and is equal to its copy and not to the open one.
-fn is_built(
-    rt: &impl Abort,
-    alloc: Global,
-    cookie: &RawCookie<'_>,
-    text: &str,
-) -> Result<(), Fail> {
-    has_text(rt, alloc, cookie, text)?;
-    holds(rt, is_equal_to_copy(cookie)?, &text);
-    holds(rt, !is_open(alloc, cookie)?, &text);
-    Ok(())
+fn is_built(rt: &impl Abort, alloc: Global, cookie: &RawCookie<'_>, text: &str) {
+    has_text(rt, alloc, cookie, text);
+    holds(rt, is_equal_to_copy(rt, cookie), &text);
+    holds(rt, !is_open(rt, alloc, cookie), &text);
 }
 
 #[test]
-fn builds_cookies(rt: HostRuntime) -> Result<(), Fail> {
+fn builds_cookies(rt: HostRuntime) {
     let text = "b=2; SameSite=None";
-    has_text(&rt, rt.alloc(), &open_cookie(rt.alloc())?, text)?;
-    let is_plain = open_cookie(rt.alloc())?.is_plain();
+    has_text(
+        &rt,
+        rt.alloc(),
+        &open_cookie(rt.alloc()).expect(&rt, "memory"),
+        text,
+    );
+    let is_plain = open_cookie(rt.alloc()).expect(&rt, "memory").is_plain();
     holds(&rt, !is_plain, &text);
     let text = "c=3; HttpOnly; Secure; Path=/p; Domain=d.org; Max-Age=-1";
-    is_built(&rt, rt.alloc(), &whole_cookie(rt.alloc())?, text)
+    is_built(
+        &rt,
+        rt.alloc(),
+        &whole_cookie(rt.alloc()).expect(&rt, "memory"),
+        text,
+    )
 }
 
 // A year, and the text of a cookie that ends with it.
@@ -447,17 +438,24 @@ const LAST_YEARS: &[(i16, &str)] = &[
     (-9999, "a=1"),
 ];
 
-pub(crate) fn until_the_end_of(alloc: Global, year: i16) -> Result<RawCookie<'static>, Fail> {
-    let end = Expiration::DateTime(DateTime::new(year, 12, 31, 0, 0, 0, 0)?);
-    Ok(builder(alloc, "a", "1")?.expires(end).build())
+fn until_the_end_of(rt: &impl Abort, alloc: Global, year: i16) -> RawCookie<'static> {
+    let end = Expiration::DateTime(DateTime::new(year, 12, 31, 0, 0, 0, 0).expect(rt, "a moment"));
+    builder(alloc, "a", "1")
+        .expect(rt, "memory")
+        .expires(end)
+        .build()
 }
 
 #[test]
-fn prints_no_year_below_0(rt: HostRuntime) -> Result<(), Fail> {
+fn prints_no_year_below_0(rt: HostRuntime) {
     for (year, text) in LAST_YEARS {
-        has_text(&rt, rt.alloc(), &until_the_end_of(rt.alloc(), *year)?, text)?;
+        has_text(
+            &rt,
+            rt.alloc(),
+            &until_the_end_of(&rt, rt.alloc(), *year),
+            text,
+        );
     }
-    Ok(())
 }
 
 // The cookie with another value.
@@ -470,9 +468,9 @@ fn with_value(
     Ok(RawCookieBuilder::from_cookie(cookie).value(value).build())
 }
 
-fn parsed(alloc: Global, text: &str) -> Result<RawCookie<'static>, Fail> {
-    let cookie = RawCookie::parse(text)?;
-    Ok(cookie.into_owned(alloc)?)
+fn parsed(rt: &impl Abort, alloc: Global, text: &str) -> RawCookie<'static> {
+    let cookie = RawCookie::parse(text).expect(rt, "a cookie");
+    cookie.into_owned(alloc).expect(rt, "memory")
 }
 
 // A text of a cookie, and the text of the same cookie with the value `new`.
@@ -486,11 +484,10 @@ const NEW_VALUES: &[(&str, &str)] = &[
 ];
 
 #[test]
-fn a_value_is_changed_alone(rt: HostRuntime) -> Result<(), Fail> {
+fn a_value_is_changed_alone(rt: HostRuntime) {
     for (text, wanted) in NEW_VALUES {
-        let cookie = parsed(rt.alloc(), text)?;
-        let cookie = with_value(rt.alloc(), cookie, "new")?;
-        has_text(&rt, rt.alloc(), &cookie, wanted)?;
+        let cookie = parsed(&rt, rt.alloc(), text);
+        let cookie = with_value(rt.alloc(), cookie, "new").expect(&rt, "memory");
+        has_text(&rt, rt.alloc(), &cookie, wanted);
     }
-    Ok(())
 }

@@ -3,10 +3,9 @@ use cookie_saved::{Saved, SavedDomain, SavedError, SavedExpiry, from_ron, to_ron
 use jiff::civil::date;
 use std::alloc::Global;
 use std::process::Abort;
-use std::test::Fail;
 
 // How the list of a text is printed again, or why the text says none.
-pub(crate) fn printed_again(alloc: Global, text: &str) -> Result<String, SavedError> {
+fn printed_again(alloc: Global, text: &str) -> Result<String, SavedError> {
     let list = from_ron(alloc, text)?;
     to_ron(alloc, &list)
 }
@@ -19,7 +18,7 @@ fn is_printed_again(rt: &impl Abort, alloc: Global, text: &str, wanted: Result<&
     }
 }
 
-pub(crate) const ONE: &str = r#"[
+const ONE: &str = r#"[
     (
         raw_cookie: "2=two; SameSite=None; Secure; Path=/; Expires=Tue, 03 Aug 2100 00:38:37 GMT",
         path: ("/", true),
@@ -68,7 +67,7 @@ const COMPACT: &str = r#"[
 ]"#;
 
 // A text, and how its list is printed.
-pub(crate) const TEXTS: [(&str, Result<&str, SavedError>); 16] = [
+const TEXTS: [(&str, Result<&str, SavedError>); 16] = [
     (ONE, Ok(ONE)),
     (THREE, Ok(THREE)),
     (
@@ -152,54 +151,47 @@ const QUOTED: [(&str, Result<&str, SavedError>); 18] = [
 ];
 
 // The list of one cookie with this in the quotes of its text, in the layout that is printed.
-fn list_with(alloc: Global, quoted: &str) -> Result<String, Fail> {
+fn list_with(rt: &impl Abort, alloc: Global, quoted: &str) -> String {
     let mut text = String::new(alloc);
-    text.push_str("[\n    (\n        raw_cookie: \"")?;
-    text.push_str(quoted)?;
+    text.push_str("[\n    (\n        raw_cookie: \"")
+        .expect(rt, "memory");
+    text.push_str(quoted).expect(rt, "memory");
     text.push_str(
         "\",\n        path: (\"/\", true),\n        domain: Empty,\n        expires: SessionEnd,\n    ),\n]",
-    )?;
-    Ok(text)
+    ).expect(rt, "memory");
+    text
 }
 
-fn is_quoted_again(
-    rt: &impl Abort,
-    alloc: Global,
-    row: &(&str, Result<&str, SavedError>),
-) -> Result<(), Fail> {
-    let text = list_with(alloc, row.0)?;
+fn is_quoted_again(rt: &impl Abort, alloc: Global, row: &(&str, Result<&str, SavedError>)) {
+    let text = list_with(rt, alloc, row.0);
     match row.1 {
         Ok(wanted) => {
-            let wanted = list_with(alloc, wanted)?;
+            let wanted = list_with(rt, alloc, wanted);
             is_printed_again(rt, alloc, text.as_str(), Ok(wanted.as_str()));
         }
         Err(fault) => is_printed_again(rt, alloc, text.as_str(), Err(fault)),
     }
-    Ok(())
 }
 
 #[test]
-fn texts_in_ron_are_read_and_printed(rt: HostRuntime) -> Result<(), Fail> {
+fn texts_in_ron_are_read_and_printed(rt: HostRuntime) {
     for row in &QUOTED {
-        is_quoted_again(&rt, rt.alloc(), row)?;
+        is_quoted_again(&rt, rt.alloc(), row);
     }
-    Ok(())
 }
 
 #[test]
-fn a_text_is_printed_with_its_escapes(rt: HostRuntime) -> Result<(), Fail> {
+fn a_text_is_printed_with_its_escapes(rt: HostRuntime) {
     let saved = Saved {
-        raw_cookie: String::from_str(rt.alloc(), "a\t\"\u{7}é")?,
-        path: String::from_str(rt.alloc(), "/")?,
+        raw_cookie: String::from_str(rt.alloc(), "a\t\"\u{7}é").expect(&rt, "memory"),
+        path: String::from_str(rt.alloc(), "/").expect(&rt, "memory"),
         from_attr: true,
         domain: SavedDomain::Empty,
         expires: SavedExpiry::SessionEnd,
     };
-    let wanted = list_with(rt.alloc(), r#"a\t\"\u{7}é"#)?;
-    let printed = to_ron(rt.alloc(), &[saved]);
-    let is_it = printed.is_ok_and(|text| text.as_str() == wanted.as_str());
-    is_equal(&rt, is_it, true, &"escapes");
-    Ok(())
+    let wanted = list_with(&rt, rt.alloc(), r#"a\t\"\u{7}é"#);
+    let printed = to_ron(rt.alloc(), &[saved]).expect(&rt, "memory");
+    is_equal(&rt, printed.as_str(), wanted.as_str(), &"escapes");
 }
 
 const FOUR: &str = r#"[

@@ -7,7 +7,7 @@ use cookie_saved::{
 use jiff::civil::DateTime;
 use serde_json::Value;
 use std::alloc::Global;
-use std::test::Fail;
+use std::process::Abort;
 
 // A text, and the moment that it writes.
 const MOMENTS: &[(&str, Option<Fields>)] = &[
@@ -39,11 +39,10 @@ const MOMENTS: &[(&str, Option<Fields>)] = &[
 ];
 
 #[test]
-fn reads_moments(rt: HostRuntime) -> Result<(), Fail> {
+fn reads_moments(rt: HostRuntime) {
     for (text, fields) in MOMENTS {
-        is_equal(&rt, read_moment(text), moment_of(*fields)?, text);
+        is_equal(&rt, read_moment(text), moment_of(&rt, *fields), text);
     }
-    Ok(())
 }
 
 // A moment, and its text, or None where it has none.
@@ -59,24 +58,26 @@ const TEXTS: &[(Fields, Option<&str>)] = &[
     ((-1, 12, 31, 23, 59, 59, 0), None),
 ];
 
-// Whether the moment has the text, or is refused where it has none.
-fn is_written_as(alloc: Global, row: &(Fields, Option<&str>)) -> Result<bool, Fail> {
-    let Some(moment) = moment_of(Some(row.0))? else {
-        return Ok(false);
-    };
-    Ok(match (moment_text(alloc, moment), row.1) {
-        (Ok(text), Some(wanted)) => text.as_str() == wanted,
-        (Err(fault), None) => fault == SavedError::Moment,
-        _ => false,
-    })
+// The moment has the text, or is refused where it has none.
+fn is_written_as(rt: &impl Abort, alloc: Global, row: &(Fields, Option<&str>)) {
+    let moment = moment_of(rt, Some(row.0)).expect(rt, "a moment");
+    let text = moment_text(alloc, moment);
+    match &text {
+        Ok(text) => is_equal(rt, Some(text.as_str()), row.1, row),
+        Err(fault) => is_equal(
+            rt,
+            (Some(*fault), None),
+            (Some(SavedError::Moment), row.1),
+            row,
+        ),
+    }
 }
 
 #[test]
-fn writes_moments(rt: HostRuntime) -> Result<(), Fail> {
+fn writes_moments(rt: HostRuntime) {
     for row in TEXTS {
-        holds(&rt, is_written_as(rt.alloc(), row)?, row);
+        is_written_as(&rt, rt.alloc(), row);
     }
-    Ok(())
 }
 
 // A saved cookie as a tree, and one of each kind that is refused.
@@ -90,7 +91,7 @@ const NO_SHAPE: &str = r#"{"raw_cookie": "a=1", "path": ["/"],
     "domain": "Empty", "expires": "SessionEnd"}"#;
 
 // A tree, and why it is refused, if it is.
-pub(crate) const TREES: &[(&str, Option<SavedError>)] = &[
+const TREES: &[(&str, Option<SavedError>)] = &[
     (WHOLE, None),
     (
         r#"{"x": 1, "expires": "SessionEnd", "domain": {"Suffix": ""}, "path": ["", false],
@@ -135,7 +136,7 @@ pub(crate) const TREES: &[(&str, Option<SavedError>)] = &[
 ];
 
 // Why there is no value, if there is none.
-pub(crate) fn refusal_of<T>(outcome: &Result<T, SavedError>) -> Option<SavedError> {
+fn refusal_of<T>(outcome: &Result<T, SavedError>) -> Option<SavedError> {
     match outcome {
         Ok(_) => None,
         Err(fault) => Some(*fault),
@@ -143,13 +144,12 @@ pub(crate) fn refusal_of<T>(outcome: &Result<T, SavedError>) -> Option<SavedErro
 }
 
 #[test]
-fn reads_trees(rt: HostRuntime) -> Result<(), Fail> {
+fn reads_trees(rt: HostRuntime) {
     for (text, wanted) in TREES {
-        let tree = Value::from_str(rt.alloc(), text)?;
+        let tree = Value::from_str(rt.alloc(), text).expect(&rt, "a tree");
         let saved = from_value(rt.alloc(), &tree);
         is_equal(&rt, refusal_of(&saved), *wanted, text);
     }
-    Ok(())
 }
 
 // Trees of a list, and why it is refused, if it is.
@@ -163,61 +163,61 @@ const LISTS: &[(&[&str], Option<SavedError>)] = &[
 ];
 
 // The list of the trees.
-pub(crate) fn list_of(alloc: Global, trees: &[&str]) -> Result<Value, Fail> {
+fn list_of(rt: &impl Abort, alloc: Global, trees: &[&str]) -> Value {
     let mut list = Vec::new(alloc);
     for text in trees {
-        list.push(Value::from_str(alloc, text)?)?;
+        list.push(Value::from_str(alloc, text).expect(rt, "a tree"))
+            .expect(rt, "memory");
     }
-    Ok(Value::Array(list))
+    Value::Array(list)
 }
 
 #[test]
-fn reads_lists(rt: HostRuntime) -> Result<(), Fail> {
+fn reads_lists(rt: HostRuntime) {
     for (trees, wanted) in LISTS {
-        let list = list_of(rt.alloc(), trees)?;
+        let list = list_of(&rt, rt.alloc(), trees);
         let saved = list_from_value(rt.alloc(), &list);
         is_equal(&rt, refusal_of(&saved), *wanted, trees);
     }
-    Ok(())
 }
 
 #[test]
-fn a_tree_is_no_list(rt: HostRuntime) -> Result<(), Fail> {
-    let tree = Value::from_str(rt.alloc(), WHOLE)?;
+fn a_tree_is_no_list(rt: HostRuntime) {
+    let tree = Value::from_str(rt.alloc(), WHOLE).expect(&rt, "a tree");
     let saved = list_from_value(rt.alloc(), &tree);
     is_equal(&rt, refusal_of(&saved), Some(SavedError::Shape), &WHOLE);
-    Ok(())
 }
 
 // Whether the list is the tree, and its text says that tree.
-fn is_written(alloc: Global, saved: &[Saved], list: &Value) -> Result<bool, Fail> {
-    let text = list_to_text(alloc, saved)?;
-    Ok(list_to_value(alloc, saved)? == *list && Value::from_str(alloc, &text)? == *list)
+fn is_written(rt: &impl Abort, alloc: Global, saved: &[Saved], list: &Value) -> bool {
+    let text = list_to_text(alloc, saved).expect(rt, "memory");
+    list_to_value(alloc, saved).expect(rt, "memory") == *list
+        && Value::from_str(alloc, &text).expect(rt, "a tree") == *list
 }
 
 #[test]
-fn a_list_is_written_as_it_was_read(rt: HostRuntime) -> Result<(), Fail> {
-    let list = list_of(rt.alloc(), &[WHOLE, WHOLE])?;
-    let saved = list_from_value(rt.alloc(), &list)?;
-    holds(&rt, is_written(rt.alloc(), &saved, &list)?, &WHOLE);
-    Ok(())
+fn a_list_is_written_as_it_was_read(rt: HostRuntime) {
+    let list = list_of(&rt, rt.alloc(), &[WHOLE, WHOLE]);
+    let saved = list_from_value(rt.alloc(), &list).expect(&rt, "memory");
+    holds(&rt, is_written(&rt, rt.alloc(), &saved, &list), &WHOLE);
 }
 
 // A saved cookie that ends before the year 0.
-fn early(alloc: Global) -> Result<Saved, Fail> {
-    let mut saved = from_value(alloc, &Value::from_str(alloc, WHOLE)?)?;
+fn early(rt: &impl Abort, alloc: Global) -> Saved {
+    let mut saved = from_value(alloc, &Value::from_str(alloc, WHOLE).expect(rt, "a tree")).expect(
+        rt, "memory",
+    );
     saved.expires = SavedExpiry::AtUtc(DateTime::MIN);
-    Ok(saved)
+    saved
 }
 
 #[test]
-fn an_end_before_the_year_0_has_no_tree(rt: HostRuntime) -> Result<(), Fail> {
-    let list = [early(rt.alloc())?];
+fn an_end_before_the_year_0_has_no_tree(rt: HostRuntime) {
+    let list = [early(&rt, rt.alloc())];
     let tree = to_value(rt.alloc(), &list[0]);
     is_equal(&rt, refusal_of(&tree), Some(SavedError::Moment), &"a tree");
     let tree = list_to_value(rt.alloc(), &list);
     is_equal(&rt, refusal_of(&tree), Some(SavedError::Moment), &"a list");
     let text = list_to_text(rt.alloc(), &list);
     is_equal(&rt, refusal_of(&text), Some(SavedError::Moment), &"a text");
-    Ok(())
 }
