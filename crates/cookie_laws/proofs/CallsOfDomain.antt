@@ -11,7 +11,7 @@ use Rattle.cookie_laws.proofs.RowsOfKeys.{IsByDomain}
 use Rattle.cookie_laws.proofs.RunsOfKeys.{IsOfKeys, same_stores, same_replies}
 
 -- the key is of the domain
-abbrev is_in : List ℕ → Key → Bool
+abbrev pub is_in : List ℕ → Key → Bool
 is_in domain key = bytes_eq domain key.domain
 
 -- keys of one domain are of it alike

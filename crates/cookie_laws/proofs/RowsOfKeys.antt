@@ -11,7 +11,7 @@ abbrev pub passing : (Key → Bool) → List Row → List Row
 passing test rows = filter (λ row. test (key_of row)) rows
 
 -- a row of a key passes as the key does
-has_key-passes : (test : Key → Bool) (key : Key) (answer : Bool) → test key ≡ answer → (row : Row) → has_key key row ≡ true → test (key_of row) ≡ answer
+pub has_key-passes : (test : Key → Bool) (key : Key) (answer : Bool) → test key ≡ answer → (row : Row) → has_key key row ≡ true → test (key_of row) ≡ answer
 has_key-passes test key answer told row same = ap test (sym (same_key-true key (key_of row) same)) ∙ told
 
 -- the row of a key that passes is among the rows that do

@@ -20,7 +20,7 @@ abbrev pub passing_store : (Key → Bool) → Contents → Contents
 passing_store test store = record store { rows = passing test store.rows; made = filter test store.made }
 
 -- a key passes as the same key does
-same_key-passes : (test : Key → Bool) (key : Key) (answer : Bool) → test key ≡ answer → (other : Key) → same_key key other ≡ true → test other ≡ answer
+pub same_key-passes : (test : Key → Bool) (key : Key) (answer : Bool) → test key ≡ answer → (other : Key) → same_key key other ≡ true → test other ≡ answer
 same_key-passes test key answer told other same = ap test (sym (same_key-true key other same)) ∙ told
 
 -- a key removed that passes
@@ -41,7 +41,7 @@ make-passing test made key here =
     (λ _. filter-append test made (key ∷ []) ∙ ap (λ b. filter test made ++ (if b then key ∷ [] else [])) here)
 
 -- a key is made that does not
-make-other : (test : Key → Bool) (made : List Key) (key : Key) → test key ≡ false → filter test (make made key) ≡ filter test made
+pub make-other : (test : Key → Bool) (made : List Key) (key : Key) → test key ≡ false → filter test (make made key) ≡ filter test made
 make-other test made key away =
     cond_both (list_any (same_key key) made) made (made ++ key ∷ []) (λ keys. filter test keys ≡ filter test made)
     (λ _. refl)
@@ -99,7 +99,7 @@ leaving-passing test by_domain store now key here =
     ∙ beyond-passing store.limit test now store.rows (same_domain key) domain store.made
 
 -- a key that is not among those of a domain does not leave with them
-beyond-apart : (limit : Option ℕ) (now : Moment) (rows : List Row) (keys : List Key) (p : Key → Bool) → list_any p keys ≡ false → list_any p (beyond limit now rows keys) ≡ false
+pub beyond-apart : (limit : Option ℕ) (now : Moment) (rows : List Row) (keys : List Key) (p : Key → Bool) → list_any p keys ≡ false → list_any p (beyond limit now rows keys) ≡ false
 beyond-apart None now rows keys p apart = refl
 beyond-apart (Some limit) now rows keys p apart =
     let over = has_ended now rows in

@@ -1,11 +1,12 @@
 -- What a store holds, and which rows leave it for a new one.
-use Rattle.std.specs.Prelude.{ℕ, ◌+◌, ◌-◌, Bool, not, List, [], ◌++◌, filter, length, take, Option, Some, None}
+use Rattle.std.specs.Prelude.{◌≡◌, ℕ, ◌+◌, ◌-◌, Bool, true, not, List, [], ◌++◌, filter, length, map, take, Option, Some, None}
 use Rattle.std.specs.List.{list_any}
+use Rattle.std.specs.List.Sorted.{IsPermutation}
 use Rattle.cookie_words.specs.Moments.{Moment}
 use Rattle.cookie_psl.specs.Rules.{RuleList}
 use Rattle.cookie_parts.specs.Cookie.{Row, is_expired}
 use Rattle.cookie_parts.specs.Hosts.{passes}
-use Rattle.cookie_laws.specs.Rows.{Key, Kept, key_of, make, put, row_of, same_domain, same_key}
+use Rattle.cookie_laws.specs.Rows.{Key, Kept, differ, key_of, make, put, row_of, same_domain, same_key}
 
 -- its rows, and their keys by making, the one that was made least recently first; the public suffix list that it obeys, if there
 -- is one; and how many rows of one domain it lets stand, if there is a limit
@@ -14,6 +15,10 @@ pub record Contents : Type 0 where
   pub made : List Key
   pub suffixes : Option RuleList
   pub limit : Option ℕ
+
+-- its keys by making are the keys of its rows in an order of their own, and differ
+abbrev pub HasMade : Contents → Type 0
+HasMade store = IsPermutation (map key_of store.rows) store.made × (differ same_key store.made ≡ true)
 
 -- its rows and their keys
 abbrev pub kept_of : Contents → Kept

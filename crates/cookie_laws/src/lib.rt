@@ -9,17 +9,18 @@ ghost use Rattle.cookie_parts.specs.Cookie.{Row, ended, is_out_of_reach};
 ghost use Rattle.cookie_parts.specs.Domain.{domain_text, HostOnly};
 ghost use Rattle.cookie_parts.specs.Hosts.{host_of};
 ghost use Rattle.cookie_parts.specs.declared.cookie_error.CookieError.{CookieError};
-ghost use Rattle.cookie_parts.specs.declared.store_action.StoreAction.TheVariants.{ExpiredExisting};
+ghost use Rattle.cookie_parts.specs.declared.store_action.StoreAction.TheVariants.{ExpiredExisting, Inserted};
 ghost use Rattle.cookie_laws.specs.Acceptance.{admitted, is_listed, received, IsPut, Leaves};
 ghost use Rattle.cookie_laws.specs.Confinement.{IsConfined, IsConfinedAsPut};
-ghost use Rattle.cookie_laws.specs.Contents.{Contents};
+ghost use Rattle.cookie_laws.specs.Contents.{contents_of, has_ended, leaving, Contents, HasMade};
 ghost use Rattle.cookie_laws.specs.Given.{given, is_given};
 ghost use Rattle.cookie_laws.specs.Related.{concerns, domain_calls, domain_keys, domain_rows, is_of_domain, is_related, left, replies_to};
-ghost use Rattle.cookie_laws.specs.Rows.{are_rows, built, changed, has_key, is_live, key_of, row_of, same_key, Key};
+ghost use Rattle.cookie_laws.specs.Rows.{are_rows, built, changed, has_key, is_live, key_of, row_of, same_domain, same_key, Key};
 ghost use Rattle.cookie_laws.specs.Runs.{Call, replies, rows_after, store_after};
+ghost use Rattle.cookie_psl.specs.Rules.{RuleList};
 ghost use Rattle.cookie_words.specs.Moments.{epoch, nanoseconds, Moment};
-ghost use Rattle.std.specs.List.{All};
-ghost use Rattle.std.specs.Prelude.{◌≡◌, ◌≤ℤ◌, ◌⊎◌, ℕ, [], false, true, List, Ok, Result, Some};
+ghost use Rattle.std.specs.List.{list_any, All};
+ghost use Rattle.std.specs.Prelude.{◌+◌, ◌++◌, ◌<◌, ◌≡◌, ◌≤ℤ◌, ◌≤◌, ◌∷◌, ◌⊎◌, ℕ, [], false, length, max, min, true, Bool, List, Ok, Option, Result, Some};
 ghost use Rattle.url.specs.Parts.{Parts};
 
 /// Calls for domains that are not related to a URL change nothing in what is given for it, nor in the replies to the others.
@@ -39,6 +40,36 @@ pub fn per_domain()
         → domain_keys domain (store_after calls store).made ≡ domain_keys domain (store_after (domain_calls domain calls) store).made }
     ensures replies { (domain : List ℕ) (calls : List Call) (store : Contents)
         → replies_to (is_of_domain domain) calls store ≡ replies (domain_calls domain calls) store }
+{}
+
+/// Under a limit no more rows of one domain stand after calls than the limit, or than stood before if those were more. A cookie that
+/// is inserted leaves one row of its domain more than there were, or as many as the limit if that is fewer. The keys by making are
+/// those of the rows in a store that is built, and stay so.
+pub fn limited()
+    ensures rows { (domain : List ℕ) (calls : List Call) (store : Contents) (limit : ℕ) → HasMade store → store.limit ≡ Some limit
+        → 0 < limit → length (domain_rows domain (rows_after calls store)) ≤ max limit (length (domain_rows domain store.rows)) }
+    ensures inserted { (store : Contents) (made : Result Row CookieError) (url : Parts) (now : Moment) (cookie : Row) (limit : ℕ)
+        → HasMade store → store.limit ≡ Some limit → 0 < limit
+        → made ≡ Ok cookie → (received store made url now).reply ≡ Ok Inserted
+        → length (domain_rows (domain_text cookie.domain) (received store made url now).store.rows)
+        ≡ min limit (length (domain_rows (domain_text cookie.domain) store.rows) + 1) }
+    ensures made { (calls : List Call) (store : Contents) → HasMade store → HasMade (store_after calls store) }
+    ensures built { (include_expired : Bool) (now : Moment) (cookies : List Row) (suffixes : Option RuleList) (limit : Option ℕ)
+        → HasMade (contents_of (built include_expired now cookies) suffixes limit) }
+{}
+
+/// Under a limit rows leave a domain in turn. Where the row of a key leaves that has not ended, each that has ended does, and where
+/// both have ended, or neither has, each whose key was made before.
+pub fn leave_in_turn()
+    ensures ended { (store : Contents) (now : Moment) (new first later : Key) → HasMade store → same_domain first later ≡ true
+        → list_any (same_key later) (leaving store now new) ≡ true
+        → has_ended now store.rows first ≡ true → has_ended now store.rows later ≡ false
+        → list_any (same_key first) (leaving store now new) ≡ true }
+    ensures made { (store : Contents) (now : Moment) (new first later : Key) → HasMade store → same_domain first later ≡ true
+        → list_any (same_key later) (leaving store now new) ≡ true
+        → has_ended now store.rows first ≡ has_ended now store.rows later
+        → (front between back : List Key) → store.made ≡ front ++ first ∷ (between ++ later ∷ back)
+        → list_any (same_key first) (leaving store now new) ≡ true }
 {}
 
 /// What is given after calls from a store without rows was put by one of them, from the same host, or for all hosts that a domain

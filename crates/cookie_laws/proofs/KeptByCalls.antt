@@ -1,0 +1,46 @@
+-- What each change of a store keeps holds after calls.
+use Rattle.std.proofs.Common.{List, [], ◌∷◌, Result, Ok, Err}
+use Rattle.url.specs.Parts.{Parts}
+use Rattle.cookie_words.specs.Moments.{Moment}
+use Rattle.cookie_parts.specs.Cookie.{Row, cookie_at}
+use Rattle.cookie_parts.specs.declared.cookie_error.CookieError.{CookieError}
+use Rattle.cookie_laws.specs.Acceptance.{accept, admitted, entered, received, reply_at, store_by}
+use Rattle.cookie_laws.specs.Contents.{Contents}
+use Rattle.cookie_laws.specs.Rows.{Key, has_key, key_of, removed, row_of, same_key}
+use Rattle.cookie_laws.specs.Runs.{Call, Set, Insert, Remove, Clear, step, store_after}
+
+-- what the answer to a cookie keeps that may enter, and a row that goes, and what holds without rows
+module _ (P : Contents → Type 0)
+    (answers : (store : Contents) (cookie : Row) (url : Parts) (now : Moment) → P store
+    → P (store_by (reply_at (row_of (key_of cookie) store.rows) cookie url now) store cookie now))
+    (removes : (key : Key) (store : Contents) → P store
+    → P (record store { rows = removed (has_key key) store.rows; made = removed (same_key key) store.made }))
+    (clears : (store : Contents) → P store → P (record store { rows = []; made = [] })) where
+  -- it holds after a cookie that may enter, if there is one
+  entered-keeps : (made : Result Row CookieError) (url : Parts) (now : Moment) (store : Contents) → P store
+      → P (entered made url now store).store
+  entered-keeps (Err refusal) url now store held = held
+  entered-keeps (Ok cookie) url now store held = answers store cookie url now held
+
+  -- after a cookie that comes
+  accept-keeps : (store : Contents) (cookie : Row) (url : Parts) (now : Moment) → P store → P (accept store cookie url now).store
+  unfolding accept
+  accept-keeps store cookie url now held = entered-keeps (admitted store.suffixes url cookie) url now store held
+
+  -- after one that comes if it was made
+  received-keeps : (store : Contents) (made : Result Row CookieError) (url : Parts) (now : Moment) → P store
+      → P (received store made url now).store
+  received-keeps store (Err refusal) url now held = held
+  received-keeps store (Ok cookie) url now held = accept-keeps store cookie url now held
+
+  -- after a call
+  step-keeps : (call : Call) (store : Contents) → P store → P (step call store).store
+  step-keeps (Set text url now) store held = received-keeps store (cookie_at text url now) url now held
+  step-keeps (Insert cookie url now) store held = accept-keeps store cookie url now held
+  step-keeps (Remove key) store held = removes key store held
+  step-keeps Clear store held = clears store held
+
+  -- and after calls
+  pub store_after-keeps : (calls : List Call) (store : Contents) → P store → P (store_after calls store)
+  store_after-keeps [] store held = held
+  store_after-keeps (call ∷ calls) store held = store_after-keeps calls (step call store).store (step-keeps call store held)

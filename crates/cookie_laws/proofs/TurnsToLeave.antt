@@ -1,0 +1,165 @@
+-- In which turn rows leave a domain under a limit.
+use Rattle.std.proofs.Common.{◌≡◌, ℕ, zero, suc, ◌+◌, ◌-◌, Bool, true, false, not, ◌&&◌, ◌||◌, List, [], ◌∷◌, ◌++◌, length, take, Option, Some, None, ◌∙◌, refl, sym, ap, ⊎_elim, append_assoc, arith}
+use Rattle.std.specs.Prelude.{is_some}
+use Rattle.std.specs.List.{filter, list_any}
+use Rattle.std.proofs.lemmas.Bool.{both_ways, cases_Bool}
+use Rattle.std.proofs.lemmas.List.Folds.{list_any-append}
+use Rattle.cookie_words.specs.Moments.{Moment}
+use Rattle.cookie_parts.specs.Cookie.{Row, is_expired}
+use Rattle.cookie_parts.specs.Hosts.{passes}
+use Rattle.cookie_laws.specs.Contents.{Contents, HasMade, beyond, by_turn, has_ended, leaving}
+use Rattle.cookie_laws.specs.Rows.{Key, differ, row_of, same_domain, same_domain_equiv, same_key, same_key_equiv}
+use Rattle.cookie_laws.proofs.Filtered.{list_any-kept, none-apart}
+use Rattle.cookie_laws.proofs.LimitedRows.{row-made}
+use Rattle.cookie_laws.proofs.MadeKeys.{once_from_made}
+use Rattle.cookie_laws.proofs.StoresOfKeys.{beyond-apart, same_key-passes}
+
+-- which of two items comes first
+module _ {T : Type 0} where
+  -- an item passes one test, and none before it the other
+  comes_first : (T → Bool) → (T → Bool) → List T → Bool
+  comes_first p q [] = false
+  comes_first p q (x ∷ xs) = p x || (not (q x) && comes_first p q xs)
+
+  -- an item comes first that passes a test, before those that pass another
+  module _ (p q : T → Bool) where
+    -- where one of the first n passes the other, one of them passes it
+    first-taken : (n : ℕ) (xs : List T) → comes_first p q xs ≡ true → list_any q (take n xs) ≡ true → list_any p (take n xs) ≡ true
+    unfolding comes_first
+    first-taken zero xs comes some = absurd (cc)
+    first-taken (suc n) [] comes some = absurd (cc)
+    first-taken (suc n) (x ∷ xs) comes some = grind (arith, first-taken n xs)
+
+    -- it does so where one passes it, and none the other
+    first-alone : (xs : List T) → list_any p xs ≡ true → list_any q xs ≡ false → comes_first p q xs ≡ true
+    unfolding comes_first
+    first-alone [] some none = absurd (cc)
+    first-alone (x ∷ xs) some none = grind (arith, first-alone xs)
+
+    -- without items that do not pass it
+    first-filtered : (test : T → Bool) → ((x : T) → p x ≡ true → test x ≡ true) → (xs : List T) → comes_first p q xs ≡ true
+        → comes_first p q (filter test xs) ≡ true
+    unfolding comes_first
+    first-filtered test kept [] comes = comes
+    first-filtered test kept (x ∷ xs) comes = grind (arith, kept x, first-filtered test kept xs)
+
+    -- with more behind
+    first-before : (xs ys : List T) → comes_first p q xs ≡ true → comes_first p q (xs ++ ys) ≡ true
+    unfolding comes_first
+    first-before [] ys comes = absurd (cc)
+    first-before (x ∷ xs) ys comes = grind (arith, first-before xs ys)
+
+    -- and with others in front
+    first-behind : (xs ys : List T) → list_any q xs ≡ false → comes_first p q ys ≡ true → comes_first p q (xs ++ ys) ≡ true
+    unfolding comes_first
+    first-behind [] ys none comes = comes
+    first-behind (x ∷ xs) ys none comes = grind (arith, first-behind xs ys)
+
+-- of keys that differ, one that stands behind does not stand in front
+none-in_front : (key : Key) (front back : List Key) → differ same_key (front ++ key ∷ back) ≡ true → list_any (same_key key) front ≡ false
+none-in_front key [] back d = refl
+none-in_front key (k ∷ ks) back d =
+    let behind : list_any (same_key k) (ks ++ key ∷ back) ≡ false = grind (arith, d) in
+    let rest : differ same_key (ks ++ key ∷ back) ≡ true = grind (arith, d) in
+    let apart : same_key k key ≡ false = grind (arith, list_any-append (same_key k) ks (key ∷ back), behind) in
+    grind (arith, same_key_equiv.symm key k, apart, none-in_front key ks back rest)
+
+-- so of two of them the one that stands before the other comes first
+made_before : (first later : Key) (front between back made : List Key) → made ≡ front ++ first ∷ (between ++ later ∷ back)
+    → differ same_key made ≡ true → comes_first (same_key first) (same_key later) made ≡ true
+unfolding comes_first
+made_before first later front between back made is d =
+    let all : (front ++ first ∷ between) ++ later ∷ back ≡ front ++ first ∷ (between ++ later ∷ back) =
+    append_assoc front (first ∷ between) (later ∷ back) in
+    let none : list_any (same_key later) (front ++ first ∷ between) ≡ false =
+    none-in_front later (front ++ first ∷ between) back (ap (differ same_key) (all ∙ sym is) ∙ d) in
+    let before : list_any (same_key later) front ≡ false =
+    grind (arith, list_any-append (same_key later) front (first ∷ between), none) in
+    let here : comes_first (same_key first) (same_key later) (first ∷ (between ++ later ∷ back)) ≡ true =
+    grind (arith, same_key_equiv.refl first) in
+    ap (comes_first (same_key first) (same_key later)) is
+    ∙ first-behind (same_key first) (same_key later) front (first ∷ (between ++ later ∷ back)) before here
+
+-- what passes is there
+passes-some : {T : Type 0} (test : T → Bool) (found : Option T) → passes test found ≡ true → is_some found ≡ true
+passes-some test None passed = absurd (cc)
+passes-some test (Some x) passed = refl
+
+-- where the other key leaves, that which comes first in turn does
+beyond-first : (limit : Option ℕ) (now : Moment) (rows : List Row) (keys : List Key) (first later : Key)
+    → comes_first (same_key first) (same_key later) (by_turn now rows keys) ≡ true
+    → list_any (same_key later) (beyond limit now rows keys) ≡ true → list_any (same_key first) (beyond limit now rows keys) ≡ true
+beyond-first None now rows keys first later comes leaves = absurd (cc)
+beyond-first (Some limit) now rows keys first later comes leaves =
+    first-taken (same_key first) (same_key later) (length keys + 1 - limit) (by_turn now rows keys) comes leaves
+
+-- a key of which a test is false is not among keys that pass it
+none-passing : (test : Key → Bool) (key : Key) (keys : List Key) → test key ≡ false → list_any (same_key key) (filter test keys) ≡ false
+none-passing test key keys away =
+    let apart : (k : Key) → test k ≡ true → same_key key k ≡ false = λ k passed.
+    ⊎_elim (λ same. absurd (both_ways (test k) (same_key-passes test key false away k same) passed))
+    (λ other. other)
+    (cases_Bool (same_key key k)) in
+    none-apart (same_key key) test apart keys
+
+-- a key that leaves is of the domain of the new one
+leaves-near : (store : Contents) (now : Moment) (new key : Key) → list_any (same_key key) (leaving store now new) ≡ true
+    → same_domain new key ≡ true
+leaves-near store now new key leaves =
+    let keys = filter (same_domain new) store.made in
+    ⊎_elim (λ near. near)
+    (λ away.
+    let none = none-passing (same_domain new) key store.made away in
+    let stays = beyond-apart store.limit now store.rows keys (same_key key) none in
+    absurd (both_ways (list_any (same_key key) (leaving store now new)) stays leaves))
+    (cases_Bool (same_domain new key))
+
+-- the other key leaves, which is of the domain of the first
+module _ (store : Contents) (now : Moment) (new first later : Key) (has : HasMade store) (near : same_domain first later ≡ true)
+    (leaves : list_any (same_key later) (leaving store now new) ≡ true) where
+  -- the first is of that domain too
+  first-near : same_domain new first ≡ true
+  first-near =
+      same_domain_equiv.symm new first ∙ same_domain_equiv.congr first later new near ∙ same_domain_equiv.symm later new
+      ∙ leaves-near store now new later leaves
+
+  -- where its row has ended, and that of the other has not, it leaves
+  pub ended_first : has_ended now store.rows first ≡ true → has_ended now store.rows later ≡ false
+      → list_any (same_key first) (leaving store now new) ≡ true
+  ended_first over live =
+      let ended = has_ended now store.rows in
+      let keys = filter (same_domain new) store.made in
+      let row : is_some (row_of first store.rows) ≡ true = passes-some (is_expired now) (row_of first store.rows) over in
+      let made : list_any (same_key first) store.made ≡ true = sym (row-made first store (once_from_made store has)) ∙ row in
+      let own : list_any (same_key first) keys ≡ true =
+      list_any-kept (same_domain new) (same_key first) (same_key-passes (same_domain new) first true first-near) store.made ∙ made in
+      let some : list_any (same_key first) (filter ended keys) ≡ true =
+      list_any-kept ended (same_key first) (same_key-passes ended first true over) keys ∙ own in
+      let comes = first-alone (same_key first) (same_key later) (filter ended keys) some (none-passing ended later keys live) in
+      beyond-first store.limit now store.rows keys first later
+      (first-before (same_key first) (same_key later) (filter ended keys) (filter (λ key. not (ended key)) keys) comes)
+      leaves
+
+  -- where both have ended, or neither has, and it was made before the other, it leaves
+  pub made_first : has_ended now store.rows first ≡ has_ended now store.rows later
+      → (front between back : List Key) → store.made ≡ front ++ first ∷ (between ++ later ∷ back)
+      → list_any (same_key first) (leaving store now new) ≡ true
+  made_first alike front between back is =
+      let p = same_key first in
+      let q = same_key later in
+      let ended = has_ended now store.rows in
+      let keys = filter (same_domain new) store.made in
+      let comes : comes_first p q keys ≡ true =
+      first-filtered p q (same_domain new) (same_key-passes (same_domain new) first true first-near) store.made
+      (made_before first later front between back store.made is has.1) in
+      let turn : comes_first p q (by_turn now store.rows keys) ≡ true =
+      ⊎_elim (λ over.
+      first-before p q (filter ended keys) (filter (λ key. not (ended key)) keys)
+      (first-filtered p q ended (same_key-passes ended first true over) keys comes))
+      (λ live.
+      first-behind p q (filter ended keys) (filter (λ key. not (ended key)) keys)
+      (none-passing ended later keys (sym alike ∙ live))
+      (first-filtered p q (λ key. not (ended key))
+      (same_key-passes (λ key. not (ended key)) first true (ap not live)) keys comes))
+      (cases_Bool (ended first)) in
+      beyond-first store.limit now store.rows keys first later turn leaves
