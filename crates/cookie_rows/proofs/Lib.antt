@@ -3,6 +3,7 @@ pub mod AreItems
 pub mod Bare
 pub mod Built
 pub mod ByNumber
+pub mod ChosenTurn
 pub mod Copies
 pub mod Entered
 pub mod Entering

@@ -92,7 +92,7 @@ Ascends [] = Unit {0}
 Ascends (x ∷ xs) = AllByRecursion (λ y. comes_before y x ≡ false) xs × Ascends xs
 
 -- what holds at each place holds of all
-all_by_index : (P : Turn → Type 0) (xs : List Turn) → ((j : ℕ) (d : Turn) → j < length xs → P (get_or xs j d)) → AllByRecursion P xs
+pub all_by_index : (P : Turn → Type 0) (xs : List Turn) → ((j : ℕ) (d : Turn) → j < length xs → P (get_or xs j d)) → AllByRecursion P xs
 all_by_index P [] h = tt
 all_by_index P (x ∷ xs) h = (h 0 x (omega arith), all_by_index P xs (λ j d l. h (suc j) d (omega arith)))
 

@@ -1,11 +1,11 @@
 //! The rows of one domain, by path.
-ghost use Rattle.std.specs.Prelude.{◌≡◌, ◌∷◌, [], ◌++◌, ◌==◌, ◌<◌, filter, length, map, not, option_map, string_bytes, None, IfOk, IfSome, OnErr, OnOk};
+ghost use Rattle.std.specs.Prelude.{◌≡◌, ◌∷◌, [], ◌++◌, ◌==◌, ◌<◌, ◌≤◌, filter, length, map, not, option_map, string_bytes, None, IfNone, IfOk, IfSome, OnErr, OnOk, OnSome};
 ghost use Rattle.std.specs.Option.{option_copied};
 ghost use Rattle.cookie_words.specs.Moments.{moment_of};
 ghost use Rattle.cookie_lookup.specs.Seen.{place_of, rows_in, under};
 ghost use Rattle.cookie_rows.specs.Groups.{changed_at, is_empty_at, texts_of};
 ghost use Rattle.cookie_rows.specs.Items.{end_item_paths, find_item_paths, put_item_paths, remove_item, remove_item_paths, rows_of};
-ghost use Rattle.cookie_rows.specs.Turns.{is_single, is_single_paths, passing, settled, stays, turn_of, turns_of, EntersPaths};
+ghost use Rattle.cookie_rows.specs.Turns.{is_single, is_single_paths, passing, settled, stays, turn_of, turns_of, EntersPaths, IsFirst};
 
 use crate::boxed::BoxedCookie;
 use crate::hashing::HashKey;
@@ -144,19 +144,39 @@ impl Paths {
         ensures entered { IfOk result (λ left. EntersPaths limit (moment_of now) cookie.entry number self.old self.new left) }
         ensures err { OnErr result (self.new ≡ self.old) }
     {
-        let mut turns = self.turns(alloc, now)?;
-        if turns.len() < limit {
+        let Some(first) = self.first_to_stay(alloc, number, limit, now)? else {
             self.put(cookie, number)?;
             return Ok(false);
-        }
-        turns.push((true, number))?;
-        turns.sort_unstable();
-        let first = turns[turns.len() - limit];
+        };
         let path = String::from_str(alloc, path_text(&cookie))?;
         self.put(cookie, number)?;
         self.retain(first, now);
         self.settle(path.as_str());
         Ok(true)
+    }
+
+    // Of the turns of the rows, at the moment, and that of a new row with this number, the first that stays, so that no more than the
+    // limit stand. `None` where there is room for the new row.
+    fn first_to_stay(
+        &self,
+        alloc: Global,
+        number: u64,
+        limit: usize,
+        now: DateTime,
+    ) -> Result<Option<(bool, u64)>, AllocError>
+        requires limit { 0 < limit }
+        ensures room { IfOk result (λ first. IfNone first (length (turns_of (moment_of now) self.now) < limit)) }
+        ensures full { IfOk result (λ first. OnSome first (limit ≤ length (turns_of (moment_of now) self.now))) }
+        ensures first { IfOk result (λ first. IfSome first (IsFirst limit (moment_of now) number self.now)) }
+    {
+        let mut turns = self.turns(alloc, now)?;
+        if turns.len() < limit {
+            return Ok(None);
+        }
+        turns.push((true, number))?;
+        let place = turns.len() - limit;
+        let (_, first, _) = turns.select_nth_unstable(place);
+        Ok(Some(*first))
     }
 
     // When the rows leave, at the moment.
