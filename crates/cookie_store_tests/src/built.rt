@@ -1,7 +1,7 @@
 //! Stores that are built from cookies.
 use crate::checks::{end_of, is_equal};
 use crate::steps::new_year;
-use crate::texts::{all_listed, all_rows, header, unexpired, url};
+use crate::texts::{all_rows, are_listed, header, unexpired, url};
 use cookie_store::{Cookie, CookieStore, Error};
 use std::alloc::Global;
 use std::process::Abort;
@@ -90,8 +90,7 @@ const BUILT: [Case; 6] = [
 
 fn is_built(rt: &impl Abort, alloc: Global, store: &CookieStore, case: &Case) {
     let (_, _, listed, any, live) = *case;
-    let all = all_listed(rt, alloc, store);
-    is_equal(rt, &all.as_str(), &listed, case);
+    are_listed(rt, alloc, store, listed, &listed);
     let rows = all_rows(rt, alloc, store);
     is_equal(rt, &rows.as_str(), &any, case);
     let rows = unexpired(rt, alloc, store, new_year());

@@ -11,7 +11,7 @@ use crate::lookups::{Wanted, are_between};
 use crate::responses::raw_cookies;
 use crate::saved::{LASTING, Which};
 use crate::steps::{ENDED, INSERTED, UPDATED, new_year, store_under};
-use crate::texts::{add, all_listed, given, header, url};
+use crate::texts::{add, are_listed, given, header, url};
 use cookie_fakes::Fake;
 use cookie_store::device::Counted;
 use cookie_store::{
@@ -409,11 +409,7 @@ const CAME: [Came; 5] = [
     ("http://b.com/", "v=1"),
 ];
 
-fn are_built(rt: &impl Abort, alloc: Global, store: &CookieStore) {
-    let listed = all_listed(rt, alloc, store);
-    let wanted = "a.com / x, a.com / w, a.com /p z, b.com / y, b.com / v";
-    is_equal(rt, &listed.as_str(), &wanted, &"the rows");
-}
+const BUILT: &str = "a.com / x, a.com / w, a.com /p z, b.com / y, b.com / v";
 
 #[test]
 fn from_cookies(rt: HostRuntime) {
@@ -422,7 +418,7 @@ fn from_cookies(rt: HostRuntime) {
     let outcome = CookieStore::from_cookies(rt.alloc(), items, false, new_year());
     end(rt.alloc());
     match &outcome {
-        Ok(store) => are_built(&rt, rt.alloc(), store),
+        Ok(store) => are_listed(&rt, rt.alloc(), store, BUILT, &"the rows"),
         Err(_) => is_equal(&rt, &end_of(&outcome), &"memory", &"the store"),
     }
 }
@@ -574,56 +570,24 @@ fn are_saved_as(rt: &impl Abort, alloc: Global, case: &devices::Case, which: &Wh
     has_the_same_rows(rt, &store, &store_of(rt, alloc, &devices::CAME));
 }
 
+// Each form that rows are saved in.
+const SAVED: [devices::Case; 5] = [LINES, TEXT, JSON_LINES, JSON, RON];
+
+fn are_saved_in_each_form(rt: &impl Abort, alloc: Global, which: &Which) {
+    are_saved(rt, alloc, which);
+    for case in &SAVED {
+        are_saved_as(rt, alloc, case, which);
+    }
+}
+
 #[test]
 fn save(rt: HostRuntime) {
-    are_saved(&rt, rt.alloc(), &Which::At(new_year()));
-    are_saved_as(&rt, rt.alloc(), &LINES, &Which::At(new_year()));
+    are_saved_in_each_form(&rt, rt.alloc(), &Which::At(new_year()));
 }
 
 #[test]
 fn save_incl_expired_and_nonpersistent(rt: HostRuntime) {
-    are_saved(&rt, rt.alloc(), &Which::All);
-    are_saved_as(&rt, rt.alloc(), &LINES, &Which::All);
-}
-
-#[test]
-fn handed_over(rt: HostRuntime) {
-    are_saved_as(&rt, rt.alloc(), &TEXT, &Which::At(new_year()));
-}
-
-#[test]
-fn all_handed_over(rt: HostRuntime) {
-    are_saved_as(&rt, rt.alloc(), &TEXT, &Which::All);
-}
-
-#[test]
-fn saved_as_json(rt: HostRuntime) {
-    are_saved_as(&rt, rt.alloc(), &JSON_LINES, &Which::At(new_year()));
-}
-
-#[test]
-fn all_saved_as_json(rt: HostRuntime) {
-    are_saved_as(&rt, rt.alloc(), &JSON_LINES, &Which::All);
-}
-
-#[test]
-fn saved_as_a_list(rt: HostRuntime) {
-    are_saved_as(&rt, rt.alloc(), &JSON, &Which::At(new_year()));
-}
-
-#[test]
-fn all_saved_as_a_list(rt: HostRuntime) {
-    are_saved_as(&rt, rt.alloc(), &JSON, &Which::All);
-}
-
-#[test]
-fn saved_in_ron(rt: HostRuntime) {
-    are_saved_as(&rt, rt.alloc(), &RON, &Which::At(new_year()));
-}
-
-#[test]
-fn all_saved_in_ron(rt: HostRuntime) {
-    are_saved_as(&rt, rt.alloc(), &RON, &Which::All);
+    are_saved_in_each_form(&rt, rt.alloc(), &Which::All);
 }
 
 // The lines of the store of five rows.
@@ -646,16 +610,6 @@ fn are_loaded(rt: &impl Abort, alloc: Global, which: &Which) {
     }
 }
 
-#[test]
-fn load(rt: HostRuntime) {
-    are_loaded(&rt, rt.alloc(), &Which::At(new_year()));
-}
-
-#[test]
-fn load_all(rt: HostRuntime) {
-    are_loaded(&rt, rt.alloc(), &Which::All);
-}
-
 const TWO_LINES: &[u8] =
     br#"{"domain":{"Suffix":"example.com"},"expires":"SessionEnd","path":["/",true],"raw_cookie":"y=1"}
 {"domain":{"HostOnly":"a.b.example.com"},"expires":{"AtUtc":"2100-08-03T00:38:37Z"},"path":["/p",false],"raw_cookie":"u=1"}
@@ -670,16 +624,6 @@ fn are_loaded_from_json(rt: &impl Abort, alloc: Global, which: &Which) {
         Ok(store) => gives(rt, alloc, store, "y=1; u=1", "the loaded rows"),
         Err(_) => is_equal(rt, &end_of(&outcome), &"memory", which),
     }
-}
-
-#[test]
-fn loaded_from_json(rt: HostRuntime) {
-    are_loaded_from_json(&rt, rt.alloc(), &Which::At(new_year()));
-}
-
-#[test]
-fn all_loaded_from_json(rt: HostRuntime) {
-    are_loaded_from_json(&rt, rt.alloc(), &Which::All);
 }
 
 const LISTS: [(Form, &[u8]); 2] = [
@@ -712,26 +656,6 @@ fn are_loaded_from_a_list(
         Ok(store) => gives(rt, alloc, store, "y=1; u=1", "the loaded rows"),
         Err(_) => is_equal(rt, &end_of(&outcome), &"memory", which),
     }
-}
-
-#[test]
-fn loaded_from_a_list(rt: HostRuntime) {
-    are_loaded_from_a_list(&rt, rt.alloc(), &LISTS[0], &Which::At(new_year()));
-}
-
-#[test]
-fn all_loaded_from_a_list(rt: HostRuntime) {
-    are_loaded_from_a_list(&rt, rt.alloc(), &LISTS[0], &Which::All);
-}
-
-#[test]
-fn loaded_from_ron(rt: HostRuntime) {
-    are_loaded_from_a_list(&rt, rt.alloc(), &LISTS[1], &Which::At(new_year()));
-}
-
-#[test]
-fn all_loaded_from_ron(rt: HostRuntime) {
-    are_loaded_from_a_list(&rt, rt.alloc(), &LISTS[1], &Which::All);
 }
 
 // The cookies of a list of two.
@@ -773,12 +697,21 @@ fn are_made_at_once(rt: &impl Abort, alloc: Global, which: &Which) {
     }
 }
 
-#[test]
-fn made_at_once(rt: HostRuntime) {
-    are_made_at_once(&rt, rt.alloc(), &Which::At(new_year()));
+fn are_loaded_from_each_form(rt: &impl Abort, alloc: Global, which: &Which) {
+    are_loaded(rt, alloc, which);
+    are_loaded_from_json(rt, alloc, which);
+    for list in &LISTS {
+        are_loaded_from_a_list(rt, alloc, list, which);
+    }
+    are_made_at_once(rt, alloc, which);
 }
 
 #[test]
-fn all_made_at_once(rt: HostRuntime) {
-    are_made_at_once(&rt, rt.alloc(), &Which::All);
+fn load(rt: HostRuntime) {
+    are_loaded_from_each_form(&rt, rt.alloc(), &Which::At(new_year()));
+}
+
+#[test]
+fn load_all(rt: HostRuntime) {
+    are_loaded_from_each_form(&rt, rt.alloc(), &Which::All);
 }

@@ -3,7 +3,6 @@ use crate::built::{Came, store_of};
 use crate::checks::{has_the_same_rows, is_equal};
 use crate::saved::Which;
 use crate::steps::new_year;
-use crate::texts::all_listed;
 use cookie_fakes::Fake;
 use cookie_store::device::{Counted, Sink, Source};
 use cookie_store::saved::SavedError;
@@ -98,13 +97,6 @@ fn rows_are_saved_as_json(rt: HostRuntime) {
 fn are_loaded(rt: &impl Abort, alloc: Global, store: &CookieStore, text: &str, which: &Which) {
     let fake = Fake::new(text.as_bytes(), 7, 0);
     let loaded = load_json(alloc, which, fake).expect(rt, "a store");
-    let wanted = all_listed(rt, alloc, store);
-    is_equal(
-        rt,
-        &all_listed(rt, alloc, &loaded).as_str(),
-        &wanted.as_str(),
-        which,
-    );
     has_the_same_rows(rt, &loaded, store);
 }
 
@@ -172,12 +164,15 @@ const REFUSED: [(&[u8], &str); 14] = [
     ),
 ];
 
+fn is_refused(rt: &impl Abort, alloc: Global, row: &(&'static [u8], &str)) {
+    let outcome = load_json(alloc, &Which::All, Fake::new(row.0, usize::MAX, 0));
+    is_equal(rt, &fault_of(&outcome), &row.1, &row.0);
+}
+
 #[test]
 fn bad_lines_are_refused(rt: HostRuntime) {
-    for (bytes, wanted) in REFUSED {
-        let fake = Fake::new(bytes, usize::MAX, 0);
-        let outcome = load_json(rt.alloc(), &Which::All, fake);
-        is_equal(&rt, &fault_of(&outcome), &wanted, &bytes);
+    for row in &REFUSED {
+        is_refused(&rt, rt.alloc(), row);
     }
 }
 

@@ -3,6 +3,7 @@ use crate::checks::has_the_same_rows;
 use crate::steps::{ENDED, INSERTED, Step, UPDATED, new_year, store_under, take_all};
 use cookie_store::psl::List;
 use cookie_store::{CookieError, CookieStore};
+use std::alloc::Global;
 use std::process::Abort;
 
 // Three rows of a domain, before it has a limit.
@@ -64,15 +65,24 @@ const FIRST_LEAVES: [Step; 2] = [
     Step::Listed("a.com / y, a.com / z, a.com / w"),
 ];
 
+// Of three rows, under a limit of as many.
+fn full_store(rt: &impl Abort, alloc: Global) -> CookieStore {
+    let mut store = CookieStore::new(alloc);
+    take_all(rt, alloc, &mut store, &THREE, new_year());
+    store.with_domain_limit(3)
+}
+
 #[test]
 fn a_copy_has_the_limit_and_the_making(rt: HostRuntime) {
-    let mut store = CookieStore::new(rt.alloc());
-    take_all(&rt, rt.alloc(), &mut store, &THREE, new_year());
-    let store = store.with_domain_limit(3);
+    let store = full_store(&rt, rt.alloc());
     let mut copy = store.clone().expect(&rt, "memory");
     has_the_same_rows(&rt, &copy, &store);
     take_all(&rt, rt.alloc(), &mut copy, &FIRST_LEAVES, new_year());
+}
+
+#[test]
+fn a_store_under_another_list_has_the_limit_and_the_making(rt: HostRuntime) {
     let list = List::from_text(rt.alloc(), "com").expect(&rt, "a list");
-    let mut store = store.with_suffix_list(list);
+    let mut store = full_store(&rt, rt.alloc()).with_suffix_list(list);
     take_all(&rt, rt.alloc(), &mut store, &FIRST_LEAVES, new_year());
 }

@@ -1,10 +1,10 @@
 //! Rows that are written as one list, and read from one.
 use crate::built::{Came, store_of};
 use crate::checks::{end_of, has_the_same_rows, is_equal};
-use crate::json::{fault_of, load_json, save_json};
+use crate::json::{fault_of, load_json};
 use crate::saved::{LASTING, Which};
 use crate::steps::new_year;
-use crate::texts::{add, all_listed, listed, unexpired};
+use crate::texts::{add, are_listed, unexpired};
 use cookie_fakes::Fake;
 use cookie_store::device::{Counted, Sink, Source};
 use cookie_store::{Cookie, CookieStore, Error, serde};
@@ -216,8 +216,7 @@ const ROWS: [&str; 2] = [
 fn a_list_of_the_rust_crate_is_loaded(rt: HostRuntime) {
     for (which, wanted) in &[(Which::All, ROWS[0]), (Which::At(new_year()), ROWS[1])] {
         let store = loaded(&rt, Form::Json, rt.alloc(), which, TEN);
-        let rows = all_listed(&rt, rt.alloc(), &store);
-        is_equal(&rt, &rows.as_str(), wanted, which);
+        are_listed(&rt, rt.alloc(), &store, wanted, which);
         let row = store
             .get_any("example.com", "/", "lang")
             .expect(&rt, "a row");
@@ -316,13 +315,6 @@ fn rows_are_saved_as_a_list(rt: HostRuntime) {
 fn what_is_saved_as_a_list_loads_again(rt: HostRuntime) {
     let store = store_of(&rt, rt.alloc(), &CAME);
     let again = loaded(&rt, Form::Json, rt.alloc(), &Which::All, WRITTEN[0]);
-    let listed = all_listed(&rt, rt.alloc(), &store);
-    is_equal(
-        &rt,
-        &all_listed(&rt, rt.alloc(), &again).as_str(),
-        &listed.as_str(),
-        &"rows",
-    );
     has_the_same_rows(&rt, &again, &store);
 }
 
@@ -347,30 +339,19 @@ const ENDED: &str = r#"[
 #[test]
 fn a_cookie_that_has_ended_is_kept_by_load_all(rt: HostRuntime) {
     let live = loaded(&rt, Form::Json, rt.alloc(), &Which::At(new_year()), ENDED);
-    is_equal(
-        &rt,
-        &all_listed(&rt, rt.alloc(), &live).as_str(),
-        &"",
-        &"load",
-    );
+    are_listed(&rt, rt.alloc(), &live, "", &"load");
     let all = loaded(&rt, Form::Json, rt.alloc(), &Which::All, ENDED);
-    is_equal(
-        &rt,
-        &all_listed(&rt, rt.alloc(), &all).as_str(),
-        &"test.com / 1",
-        &"load_all",
-    );
-    let rows = unexpired(&rt, rt.alloc(), &all, new_year());
-    is_equal(&rt, &rows.len(), &0, &"iter_unexpired");
-    is_written(
-        &rt,
-        Form::Json,
-        rt.alloc(),
-        &all,
-        &Which::At(new_year()),
-        "[]\n",
-    );
-    is_written(&rt, Form::Json, rt.alloc(), &all, &Which::All, ENDED);
+    has_an_ended_row(&rt, rt.alloc(), &all);
+}
+
+// The one row has ended, and is saved where all are.
+fn has_an_ended_row(rt: &impl Abort, alloc: Global, store: &CookieStore) {
+    are_listed(rt, alloc, store, "test.com / 1", &"load_all");
+    let rows = unexpired(rt, alloc, store, new_year());
+    is_equal(rt, &rows.len(), &0, &"iter_unexpired");
+    for (which, wanted) in &[(Which::At(new_year()), "[]\n"), (Which::All, ENDED)] {
+        is_written(rt, Form::Json, alloc, store, which, wanted);
+    }
 }
 
 // Bytes that are no list, and what they are refused for.
@@ -458,25 +439,12 @@ fn a_list_that_is_cut_off_is_refused(rt: HostRuntime) {
 
 #[test]
 fn lists_and_lines_are_told_apart(rt: HostRuntime) {
-    let store = store_of(&rt, rt.alloc(), &CAME[..1]);
-    let fake = Fake::new(Vec::new(rt.alloc()), usize::MAX, 0);
-    let (_, _, lines) = save_json(&store, &Which::All, fake);
-    let fake = Fake::new(lines.inner.as_slice(), usize::MAX, 0);
-    let (outcome, _) = load_list(Form::Json, rt.alloc(), &Which::All, fake);
-    is_equal(
-        &rt,
-        &fault_of(&outcome),
-        &"another shape",
-        &"lines read as a list",
-    );
-    let fake = Fake::new(WRITTEN[1].as_bytes(), usize::MAX, 0);
-    let outcome = load_json(rt.alloc(), &Which::All, fake);
-    is_equal(
-        &rt,
-        &fault_of(&outcome),
-        &"no JSON",
-        &"a list read as lines",
-    );
+    let line = br#"{"domain":"Empty","expires":"SessionEnd","path":["/",true],"raw_cookie":"a=1"}"#;
+    let (outcome, _) = load_list(Form::Json, rt.alloc(), &Which::All, Fake::new(line, 9, 0));
+    is_equal(&rt, &fault_of(&outcome), &"another shape", &"a line");
+    let list = Fake::new(WRITTEN[1].as_bytes(), 9, 0);
+    let outcome = load_json(rt.alloc(), &Which::All, list);
+    is_equal(&rt, &fault_of(&outcome), &"no JSON", &"a list");
 }
 
 // The names of the cookies, or `Other` where there are none.
@@ -556,13 +524,7 @@ fn are_made(rt: &impl Abort, alloc: Global, which: &Which, bytes: &[u8], wanted:
     };
     is_equal(rt, &end_of(&outcome), &wanted.0, which);
     if let Ok(store) = &outcome {
-        let rows: Vec<&Cookie<'static>> = store.iter_any().collect(alloc).expect(rt, "memory");
-        is_equal(
-            rt,
-            &listed(rt, alloc, rows.as_slice()).as_str(),
-            &wanted.1,
-            which,
-        );
+        are_listed(rt, alloc, store, wanted.1, which);
     }
 }
 

@@ -6,7 +6,7 @@ use crate::lists;
 use crate::lists::{CAME, Form, is_written, load_list, loaded};
 use crate::saved::Which;
 use crate::steps::new_year;
-use crate::texts::{all_listed, unexpired};
+use crate::texts::{are_listed, unexpired};
 use cookie_fakes::Fake;
 use cookie_store::CookieStore;
 use jiff::civil::date;
@@ -83,7 +83,7 @@ fn no_rows_are_saved_in_ron(rt: HostRuntime) {
 
 // The one row is live, and each save writes it.
 fn has_one_row(rt: &impl Abort, alloc: Global, store: &CookieStore) {
-    are_listed(rt, alloc, store, "test.com / 2");
+    are_listed(rt, alloc, store, "test.com / 2", &"the row");
     let rows = unexpired(rt, alloc, store, new_year());
     is_equal(rt, &rows.len(), &1, &"iter_unexpired");
     for which in &[Which::All, Which::At(new_year())] {
@@ -110,16 +110,12 @@ const ENDED: &str = r#"[
 ]
 "#;
 
-fn are_listed(rt: &impl Abort, alloc: Global, store: &CookieStore, wanted: &str) {
-    is_equal(rt, &all_listed(rt, alloc, store).as_str(), &wanted, &"rows");
-}
-
 #[test]
 fn a_cookie_that_has_ended_is_kept_in_ron(rt: HostRuntime) {
     let live = loaded(&rt, Form::Ron, rt.alloc(), &Which::At(new_year()), ENDED);
-    are_listed(&rt, rt.alloc(), &live, "");
+    are_listed(&rt, rt.alloc(), &live, "", &"load");
     let all = loaded(&rt, Form::Ron, rt.alloc(), &Which::All, ENDED);
-    are_listed(&rt, rt.alloc(), &all, "test.com / 1");
+    are_listed(&rt, rt.alloc(), &all, "test.com / 1", &"load_all");
     let rows = unexpired(&rt, rt.alloc(), &all, new_year());
     is_equal(&rt, &rows.len(), &0, &"iter_unexpired");
     for (which, wanted) in &[(Which::At(new_year()), "[]\n"), (Which::All, ENDED)] {

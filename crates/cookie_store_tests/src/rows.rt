@@ -1,7 +1,7 @@
 //! Rows that are listed, found, removed, given and copied.
 use crate::checks::{has_the_same_rows, is_equal};
 use crate::steps::{ENDED, INSERTED, Step, UPDATED, new_year, store_under, take, take_all};
-use crate::texts::{all_listed, listed, unexpired, url, value_of};
+use crate::texts::{are_listed, listed, unexpired, url, value_of};
 use cookie_store::{CookieError, CookieStore, HashKey, RawCookie};
 use jiff::civil::{DateTime, date};
 use std::alloc::Global;
@@ -188,8 +188,7 @@ fn is_listed_at(
     let rows = unexpired(rt, alloc, store, moment);
     let live = listed(rt, alloc, rows.as_slice());
     is_equal(rt, &live.as_str(), &wanted, &moment);
-    let any = all_listed(rt, alloc, store);
-    is_equal(rt, &any.as_str(), &LISTED, &moment);
+    are_listed(rt, alloc, store, LISTED, &moment);
 }
 
 #[test]

@@ -1,6 +1,6 @@
 //! What is done with a store step by step, and what must come of it.
 use crate::checks::is_equal;
-use crate::texts::{all_listed, given, key, url};
+use crate::texts::{are_listed, given, key, url};
 use cookie_store::psl::List;
 use cookie_store::{CookieStore, InsertResult, StoreAction};
 use jiff::civil::{DateTime, date};
@@ -74,8 +74,7 @@ pub fn take(rt: &impl Abort, alloc: Global, store: &mut CookieStore, step: &Step
         }
         Step::Clear => store.clear(),
         Step::Listed(wanted) => {
-            let listed = all_listed(rt, alloc, store);
-            is_equal(rt, &listed.as_str(), &wanted, step);
+            are_listed(rt, alloc, store, wanted, step);
         }
         Step::Given(from, wanted) => {
             let header = given(rt, alloc, store, from, now);

@@ -1,7 +1,9 @@
 //! Cookies and rows as texts.
+use crate::checks::is_equal;
 use cookie_store::{Cookie, CookieStore};
 use jiff::civil::DateTime;
 use std::alloc::Global;
+use std::fmt::Debug;
 use std::process::Abort;
 use url::Url;
 
@@ -65,9 +67,21 @@ pub fn listed(rt: &impl Abort, alloc: Global, rows: &[&Cookie<'static>]) -> Stri
 }
 
 // The same of all rows of the store.
-pub fn all_listed(rt: &impl Abort, alloc: Global, store: &CookieStore) -> String {
+fn all_listed(rt: &impl Abort, alloc: Global, store: &CookieStore) -> String {
     let rows: Vec<&Cookie<'static>> = store.iter_any().collect(alloc).expect(rt, "memory");
     listed(rt, alloc, rows.as_slice())
+}
+
+// The rows of the store are listed so.
+pub fn are_listed(
+    rt: &impl Abort,
+    alloc: Global,
+    store: &CookieStore,
+    wanted: &str,
+    row: &impl Debug,
+) {
+    let listed = all_listed(rt, alloc, store);
+    is_equal(rt, &listed.as_str(), &wanted, row);
 }
 
 // The rows that have not ended.
