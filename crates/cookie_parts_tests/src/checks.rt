@@ -20,22 +20,29 @@ pub(crate) fn holds(rt: &impl Abort, is_so: bool, row: &impl Debug) {
     assert!(rt; is_so, "at {row:?}");
 }
 
-// The value is written so.
-pub(crate) fn is_written(rt: &impl Abort, alloc: Global, value: &impl Display, wanted: &str) {
-    let text = value.to_string(alloc).expect(rt, "memory");
-    is_equal(rt, text.as_str(), wanted, &wanted);
+// The answer is the wanted text, or the wanted fault.
+pub(crate) fn is_text<E: Copy + PartialEq + Debug + Drop>(
+    rt: &impl Abort,
+    answer: &Result<String, E>,
+    wanted: Result<&str, E>,
+    row: &impl Debug,
+) {
+    match answer {
+        Ok(text) => is_equal(rt, Ok(text.as_str()), wanted, row),
+        Err(fault) => is_equal(rt, Err(*fault), wanted, row),
+    }
 }
 
-// The same, also where a greater width and a side are asked for.
+// The value is written so, also where a greater width and a side are asked for.
 pub(crate) fn is_written_at_any_width(
     rt: &impl Abort,
     alloc: Global,
     value: &impl Display,
     wanted: &str,
 ) {
-    is_written(rt, alloc, value, wanted);
-    let text = format!(in alloc; "{value:>200}").expect(rt, "memory");
-    is_equal(rt, text.as_str(), wanted, &wanted);
+    is_text(rt, &value.to_string(alloc), Ok(wanted), &wanted);
+    let wide = format!(in alloc; "{value:>200}");
+    is_text(rt, &wide, Ok(wanted), &wanted);
 }
 
 fn hash_of<T: Hash>(value: &T) -> u64 {
@@ -65,4 +72,9 @@ pub(crate) fn are_ordered<T: Ord + Hash + Debug>(
         (first == second) == is_same && is_hashed_so,
         &(first, second),
     );
+}
+
+// An own copy of the text.
+pub(crate) fn owned(rt: &impl Abort, alloc: Global, text: &str) -> String {
+    String::from_str(alloc, text).expect(rt, "memory")
 }

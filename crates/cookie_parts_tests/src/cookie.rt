@@ -1,4 +1,4 @@
-use crate::checks::{holds, is_equal};
+use crate::checks::{holds, is_equal, is_text};
 use crate::parts::{Hosts, cookie_from, is_for, moment};
 use cookie_parts::{Cookie, CookieError};
 use cookie_raw::RawCookie;
@@ -111,20 +111,14 @@ const COOKIES: &[(&str, &str, Made)] = &[
     ),
 ];
 
-// Why no cookie was made, if none was.
-fn refusal_of<T>(outcome: &Result<T, CookieError>) -> Option<CookieError> {
-    match outcome {
-        Ok(_) => None,
-        Err(refusal) => Some(*refusal),
-    }
-}
-
 // What was made is what the row wants.
 fn is_wanted(rt: &impl Abort, made: &Result<Cookie<'_>, CookieError>, row: &(&str, &str, Made)) {
-    is_equal(rt, refusal_of(made), refusal_of(&row.2), row);
-    if let (Ok(cookie), Ok((hosts, path))) = (made, &row.2) {
-        holds(rt, is_for(&cookie.domain, hosts), row);
-        is_equal(rt, cookie.path.as_str(), *path, row);
+    match (made, &row.2) {
+        (Ok(cookie), Ok((hosts, path))) => {
+            holds(rt, is_for(&cookie.domain, hosts), row);
+            is_equal(rt, cookie.path.as_str(), *path, row);
+        }
+        (made, wanted) => is_equal(rt, made.as_ref().err(), wanted.as_ref().err(), row),
     }
 }
 
@@ -142,56 +136,76 @@ fn a_text_makes_a_cookie(rt: HostRuntime) {
     }
 }
 
-// Whether the cookie of a text that came from one URL is for another.
-fn is_for_url(rt: &impl Abort, alloc: Global, text: &str, from: &str, at: &str) -> bool {
-    let at = Url::parse(alloc, at).expect(rt, "a URL");
-    cookie_from(rt, alloc, text, from, DateTime::ZERO).matches(&at)
-}
-
-// A text that came from http://example.com, a URL, and whether its cookie is for that.
-const FLAGS: &[(&str, &str, bool)] = &[
-    ("a=1; Secure", "https://example.com", true),
-    ("a=1; Secure", "http://example.com", false),
-    ("a=1; HttpOnly", "http://example.com", true),
-    ("a=1; HttpOnly", "HTTP://example.com", true),
-    ("a=1; HttpOnly", "https://example.com", true),
-    ("a=1; HttpOnly", "ftp://example.com", false),
-    ("a=1; HttpOnly", "data:x", false),
+// A text, the URL that it comes from, another URL, and whether its cookie is for that.
+const FLAGS: &[(&str, &str, &str, bool)] = &[
+    (
+        "a=1; Secure",
+        "http://example.com",
+        "https://example.com",
+        true,
+    ),
+    (
+        "a=1; Secure",
+        "http://example.com",
+        "http://example.com",
+        false,
+    ),
+    (
+        "a=1; HttpOnly",
+        "http://example.com",
+        "http://example.com",
+        true,
+    ),
+    (
+        "a=1; HttpOnly",
+        "http://example.com",
+        "HTTP://example.com",
+        true,
+    ),
+    (
+        "a=1; HttpOnly",
+        "http://example.com",
+        "https://example.com",
+        true,
+    ),
+    (
+        "a=1; HttpOnly",
+        "http://example.com",
+        "ftp://example.com",
+        false,
+    ),
+    ("a=1; HttpOnly", "http://example.com", "data:x", false),
+    // This machine is secure.
+    ("a=1; Secure", "http://localhost", "http://localhost", true),
+    (
+        "a=1; Secure",
+        "http://localhost:1234",
+        "http://localhost:1234",
+        true,
+    ),
+    ("a=1; Secure", "http://127.0.0.1", "http://127.0.0.1", true),
+    ("a=1; Secure", "http://127.0.0.2", "http://127.0.0.2", true),
+    ("a=1; Secure", "http://127.1.0.1", "http://127.1.0.1", true),
+    ("a=1; Secure", "http://[::1]", "http://[::1]", true),
+    ("a=1; Secure", "http://128.0.0.1", "http://128.0.0.1", false),
+    (
+        "a=1; Secure",
+        "http://localhost.com",
+        "http://localhost.com",
+        false,
+    ),
 ];
 
-fn asks_so(rt: &impl Abort, alloc: Global, row: &(&str, &str, bool)) -> bool {
-    let (text, at, wanted) = *row;
-    is_for_url(rt, alloc, text, "http://example.com", at) == wanted
+fn asks_so(rt: &impl Abort, alloc: Global, row: &(&str, &str, &str, bool)) -> bool {
+    let (text, from, at, wanted) = *row;
+    let at = Url::parse(alloc, at).expect(rt, "a URL");
+    cookie_from(rt, alloc, text, from, DateTime::ZERO).matches(&at) == wanted
 }
 
 #[test]
 fn a_cookie_asks_for_a_scheme(rt: HostRuntime) {
     for row in FLAGS {
         holds(&rt, asks_so(&rt, rt.alloc(), row), row);
-    }
-}
-
-// A URL, and whether a Secure cookie that came from it is for it.
-const MACHINES: &[(&str, bool)] = &[
-    ("http://localhost", true),
-    ("http://localhost:1234", true),
-    ("http://127.0.0.1", true),
-    ("http://127.0.0.2", true),
-    ("http://127.1.0.1", true),
-    ("http://[::1]", true),
-    ("http://128.0.0.1", false),
-    ("http://localhost.com", false),
-];
-
-fn is_secure(rt: &impl Abort, alloc: Global, row: &(&str, bool)) -> bool {
-    let (at, wanted) = *row;
-    is_for_url(rt, alloc, "a=1; Secure", at, at) == wanted
-}
-
-#[test]
-fn this_machine_is_secure(rt: HostRuntime) {
-    for row in MACHINES {
-        holds(&rt, is_secure(&rt, rt.alloc(), row), row);
     }
 }
 
@@ -204,51 +218,41 @@ fn cookie<'a>(rt: &impl Abort, alloc: Global, text: &'a str) -> Cookie<'a> {
     cookie_from(rt, alloc, text, "http://a.com/", moment(rt, NOW))
 }
 
-// The text of what a cookie says it is.
-fn said(rt: &impl Abort, alloc: Global, text: &str) -> String {
+// The cookie of the text says that it is the wanted one.
+fn says(rt: &impl Abort, alloc: Global, text: &str, wanted: &str) {
     let raw = cookie(rt, alloc, text).into_raw(alloc).expect(rt, "memory");
-    raw.to_text(alloc).expect(rt, "memory")
+    is_text(rt, &raw.to_text(alloc), Ok(wanted), &text);
 }
 
 #[test]
 fn a_cookie_says_what_it_is(rt: HostRuntime) {
     let wanted = "a=1; Path=/x; Domain=a.com; Expires=Thu, 01 Jan 2026 00:00:05 GMT";
-    is_equal(&rt, said(&rt, rt.alloc(), TEXT).as_str(), wanted, &TEXT);
+    says(&rt, rt.alloc(), TEXT, wanted)
 }
 
-// A text, and whether its cookie outlives the session.
-const TEXTS: &[(&str, bool)] = &[(TEXT, true), ("a=1", false)];
+// A text, and whether its cookie outlives the session. Some parts are empty.
+const TEXTS: &[(&str, bool)] = &[
+    (TEXT, true),
+    ("a=1", false),
+    ("a=", false),
+    ("a=1; Path=", false),
+    ("a=; Path=; Domain=", false),
+];
 
-fn is_persistent(rt: &impl Abort, alloc: Global, row: &(&str, bool)) -> bool {
-    let (text, wanted) = *row;
-    cookie(rt, alloc, text).is_persistent() == wanted
-}
-
-#[test]
-fn a_cookie_with_an_end_is_persistent(rt: HostRuntime) {
-    for row in TEXTS {
-        holds(&rt, is_persistent(&rt, rt.alloc(), row), row);
-    }
-}
-
-// It ends as it is told to, and not before.
-fn ends(cookie: &mut Cookie<'_>, now: DateTime, early: DateTime) -> bool {
-    let has_ended = cookie.is_expired(now);
+// Whether it ends as it is told to, and not before.
+fn has_ended(cookie: &mut Cookie<'_>, now: DateTime, early: DateTime) -> bool {
+    let is_early = cookie.is_expired(now);
     cookie.expire();
-    !has_ended && cookie.is_expired(now) && cookie.is_expired(early) && cookie.expires_by(&early)
+    let is_late = cookie.is_expired(now) && cookie.is_expired(early);
+    !is_early && is_late && cookie.expires_by(&early)
 }
 
-fn is_ended(rt: &impl Abort, alloc: Global, row: &(&str, bool)) -> bool {
+// The cookie outlives the session or not, and ends.
+fn ends(rt: &impl Abort, alloc: Global, row: &(&str, bool)) {
     let early = moment(rt, "1970-01-02T00:00:00");
-    let now = moment(rt, NOW);
-    ends(&mut cookie(rt, alloc, row.0), now, early)
-}
-
-#[test]
-fn a_cookie_is_ended(rt: HostRuntime) {
-    for row in TEXTS {
-        holds(&rt, is_ended(&rt, rt.alloc(), row), row);
-    }
+    let mut cookie = cookie(rt, alloc, row.0);
+    is_equal(rt, cookie.is_persistent(), row.1, row);
+    holds(rt, has_ended(&mut cookie, moment(rt, NOW), early), row);
 }
 
 fn is_equal_to_copy(rt: &impl Abort, cookie: &Cookie<'_>) -> bool {
@@ -262,50 +266,36 @@ fn is_of_text(rt: &impl Abort, alloc: Global, made: &Cookie<'_>, text: &str) -> 
     cookie == *made
 }
 
-#[test]
-fn a_cookie_is_equal_to_its_copy(rt: HostRuntime) {
-    for (text, _) in TEXTS {
-        let is_equal = is_equal_to_copy(&rt, &cookie(&rt, rt.alloc(), text));
-        holds(&rt, is_equal, text);
-    }
-    let is_equal = is_of_text(&rt, rt.alloc(), &cookie(&rt, rt.alloc(), "a=1"), "a=2");
-    holds(&rt, !is_equal, &"two values");
+// The cookie is equal to its copy and to the one of the text, and not to that of `a=2`.
+fn is_same(rt: &impl Abort, alloc: Global, made: &Cookie<'_>, text: &str) {
+    holds(rt, is_equal_to_copy(rt, made), &text);
+    holds(rt, is_of_text(rt, alloc, made, text), &text);
+    holds(rt, !is_of_text(rt, alloc, made, "a=2"), &text);
 }
 
-// A text with parts that are empty.
-const EMPTY: &[&str] = &["a=", "a=1; Path=", "a=; Path=; Domain="];
-
-// Whether the cookie is kept as it is, lent, owned and copied.
-fn is_kept(rt: &impl Abort, alloc: Global, text: &str) -> bool {
-    let lent = is_equal_to_copy(rt, &cookie(rt, alloc, text));
-    let owned = cookie(rt, alloc, text)
-        .into_owned(alloc)
-        .expect(rt, "memory");
-    lent && is_of_text(rt, alloc, &owned, text) && is_equal_to_copy(rt, &owned)
-}
-
-#[test]
-fn empty_parts_are_kept(rt: HostRuntime) {
-    for text in EMPTY {
-        holds(&rt, is_kept(&rt, rt.alloc(), text), text);
-    }
+// The cookie that lends nothing is the same.
+fn is_owned(rt: &impl Abort, alloc: Global, text: &str) {
+    let owned = cookie(rt, alloc, text).into_owned(alloc);
+    is_same(rt, alloc, &owned.expect(rt, "memory"), text);
 }
 
 // The cookie of a raw one that came from http://a.com/ at `NOW`.
-fn from_raw<'a>(rt: &impl Abort, alloc: Global, raw: &RawCookie<'a>) -> Cookie<'a> {
-    let now = moment(rt, NOW);
+fn raw_cookie<'a>(rt: &impl Abort, alloc: Global, raw: &RawCookie<'a>) -> Cookie<'a> {
     let url = Url::parse(alloc, "http://a.com/").expect(rt, "a URL");
-    Cookie::try_from_raw_cookie(alloc, raw, &url, now).expect(rt, "memory")
+    Cookie::try_from_raw_cookie(alloc, raw, &url, moment(rt, NOW)).expect(rt, "memory")
 }
 
-fn comes_from_raw(rt: &impl Abort, alloc: Global, row: &(&str, bool)) -> bool {
-    let made = from_raw(rt, alloc, &RawCookie::parse(row.0).expect(rt, "a cookie"));
-    is_of_text(rt, alloc, &made, row.0)
+// The cookie of a raw cookie is the same.
+fn comes_from_raw(rt: &impl Abort, alloc: Global, text: &str) {
+    let raw = RawCookie::parse(text).expect(rt, "a cookie");
+    is_same(rt, alloc, &raw_cookie(rt, alloc, &raw), text);
 }
 
 #[test]
-fn a_raw_cookie_makes_a_cookie(rt: HostRuntime) {
+fn a_cookie_is_kept_until_it_ends(rt: HostRuntime) {
     for row in TEXTS {
-        holds(&rt, comes_from_raw(&rt, rt.alloc(), row), row);
+        is_owned(&rt, rt.alloc(), row.0);
+        comes_from_raw(&rt, rt.alloc(), row.0);
+        ends(&rt, rt.alloc(), row);
     }
 }

@@ -1,4 +1,5 @@
-use crate::checks::{are_ordered, holds, is_equal};
+use crate::checks::{are_ordered, is_equal};
+use crate::domain::Origin::{Host, Parts, Raw, Text};
 use crate::parts::{Hosts, domain_of, is_for};
 use cookie_parts::cookie_domain::is_match;
 use cookie_parts::utils::is_host_name;
@@ -10,136 +11,201 @@ use std::cmp::Ordering;
 use std::process::Abort;
 use url::Url;
 
-const DOMAINS: &[(&str, Hosts)] = &[
-    ("", Hosts::Empty),
-    (".", Hosts::Empty),
-    ("..", Hosts::Suffix(".")),
-    ("example.com", Hosts::Suffix("example.com")),
-    (".example.com", Hosts::Suffix("example.com")),
-    ("..example.com", Hosts::Suffix(".example.com")),
-    ("bücher.example", Hosts::Suffix("xn--bcher-kva.example")),
-];
-
-fn names(rt: &impl Abort, alloc: Global, row: &(&str, Hosts)) -> bool {
-    let (text, wanted) = row;
-    let domain = CookieDomain::try_from_str(alloc, text).expect(rt, "memory");
-    is_for(&domain.clone().expect(rt, "memory"), wanted) && is_for(&domain, wanted)
+// What a domain is made of: a text, the text of a raw cookie, a URL whose host alone it is for, or its parts.
+#[derive(Debug)]
+enum Origin {
+    Text(&'static str),
+    Raw(&'static str),
+    Host(&'static str),
+    Parts(Hosts),
 }
 
-#[test]
-fn a_text_names_a_domain(rt: HostRuntime) {
-    for row in DOMAINS {
-        holds(&rt, names(&rt, rt.alloc(), row), row);
+fn domain_of_raw(rt: &impl Abort, alloc: Global, text: &str) -> Result<CookieDomain, Error> {
+    let raw = RawCookie::parse(text).expect(rt, "a cookie");
+    CookieDomain::try_from_raw(alloc, &raw)
+}
+
+fn domain_of_host(rt: &impl Abort, alloc: Global, at: &str) -> Result<CookieDomain, Error> {
+    let url = Url::parse(alloc, at).expect(rt, "a URL");
+    CookieDomain::host_only(alloc, &url).map_err(Error::from)
+}
+
+fn made(rt: &impl Abort, alloc: Global, origin: &Origin) -> Result<CookieDomain, Error> {
+    match origin {
+        Text(text) => CookieDomain::try_from_str(alloc, text),
+        Raw(text) => domain_of_raw(rt, alloc, text),
+        Host(at) => domain_of_host(rt, alloc, at),
+        Parts(hosts) => Ok(domain_of(rt, alloc, hosts)),
     }
 }
 
-const ATTRIBUTES: &[(&str, Hosts)] = &[
-    ("cookie=value", Hosts::NotPresent),
-    ("cookie=value; Domain=", Hosts::NotPresent),
-    ("cookie=value; Domain=.", Hosts::Empty),
+// The hosts that a domain is for, and its text.
+const DOMAINS: &[(Origin, Hosts, &str)] = &[
+    (Text(""), Hosts::Empty, ""),
+    (Text("."), Hosts::Empty, ""),
+    (Text(".."), Hosts::Suffix("."), "."),
     (
-        "cookie=value; Domain=.example.com",
+        Text("example.com"),
         Hosts::Suffix("example.com"),
+        "example.com",
     ),
+    (
+        Text(".example.com"),
+        Hosts::Suffix("example.com"),
+        "example.com",
+    ),
+    (
+        Text("..example.com"),
+        Hosts::Suffix(".example.com"),
+        ".example.com",
+    ),
+    (
+        Text("bücher.example"),
+        Hosts::Suffix("xn--bcher-kva.example"),
+        "xn--bcher-kva.example",
+    ),
+    (Raw("cookie=value"), Hosts::NotPresent, ""),
+    (Raw("cookie=value; Domain="), Hosts::NotPresent, ""),
+    (Raw("cookie=value; Domain=."), Hosts::Empty, ""),
+    (
+        Raw("cookie=value; Domain=.example.com"),
+        Hosts::Suffix("example.com"),
+        "example.com",
+    ),
+    (
+        Parts(Hosts::HostOnly("a.example")),
+        Hosts::HostOnly("a.example"),
+        "a.example",
+    ),
+    (
+        Parts(Hosts::Suffix("example")),
+        Hosts::Suffix("example"),
+        "example",
+    ),
+    (Parts(Hosts::NotPresent), Hosts::NotPresent, ""),
+    (Parts(Hosts::Empty), Hosts::Empty, ""),
 ];
 
-fn attribute_names(rt: &impl Abort, alloc: Global, row: &(&str, Hosts)) -> bool {
-    let (text, wanted) = row;
-    let raw = RawCookie::parse(text).expect(rt, "a cookie");
-    is_for(
-        &CookieDomain::try_from_raw(alloc, &raw).expect(rt, "memory"),
-        wanted,
-    )
+// A copy of the domain is for the hosts, and has the text.
+fn names(rt: &impl Abort, alloc: Global, row: &(Origin, Hosts, &str)) {
+    let (origin, hosts, wanted) = row;
+    let domain = made(rt, alloc, origin).expect(rt, "memory");
+    let copy = domain.clone().expect(rt, "memory");
+    let text = domain.to_string_in(alloc).expect(rt, "memory");
+    let answers = (is_for(&domain, hosts), is_for(&copy, hosts), text.as_str());
+    is_equal(rt, answers, (true, true, *wanted), row);
 }
 
 #[test]
-fn an_attribute_names_a_domain(rt: HostRuntime) {
-    for row in ATTRIBUTES {
-        holds(&rt, attribute_names(&rt, rt.alloc(), row), row);
+fn a_domain_is_for_hosts(rt: HostRuntime) {
+    for row in DOMAINS {
+        names(&rt, rt.alloc(), row);
     }
 }
 
-// A domain made by hand, and its text.
-const WRITTEN: &[(Hosts, &str)] = &[
-    (Hosts::HostOnly("a.example"), "a.example"),
-    (Hosts::Suffix("example"), "example"),
-    (Hosts::NotPresent, ""),
-    (Hosts::Empty, ""),
+// What makes no domain, and why.
+const NO_DOMAINS: &[(Origin, Option<CookieError>)] = &[
+    (Text("xn--a"), None),
+    (Text("xn--a.example"), None),
+    (Raw("a=1; Domain=xn--a.example"), None),
+    (Host("data:x"), Some(CookieError::NonRelativeScheme)),
 ];
 
-fn is_written(rt: &impl Abort, alloc: Global, row: &(Hosts, &str)) -> bool {
-    let text = domain_of(rt, alloc, &row.0)
-        .to_string_in(alloc)
-        .expect(rt, "memory");
-    text.as_str() == row.1
-}
-
-#[test]
-fn a_domain_has_a_text(rt: HostRuntime) {
-    for row in WRITTEN {
-        holds(&rt, is_written(&rt, rt.alloc(), row), row);
+// The refusal, or else the fault that `idna` found.
+fn fault_of(refusal: Option<CookieError>) -> Error {
+    match refusal {
+        Some(refusal) => Error::Cookie(refusal),
+        None => Error::from(idna::Errors::Invalid),
     }
-}
-
-// Texts that `idna` refuses.
-const NO_DOMAINS: &[&str] = &["xn--a", "xn--a.example"];
-
-#[test]
-fn idna_refuses_a_text_that_is_no_domain_name(rt: HostRuntime) {
-    for text in NO_DOMAINS {
-        let fault = idna::domain_to_ascii(rt.alloc(), text).err();
-        is_equal(&rt, fault, Some(idna::Errors::Invalid), text);
-    }
-}
-
-fn is_refused(rt: &impl Abort, fault: Option<Error>, text: &str) {
-    is_equal(rt, fault, Some(Error::from(idna::Errors::Invalid)), &text);
-}
-
-// Why the attribute of a text names no domain, if it names none.
-fn fault_of_attribute(rt: &impl Abort, alloc: Global, text: &str) -> Option<Error> {
-    let raw = RawCookie::parse(text).expect(rt, "a cookie");
-    CookieDomain::try_from_raw(alloc, &raw).err()
 }
 
 #[test]
 fn a_text_that_is_no_domain_name_is_refused(rt: HostRuntime) {
-    for text in NO_DOMAINS {
-        let fault = CookieDomain::try_from_str(rt.alloc(), text).err();
-        is_refused(&rt, fault, text);
+    for (origin, refusal) in NO_DOMAINS {
+        let fault = made(&rt, rt.alloc(), origin).err();
+        is_equal(&rt, fault, Some(fault_of(*refusal)), origin);
     }
-    let text = "a=1; Domain=xn--a.example";
-    is_refused(&rt, fault_of_attribute(&rt, rt.alloc(), text), text);
 }
 
-// Whether the domain is for the host of the URL.
-fn is_for_host(rt: &impl Abort, alloc: Global, domain: &CookieDomain, at: &str) -> bool {
-    domain.matches(&Url::parse(alloc, at).expect(rt, "a URL"))
-}
-
-// The text of a domain, a URL, and whether the domain is for its host.
-const MATCHES: &[(&str, &str, bool)] = &[
-    ("0.0.1", "http://127.0.0.1", false),
-    ("127.0.0.1", "http://127.0.0.1", true),
-    ("example.com", "http://foo.example.com", true),
-    ("example.com", "http://fooexample.com", false),
-    ("example.com", "http://xample.com", false),
-    ("example.com", "http://example.org", false),
-    ("..example.com", "http://foo..example.com", true),
-    ("..example.com", "http://foo.example.com", false),
+// A domain, a URL, and whether the domain is for its host.
+const COVERS: &[(Origin, &str, bool)] = &[
+    (Text("0.0.1"), "http://127.0.0.1", false),
+    (Text("127.0.0.1"), "http://127.0.0.1", true),
+    (Text("example.com"), "http://foo.example.com", true),
+    (Text("example.com"), "http://fooexample.com", false),
+    (Text("example.com"), "http://xample.com", false),
+    (Text("example.com"), "http://example.org", false),
+    (Text("..example.com"), "http://foo..example.com", true),
+    (Text("..example.com"), "http://foo.example.com", false),
+    (
+        Parts(Hosts::Suffix("example.com")),
+        "http://example.org",
+        false,
+    ),
+    (
+        Parts(Hosts::Suffix("example.com")),
+        "http://xample.com",
+        false,
+    ),
+    (Parts(Hosts::Suffix("127.0.0.1")), "http://127.0.0.1", true),
+    (Parts(Hosts::Suffix("[::1]")), "http://[::1]", true),
+    (Parts(Hosts::Suffix("")), "http://a.com./", true),
+    (Parts(Hosts::Suffix("")), "http://a.com/", false),
+    (Host("http://example.com"), "http://example.com", true),
+    (
+        Host("http://example.com"),
+        "http://example.com:8080/foo/bar",
+        true,
+    ),
+    (Host("http://example.com"), "http://127.0.0.1", false),
+    (
+        Host("http://example.com"),
+        "http://127.0.0.1:8080/foo/bar",
+        false,
+    ),
+    (Host("http://example.com"), "http://[::1]", false),
+    (
+        Host("http://example.com"),
+        "http://[::1]:8080/foo/bar",
+        false,
+    ),
+    (Host("http://example.com"), "http://foo.example.com", false),
+    (Host("http://example.com"), "data:x", false),
+    (Host("http://127.0.0.1"), "http://example.com", false),
+    (
+        Host("http://127.0.0.1"),
+        "http://example.com:8080/foo/bar",
+        false,
+    ),
+    (Host("http://127.0.0.1"), "http://127.0.0.1", true),
+    (
+        Host("http://127.0.0.1"),
+        "http://127.0.0.1:8080/foo/bar",
+        true,
+    ),
+    (Host("http://127.0.0.1"), "http://[::1]", false),
+    (Host("http://127.0.0.1"), "http://[::1]:8080/foo/bar", false),
+    (Host("http://127.0.0.1"), "http://foo.example.com", false),
+    (Host("http://127.0.0.1"), "data:x", false),
+    (Host("http://[::1]"), "http://example.com", false),
+    (
+        Host("http://[::1]"),
+        "http://example.com:8080/foo/bar",
+        false,
+    ),
+    (Host("http://[::1]"), "http://127.0.0.1", false),
+    (Host("http://[::1]"), "http://127.0.0.1:8080/foo/bar", false),
+    (Host("http://[::1]"), "http://[::1]", true),
+    (Host("http://[::1]"), "http://[::1]:8080/foo/bar", true),
+    (Host("http://[::1]"), "http://foo.example.com", false),
+    (Host("http://[::1]"), "data:x", false),
 ];
 
-fn text_covers(rt: &impl Abort, alloc: Global, row: &(&str, &str, bool)) -> bool {
-    let (text, at, wanted) = *row;
-    let domain = CookieDomain::try_from_str(alloc, text).expect(rt, "memory");
-    is_for_host(rt, alloc, &domain, at) == wanted
-}
-
-#[test]
-fn a_domain_covers_hosts(rt: HostRuntime) {
-    for row in MATCHES {
-        holds(&rt, text_covers(&rt, rt.alloc(), row), row);
-    }
+fn covers(rt: &impl Abort, alloc: Global, row: &(Origin, &str, bool)) {
+    let (origin, at, wanted) = row;
+    let url = Url::parse(alloc, at).expect(rt, "a URL");
+    let domain = made(rt, alloc, origin).expect(rt, "memory");
+    is_equal(rt, domain.matches(&url), *wanted, row);
 }
 
 // A text, a URL, and whether a cookie for the domain that the text names is for its host.
@@ -157,91 +223,21 @@ const NAMED: &[(&str, &str, bool)] = &[
     ("example.com", "data:x", false),
 ];
 
-fn is_matched(rt: &impl Abort, alloc: Global, row: &(&str, &str, bool)) -> bool {
+fn is_matched(rt: &impl Abort, alloc: Global, row: &(&str, &str, bool)) {
     let (text, at, wanted) = *row;
-    is_match(alloc, text, &Url::parse(alloc, at).expect(rt, "a URL")).expect(rt, "memory") == wanted
+    let url = Url::parse(alloc, at).expect(rt, "a URL");
+    let is_for = is_match(alloc, text, &url).expect(rt, "memory");
+    is_equal(rt, is_for, wanted, row);
 }
 
 #[test]
-fn a_text_is_for_hosts(rt: HostRuntime) {
+fn a_domain_covers_hosts(rt: HostRuntime) {
+    for row in COVERS {
+        covers(&rt, rt.alloc(), row);
+    }
     for row in NAMED {
-        holds(&rt, is_matched(&rt, rt.alloc(), row), row);
+        is_matched(&rt, rt.alloc(), row);
     }
-}
-
-// A domain made by hand, a URL, and whether the domain is for its host.
-const SUFFIXES: &[(&str, &str, bool)] = &[
-    ("example.com", "http://example.org", false),
-    ("example.com", "http://xample.com", false),
-    ("127.0.0.1", "http://127.0.0.1", true),
-    ("[::1]", "http://[::1]", true),
-    ("", "http://a.com./", true),
-    ("", "http://a.com/", false),
-];
-
-fn suffix_covers(rt: &impl Abort, alloc: Global, row: &(&'static str, &str, bool)) -> bool {
-    let (text, at, wanted) = *row;
-    let domain = domain_of(rt, alloc, &Hosts::Suffix(text));
-    is_for_host(rt, alloc, &domain, at) == wanted
-}
-
-#[test]
-fn a_suffix_covers_hosts(rt: HostRuntime) {
-    for row in SUFFIXES {
-        holds(&rt, suffix_covers(&rt, rt.alloc(), row), row);
-    }
-}
-
-const HOSTS: &[&str] = &["http://example.com", "http://127.0.0.1", "http://[::1]"];
-
-// A URL, and the place in `HOSTS` of the only one that is for it, if one is.
-const VISITS: &[(&str, Option<usize>)] = &[
-    ("http://example.com", Some(0)),
-    ("http://example.com:8080/foo/bar", Some(0)),
-    ("http://127.0.0.1", Some(1)),
-    ("http://127.0.0.1:8080/foo/bar", Some(1)),
-    ("http://[::1]", Some(2)),
-    ("http://[::1]:8080/foo/bar", Some(2)),
-    ("http://foo.example.com", None),
-    ("data:x", None),
-];
-
-// Whether the cookies of the host's URL alone are for the other URL.
-fn host_covers(rt: &impl Abort, alloc: Global, host: &str, at: &str) -> bool {
-    let domain = CookieDomain::host_only(
-        alloc,
-        &Url::parse(alloc, host).expect(rt, "a URL"),
-    ).expect(rt, "memory");
-    is_for_host(rt, alloc, &domain, at)
-}
-
-fn is_visited(rt: &impl Abort, alloc: Global, row: &(&str, Option<usize>)) -> bool {
-    let (at, wanted) = *row;
-    for (place, host) in HOSTS.iter().enumerate() {
-        if host_covers(rt, alloc, host, at) != (wanted == Some(place)) {
-            return false;
-        }
-    }
-    true
-}
-
-#[test]
-fn a_host_is_for_itself(rt: HostRuntime) {
-    for row in VISITS {
-        holds(&rt, is_visited(&rt, rt.alloc(), row), row);
-    }
-}
-
-#[test]
-fn a_url_without_a_host_is_refused(rt: HostRuntime) {
-    let url = Url::parse(rt.alloc(), "data:x").expect(&rt, "a URL");
-    let refusal = CookieDomain::host_only(rt.alloc(), &url).err();
-    is_equal(
-        &rt,
-        refusal,
-        Some(CookieError::NonRelativeScheme),
-        &"data:x",
-    );
 }
 
 // Two domains, and how the first stands to the second.
@@ -302,16 +298,17 @@ const PUBLIC_SUFFIXES: &[(Hosts, bool)] = &[
     (Hosts::Empty, false),
 ];
 
-fn is_public(rt: &impl Abort, alloc: Global, row: &(Hosts, bool)) -> bool {
+fn is_public(rt: &impl Abort, alloc: Global, row: &(Hosts, bool)) {
     let (hosts, wanted) = row;
+    let domain = domain_of(rt, alloc, hosts);
     let list = List::from_text(alloc, LIST).expect(rt, "a list");
-    domain_of(rt, alloc, hosts).is_public_suffix(&list) == *wanted
+    is_equal(rt, domain.is_public_suffix(&list), *wanted, row);
 }
 
 #[test]
 fn a_listed_domain_is_a_public_suffix(rt: HostRuntime) {
     for row in PUBLIC_SUFFIXES {
-        holds(&rt, is_public(&rt, rt.alloc(), row), row);
+        is_public(&rt, rt.alloc(), row);
     }
 }
 

@@ -1,10 +1,9 @@
-use crate::checks::{holds, is_equal, is_written_at_any_width};
+use crate::checks::{is_equal, is_written_at_any_width, owned};
 use cookie_parts::{CookieError, Error, IdnaErrors};
 use cookie_raw::RawCookieParseError;
 use cookie_saved::SavedError;
 use std::alloc::{AllocError, AllocFailed, Global};
 use std::process::Abort;
-use std::test::Fail;
 
 const REFUSALS: &[(CookieError, &str)] = &[
     (
@@ -38,38 +37,6 @@ const REFUSALS: &[(CookieError, &str)] = &[
     (CookieError::Memory, "out of memory"),
 ];
 
-#[test]
-fn a_refusal_says_why(rt: HostRuntime) {
-    for (refusal, wanted) in REFUSALS {
-        is_equal(&rt, refusal.text(), *wanted, refusal);
-        is_written_at_any_width(&rt, rt.alloc(), refusal, wanted);
-    }
-}
-
-fn is_told(rt: &impl Abort, alloc: Global, fault: Error, wanted: &str) {
-    is_written_at_any_width(rt, alloc, &fault, wanted)
-}
-
-#[test]
-fn each_fault_says_what_it_is(rt: HostRuntime) {
-    let mismatch = Error::Cookie(CookieError::DomainMismatch);
-    let refusal = "request-uri does not domain-match the cookie";
-    is_told(&rt, rt.alloc(), mismatch, refusal);
-    is_told(&rt, rt.alloc(), Error::Io, "a read or a write failed");
-    let other = Error::Other(String::from_str(rt.alloc(), "no such row").expect(&rt, "memory"));
-    is_told(&rt, rt.alloc(), other, "no such row");
-    is_told(&rt, rt.alloc(), Error::Memory, "out of memory");
-    is_told(&rt, rt.alloc(), Error::NotUtf8, "a text is not UTF-8");
-    let invalid = Error::Idna(IdnaErrors::from(idna::Errors::Invalid));
-    is_told(&rt, rt.alloc(), invalid, "invalid domain name")
-}
-
-#[test]
-fn a_fault_of_a_domain_says_what_it_is(rt: HostRuntime) {
-    let fault = IdnaErrors::from(idna::Errors::Invalid);
-    is_written_at_any_width(&rt, rt.alloc(), &fault, "invalid domain name")
-}
-
 // The fault that a refusal is: want of memory is no refusal.
 fn fault_of(refusal: &CookieError) -> Error {
     match refusal {
@@ -79,18 +46,12 @@ fn fault_of(refusal: &CookieError) -> Error {
 }
 
 #[test]
-fn a_refusal_is_a_fault(rt: HostRuntime) {
-    for (refusal, _) in REFUSALS {
+fn a_refusal_says_why(rt: HostRuntime) {
+    for (refusal, wanted) in REFUSALS {
+        is_equal(&rt, refusal.text(), *wanted, refusal);
+        is_written_at_any_width(&rt, rt.alloc(), refusal, wanted);
         is_equal(&rt, Error::from(*refusal), fault_of(refusal), refusal);
     }
-}
-
-#[test]
-fn a_fault_of_idna_is_a_fault(rt: HostRuntime) {
-    let invalid = Error::Idna(IdnaErrors::from(idna::Errors::Invalid));
-    is_equal(&rt, Error::from(idna::Errors::Invalid), invalid, &"no name");
-    let wanting = Error::from(idna::Errors::OutOfMemory);
-    is_equal(&rt, wanting, Error::Memory, &"a growth");
 }
 
 // The faults of saved forms, and their texts.
@@ -124,59 +85,75 @@ fn a_fault_of_a_saved_form_is_a_fault(rt: HostRuntime) {
     }
 }
 
+// What a caller's own function says.
+fn other(rt: &impl Abort, alloc: Global, text: &str) -> Error {
+    Error::Other(owned(rt, alloc, text))
+}
+
+fn is_told(rt: &impl Abort, alloc: Global, fault: Error, wanted: &str) {
+    is_written_at_any_width(rt, alloc, &fault, wanted)
+}
+
 #[test]
-fn a_refused_growth_is_want_of_memory(rt: HostRuntime) {
+fn each_fault_says_what_it_is(rt: HostRuntime) {
+    let mismatch = Error::Cookie(CookieError::DomainMismatch);
+    let refusal = "request-uri does not domain-match the cookie";
+    is_told(&rt, rt.alloc(), mismatch, refusal);
+    is_told(&rt, rt.alloc(), Error::Io, "a read or a write failed");
+    let other = other(&rt, rt.alloc(), "no such row");
+    is_told(&rt, rt.alloc(), other, "no such row");
+    is_told(&rt, rt.alloc(), Error::Memory, "out of memory");
+    is_told(&rt, rt.alloc(), Error::NotUtf8, "a text is not UTF-8");
+    let fault = IdnaErrors::from(idna::Errors::Invalid);
+    is_written_at_any_width(&rt, rt.alloc(), &fault, "invalid domain name");
+    is_told(&rt, rt.alloc(), Error::Idna(fault), "invalid domain name")
+}
+
+#[test]
+fn other_faults_are_faults(rt: HostRuntime) {
+    let invalid = Error::from(idna::Errors::Invalid);
+    let fault = IdnaErrors::from(idna::Errors::Invalid);
+    is_equal(&rt, invalid, Error::Idna(fault), &"no name");
+    let wanting = Error::from(idna::Errors::OutOfMemory);
+    is_equal(&rt, wanting, Error::Memory, &"a growth of idna");
     is_equal(&rt, Error::from(AllocError), Error::Memory, &"a growth");
     let kept = Error::from(AllocFailed { value: 5_u8 });
     is_equal(&rt, kept, Error::Memory, &"a value without room");
-}
-
-fn other(rt: &impl Abort, alloc: Global, text: &str) -> Error {
-    Error::Other(String::from_str(alloc, text).expect(rt, "memory"))
-}
-
-fn are_equal(rt: &impl Abort, alloc: Global, texts: &(&str, &str)) -> bool {
-    let (first, second) = *texts;
-    other(rt, alloc, first) == other(rt, alloc, second)
+    let refusal = CookieError::from(RawCookieParseError::EmptyName);
+    is_equal(&rt, refusal, CookieError::Parse, &"an empty name");
 }
 
 // What a caller's own function says, twice, and whether both are equal.
-const OTHERS: &[((&str, &str), bool)] = &[
-    (("no such row", "no such row"), true),
-    (("", ""), true),
-    (("no such row", "no row"), false),
-    (("out of memory", ""), false),
-];
+fn are_equal(rt: &impl Abort, alloc: Global, first: &str, second: &str, wanted: bool) {
+    let is_so = other(rt, alloc, first) == other(rt, alloc, second);
+    is_equal(rt, is_so, wanted, &(first, second));
+}
 
 #[test]
 fn equal_faults_say_the_same(rt: HostRuntime) {
-    for (texts, wanted) in OTHERS {
-        is_equal(&rt, are_equal(&rt, rt.alloc(), texts), *wanted, texts);
-    }
+    are_equal(&rt, rt.alloc(), "no such row", "no such row", true);
+    are_equal(&rt, rt.alloc(), "", "", true);
+    are_equal(&rt, rt.alloc(), "no such row", "no row", false);
+    are_equal(&rt, rt.alloc(), "out of memory", "", false);
 }
 
-// Whether it is of a kind by itself.
-fn is_alone(fault: &Error, others: &[Error]) -> bool {
-    !others.contains(fault)
+// Whether it is one of these faults.
+fn is_among(rt: &impl Abort, fault: &Error, wanted: bool) {
+    let faults = [
+        Error::Cookie(CookieError::Memory),
+        Error::Cookie(CookieError::Expired),
+        Error::from(idna::Errors::Invalid),
+        Error::Saved(SavedError::Memory),
+        Error::Io,
+        Error::NotUtf8,
+    ];
+    is_equal(rt, faults.contains(fault), wanted, fault);
 }
 
 #[test]
 fn faults_of_two_kinds_differ(rt: HostRuntime) {
-    let memory = Error::Cookie(CookieError::Memory);
-    let expired = Error::Cookie(CookieError::Expired);
-    let invalid = Error::from(idna::Errors::Invalid);
-    let saved = Error::Saved(SavedError::Memory);
-    let others = [memory, expired, invalid, saved, Error::Io, Error::NotUtf8];
-    holds(&rt, is_alone(&Error::Memory, &others), &"want of memory");
-    let parse = Error::Cookie(CookieError::Parse);
-    holds(&rt, is_alone(&parse, &others), &"another refusal");
-    let text = other(&rt, rt.alloc(), "out of memory");
-    holds(&rt, is_alone(&text, &others), &"a text");
-    holds(&rt, !is_alone(&Error::Io, &others), &"a device");
-}
-
-#[test]
-fn a_parse_error_is_a_refusal(rt: HostRuntime) {
-    let refusal = CookieError::from(RawCookieParseError::EmptyName);
-    is_equal(&rt, refusal, CookieError::Parse, &"an empty name");
+    is_among(&rt, &Error::Memory, false);
+    is_among(&rt, &Error::Cookie(CookieError::Parse), false);
+    is_among(&rt, &other(&rt, rt.alloc(), "out of memory"), false);
+    is_among(&rt, &Error::Io, true);
 }

@@ -1,5 +1,5 @@
 //! What is read and gathered where memory is wanting.
-use crate::checks::holds;
+use crate::checks::{holds, is_equal};
 use crate::device;
 use cookie_device::{Counted, FillError, LineBuffer, Output};
 use cookie_fakes::Fake;
@@ -19,12 +19,13 @@ fn fill(rt: HostRuntime) {
     let mut source = Counted::new(b"get\n".as_slice());
     let mut lines = LineBuffer::new(rt.alloc());
     let answer = lines.fill(&mut source);
-    let rest = (lines.rest(), source.into_inner());
-    let is_whole = match answer {
-        Ok(came) => came && rest == (b"get\n", b""),
-        Err(fault) => fault == FillError::Memory && rest == (b"", b"get\n"),
+    let rest: (&[u8], &[u8]) = (lines.rest(), source.into_inner());
+    let wanted: (Result<bool, FillError>, (&[u8], &[u8])) = if answer.is_ok() {
+        (Ok(true), (b"get\n", b""))
+    } else {
+        (Err(FillError::Memory), (b"", b"get\n"))
     };
-    holds(&rt, is_whole, &"a line");
+    is_equal(&rt, (answer, rest), wanted, &"a line");
 }
 
 #[test]
@@ -35,12 +36,13 @@ fn fill_again(rt: HostRuntime) {
     start(&rt, rt.alloc());
     let second = device::fill(&mut lines, &mut source);
     let rest = (lines.rest(), source.into_inner().calls);
-    let is_whole = match second {
-        Some(Ok(came)) => came && rest == (b"onetwo", 2),
-        Some(Err(fault)) => fault == FillError::Memory && rest == (b"one", 1),
-        None => false,
+    let wanted: (Option<Result<bool, FillError>>, (&[u8], usize)) = if second == Some(Ok(true)) {
+        (Some(Ok(true)), (b"onetwo", 2))
+    } else {
+        (Some(Err(FillError::Memory)), (b"one", 1))
     };
-    holds(&rt, first == Some(Ok(true)) && is_whole, &"two reads");
+    is_equal(&rt, first, Some(Ok(true)), &"a read");
+    is_equal(&rt, (second, rest), wanted, &"two reads");
 }
 
 #[test]

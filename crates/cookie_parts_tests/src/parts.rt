@@ -1,5 +1,7 @@
 //! What tables say that the parts of a cookie are.
+use crate::checks::owned;
 use cookie_parts::{Cookie, CookieDomain, CookieExpiration, CookiePath};
+use cookie_saved::{Saved, SavedDomain, SavedExpiry};
 use jiff::civil::DateTime;
 use std::alloc::Global;
 use std::process::Abort;
@@ -27,12 +29,8 @@ pub(crate) fn is_for(domain: &CookieDomain, hosts: &Hosts) -> bool {
 // The domain itself.
 pub(crate) fn domain_of(rt: &impl Abort, alloc: Global, hosts: &Hosts) -> CookieDomain {
     match hosts {
-        Hosts::HostOnly(text) => CookieDomain::HostOnly(String::from_str(alloc, text).expect(
-            rt, "memory",
-        )),
-        Hosts::Suffix(text) => CookieDomain::Suffix(String::from_str(alloc, text).expect(
-            rt, "memory",
-        )),
+        Hosts::HostOnly(text) => CookieDomain::HostOnly(owned(rt, alloc, text)),
+        Hosts::Suffix(text) => CookieDomain::Suffix(owned(rt, alloc, text)),
         Hosts::NotPresent => CookieDomain::NotPresent,
         Hosts::Empty => CookieDomain::Empty,
     }
@@ -62,6 +60,14 @@ pub(crate) fn moment(rt: &impl Abort, text: &str) -> DateTime {
     text.parse::<DateTime>().expect(rt, "a moment")
 }
 
+// The end at the moment that the text writes, or with the session.
+pub(crate) fn end_at(rt: &impl Abort, text: Option<&str>) -> CookieExpiration {
+    match text {
+        Some(text) => CookieExpiration::AtUtc(moment(rt, text)),
+        None => CookieExpiration::SessionEnd,
+    }
+}
+
 // Whether it is the moment that the text writes, to the nanosecond, or the end of the session where there is no text.
 pub(crate) fn ends_at(rt: &impl Abort, expires: &CookieExpiration, wanted: Option<&str>) -> bool {
     match (expires, wanted) {
@@ -81,4 +87,21 @@ pub(crate) fn cookie_from<'a>(
 ) -> Cookie<'a> {
     let url = Url::parse(alloc, from).expect(rt, "a URL");
     Cookie::parse(alloc, text, &url, now).expect(rt, "a cookie")
+}
+
+// A saved form of a text and of a path with its mark, which ends so.
+pub(crate) fn saved(
+    rt: &impl Abort,
+    alloc: Global,
+    raw_cookie: &str,
+    path: (&str, bool),
+    expires: SavedExpiry,
+) -> Saved {
+    Saved {
+        raw_cookie: owned(rt, alloc, raw_cookie),
+        path: owned(rt, alloc, path.0),
+        from_attr: path.1,
+        domain: SavedDomain::Empty,
+        expires,
+    }
 }

@@ -1,7 +1,7 @@
 use crate::checks::{holds, is_equal};
-use crate::parts::{Hosts, cookie_from, domain_of, ends_at, is_for, is_path, moment};
-use cookie_parts::{Cookie, CookieError, CookieExpiration, Error};
-use cookie_saved::{Saved, SavedDomain, SavedExpiry, from_value, to_value};
+use crate::parts::{Hosts, cookie_from, domain_of, end_at, ends_at, is_for, is_path, saved};
+use cookie_parts::{Cookie, CookieError, Error};
+use cookie_saved::{SavedExpiry, from_value, to_value};
 use jiff::civil::DateTime;
 use serde_json::Value;
 use std::alloc::Global;
@@ -35,23 +35,27 @@ const TREES: &[(&str, &str, &str)] = &[
     ),
 ];
 
-// Whether the cookie is saved as the tree, and comes back from it.
-fn is_saved_as(rt: &impl Abort, alloc: Global, cookie: &Cookie<'_>, tree: &str) -> bool {
+// The cookie is saved as the tree, and comes back from it.
+fn is_saved_as(rt: &impl Abort, alloc: Global, cookie: &Cookie<'_>, tree: &Value) {
+    let saved = cookie.to_saved(alloc).expect(rt, "memory");
+    let written = to_value(alloc, &saved).expect(rt, "memory");
+    holds(rt, written == *tree, tree);
+    let back = Cookie::from_saved(alloc, from_value(alloc, tree).expect(rt, "memory"));
+    holds(rt, back.expect(rt, "a cookie") == *cookie, tree);
+}
+
+// So is the cookie of the text that comes from the URL.
+fn is_saved(rt: &impl Abort, alloc: Global, row: &(&str, &str, &str)) {
+    let (text, from, tree) = *row;
     let tree = Value::from_str(alloc, tree).expect(rt, "a tree");
-    let written = to_value(alloc, &cookie.to_saved(alloc).expect(rt, "memory")).expect(
-        rt, "memory",
-    );
-    let back = Cookie::from_saved(alloc, from_value(alloc, &tree).expect(rt, "memory")).expect(
-        rt, "a cookie",
-    );
-    written == tree && back == *cookie
+    let cookie = cookie_from(rt, alloc, text, from, DateTime::ZERO);
+    is_saved_as(rt, alloc, &cookie, &tree);
 }
 
 #[test]
 fn a_cookie_is_saved_as_a_tree(rt: HostRuntime) {
     for row in TREES {
-        let cookie = cookie_from(&rt, rt.alloc(), row.0, row.1, DateTime::ZERO);
-        holds(&rt, is_saved_as(&rt, rt.alloc(), &cookie, row.2), row);
+        is_saved(&rt, rt.alloc(), row);
     }
 }
 
@@ -70,78 +74,77 @@ const KINDS: &[(Hosts, Option<&str>)] = &[
     (Hosts::Empty, None),
 ];
 
-// The end at the moment that the text writes, or with the session.
-fn end_of(rt: &impl Abort, text: Option<&str>) -> CookieExpiration {
-    match text {
-        Some(text) => CookieExpiration::AtUtc(moment(rt, text)),
-        None => CookieExpiration::SessionEnd,
-    }
-}
-
 // A cookie that is for these hosts, and ends so.
 fn cookie_of(rt: &impl Abort, alloc: Global, row: &(Hosts, Option<&str>)) -> Cookie<'static> {
     let mut cookie = cookie_from(rt, alloc, "a=1; Path=/p", "http://a.org/", DateTime::ZERO);
     cookie.domain = domain_of(rt, alloc, &row.0);
-    cookie.expires = end_of(rt, row.1);
+    cookie.expires = end_at(rt, row.1);
     cookie
 }
 
-// Whether a cookie comes back with the same hosts, the same path and the same end.
-fn comes_back(
-    rt: &impl Abort,
-    alloc: Global,
-    cookie: &Cookie<'_>,
-    row: &(Hosts, Option<&str>),
-) -> bool {
-    let back = Cookie::from_saved(alloc, cookie.to_saved(alloc).expect(rt, "memory")).expect(
-        rt, "a cookie",
+// A cookie comes back with the same hosts, the same path and the same end.
+fn comes_back(rt: &impl Abort, alloc: Global, cookie: &Cookie<'_>, row: &(Hosts, Option<&str>)) {
+    let saved = cookie.to_saved(alloc).expect(rt, "memory");
+    let back = Cookie::from_saved(alloc, saved).expect(rt, "a cookie");
+    let hosts_and_path = (
+        is_for(&back.domain, &row.0),
+        is_path(&back.path, "/p", true),
     );
-    let is_same = is_for(&back.domain, &row.0) && is_path(&back.path, "/p", true);
-    is_same && ends_at(rt, &back.expires, row.1) && back == *cookie
+    is_equal(rt, hosts_and_path, (true, true), row);
+    let end_and_all = (ends_at(rt, &back.expires, row.1), back == *cookie);
+    is_equal(rt, end_and_all, (true, true), row);
+}
+
+fn one_comes_back(rt: &impl Abort, alloc: Global, row: &(Hosts, Option<&str>)) {
+    comes_back(rt, alloc, &cookie_of(rt, alloc, row), row);
 }
 
 #[test]
 fn a_cookie_comes_back_from_its_saved_form(rt: HostRuntime) {
     for row in KINDS {
-        let cookie = cookie_of(&rt, rt.alloc(), row);
-        holds(&rt, comes_back(&rt, rt.alloc(), &cookie, row), row);
+        one_comes_back(&rt, rt.alloc(), row);
     }
 }
 
-// A saved form of a text and of a path with its mark.
-fn saved(rt: &impl Abort, alloc: Global, raw_cookie: &str, path: (&str, bool)) -> Saved {
-    Saved {
-        raw_cookie: String::from_str(alloc, raw_cookie).expect(rt, "memory"),
-        path: String::from_str(alloc, path.0).expect(rt, "memory"),
-        from_attr: path.1,
-        domain: SavedDomain::NotPresent,
-        expires: SavedExpiry::SessionEnd,
+// A saved text, a path with its mark, which the Path attribute of the text says nothing of, and whether they make a cookie.
+const SAVED: &[(&str, (&str, bool), bool)] = &[
+    ("", ("/", true), false),
+    ("nopair", ("/", true), false),
+    ("=1", ("/", true), false),
+    ("; a=1", ("/", true), false),
+    ("a=1; Path=/p", ("/x", true), true),
+    ("a=1; Path=/p", ("/x", false), true),
+    ("a=1; Path=/p", ("x/y", true), true),
+    ("a=1; Path=/p", ("", false), true),
+];
+
+// The cookie has the path as it was saved, or the text is none.
+fn has_path(
+    rt: &impl Abort,
+    made: &Result<Cookie<'static>, Error>,
+    row: &(&str, (&str, bool), bool),
+) {
+    let (_, path, is_cookie) = *row;
+    match made {
+        Ok(cookie) => {
+            let is_so = is_path(&cookie.path, path.0, path.1);
+            is_equal(rt, (is_so, true), (true, is_cookie), row);
+        }
+        Err(fault) => {
+            let refusal = Error::Cookie(CookieError::Parse);
+            is_equal(rt, (fault, false), (&refusal, is_cookie), row);
+        }
     }
 }
 
-// Why the saved form of the text is no cookie, if it is none.
-fn fault_of_saved(rt: &impl Abort, alloc: Global, text: &str) -> Option<Error> {
-    Cookie::from_saved(alloc, saved(rt, alloc, text, ("/", true))).err()
+fn is_from_saved(rt: &impl Abort, alloc: Global, row: &(&str, (&str, bool), bool)) {
+    let saved = saved(rt, alloc, row.0, row.1, SavedExpiry::SessionEnd);
+    has_path(rt, &Cookie::from_saved(alloc, saved), row);
 }
-
-const NO_COOKIES: &[&str] = &["", "nopair", "=1", "; a=1"];
-
-#[test]
-fn a_saved_text_that_is_no_cookie_is_refused(rt: HostRuntime) {
-    for text in NO_COOKIES {
-        let fault = fault_of_saved(&rt, rt.alloc(), text);
-        is_equal(&rt, fault, Some(Error::Cookie(CookieError::Parse)), text);
-    }
-}
-
-// Paths and their marks, which the Path attribute of the text says nothing of.
-const PATHS: &[(&str, bool)] = &[("/x", true), ("/x", false), ("x/y", true), ("", false)];
 
 #[test]
 fn a_path_is_kept_as_it_was_saved(rt: HostRuntime) {
-    for row in PATHS {
-        let saved = saved(&rt, rt.alloc(), "a=1; Path=/p", *row);
-        let cookie = Cookie::from_saved(rt.alloc(), saved).expect(&rt, "a cookie");
-        holds(&rt, is_path(&cookie.path, row.0, row.1), row);
+    for row in SAVED {
+        is_from_saved(&rt, rt.alloc(), row);
     }
 }

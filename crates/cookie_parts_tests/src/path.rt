@@ -1,5 +1,4 @@
-use crate::checks::{are_ordered, holds};
-use crate::parts::is_path;
+use crate::checks::{are_ordered, holds, is_equal};
 use cookie_parts::CookiePath;
 use cookie_parts::cookie_path::is_match;
 use std::alloc::Global;
@@ -7,63 +6,60 @@ use std::cmp::Ordering;
 use std::process::Abort;
 use url::Url;
 
-// A URL, and its default-path.
-const DEFAULT_PATHS: &[(&str, &str)] = &[
-    ("http://example.com", "/"),
-    ("http://example.com/", "/"),
-    ("http://example.com/foo", "/"),
-    ("http://example.com/foo/", "/foo"),
-    ("http://example.com//foo/", "//foo"),
-    ("http://example.com/foo//", "/foo/"),
-    ("http://example.com/foo//bus/bar", "/foo//bus"),
-    ("http://example.com/foo/bus/bar", "/foo/bus"),
-    ("http://example.com/foo/bus/bar/", "/foo/bus/bar"),
-    ("data:foobusbar", "/"),
+// A URL that a path comes from, and the text of a Path attribute, if there is one.
+type Source = (&'static str, Option<&'static str>);
+
+// The path as the attribute sets it, or else the default-path of the URL.
+fn path(rt: &impl Abort, alloc: Global, source: &Source) -> CookiePath {
+    let url = Url::parse(alloc, source.0).expect(rt, "a URL");
+    let path = match source.1 {
+        Some(text) => CookiePath::new(alloc, text, &url),
+        None => CookiePath::default_path(alloc, &url),
+    };
+    path.expect(rt, "memory")
+}
+
+// The text of the path, and whether it is from the attribute.
+const SOURCES: &[(Source, &str, bool)] = &[
+    (("http://example.com", None), "/", false),
+    (("http://example.com/", None), "/", false),
+    (("http://example.com/foo", None), "/", false),
+    (("http://example.com/foo/", None), "/foo", false),
+    (("http://example.com//foo/", None), "//foo", false),
+    (("http://example.com/foo//", None), "/foo/", false),
+    (
+        ("http://example.com/foo//bus/bar", None),
+        "/foo//bus",
+        false,
+    ),
+    (("http://example.com/foo/bus/bar", None), "/foo/bus", false),
+    (
+        ("http://example.com/foo/bus/bar/", None),
+        "/foo/bus/bar",
+        false,
+    ),
+    (("data:foobusbar", None), "/", false),
+    (
+        ("http://example.com/foo/bar/", Some("a/foo")),
+        "/foo/bar",
+        false,
+    ),
+    (("http://example.com/foo/bar/", Some("/a")), "/a", true),
 ];
 
-fn has_default_path(rt: &impl Abort, alloc: Global, row: &(&str, &str)) -> bool {
-    let (from, wanted) = *row;
-    let path = CookiePath::default_path(alloc, &Url::parse(alloc, from).expect(rt, "a URL")).expect(
-        rt, "memory",
-    );
-    let text = path
-        .clone()
-        .expect(rt, "memory")
-        .to_string_in(alloc)
-        .expect(rt, "memory");
-    is_path(&path, wanted, false) && text.as_str() == wanted
+// Also of a copy.
+fn has_path(rt: &impl Abort, alloc: Global, row: &(Source, &str, bool)) {
+    let (source, wanted, is_from_attribute) = row;
+    let path = path(rt, alloc, source).clone().expect(rt, "memory");
+    let text = path.to_string_in(alloc).expect(rt, "memory");
+    let answers = (path.as_str(), text.as_str(), path.is_from_path_attr());
+    is_equal(rt, answers, (*wanted, *wanted, *is_from_attribute), row);
 }
 
 #[test]
-fn a_url_has_a_default_path(rt: HostRuntime) {
-    for row in DEFAULT_PATHS {
-        holds(&rt, has_default_path(&rt, rt.alloc(), row), row);
-    }
-}
-
-// The text of an attribute, the path that it makes below /foo/bar, and whether it is from the attribute.
-const ATTRIBUTES: &[(&str, &str, bool)] = &[("a/foo", "/foo/bar", false), ("/a", "/a", true)];
-
-fn makes(rt: &impl Abort, alloc: Global, row: &(&str, &str, bool)) -> bool {
-    let (text, wanted, is_from_attribute) = *row;
-    let url = Url::parse(alloc, "http://example.com/foo/bar/").expect(rt, "a URL");
-    let path = CookiePath::new(alloc, text, &url).expect(rt, "memory");
-    is_path(&path, wanted, is_from_attribute)
-}
-
-fn is_none(rt: &impl Abort, alloc: Global, text: &&str) -> bool {
-    CookiePath::parse(alloc, text)
-        .expect(rt, "memory")
-        .is_none()
-}
-
-#[test]
-fn a_relative_path_does_not_count(rt: HostRuntime) {
-    for row in ATTRIBUTES {
-        holds(&rt, makes(&rt, rt.alloc(), row), row);
-    }
-    for row in &["", "a/foo"] {
-        holds(&rt, is_none(&rt, rt.alloc(), row), row);
+fn a_path_is_of_an_attribute_or_a_url(rt: HostRuntime) {
+    for row in SOURCES {
+        has_path(&rt, rt.alloc(), row);
     }
 }
 
@@ -80,76 +76,53 @@ const PATHS: &[(&str, &str, bool)] = &[
     ("/foo/bus", "http://example.com/zoo/bus", false),
     ("/foo/bus", "http://example.com/zfoo/bus", false),
     ("/", "data:foobusbar", false),
+    // Not even the empty path is for a URL, nor is one that does not begin with `/`.
+    ("", "http://example.com/", false),
+    ("", "http://example.com/foo", false),
+    ("", "foo://example", false),
+    ("foo", "http://example.com/foo", false),
+    ("foo", "http://example.com/", false),
+    ("foo", "data:foo", false),
+    ("a/foo", "http://example.com/a/foo", false),
 ];
 
-// By the path, and by its text.
-fn covers(rt: &impl Abort, alloc: Global, row: &(&str, &str, bool)) -> bool {
+// By the path, if it is one, and by its text.
+fn covers(rt: &impl Abort, alloc: Global, row: &(&str, &str, bool)) {
     let (text, at, wanted) = *row;
     let url = Url::parse(alloc, at).expect(rt, "a URL");
-    let path = CookiePath::new(alloc, text, &url).expect(rt, "memory");
-    path.matches(&url) == wanted && is_match(text, &url) == wanted
+    is_equal(rt, is_match(text, &url), wanted, row);
+    match CookiePath::parse(alloc, text).expect(rt, "memory") {
+        Some(path) => is_equal(rt, path.matches(&url), wanted, row),
+        None => holds(rt, !text.starts_with('/'), row),
+    }
 }
 
 #[test]
 fn a_path_covers_paths(rt: HostRuntime) {
     for row in PATHS {
-        holds(&rt, covers(&rt, rt.alloc(), row), row);
+        covers(&rt, rt.alloc(), row);
     }
 }
-
-// A text that is no path of a cookie, and a URL. Not even the empty path is for one.
-const RELATIVE: &[(&str, &str)] = &[
-    ("", "http://example.com/"),
-    ("", "http://example.com/foo"),
-    ("", "foo://example"),
-    ("foo", "http://example.com/foo"),
-    ("foo", "http://example.com/"),
-    ("foo", "data:foo"),
-];
-
-fn is_for_none(rt: &impl Abort, alloc: Global, row: &(&str, &str)) -> bool {
-    let (text, at) = *row;
-    !is_match(text, &Url::parse(alloc, at).expect(rt, "a URL"))
-}
-
-#[test]
-fn a_relative_path_is_for_none(rt: HostRuntime) {
-    for row in RELATIVE {
-        holds(&rt, is_for_none(&rt, rt.alloc(), row), row);
-    }
-}
-
-// The text of a path, and its flag.
-type Flagged = (&'static str, bool);
 
 // Two paths, and how the first stands to the second.
-const ORDERS: &[(Flagged, Flagged, Ordering)] = &[
-    (("/a", true), ("/b", false), Ordering::Less),
-    (("/a", false), ("/b", true), Ordering::Less),
-    (("/a", true), ("/a/b", false), Ordering::Less),
-    (("/a", false), ("/a", true), Ordering::Less),
-    (("/a", false), ("/a", false), Ordering::Equal),
-    (("/a", true), ("/a", true), Ordering::Equal),
+const ORDERS: &[(Source, Source, Ordering)] = &[
+    (A, B_OF_URL, Ordering::Less),
+    (A_OF_URL, B, Ordering::Less),
+    (A, ("http://example.com/a/b/", None), Ordering::Less),
+    (A_OF_URL, A, Ordering::Less),
+    (A_OF_URL, A_OF_URL, Ordering::Equal),
+    (A, A, Ordering::Equal),
 ];
 
-// A URL whose default-path is the text.
-fn url_below(rt: &impl Abort, alloc: Global, text: &str) -> Url {
-    let address = format!(in alloc; "http://example.com{text}/").expect(rt, "memory");
-    Url::parse(alloc, &address).expect(rt, "a URL")
-}
+const A: Source = ("http://example.com/a/", Some("/a"));
 
-// The path as a Path attribute sets it, or as the default-path of a URL below it.
-fn path(rt: &impl Abort, alloc: Global, flagged: &Flagged) -> CookiePath {
-    let (text, is_from_attribute) = *flagged;
-    let url = url_below(rt, alloc, text);
-    if is_from_attribute {
-        CookiePath::new(alloc, text, &url).expect(rt, "memory")
-    } else {
-        CookiePath::default_path(alloc, &url).expect(rt, "memory")
-    }
-}
+const A_OF_URL: Source = ("http://example.com/a/", None);
 
-fn stand_so(rt: &impl Abort, alloc: Global, row: &(Flagged, Flagged, Ordering)) {
+const B: Source = ("http://example.com/b/", Some("/b"));
+
+const B_OF_URL: Source = ("http://example.com/b/", None);
+
+fn stand_so(rt: &impl Abort, alloc: Global, row: &(Source, Source, Ordering)) {
     let (first, second, wanted) = row;
     let first = path(rt, alloc, first);
     let second = path(rt, alloc, second);

@@ -1,86 +1,80 @@
-use crate::checks::{holds, is_equal, is_written_at_any_width};
+use crate::checks::{is_equal, is_written_at_any_width};
 use cookie_psl::{List, ListError, laws};
 use std::alloc::Global;
 use std::process::Abort;
 
-// A list, a domain, and its suffix, with whether a listed rule says so.
-type Row = (&'static str, &'static str, Option<(&'static str, bool)>);
+// A suffix, with whether a listed rule says so, or why there is no list.
+type Found<'d> = Result<Option<(&'d str, bool)>, ListError>;
+
+// A list, a domain, and its suffix.
+type Row = (&'static str, &'static str, Found<'static>);
 
 const EVERY_KIND: &str = "// every kind of rule\ncom\n*.ck\n!www.ck to here\n\n*.www.ck\n  org\n";
 
 const ROWS: &[Row] = &[
-    (EVERY_KIND, "foo.ck", Some(("foo.ck", true))),
-    (EVERY_KIND, "a.www.ck", Some(("ck", true))),
-    (EVERY_KIND, "ck", Some(("ck", false))),
-    (EVERY_KIND, "zz", Some(("zz", false))),
-    (EVERY_KIND, "a.com.", Some(("com.", true))),
-    (EVERY_KIND, "", None),
-    (EVERY_KIND, ".", None),
-    (EVERY_KIND, "a.org", Some(("org", false))),
+    (EVERY_KIND, "foo.ck", Ok(Some(("foo.ck", true)))),
+    (EVERY_KIND, "a.www.ck", Ok(Some(("ck", true)))),
+    (EVERY_KIND, "ck", Ok(Some(("ck", false)))),
+    (EVERY_KIND, "zz", Ok(Some(("zz", false)))),
+    (EVERY_KIND, "a.com.", Ok(Some(("com.", true)))),
+    (EVERY_KIND, "", Ok(None)),
+    (EVERY_KIND, ".", Ok(None)),
+    (EVERY_KIND, "a.org", Ok(Some(("org", false)))),
     (
         "cn\n公司.cn",
         "a.xn--55qx5d.cn",
-        Some(("xn--55qx5d.cn", true)),
+        Ok(Some(("xn--55qx5d.cn", true))),
     ),
-    ("*", "zz", Some(("zz", true))),
-    ("*.*", "a.b.c", Some(("b.c", true))),
-    ("*.*", "a", Some(("a", false))),
+    ("*", "zz", Ok(Some(("zz", true)))),
+    ("*.*", "a.b.c", Ok(Some(("b.c", true)))),
+    ("*.*", "a", Ok(Some(("a", false)))),
     (
         "*.ck\n!www.ck\n!a.www.ck",
         "a.www.ck",
-        Some(("www.ck", true)),
+        Ok(Some(("www.ck", true))),
     ),
-    ("com", "COM", Some(("COM", false))),
-    ("com", "com..", Some((".", false))),
-    ("com\ncom\n", "a.b.com", Some(("com", true))),
-    ("com\r\n net\n", "com", Some(("com", true))),
-    ("com\r\n net\n", "net", Some(("net", false))),
-    ("co.uk\nuk", "a.co.uk", Some(("co.uk", true))),
-    ("", "a.b", Some(("b", false))),
+    ("com", "COM", Ok(Some(("COM", false)))),
+    ("com", "com..", Ok(Some((".", false)))),
+    ("com\ncom\n", "a.b.com", Ok(Some(("com", true)))),
+    ("com\r\n net\n", "com", Ok(Some(("com", true)))),
+    ("com\r\n net\n", "net", Ok(Some(("net", false)))),
+    ("co.uk\nuk", "a.co.uk", Ok(Some(("co.uk", true)))),
+    ("", "a.b", Ok(Some(("b", false)))),
+    // The first bad line.
+    ("com\n\n.", "", Err(ListError::BadRule { line: 3 })),
+    ("a..b", "", Err(ListError::BadRule { line: 1 })),
+    ("com\norg.\nnet", "", Err(ListError::BadRule { line: 2 })),
+    (".com", "", Err(ListError::BadRule { line: 1 })),
+    ("!", "", Err(ListError::BadRule { line: 1 })),
+    ("// com\n!com\n..", "", Err(ListError::BadRule { line: 2 })),
+    ("com\nxn--a", "", Err(ListError::BadRule { line: 2 })),
+    ("*.!.com\n!*.\n", "", Err(ListError::BadRule { line: 2 })),
+    ("com\r\n net\na..b", "", Err(ListError::BadRule { line: 3 })),
+    ("com\r\n net\n!com", "", Err(ListError::BadRule { line: 3 })),
+    ("com\r\n net\n.", "", Err(ListError::BadRule { line: 3 })),
+    ("com\r\n net\n!", "", Err(ListError::BadRule { line: 3 })),
+    ("com\r\n net\ncom.", "", Err(ListError::BadRule { line: 3 })),
 ];
 
-// Whether the list says what is wanted of the domain.
-fn says(list: &List, domain: &str, wanted: Option<(&str, bool)>) -> bool {
+fn suffix_of<'d>(list: &List, domain: &'d str) -> Option<(&'d str, bool)> {
     let suffix = list.suffix(domain);
-    suffix.map(|suffix| (suffix.as_str(), suffix.is_known())) == wanted
+    suffix.map(|suffix| (suffix.as_str(), suffix.is_known()))
 }
 
-fn is_found(rt: &impl Abort, alloc: Global, row: &Row) -> bool {
-    let (text, domain, wanted) = *row;
-    let list = List::from_text(alloc, text).expect(rt, "a list");
-    says(&list.clone().expect(rt, "memory"), domain, wanted) && says(&list, domain, wanted)
+// What a copy of the list of the text says.
+fn found<'d>(rt: &impl Abort, alloc: Global, text: &str, domain: &'d str) -> Found<'d> {
+    match List::from_text(alloc, text) {
+        Ok(list) => Ok(suffix_of(&list.clone().expect(rt, "memory"), domain)),
+        Err(fault) => Err(fault),
+    }
 }
 
 #[test]
 fn finds_suffixes(rt: HostRuntime) {
     laws::same_rules_prevail();
     for row in ROWS {
-        holds(&rt, is_found(&rt, rt.alloc(), row), row);
-    }
-}
-
-// A text that is no list, and the number of its first bad line.
-const BAD: &[(&str, usize)] = &[
-    ("com\n\n.", 3),
-    ("a..b", 1),
-    ("com\norg.\nnet", 2),
-    (".com", 1),
-    ("!", 1),
-    ("// com\n!com\n..", 2),
-    ("com\nxn--a", 2),
-    ("*.!.com\n!*.\n", 2),
-    ("com\r\n net\na..b", 3),
-    ("com\r\n net\n!com", 3),
-    ("com\r\n net\n.", 3),
-    ("com\r\n net\n!", 3),
-    ("com\r\n net\ncom.", 3),
-];
-
-#[test]
-fn tells_the_first_bad_line(rt: HostRuntime) {
-    for (text, line) in BAD {
-        let error = List::from_text(rt.alloc(), text).err();
-        is_equal(&rt, error, Some(ListError::BadRule { line: *line }), text);
+        let (text, domain, wanted) = *row;
+        is_equal(&rt, found(&rt, rt.alloc(), text, domain), wanted, row);
     }
 }
 
@@ -93,62 +87,37 @@ fn labels(rt: &impl Abort, alloc: Global, count: usize) -> String {
     text
 }
 
-// Whether a list of one rule says something of the domain that is the rule.
-fn is_known(alloc: Global, rule: &str) -> Result<Option<bool>, ListError> {
-    let list = List::from_text(alloc, rule)?;
-    Ok(list.suffix(rule).map(|suffix| suffix.is_known()))
-}
-
-// How many labels a rule has, and whether a list knows it.
-const LABELS: &[(usize, Result<Option<bool>, ListError>)] = &[
-    (127, Ok(Some(true))),
-    (128, Err(ListError::BadRule { line: 1 })),
+// What stands before a rule, how many labels the rule has, how many a domain, and the bad line, if there is one.
+const LABELS: &[(&str, usize, usize, Option<usize>)] = &[
+    ("", 127, 127, None),
+    ("", 127, 10_000, None),
+    ("", 128, 128, Some(1)),
+    ("com\r\n net\n", 128, 128, Some(3)),
 ];
+
+// The rule is the suffix, or is the bad line.
+fn is_last_labels(rt: &impl Abort, alloc: Global, row: &(&str, usize, usize, Option<usize>)) {
+    let rule = labels(rt, alloc, row.1);
+    let text = format!(in alloc; "{}{rule}", row.0).expect(rt, "memory");
+    let domain = labels(rt, alloc, row.2);
+    let wanted = match row.3 {
+        Some(line) => Err(ListError::BadRule { line }),
+        None => Ok(Some((rule.as_str(), true))),
+    };
+    is_equal(rt, found(rt, alloc, &text, &domain), wanted, row);
+}
 
 #[test]
 fn takes_rules_of_127_labels(rt: HostRuntime) {
-    for (count, wanted) in LABELS {
-        let answer = is_known(rt.alloc(), &labels(&rt, rt.alloc(), *count));
-        is_equal(&rt, answer, *wanted, count);
+    for row in LABELS {
+        is_last_labels(&rt, rt.alloc(), row);
     }
-}
-
-// What is said of a rule of 128 labels behind two lines.
-fn said_behind_two(rt: &impl Abort, alloc: Global) -> Option<ListError> {
-    let rule = labels(rt, alloc, 128);
-    let text = format!(in alloc; "com\r\n net\n{rule}").expect(rt, "memory");
-    List::from_text(alloc, &text).err()
-}
-
-#[test]
-fn a_rule_of_128_labels_is_the_bad_line(rt: HostRuntime) {
-    let bad = Some(ListError::BadRule { line: 3 });
-    is_equal(
-        &rt,
-        said_behind_two(&rt, rt.alloc()),
-        bad,
-        &"the third line",
-    );
-}
-
-// Whether the last 127 of 10,000 labels are the suffix, by a rule of so many.
-fn is_last_labels(rt: &impl Abort, alloc: Global) -> bool {
-    let rule = labels(rt, alloc, 127);
-    let domain = labels(rt, alloc, 10_000);
-    let list = List::from_text(alloc, &rule).expect(rt, "a list");
-    says(&list, &domain, Some((rule.as_str(), true)))
-}
-
-#[test]
-fn a_long_domain_has_a_long_suffix(rt: HostRuntime) {
-    holds(&rt, is_last_labels(&rt, rt.alloc()), &"10,000 labels");
 }
 
 #[test]
 fn a_new_list_has_no_rules(rt: HostRuntime) {
-    let list = List::new(rt.alloc());
-    let known = list.suffix("a.com").map(|suffix| suffix.is_known());
-    is_equal(&rt, known, Some(false), &"a.com");
+    let found = suffix_of(&List::new(rt.alloc()), "a.com");
+    is_equal(&rt, found, Some(("com", false)), &"a.com")
 }
 
 #[test]

@@ -1,21 +1,26 @@
-use crate::checks::{holds, is_equal, is_written_at_any_width};
+use crate::checks::{holds, is_equal, is_text, is_written_at_any_width, owned};
 use crate::parts::{Fields, moment_of};
 use cookie_raw::RawCookieParseError::{EmptyName, MissingPair};
 use cookie_raw::{
     Expiration, RawCookie, RawCookieBuilder, RawCookieParseError, SameSite, laws, read_date,
 };
 use jiff::SignedDuration;
-use jiff::civil::{DateTime, date};
-use std::alloc::{AllocError, Global};
+use jiff::civil::DateTime;
+use std::alloc::Global;
 use std::process::Abort;
 
-// What an accepted text says.
+// What an accepted text says, Max-Age in seconds.
 #[derive(Clone, Copy)]
 struct Parts {
     name: &'static str,
     value: &'static str,
     domain: Option<&'static str>,
     path: Option<&'static str>,
+    secure: Option<bool>,
+    http_only: Option<bool>,
+    same_site: Option<SameSite>,
+    max_age: Option<i64>,
+    expires: Option<Fields>,
 }
 
 const PAIR: Parts = Parts {
@@ -23,6 +28,11 @@ const PAIR: Parts = Parts {
     value: "1",
     domain: None,
     path: None,
+    secure: None,
+    http_only: None,
+    same_site: None,
+    max_age: None,
+    expires: None,
 };
 
 const ROWS: &[(&str, Result<Parts, RawCookieParseError>)] = &[
@@ -61,6 +71,8 @@ const ROWS: &[(&str, Result<Parts, RawCookieParseError>)] = &[
         Ok(Parts {
             domain: Some("b.org"),
             path: Some("/p"),
+            secure: Some(true),
+            max_age: Some(5),
             ..PAIR
         }),
     ),
@@ -71,96 +83,124 @@ const ROWS: &[(&str, Result<Parts, RawCookieParseError>)] = &[
             ..PAIR
         }),
     ),
+    // Empty parts are kept, and empty attributes say nothing.
+    (
+        "a=1; Path=",
+        Ok(Parts {
+            path: Some(""),
+            ..PAIR
+        }),
+    ),
+    (
+        "a=; Path=; Domain=.",
+        Ok(Parts {
+            value: "",
+            domain: Some(""),
+            path: Some(""),
+            ..PAIR
+        }),
+    ),
+    ("a=1;;; ;=x;Domain", Ok(PAIR)),
+    (
+        "a=1; SECURE=no; samesite=LAX; SameSite=x; Expires=Tue, 11 Aug 2015 16:41:42 GMT; Expires=x",
+        Ok(Parts {
+            secure: Some(true),
+            same_site: Some(SameSite::Lax),
+            expires: Some((2015, 8, 11, 16, 41, 42, 0)),
+            ..PAIR
+        }),
+    ),
+    // The seconds of Max-Age.
+    (
+        "a=1; Max-Age=-",
+        Ok(Parts {
+            max_age: Some(0),
+            ..PAIR
+        }),
+    ),
+    (
+        "a=1; Max-Age=-1",
+        Ok(Parts {
+            max_age: Some(0),
+            ..PAIR
+        }),
+    ),
+    (
+        "a=1; Max-Age=007",
+        Ok(Parts {
+            max_age: Some(7),
+            ..PAIR
+        }),
+    ),
+    ("a=1; Max-Age=--1", Ok(PAIR)),
+    ("a=1; Max-Age=+5", Ok(PAIR)),
+    ("a=1; Max-Age=1x", Ok(PAIR)),
+    ("a=1; Max-Age=", Ok(PAIR)),
+    (
+        "a=1; Max-Age=9223372036854775808",
+        Ok(Parts {
+            max_age: Some(9223372036854775807),
+            ..PAIR
+        }),
+    ),
+    (
+        "a=1; Max-Age=9; Max-Age=5; Max-Age=1x",
+        Ok(Parts {
+            max_age: Some(5),
+            ..PAIR
+        }),
+    ),
 ];
 
-fn has_parts(cookie: &RawCookie<'_>, parts: &Parts) -> bool {
-    cookie.name() == parts.name
-        && cookie.value() == parts.value
-        && cookie.name_value() == (parts.name, parts.value)
-        && cookie.domain() == parts.domain
-        && cookie.path() == parts.path
+// The cookie says what is wanted.
+fn says(rt: &impl Abort, cookie: &RawCookie<'_>, wanted: &Parts, text: &str) {
+    let pair = (wanted.name, wanted.value);
+    let pairs = (cookie.name_value(), (cookie.name(), cookie.value()));
+    is_equal(rt, pairs, (pair, pair), &text);
+    let lent = (cookie.domain(), cookie.path());
+    is_equal(rt, lent, (wanted.domain, wanted.path), &text);
+    let flags = (cookie.secure(), cookie.http_only(), cookie.same_site());
+    let wanted_flags = (wanted.secure, wanted.http_only, wanted.same_site);
+    is_equal(rt, flags, wanted_flags, &text);
+    let age = wanted.max_age.map(SignedDuration::from_secs);
+    let end = moment_of(rt, wanted.expires).map(Expiration::DateTime);
+    is_equal(rt, (cookie.max_age(), cookie.expires()), (age, end), &text);
 }
 
-fn is_read_as(text: &str, wanted: &Result<Parts, RawCookieParseError>) -> bool {
-    match RawCookie::parse(text) {
-        Ok(cookie) => matches!(wanted, Ok(parts) if has_parts(&cookie, parts)),
-        Err(error) => matches!(wanted, Err(reason) if *reason == error),
+// The cookie says what is wanted, as its copy does, which is equal to it.
+fn is_copied(rt: &impl Abort, cookie: &RawCookie<'_>, wanted: &Parts, text: &str) {
+    says(rt, cookie, wanted, text);
+    let copy = cookie.clone().expect(rt, "memory");
+    says(rt, &copy, wanted, text);
+    holds(rt, copy == *cookie, &text);
+}
+
+fn parsed<'a>(rt: &impl Abort, text: &'a str) -> RawCookie<'a> {
+    RawCookie::parse(text).expect(rt, "a cookie")
+}
+
+fn kept(rt: &impl Abort, alloc: Global, text: &str) -> RawCookie<'static> {
+    parsed(rt, text).into_owned(alloc).expect(rt, "memory")
+}
+
+// The cookie of the text says what is wanted, lent and owned, or the text is refused.
+fn is_read_as(rt: &impl Abort, alloc: Global, row: &(&str, Result<Parts, RawCookieParseError>)) {
+    let text = row.0;
+    match &row.1 {
+        Ok(wanted) => {
+            let cookie = kept(rt, alloc, text);
+            is_copied(rt, &cookie, wanted, text);
+            is_copied(rt, &parsed(rt, text), wanted, text);
+            holds(rt, parsed(rt, text) == cookie, &text);
+        }
+        Err(fault) => is_equal(rt, RawCookie::parse(text).err(), Some(*fault), &text),
     }
 }
 
 #[test]
 fn reads_the_table(rt: HostRuntime) {
-    for (text, wanted) in ROWS {
-        holds(&rt, is_read_as(text, wanted), text);
-    }
-}
-
-// Whether it is the pair `a` and `1`, with no attribute.
-fn is_bare(cookie: &RawCookie<'_>) -> bool {
-    has_parts(cookie, &PAIR)
-        && cookie.secure().is_none()
-        && cookie.http_only().is_none()
-        && cookie.same_site().is_none()
-        && cookie.max_age().is_none()
-        && cookie.expires().is_none()
-}
-
-#[test]
-fn empty_attributes_say_nothing(rt: HostRuntime) {
-    let text = "a=1;;; ;=x;Domain";
-    holds(
-        &rt,
-        is_bare(&RawCookie::parse(text).expect(&rt, "a cookie")),
-        &text,
-    );
-}
-
-// Whether its copy has these parts, as it has itself, and is equal to it.
-fn is_copied(rt: &impl Abort, cookie: &RawCookie<'_>, parts: &Parts) -> bool {
-    let copy = cookie.clone().expect(rt, "memory");
-    has_parts(cookie, parts) && has_parts(&copy, parts) && copy == *cookie
-}
-
-// A text with parts that are empty, and what it says.
-const EMPTY: &[(&str, Parts)] = &[
-    ("a=", Parts { value: "", ..PAIR }),
-    (
-        "a=1; Path=",
-        Parts {
-            path: Some(""),
-            ..PAIR
-        },
-    ),
-    (
-        "a=; Path=; Domain=.",
-        Parts {
-            value: "",
-            domain: Some(""),
-            path: Some(""),
-            ..PAIR
-        },
-    ),
-];
-
-fn is_owned(rt: &impl Abort, alloc: Global, row: &(&str, Parts)) -> bool {
-    let (text, parts) = row;
-    let owned = RawCookie::parse(text)
-        .expect(rt, "a cookie")
-        .into_owned(alloc)
-        .expect(rt, "memory");
-    is_copied(rt, &owned, parts) && RawCookie::parse(text).expect(rt, "a cookie") == owned
-}
-
-fn is_lent(rt: &impl Abort, row: &(&str, Parts)) -> bool {
-    let (text, parts) = row;
-    is_copied(rt, &RawCookie::parse(text).expect(rt, "a cookie"), parts)
-}
-
-#[test]
-fn keeps_empty_parts(rt: HostRuntime) {
-    for row in EMPTY {
-        holds(&rt, is_lent(&rt, row), &row.0);
-        holds(&rt, is_owned(&rt, rt.alloc(), row), &row.0);
+    for row in ROWS {
+        is_read_as(&rt, rt.alloc(), row);
     }
 }
 
@@ -175,47 +215,22 @@ fn says_why_a_text_is_no_cookie(rt: HostRuntime) {
     is_written_at_any_width(&rt, rt.alloc(), &EmptyName, "an empty name")
 }
 
-// A text, and the seconds of its Max-Age.
-const AGES: &[(&str, Option<i64>)] = &[
-    ("a=1; Max-Age=-", Some(0)),
-    ("a=1; Max-Age=-1", Some(0)),
-    ("a=1; Max-Age=007", Some(7)),
-    ("a=1; Max-Age=--1", None),
-    ("a=1; Max-Age=+5", None),
-    ("a=1; Max-Age=1x", None),
-    ("a=1; Max-Age=", None),
-    (
-        "a=1; Max-Age=9223372036854775808",
-        Some(9223372036854775807),
-    ),
-    ("a=1; Max-Age=9; Max-Age=5; Max-Age=1x", Some(5)),
-    ("a=1", None),
-];
-
-#[test]
-fn reads_ages(rt: HostRuntime) {
-    for (text, seconds) in AGES {
-        let age = RawCookie::parse(text).expect(&rt, "a cookie").max_age();
-        is_equal(&rt, age, seconds.map(SignedDuration::from_secs), text);
-    }
+fn is_aged(rt: &impl Abort, text: &str, seconds: i64) {
+    let age = SignedDuration::from_secs(seconds);
+    is_equal(rt, parsed(rt, text).max_age(), Some(age), &text);
 }
 
-// A digit that stands a thousand times, what follows it, and the seconds of the Max-Age of both.
-const LONG_AGES: &[(&str, &str, i64)] = &[("0", "5", 5), ("9", "", 9223372036854775807)];
-
-fn has_long_age(rt: &impl Abort, alloc: Global, row: &(&str, &str, i64)) -> bool {
-    let (digit, last, seconds) = *row;
+// A digit stands a thousand times, and what is last behind it: the seconds of the Max-Age of both.
+fn has_long_age(rt: &impl Abort, alloc: Global, digit: &str, last: &str, seconds: i64) {
     let digits = digit.repeat(alloc, 1_000).expect(rt, "memory");
     let text = format!(in alloc; "a=1; Max-Age={digits}{last}").expect(rt, "memory");
-    let age = RawCookie::parse(&text).expect(rt, "a cookie").max_age();
-    age == Some(SignedDuration::from_secs(seconds))
+    is_aged(rt, &text, seconds);
 }
 
 #[test]
 fn reads_ages_of_many_digits(rt: HostRuntime) {
-    for row in LONG_AGES {
-        holds(&rt, has_long_age(&rt, rt.alloc(), row), row);
-    }
+    has_long_age(&rt, rt.alloc(), "0", "5", 5);
+    has_long_age(&rt, rt.alloc(), "9", "", 9223372036854775807)
 }
 
 // A text, and the moment that it writes as a cookie's date.
@@ -291,203 +306,138 @@ fn reads_dates(rt: HostRuntime) {
     }
 }
 
-#[test]
-fn reads_flags_sites_and_ends(rt: HostRuntime) {
-    let cookie = RawCookie::parse(
-        "a=1; SECURE=no; samesite=LAX; SameSite=x; Expires=Tue, 11 Aug 2015 16:41:42 GMT; Expires=x",
-    ).expect(&rt, "a cookie");
-    let flags = (cookie.secure(), cookie.http_only());
-    let site_and_end = (cookie.same_site(), cookie.expires());
-    let end = Expiration::DateTime(date(2015, 8, 11).at(16, 41, 42, 0));
-    let wanted = ((Some(true), None), (Some(SameSite::Lax), Some(end)));
-    is_equal(&rt, (flags, site_and_end), wanted, &"each attribute");
+// What a cookie is made of: a text, few parts or all, the last day of a year, or a text with the value `new` in place of its own.
+enum Origin {
+    Text(&'static str),
+    Open,
+    Whole,
+    Until(i16),
+    Renewed(&'static str),
 }
 
-// A text, the text of its cookie, and whether that is plain.
-const TEXTS: &[(&str, &str, bool)] = &[
+fn builder(rt: &impl Abort, alloc: Global, name: &str, value: &str) -> RawCookieBuilder {
+    RawCookieBuilder::new(owned(rt, alloc, name), owned(rt, alloc, value))
+}
+
+fn whole_cookie(rt: &impl Abort, alloc: Global) -> RawCookie<'static> {
+    builder(rt, alloc, "c", "3")
+        .expires(Expiration::Session)
+        .max_age(SignedDuration::new(-1, -500_000_000))
+        .path(owned(rt, alloc, "/p"))
+        .domain(owned(rt, alloc, ".d.org"))
+        .secure(true)
+        .http_only(true)
+        .build()
+}
+
+fn until_the_end_of(rt: &impl Abort, alloc: Global, year: i16) -> RawCookie<'static> {
+    let end = DateTime::new(year, 12, 31, 0, 0, 0, 0).expect(rt, "a moment");
+    let builder = builder(rt, alloc, "a", "1");
+    builder.expires(Expiration::DateTime(end)).build()
+}
+
+fn renewed(rt: &impl Abort, alloc: Global, text: &str) -> RawCookie<'static> {
+    let builder = RawCookieBuilder::from_cookie(kept(rt, alloc, text));
+    builder.value(owned(rt, alloc, "new")).build()
+}
+
+fn made(rt: &impl Abort, alloc: Global, origin: &Origin) -> RawCookie<'static> {
+    match origin {
+        Origin::Text(text) => kept(rt, alloc, text),
+        Origin::Open => builder(rt, alloc, "b", "2")
+            .secure(false)
+            .same_site(SameSite::None)
+            .build(),
+        Origin::Whole => whole_cookie(rt, alloc),
+        Origin::Until(year) => until_the_end_of(rt, alloc, *year),
+        Origin::Renewed(text) => renewed(rt, alloc, text),
+    }
+}
+
+// The text of the cookie, and whether that is plain.
+const COOKIES: &[(Origin, &str, bool)] = &[
     (
-        "a=1; Expires=Tue, 11 Aug 2015 16:41:42 GMT; Max-Age=10; HttpOnly",
+        Origin::Text("a=1; Expires=Tue, 11 Aug 2015 16:41:42 GMT; Max-Age=10; HttpOnly"),
         "a=1; HttpOnly; Max-Age=10; Expires=Tue, 11 Aug 2015 16:41:42 GMT",
         true,
     ),
-    ("a=1; SameSite=None", "a=1; SameSite=None; Secure", false),
     (
-        "a=1; SECURE=no; samesite=LAX; SameSite=x",
+        Origin::Text("a=1; SameSite=None"),
+        "a=1; SameSite=None; Secure",
+        false,
+    ),
+    (
+        Origin::Text("a=1; SECURE=no; samesite=LAX; SameSite=x"),
         "a=1; SameSite=Lax; Secure",
         true,
     ),
     (
-        "2=two; SameSite=None; Secure; Path=/; Expires=Tue, 03 Aug 2100 00:38:37 GMT",
+        Origin::Text("2=two; SameSite=None; Secure; Path=/; Expires=Tue, 03 Aug 2100 00:38:37 GMT"),
         "2=two; SameSite=None; Secure; Path=/; Expires=Tue, 03 Aug 2100 00:38:37 GMT",
         true,
     ),
     (
-        "1=one; Expires=3 aug 2000 0:38:37",
+        Origin::Text("1=one; Expires=3 aug 2000 0:38:37"),
         "1=one; Expires=Thu, 03 Aug 2000 00:38:37 GMT",
         true,
     ),
     (
-        "a=1; Domain=.a.com; Path=x",
+        Origin::Text("a=1; Domain=.a.com; Path=x"),
         "a=1; Path=x; Domain=a.com",
         true,
     ),
-    ("a=1; Domain=..x", "a=1; Domain=.x", false),
-    ("a=1; Domain=.", "a=1; Domain=", false),
-    (" a = \"b=c\" ; Max-Age=007", "a=\"b=c\"; Max-Age=7", true),
+    (Origin::Text("a=1; Domain=..x"), "a=1; Domain=.x", false),
+    (Origin::Text("a=1; Domain=."), "a=1; Domain=", false),
+    (
+        Origin::Text(" a = \"b=c\" ; Max-Age=007"),
+        "a=\"b=c\"; Max-Age=7",
+        true,
+    ),
+    (Origin::Open, "b=2; SameSite=None", false),
+    (
+        Origin::Whole,
+        "c=3; HttpOnly; Secure; Path=/p; Domain=d.org; Max-Age=-1",
+        false,
+    ),
+    // No year below 0 is printed.
+    (
+        Origin::Until(9999),
+        "a=1; Expires=Fri, 31 Dec 9999 00:00:00 GMT",
+        true,
+    ),
+    (
+        Origin::Until(0),
+        "a=1; Expires=Sun, 31 Dec 0000 00:00:00 GMT",
+        false,
+    ),
+    (Origin::Until(-1), "a=1", false),
+    (Origin::Until(-9999), "a=1", false),
+    // A value is changed alone.
+    (Origin::Renewed("a=1"), "a=new", true),
+    (Origin::Renewed("a="), "a=new", true),
+    (
+        Origin::Renewed(
+            "c=3; Domain=d.org; Path=/p; Secure; HttpOnly; SameSite=Lax; Max-Age=5; Expires=Tue, 03 Aug 2100 00:38:37 GMT",
+        ),
+        "c=new; HttpOnly; SameSite=Lax; Secure; Path=/p; Domain=d.org; Max-Age=5; Expires=Tue, 03 Aug 2100 00:38:37 GMT",
+        true,
+    ),
 ];
 
-// The cookie has this text, also as it is displayed.
-fn has_text(rt: &impl Abort, alloc: Global, cookie: &RawCookie<'_>, wanted: &str) {
-    let text = cookie.to_text(alloc).expect(rt, "memory");
-    is_equal(rt, text.as_str(), wanted, &wanted);
-    is_written_at_any_width(rt, alloc, cookie, wanted)
-}
-
-// The cookie has this text, which is that of an equal cookie where it is plain.
+// The cookie has this text, also as it is displayed, which is that of an equal cookie where it is plain.
 fn prints(rt: &impl Abort, alloc: Global, cookie: &RawCookie<'_>, printed: &str, is_plain: bool) {
-    has_text(rt, alloc, cookie, printed);
-    let is_same = RawCookie::parse(printed).expect(rt, "a cookie") == *cookie;
-    is_equal(
-        rt,
-        (cookie.is_plain(), is_same),
-        (is_plain, is_plain),
-        &printed,
-    );
+    is_text(rt, &cookie.to_text(alloc), Ok(printed), &printed);
+    is_written_at_any_width(rt, alloc, cookie, printed);
+    let is_same = parsed(rt, printed) == *cookie;
+    let answers = (cookie.is_plain(), is_same);
+    is_equal(rt, answers, (is_plain, is_plain), &printed);
 }
 
 #[test]
 fn prints_the_table(rt: HostRuntime) {
     laws::reads_back();
-    for (text, printed, is_plain) in TEXTS {
-        prints(
-            &rt,
-            rt.alloc(),
-            &RawCookie::parse(text).expect(&rt, "a cookie"),
-            printed,
-            *is_plain,
-        );
-    }
-}
-
-fn builder(alloc: Global, name: &str, value: &str) -> Result<RawCookieBuilder, AllocError> {
-    let name = String::from_str(alloc, name)?;
-    let value = String::from_str(alloc, value)?;
-    Ok(RawCookieBuilder::new(name, value))
-}
-
-fn open_cookie(alloc: Global) -> Result<RawCookie<'static>, AllocError> {
-    let builder = builder(alloc, "b", "2")?;
-    Ok(builder.secure(false).same_site(SameSite::None).build())
-}
-
-fn whole_cookie(alloc: Global) -> Result<RawCookie<'static>, AllocError> {
-    let path = String::from_str(alloc, "/p")?;
-    let domain = String::from_str(alloc, ".d.org")?;
-    let builder = builder(alloc, "c", "3")?
-        .expires(Expiration::Session)
-        .max_age(SignedDuration::new(-1, -500_000_000))
-        .path(path)
-        .domain(domain)
-        .secure(true)
-        .http_only(true);
-    Ok(builder.build())
-}
-
-fn is_equal_to_copy(rt: &impl Abort, cookie: &RawCookie<'_>) -> bool {
-    let copy = cookie.clone().expect(rt, "memory");
-    copy == *cookie
-}
-
-fn is_open(rt: &impl Abort, alloc: Global, cookie: &RawCookie<'_>) -> bool {
-    let open = open_cookie(alloc).expect(rt, "memory");
-    open == *cookie
-}
-
-// The cookie has this text, and is equal to its copy and not to the open one.
-fn is_built(rt: &impl Abort, alloc: Global, cookie: &RawCookie<'_>, text: &str) {
-    has_text(rt, alloc, cookie, text);
-    holds(rt, is_equal_to_copy(rt, cookie), &text);
-    holds(rt, !is_open(rt, alloc, cookie), &text);
-}
-
-#[test]
-fn builds_cookies(rt: HostRuntime) {
-    let text = "b=2; SameSite=None";
-    has_text(
-        &rt,
-        rt.alloc(),
-        &open_cookie(rt.alloc()).expect(&rt, "memory"),
-        text,
-    );
-    let is_plain = open_cookie(rt.alloc()).expect(&rt, "memory").is_plain();
-    holds(&rt, !is_plain, &text);
-    let text = "c=3; HttpOnly; Secure; Path=/p; Domain=d.org; Max-Age=-1";
-    is_built(
-        &rt,
-        rt.alloc(),
-        &whole_cookie(rt.alloc()).expect(&rt, "memory"),
-        text,
-    )
-}
-
-// A year, and the text of a cookie that ends with it.
-const LAST_YEARS: &[(i16, &str)] = &[
-    (9999, "a=1; Expires=Fri, 31 Dec 9999 00:00:00 GMT"),
-    (0, "a=1; Expires=Sun, 31 Dec 0000 00:00:00 GMT"),
-    (-1, "a=1"),
-    (-9999, "a=1"),
-];
-
-fn until_the_end_of(rt: &impl Abort, alloc: Global, year: i16) -> RawCookie<'static> {
-    let end = Expiration::DateTime(DateTime::new(year, 12, 31, 0, 0, 0, 0).expect(rt, "a moment"));
-    builder(alloc, "a", "1")
-        .expect(rt, "memory")
-        .expires(end)
-        .build()
-}
-
-#[test]
-fn prints_no_year_below_0(rt: HostRuntime) {
-    for (year, text) in LAST_YEARS {
-        has_text(
-            &rt,
-            rt.alloc(),
-            &until_the_end_of(&rt, rt.alloc(), *year),
-            text,
-        );
-    }
-}
-
-// The cookie with another value.
-fn with_value(
-    alloc: Global,
-    cookie: RawCookie<'static>,
-    value: &str,
-) -> Result<RawCookie<'static>, AllocError> {
-    let value = String::from_str(alloc, value)?;
-    Ok(RawCookieBuilder::from_cookie(cookie).value(value).build())
-}
-
-fn parsed(rt: &impl Abort, alloc: Global, text: &str) -> RawCookie<'static> {
-    let cookie = RawCookie::parse(text).expect(rt, "a cookie");
-    cookie.into_owned(alloc).expect(rt, "memory")
-}
-
-// A text of a cookie, and the text of the same cookie with the value `new`.
-const NEW_VALUES: &[(&str, &str)] = &[
-    ("a=1", "a=new"),
-    ("a=", "a=new"),
-    (
-        "c=3; Domain=d.org; Path=/p; Secure; HttpOnly; SameSite=Lax; Max-Age=5; Expires=Tue, 03 Aug 2100 00:38:37 GMT",
-        "c=new; HttpOnly; SameSite=Lax; Secure; Path=/p; Domain=d.org; Max-Age=5; Expires=Tue, 03 Aug 2100 00:38:37 GMT",
-    ),
-];
-
-#[test]
-fn a_value_is_changed_alone(rt: HostRuntime) {
-    for (text, wanted) in NEW_VALUES {
-        let cookie = parsed(&rt, rt.alloc(), text);
-        let cookie = with_value(rt.alloc(), cookie, "new").expect(&rt, "memory");
-        has_text(&rt, rt.alloc(), &cookie, wanted);
+    for (origin, printed, is_plain) in COOKIES {
+        let cookie = made(&rt, rt.alloc(), origin);
+        prints(&rt, rt.alloc(), &cookie, printed, *is_plain);
     }
 }

@@ -1,4 +1,5 @@
-use crate::checks::is_equal;
+use crate::checks::{is_equal, is_text};
+use crate::parts::saved;
 use cookie_saved::{Saved, SavedDomain, SavedError, SavedExpiry, from_ron, to_ron};
 use jiff::civil::date;
 use std::alloc::Global;
@@ -6,15 +7,9 @@ use std::process::Abort;
 
 // How the list of a text is printed again, or why the text says none.
 fn printed_again(alloc: Global, text: &str) -> Result<String, SavedError> {
-    let list = from_ron(alloc, text)?;
-    to_ron(alloc, &list)
-}
-
-fn is_printed_again(rt: &impl Abort, alloc: Global, text: &str, wanted: Result<&str, SavedError>) {
-    let printed = printed_again(alloc, text);
-    match &printed {
-        Ok(printed) => is_equal(rt, Ok(printed.as_str()), wanted, &text),
-        Err(fault) => is_equal(rt, Err(*fault), wanted, &text),
+    match from_ron(alloc, text) {
+        Ok(list) => to_ron(alloc, &list),
+        Err(fault) => Err(fault),
     }
 }
 
@@ -121,7 +116,7 @@ const TEXTS: [(&str, Result<&str, SavedError>); 16] = [
 #[test]
 fn lists_in_ron_are_read_and_printed(rt: HostRuntime) {
     for (text, wanted) in TEXTS {
-        is_printed_again(&rt, rt.alloc(), text, wanted);
+        is_text(&rt, &printed_again(rt.alloc(), text), wanted, &text);
     }
 }
 
@@ -152,24 +147,17 @@ const QUOTED: [(&str, Result<&str, SavedError>); 18] = [
 
 // The list of one cookie with this in the quotes of its text, in the layout that is printed.
 fn list_with(rt: &impl Abort, alloc: Global, quoted: &str) -> String {
-    let mut text = String::new(alloc);
-    text.push_str("[\n    (\n        raw_cookie: \"")
-        .expect(rt, "memory");
-    text.push_str(quoted).expect(rt, "memory");
-    text.push_str(
-        "\",\n        path: (\"/\", true),\n        domain: Empty,\n        expires: SessionEnd,\n    ),\n]",
-    ).expect(rt, "memory");
-    text
+    let text = format!(in alloc;
+        "[\n    (\n        raw_cookie: \"{quoted}\",\n        path: (\"/\", true),\n        domain: Empty,\n        expires: SessionEnd,\n    ),\n]"
+    );
+    text.expect(rt, "memory")
 }
 
 fn is_quoted_again(rt: &impl Abort, alloc: Global, row: &(&str, Result<&str, SavedError>)) {
-    let text = list_with(rt, alloc, row.0);
+    let printed = printed_again(alloc, &list_with(rt, alloc, row.0));
     match row.1 {
-        Ok(wanted) => {
-            let wanted = list_with(rt, alloc, wanted);
-            is_printed_again(rt, alloc, text.as_str(), Ok(wanted.as_str()));
-        }
-        Err(fault) => is_printed_again(rt, alloc, text.as_str(), Err(fault)),
+        Ok(wanted) => is_text(rt, &printed, Ok(&list_with(rt, alloc, wanted)), row),
+        Err(fault) => is_text(rt, &printed, Err(fault), row),
     }
 }
 
@@ -180,18 +168,25 @@ fn texts_in_ron_are_read_and_printed(rt: HostRuntime) {
     }
 }
 
+// How the list of one cookie with this text is printed, which ends so.
+fn printed(
+    rt: &impl Abort,
+    alloc: Global,
+    raw_cookie: &str,
+    expires: SavedExpiry,
+) -> Result<String, SavedError> {
+    to_ron(alloc, &[saved(rt, alloc, raw_cookie, ("/", true), expires)])
+}
+
 #[test]
-fn a_text_is_printed_with_its_escapes(rt: HostRuntime) {
-    let saved = Saved {
-        raw_cookie: String::from_str(rt.alloc(), "a\t\"\u{7}é").expect(&rt, "memory"),
-        path: String::from_str(rt.alloc(), "/").expect(&rt, "memory"),
-        from_attr: true,
-        domain: SavedDomain::Empty,
-        expires: SavedExpiry::SessionEnd,
-    };
+fn a_cookie_is_printed_or_refused(rt: HostRuntime) {
+    let text = "a\t\"\u{7}é";
+    let escaped = printed(&rt, rt.alloc(), text, SavedExpiry::SessionEnd);
     let wanted = list_with(&rt, rt.alloc(), r#"a\t\"\u{7}é"#);
-    let printed = to_ron(rt.alloc(), &[saved]).expect(&rt, "memory");
-    is_equal(&rt, printed.as_str(), wanted.as_str(), &"escapes");
+    is_text(&rt, &escaped, Ok(&wanted), &text);
+    let end = SavedExpiry::AtUtc(date(-1, 12, 31).at(23, 59, 59, 0));
+    let early = printed(&rt, rt.alloc(), "a=1", end);
+    is_text(&rt, &early, Err(SavedError::Moment), &"the year -1");
 }
 
 const FOUR: &str = r#"[
@@ -203,15 +198,15 @@ const FOUR: &str = r#"[
 
 // Of a saved cookie its text, its path, whether an attribute set that, its domain's kind and text, and of an end the year and the
 // nanoseconds of its second.
-type Read = (
-    &'static str,
-    &'static str,
+type Read<'a> = (
+    &'a str,
+    &'a str,
     bool,
-    (&'static str, &'static str),
+    (&'a str, &'a str),
     Option<(i16, i32)>,
 );
 
-const READ: [Read; 4] = [
+const READ: &[Read<'static>] = &[
     ("A🍪\0", "/", false, ("HostOnly", "a.com"), None),
     ("", "", true, ("Suffix", "b.com"), Some((2100, 750_000_000))),
     ("'", "/\"", true, ("NotPresent", ""), Some((0, 0))),
@@ -234,32 +229,25 @@ fn end_of(expires: SavedExpiry) -> Option<(i16, i32)> {
     }
 }
 
-fn is_read(rt: &impl Abort, saved: &Saved, wanted: &Read) {
-    let texts = (saved.raw_cookie.as_str(), saved.path.as_str());
-    is_equal(rt, texts, (wanted.0, wanted.1), wanted);
-    is_equal(rt, saved.from_attr, wanted.2, wanted);
-    is_equal(rt, kind_of(&saved.domain), wanted.3, wanted);
-    is_equal(rt, end_of(saved.expires), wanted.4, wanted);
+fn parts_of(saved: &Saved) -> Read<'_> {
+    (
+        saved.raw_cookie.as_str(),
+        saved.path.as_str(),
+        saved.from_attr,
+        kind_of(&saved.domain),
+        end_of(saved.expires),
+    )
+}
+
+fn are_read(rt: &impl Abort, list: &[Saved]) {
+    is_equal(rt, list.len(), READ.len(), &"cookies");
+    for (saved, wanted) in list.iter().zip(READ) {
+        is_equal(rt, parts_of(saved), *wanted, wanted);
+    }
 }
 
 #[test]
 fn all_parts_are_read_of_ron(rt: HostRuntime) {
     let list = from_ron(rt.alloc(), FOUR).expect(&rt, "a list");
-    is_equal(&rt, list.len(), READ.len(), &"cookies");
-    for (saved, wanted) in list.iter().zip(READ.iter()) {
-        is_read(&rt, saved, wanted);
-    }
-}
-
-#[test]
-fn an_end_before_the_year_0_is_not_printed(rt: HostRuntime) {
-    let early = Saved {
-        raw_cookie: String::new(rt.alloc()),
-        path: String::new(rt.alloc()),
-        from_attr: false,
-        domain: SavedDomain::NotPresent,
-        expires: SavedExpiry::AtUtc(date(-1, 12, 31).at(23, 59, 59, 0)),
-    };
-    let printed = to_ron(rt.alloc(), &[early]).map(|text| text.len());
-    is_equal(&rt, printed, Err(SavedError::Moment), &"the year -1");
+    are_read(&rt, &list);
 }

@@ -1,4 +1,4 @@
-use crate::checks::{holds, is_equal};
+use crate::checks::{holds, is_equal, is_text};
 use crate::parts::{Fields, moment_of};
 use cookie_saved::{
     Saved, SavedError, SavedExpiry, from_value, list_from_value, list_to_text, list_to_value,
@@ -45,32 +45,22 @@ fn reads_moments(rt: HostRuntime) {
     }
 }
 
-// A moment, and its text, or None where it has none.
-const TEXTS: &[(Fields, Option<&str>)] = &[
-    ((2026, 1, 1, 0, 0, 0, 0), Some("2026-01-01T00:00:00Z")),
+// A moment, and its text.
+const TEXTS: &[(Fields, Result<&str, SavedError>)] = &[
+    ((2026, 1, 1, 0, 0, 0, 0), Ok("2026-01-01T00:00:00Z")),
     (
         (2024, 2, 29, 23, 59, 59, 999_999_999),
-        Some("2024-02-29T23:59:59Z"),
+        Ok("2024-02-29T23:59:59Z"),
     ),
-    ((33, 4, 5, 6, 7, 8, 0), Some("0033-04-05T06:07:08Z")),
-    ((0, 1, 1, 0, 0, 0, 0), Some("0000-01-01T00:00:00Z")),
-    ((9999, 12, 31, 23, 59, 59, 0), Some("9999-12-31T23:59:59Z")),
-    ((-1, 12, 31, 23, 59, 59, 0), None),
+    ((33, 4, 5, 6, 7, 8, 0), Ok("0033-04-05T06:07:08Z")),
+    ((0, 1, 1, 0, 0, 0, 0), Ok("0000-01-01T00:00:00Z")),
+    ((9999, 12, 31, 23, 59, 59, 0), Ok("9999-12-31T23:59:59Z")),
+    ((-1, 12, 31, 23, 59, 59, 0), Err(SavedError::Moment)),
 ];
 
-// The moment has the text, or is refused where it has none.
-fn is_written_as(rt: &impl Abort, alloc: Global, row: &(Fields, Option<&str>)) {
+fn is_written_as(rt: &impl Abort, alloc: Global, row: &(Fields, Result<&str, SavedError>)) {
     let moment = moment_of(rt, Some(row.0)).expect(rt, "a moment");
-    let text = moment_text(alloc, moment);
-    match &text {
-        Ok(text) => is_equal(rt, Some(text.as_str()), row.1, row),
-        Err(fault) => is_equal(
-            rt,
-            (Some(*fault), None),
-            (Some(SavedError::Moment), row.1),
-            row,
-        ),
-    }
+    is_text(rt, &moment_text(alloc, moment), row.1, row);
 }
 
 #[test]
@@ -90,123 +80,133 @@ const NO_MOMENT: &str = r#"{"raw_cookie": "a=1", "path": ["/", true],
 const NO_SHAPE: &str = r#"{"raw_cookie": "a=1", "path": ["/"],
     "domain": "Empty", "expires": "SessionEnd"}"#;
 
-// A tree, and why it is refused, if it is.
-const TREES: &[(&str, Option<SavedError>)] = &[
-    (WHOLE, None),
+// The tree of a cookie, the trees of a list, or a tree in the place of a list.
+#[derive(Debug)]
+enum Given {
+    Cookie(&'static str),
+    List(&'static [&'static str]),
+    NoList(&'static str),
+}
+
+// Trees, and why they are refused, if they are.
+const TREES: &[(Given, Option<SavedError>)] = &[
+    (Given::Cookie(WHOLE), None),
     (
-        r#"{"x": 1, "expires": "SessionEnd", "domain": {"Suffix": ""}, "path": ["", false],
+        Given::Cookie(
+            r#"{"x": 1, "expires": "SessionEnd", "domain": {"Suffix": ""}, "path": ["", false],
             "raw_cookie": "nopair"}"#,
+        ),
         None,
     ),
     (
-        r#"{"x": 1.5, "raw_cookie": "a=1", "path": ["/", true],
+        Given::Cookie(
+            r#"{"x": 1.5, "raw_cookie": "a=1", "path": ["/", true],
             "domain": "NotPresent", "expires": "SessionEnd"}"#,
+        ),
         Some(SavedError::Shape),
     ),
     (
-        r#"{"x": [{"y": 1e1}], "raw_cookie": "a=1", "path": ["/", true],
+        Given::Cookie(
+            r#"{"x": [{"y": 1e1}], "raw_cookie": "a=1", "path": ["/", true],
             "domain": "NotPresent", "expires": "SessionEnd"}"#,
+        ),
         Some(SavedError::Shape),
     ),
-    (NO_MOMENT, Some(SavedError::Moment)),
-    (NO_SHAPE, Some(SavedError::Shape)),
+    (Given::Cookie(NO_MOMENT), Some(SavedError::Moment)),
+    (Given::Cookie(NO_SHAPE), Some(SavedError::Shape)),
     (
-        r#"{"raw_cookie": "a=1", "path": ["/", true, true],
+        Given::Cookie(
+            r#"{"raw_cookie": "a=1", "path": ["/", true, true],
             "domain": "Empty", "expires": {"AtUtc": "2100-02-29T00:00:00Z"}}"#,
+        ),
         Some(SavedError::Shape),
     ),
     (
-        r#"{"raw_cookie": "a=1", "path": ["/", true],
+        Given::Cookie(
+            r#"{"raw_cookie": "a=1", "path": ["/", true],
             "domain": {"Empty": null}, "expires": "SessionEnd"}"#,
+        ),
         Some(SavedError::Shape),
     ),
     (
-        r#"{"raw_cookie": "a=1", "path": ["/", true],
+        Given::Cookie(
+            r#"{"raw_cookie": "a=1", "path": ["/", true],
             "domain": {"HostOnly": "a.com", "Suffix": "a.com"}, "expires": "SessionEnd"}"#,
+        ),
         Some(SavedError::Shape),
     ),
     (
-        r#"{"path": ["/", true], "domain": "Empty", "expires": "SessionEnd"}"#,
+        Given::Cookie(r#"{"path": ["/", true], "domain": "Empty", "expires": "SessionEnd"}"#),
         Some(SavedError::Shape),
     ),
     (
-        r#"["a=1", ["/", true], "Empty", "SessionEnd"]"#,
+        Given::Cookie(r#"["a=1", ["/", true], "Empty", "SessionEnd"]"#),
         Some(SavedError::Shape),
     ),
+    (Given::List(&[]), None),
+    (Given::List(&[WHOLE, WHOLE]), None),
+    (Given::List(&[WHOLE, NO_MOMENT]), Some(SavedError::Moment)),
+    (Given::List(&[NO_MOMENT, NO_SHAPE]), Some(SavedError::Shape)),
+    (Given::List(&[NO_SHAPE, WHOLE]), Some(SavedError::Shape)),
+    (Given::List(&["1.5"]), Some(SavedError::Shape)),
+    (Given::NoList(WHOLE), Some(SavedError::Shape)),
 ];
 
-// Why there is no value, if there is none.
-fn refusal_of<T>(outcome: &Result<T, SavedError>) -> Option<SavedError> {
-    match outcome {
-        Ok(_) => None,
-        Err(fault) => Some(*fault),
-    }
+fn tree(rt: &impl Abort, alloc: Global, text: &str) -> Value {
+    Value::from_str(alloc, text).expect(rt, "a tree")
 }
-
-#[test]
-fn reads_trees(rt: HostRuntime) {
-    for (text, wanted) in TREES {
-        let tree = Value::from_str(rt.alloc(), text).expect(&rt, "a tree");
-        let saved = from_value(rt.alloc(), &tree);
-        is_equal(&rt, refusal_of(&saved), *wanted, text);
-    }
-}
-
-// Trees of a list, and why it is refused, if it is.
-const LISTS: &[(&[&str], Option<SavedError>)] = &[
-    (&[], None),
-    (&[WHOLE, WHOLE], None),
-    (&[WHOLE, NO_MOMENT], Some(SavedError::Moment)),
-    (&[NO_MOMENT, NO_SHAPE], Some(SavedError::Shape)),
-    (&[NO_SHAPE, WHOLE], Some(SavedError::Shape)),
-    (&["1.5"], Some(SavedError::Shape)),
-];
 
 // The list of the trees.
 fn list_of(rt: &impl Abort, alloc: Global, trees: &[&str]) -> Value {
     let mut list = Vec::new(alloc);
     for text in trees {
-        list.push(Value::from_str(alloc, text).expect(rt, "a tree"))
-            .expect(rt, "memory");
+        list.push(tree(rt, alloc, text)).expect(rt, "memory");
     }
     Value::Array(list)
 }
 
-#[test]
-fn reads_lists(rt: HostRuntime) {
-    for (trees, wanted) in LISTS {
-        let list = list_of(&rt, rt.alloc(), trees);
-        let saved = list_from_value(rt.alloc(), &list);
-        is_equal(&rt, refusal_of(&saved), *wanted, trees);
+fn tree_of(rt: &impl Abort, alloc: Global, given: &Given) -> Value {
+    match given {
+        Given::Cookie(text) | Given::NoList(text) => tree(rt, alloc, text),
+        Given::List(trees) => list_of(rt, alloc, trees),
+    }
+}
+
+fn refusal_of(alloc: Global, tree: &Value, is_cookie: bool) -> Option<SavedError> {
+    if is_cookie {
+        from_value(alloc, tree).err()
+    } else {
+        list_from_value(alloc, tree).err()
     }
 }
 
 #[test]
-fn a_tree_is_no_list(rt: HostRuntime) {
-    let tree = Value::from_str(rt.alloc(), WHOLE).expect(&rt, "a tree");
-    let saved = list_from_value(rt.alloc(), &tree);
-    is_equal(&rt, refusal_of(&saved), Some(SavedError::Shape), &WHOLE);
+fn reads_trees(rt: HostRuntime) {
+    for (given, wanted) in TREES {
+        let is_cookie = matches!(given, Given::Cookie(_));
+        let refusal = refusal_of(rt.alloc(), &tree_of(&rt, rt.alloc(), given), is_cookie);
+        is_equal(&rt, refusal, *wanted, given);
+    }
 }
 
-// Whether the list is the tree, and its text says that tree.
-fn is_written(rt: &impl Abort, alloc: Global, saved: &[Saved], list: &Value) -> bool {
+// The list is the tree, and its text says that tree.
+fn is_written(rt: &impl Abort, alloc: Global, saved: &[Saved], list: &Value) {
+    let written = list_to_value(alloc, saved).expect(rt, "memory");
+    holds(rt, written == *list, &"a tree");
     let text = list_to_text(alloc, saved).expect(rt, "memory");
-    list_to_value(alloc, saved).expect(rt, "memory") == *list
-        && Value::from_str(alloc, &text).expect(rt, "a tree") == *list
+    holds(rt, tree(rt, alloc, &text) == *list, &"a text");
 }
 
 #[test]
 fn a_list_is_written_as_it_was_read(rt: HostRuntime) {
     let list = list_of(&rt, rt.alloc(), &[WHOLE, WHOLE]);
     let saved = list_from_value(rt.alloc(), &list).expect(&rt, "memory");
-    holds(&rt, is_written(&rt, rt.alloc(), &saved, &list), &WHOLE);
+    is_written(&rt, rt.alloc(), &saved, &list);
 }
 
 // A saved cookie that ends before the year 0.
 fn early(rt: &impl Abort, alloc: Global) -> Saved {
-    let mut saved = from_value(alloc, &Value::from_str(alloc, WHOLE).expect(rt, "a tree")).expect(
-        rt, "memory",
-    );
+    let mut saved = from_value(alloc, &tree(rt, alloc, WHOLE)).expect(rt, "memory");
     saved.expires = SavedExpiry::AtUtc(DateTime::MIN);
     saved
 }
@@ -214,10 +214,16 @@ fn early(rt: &impl Abort, alloc: Global) -> Saved {
 #[test]
 fn an_end_before_the_year_0_has_no_tree(rt: HostRuntime) {
     let list = [early(&rt, rt.alloc())];
-    let tree = to_value(rt.alloc(), &list[0]);
-    is_equal(&rt, refusal_of(&tree), Some(SavedError::Moment), &"a tree");
-    let tree = list_to_value(rt.alloc(), &list);
-    is_equal(&rt, refusal_of(&tree), Some(SavedError::Moment), &"a list");
-    let text = list_to_text(rt.alloc(), &list);
-    is_equal(&rt, refusal_of(&text), Some(SavedError::Moment), &"a text");
+    let faults = (
+        to_value(rt.alloc(), &list[0]).err(),
+        list_to_value(rt.alloc(), &list).err(),
+        list_to_text(rt.alloc(), &list).err(),
+    );
+    let fault = Some(SavedError::Moment);
+    is_equal(
+        &rt,
+        faults,
+        (fault, fault, fault),
+        &"a tree, a list, a text",
+    );
 }
