@@ -1,5 +1,5 @@
-//! A client of one site: it keeps the cookies of the site's responses, says which ones to send, and saves them in a file from
-//! which its next run goes on.
+//! A client of one site: it begins with the cookies of an older program, keeps those of the site's responses, says which ones to
+//! send, and saves them in a file from which its next run goes on.
 #![tactic(auto)]
 
 use cookie_store::device::Counted;
@@ -12,6 +12,9 @@ use url::{ParseError, Url};
 
 /// The file that the cookies are kept in between two runs.
 const FILE: &str = "cookies.json";
+
+/// The list that `cookie_jar --convert` made of the older program's lines.
+const LEGACY: &str = "legacy.ron";
 
 /// The headers of a response.
 const HEADERS: [(&str, &str); 4] = [
@@ -30,13 +33,16 @@ struct Session {
 }
 
 impl Session {
-    /// A session without cookies.
-    fn new(alloc: Global, site: Url) -> Session {
-        Session {
-            alloc,
-            site,
-            store: CookieStore::new(alloc),
-        }
+    /// A session with the cookies of the older program.
+    fn adopt<F: Files>(
+        alloc: Global,
+        files: &F,
+        site: Url,
+        now: DateTime,
+    ) -> Result<Session, Error> {
+        let file = fs::open(files, LEGACY).map_err(|_| Error::Io)?;
+        let store = serde::ron::load(alloc, &mut Counted::new(file), now)?;
+        Ok(Session { alloc, site, store })
     }
 
     /// Takes the cookies of a response's headers that came at the moment. A cookie that is refused is logged and passed over.
@@ -101,7 +107,7 @@ fn url_of(alloc: Global, text: &str) -> Result<Url, Error> {
 fn run(rt: &HostRuntime) -> Result<(), Error> {
     let (alloc, now) = (rt.alloc(), date(2026, 1, 1).at(0, 0, 0, 0));
     let site = url_of(alloc, "https://shop.example/")?;
-    let mut first = Session::new(alloc, site.clone()?);
+    let mut first = Session::adopt(alloc, rt, site.clone()?, now)?;
     first.receive(rt, &HEADERS, now)?;
     let header = first.header(now)?;
     println!(rt; "Cookie: {header}").map_err(|_| Error::Io)?;

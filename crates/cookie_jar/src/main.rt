@@ -1,21 +1,23 @@
-//! The program `cookie_jar`: runs a script of cookies that come and of URLs that ask for them.
+//! The program `cookie_jar`: runs a script of cookies that come and of URLs that ask for them, or converts lines of JSON into a list
+//! in RON.
 //!
 //! Each line of standard input is `now MOMENT`, `set URL TEXT`, `get URL`, `list`, `remove DOMAIN PATH NAME` or `clear`; the
 //! answers go to standard output.
 //! With `--suffixes FILE` the store obeys the public suffix list of that file, and with `--limit N` no insertion leaves more than N
-//! cookies of its domain.
+//! cookies of its domain. With `--convert` standard input is no script, but lines of JSON that older programs saved, and the list of
+//! their cookies in RON goes to standard output.
 #![tactic(auto)]
 
 use cookie_device::Counted;
 use cookie_psl::List;
 use cookie_script::fault::MainFault;
-use cookie_script::{HashKey, arguments, fault, run, suffixes};
+use cookie_script::{HashKey, arguments, convert, fault, run, suffixes};
 use std::hash::RandomState;
 use std::process::ExitCode;
 use std::{env, fs};
 
 fn main(rt: HostRuntime) -> ExitCode {
-    match script(&rt) {
+    match work(&rt) {
         Ok(()) => ExitCode::SUCCESS,
         Err(fault) => {
             let _told = eprintln!(rt; "{fault}");
@@ -24,18 +26,22 @@ fn main(rt: HostRuntime) -> ExitCode {
     }
 }
 
-fn script(rt: &HostRuntime) -> Result<(), MainFault> {
+// Does what the words of the command line ask.
+fn work(rt: &HostRuntime) -> Result<(), MainFault> {
     let words: Vec<String> = env::args(rt)
         .map_err(arguments::words_fault)?
         .collect(rt.alloc())?;
     let own = arguments::own_words(words.as_slice());
     let options = arguments::options(own)?;
+    let mut source = Counted::new(rt.stdin());
+    let mut sink = Counted::new(rt.stdout());
+    if options.convert {
+        return Ok(convert::convert(rt.alloc(), &mut source, &mut sink)?);
+    }
     let list = match options.suffixes {
         Some(file) => Some(read_list(rt, file)?),
         None => None,
     };
-    let mut source = Counted::new(rt.stdin());
-    let mut sink = Counted::new(rt.stdout());
     let hash_key = HashKey::Drawn(RandomState::new(rt).map_err(fault::draw_fault)?);
     Ok(run::run(
         rt.alloc(),

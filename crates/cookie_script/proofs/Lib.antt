@@ -1,4 +1,5 @@
 pub mod Answered
+pub mod Converted
 pub mod Gathering
 pub mod Limits
 pub mod OtherWords

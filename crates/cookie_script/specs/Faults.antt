@@ -6,8 +6,12 @@ use Rattle.cookie_device.specs.declared.lines.FillError.{FillError}
 use Rattle.cookie_device.specs.declared.lines.FillError.TheVariants as Fill
 use Rattle.cookie_psl.specs.declared.error.ListError.{ListError}
 use Rattle.cookie_psl.specs.declared.error.ListError.TheVariants as Psl
+use Rattle.cookie_store.specs.declared.serde.migration.MigrateError.{MigrateError}
+use Rattle.cookie_store.specs.declared.serde.migration.MigrateError.TheVariants as Migrate
+use Rattle.cookie_script.specs.declared.fault.ConvertFault.{ConvertFault}
+use Rattle.cookie_script.specs.declared.fault.ConvertFault.TheVariants as Conversion
 use Rattle.cookie_script.specs.declared.fault.MainFault.{MainFault}
-use Rattle.cookie_script.specs.declared.fault.MainFault.TheVariants.{BadArguments, CannotReadList, BadRule, Run}
+use Rattle.cookie_script.specs.declared.fault.MainFault.TheVariants.{BadArguments, CannotReadList, BadRule, Run, Convert}
 use Rattle.cookie_script.specs.declared.fault.RunFault.{RunFault}
 use Rattle.cookie_script.specs.declared.fault.RunFault.TheVariants.{Read, Write, Memory}
 
@@ -19,6 +23,10 @@ status_of (BadRule line) = 2
 status_of (Run Read) = 1
 status_of (Run Write) = 1
 status_of (Run Memory) = 3
+status_of (Convert Conversion.Read) = 1
+status_of (Convert Conversion.Write) = 1
+status_of (Convert Conversion.Memory) = 3
+status_of (Convert (Conversion.BadLine line)) = 2
 
 -- why a script was not run to its end, in words
 abbrev pub run_fault_text : RunFault → List ℕ
@@ -26,12 +34,26 @@ run_fault_text Read = codes "read failed"
 run_fault_text Write = codes "write failed"
 run_fault_text Memory = codes "out of memory"
 
+-- why lines were not converted, in words
+abbrev pub convert_fault_text : ConvertFault → List ℕ
+convert_fault_text Conversion.Read = codes "read failed"
+convert_fault_text Conversion.Write = codes "write failed"
+convert_fault_text Conversion.Memory = codes "out of memory"
+convert_fault_text (Conversion.BadLine line) = codes "bad line " ++ decimal line
+
 -- why the program failed, in words after its name
 abbrev pub fault_text : MainFault → List ℕ
 fault_text BadArguments = codes "cookie_jar: bad arguments"
 fault_text CannotReadList = codes "cookie_jar: cannot read list"
 fault_text (BadRule line) = codes "cookie_jar: bad rule in line " ++ decimal line
 fault_text (Run fault) = codes "cookie_jar: " ++ run_fault_text fault
+fault_text (Convert fault) = codes "cookie_jar: " ++ convert_fault_text fault
+
+-- the fault where lines made no store
+abbrev pub migrate_fault : MigrateError → ConvertFault
+migrate_fault (Migrate.Line line error) = Conversion.BadLine line
+migrate_fault Migrate.Io = Conversion.Read
+migrate_fault Migrate.Memory = Conversion.Memory
 
 -- the fault of a script whose source could not be read ahead
 abbrev pub fill_fault : FillError → RunFault
@@ -59,3 +81,11 @@ CountsFault (Ok _) reads reads' writes writes' = (reads' ≡ reads) × (writes' 
 CountsFault (Err Read) reads reads' writes writes' = (reads' ≡ reads + 1) × (writes' ≡ writes)
 CountsFault (Err Write) reads reads' writes writes' = (reads' ≡ reads) × (writes' ≡ writes + 1)
 CountsFault (Err Memory) reads reads' writes writes' = (reads' ≡ reads) × (writes' ≡ writes)
+
+-- the same of a conversion; a line that is refused leaves both too
+abbrev pub CountsConvertFault : {T : Type 0} → Result T ConvertFault → ℕ → ℕ → ℕ → ℕ → Type 0
+CountsConvertFault (Ok _) reads reads' writes writes' = (reads' ≡ reads) × (writes' ≡ writes)
+CountsConvertFault (Err Conversion.Read) reads reads' writes writes' = (reads' ≡ reads + 1) × (writes' ≡ writes)
+CountsConvertFault (Err Conversion.Write) reads reads' writes writes' = (reads' ≡ reads) × (writes' ≡ writes + 1)
+CountsConvertFault (Err Conversion.Memory) reads reads' writes writes' = (reads' ≡ reads) × (writes' ≡ writes)
+CountsConvertFault (Err (Conversion.BadLine line)) reads reads' writes writes' = (reads' ≡ reads) × (writes' ≡ writes)

@@ -2,6 +2,7 @@ pub mod Answering
 pub mod Arguments
 pub mod CommandViews
 pub mod Commands
+pub mod Conversion
 pub mod Faults
 pub mod Progress
 pub mod Script

@@ -4,7 +4,7 @@ ghost use Rattle.std.specs.Char.{is_ascii_digit};
 ghost use Rattle.std.specs.IoError.{error_kind};
 ghost use Rattle.std.specs.List.{list_all};
 ghost use Rattle.std.specs.Result.{result_ok};
-ghost use Rattle.cookie_script.specs.Arguments.{limit_of, option_said, options_of, options_value};
+ghost use Rattle.cookie_script.specs.Arguments.{limit_of, option_alone, option_said, options_of, options_value};
 ghost use Rattle.cookie_script.specs.Faults.{words_fault};
 
 use crate::fault::{MainFault, RunFault};
@@ -29,8 +29,8 @@ pub fn words_fault(error: io::Error) -> MainFault
     }
 }
 
-/// Reads the words of the command line, without the program's own name: none, `--suffixes FILE`, `--limit N`, or both in either
-/// order, where N is a number of decimal digits, from 1 to the greatest `usize`. All others are `BadArguments`.
+/// Reads the words of the command line, without the program's own name: none, `--convert` alone, `--suffixes FILE`, `--limit N`, or
+/// these two in either order, where N is a number of decimal digits, from 1 to the greatest `usize`. All others are `BadArguments`.
 pub fn options(words: &[String]) -> Result<Options<'_>, MainFault>
     ensures value { option_map options_value (result_ok result) ≡ options_of (map string_bytes words.now) }
     ensures refused { IfErr result (λ fault. fault ≡ MainFault.BadArguments) }
@@ -39,14 +39,32 @@ pub fn options(words: &[String]) -> Result<Options<'_>, MainFault>
     let none = Options {
         suffixes: None,
         limit: None,
+        convert: false,
     };
     match words {
         [] => Ok(none),
+        [word] => alone(none, word.as_str()),
         [option, word] => said(none, option.as_str(), word.as_str()),
         [option, word, other, second] => {
             let options = said(none, option.as_str(), word.as_str())?;
             said(options, other.as_str(), second.as_str())
         }
+        _ => Err(MainFault::BadArguments),
+    }
+}
+
+// The options with the one that stands alone.
+fn alone<'a>(options: Options<'a>, word: &str) -> Result<Options<'a>, MainFault>
+    requires limit { IfSome options.limit (λ limit. 1 ≤ limit) }
+    ensures value { option_map options_value (result_ok result) ≡ option_alone word.now (options_value options.entry) }
+    ensures refused { IfErr result (λ fault. fault ≡ MainFault.BadArguments) }
+    ensures limit { IfOk result (λ options. IfSome options.limit (λ limit. 1 ≤ limit)) }
+{
+    match word {
+        "--convert" => Ok(Options {
+            convert: true,
+            ..options
+        }),
         _ => Err(MainFault::BadArguments),
     }
 }

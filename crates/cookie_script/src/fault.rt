@@ -4,6 +4,7 @@ ghost use Rattle.cookie_script.specs.Faults.{status_of};
 
 use cookie_device::{DeviceFailed, FillError};
 use cookie_store::psl::ListError;
+use cookie_store::serde::MigrateError;
 use std::alloc::AllocError;
 use std::{fmt, io};
 
@@ -69,6 +70,49 @@ impl fmt::Display for RunFault {
     }
 }
 
+/// Why lines of JSON were not converted.
+#[derive(Clone, Copy, Debug, PartialEq, Eq)]
+pub enum ConvertFault {
+    /// The lines could not be read.
+    Read,
+    /// The list could not be written.
+    Write,
+    /// The allocator had no memory.
+    Memory,
+    /// This line, counted from 1, is the first that is no saved cookie. A number past the greatest `u64` stays there.
+    BadLine(u64),
+}
+
+impl From<MigrateError> for ConvertFault {
+    ghost use Rattle.cookie_script.specs.Faults.{migrate_fault};
+
+    ghost from_gives = { λ error fault. fault ≡ migrate_fault error };
+
+    fn from(error: MigrateError) -> ConvertFault {
+        match error {
+            MigrateError::Line { line, .. } => ConvertFault::BadLine(line),
+            MigrateError::Io => ConvertFault::Read,
+            MigrateError::Memory => ConvertFault::Memory,
+        }
+    }
+}
+
+impl fmt::Display for ConvertFault {
+    ghost use Rattle.std.specs.Prelude.{Some};
+    ghost use Rattle.cookie_script.specs.Faults.{convert_fault_text};
+
+    ghost output = { λ fault. Some (convert_fault_text fault) };
+
+    fn fmt<W: fmt::Write>(&self, f: &mut fmt::Formatter<W>) -> fmt::Result {
+        match self {
+            ConvertFault::Read => f.write_str("read failed"),
+            ConvertFault::Write => f.write_str("write failed"),
+            ConvertFault::Memory => f.write_str("out of memory"),
+            ConvertFault::BadLine(line) => write!(f, "bad line {line}"),
+        }
+    }
+}
+
 /// Why the program failed.
 #[derive(Clone, Copy, Debug, PartialEq, Eq)]
 pub enum MainFault {
@@ -80,11 +124,13 @@ pub enum MainFault {
     BadRule(usize),
     /// The script was not run to its end.
     Run(RunFault),
+    /// Lines of JSON were not converted.
+    Convert(ConvertFault),
 }
 
 impl MainFault {
-    /// The exit status: 1 where a read or a write of the script failed, 2 for bad arguments and a list that cannot
-    /// be read or has a bad rule, 3 where there was no memory.
+    /// The exit status: 1 where a read or a write of the script or of a conversion failed, 2 for bad arguments, a list that cannot
+    /// be read or has a bad rule and a line that is no saved cookie, 3 where there was no memory.
     pub fn status(&self) -> u8
         ensures { result ≡ status_of self.now }
     {
@@ -92,6 +138,9 @@ impl MainFault {
             MainFault::BadArguments | MainFault::CannotReadList | MainFault::BadRule(_) => 2,
             MainFault::Run(RunFault::Read | RunFault::Write) => 1,
             MainFault::Run(RunFault::Memory) => 3,
+            MainFault::Convert(ConvertFault::Read | ConvertFault::Write) => 1,
+            MainFault::Convert(ConvertFault::BadLine(_)) => 2,
+            MainFault::Convert(ConvertFault::Memory) => 3,
         }
     }
 }
@@ -114,6 +163,16 @@ impl From<RunFault> for MainFault {
 
     fn from(error: RunFault) -> MainFault {
         MainFault::Run(error)
+    }
+}
+
+impl From<ConvertFault> for MainFault {
+    ghost use Rattle.cookie_script.specs.declared.fault.MainFault.TheVariants.{Convert};
+
+    ghost from_gives = { λ error fault. fault ≡ Convert error };
+
+    fn from(error: ConvertFault) -> MainFault {
+        MainFault::Convert(error)
     }
 }
 
@@ -150,6 +209,7 @@ impl fmt::Display for MainFault {
             MainFault::CannotReadList => f.write_str("cookie_jar: cannot read list"),
             MainFault::BadRule(line) => write!(f, "cookie_jar: bad rule in line {line}"),
             MainFault::Run(fault) => write!(f, "cookie_jar: {fault}"),
+            MainFault::Convert(fault) => write!(f, "cookie_jar: {fault}"),
         }
     }
 }

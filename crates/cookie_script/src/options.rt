@@ -5,4 +5,6 @@ pub struct Options<'a> {
     pub suffixes: Option<&'a str>,
     /// How many cookies of one domain may stand.
     pub limit: Option<usize>,
+    /// Whether lines of JSON are converted into a list in RON, where else a script is run.
+    pub convert: bool,
 }

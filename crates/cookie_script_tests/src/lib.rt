@@ -1,6 +1,8 @@
-//! Tests of scripts: what they write, and what they do where a device fails or memory is wanting.
+//! Tests of scripts and conversions: what they write, and what they do where a device fails or memory is wanting.
 #![tactic(auto)]
 
+#[cfg(test)]
+mod conversions;
 #[cfg(test)]
 mod devices;
 #[cfg(test)]

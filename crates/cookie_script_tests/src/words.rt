@@ -1,5 +1,5 @@
 //! The words of the command line, and the faults.
-use cookie_script::fault::{MainFault, RunFault};
+use cookie_script::fault::{ConvertFault, MainFault, RunFault};
 use cookie_script::options::Options;
 use cookie_script::{arguments, suffixes};
 use std::alloc::{AllocError, Global};
@@ -7,34 +7,37 @@ use std::io::{Error, ErrorKind};
 use std::process::Abort;
 use std::test::Fail;
 
-// The file and the limit that words ask for.
-type Asked = (Option<&'static str>, Option<usize>);
+// The file and the limit that words ask for, and whether they ask for a conversion.
+type Asked = (Option<&'static str>, Option<usize>, bool);
 
 // Words, and what they ask for, or None where they are bad.
-const WORDS: [(&[&str], Option<Asked>); 29] = [
-    (&[], Some((None, None))),
-    (&["--suffixes", "list.dat"], Some((Some("list.dat"), None))),
+const WORDS: [(&[&str], Option<Asked>); 38] = [
+    (&[], Some((None, None, false))),
+    (
+        &["--suffixes", "list.dat"],
+        Some((Some("list.dat"), None, false)),
+    ),
     (
         &["--suffixes", "--suffixes"],
-        Some((Some("--suffixes"), None)),
+        Some((Some("--suffixes"), None, false)),
     ),
     (&["--suffixes"], None),
     (&["--suffixes", "a", "b"], None),
     (&["--suffixes=a"], None),
     (&["--help"], None),
-    (&["--limit", "1"], Some((None, Some(1)))),
-    (&["--limit", "050"], Some((None, Some(50)))),
+    (&["--limit", "1"], Some((None, Some(1), false))),
+    (&["--limit", "050"], Some((None, Some(50), false))),
     (
         &["--limit", "18446744073709551615"],
-        Some((None, Some(usize::MAX))),
+        Some((None, Some(usize::MAX), false)),
     ),
     (
         &["--limit", "7", "--suffixes", "a"],
-        Some((Some("a"), Some(7))),
+        Some((Some("a"), Some(7), false)),
     ),
     (
         &["--suffixes", "--limit", "--limit", "7"],
-        Some((Some("--limit"), Some(7))),
+        Some((Some("--limit"), Some(7), false)),
     ),
     (&["--limit"], None),
     (&["--limit", ""], None),
@@ -53,6 +56,18 @@ const WORDS: [(&[&str], Option<Asked>); 29] = [
     (&["--suffixes", "a", "--suffixes", "a"], None),
     (&["--limit", "1", "--suffixes"], None),
     (&["--limit", "1", "--suffixes", "a", "b"], None),
+    (&["--convert"], Some((None, None, true))),
+    (
+        &["--suffixes", "--convert"],
+        Some((Some("--convert"), None, false)),
+    ),
+    (&["--Convert"], None),
+    (&["--convert="], None),
+    (&["--convert", "a"], None),
+    (&["--convert", "--convert"], None),
+    (&["--convert", "--limit", "1"], None),
+    (&["--limit", "1", "--convert"], None),
+    (&["--suffixes", "a", "--convert", "--convert"], None),
 ];
 
 fn owned(alloc: Global, words: &[&str]) -> Result<Vec<String>, AllocError> {
@@ -66,14 +81,18 @@ fn owned(alloc: Global, words: &[&str]) -> Result<Vec<String>, AllocError> {
 // The words ask for this, or are bad.
 fn asks_for(rt: &impl Abort, words: &[String], wanted: Option<Asked>) {
     let wanted = match wanted {
-        Some((suffixes, limit)) => Ok(Options { suffixes, limit }),
+        Some((suffixes, limit, convert)) => Ok(Options {
+            suffixes,
+            limit,
+            convert,
+        }),
         None => Err(MainFault::BadArguments),
     };
     assert_eq!(rt; arguments::options(words), wanted, "at {words:?}");
 }
 
 #[test]
-fn the_list_and_the_limit_are_the_only_options(rt: HostRuntime) -> Result<(), Fail> {
+fn the_list_the_limit_and_the_conversion_are_the_only_options(rt: HostRuntime) -> Result<(), Fail> {
     for (words, wanted) in &WORDS {
         let owned = owned(rt.alloc(), words)?;
         asks_for(&rt, owned.as_slice(), *wanted);
@@ -134,7 +153,7 @@ fn what_cannot_be_read_is_a_fault(rt: HostRuntime) {
     }
 }
 
-const FAULTS: [(MainFault, u8, &str); 6] = [
+const FAULTS: [(MainFault, u8, &str); 10] = [
     (MainFault::BadArguments, 2, "cookie_jar: bad arguments"),
     (MainFault::CannotReadList, 2, "cookie_jar: cannot read list"),
     (MainFault::BadRule(17), 2, "cookie_jar: bad rule in line 17"),
@@ -148,6 +167,26 @@ const FAULTS: [(MainFault, u8, &str); 6] = [
         MainFault::Run(RunFault::Memory),
         3,
         "cookie_jar: out of memory",
+    ),
+    (
+        MainFault::Convert(ConvertFault::Read),
+        1,
+        "cookie_jar: read failed",
+    ),
+    (
+        MainFault::Convert(ConvertFault::Write),
+        1,
+        "cookie_jar: write failed",
+    ),
+    (
+        MainFault::Convert(ConvertFault::Memory),
+        3,
+        "cookie_jar: out of memory",
+    ),
+    (
+        MainFault::Convert(ConvertFault::BadLine(u64::MAX)),
+        2,
+        "cookie_jar: bad line 18446744073709551615",
     ),
 ];
 

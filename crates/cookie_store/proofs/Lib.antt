@@ -3,11 +3,14 @@ pub mod EarlyRefusals
 pub mod Entered
 pub mod LinesBack
 pub mod ListedRows
+pub mod LoadFaults
 pub mod LoadedAlike
 pub mod LoadedLines
 pub mod LongerRuns
 pub mod MadeOfJson
 pub mod MadeOfRon
+pub mod Migrated
+pub mod NoneEarly
 pub mod Pairs
 pub mod RonBack
 pub mod SavedAlike

@@ -1,5 +1,5 @@
 -- Lines of a text that is read bit by bit, and the cookies that are made of them.
-use Rattle.std.proofs.Common.{◌≡◌, ℕ, ◌+◌, Bool, true, false, cond, eqb, List, [], ◌∷◌, ◌++◌, Option, Some, None, Result, Ok, Err, IfSome, IfOk, IfErr, IsTrue, inr, length, position, take, drop, refl, sym, ap, ◌∙◌, append_assoc, append-nil, take-append-drop, length-append, ◌≤◌, arith}
+use Rattle.std.proofs.Common.{◌≡◌, ℕ, ◌+◌, Bool, true, false, cond, eqb, List, [], ◌∷◌, ◌++◌, Option, Some, None, Result, Ok, Err, IfSome, IfOk, IfErr, IsTrue, inr, length, position, take, drop, refl, sym, ap, ◌∙◌, append_assoc, append-nil, take-append-drop, length-append, min, ◌-◌, ◌^◌, ◌≤◌, arith}
 use Rattle.std.specs.Str.{is_utf8}
 use Rattle.std.specs.Str.Lines.{lines, lines_of_parts, strip_carriage_return}
 use Rattle.std.specs.Io.{StartsWith}
@@ -8,9 +8,9 @@ use Rattle.cookie_device.specs.Lines.{EndsLine, IsLastLine}
 use Rattle.cookie_words.specs.Moments.{Moment}
 use Rattle.cookie_parts.specs.Cookie.{Row}
 use Rattle.cookie_parts.specs.declared.error.Error.{Error}
-use Rattle.cookie_store.specs.Loading.{AreCookies, IsReached, MakesCookie, RefusesLine, StopsWithinLine, TakesLine}
+use Rattle.cookie_store.specs.LoadFault.{number_behind}
+use Rattle.cookie_store.specs.Loading.{AreCookies, MakesCookie, RefusesLine, StopsWithinLine, TakesLine}
 use Rattle.cookie_laws.specs.Rows.{Kept, built}
-use Rattle.cookie_store.proofs.Pairs.{AllZip-more}
 
 -- no rows are built from no cookies
 pub built_none : (include_expired : Bool) (now : Moment) → record { rows = []; made = [] } ≡ built include_expired now []
@@ -52,141 +52,117 @@ module _ (makes : List ℕ → Result Row Error → Type 0) where
     taken cookies are_built,
   )
 
-  -- The bytes `front` of the text were passed, and with them the lines `done`, whatever comes behind the bytes at hand. These
-  -- cookies are made of those lines. The source has what is left.
-  pub record Loaded (text at_hand : List ℕ) (rest : Option (List ℕ)) (cookies : List Row) : Type 0 where
-    pub front : List ℕ
-    pub left : List ℕ
-    pub done : List (List ℕ)
-    pub known : rest ≡ Some left
-    pub whole : text ≡ front ++ (at_hand ++ left)
-    pub split : (more : List ℕ) → lines (front ++ (at_hand ++ more)) ≡ done ++ lines (at_hand ++ more)
-    pub are_made : AreCookies makes done cookies
+-- The bytes `front` of the text were passed, and with them the lines `done`, whatever comes behind the bytes at hand. The source
+-- has what is left.
+pub record Loaded (text at_hand : List ℕ) (rest : Option (List ℕ)) (done : List (List ℕ)) : Type 0 where
+  pub front : List ℕ
+  pub left : List ℕ
+  pub known : rest ≡ Some left
+  pub whole : text ≡ front ++ (at_hand ++ left)
+  pub split : (more : List ℕ) → lines (front ++ (at_hand ++ more)) ≡ done ++ lines (at_hand ++ more)
 
-  -- at first all is left
-  pub begun : (rest : Option (List ℕ)) → IfSome rest (λ text. Loaded text [] rest [])
-  begun None = tt
-  begun (Some text) = record { front = []; left = text; done = []; known = refl; whole = refl; split = λ more. refl; are_made = tt }
+-- at first all is left
+pub begun : (rest : Option (List ℕ)) → IfSome rest (λ text. Loaded text [] rest [])
+begun None = tt
+begun (Some text) = record { front = []; left = text; known = refl; whole = refl; split = λ more. refl }
 
-  -- the lines of the text, where the next is known
-  next_line : (text at_hand line : List ℕ) (rest : Option (List ℕ)) (cookies : List Row) (end : ℕ)
-      (l : Loaded text at_hand rest cookies) → EndsLine at_hand end → line ≡ strip_carriage_return (take end at_hand)
-      → (more : List ℕ) → lines (l.front ++ (at_hand ++ more)) ≡ l.done ++ line ∷ lines (drop (end + 1) at_hand ++ more)
-  next_line text at_hand line rest cookies end l ends is more =
-      let others = lines (drop (end + 1) at_hand ++ more) in
-      l.split more ∙ ap (λ ls. l.done ++ ls) (ends more ∙ ap (λ x. x ∷ others) (sym is))
+-- the lines of the text, where the next is known
+next_line : (text at_hand line : List ℕ) (rest : Option (List ℕ)) (done : List (List ℕ)) (end : ℕ)
+    (l : Loaded text at_hand rest done) → EndsLine at_hand end → line ≡ strip_carriage_return (take end at_hand)
+    → (more : List ℕ) → lines (l.front ++ (at_hand ++ more)) ≡ done ++ line ∷ lines (drop (end + 1) at_hand ++ more)
+next_line text at_hand line rest done end l ends is more =
+    let others = lines (drop (end + 1) at_hand ++ more) in
+    l.split more ∙ ap (λ ls. done ++ ls) (ends more ∙ ap (λ x. x ∷ others) (sym is))
 
-  -- it is passed, and a cookie is made of it
-  pub passed : (text at_hand behind line : List ℕ) (rest : Option (List ℕ)) (cookies : List Row) (cookie : Row) (end : ℕ)
-      → Loaded text at_hand rest cookies → EndsLine at_hand end → line ≡ strip_carriage_return (take end at_hand)
-      → behind ≡ drop (end + 1) at_hand → MakesCookie makes line cookie → Loaded text behind rest (cookies ++ cookie ∷ [])
-  passed text at_hand behind line rest cookies cookie end l ends is stands makes_it =
-      record {
-        front = l.front ++ take (end + 1) at_hand;
-        left = l.left;
-        done = l.done ++ line ∷ [];
-        known = l.known;
-        whole = l.whole ∙ sym (passed_over l.front at_hand behind l.left (end + 1) stands);
-        split = λ more.
-            ap lines (passed_over l.front at_hand behind more (end + 1) stands)
-            ∙ next_line text at_hand line rest cookies end l ends is more
-            ∙ ap (λ xs. l.done ++ line ∷ lines (xs ++ more)) (sym stands)
-            ∙ sym (append_assoc l.done (line ∷ []) (lines (behind ++ more)));
-        are_made = AllZip-more (MakesCookie makes) l.done cookies line cookie l.are_made makes_it;
-      }
+-- it is the next of the text
+pub next_found : (text at_hand line : List ℕ) (rest : Option (List ℕ)) (done : List (List ℕ)) (end : ℕ)
+    → Loaded text at_hand rest done → EndsLine at_hand end → line ≡ strip_carriage_return (take end at_hand)
+    → (after : List (List ℕ)) × (lines text ≡ done ++ line ∷ after)
+next_found text at_hand line rest done end l ends is = (
+  lines (drop (end + 1) at_hand ++ l.left),
+  ap lines l.whole ∙ next_line text at_hand line rest done end l ends is l.left,
+)
 
-  -- the source was read
-  pub filled : (text old new : List ℕ) (rest less : Option (List ℕ)) (cookies : List Row)
-      → Loaded text old rest cookies → Keeps (prepend_known old rest) (prepend_known new less) → StartsWith new old
-      → IfSome rest (λ left. (more : List ℕ) × (less ≡ Some more) × (length left + length old ≡ length more + length new))
-      → Loaded text new less cookies
-  filled text old new rest less cookies l kept starts moved =
-      let (more, is, count) = rw l.known at moved in
-      let same : new ++ more ≡ old ++ l.left = rw (l.known, is) at kept in
-      record {
-        front = l.front;
-        left = more;
-        done = l.done;
-        known = is;
-        whole = l.whole ∙ ap (λ xs. l.front ++ xs) (sym same);
-        split = λ xs.
-            let longer = ap (λ bs. bs ++ xs) (grown old new starts) ∙ append_assoc old (drop (length old) new) xs in
-            ap (λ bs. lines (l.front ++ bs)) longer ∙ l.split (drop (length old) new ++ xs) ∙ ap (λ bs. l.done ++ lines bs) (sym longer);
-        are_made = l.are_made;
-      }
+-- it is passed
+pub passed : (text at_hand behind line : List ℕ) (rest : Option (List ℕ)) (done : List (List ℕ)) (end : ℕ)
+    → Loaded text at_hand rest done → EndsLine at_hand end → line ≡ strip_carriage_return (take end at_hand)
+    → behind ≡ drop (end + 1) at_hand → Loaded text behind rest (done ++ line ∷ [])
+passed text at_hand behind line rest done end l ends is stands =
+    record {
+      front = l.front ++ take (end + 1) at_hand;
+      left = l.left;
+      known = l.known;
+      whole = l.whole ∙ sym (passed_over l.front at_hand behind l.left (end + 1) stands);
+      split = λ more.
+          ap lines (passed_over l.front at_hand behind more (end + 1) stands)
+          ∙ next_line text at_hand line rest done end l ends is more
+          ∙ ap (λ xs. done ++ line ∷ lines (xs ++ more)) (sym stands)
+          ∙ sym (append_assoc done (line ∷ []) (lines (behind ++ more)));
+    }
 
-  -- All of the text was read. These cookies are made of the lines before the last bytes, which are one line more, unless
-  -- there are none.
-  pub record Ended (text last : List ℕ) (cookies : List Row) : Type 0 where
-    pub done : List (List ℕ)
-    pub split : lines text ≡ done ++ lines_of_parts (last ∷ [])
-    pub are_made : AreCookies makes done cookies
+-- the source was read
+pub filled : (text old new : List ℕ) (rest less : Option (List ℕ)) (done : List (List ℕ))
+    → Loaded text old rest done → Keeps (prepend_known old rest) (prepend_known new less) → StartsWith new old
+    → IfSome rest (λ left. (more : List ℕ) × (less ≡ Some more) × (length left + length old ≡ length more + length new))
+    → Loaded text new less done
+filled text old new rest less done l kept starts moved =
+    let (more, is, count) = rw l.known at moved in
+    let same : new ++ more ≡ old ++ l.left = rw (l.known, is) at kept in
+    record {
+      front = l.front;
+      left = more;
+      known = is;
+      whole = l.whole ∙ ap (λ xs. l.front ++ xs) (sym same);
+      split = λ xs.
+          let longer = ap (λ bs. bs ++ xs) (grown old new starts) ∙ append_assoc old (drop (length old) new) xs in
+          ap (λ bs. lines (l.front ++ bs)) longer ∙ l.split (drop (length old) new ++ xs) ∙ ap (λ bs. done ++ lines bs) (sym longer);
+    }
 
-  -- the source is at its end, and no line feed is at hand
-  pub ended : (text last : List ℕ) (rest : Option (List ℕ)) (cookies : List Row)
-      → Loaded text last rest cookies → IsAtEnd rest → IsLastLine last → Ended text last cookies
-  ended text last rest cookies l end one =
-      let none : l.left ≡ [] = rw l.known at end in
-      let behind = ap (λ xs. last ++ xs) none ∙ append-nil last in
-      record {
-        done = l.done;
-        split = ap lines l.whole ∙ l.split l.left ∙ ap (λ ls. l.done ++ ls) (ap lines behind ∙ one);
-        are_made = l.are_made;
-      }
+-- all of the text was read: its lines are those that were passed, and the last bytes, unless there are none
+abbrev pub IsEnded : List ℕ → List (List ℕ) → List ℕ → Type 0
+IsEnded last done text = lines text ≡ done ++ lines_of_parts (last ∷ [])
 
-  -- without last bytes the cookies are of all lines
-  pub finished : (text last : List ℕ) (cookies : List Row) → Ended text last cookies → true ≡ eqb (length last) 0
-      → AreCookies makes (lines text) cookies
-  finished text last cookies e empty =
-      let none = ap (λ test. cond test [] (last ∷ [])) (sym empty) in
-      rw (e.split ∙ ap (λ ls. e.done ++ ls) none ∙ append-nil e.done) e.are_made
+-- the source is at its end, and no line feed is at hand
+pub ended : (text last : List ℕ) (rest : Option (List ℕ)) (done : List (List ℕ))
+    → Loaded text last rest done → IsAtEnd rest → IsLastLine last → IsEnded last done text
+ended text last rest done l end one =
+    let none : l.left ≡ [] = rw l.known at end in
+    let behind = ap (λ xs. last ++ xs) none ∙ append-nil last in
+    ap lines l.whole ∙ l.split l.left ∙ ap (λ ls. done ++ ls) (ap lines behind ∙ one)
 
-  -- the lines, where there are last bytes
-  with_last : (text last : List ℕ) (cookies : List Row) (e : Ended text last cookies) → false ≡ eqb (length last) 0
-      → lines text ≡ e.done ++ last ∷ []
-  with_last text last cookies e some =
-      e.split ∙ ap (λ ls. e.done ++ ls) (ap (λ test. cond test [] (last ∷ [])) (sym some))
+-- without last bytes all lines were passed
+pub finished : (text last : List ℕ) (done : List (List ℕ)) → IsEnded last done text → true ≡ eqb (length last) 0 → done ≡ lines text
+finished text last done is empty =
+    let none = ap (λ test. cond test [] (last ∷ [])) (sym empty) in sym (is ∙ ap (λ ls. done ++ ls) none ∙ append-nil done)
 
-  -- the cookies are of all lines, with the one that is made of the last bytes
-  pub last_made : (text last : List ℕ) (cookies : List Row) (cookie : Row) → Ended text last cookies → false ≡ eqb (length last) 0
-      → MakesCookie makes last cookie → AreCookies makes (lines text) (cookies ++ cookie ∷ [])
-  last_made text last cookies cookie e some makes_it =
-      rw (with_last text last cookies e some) (AllZip-more (MakesCookie makes) e.done cookies last cookie e.are_made makes_it)
+-- else they are the last line
+pub last_found : (text last : List ℕ) (done : List (List ℕ)) → IsEnded last done text → false ≡ eqb (length last) 0
+    → lines text ≡ done ++ last ∷ []
+last_found text last done is some = is ∙ ap (λ ls. done ++ ls) (ap (λ test. cond test [] (last ∷ [])) (sym some))
 
-  -- a line that was found is reached
-  pub next_reached : (text at_hand line : List ℕ) (rest : Option (List ℕ)) (cookies : List Row) (end : ℕ)
-      → Loaded text at_hand rest cookies → EndsLine at_hand end → line ≡ strip_carriage_return (take end at_hand)
-      → IsReached makes line text
-  next_reached text at_hand line rest cookies end l ends is = (
-    l.done,
-    lines (drop (end + 1) at_hand ++ l.left),
-    cookies,
-    ap lines l.whole ∙ next_line text at_hand line rest cookies end l ends is l.left,
-    l.are_made,
-  )
+-- without a line feed at hand, the reading is within a line; each read that succeeded brought a byte
+pub within : (makes : List ℕ → Result Row Error → Type 0) (text at_hand : List ℕ) (rest : Option (List ℕ)) (done : List (List ℕ))
+    (cookies : List Row) (reads_left reads_left' : ℕ)
+    → AreCookies makes done cookies → Loaded text at_hand rest done
+    → IfSome rest (λ left. reads_left + length left ≤ reads_left' + length text)
+    → position (λ b. eqb b 10) at_hand ≡ None → StopsWithinLine makes rest reads_left reads_left' text
+within makes text at_hand rest done cookies reads_left reads_left' are_made l brought none =
+    let whole = append-nil at_hand in
+    let split = ap (λ xs. lines (l.front ++ xs)) (sym whole) ∙ l.split [] ∙ ap (λ xs. done ++ lines xs) whole in
+    let is = l.whole ∙ sym (append_assoc l.front at_hand l.left) in
+    let count = ap length is ∙ length-append (l.front ++ at_hand) l.left in
+    let each_brought : reads_left + length l.left ≤ reads_left' + length text = rw l.known at brought in (
+      l.front ++ at_hand,
+      l.left,
+      is,
+      l.known,
+      (l.front, at_hand, done, cookies, refl, none, split, are_made),
+      omega arith,
+    )
 
-  -- so are the last bytes
-  pub last_reached : (text last : List ℕ) (cookies : List Row) → Ended text last cookies → false ≡ eqb (length last) 0
-      → IsReached makes last text
-  last_reached text last cookies e some = (e.done, [], cookies, with_last text last cookies e some, e.are_made)
-
-  -- without a line feed at hand, the reading is within a line; each read that succeeded brought a byte
-  pub within : (text at_hand : List ℕ) (rest : Option (List ℕ)) (cookies : List Row) (reads_left reads_left' : ℕ)
-      → Loaded text at_hand rest cookies → IfSome rest (λ left. reads_left + length left ≤ reads_left' + length text)
-      → position (λ b. eqb b 10) at_hand ≡ None → StopsWithinLine makes rest reads_left reads_left' text
-  within text at_hand rest cookies reads_left reads_left' l brought none =
-      let whole = append-nil at_hand in
-      let split = ap (λ xs. lines (l.front ++ xs)) (sym whole) ∙ l.split [] ∙ ap (λ xs. l.done ++ lines xs) whole in
-      let is = l.whole ∙ sym (append_assoc l.front at_hand l.left) in
-      let count = ap length is ∙ length-append (l.front ++ at_hand) l.left in
-      let each_brought : reads_left + length l.left ≤ reads_left' + length text = rw l.known at brought in (
-        l.front ++ at_hand,
-        l.left,
-        is,
-        l.known,
-        (l.front, at_hand, l.done, cookies, refl, none, split, l.are_made),
-        omega arith,
-      )
+-- the number behind one line more
+pub number_more : (done : List (List ℕ)) (line : List ℕ) → min (number_behind done + 1) (2 ^ 64 - 1) ≡ number_behind (done ++ line ∷ [])
+number_more done line = let more = length-append done (line ∷ []) in grind (arith, more)
 
 -- a read that failed brought nothing, and none is taken of the reads left
 pub not_read : (old new text : List ℕ) (rest less : Option (List ℕ)) (reads_left reads_left' reads_left'' : ℕ)

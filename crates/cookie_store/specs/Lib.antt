@@ -13,7 +13,9 @@ pub mod Forms
 pub mod JsonLines
 pub mod JsonLists
 pub mod Lists
+pub mod LoadFault
 pub mod Loading
+pub mod Migration
 pub mod Responses
 pub mod RonLists
 pub mod SavedForms

@@ -55,11 +55,11 @@ module _ (makes : List ℕ → Result Row Error → Type 0) where
   TakesLine line include_expired now old new =
       (cookie : Row) × MakesCookie line cookie × TakesCookie include_expired now cookie old new
 
-  -- rows that are built from the cookies of the lines of a text, where that is known
+  -- rows that are built from the cookies of lines, which are those of the text, where that is known
   abbrev pub BuildsFrom : Option (List ℕ) → Bool → Moment → Kept → Type 0
   BuildsFrom known include_expired now kept =
-      (cookies : List Row) × (kept ≡ built include_expired now cookies)
-      × IfSome known (λ text. AreCookies (lines text) cookies)
+      (texts : List (List ℕ)) × (cookies : List Row) × AreCookies texts cookies
+      × (kept ≡ built include_expired now cookies) × IfSome known (λ text. texts ≡ lines text)
 
   -- it fails at a line; or within one of the text, where that is known: a read failed, which raised the count of failures by one, or
   -- memory ran out

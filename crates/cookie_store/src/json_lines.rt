@@ -7,10 +7,11 @@ ghost use Rattle.cookie_forms.specs.ReadTrees.{saved_at};
 ghost use Rattle.cookie_forms.specs.WrittenTrees.{is_early};
 ghost use Rattle.cookie_parts.specs.Passage.{saved_of};
 ghost use Rattle.cookie_store.specs.JsonLines.{tree_cookie, MakesJson, SaysJson};
+ghost use Rattle.cookie_store.specs.LoadFault.{StopsLoading};
 ghost use Rattle.cookie_store.specs.Loading.{BuildsFrom, FailsToLoad, ReadsEachOnce};
 ghost use Rattle.cookie_store.specs.Saving.{is_among, FailsToSave, WritesRows};
 
-use crate::loading::load_rows;
+use crate::loading::{LoadFault, numbered_rows};
 use crate::saving::save_rows;
 use cookie_device::{Sink, Source};
 use cookie_forms::{SavedError, from_value, laws, to_value};
@@ -80,7 +81,25 @@ pub(crate) fn load_json_rows<R: Source>(
         (R.reads_left source.old) (R.reads_left source.new)) }
     ensures reads { ReadsEachOnce (R.remaining source.old) (R.reads_left source.old) (R.reads_left source.new) }
 {
-    load_rows(
+    Ok(numbered_json_rows(alloc, source, include_expired, now)?)
+}
+
+/// The same, where the fault tells the number of the line.
+pub(crate) fn numbered_json_rows<R: Source>(
+    alloc: Global,
+    source: &mut R,
+    include_expired: bool,
+    now: DateTime,
+) -> Result<Rows, LoadFault>
+    requires readable { R.failed source.old < 2 ^ 64 - 1 }
+    ensures built { IfOk result (λ rows. BuildsFrom MakesJson (R.remaining source.old) include_expired (moment_of now) rows) }
+    ensures read { OnOk result (IsAtEnd (R.remaining source.new) × (R.failed source.new ≡ R.failed source.old)) }
+    ensures failed { IfErr result (λ fault. StopsLoading MakesJson fault
+        (R.remaining source.old) (R.remaining source.new) (R.failed source.old) (R.failed source.new)
+        (R.reads_left source.old) (R.reads_left source.new)) }
+    ensures reads { ReadsEachOnce (R.remaining source.old) (R.reads_left source.old) (R.reads_left source.new) }
+{
+    numbered_rows(
         alloc,
         source,
         |line: &str| -> Result<Cookie<'_>, Error>

@@ -3,6 +3,7 @@ ghost use Rattle.std.specs.Prelude.{◌≡◌, ◌-◌, ◌^◌, ◌<◌, IfErr,
 ghost use Rattle.std.specs.Fn.{FnReturnsAt};
 ghost use Rattle.std.specs.Io.KnownBytes.{IsAtEnd};
 ghost use Rattle.cookie_words.specs.Moments.{moment_of};
+ghost use Rattle.cookie_store.specs.LoadFault.{StopsLoading};
 ghost use Rattle.cookie_store.specs.Loading.{BuildsFrom, FailsAtLine, FailsToLoad, MakesCookie, ReadsEachOnce, RefusesLine, TakesLine};
 
 use cookie_device::{FillError, LineBuffer, Source};
@@ -10,6 +11,40 @@ use cookie_parts::{Cookie, Error};
 use cookie_rows::Rows;
 use jiff::civil::DateTime;
 use std::alloc::Global;
+
+/// Why no rows were made of lines.
+#[derive(Drop)]
+pub(crate) enum LoadFault {
+    /// No more of the source could be had.
+    Source(FillError),
+    /// At the line of this number, counted from 1, which past the greatest `u64` stays there.
+    Line(u64, Error),
+}
+
+impl From<FillError> for LoadFault {
+    ghost use Rattle.cookie_store.specs.declared.loading.LoadFault.TheVariants.{Source};
+
+    ghost from_gives = { λ error fault. fault ≡ Source error };
+
+    fn from(error: FillError) -> LoadFault {
+        LoadFault::Source(error)
+    }
+}
+
+/// What the fault is where the number of the line is not told.
+impl From<LoadFault> for Error {
+    ghost use Rattle.cookie_store.specs.LoadFault.{error_of};
+
+    ghost from_gives = { λ fault error. error ≡ error_of fault };
+
+    fn from(fault: LoadFault) -> Error {
+        match fault {
+            LoadFault::Source(FillError::Read) => Error::Io,
+            LoadFault::Source(FillError::Memory) => Error::Memory,
+            LoadFault::Line(_, error) => error,
+        }
+    }
+}
 
 /// The rows of the cookies that the function makes of the lines of the source, all or those that have not ended.
 pub(crate) fn load_rows<R: Source, F: Fn(&str) -> Result<Cookie<'_>, Error>>(
@@ -29,27 +64,83 @@ pub(crate) fn load_rows<R: Source, F: Fn(&str) -> Result<Cookie<'_>, Error>>(
         (R.reads_left source.old) (R.reads_left source.new)) }
     ensures reads { ReadsEachOnce (R.remaining source.old) (R.reads_left source.old) (R.reads_left source.new) }
 {
+    Ok(numbered_rows(alloc, source, cookie_of, include_expired, now)?)
+}
+
+/// The same, where the fault tells the number of the line.
+pub(crate) fn numbered_rows<R: Source, F: Fn(&str) -> Result<Cookie<'_>, Error>>(
+    alloc: Global,
+    source: &mut R,
+    cookie_of: F,
+    include_expired: bool,
+    now: DateTime,
+) -> Result<Rows, LoadFault>
+    requires callable { F.IsAlwaysCallable cookie_of }
+    requires readable { R.failed source.old < 2 ^ 64 - 1 }
+    ensures built { IfOk result (λ rows. BuildsFrom (FnReturnsAt F.Fn cookie_of) (R.remaining source.old)
+        include_expired (moment_of now) rows) }
+    ensures read { OnOk result (IsAtEnd (R.remaining source.new) × (R.failed source.new ≡ R.failed source.old)) }
+    ensures failed { IfErr result (λ fault. StopsLoading (FnReturnsAt F.Fn cookie_of) fault
+        (R.remaining source.old) (R.remaining source.new) (R.failed source.old) (R.failed source.new)
+        (R.reads_left source.old) (R.reads_left source.new)) }
+    ensures reads { ReadsEachOnce (R.remaining source.old) (R.reads_left source.old) (R.reads_left source.new) }
+{
     let mut input = LineBuffer::new(alloc);
     let mut rows = Rows::new(alloc);
+    let mut number: u64 = 1;
     'lines: loop {
         if let Some(end) = input.line_end() {
             let line = input.line(end);
-            take_line(&mut rows, alloc, line, &cookie_of, include_expired, now)?;
+            take_numbered(
+                &mut rows,
+                alloc,
+                line,
+                number,
+                &cookie_of,
+                include_expired,
+                now,
+            )?;
             input.pass(end + 1);
-        } else {
-            match input.fill(source) {
-                Ok(true) => {}
-                Ok(false) => break,
-                Err(FillError::Read) => return Err(Error::Io),
-                Err(FillError::Memory) => return Err(Error::Memory),
-            }
+            number = number.saturating_add(1);
+        } else if !input.fill(source)? {
+            break;
         }
     }
     let line = input.rest();
     if !line.is_empty() {
-        take_line(&mut rows, alloc, line, &cookie_of, include_expired, now)?;
+        take_numbered(
+            &mut rows,
+            alloc,
+            line,
+            number,
+            &cookie_of,
+            include_expired,
+            now,
+        )?;
     }
     Ok(rows)
+}
+
+// The same as `take_line`, of the line of this number.
+fn take_numbered<F: Fn(&str) -> Result<Cookie<'_>, Error>>(
+    rows: &mut Rows,
+    alloc: Global,
+    line: &[u8],
+    number: u64,
+    cookie_of: &F,
+    include_expired: bool,
+    now: DateTime,
+) -> Result<(), LoadFault>
+    requires callable { F.IsAlwaysCallable cookie_of.now }
+    ensures taken { OnOk result (TakesLine (FnReturnsAt F.Fn cookie_of.now) line.now include_expired (moment_of now)
+        rows.old rows.new) }
+    ensures failed { IfErr result (λ fault. (error : Error) × (fault ≡ LoadFault.Line number error)
+        × FailsAtLine (FnReturnsAt F.Fn cookie_of.now) error line.now) }
+{
+    match take_line(rows, alloc, line, cookie_of, include_expired, now) {
+        Ok(()) => Ok(()),
+        Err(error) => Err(LoadFault::Line(number, error)),
+    }
 }
 
 // Puts the cookie that the function makes of the line, unless it has ended and is to be passed over. An error leaves the rows.

@@ -18,7 +18,10 @@ use std::alloc::Global;
 mod forms;
 pub mod json;
 pub mod laws;
+mod migration;
 pub mod ron;
+
+pub use migration::{MigrateError, migrate_lines};
 
 /// Writes what the function says of the cookies that have not ended by the moment and end at one, in the store's order, and a line
 /// feed. The function is handed copies of them, once, before anything is written. Its error, or `Memory` where there was no room for

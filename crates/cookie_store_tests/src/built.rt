@@ -1,15 +1,16 @@
 //! Stores that are built from cookies.
 use crate::checks::{end_of, is_equal};
 use crate::steps::new_year;
-use crate::texts::{all_rows, are_listed, header, unexpired, url};
+use crate::texts::{are_all, are_listed, header, unexpired, url};
 use cookie_store::{Cookie, CookieStore, Error};
 use std::alloc::Global;
 use std::process::Abort;
+use std::vec::IntoIter;
 
 // A URL, and the text of a cookie that came from it.
 pub type Came = (&'static str, &'static str);
 
-type Item = Result<Cookie<'static>, Error>;
+pub type Item = Result<Cookie<'static>, Error>;
 
 pub fn cookie(rt: &impl Abort, alloc: Global, came: &(&str, &str)) -> Cookie<'static> {
     let url = url(rt, alloc, came.0);
@@ -26,10 +27,24 @@ pub fn items(rt: &impl Abort, alloc: Global, came: &[Came]) -> Vec<Item> {
     items
 }
 
+// The store of the items up to an error, also of cookies that have ended if they are to be included.
+pub fn built(
+    alloc: Global,
+    items: IntoIter<Item>,
+    include_expired: bool,
+) -> Result<CookieStore, Error> {
+    CookieStore::from_cookies(alloc, items, include_expired, new_year())
+}
+
+// The store of the cookies.
+fn store_with(rt: &impl Abort, alloc: Global, came: &[Came], include_expired: bool) -> CookieStore {
+    let items = items(rt, alloc, came).into_iter();
+    built(alloc, items, include_expired).expect(rt, "a store")
+}
+
 // A store of the cookies, also of those that have ended.
 pub fn store_of(rt: &impl Abort, alloc: Global, came: &[Came]) -> CookieStore {
-    let items = items(rt, alloc, came).into_iter();
-    CookieStore::from_cookies(alloc, items, true, new_year()).expect(rt, "a store")
+    store_with(rt, alloc, came, true)
 }
 
 const ENDED_AGAIN: [Came; 2] = [
@@ -61,7 +76,7 @@ type Case = (
     &'static str,
 );
 
-const BUILT: [Case; 6] = [
+static BUILT: [Case; 6] = [
     (&[], true, "", "", ""),
     (&ENDED_AGAIN, false, "a.com / a", "a=1", "a=1"),
     (&ENDED_AGAIN, true, "a.com / a", "a=2", ""),
@@ -88,23 +103,24 @@ const BUILT: [Case; 6] = [
     ),
 ];
 
-fn is_built(rt: &impl Abort, alloc: Global, store: &CookieStore, case: &Case) {
-    let (_, _, listed, any, live) = *case;
-    are_listed(rt, alloc, store, listed, &listed);
-    let rows = all_rows(rt, alloc, store);
-    is_equal(rt, &rows.as_str(), &any, case);
+// The cookies of the rows that have not ended.
+fn are_live(rt: &impl Abort, alloc: Global, store: &CookieStore, case: &Case) {
     let rows = unexpired(rt, alloc, store, new_year());
-    let rows = header(rt, alloc, rows.as_slice());
-    is_equal(rt, &rows.as_str(), &live, case);
+    let live = header(rt, alloc, rows.as_slice());
+    is_equal(rt, &live.as_str(), &case.4, case);
+}
+
+fn is_built(rt: &impl Abort, alloc: Global, case: &Case) {
+    let store = store_with(rt, alloc, case.0, case.1);
+    are_listed(rt, alloc, &store, case.2, &case.3);
+    are_all(rt, alloc, &store, case.3, &case.3);
+    are_live(rt, alloc, &store, case);
 }
 
 #[test]
 fn each_cookie_is_put(rt: HostRuntime) {
     for case in &BUILT {
-        let items = items(&rt, rt.alloc(), case.0).into_iter();
-        let outcome = CookieStore::from_cookies(rt.alloc(), items, case.1, new_year());
-        let store = outcome.expect(&rt, "a store");
-        is_built(&rt, rt.alloc(), &store, case);
+        is_built(&rt, rt.alloc(), case);
     }
 }
 

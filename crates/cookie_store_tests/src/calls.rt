@@ -2,7 +2,7 @@
 use crate::built::cookie;
 use crate::checks::is_equal;
 use crate::steps::{ENDED, INSERTED, UPDATED, new_year, store_under};
-use crate::texts::{given, url, value_of};
+use crate::texts::{are_given, url, value_of};
 use cookie_store::{Call, CookieError, CookieStore, InsertResult, Reply, Stopped};
 use std::alloc::Global;
 use std::process::Abort;
@@ -21,7 +21,7 @@ const FROM: &str = "http://a.com/";
 const SUFFIX: Asked = Asked::Set(FROM, "x=4; Domain=com", Err(CookieError::PublicSuffix));
 
 // One after the other, and what a store under a list of one rule then gives.
-pub const CALLS: [(Asked, &str); 13] = [
+pub static CALLS: [(Asked, &str); 13] = [
     (Asked::Set(FROM, "x=1", INSERTED), "x=1"),
     (Asked::Insert(FROM, "y=1", INSERTED), "x=1; y=1"),
     (Asked::Set(FROM, "x=2", UPDATED), "x=2; y=1"),
@@ -104,31 +104,30 @@ fn are_replies(rt: &impl Abort, replies: &[Reply], calls: &[(Asked, &'static str
 // The same, and the store gives what those calls leave.
 pub fn are_told(rt: &impl Abort, alloc: Global, store: &CookieStore, replies: &[Reply]) {
     are_replies(rt, replies, &CALLS);
-    let header = given(rt, alloc, store, FROM, new_year());
-    is_equal(rt, &header.as_str(), &after(replies.len()), &replies.len());
+    let after = after(replies.len());
+    are_given(rt, alloc, store, (FROM, after), new_year(), &replies.len());
+}
+
+// The store replies to one call as it should, and gives what it should afterwards.
+fn is_done(rt: &impl Abort, alloc: Global, store: &mut CookieStore, row: &(Asked, &'static str)) {
+    let reply = store.apply(call(rt, alloc, &row.0)).expect(rt, "memory");
+    is_equal(rt, &is_told(&row.0, &reply), &true, row);
+    are_given(rt, alloc, store, (FROM, row.1), new_year(), &row.0);
 }
 
 #[test]
 fn calls_are_done_one_by_one(rt: HostRuntime) {
     let mut store = store_under(&rt, rt.alloc(), "com");
-    let mut replies = Vec::new(rt.alloc());
-    for (asked, _) in &CALLS {
-        let call = call(&rt, rt.alloc(), asked);
-        let reply = store.apply(call).expect(&rt, "memory");
-        replies.push(reply).expect(&rt, "memory");
-        are_told(&rt, rt.alloc(), &store, replies.as_slice());
+    for row in &CALLS {
+        is_done(&rt, rt.alloc(), &mut store, row);
     }
 }
 
 fn are_done_together(rt: &impl Abort, alloc: Global, store: &mut CookieStore, calls: Vec<Call>) {
     let count = calls.len();
-    match store.apply_all(calls) {
-        Ok(replies) => {
-            is_equal(rt, &replies.len(), &count, &"the replies");
-            are_told(rt, alloc, store, replies.as_slice());
-        }
-        Err(_stopped) => panic!(rt; "memory was wanting"),
-    }
+    let replies = store.apply_all(calls).expect(rt, "memory");
+    is_equal(rt, &replies.len(), &count, &"the replies");
+    are_told(rt, alloc, store, replies.as_slice());
 }
 
 #[test]

@@ -1,52 +1,100 @@
-//! Cookies that come into a store.
+//! Cookies that come into a store, in each way.
+use crate::built::Came;
+use crate::calls::{Asked, call};
 use crate::checks::is_equal;
-use crate::steps::{ENDED, INSERTED, Step, UPDATED, new_year, take, take_all};
+use crate::growths::{end, start};
+use crate::steps::{ENDED, INSERTED, UPDATED, new_year};
 use crate::texts::url;
-use cookie_store::{Cookie, CookieError, CookieStore, InsertResult, RawCookie};
-use jiff::civil::{DateTime, date};
+use cookie_store::{Cookie, CookieError, CookieStore, InsertResult, RawCookie, Reply};
 use std::alloc::Global;
 use std::process::Abort;
 use url::Url;
 
-const ACCEPTED: [Step; 5] = [
-    Step::Set("http://a.com/", "x=1", INSERTED),
-    Step::Set("http://b.com/", "y=1", INSERTED),
-    Step::Set("http://a.com/", "z=1; Path=/p", INSERTED),
-    Step::Set("http://a.com/", "w=1", INSERTED),
-    Step::Set("http://a.com/", "x=2", UPDATED),
-];
+// How a cookie comes into a store.
+#[derive(Clone, Copy, Debug)]
+pub enum Way {
+    Parse,
+    InsertRaw,
+    Insert,
+    ApplySet,
+    ApplyInsert,
+}
 
-const REFUSED: [Step; 3] = [
-    Step::Set(
-        "http://foo.example.com/",
-        "cookie1=value1; Domain=oo.example.com",
-        Err(CookieError::DomainMismatch),
-    ),
-    Step::Set("data:x", "a=1", Err(CookieError::NonRelativeScheme)),
-    Step::Set("http://a.com/", "a", Err(CookieError::Parse)),
-];
+const WANTING: InsertResult = Err(CookieError::Memory);
 
-// What the accepted texts leave.
-const GIVEN: [Step; 2] = [
-    Step::Given("http://a.com/p/q", "x=2; w=1; z=1"),
-    Step::Given("http://b.com/", "y=1"),
-];
+fn reply_to_text(alloc: Global, store: &mut CookieStore, text: &str, url: &Url) -> InsertResult {
+    start(alloc);
+    let reply = store.parse(text, url, new_year());
+    end(alloc);
+    reply
+}
 
-fn replies_in_order(rt: &impl Abort, alloc: Global, store: &mut CookieStore, now: DateTime) {
-    take_all(rt, alloc, store, &ACCEPTED, now);
-    take_all(rt, alloc, store, &GIVEN, now);
-    for step in &REFUSED {
-        take(rt, alloc, store, step, now);
-        take_all(rt, alloc, store, &GIVEN, now);
+fn reply_to_raw(
+    rt: &impl Abort,
+    alloc: Global,
+    store: &mut CookieStore,
+    text: &str,
+    url: &Url,
+) -> InsertResult {
+    let raw = RawCookie::parse(text).expect(rt, "a cookie");
+    start(alloc);
+    let reply = store.insert_raw(&raw, url, new_year());
+    end(alloc);
+    reply
+}
+
+// A text that makes no cookie is refused before.
+fn reply_to_cookie(
+    rt: &impl Abort,
+    alloc: Global,
+    store: &mut CookieStore,
+    text: &str,
+    url: &Url,
+) -> InsertResult {
+    let cookie = Cookie::parse(alloc, text, url, new_year())?;
+    let owned = cookie.into_owned(alloc).expect(rt, "memory");
+    start(alloc);
+    let reply = store.insert(owned, url, new_year());
+    end(alloc);
+    reply
+}
+
+fn reply_to_call(
+    rt: &impl Abort,
+    alloc: Global,
+    store: &mut CookieStore,
+    asked: &Asked,
+) -> InsertResult {
+    let call = call(rt, alloc, asked);
+    start(alloc);
+    let outcome = store.apply(call);
+    end(alloc);
+    if let Ok(Reply::Stored(reply)) = &outcome {
+        // Want of memory is no reply.
+        is_equal(rt, &(*reply == WANTING), &false, asked);
+        *reply
+    } else {
+        is_equal(rt, &outcome.is_err(), &true, asked);
+        WANTING
     }
 }
 
-#[test]
-fn replies_and_gives_in_order_at_any_moment(rt: HostRuntime) {
-    let past = date(2015, 10, 21).at(7, 28, 0, 0);
-    for now in [DateTime::MIN, past, DateTime::MAX] {
-        let mut store = CookieStore::new(rt.alloc());
-        replies_in_order(&rt, rt.alloc(), &mut store, now);
+// The reply to a text that came from the URL.
+pub fn reply_by(
+    rt: &impl Abort,
+    alloc: Global,
+    way: Way,
+    store: &mut CookieStore,
+    came: Came,
+    url: &Url,
+) -> InsertResult {
+    let (from, text) = came;
+    match way {
+        Way::Parse => reply_to_text(alloc, store, text, url),
+        Way::InsertRaw => reply_to_raw(rt, alloc, store, text, url),
+        Way::Insert => reply_to_cookie(rt, alloc, store, text, url),
+        Way::ApplySet => reply_to_call(rt, alloc, store, &Asked::Set(from, text, INSERTED)),
+        Way::ApplyInsert => reply_to_call(rt, alloc, store, &Asked::Insert(from, text, INSERTED)),
     }
 }
 
@@ -54,7 +102,7 @@ fn replies_and_gives_in_order_at_any_moment(rt: HostRuntime) {
 type Received = (&'static str, &'static str, InsertResult);
 
 // One after the other, from a store without cookies.
-const REPLIES: [Received; 8] = [
+static REPLIES: [Received; 8] = [
     ("http://example.com/foo/bar", "c=v", INSERTED),
     ("data:x", "c=v", Err(CookieError::NonRelativeScheme)),
     (
@@ -80,50 +128,12 @@ const REPLIES: [Received; 8] = [
 // A domain, a path and a name, and whether that row has ended, if there is one.
 type Left = (&'static str, &'static str, &'static str, Option<bool>);
 
-const LEFT: [Left; 4] = [
+static LEFT: [Left; 4] = [
     ("example.com", "/foo", "c", Some(true)),
     ("example.com", "/", "c", None),
     ("bar.example.com", "/foo", "c", None),
     ("example.com", "/foo", "d", None),
 ];
-
-// How a cookie comes into a store.
-#[derive(Clone, Copy, Debug)]
-enum Way {
-    Parse,
-    InsertRaw,
-    Insert,
-}
-
-fn insert(
-    rt: &impl Abort,
-    alloc: Global,
-    store: &mut CookieStore,
-    text: &str,
-    url: &Url,
-) -> InsertResult {
-    let cookie = Cookie::parse(alloc, text, url, new_year())?;
-    let owned = cookie.into_owned(alloc).expect(rt, "memory");
-    store.insert(owned, url, new_year())
-}
-
-fn reply_by(
-    rt: &impl Abort,
-    alloc: Global,
-    way: Way,
-    store: &mut CookieStore,
-    text: &str,
-    url: &Url,
-) -> InsertResult {
-    match way {
-        Way::Parse => store.parse(text, url, new_year()),
-        Way::InsertRaw => {
-            let raw = RawCookie::parse(text).expect(rt, "a cookie");
-            store.insert_raw(&raw, url, new_year())
-        }
-        Way::Insert => insert(rt, alloc, store, text, url),
-    }
-}
 
 fn is_left(rt: &impl Abort, way: Way, store: &CookieStore, left: &Left) {
     let (domain, path, name, has_ended) = *left;
@@ -134,21 +144,28 @@ fn is_left(rt: &impl Abort, way: Way, store: &CookieStore, left: &Left) {
     is_equal(rt, &is_expired, &has_ended, &(way, left));
 }
 
-fn replies_by(rt: &impl Abort, alloc: Global, way: Way, store: &mut CookieStore) {
-    for received in &REPLIES {
-        let (from, text, wanted) = *received;
-        let reply = reply_by(rt, alloc, way, store, text, &url(rt, alloc, from));
-        is_equal(rt, &reply, &wanted, &(way, received));
-    }
-    for left in &LEFT {
-        is_left(rt, way, store, left);
-    }
+fn is_replied(
+    rt: &impl Abort,
+    alloc: Global,
+    way: Way,
+    store: &mut CookieStore,
+    received: &Received,
+) {
+    let (from, text, wanted) = *received;
+    let url = url(rt, alloc, from);
+    let reply = reply_by(rt, alloc, way, store, (from, text), &url);
+    is_equal(rt, &reply, &wanted, &(way, received));
 }
 
 #[test]
-fn cookies_come_in_three_ways(rt: HostRuntime) {
-    for way in [Way::Parse, Way::InsertRaw, Way::Insert] {
+fn cookies_come_in_each_way(rt: HostRuntime) {
+    for way in &[Way::Parse, Way::InsertRaw, Way::Insert, Way::ApplySet] {
         let mut store = CookieStore::new(rt.alloc());
-        replies_by(&rt, rt.alloc(), way, &mut store);
+        for received in &REPLIES {
+            is_replied(&rt, rt.alloc(), *way, &mut store, received);
+        }
+        for left in &LEFT {
+            is_left(&rt, *way, &store, left);
+        }
     }
 }

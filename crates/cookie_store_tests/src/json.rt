@@ -1,6 +1,5 @@
-//! Rows that are written as lines of JSON, and read from them.
-use crate::built::{Came, store_of};
-use crate::checks::{has_the_same_rows, is_equal};
+//! Rows as lines of JSON.
+use crate::built::Came;
 use crate::saved::Which;
 use crate::steps::new_year;
 use cookie_fakes::Fake;
@@ -8,43 +7,6 @@ use cookie_store::device::{Counted, Sink, Source};
 use cookie_store::saved::SavedError;
 use cookie_store::{Bulk, CookieError, CookieStore, Error};
 use std::alloc::Global;
-use std::process::Abort;
-
-const CAME: [Came; 4] = [
-    (
-        "http://foo.example.com/foo",
-        "cookie3=value3; Path=/foo/bar",
-    ),
-    (
-        "http://foo.example.com/foo/bar",
-        "cookie2=value2; Domain=example.com",
-    ),
-    (
-        "http://test.com/",
-        "2=two; SameSite=None; Secure; Path=/; Expires=Tue, 03 Aug 2100 00:38:37 GMT",
-    ),
-    (
-        "http://test.com/",
-        "q=\"\\; Expires=Tue, 03 Aug 2100 00:38:37 GMT",
-    ),
-];
-
-// Their lines: the members in the order of their names, and nothing between them.
-const LINES: [&str; 4] = [
-    r#"{"domain":{"HostOnly":"foo.example.com"},"expires":"SessionEnd","path":["/foo/bar",true],"raw_cookie":"cookie3=value3; Path=/foo/bar"}"#,
-    r#"{"domain":{"Suffix":"example.com"},"expires":"SessionEnd","path":["/foo",false],"raw_cookie":"cookie2=value2; Domain=example.com"}"#,
-    r#"{"domain":{"HostOnly":"test.com"},"expires":{"AtUtc":"2100-08-03T00:38:37Z"},"path":["/",true],"raw_cookie":"2=two; SameSite=None; Secure; Path=/; Expires=Tue, 03 Aug 2100 00:38:37 GMT"}"#,
-    r#"{"domain":{"HostOnly":"test.com"},"expires":{"AtUtc":"2100-08-03T00:38:37Z"},"path":["/",false],"raw_cookie":"q=\"\\; Expires=Tue, 03 Aug 2100 00:38:37 GMT"}"#,
-];
-
-fn text_of(rt: &impl Abort, alloc: Global, lines: &[&str]) -> String {
-    let mut text = String::new(alloc);
-    for line in lines {
-        text.push_str(*line).expect(rt, "memory");
-        text.push('\n').expect(rt, "memory");
-    }
-    text
-}
 
 // How saving ends, how many writes failed, and the writer.
 pub fn save_json(
@@ -79,41 +41,6 @@ pub fn load_json(alloc: Global, which: &Which, fake: Fake<&[u8]>) -> Result<Cook
     load_json_from(alloc, which, fake).0
 }
 
-fn is_written(rt: &impl Abort, alloc: Global, store: &CookieStore, which: &Which, lines: &[&str]) {
-    let fake = Fake::new(Vec::new(alloc), usize::MAX, 0);
-    let (outcome, _, fake) = save_json(store, which, fake);
-    is_equal(rt, &outcome, &Ok(()), which);
-    let text = str::from_utf8(fake.inner.as_slice()).expect(rt, "UTF-8");
-    is_equal(rt, &text, &text_of(rt, alloc, lines).as_str(), which);
-}
-
-#[test]
-fn rows_are_saved_as_json(rt: HostRuntime) {
-    let store = store_of(&rt, rt.alloc(), &CAME);
-    is_written(&rt, rt.alloc(), &store, &Which::All, &LINES);
-    is_written(&rt, rt.alloc(), &store, &Which::At(new_year()), &LINES[2..]);
-}
-
-fn are_loaded(rt: &impl Abort, alloc: Global, store: &CookieStore, text: &str, which: &Which) {
-    let fake = Fake::new(text.as_bytes(), 7, 0);
-    let loaded = load_json(alloc, which, fake).expect(rt, "a store");
-    has_the_same_rows(rt, &loaded, store);
-}
-
-#[test]
-fn what_is_saved_as_json_loads_again(rt: HostRuntime) {
-    let store = store_of(&rt, rt.alloc(), &CAME);
-    let text = text_of(&rt, rt.alloc(), &LINES);
-    are_loaded(&rt, rt.alloc(), &store, text.as_str(), &Which::All);
-    are_loaded(
-        &rt,
-        rt.alloc(),
-        &store,
-        text.as_str(),
-        &Which::At(new_year()),
-    );
-}
-
 // How loading ended, by the fault that ended it.
 pub fn fault_of(outcome: &Result<CookieStore, Error>) -> &'static str {
     match outcome {
@@ -128,8 +55,41 @@ pub fn fault_of(outcome: &Result<CookieStore, Error>) -> &'static str {
     }
 }
 
+pub const CAME: [Came; 4] = [
+    (
+        "http://foo.example.com/foo",
+        "cookie3=value3; Path=/foo/bar",
+    ),
+    (
+        "http://foo.example.com/foo/bar",
+        "cookie2=value2; Domain=example.com",
+    ),
+    (
+        "http://test.com/",
+        "2=two; SameSite=None; Secure; Path=/; Expires=Tue, 03 Aug 2100 00:38:37 GMT",
+    ),
+    (
+        "http://test.com/",
+        "q=\"\\; Expires=Tue, 03 Aug 2100 00:38:37 GMT",
+    ),
+];
+
+// Their lines: the members in the order of their names, and nothing between them.
+pub const LINES: &str =
+    r#"{"domain":{"HostOnly":"foo.example.com"},"expires":"SessionEnd","path":["/foo/bar",true],"raw_cookie":"cookie3=value3; Path=/foo/bar"}
+{"domain":{"Suffix":"example.com"},"expires":"SessionEnd","path":["/foo",false],"raw_cookie":"cookie2=value2; Domain=example.com"}
+{"domain":{"HostOnly":"test.com"},"expires":{"AtUtc":"2100-08-03T00:38:37Z"},"path":["/",true],"raw_cookie":"2=two; SameSite=None; Secure; Path=/; Expires=Tue, 03 Aug 2100 00:38:37 GMT"}
+{"domain":{"HostOnly":"test.com"},"expires":{"AtUtc":"2100-08-03T00:38:37Z"},"path":["/",false],"raw_cookie":"q=\"\\; Expires=Tue, 03 Aug 2100 00:38:37 GMT"}
+"#;
+
+// The lines of those that end at a moment.
+pub const LASTING: &str =
+    r#"{"domain":{"HostOnly":"test.com"},"expires":{"AtUtc":"2100-08-03T00:38:37Z"},"path":["/",true],"raw_cookie":"2=two; SameSite=None; Secure; Path=/; Expires=Tue, 03 Aug 2100 00:38:37 GMT"}
+{"domain":{"HostOnly":"test.com"},"expires":{"AtUtc":"2100-08-03T00:38:37Z"},"path":["/",false],"raw_cookie":"q=\"\\; Expires=Tue, 03 Aug 2100 00:38:37 GMT"}
+"#;
+
 // Lines, and what they are refused for.
-const REFUSED: [(&[u8], &str); 14] = [
+pub const REFUSED: [(&[u8], &str); 14] = [
     (b"{\n", "no JSON"),
     (b"\n", "no JSON"),
     (b"[\n{}\n]\n", "no JSON"),
@@ -163,51 +123,3 @@ const REFUSED: [(&[u8], &str); 14] = [
         "none",
     ),
 ];
-
-fn is_refused(rt: &impl Abort, alloc: Global, row: &(&'static [u8], &str)) {
-    let outcome = load_json(alloc, &Which::All, Fake::new(row.0, usize::MAX, 0));
-    is_equal(rt, &fault_of(&outcome), &row.1, &row.0);
-}
-
-#[test]
-fn bad_lines_are_refused(rt: HostRuntime) {
-    for row in &REFUSED {
-        is_refused(&rt, rt.alloc(), row);
-    }
-}
-
-fn ends_within_an_object(front: &str) -> bool {
-    let is_at_an_end = front.is_empty()
-        || front.ends_with('\n')
-        || LINES.iter().any(|line| front.ends_with(*line));
-    !is_at_an_end
-}
-
-// The rows are so many first ones.
-fn has_first_rows(rt: &impl Abort, alloc: Global, store: &CookieStore, count: usize) {
-    let same = store_of(rt, alloc, &CAME[..count.min(CAME.len())]);
-    has_the_same_rows(rt, store, &same);
-}
-
-// A front of the lines that ends within an object is no JSON; any other one loads as the objects that it holds, the last one
-// also without its line feed.
-fn is_front_of_lines(rt: &impl Abort, alloc: Global, front: &str) {
-    let fake = Fake::new(front.as_bytes(), usize::MAX, 0);
-    let outcome = load_json(alloc, &Which::All, fake);
-    let is_within = ends_within_an_object(front);
-    let wanted = if is_within { "no JSON" } else { "none" };
-    is_equal(rt, &fault_of(&outcome), &wanted, &front.len());
-    if let Ok(store) = &outcome {
-        has_first_rows(rt, alloc, store, front.lines().count());
-    }
-}
-
-#[test]
-fn lines_that_are_cut_off_within_an_object_are_refused(rt: HostRuntime) {
-    let text = text_of(&rt, rt.alloc(), &LINES);
-    let bytes = text.as_bytes();
-    for length in 0..bytes.len() {
-        let front = str::from_utf8(&bytes[..length]).expect(&rt, "ASCII");
-        is_front_of_lines(&rt, rt.alloc(), front);
-    }
-}

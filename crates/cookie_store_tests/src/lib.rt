@@ -6,17 +6,19 @@ mod built;
 #[cfg(test)]
 mod calls;
 #[cfg(test)]
+mod changed;
+#[cfg(test)]
 mod checks;
 #[cfg(test)]
 mod devices;
+#[cfg(test)]
+mod forms;
 #[cfg(test)]
 mod growths;
 #[cfg(test)]
 mod insertion;
 #[cfg(test)]
 mod json;
-#[cfg(test)]
-mod limits;
 #[cfg(test)]
 mod lists;
 #[cfg(test)]
@@ -28,6 +30,8 @@ mod many;
 #[cfg(test)]
 mod matching;
 #[cfg(test)]
+mod migrated;
+#[cfg(test)]
 mod responses;
 #[cfg(test)]
 mod ron;
@@ -37,7 +41,5 @@ mod rows;
 mod saved;
 #[cfg(test)]
 mod steps;
-#[cfg(test)]
-mod suffixes;
 #[cfg(test)]
 mod texts;

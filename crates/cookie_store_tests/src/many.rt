@@ -1,12 +1,12 @@
 //! Stores of many rows, and a long text.
-use crate::built::cookie;
+use crate::built::{Item, built, cookie};
 use crate::checks::is_equal;
-use crate::loaded::load_cookies;
+use crate::forms::{Shape, load};
 use crate::saved::Which;
 use crate::steps::{INSERTED, new_year};
 use crate::texts::{add, url, value_of};
 use cookie_fakes::Fake;
-use cookie_store::{Call, Cookie, CookieStore, Error, Reply, StoreAction};
+use cookie_store::{Call, Cookie, CookieStore, Reply, StoreAction};
 use std::alloc::Global;
 use std::process::Abort;
 use url::Url;
@@ -48,29 +48,7 @@ fn has_all(rt: &impl Abort, alloc: Global, store: &CookieStore) {
     is_equal(rt, &given.len(), &GIVEN, &"the cookies of one host");
 }
 
-// Every other one comes as a text.
-fn enters(rt: &impl Abort, alloc: Global, store: &mut CookieStore, number: usize) {
-    let url = url_of(rt, alloc, number);
-    let reply = if number % 2 == 0 {
-        let text = text(rt, alloc, number);
-        store.parse(text.as_str(), &url, new_year())
-    } else {
-        let cookie = cookie_of(rt, alloc, number);
-        store.insert(cookie, &url, new_year())
-    };
-    is_equal(rt, &reply, &INSERTED, &number);
-}
-
-#[test]
-fn many_cookies_enter(rt: HostRuntime) {
-    let mut store = CookieStore::new(rt.alloc());
-    for number in 0..COOKIES {
-        enters(&rt, rt.alloc(), &mut store, number);
-    }
-    has_all(&rt, rt.alloc(), &store);
-}
-
-fn items(rt: &impl Abort, alloc: Global) -> Vec<Result<Cookie<'static>, Error>> {
+fn items(rt: &impl Abort, alloc: Global) -> Vec<Item> {
     let mut items = Vec::new(alloc);
     for number in 0..COOKIES {
         let cookie = cookie_of(rt, alloc, number);
@@ -82,20 +60,33 @@ fn items(rt: &impl Abort, alloc: Global) -> Vec<Result<Cookie<'static>, Error>> 
 #[test]
 fn a_store_is_built_of_many_cookies(rt: HostRuntime) {
     let items = items(&rt, rt.alloc()).into_iter();
-    let outcome = CookieStore::from_cookies(rt.alloc(), items, false, new_year());
+    let outcome = built(rt.alloc(), items, false);
     let store = outcome.expect(&rt, "a store");
     has_all(&rt, rt.alloc(), &store);
+}
+
+// Every other one comes as a text.
+fn call(rt: &impl Abort, alloc: Global, number: usize) -> Call {
+    let url = url_of(rt, alloc, number);
+    if number % 2 == 0 {
+        Call::Set {
+            text: text(rt, alloc, number),
+            url,
+            now: new_year(),
+        }
+    } else {
+        Call::Insert {
+            cookie: cookie_of(rt, alloc, number),
+            url,
+            now: new_year(),
+        }
+    }
 }
 
 fn calls(rt: &impl Abort, alloc: Global) -> Vec<Call> {
     let mut calls = Vec::new(alloc);
     for number in 0..COOKIES {
-        let call = Call::Set {
-            text: text(rt, alloc, number),
-            url: url_of(rt, alloc, number),
-            now: new_year(),
-        };
-        calls.push(call).expect(rt, "memory");
+        calls.push(call(rt, alloc, number)).expect(rt, "memory");
     }
     calls
 }
@@ -112,10 +103,8 @@ fn are_inserted(rt: &impl Abort, replies: &[Reply]) {
 fn many_calls_are_done(rt: HostRuntime) {
     let mut store = CookieStore::new(rt.alloc());
     let calls = calls(&rt, rt.alloc());
-    match store.apply_all(calls) {
-        Ok(replies) => are_inserted(&rt, replies.as_slice()),
-        Err(_stopped) => panic!(rt; "memory was wanting"),
-    }
+    let replies = store.apply_all(calls).expect(&rt, "memory");
+    are_inserted(&rt, replies.as_slice());
     has_all(&rt, rt.alloc(), &store);
 }
 
@@ -129,13 +118,17 @@ fn lines(rt: &impl Abort, alloc: Global) -> String {
     lines
 }
 
+fn store_of_lines(rt: &impl Abort, alloc: Global, lines: &str, url: &Url) -> CookieStore {
+    let fake = Fake::new(lines.as_bytes(), usize::MAX, 0);
+    let loaded = load(alloc, Shape::Lines, url, &Which::All, fake);
+    loaded.0.expect(rt, "a store")
+}
+
 #[test]
 fn many_lines_are_loaded(rt: HostRuntime) {
     let url = url_of(&rt, rt.alloc(), 0);
     let lines = lines(&rt, rt.alloc());
-    let fake = Fake::new(lines.as_bytes(), usize::MAX, 0);
-    let (outcome, _) = load_cookies(rt.alloc(), &url, &Which::All, fake);
-    let store = outcome.expect(&rt, "a store");
+    let store = store_of_lines(&rt, rt.alloc(), lines.as_str(), &url);
     let given = store.matches(&url, new_year()).expect(&rt, "memory");
     is_equal(&rt, &given.len(), &COOKIES, &"the cookies that are given");
 }

@@ -1,58 +1,46 @@
 //! Cookies that are given for a URL.
-use crate::lists::{Form, loaded};
+use crate::checks::is_equal;
+use crate::forms::{FROM as ORIGIN, IN_RON, loaded};
+use crate::growths::{Asking, answers};
 use crate::saved::Which;
-use crate::steps::{INSERTED, Step, new_year, take, take_all};
-use cookie_store::CookieStore;
+use crate::steps::{INSERTED, Step, UPDATED, new_year, take_all};
+use cookie_store::{CookieError, CookieStore};
 use jiff::civil::DateTime;
-use std::alloc::Global;
-use std::process::Abort;
-
-const NOTHING: Step = Step::Given("http://a.com/p/q", "");
-
-fn gives_nothing(rt: &impl Abort, alloc: Global, mut store: CookieStore) {
-    take(rt, alloc, &mut store, &NOTHING, DateTime::MIN);
-}
-
-#[test]
-fn a_new_store_gives_nothing(rt: HostRuntime) {
-    gives_nothing(&rt, rt.alloc(), CookieStore::new(rt.alloc()));
-    gives_nothing(&rt, rt.alloc(), CookieStore::default(rt.alloc()));
-}
 
 const FROM: &str = "http://a.b.example.com/x/y/z";
 
-const IN_ORDER: [Step; 4] = [
+// A new store gives nothing; cookies come and are refused, and the others are given in the order of insertion.
+static IN_ORDER: [Step; 19] = [
+    Step::Given("http://a.com/p/q", ""),
+    Step::Set("http://a.com/", "x=1", INSERTED),
+    Step::Set("http://b.com/", "y=1", INSERTED),
+    Step::Set("http://a.com/", "z=1; Path=/p", INSERTED),
+    Step::Set("http://a.com/", "w=1", INSERTED),
+    Step::Set("http://a.com/", "x=2", UPDATED),
+    Step::Set(
+        "http://foo.example.com/",
+        "cookie1=value1; Domain=oo.example.com",
+        Err(CookieError::DomainMismatch),
+    ),
+    Step::Given("http://a.com/p/q", "x=2; w=1; z=1"),
+    Step::Given("http://b.com/", "y=1"),
+    Step::Set("data:x", "a=1", Err(CookieError::NonRelativeScheme)),
+    Step::Given("http://a.com/p/q", "x=2; w=1; z=1"),
+    Step::Given("http://b.com/", "y=1"),
+    Step::Set("http://a.com/", "a", Err(CookieError::Parse)),
+    Step::Given("http://a.com/p/q", "x=2; w=1; z=1"),
+    Step::Given("http://b.com/", "y=1"),
     Step::Set(FROM, "c=3; Path=/x", INSERTED),
     Step::Set(FROM, "a=1; Domain=example.com; Path=/", INSERTED),
     Step::Set(FROM, "b=2; Domain=b.example.com; Path=/x/y/z", INSERTED),
     Step::Given(FROM, "c=3; a=1; b=2"),
 ];
 
+// No script can name this moment.
 #[test]
-fn gives_in_the_order_of_insertion(rt: HostRuntime) {
-    let mut store = CookieStore::new(rt.alloc());
+fn gives_in_order_at_the_first_moment(rt: HostRuntime) {
+    let mut store = CookieStore::default(rt.alloc());
     take_all(&rt, rt.alloc(), &mut store, &IN_ORDER, DateTime::MIN);
-}
-
-const LOOPBACK: [&str; 6] = [
-    "http://localhost",
-    "http://localhost:1234",
-    "http://127.0.0.1",
-    "http://127.0.0.2",
-    "http://127.1.0.1",
-    "http://[::1]",
-];
-
-#[test]
-fn secure_cookies_stay_within_this_machine(rt: HostRuntime) {
-    for from in LOOPBACK {
-        let mut store = CookieStore::new(rt.alloc());
-        let steps = [
-            Step::Set(from, "s=1; Secure", INSERTED),
-            Step::Given(from, "s=1"),
-        ];
-        take_all(&rt, rt.alloc(), &mut store, &steps, new_year());
-    }
 }
 
 // Rows as they may be loaded: the domain of some is no name, the path of some does not begin with `/`, and the last one is
@@ -70,7 +58,7 @@ const LOADED: &str = r#"[
 ]"#;
 
 // All stand, and the last one alone is given for a URL.
-const STANDING: [Step; 9] = [
+static STANDING: [Step; 9] = [
     Step::Listed(" / a,  / b,  / c,  / d, . / e, . / f, a.com  g, a.com p h, a.com / k"),
     Step::Given("http://a.com/p", "k=1"),
     Step::Given("http://a.com./p", ""),
@@ -84,6 +72,22 @@ const STANDING: [Step; 9] = [
 
 #[test]
 fn a_row_of_no_name_or_no_absolute_path_is_given_for_no_url(rt: HostRuntime) {
-    let mut store = loaded(&rt, Form::Ron, rt.alloc(), &Which::All, LOADED);
+    let mut store = loaded(&rt, rt.alloc(), IN_RON, ORIGIN, &Which::All, LOADED);
     take_all(&rt, rt.alloc(), &mut store, &STANDING, new_year());
+}
+
+const ASKED: [(Asking, &str); 5] = [
+    (Asking::Matches, "matches"),
+    (Asking::Counted, "matches_counted"),
+    (Asking::Values, "get_request_values"),
+    (Asking::Cookies, "get_request_cookies"),
+    (Asking::Clone, "clone"),
+];
+
+#[test]
+fn all_that_is_asked_is_answered(rt: HostRuntime) {
+    for (asking, name) in &ASKED {
+        let is_answered = answers(&rt, rt.alloc(), *asking);
+        is_equal(&rt, &is_answered, &true, name);
+    }
 }

@@ -1,7 +1,7 @@
 //! Cookies of responses, and what is logged of them.
 use crate::checks::is_equal;
 use crate::steps::new_year;
-use crate::texts::{all_rows, url};
+use crate::texts::{are_all, url};
 use cookie_store::{Bulk, CookieStore, RawCookie};
 use log::Log;
 use log::sink::{Discard, Memory};
@@ -15,7 +15,7 @@ type Case = (
     &'static [&'static str],
 );
 
-const CASES: [Case; 3] = [
+static CASES: [Case; 3] = [
     (&[], "", &[]),
     (
         &["a=1", "b=2; Secure", "c=3; Domain=x.org"],
@@ -62,8 +62,7 @@ fn is_stored(rt: &impl Abort, alloc: Global, logger: &impl Log, case: &Case) {
     let mut store = CookieStore::new(alloc);
     let outcome = store.store_response_cookies(logger, cookies, &url, new_year());
     outcome.expect(rt, "memory");
-    let rows = all_rows(rt, alloc, &store);
-    is_equal(rt, &rows.as_str(), &wanted, case);
+    are_all(rt, alloc, &store, wanted, &wanted);
 }
 
 // The line is this text at the level debug, and shows no value of a secure cookie.

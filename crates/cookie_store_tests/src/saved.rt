@@ -11,30 +11,34 @@ use std::cell::RefCell;
 use std::process::Abort;
 
 // Which rows are saved or loaded: all, or those that `save` or `load` chooses at the moment.
-#[derive(Debug, Drop)]
+#[derive(Clone, Copy, Debug)]
 pub enum Which {
     All,
     At(DateTime),
 }
 
-// How saving ends, how many writes failed, what is written, and the names of the rows whose text was asked for, as lines.
-#[derive(Drop)]
-struct Saved {
-    outcome: Result<(), Error>,
-    failures: u64,
-    written: Vec<u8>,
-    asked: String,
-}
+// How saving ended, how many writes failed, and the writer.
+pub type Saved = (Result<(), Error>, u64, Fake<Vec<u8>>);
 
-// Answers a row's name, or as an error the one that is refused, and writes each down.
+// Answers a row's text, or its name alone, or as an error the name that is refused, and writes each name down.
 #[derive(Drop)]
-struct Names {
+pub struct Names<'r> {
     alloc: Global,
-    refused: String,
+    is_whole: bool,
+    refused: &'r str,
     asked: RefCell<String>,
 }
 
-impl Names {
+impl<'r> Names<'r> {
+    pub fn new(alloc: Global, is_whole: bool, refused: &'r str) -> Names<'r> {
+        Names {
+            alloc,
+            is_whole,
+            refused,
+            asked: RefCell::new(String::new(alloc)),
+        }
+    }
+
     fn note(&self, name: &str) -> Result<(), AllocError> {
         if let Ok(mut asked) = self.asked.try_borrow_mut() {
             asked.push_str(name)?;
@@ -44,31 +48,24 @@ impl Names {
     }
 
     fn text_of(&self, row: &Cookie<'_>) -> Result<String, Error> {
-        let Ok(()) = self.note(row.name()) else {
-            return Err(Error::Memory);
-        };
-        match String::from_str(self.alloc, row.name()) {
-            Ok(name) if name == self.refused => Err(Error::Other(name)),
-            Ok(name) => Ok(name),
-            Err(AllocError) => Err(Error::Memory),
+        self.note(row.name())?;
+        if row.name() == self.refused {
+            return Err(Error::Other(String::from_str(self.alloc, row.name())?));
+        }
+        if self.is_whole {
+            Ok(row.raw().to_text(self.alloc)?)
+        } else {
+            Ok(String::from_str(self.alloc, row.name())?)
         }
     }
 }
 
-// Saves the rows by their names.
-fn save_names(
-    rt: &impl Abort,
-    alloc: Global,
+pub fn save_lines(
     store: &CookieStore,
+    names: &Names<'_>,
     which: &Which,
-    refused: &str,
     fake: Fake<Vec<u8>>,
 ) -> Saved {
-    let names = Names {
-        alloc,
-        refused: String::from_str(alloc, refused).expect(rt, "memory"),
-        asked: RefCell::new(String::new(alloc)),
-    };
     let mut writer = Counted::new(fake);
     let outcome = match which {
         Which::All => {
@@ -76,13 +73,7 @@ fn save_names(
         }
         Which::At(now) => store.save(&mut writer, |row| names.text_of(row), *now),
     };
-    let Names { asked, .. } = names;
-    Saved {
-        outcome,
-        failures: writer.failures(),
-        written: writer.into_inner().inner,
-        asked: asked.into_inner(),
-    }
+    (outcome, writer.failures(), writer.into_inner())
 }
 
 const FROM: &str = "http://a.com/";
@@ -93,30 +84,37 @@ pub const LASTING: [Came; 3] = [
     (FROM, "c=1; Max-Age=300"),
 ];
 
+// Some rows end after five minutes or after one, one ends with the session, and one has ended.
+const LIVES: [Came; 6] = [
+    ("http://a.com/", "a=1; Max-Age=300"),
+    ("http://b.com/", "b=1; Max-Age=300"),
+    ("http://a.com/", "s=1"),
+    ("http://a.com/", "m=1; Path=/p; Max-Age=60"),
+    ("http://a.com/", "e=1; Max-Age=0"),
+    ("http://b.com/", "c=1; Max-Age=60"),
+];
+
 // The name that is refused, what is written, and the rows whose text is asked for.
-const REFUSED: [(&str, &str, &str); 4] = [
+type Row = (&'static str, &'static str, &'static str);
+
+const REFUSED: [Row; 4] = [
     ("", "a\nb\nc\n", "a\nb\nc\n"),
     ("a", "", "a\n"),
     ("b", "a\n", "a\nb\n"),
     ("c", "a\nb\n", "a\nb\nc\n"),
 ];
 
-fn is_saved(
-    rt: &impl Abort,
-    alloc: Global,
-    store: &CookieStore,
-    which: &Which,
-    row: &(&'static str, &'static str, &'static str),
-) {
+fn is_saved(rt: &impl Abort, alloc: Global, store: &CookieStore, which: &Which, row: &Row) {
     let (refused, written, asked) = *row;
+    let names = Names::new(alloc, false, refused);
     let fake = Fake::new(Vec::new(alloc), usize::MAX, 0);
-    let saved = save_names(rt, alloc, store, which, refused, fake);
-    let wanted = if refused.is_empty() { "done" } else { refused };
-    is_equal(rt, &end_of(&saved.outcome), &wanted, &(row, which));
-    is_equal(rt, &saved.failures, &0, &(row, which));
-    let text = str::from_utf8(saved.written.as_slice()).expect(rt, "UTF-8");
+    let (outcome, failures, fake) = save_lines(store, &names, which, fake);
+    let end = if refused.is_empty() { "done" } else { refused };
+    is_equal(rt, &(end_of(&outcome), failures), &(end, 0), &(row, which));
+    let text = str::from_utf8(fake.inner.as_slice()).expect(rt, "UTF-8");
     is_equal(rt, &text, &written, &(row, which));
-    is_equal(rt, &saved.asked.as_str(), &asked, &(row, which));
+    let names = names.asked.into_inner();
+    is_equal(rt, &names.as_str(), &asked, &(row, which));
 }
 
 #[test]
@@ -127,16 +125,6 @@ fn the_first_refusal_ends_the_saving(rt: HostRuntime) {
         is_saved(&rt, rt.alloc(), &store, &Which::At(new_year()), row);
     }
 }
-
-// Some rows end after five minutes or after one, one ends with the session, and one has ended.
-const LIVES: [Came; 6] = [
-    ("http://a.com/", "a=1; Max-Age=300"),
-    ("http://b.com/", "b=1; Max-Age=300"),
-    ("http://a.com/", "s=1"),
-    ("http://a.com/", "m=1; Path=/p; Max-Age=60"),
-    ("http://a.com/", "e=1; Max-Age=0"),
-    ("http://b.com/", "c=1; Max-Age=60"),
-];
 
 #[test]
 fn rows_are_saved_in_order(rt: HostRuntime) {

@@ -32,16 +32,23 @@ pub fn header(rt: &impl Abort, alloc: Global, cookies: &[&Cookie<'static>]) -> S
 }
 
 // The same of those that the store gives for the URL.
-pub fn given(
-    rt: &impl Abort,
-    alloc: Global,
-    store: &CookieStore,
-    from: &str,
-    now: DateTime,
-) -> String {
+fn given(rt: &impl Abort, alloc: Global, store: &CookieStore, from: &str, now: DateTime) -> String {
     let url = url(rt, alloc, from);
     let cookies = store.matches(&url, now).expect(rt, "memory");
     header(rt, alloc, cookies.as_slice())
+}
+
+// For a URL the store gives this at the moment.
+pub fn are_given(
+    rt: &impl Abort,
+    alloc: Global,
+    store: &CookieStore,
+    wanted: (&str, &str),
+    now: DateTime,
+    row: &impl Debug,
+) {
+    let header = given(rt, alloc, store, wanted.0, now);
+    is_equal(rt, &header.as_str(), &wanted.1, row);
 }
 
 // The same of all rows.
@@ -50,18 +57,25 @@ pub fn all_rows(rt: &impl Abort, alloc: Global, store: &CookieStore) -> String {
     header(rt, alloc, rows.as_slice())
 }
 
-// The domain, the path and the name of a row.
-pub fn key<'a>(row: &'a Cookie<'static>) -> (&'a str, &'a str, &'a str) {
-    let domain = row.domain.as_cow().unwrap_or("");
-    (domain, row.path.as_str(), row.name())
+// The rows of the store have these names and values.
+pub fn are_all(
+    rt: &impl Abort,
+    alloc: Global,
+    store: &CookieStore,
+    wanted: &str,
+    row: &impl Debug,
+) {
+    let rows = all_rows(rt, alloc, store);
+    is_equal(rt, &rows.as_str(), &wanted, row);
 }
 
 // Each row's domain, path and name, parted by a space.
 pub fn listed(rt: &impl Abort, alloc: Global, rows: &[&Cookie<'static>]) -> String {
     let mut listed = String::new(alloc);
     for row in rows {
-        let (domain, path, name) = key(row);
-        add(rt, &mut listed, ", ", &[domain, " ", path, " ", name]);
+        let domain = row.domain.as_cow().unwrap_or("");
+        let words = [domain, " ", row.path.as_str(), " ", row.name()];
+        add(rt, &mut listed, ", ", &words);
     }
     listed
 }

@@ -1,7 +1,7 @@
 use Rattle.std.proofs.Common.{◌≡◌, ◌≢◌, ℕ, true, false, ltb, ◌∷◌, ◌<◌, ◌≤◌, [], List, String, None, arith, length, map, refl, string_bytes}
 use Rattle.std.proofs.lemmas.Bool.Decides.{nat_tests}
 use Rattle.cookie_script.specs.Arguments.{options_of}
-use Rattle.cookie_script.proofs.arguments.options.Goals.{in_default-via-then-words-lt2, in_default-via-else-words-lt2+else-words-lt3+then-words-lt4, in_default-via-else-words-lt2+else-words-lt3+else-words-lt4+else-words-lt5}
+use Rattle.cookie_script.proofs.arguments.options.Goals.{in_default-via-then-words-lt4, in_default-via-else-words-lt4+else-words-lt5}
 use Rattle.cookie_script.proofs.arguments.options.Goals as goal
 
 -- what a test of two numbers tells
@@ -12,27 +12,23 @@ from_test : (n m : ℕ) → ltb n m ≡ false → m ≤ n
 from_test n m t = grind (arith, nat_tests, t)
 
 -- other numbers of words ask for nothing
-other_words : {A : Type 0} (ws : List (String A)) → length ws ≢ 0 → length ws ≢ 2 → length ws ≢ 4 → None ≡ options_of (map string_bytes ws)
-other_words [] zero two four = absurd (zero refl)
-other_words (a ∷ []) zero two four = refl
-other_words (a ∷ b ∷ []) zero two four = absurd (two refl)
-other_words (a ∷ b ∷ c ∷ []) zero two four = refl
-other_words (a ∷ b ∷ c ∷ d ∷ []) zero two four = absurd (four refl)
-other_words (a ∷ b ∷ c ∷ d ∷ e ∷ ws) zero two four = refl
+other_words : {A : Type 0} (ws : List (String A)) → 3 ≤ length ws → length ws ≢ 4 → None ≡ options_of (map string_bytes ws)
+other_words [] more four = absurd (omega arith)
+other_words (a ∷ []) more four = absurd (omega arith)
+other_words (a ∷ b ∷ []) more four = absurd (omega arith)
+other_words (a ∷ b ∷ c ∷ []) more four = refl
+other_words (a ∷ b ∷ c ∷ d ∷ []) more four = absurd (four refl)
+other_words (a ∷ b ∷ c ∷ d ∷ e ∷ ws) more four = refl
 
 pub returns-in_default-clause-value : goal.returns-in_default-clause-value
 returns-in_default-clause-value c =
     let ws = c.args.words.now in
-    let some : 1 ≤ length ws = from_test (length ws) 1 c.if-words-lt1-1.false in
+    let more : 3 ≤ length ws = from_test (length ws) 3 c.if-words-lt3-1.false in
     elim c.in_default.branch [
-      | in_default-via-then-words-lt2 w ↦
-          let few : length ws < 2 = below_test (length ws) 2 w.if-words-lt2-1.true in
-          other_words ws (λ e. omega (arith, e, some)) (λ e. omega (arith, e, few)) (λ e. omega (arith, e, few))
-      | in_default-via-else-words-lt2+else-words-lt3+then-words-lt4 w ↦
-          let more : 3 ≤ length ws = from_test (length ws) 3 w.if-words-lt3-1.false in
+      | in_default-via-then-words-lt4 w ↦
           let few : length ws < 4 = below_test (length ws) 4 w.if-words-lt4-1.true in
-          other_words ws (λ e. omega (arith, e, some)) (λ e. omega (arith, e, more)) (λ e. omega (arith, e, few))
-      | in_default-via-else-words-lt2+else-words-lt3+else-words-lt4+else-words-lt5 w ↦
-          let more : 5 ≤ length ws = from_test (length ws) 5 w.if-words-lt5-1.false in
-          other_words ws (λ e. omega (arith, e, some)) (λ e. omega (arith, e, more)) (λ e. omega (arith, e, more))
+          other_words ws more (λ e. omega (arith, e, few))
+      | in_default-via-else-words-lt4+else-words-lt5 w ↦
+          let many : 5 ≤ length ws = from_test (length ws) 5 w.if-words-lt5-1.false in
+          other_words ws more (λ e. omega (arith, e, many))
     ]

@@ -1,14 +1,9 @@
-use Rattle.std.proofs.Common.{subst}
+use Rattle.std.proofs.lemmas.Result.{err_from_is_err_and}
 use Rattle.cookie_store.specs.JsonLines.{MakesJson}
-use Rattle.cookie_store.proofs.LoadedAlike.{loaded_alike}
+use Rattle.cookie_store.proofs.LoadFaults.{fails_by}
 use Rattle.cookie_store.proofs.json_lines.load_json_rows.Goals as goal
 
-pub returns-clause-built : goal.returns-clause-built
-returns-clause-built g c =
-    (loaded_alike _ _ MakesJson (λ line answer says. subst (λ l. MakesJson l answer) says.shows says.says.met) c.load_rows.result _ _ _ _ _ _ _ _
-    c.load_rows.ensures.failed c.load_rows.ensures.built).1
-
-pub returns-clause-failed : goal.returns-clause-failed
-returns-clause-failed g c =
-    (loaded_alike _ _ MakesJson (λ line answer says. subst (λ l. MakesJson l answer) says.shows says.says.met) c.load_rows.result _ _ _ _ _ _ _ _
-    c.load_rows.ensures.failed c.load_rows.ensures.built).0
+pub returns-in_err-numbered_json_rows-clause-failed : goal.returns-in_err-numbered_json_rows-clause-failed
+returns-in_err-numbered_json_rows-clause-failed g c =
+    let p = err_from_is_err_and c.from_residual.result c.from_residual.ensures.1 in
+    rw (p.1, p.2) (fails_by MakesJson _ _ _ _ _ _ _ c.in_err-numbered_json_rows.ensures.failed)

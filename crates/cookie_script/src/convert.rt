@@ -1,0 +1,41 @@
+//! Lines of JSON, which older programs save, as a list in RON.
+ghost use Rattle.std.specs.Prelude.{◌≡◌, ◌-◌, ◌^◌, ◌<◌, IfErr, OnOk};
+ghost use Rattle.std.specs.Io.KnownBytes.{IsAtEnd};
+ghost use Rattle.cookie_script.specs.Conversion.{Converts, FailsToConvert};
+ghost use Rattle.cookie_script.specs.Faults.{CountsConvertFault};
+ghost use Rattle.cookie_store.specs.Loading.{ReadsEachOnce};
+ghost use Rattle.cookie_store.specs.Migration.{FailsToMigrate};
+
+use crate::fault::ConvertFault;
+use cookie_device::{Sink, Source};
+use cookie_store::Error;
+use cookie_store::serde::{migrate_lines, ron};
+use std::alloc::Global;
+
+/// Reads every line of the source as a saved cookie in JSON, those that have ended too, and writes the rows that they make as a list
+/// in RON, and a line feed. Nothing is written before all lines are read and the whole list is made. Where a write failed, a beginning
+/// of it was written.
+pub fn convert<R: Source, W: Sink>(
+    alloc: Global,
+    source: &mut R,
+    sink: &mut W,
+) -> Result<(), ConvertFault>
+    requires readable { R.failed source.old < 2 ^ 64 - 1 }
+    requires writable { W.failed sink.old < 2 ^ 64 - 1 }
+    ensures whole { OnOk result (Converts (R.remaining source.old) (W.contents sink.old) (W.contents sink.new)) }
+    ensures read { OnOk result (IsAtEnd (R.remaining source.new)) }
+    ensures failed { IfErr result (λ fault. FailsToConvert (λ error. FailsToMigrate error
+        (R.remaining source.old) (R.remaining source.new) (R.failed source.old) (R.failed source.new)
+        (R.reads_left source.old) (R.reads_left source.new))
+        fault (R.remaining source.old) (W.contents sink.old) (W.contents sink.new)) }
+    ensures count { CountsConvertFault result (R.failed source.old) (R.failed source.new) (W.failed sink.old) (W.failed sink.new) }
+    ensures reads { ReadsEachOnce (R.remaining source.old) (R.reads_left source.old) (R.reads_left source.new) }
+{
+    let store = migrate_lines(alloc, source)?;
+    match ron::save_incl_expired_and_nonpersistent(&store, sink) {
+        Ok(()) => Ok(()),
+        Err(Error::Io) => Err(ConvertFault::Write),
+        // Each row has a saved form, so memory was wanting.
+        Err(_) => Err(ConvertFault::Memory),
+    }
+}

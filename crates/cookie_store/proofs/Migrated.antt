@@ -1,0 +1,40 @@
+-- What stops the loading of lines of JSON, told as it is of a migration.
+use Rattle.std.proofs.Common.{◌≡◌, ℕ, List, Option, Ok, Err, inl, inr, refl}
+use Rattle.cookie_device.specs.declared.lines.FillError.TheVariants as Fill
+use Rattle.cookie_parts.specs.declared.error.Error.{Error}
+use Rattle.cookie_parts.specs.declared.error.Error.TheVariants.{Cookie, Idna, Io, Memory, NotUtf8, Other, Saved}
+use Rattle.cookie_store.specs.JsonLines.{MakesJson}
+use Rattle.cookie_store.specs.LoadFault.{StopsLoading}
+use Rattle.cookie_store.specs.Loading.{FailsAtLine, RefusesLine}
+use Rattle.cookie_store.specs.Migration.{migrate_error_of, FailsToMigrate, IsOfJson}
+use Rattle.cookie_store.specs.declared.loading.LoadFault.{LoadFault}
+use Rattle.cookie_store.specs.declared.loading.LoadFault.TheVariants.{Line, Source}
+use Rattle.cookie_store.proofs.LoadFaults.{fails_by}
+
+-- a line where loading fails, but for want of memory, is refused
+refuses : (error : Error) (line : List ℕ) → (error ≡ Memory → ⊥) → FailsAtLine MakesJson error line → RefusesLine IsOfJson error line
+refuses error line other (inl (memory, cookie, made)) = absurd (other memory)
+refuses error line other (inr (inl not_utf8)) = inl not_utf8
+refuses error line other (inr (inr (valid, inl refused))) = inr (valid, refused)
+refuses error line other (inr (inr (valid, inr (memory, some)))) = absurd (other memory)
+
+pub migrates_by : (fault : LoadFault) (known rest : Option (List ℕ)) (failures failures' reads_left reads_left' : ℕ)
+    → StopsLoading MakesJson fault known rest failures failures' reads_left reads_left'
+    → FailsToMigrate (migrate_error_of fault) known rest failures failures' reads_left reads_left'
+migrates_by (Source Fill.Read) known rest failures failures' reads_left reads_left' stops = stops
+migrates_by (Source Fill.Memory) known rest failures failures' reads_left reads_left' stops =
+    (fails_by MakesJson (Source Fill.Memory) known rest failures failures' reads_left reads_left' stops, stops.1)
+migrates_by (Line number Memory) known rest failures failures' reads_left reads_left' stops =
+    (fails_by MakesJson (Line number Memory) known rest failures failures' reads_left reads_left' stops, stops.3)
+migrates_by (Line number (Cookie refusal)) known rest failures failures' reads_left reads_left' (line, fails, reached, count) =
+    ((line, refuses (Cookie refusal) line (λ is. cc) fails, reached), count)
+migrates_by (Line number (Idna errors)) known rest failures failures' reads_left reads_left' (line, fails, reached, count) =
+    ((line, refuses (Idna errors) line (λ is. cc) fails, reached), count)
+migrates_by (Line number Io) known rest failures failures' reads_left reads_left' (line, fails, reached, count) =
+    ((line, refuses Io line (λ is. cc) fails, reached), count)
+migrates_by (Line number (Saved fault)) known rest failures failures' reads_left reads_left' (line, fails, reached, count) =
+    ((line, refuses (Saved fault) line (λ is. cc) fails, reached), count)
+migrates_by (Line number (Other text)) known rest failures failures' reads_left reads_left' (line, fails, reached, count) =
+    ((line, refuses (Other text) line (λ is. cc) fails, reached), count)
+migrates_by (Line number NotUtf8) known rest failures failures' reads_left reads_left' (line, fails, reached, count) =
+    ((line, refuses NotUtf8 line (λ is. cc) fails, reached), count)

@@ -1,0 +1,58 @@
+-- Lines of JSON that are all taken, or read to the first that is refused.
+use Rattle.std.specs.Prelude.{◌≡◌, ℕ, ◌+◌, ◌++◌, true, false, List, map, Option, Result, IfSome, codes, decimal}
+use Rattle.std.specs.List.{list_any}
+use Rattle.cookie_words.specs.Moments.{epoch}
+use Rattle.cookie_forms.specs.WrittenTrees.{is_early}
+use Rattle.cookie_parts.specs.Cookie.{Row}
+use Rattle.cookie_parts.specs.Passage.{saved_of}
+use Rattle.cookie_parts.specs.declared.error.Error.{Error}
+use Rattle.cookie_parts.specs.declared.error.Error.TheVariants as Fault
+use Rattle.cookie_parts.specs.Errors.{fault_text}
+use Rattle.cookie_laws.specs.Rows.{Kept}
+use Rattle.cookie_store.specs.JsonLines.{json_cookie, MakesJson}
+use Rattle.cookie_store.specs.LoadFault.{IsReachedAt}
+use Rattle.cookie_store.specs.Loading.{BuildsFrom, FailsToLoad, RefusesLine, StopsWithinLine}
+use Rattle.cookie_device.specs.declared.lines.FillError.TheVariants as Fill
+use Rattle.cookie_store.specs.declared.loading.LoadFault.{LoadFault}
+use Rattle.cookie_store.specs.declared.loading.LoadFault.TheVariants as Load
+use Rattle.cookie_store.specs.declared.serde.migration.MigrateError.{MigrateError}
+use Rattle.cookie_store.specs.declared.serde.migration.MigrateError.TheVariants.{Line, Io, Memory}
+
+-- why no store was made, where no rows were: memory that ran out at a line is no refusal of it
+abbrev pub migrate_error_of : LoadFault → MigrateError
+migrate_error_of (Load.Source Fill.Read) = Io
+migrate_error_of (Load.Source Fill.Memory) = Memory
+migrate_error_of (Load.Line number Fault.Memory) = Memory
+migrate_error_of (Load.Line number error) = Line number error
+
+-- it in words
+abbrev pub migrate_error_text : MigrateError → List ℕ
+migrate_error_text (Line number error) = codes "line " ++ decimal number ++ codes ": " ++ fault_text error
+migrate_error_text Io = codes "a read failed"
+migrate_error_text Memory = codes "out of memory"
+
+-- rows that are built from all cookies of the lines of a text, where that is known
+abbrev pub Migrates : Option (List ℕ) → Kept → Type 0
+Migrates known kept = BuildsFrom MakesJson known true epoch kept
+
+-- no row ends before the year 0
+abbrev pub HaveSavedForms : List Row → Type 0
+HaveSavedForms rows = list_any is_early (map saved_of rows) ≡ false
+
+-- what is made of a line, want of memory aside: its cookie, or why it has none
+abbrev pub IsOfJson : List ℕ → Result Row Error → Type 0
+IsOfJson line answer = json_cookie line ≡ answer
+
+-- the line of this number is refused so, and none before it is, in the text, where that is known
+abbrev pub RefusesFirst : ℕ → Error → Option (List ℕ) → Type 0
+RefusesFirst number error known =
+    (line : List ℕ) × RefusesLine IsOfJson error line × IsReachedAt MakesJson number line known
+
+-- a line is refused, the first; or a read failed, which raised the count of failures by one; or memory ran out
+abbrev pub FailsToMigrate : MigrateError → Option (List ℕ) → Option (List ℕ) → ℕ → ℕ → ℕ → ℕ → Type 0
+FailsToMigrate (Line number error) known rest failures failures' reads_left reads_left' =
+    RefusesFirst number error known × (failures' ≡ failures)
+FailsToMigrate Io known rest failures failures' reads_left reads_left' =
+    IfSome known (StopsWithinLine MakesJson rest reads_left reads_left') × (failures' ≡ failures + 1)
+FailsToMigrate Memory known rest failures failures' reads_left reads_left' =
+    FailsToLoad MakesJson Fault.Memory known rest failures failures' reads_left reads_left' × (failures' ≡ failures)

@@ -1,0 +1,119 @@
+//! Stores that are put under a limit or another list, copied, or hashed by another key.
+use crate::steps::{INSERTED, Step, UPDATED, list, new_year, take_all};
+use cookie_store::psl::List;
+use cookie_store::{CookieError, CookieStore, HashKey};
+use std::alloc::Global;
+use std::hash::RandomState;
+use std::process::Abort;
+
+// What a store is exchanged for: itself under a limit of one or three, under a list or one of no rule, a copy, itself by a drawn key.
+#[derive(Clone, Copy)]
+enum Change {
+    One,
+    Three,
+    List(&'static str),
+    NoRule,
+    Copy,
+    Key,
+}
+
+const LIST: &str = "com\n*.ck\n!www.ck\n*.www.ck\n";
+
+const FROM: &str = "http://a.com/";
+
+const ONE: [Step; 1] = [Step::Set(FROM, "x=1; Domain=com", INSERTED)];
+
+const OTHER_LIST: [Step; 2] = [
+    Step::Given(FROM, "x=1"),
+    Step::Set(FROM, "x=2; Domain=com", Err(CookieError::PublicSuffix)),
+];
+
+const EMPTY_LIST: [Step; 2] = [
+    Step::Given(FROM, "x=1"),
+    Step::Set(FROM, "x=2; Domain=com", UPDATED),
+];
+
+// Three rows of a domain, before it has a limit.
+const THREE: [Step; 3] = [
+    Step::Set(FROM, "x=1", INSERTED),
+    Step::Set(FROM, "y=1", INSERTED),
+    Step::Set(FROM, "z=1", INSERTED),
+];
+
+// Under a limit of one they stay until a cookie is inserted, and then they all leave.
+const ONE_STANDS: [Step; 8] = [
+    Step::Listed("a.com / x, a.com / y, a.com / z"),
+    Step::Set(FROM, "x=2", UPDATED),
+    Step::Set(FROM, "e=1; Max-Age=0", Err(CookieError::Expired)),
+    Step::Set("http://b.com/", "k=1", INSERTED),
+    Step::Listed("a.com / x, a.com / y, a.com / z, b.com / k"),
+    Step::Set(FROM, "w=1", INSERTED),
+    Step::Listed("b.com / k, a.com / w"),
+    Step::Given(FROM, "w=1"),
+];
+
+// What a row that was made first leaves to the others, under a limit of three.
+const FIRST_LEAVES: [Step; 3] = [
+    Step::Listed("a.com / x, a.com / y, a.com / z"),
+    Step::Set(FROM, "w=1", INSERTED),
+    Step::Listed("a.com / y, a.com / z, a.com / w"),
+];
+
+const KEYED: [Step; 4] = [
+    Step::Listed("a.com / x, a.com / y, a.com / z"),
+    Step::Set(FROM, "x=2", UPDATED),
+    Step::Set("http://b.com/", "k=1", INSERTED),
+    Step::Listed("a.com / x, a.com / y, a.com / z, b.com / k"),
+];
+
+// The steps before the changes, the changes, and the steps after them.
+type Run = (&'static [Step], &'static [Change], &'static [Step]);
+
+static RUNS: [Run; 6] = [
+    (&ONE, &[Change::List(LIST)], &OTHER_LIST),
+    (&ONE, &[Change::List(LIST), Change::NoRule], &EMPTY_LIST),
+    (&THREE, &[Change::One], &ONE_STANDS),
+    (&THREE, &[Change::Three, Change::Copy], &FIRST_LEAVES),
+    (&THREE, &[Change::Three, Change::List("com")], &FIRST_LEAVES),
+    (&THREE, &[Change::Key], &KEYED),
+];
+
+fn keyed(rt: &impl Abort, mut store: CookieStore, key: HashKey) -> CookieStore {
+    store.set_hash_key(key).expect(rt, "memory");
+    store
+}
+
+fn exchanged(
+    rt: &impl Abort,
+    alloc: Global,
+    store: CookieStore,
+    change: Change,
+    key: HashKey,
+) -> CookieStore {
+    match change {
+        Change::One => store.with_domain_limit(1),
+        Change::Three => store.with_domain_limit(3),
+        Change::List(text) => store.with_suffix_list(list(rt, alloc, text)),
+        Change::NoRule => store.with_suffix_list(List::new(alloc)),
+        Change::Copy => store.clone().expect(rt, "memory"),
+        Change::Key => keyed(rt, store, key),
+    }
+}
+
+fn keeps_its_rows(rt: &impl Abort, alloc: Global, run: &Run, key: HashKey) {
+    let (before, changes, after) = *run;
+    let mut store = CookieStore::new_with_public_suffix(alloc, None);
+    take_all(rt, alloc, &mut store, before, new_year());
+    for change in changes {
+        store = exchanged(rt, alloc, store, *change, key);
+    }
+    take_all(rt, alloc, &mut store, after, new_year());
+}
+
+#[test]
+fn a_store_keeps_its_rows(rt: HostRuntime) {
+    let state = RandomState::new(&rt).expect(&rt, "random bytes");
+    for run in &RUNS {
+        keeps_its_rows(&rt, rt.alloc(), run, HashKey::Drawn(state));
+    }
+}

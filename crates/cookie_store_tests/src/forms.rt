@@ -1,0 +1,643 @@
+//! Rows in each form that they are saved in and loaded from.
+use crate::built::{Came, store_of};
+use crate::checks::{end_of, has_the_same_rows, is_equal};
+use crate::json::{fault_of, load_json_from, save_json};
+use crate::lists::{Form, load_list, load_text, save_list, save_text};
+use crate::loaded::{Loaded, Notes, load_lines};
+use crate::saved::{LASTING, Names, Saved, Which, save_lines};
+use crate::steps::new_year;
+use crate::texts::{are_all, are_listed, listed, unexpired, url, value_of};
+use crate::{json, lists, loaded, ron};
+use cookie_fakes::Fake;
+use cookie_store::CookieStore;
+use jiff::civil::date;
+use std::alloc::Global;
+use std::process::Abort;
+use url::Url;
+
+// What rows are saved as: a line of each or one text of all, by functions, lines of JSON, or a list.
+#[derive(Clone, Copy, Debug)]
+pub enum Shape {
+    Lines,
+    Text,
+    JsonLines,
+    List(Form),
+}
+
+pub fn save(
+    alloc: Global,
+    shape: Shape,
+    store: &CookieStore,
+    which: &Which,
+    fake: Fake<Vec<u8>>,
+) -> Saved {
+    match shape {
+        Shape::Lines => save_lines(store, &Names::new(alloc, true, ""), which, fake),
+        Shape::Text => save_text(alloc, store, which, fake),
+        Shape::JsonLines => save_json(store, which, fake),
+        Shape::List(form) => save_list(form, store, which, fake),
+    }
+}
+
+// Lines, and the cookies of a text, came from the URL.
+pub fn load<'a>(
+    alloc: Global,
+    shape: Shape,
+    url: &Url,
+    which: &Which,
+    fake: Fake<&'a [u8]>,
+) -> Loaded<'a> {
+    match shape {
+        Shape::Lines => load_lines(alloc, &Notes::new(alloc, url), which, fake),
+        Shape::Text => load_text(alloc, url, which, fake),
+        Shape::JsonLines => load_json_from(alloc, which, fake),
+        Shape::List(form) => load_list(form, alloc, which, fake),
+    }
+}
+
+pub const FROM: &str = "http://b.a.com/p/q";
+
+pub const CAME: [Came; 2] = [
+    (FROM, "a=1; Max-Age=300"),
+    (FROM, "b=2; Path=/; Domain=a.com; Max-Age=300"),
+];
+
+const LINES: &str = "a=1; Max-Age=300\nb=2; Path=/; Domain=a.com; Max-Age=300\n";
+
+const TEXT: &str = "a=1; Max-Age=300|b=2; Path=/; Domain=a.com; Max-Age=300\n";
+
+const JSON_LINES: &str =
+    r#"{"domain":{"HostOnly":"b.a.com"},"expires":{"AtUtc":"2026-01-01T00:05:00Z"},"path":["/p",false],"raw_cookie":"a=1; Max-Age=300"}
+{"domain":{"Suffix":"a.com"},"expires":{"AtUtc":"2026-01-01T00:05:00Z"},"path":["/",true],"raw_cookie":"b=2; Path=/; Domain=a.com; Max-Age=300"}
+"#;
+
+const JSON: &str = r#"[
+  {
+    "domain": {
+      "HostOnly": "b.a.com"
+    },
+    "expires": {
+      "AtUtc": "2026-01-01T00:05:00Z"
+    },
+    "path": [
+      "/p",
+      false
+    ],
+    "raw_cookie": "a=1; Max-Age=300"
+  },
+  {
+    "domain": {
+      "Suffix": "a.com"
+    },
+    "expires": {
+      "AtUtc": "2026-01-01T00:05:00Z"
+    },
+    "path": [
+      "/",
+      true
+    ],
+    "raw_cookie": "b=2; Path=/; Domain=a.com; Max-Age=300"
+  }
+]
+"#;
+
+const RON: &str = r#"[
+    (
+        raw_cookie: "a=1; Max-Age=300",
+        path: ("/p", false),
+        domain: HostOnly("b.a.com"),
+        expires: AtUtc("2026-01-01T00:05:00Z"),
+    ),
+    (
+        raw_cookie: "b=2; Path=/; Domain=a.com; Max-Age=300",
+        path: ("/", true),
+        domain: Suffix("a.com"),
+        expires: AtUtc("2026-01-01T00:05:00Z"),
+    ),
+]
+"#;
+
+// What they are saved as in each form, all or those that `save` chooses, and loaded from.
+pub type Case = (Shape, &'static str);
+
+pub const IN_JSON: Shape = Shape::List(Form::Json);
+
+pub const IN_RON: Shape = Shape::List(Form::Ron);
+
+pub static CASES: [Case; 5] = [
+    (Shape::Lines, LINES),
+    (Shape::Text, TEXT),
+    (Shape::JsonLines, JSON_LINES),
+    (IN_JSON, JSON),
+    (IN_RON, RON),
+];
+
+// Rows of one URL, two of which have ended.
+const ROWS: [Came; 7] = [
+    (loaded::FROM, "a=1"),
+    (loaded::FROM, "b=2; Domain=b.example.com; Path=/"),
+    (
+        loaded::FROM,
+        "c=3; Path=/p; Secure; HttpOnly; SameSite=Strict",
+    ),
+    (loaded::FROM, "d=4; Domain=example.com; Max-Age=300"),
+    (loaded::FROM, "e=5; Max-Age=0"),
+    (loaded::FROM, "f=6; Expires=Wed, 21 Oct 2015 07:28:00 GMT"),
+    (loaded::FROM, "g=\u{e9}; Path=relative"),
+];
+
+// A cookie that has ended.
+const HAS_ENDED: [Came; 1] = [(
+    "http://test.com/",
+    "1=one; SameSite=None; Secure; Path=/; Expires=Thu, 03 Aug 2000 00:38:37 GMT",
+)];
+
+const LASTS: [Came; 1] = [lists::LASTS];
+
+// A form, cookies that came, and what they are saved as: all, and those that `save` chooses at new year.
+type Written = (Shape, &'static [Came], &'static str, &'static str);
+
+static WRITTEN: [Written; 13] = [
+    (
+        Shape::Lines,
+        &ROWS,
+        "a=1\nc=3; HttpOnly; SameSite=Strict; Secure; Path=/p\ne=5; Max-Age=0\n\
+        f=6; Expires=Wed, 21 Oct 2015 07:28:00 GMT\ng=\u{e9}; Path=relative\nb=2; Path=/; Domain=b.example.com\n\
+        d=4; Domain=example.com; Max-Age=300\n",
+        "d=4; Domain=example.com; Max-Age=300\n",
+    ),
+    (Shape::Lines, &CAME, LINES, LINES),
+    (Shape::JsonLines, &CAME, JSON_LINES, JSON_LINES),
+    (IN_JSON, &CAME, JSON, JSON),
+    (IN_RON, &CAME, RON, RON),
+    (Shape::JsonLines, &json::CAME, json::LINES, json::LASTING),
+    (IN_JSON, &lists::CAME, lists::BOTH, lists::LASTING),
+    (IN_RON, &lists::CAME, ron::BOTH, ron::LASTING),
+    (IN_JSON, &LASTS, lists::LASTING, lists::LASTING),
+    (IN_RON, &LASTS, ron::LASTING, ron::LASTING),
+    (IN_JSON, &HAS_ENDED, lists::ENDED, "[]\n"),
+    (IN_RON, &HAS_ENDED, ron::ENDED, "[]\n"),
+    (IN_RON, &[], "[]\n", "[]\n"),
+];
+
+fn is_saved_as(
+    rt: &impl Abort,
+    alloc: Global,
+    shape: Shape,
+    store: &CookieStore,
+    which: &Which,
+    wanted: (&str, &str),
+) {
+    let fake = Fake::new(Vec::new(alloc), usize::MAX, 0);
+    let (outcome, failures, fake) = save(alloc, shape, store, which, fake);
+    let text = str::from_utf8(fake.inner.as_slice()).expect(rt, "UTF-8");
+    let (end, wanted) = wanted;
+    is_equal(
+        rt,
+        &(end_of(&outcome), failures, text),
+        &(end, 0, wanted),
+        &(shape, which),
+    );
+}
+
+// The store of a text, whose lines came from the URL.
+pub fn loaded(
+    rt: &impl Abort,
+    alloc: Global,
+    shape: Shape,
+    from: &str,
+    which: &Which,
+    text: &str,
+) -> CookieStore {
+    let url = url(rt, alloc, from);
+    let fake = Fake::new(text.as_bytes(), 7, 0);
+    load(alloc, shape, &url, which, fake)
+        .0
+        .expect(rt, "a store")
+}
+
+// Where no cookie came, no line has come from anywhere.
+fn origin(written: &Written) -> &'static str {
+    match written.1.first() {
+        Some((from, _)) => from,
+        None => FROM,
+    }
+}
+
+// All rows load again as they were, and are saved again as they were.
+fn loads_again(rt: &impl Abort, alloc: Global, store: &CookieStore, written: &Written) {
+    let (shape, _, all, _) = *written;
+    let again = loaded(rt, alloc, shape, origin(written), &Which::All, all);
+    has_the_same_rows(rt, &again, store);
+    is_saved_as(rt, alloc, shape, &again, &Which::All, ("done", all));
+}
+
+// Those that have not ended load without the others.
+fn loads_what_lives(rt: &impl Abort, alloc: Global, store: &CookieStore, written: &Written) {
+    let (shape, _, all, _) = *written;
+    let live = unexpired(rt, alloc, store, new_year());
+    let live = listed(rt, alloc, live.as_slice());
+    let which = Which::At(new_year());
+    let again = loaded(rt, alloc, shape, origin(written), &which, all);
+    are_listed(rt, alloc, &again, live.as_str(), &all);
+}
+
+// Nothing is left to be saved when the last one has ended.
+fn is_written(rt: &impl Abort, alloc: Global, store: &CookieStore, written: &Written) {
+    let (shape, _, all, live) = *written;
+    is_saved_as(rt, alloc, shape, store, &Which::All, ("done", all));
+    is_saved_as(
+        rt,
+        alloc,
+        shape,
+        store,
+        &Which::At(new_year()),
+        ("done", live),
+    );
+    let later = Which::At(date(2100, 8, 4).at(0, 0, 0, 0));
+    let none = if let Shape::List(_) = shape {
+        "[]\n"
+    } else {
+        ""
+    };
+    is_saved_as(rt, alloc, shape, store, &later, ("done", none));
+}
+
+#[test]
+fn what_is_saved_loads_again(rt: HostRuntime) {
+    for written in &WRITTEN {
+        let store = store_of(&rt, rt.alloc(), written.1);
+        is_written(&rt, rt.alloc(), &store, written);
+        loads_again(&rt, rt.alloc(), &store, written);
+        loads_what_lives(&rt, rt.alloc(), &store, written);
+    }
+}
+
+const LASTING_TEXT: &str = "a=1; Max-Age=300|b=1; Max-Age=300|c=1; Max-Age=300\n";
+
+#[test]
+fn a_function_says_all_rows_at_once(rt: HostRuntime) {
+    let store = store_of(&rt, rt.alloc(), &LASTING);
+    let later = date(2026, 1, 1).at(0, 5, 0, 0);
+    for (which, wanted) in &[
+        (Which::All, ("done", LASTING_TEXT)),
+        (Which::At(new_year()), ("done", LASTING_TEXT)),
+        (Which::At(later), ("no cookies", "")),
+    ] {
+        is_saved_as(&rt, rt.alloc(), Shape::Text, &store, which, *wanted);
+    }
+}
+
+// Lines or a text, and the rows that they load as: at once, after a minute, and where all are kept.
+type Kept = (
+    Shape,
+    &'static str,
+    &'static str,
+    &'static str,
+    &'static str,
+);
+
+static KEPT: [Kept; 8] = [
+    (Shape::Lines, "", "", "", ""),
+    (
+        Shape::Lines,
+        "a=1\nb=2\na=3\n",
+        "a=3; b=2",
+        "a=3; b=2",
+        "a=3; b=2",
+    ),
+    (Shape::Lines, "a=1; Max-Age=0\n", "", "", "a=1"),
+    (Shape::Lines, "a=1\na=2; Max-Age=0\n", "a=1", "a=1", "a=2"),
+    (Shape::Lines, "a=1; Max-Age=0\na=2\n", "a=2", "a=2", "a=2"),
+    (
+        Shape::Lines,
+        "a=1\nb=2; Max-Age=60\n",
+        "a=1; b=2",
+        "a=1",
+        "a=1; b=2",
+    ),
+    (Shape::Lines, "a=1\na=2; Max-Age=60\n", "a=2", "a=1", "a=2"),
+    (
+        Shape::Text,
+        "a=1|b=2;Max-Age=0|c=3|a=4",
+        "a=4; c=3",
+        "a=4; c=3",
+        "a=4; b=2; c=3",
+    ),
+];
+
+fn are_kept(rt: &impl Abort, alloc: Global, kept: &Kept, which: &Which, wanted: &str) {
+    let store = loaded(rt, alloc, kept.0, FROM, which, kept.1);
+    are_all(rt, alloc, &store, wanted, &kept.1);
+}
+
+#[test]
+fn cookies_that_have_ended_are_passed_over(rt: HostRuntime) {
+    let later = Which::At(date(2026, 1, 1).at(0, 1, 0, 0));
+    for kept in &KEPT {
+        are_kept(&rt, rt.alloc(), kept, &Which::At(new_year()), kept.2);
+        are_kept(&rt, rt.alloc(), kept, &later, kept.3);
+        are_kept(&rt, rt.alloc(), kept, &Which::All, kept.4);
+    }
+}
+
+// Bytes of one form that are none of another, and what they are refused for.
+const LINE: [(&[u8], &str); 1] = [(
+    br#"{"domain":"Empty","expires":"SessionEnd","path":["/",true],"raw_cookie":"a=1"}"#,
+    "another shape",
+)];
+
+const LIST: [(&[u8], &str); 1] = [(
+    br#"[
+  {
+    "domain": {
+      "HostOnly": "test.com"
+    },
+    "expires": {
+      "AtUtc": "2100-08-03T00:38:37Z"
+    },
+    "path": [
+      "/",
+      true
+    ],
+    "raw_cookie": "2=two; SameSite=None; Secure; Path=/; Expires=Tue, 03 Aug 2100 00:38:37 GMT"
+  }
+]
+"#,
+    "no JSON",
+)];
+
+const TEXTS: [(&[u8], &str); 2] = [(b"a=1|b", "no cookie"), (b"a=1\xff", "no UTF-8")];
+
+// By what fault loading the bytes ends.
+fn is_refused(
+    rt: &impl Abort,
+    alloc: Global,
+    shape: Shape,
+    which: &Which,
+    bytes: &[u8],
+    wanted: &str,
+) {
+    let url = url(rt, alloc, FROM);
+    let fake = Fake::new(bytes, 9, 0);
+    let (outcome, failures, _) = load(alloc, shape, &url, which, fake);
+    is_equal(
+        rt,
+        &(fault_of(&outcome), failures),
+        &(wanted, 0),
+        &(shape, which, bytes),
+    );
+}
+
+#[test]
+fn what_is_not_of_the_form_is_refused(rt: HostRuntime) {
+    let tables: [(Shape, &[(&[u8], &str)]); 6] = [
+        (Shape::JsonLines, &json::REFUSED),
+        (IN_JSON, &lists::REFUSED),
+        (IN_RON, &ron::REFUSED),
+        (IN_JSON, &LINE),
+        (Shape::JsonLines, &LIST),
+        (Shape::Text, &TEXTS),
+    ];
+    for (shape, table) in &tables {
+        for (bytes, wanted) in *table {
+            is_refused(&rt, rt.alloc(), *shape, &Which::All, bytes, wanted);
+            is_refused(
+                &rt,
+                rt.alloc(),
+                *shape,
+                &Which::At(new_year()),
+                bytes,
+                wanted,
+            );
+        }
+    }
+}
+
+// A form, an opening and a closing, how many of each come, and what they are refused for: no text drives a reader deep.
+static DEEP: [(Form, &str, &str, usize, &str); 4] = [
+    (Form::Json, "[", "]", 200, "no JSON"),
+    (Form::Ron, "[", "", 50_000, "no RON"),
+    (Form::Ron, "(", "", 50_000, "no RON"),
+    (Form::Ron, "[(", "", 50_000, "no RON"),
+];
+
+fn nested(rt: &impl Abort, alloc: Global, opening: &str, closing: &str, count: usize) -> String {
+    let mut text = opening.repeat(alloc, count).expect(rt, "memory");
+    let closing = closing.repeat(alloc, count).expect(rt, "memory");
+    text.push_str(closing.as_str()).expect(rt, "memory");
+    text
+}
+
+#[test]
+fn no_list_nests_deep(rt: HostRuntime) {
+    for (form, opening, closing, count, wanted) in &DEEP {
+        let text = nested(&rt, rt.alloc(), opening, closing, *count);
+        let bytes = text.as_bytes();
+        for which in &[Which::All, Which::At(new_year())] {
+            let shape = Shape::List(*form);
+            is_refused(&rt, rt.alloc(), shape, which, bytes, wanted);
+        }
+    }
+}
+
+// Each proper front of a list is refused, but for the one that lacks the line feed alone.
+#[test]
+fn a_list_that_is_cut_off_is_refused(rt: HostRuntime) {
+    let lists = [
+        (IN_JSON, lists::BOTH, "no JSON"),
+        (IN_RON, ron::BOTH, "no RON"),
+    ];
+    for (shape, text, fault) in &lists {
+        let bytes = text.as_bytes();
+        for length in 0..bytes.len() {
+            let is_whole = length.saturating_add(1) == bytes.len();
+            let wanted = if is_whole { "none" } else { fault };
+            let front = &bytes[..length];
+            is_refused(&rt, rt.alloc(), *shape, &Which::All, front, wanted);
+        }
+    }
+}
+
+// The front of a text of lines, cut off behind so many bytes, is cut off within an object.
+fn ends_within_an_object(bytes: &[u8], length: usize) -> bool {
+    let (front, rest) = bytes.split_at(length.min(bytes.len()));
+    !front.is_empty() && !front.ends_with(b"\n") && !rest.starts_with(b"\n")
+}
+
+// The rows are those of the cookies that came first.
+fn has_first_rows(rt: &impl Abort, alloc: Global, front: &str) {
+    let count = front.lines().count().min(json::CAME.len());
+    let same = store_of(rt, alloc, &json::CAME[..count]);
+    let store = loaded(rt, alloc, Shape::JsonLines, FROM, &Which::All, front);
+    has_the_same_rows(rt, &store, &same);
+}
+
+// A front of the lines that ends within an object is no JSON; any other one loads as the objects that it holds, the last one
+// also without its line feed.
+#[test]
+fn lines_that_are_cut_off_within_an_object_are_refused(rt: HostRuntime) {
+    let bytes = json::LINES.as_bytes();
+    for length in 0..bytes.len() {
+        let front = &bytes[..length];
+        if ends_within_an_object(bytes, length) {
+            is_refused(
+                &rt,
+                rt.alloc(),
+                Shape::JsonLines,
+                &Which::All,
+                front,
+                "no JSON",
+            );
+        } else {
+            let front = str::from_utf8(front).expect(&rt, "ASCII");
+            has_first_rows(&rt, rt.alloc(), front);
+        }
+    }
+}
+
+// A list as Rust's crate writes it, with its members in the order of their declaration.
+const TEN: &str = r#"[
+  {
+    "raw_cookie": "sid=31d4d96e407aad42; Path=/; Domain=example.com; Secure; HttpOnly",
+    "path": [
+      "/",
+      true
+    ],
+    "domain": {
+      "Suffix": "example.com"
+    },
+    "expires": "SessionEnd"
+  },
+  {
+    "raw_cookie": "lang=en-US; Path=/; Domain=example.com",
+    "path": [
+      "/",
+      true
+    ],
+    "domain": {
+      "Suffix": "example.com"
+    },
+    "expires": {
+      "AtUtc": "2101-06-09T10:18:14Z"
+    }
+  },
+  {
+    "raw_cookie": "cart=\"2 items\"; Path=/shop",
+    "path": [
+      "/shop",
+      true
+    ],
+    "domain": {
+      "HostOnly": "www.example.com"
+    },
+    "expires": {
+      "AtUtc": "2100-01-01T00:00:00.25Z"
+    }
+  },
+  {
+    "raw_cookie": "seen=1",
+    "path": [
+      "/shop/new",
+      false
+    ],
+    "domain": {
+      "HostOnly": "www.example.com"
+    },
+    "expires": {
+      "AtUtc": "2000-02-29T23:59:59Z"
+    }
+  },
+  {
+    "raw_cookie": "theme=d\u00e4mmrig",
+    "path": [
+      "/",
+      false
+    ],
+    "domain": {
+      "HostOnly": "www.example.com"
+    },
+    "expires": "SessionEnd"
+  },
+  {
+    "raw_cookie": "a=1; SameSite=None; Secure",
+    "path": [
+      "/",
+      false
+    ],
+    "domain": {
+      "HostOnly": "127.0.0.1"
+    },
+    "expires": {
+      "AtUtc": "9999-12-31T23:59:59Z"
+    }
+  },
+  {
+    "raw_cookie": "b=",
+    "path": [
+      "/",
+      false
+    ],
+    "domain": {
+      "HostOnly": "[::1]"
+    },
+    "expires": {
+      "AtUtc": "1970-01-01T00:00:00Z"
+    }
+  },
+  {
+    "raw_cookie": "c=\\; Path=/x",
+    "path": [
+      "/x",
+      true
+    ],
+    "domain": {
+      "Suffix": "xn--bcher-kva.example"
+    },
+    "expires": "SessionEnd"
+  },
+  {
+    "raw_cookie": "d=4",
+    "path": [
+      "/",
+      false
+    ],
+    "domain": "NotPresent",
+    "expires": "SessionEnd"
+  },
+  {
+    "raw_cookie": "lang=de; Path=/; Domain=example.com",
+    "path": [
+      "/",
+      true
+    ],
+    "domain": {
+      "Suffix": "example.com"
+    },
+    "expires": {
+      "AtUtc": "2101-06-09T10:18:15Z"
+    }
+  }
+]
+"#;
+
+// The rows of all of them, and of those that have not ended. What came last for a key stands in the place of the first.
+const LISTED: [&str; 2] = [
+    "example.com / sid, example.com / lang, www.example.com /shop cart, www.example.com /shop/new seen, \
+    www.example.com / theme, 127.0.0.1 / a, [::1] / b, xn--bcher-kva.example /x c,  / d",
+    "example.com / sid, example.com / lang, www.example.com /shop cart, www.example.com / theme, 127.0.0.1 / a, \
+    xn--bcher-kva.example /x c,  / d",
+];
+
+fn are_the_ten(rt: &impl Abort, alloc: Global, which: &Which, wanted: &str) {
+    let store = loaded(rt, alloc, IN_JSON, FROM, which, TEN);
+    are_listed(rt, alloc, &store, wanted, which);
+    let value = value_of(store.get_any("example.com", "/", "lang"));
+    is_equal(rt, &value, &Some("de"), which);
+}
+
+#[test]
+fn a_list_of_the_rust_crate_is_loaded(rt: HostRuntime) {
+    are_the_ten(&rt, rt.alloc(), &Which::All, LISTED[0]);
+    are_the_ten(&rt, rt.alloc(), &Which::At(new_year()), LISTED[1]);
+}
