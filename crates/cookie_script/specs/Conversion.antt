@@ -1,6 +1,6 @@
 -- Lines of JSON that are converted into a list in RON.
 use Rattle.std.specs.Prelude.{◌≡◌, ◌⊎◌, ℕ, List, Option, Ok, Err}
-use Rattle.std.specs.Io.KnownBytes.{Keeps}
+use Rattle.std.specs.Io.KnownBytes.{IsAtEnd, Keeps}
 use Rattle.std.specs.declared.alloc.Global.{Global}
 use Rattle.std.specs.declared.string.String.{String}
 use Rattle.cookie_device.specs.Device.{AppendsBeginning}
@@ -26,14 +26,16 @@ BeginsConversion known old new =
     (kept : Kept) × Migrates known kept × (text : String Global) × SaysRonList kept.rows (Ok text)
     × AppendsBeginning old new (line_text text)
 
--- there are rows, and they have a list, for which memory was wanting
+-- rows are built from the lines, none of which is refused, and memory was wanting for their list
 abbrev pub WantsRoomForList : Option (List ℕ) → Type 0
 WantsRoomForList known = (kept : Kept) × Migrates known kept × SaysRonList kept.rows (Err Store.Memory)
 
--- Unless a write failed, nothing was written: no store was made of the lines, as a read failed, memory ran out, or this line is the
--- first that is refused, or one was made.
-abbrev pub FailsToConvert : (MigrateError → Type 0) → ConvertFault → Option (List ℕ) → Option (List ℕ) → Option (List ℕ) → Type 0
-FailsToConvert makes_none Read known old new = makes_none Migrate.Io × Keeps old new
-FailsToConvert makes_none Write known old new = BeginsConversion known old new
-FailsToConvert makes_none Memory known old new = (makes_none Migrate.Memory ⊎ WantsRoomForList known) × Keeps old new
-FailsToConvert makes_none (BadLine number) known old new = ((error : Error) × makes_none (Migrate.Line number error)) × Keeps old new
+-- Unless a write failed, nothing was written. No store was made of the lines, because a read failed, memory ran out or this line is the
+-- first that is refused; or all was read and one was made, and memory was wanting for its list.
+abbrev pub FailsToConvert : (MigrateError → Type 0) → ConvertFault → Option (List ℕ) → Option (List ℕ) → Option (List ℕ) → Option (List ℕ) → Type 0
+FailsToConvert no_store_for Read known rest old new = no_store_for Migrate.Io × Keeps old new
+FailsToConvert no_store_for Write known rest old new = IsAtEnd rest × BeginsConversion known old new
+FailsToConvert no_store_for Memory known rest old new =
+    (no_store_for Migrate.Memory ⊎ (IsAtEnd rest × WantsRoomForList known)) × Keeps old new
+FailsToConvert no_store_for (BadLine number) known rest old new =
+    ((error : Error) × no_store_for (Migrate.Line number error)) × Keeps old new

@@ -27,7 +27,7 @@ pub fn convert<R: Source, W: Sink>(
     ensures failed { IfErr result (λ fault. FailsToConvert (λ error. FailsToMigrate error
         (R.remaining source.old) (R.remaining source.new) (R.failed source.old) (R.failed source.new)
         (R.reads_left source.old) (R.reads_left source.new))
-        fault (R.remaining source.old) (W.contents sink.old) (W.contents sink.new)) }
+        fault (R.remaining source.old) (R.remaining source.new) (W.contents sink.old) (W.contents sink.new)) }
     ensures count { CountsConvertFault result (R.failed source.old) (R.failed source.new) (W.failed sink.old) (W.failed sink.new) }
     ensures reads { ReadsEachOnce (R.remaining source.old) (R.reads_left source.old) (R.reads_left source.new) }
 {

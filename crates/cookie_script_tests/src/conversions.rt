@@ -1,21 +1,23 @@
 //! Lines of JSON that are converted into a list in RON.
-use cookie_device::Counted;
+use cookie_device::{Counted, Sink, Source};
 use cookie_fakes::Fake;
 use cookie_script::convert::convert;
 use cookie_script::fault::ConvertFault;
 use std::alloc::Global;
+use std::fmt::Debug;
 use std::process::Abort;
 
-// How the conversion ended, and the writer.
+// How the conversion ended, how many reads and writes failed, and the writer.
 fn converted(
     alloc: Global,
     reader: Fake<&[u8]>,
     writer: Fake<Vec<u8>>,
-) -> (Result<(), ConvertFault>, Fake<Vec<u8>>) {
+) -> (Result<(), ConvertFault>, (u64, u64), Fake<Vec<u8>>) {
     let mut source = Counted::new(reader);
     let mut sink = Counted::new(writer);
     let outcome = convert(alloc, &mut source, &mut sink);
-    (outcome, sink.into_inner())
+    let failures = (source.failures(), sink.failures());
+    (outcome, failures, sink.into_inner())
 }
 
 const LINE: &[u8] =
@@ -37,7 +39,7 @@ const LIST: &str = r#"[
 "#;
 
 // Lines, how their conversion ends, and what is written.
-const CASES: [(&[u8], Result<(), ConvertFault>, &str); 5] = [
+static CASES: [(&[u8], Result<(), ConvertFault>, &str); 5] = [
     (LINE, Ok(()), LIST),
     (TWICE, Ok(()), LIST),
     (b"", Ok(()), "[]\n"),
@@ -57,14 +59,11 @@ const CASES: [(&[u8], Result<(), ConvertFault>, &str); 5] = [
     ),
 ];
 
-// It ended so, with this text written.
-fn has_ended(
-    rt: &impl Abort,
-    ended: (Result<(), ConvertFault>, &[u8]),
-    wanted: (Result<(), ConvertFault>, &[u8]),
-    case: usize,
-) {
-    assert_eq!(rt; ended, wanted, "at {case}");
+// It ended so, with this text written and so many failures.
+type Ended<'a> = (Result<(), ConvertFault>, &'a [u8], (u64, u64));
+
+fn has_ended(rt: &impl Abort, ended: Ended<'_>, wanted: Ended<'_>, row: &impl Debug) {
+    assert_eq!(rt; ended, wanted, "at {row:?}");
 }
 
 fn is_converted(
@@ -73,14 +72,9 @@ fn is_converted(
     case: &(&'static [u8], Result<(), ConvertFault>, &'static str),
 ) {
     let ample = Fake::new(Vec::new(alloc), usize::MAX, 0);
-    let (outcome, writer) = converted(alloc, Fake::new(case.0, usize::MAX, 0), ample);
-    let written = writer.inner.as_slice();
-    has_ended(
-        rt,
-        (outcome, written),
-        (case.1, case.2.as_bytes()),
-        case.0.len(),
-    );
+    let (outcome, failures, writer) = converted(alloc, Fake::new(case.0, usize::MAX, 0), ample);
+    let ended = (outcome, writer.inner.as_slice(), failures);
+    has_ended(rt, ended, (case.1, case.2.as_bytes(), (0, 0)), &case.0);
 }
 
 #[test]
@@ -90,25 +84,40 @@ fn lines_become_a_list(rt: HostRuntime) {
     }
 }
 
-// Whether no read failed. Where one did, nothing is written.
+// A conversion that meets no failure writes the list.
+fn whole() -> Ended<'static> {
+    (Ok(()), LIST.as_bytes(), (0, 0))
+}
+
+// Whether no read, of few bytes, failed. Where one did, nothing is written.
 fn is_read_whole(rt: &impl Abort, alloc: Global, fails_at: usize) -> bool {
     let ample = Fake::new(Vec::new(alloc), usize::MAX, 0);
-    let (outcome, writer) = converted(alloc, Fake::new(TWICE, 7, fails_at), ample);
-    let is_whole = outcome.is_ok();
+    let (outcome, failures, writer) = converted(alloc, Fake::new(TWICE, 7, fails_at), ample);
+    let is_whole = failures == (0, 0);
     let wanted = if is_whole {
-        (Ok(()), LIST.as_bytes())
+        whole()
     } else {
-        (Err(ConvertFault::Read), b"".as_slice())
+        (Err(ConvertFault::Read), b"".as_slice(), (1, 0))
     };
-    has_ended(rt, (outcome, writer.inner.as_slice()), wanted, fails_at);
+    has_ended(
+        rt,
+        (outcome, writer.inner.as_slice(), failures),
+        wanted,
+        &fails_at,
+    );
     is_whole
+}
+
+// The call that was to fail came, at least once.
+fn has_failed_once(rt: &impl Abort, fails_at: usize) {
+    assert!(rt; fails_at > 1);
 }
 
 #[test]
 fn a_failed_read_ends_the_conversion(rt: HostRuntime) {
     for fails_at in 1..1_000 {
         if is_read_whole(&rt, rt.alloc(), fails_at) {
-            return;
+            return has_failed_once(&rt, fails_at);
         }
     }
     panic!(rt; "reading has no end");
@@ -117,15 +126,20 @@ fn a_failed_read_ends_the_conversion(rt: HostRuntime) {
 // Whether no write, of one byte, failed. Where one did, what was written before is a beginning.
 fn is_written_whole(rt: &impl Abort, alloc: Global, fails_at: usize) -> bool {
     let failing = Fake::new(Vec::new(alloc), 1, fails_at);
-    let (outcome, writer) = converted(alloc, Fake::new(TWICE, usize::MAX, 0), failing);
-    let is_whole = outcome.is_ok();
+    let (outcome, failures, writer) = converted(alloc, Fake::new(TWICE, usize::MAX, 0), failing);
+    let is_whole = failures == (0, 0);
     let written = LIST.as_bytes().get(..fails_at.saturating_sub(1));
     let wanted = if is_whole {
-        (Ok(()), LIST.as_bytes())
+        whole()
     } else {
-        (Err(ConvertFault::Write), written.unwrap_or(b""))
+        (Err(ConvertFault::Write), written.unwrap_or(b""), (0, 1))
     };
-    has_ended(rt, (outcome, writer.inner.as_slice()), wanted, fails_at);
+    has_ended(
+        rt,
+        (outcome, writer.inner.as_slice(), failures),
+        wanted,
+        &fails_at,
+    );
     is_whole
 }
 
@@ -133,7 +147,7 @@ fn is_written_whole(rt: &impl Abort, alloc: Global, fails_at: usize) -> bool {
 fn a_failed_write_ends_the_conversion(rt: HostRuntime) {
     for fails_at in 1..1_000 {
         if is_written_whole(&rt, rt.alloc(), fails_at) {
-            return;
+            return has_failed_once(&rt, fails_at);
         }
     }
     panic!(rt; "writing has no end");

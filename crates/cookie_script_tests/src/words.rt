@@ -11,7 +11,7 @@ use std::test::Fail;
 type Asked = (Option<&'static str>, Option<usize>, bool);
 
 // Words, and what they ask for, or None where they are bad.
-const WORDS: [(&[&str], Option<Asked>); 38] = [
+static WORDS: [(&[&str], Option<Asked>); 38] = [
     (&[], Some((None, None, false))),
     (
         &["--suffixes", "list.dat"],
@@ -153,7 +153,7 @@ fn what_cannot_be_read_is_a_fault(rt: HostRuntime) {
     }
 }
 
-const FAULTS: [(MainFault, u8, &str); 10] = [
+static FAULTS: [(MainFault, u8, &str); 10] = [
     (MainFault::BadArguments, 2, "cookie_jar: bad arguments"),
     (MainFault::CannotReadList, 2, "cookie_jar: cannot read list"),
     (MainFault::BadRule(17), 2, "cookie_jar: bad rule in line 17"),
