@@ -1,0 +1,58 @@
+-- Buffers that are filled from their front on.
+use Rattle.std.proofs.Common.{◌≡◌, ℕ, suc, ◌+◌, ◌≤◌, ◌<◌, List, [], ◌∷◌, ◌++◌, ap, append_assoc, append-nil, arith, drop, flat_map, get_or, length, length-append, map, set, refl, subst, sym, take, ◌∙◌}
+use Rattle.std.proofs.Math.Seq.{set-append_seam, take-suc}
+use Rattle.std.proofs.lemmas.Grind.{flat_map-append}
+use Rattle.std.proofs.lemmas.List.{drop_more, length-map, map-append, take-append-drop}
+use Rattle.cookie_store_c.specs.Buffers.{Stands, at_front}
+
+module _ {A : Type 0} (f : A → List ℕ) (items : List A) where
+  -- the texts of the first items, and of one more
+  pub next_text : (i : ℕ) (d : A) (text : List ℕ) → i < length items → text ≡ f (get_or items i d)
+      → flat_map f (take (i + 1) items) ≡ flat_map f (take i items) ++ text
+  next_text i d text small is =
+      let next : i + 1 ≡ suc i = omega arith in
+      ap (λ n. flat_map f (take n items)) next ∙ ap (flat_map f) (take-suc items i d small)
+      ∙ flat_map-append f (take i items) (get_or items i d ∷ [])
+      ∙ ap (λ last. flat_map f (take i items) ++ last) (append-nil (f (get_or items i d)) ∙ sym is)
+
+  -- the texts of the first items and of the others
+  parts : (i : ℕ) → length (flat_map f items) ≡ length (flat_map f (take i items)) + length (flat_map f (drop i items))
+  parts i =
+      ap (λ all. length (flat_map f all)) (sym (take-append-drop i items))
+      ∙ ap length (flat_map-append f (take i items) (drop i items))
+      ∙ length-append (flat_map f (take i items)) (flat_map f (drop i items))
+
+  -- the text of one more fits with all
+  pub fits : (i n : ℕ) (d : A) → i < length items → n ≡ length (f (get_or items i d))
+      → length (flat_map f (take i items)) + n ≤ length (flat_map f items)
+  fits i n d small is =
+      let next = ap length (next_text i d (f (get_or items i d)) small refl)
+      ∙ length-append (flat_map f (take i items)) (f (get_or items i d)) in
+      omega (arith, parts (i + 1), next, is)
+
+-- a front that grew twice
+pub stands_more : (front a b both before buffer : List ℕ) (place : ℕ) → both ≡ a ++ b → Stands ((front ++ a) ++ b) before buffer place
+    → Stands (front ++ both) before buffer place
+stands_more front a b both before buffer place e h =
+    subst (λ text. Stands text before buffer place) (append_assoc front a b ∙ ap (λ text. front ++ text) (sym e)) h
+
+-- a front that grew by an item
+pub filled_more : {T : Type 0} (front before : List T) (item : T) → length front < length before
+    → set (at_front front before) (length front) item ≡ at_front (front ++ item ∷ []) before
+filled_more front before item small =
+    let n : length (front ++ item ∷ []) ≡ length front + 1 = length-append front (item ∷ []) in
+    ap (λ rest. set (front ++ rest) (length front) item) (drop_more before (length front) item small)
+    ∙ set-append_seam front (get_or before (length front) item) (drop (length front + 1) before) item
+    ∙ sym (append_assoc front (item ∷ []) (drop (length (front ++ item ∷ [])) before)
+    ∙ ap (λ k. front ++ item ∷ drop k before) n)
+
+-- what is told of items, and of one more
+pub filled_next : {A T : Type 0} (tell : A → T) (seen : List A) (item : A) (before buffer : List T) (place : ℕ) (told : T)
+    → buffer ≡ at_front (map tell seen) before → place ≡ length seen → length seen < length before → told ≡ tell item
+    → set buffer place told ≡ at_front (map tell (seen ++ item ∷ [])) before
+filled_next tell seen item before buffer place told filled at small is =
+    let front = map tell seen in
+    let as_many : length front ≡ length seen = length-map seen tell in
+    ap (λ xs. set xs place told) filled ∙ ap (λ n. set (at_front front before) n told) (at ∙ sym as_many)
+    ∙ ap (set (at_front front before) (length front)) is ∙ filled_more front before (tell item) (omega (arith, as_many, small))
+    ∙ ap (λ xs. at_front xs before) (sym (map-append tell seen (item ∷ [])))

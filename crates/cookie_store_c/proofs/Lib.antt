@@ -1,0 +1,8 @@
+mod Seconds
+mod SlotSteps
+mod StoreBox
+mod StoreGlue
+mod Filling
+mod Headers
+mod Loading
+mod Passing

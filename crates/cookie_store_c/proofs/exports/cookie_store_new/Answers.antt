@@ -1,0 +1,7 @@
+use Rattle.std.proofs.Common.{inl}
+use Rattle.cookie_store_c.specs.declared.status.Status.TheVariants.{HasStore}
+use Rattle.cookie_store_c.proofs.exports.cookie_store_new.Goals as goal
+
+pub returns-in-Some : goal.returns-in-Some
+returns-in-Some c =
+    (HasStore, c.code.ensures, rw (← c.in-Some.ensures.taken) (inl (λ i. record { status = HasStore; store = c.put.ensures i })))

@@ -1,0 +1,56 @@
+-- What programs in C hand over: texts, moments and URLs, or the status of what is none.
+use Rattle.std.specs.Prelude.{◌≡◌, ◌⊎◌, ℕ, ◌&&◌, List, None, Result, Ok, Err, if◌then◌else◌, ℤ, pos, ◌-ℤ◌, ◌*ℤ◌, int_le}
+use Rattle.std.specs.Result.{result_map_both}
+use Rattle.std.specs.Str.{is_utf8}
+use Rattle.url.specs.Parser.{parse_url}
+use Rattle.url.specs.Parts.{Parts}
+use Rattle.cookie_words.specs.Moments.{Moment, moment_at}
+use Rattle.cookie_parts.specs.Cookie.{and_then}
+use Rattle.cookie_laws.specs.Rows.{key_at}
+use Rattle.cookie_laws.specs.Runs.{Call, Set, Remove}
+use Rattle.cookie_store_c.specs.declared.status.Status.{Status}
+use Rattle.cookie_store_c.specs.declared.status.Status.TheVariants.{NoMemory, BadUrl, NotUtf8, BadMoment}
+
+-- a text, in UTF-8
+abbrev pub text_in : List ℕ → Result (List ℕ) Status
+text_in bytes = if is_utf8 bytes then Ok bytes else Err NotUtf8
+
+-- the first and the last second of the years -9999 to 9999, counted from the epoch
+abbrev pub first_second : ℤ
+first_second = pos 0 -ℤ pos 377_705_116_800
+
+abbrev pub last_second : ℤ
+last_second = pos 253_402_300_799
+
+-- the moment so many seconds from the epoch, of those years
+abbrev pub moment_in : ℤ → Result Moment Status
+moment_in seconds =
+    if int_le first_second seconds && int_le seconds last_second then Ok (moment_at (seconds *ℤ pos 1_000_000_000))
+    else Err BadMoment
+
+-- the URL that a text writes
+unfoldable pub url_in : List ℕ → Result Parts Status
+url_in text = result_map_both (λ url. url) (λ _. BadUrl) (parse_url None text)
+
+-- a URL's text and a moment
+abbrev pub look : List ℕ → ℤ → Result (List ℕ × Moment) Status
+look url now = and_then (text_in url) (λ url. and_then (moment_in now) (λ now. Ok (url, now)))
+
+-- a URL and a moment
+abbrev pub request : List ℕ → ℤ → Result (Parts × Moment) Status
+request url now = and_then (look url now) (λ look. and_then (url_in look.0) (λ url. Ok (url, look.1)))
+
+-- a Set-Cookie text that came from a URL at a moment
+abbrev pub set_call : List ℕ → List ℕ → ℤ → Result Call Status
+set_call url text now =
+    and_then (text_in text) (λ text. and_then (request url now) (λ request. Ok (Set text request.0 request.1)))
+
+-- the cookie of a domain, a path and a name is to go
+abbrev pub remove_call : List ℕ → List ℕ → List ℕ → Result Call Status
+remove_call domain path name =
+    and_then (text_in domain) (λ domain. and_then (text_in path) (λ path. and_then (text_in name) (λ name.
+    Ok (Remove (key_at domain path name)))))
+
+-- a result, unless memory ran out
+abbrev pub Gives : {T : Type 0} → Result T Status → Result T Status → Type 0
+Gives result answer = (result ≡ answer) ⊎ (result ≡ Err NoMemory)

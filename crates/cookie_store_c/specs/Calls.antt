@@ -1,0 +1,71 @@
+-- What calls come to.
+use Rattle.std.specs.Prelude.{◌≡◌, ◌⊎◌, ℕ, ◌^◌, ◌-◌, min, List, [], length, Option, Some, None, Result, Ok, Err}
+use Rattle.cookie_psl.specs.Reading.{rules_from}
+use Rattle.cookie_psl.specs.Rules.{RuleList, SameRules}
+use Rattle.cookie_parts.specs.Cookie.{Row}
+use Rattle.cookie_laws.specs.Contents.{Contents}
+use Rattle.cookie_laws.specs.Runs.{Call, step}
+use Rattle.cookie_store_c.specs.Asked.{text_in}
+use Rattle.cookie_store_c.specs.Statuses.{reply_status}
+use Rattle.cookie_store_c.specs.declared.status.Status.{Status}
+use Rattle.cookie_store_c.specs.declared.status.Status.TheVariants.{Done, NoMemory, NoStore, HasStore, BadRule}
+
+-- what a call answers, and the store after it, if there is one
+pub record Turn : Type 0 where
+  pub status : Status
+  pub store : Option Contents
+
+-- a turn that leaves the store
+abbrev pub refused : Option Contents → Status → Turn
+refused store status = record { status = status; store = store }
+
+-- the turn of a store at a call, or at what is none
+abbrev pub store_turn : Contents → Result Call Status → Turn
+store_turn store (Ok call) = record { status = reply_status (step call store).reply; store = Some (step call store).store }
+store_turn store (Err status) = refused (Some store) status
+
+-- the same, where there is a store
+abbrev pub turn : Option Contents → Result Call Status → Turn
+turn None call = refused None NoStore
+turn (Some store) call = store_turn store call
+
+-- a store begins without rows, where there is none
+abbrev pub new_turn : Option Contents → Turn
+new_turn None = record { status = Done; store = Some (record { rows = []; made = []; suffixes = None; limit = None }) }
+new_turn (Some store) = refused (Some store) HasStore
+
+-- memory ran out where it may be wanted, and nothing has changed
+abbrev pub RunsOut : Type 0 → Option Contents → Status → Option Contents → Type 0
+RunsOut MayWant old status new = (status ≡ NoMemory) × MayWant × (new ≡ old)
+
+-- a call came to this turn, or memory ran out
+abbrev pub Comes : Turn → Type 0 → Option Contents → Status → Option Contents → Type 0
+Comes turn MayWant old status new =
+    (record { status = status; store = new } ≡ turn) ⊎ RunsOut MayWant old status new
+
+-- the store obeys a list of these rules from now on, and is else as it was; or a line is no rule
+abbrev pub ObeysRules : Contents → Result RuleList ℕ → ℕ → Turn → Type 0
+ObeysRules store (Ok rules) line turn =
+    (list : RuleList) × SameRules list rules × (line ≡ 0)
+    × (turn ≡ record { status = Done; store = Some (record store { suffixes = Some list }) })
+ObeysRules store (Err bad) line turn = (line ≡ bad) × (turn ≡ refused (Some store) BadRule)
+
+-- the same of the text of a list
+abbrev pub ObeysText : Contents → Result (List ℕ) Status → ℕ → Turn → Type 0
+ObeysText store (Ok text) line turn = ObeysRules store (rules_from text) line turn
+ObeysText store (Err status) line turn = (line ≡ 0) × (turn ≡ refused (Some store) status)
+
+-- the same, where there is a store
+abbrev pub Obeys : Option Contents → List ℕ → ℕ → Turn → Type 0
+Obeys None list line turn = (line ≡ 0) × (turn ≡ refused None NoStore)
+Obeys (Some store) list line turn = ObeysText store (text_in list) line turn
+
+-- what is made of the rows of a store, where there is one
+abbrev pub in_store : {T : Type 0} → (List Row → Result T Status) → Option Contents → Result T Status
+in_store made None = Err NoStore
+in_store made (Some store) = made store.rows
+
+-- how many rows there are, as far as a machine counts
+abbrev pub count_of : Option Contents → ℕ
+count_of None = 0
+count_of (Some store) = min (length store.rows) (2 ^ 64 - 1)

@@ -1,0 +1,7 @@
+pub mod Asked
+pub mod Buffers
+pub mod Calls
+pub mod Lists
+pub mod Rows
+pub mod Slots
+pub mod Statuses

@@ -1,0 +1,102 @@
+-- What is told of rows.
+use Rattle.std.specs.Prelude.{◌≡◌, ◌⊎◌, ℕ, ◌^◌, ◌≤◌, Bool, true, false, ◌&&◌, List, [], ◌∷◌, ◌++◌, codes, flat_map, length, map, nat_le, Option, Some, None, Result, Ok, if◌then◌else◌, ℤ, pos}
+use Rattle.std.specs.Int.{int_div_euclid}
+use Rattle.cookie_words.specs.Moments.{nanoseconds}
+use Rattle.cookie_parts.specs.Cookie.{Row, and_then, is_http_only, is_persistent, is_secure_only}
+use Rattle.cookie_parts.specs.Domain.{DomainValue, HostOnly, domain_text}
+use Rattle.cookie_parts.specs.Expiry.{Expiry, AtUtc, SessionEnd}
+use Rattle.cookie_laws.specs.Contents.{Contents}
+use Rattle.cookie_laws.specs.Given.{given}
+use Rattle.cookie_store_c.specs.Asked.{request}
+use Rattle.cookie_store_c.specs.Buffers.{at_front}
+use Rattle.cookie_store_c.specs.declared.rows.CookieRow.{CookieRow}
+use Rattle.cookie_store_c.specs.declared.status.Status.{Status}
+use Rattle.cookie_store_c.specs.declared.status.Status.TheVariants.{Done, NoMemory, NoRoom, NoStore}
+
+-- RFC 6265 4.2.1: a cookie-pair
+abbrev pub pair_text : Row → List ℕ
+pair_text cookie = cookie.raw.name ++ codes "=" ++ cookie.raw.value
+
+-- one that stands behind another
+abbrev pub later_pair : Row → List ℕ
+later_pair cookie = codes "; " ++ pair_text cookie
+
+-- 4.2.1 and 5.4: the cookie-string of cookies
+abbrev pub cookie_string : List Row → List ℕ
+cookie_string [] = []
+cookie_string (cookie ∷ cookies) = pair_text cookie ++ flat_map later_pair cookies
+
+-- the value of the Cookie header of a request
+abbrev pub header_in : List Row → List ℕ → ℤ → Result (List ℕ) Status
+header_in rows url now = and_then (request url now) (λ asked. Ok (cookie_string (given asked.0 asked.1 rows)))
+
+-- the second in which it ends, counted from the epoch, and 0 where it ends with the session
+abbrev pub end_second : Expiry → ℤ
+end_second (AtUtc end) = int_div_euclid (nanoseconds end) (pos 1_000_000_000)
+end_second SessionEnd = pos 0
+
+-- 5.3 step 6: the host-only-flag
+abbrev pub is_host_only : DomainValue → Bool
+is_host_only (HostOnly d) = true
+is_host_only other = false
+
+-- what is told of a row
+abbrev pub row_told : Row → CookieRow
+row_told row = record {
+  domain_len = length (domain_text row.domain);
+  path_len = length row.path.text;
+  name_len = length row.raw.name;
+  value_len = length row.raw.value;
+  ends_at = end_second row.expires;
+  persistent = is_persistent row.expires;
+  host_only = is_host_only row.domain;
+  has_path = row.path.is_from_attribute;
+  secure = is_secure_only row.raw;
+  http_only = is_http_only row.raw;
+}
+
+-- its texts
+abbrev pub row_texts : Row → List ℕ
+row_texts row = domain_text row.domain ++ row.path.text ++ row.raw.name ++ row.raw.value
+
+-- a status, what is in the two buffers, and how long they have to be
+pub record Told : Type 0 where
+  pub status : Status
+  pub rows : List CookieRow
+  pub texts : List ℕ
+  pub rows_needed : ℕ
+  pub texts_needed : ℕ
+
+-- rows are told where they and their texts fit
+abbrev pub rows_told : List Row → List CookieRow → List ℕ → Told
+rows_told all rows texts =
+    if nat_le (length all) (length rows) && nat_le (length (flat_map row_texts all)) (length texts) then record {
+      status = Done;
+      rows = at_front (map row_told all) rows;
+      texts = at_front (flat_map row_texts all) texts;
+      rows_needed = length all;
+      texts_needed = length (flat_map row_texts all);
+    }
+    else record {
+      status = NoRoom;
+      rows = rows;
+      texts = texts;
+      rows_needed = length all;
+      texts_needed = length (flat_map row_texts all);
+    }
+
+-- a status alone
+abbrev pub nothing_told : Status → List CookieRow → List ℕ → Told
+nothing_told status rows texts =
+    record { status = status; rows = rows; texts = texts; rows_needed = 0; texts_needed = 0 }
+
+-- there are more rows, or longer texts, than a machine counts
+abbrev pub IsBeyond : List Row → Type 0
+IsBeyond rows = (2 ^ 64 ≤ length rows) ⊎ (2 ^ 64 ≤ length (flat_map row_texts rows))
+
+-- the rows of a store were told, where there is one; or they are beyond what a machine counts
+abbrev pub TellsRows : Option Contents → List CookieRow → List ℕ → Told → Type 0
+TellsRows None rows texts told = told ≡ nothing_told NoStore rows texts
+TellsRows (Some store) rows texts told =
+    (told ≡ rows_told store.rows rows texts)
+    ⊎ (IsBeyond store.rows × (told ≡ nothing_told NoMemory rows texts))

@@ -1,0 +1,73 @@
+-- What calls answer, and its numbers.
+use Rattle.std.specs.Prelude.{◌≡◌, ℕ, Some, None, Ok, Err}
+use Rattle.cookie_forms.specs.declared.error.SavedError.TheVariants as saved
+use Rattle.cookie_parts.specs.declared.cookie_error.CookieError.{CookieError}
+use Rattle.cookie_parts.specs.declared.cookie_error.CookieError.TheVariants as refused
+use Rattle.cookie_parts.specs.declared.error.Error.{Error}
+use Rattle.cookie_parts.specs.declared.error.Error.TheVariants as fault
+use Rattle.cookie_parts.specs.declared.store_action.StoreAction.TheVariants as action
+use Rattle.cookie_laws.specs.Runs.{Reply, Stored, Removed, Cleared}
+use Rattle.cookie_store_c.specs.declared.status.Status.{Status}
+use Rattle.cookie_store_c.specs.declared.status.Status.TheVariants.{Done, Inserted, Updated, ExpiredExisting, NonHttpScheme, NonRelativeScheme, DomainMismatch, Expired, Parse, PublicSuffix, UnspecifiedDomain, NoMemory, BadUrl, NotUtf8, BadMoment, NoStore, HasStore, NoRoom, NotFound, BadRule, BadJson, BadShape, BadRon, BadEnd}
+
+-- the number of a status
+abbrev pub status_code : Status → ℕ
+status_code Done = 0
+status_code Inserted = 1
+status_code Updated = 2
+status_code ExpiredExisting = 3
+status_code NonHttpScheme = 10
+status_code NonRelativeScheme = 11
+status_code DomainMismatch = 12
+status_code Expired = 13
+status_code Parse = 14
+status_code PublicSuffix = 15
+status_code UnspecifiedDomain = 16
+status_code NoMemory = 20
+status_code BadUrl = 21
+status_code NotUtf8 = 22
+status_code BadMoment = 23
+status_code NoStore = 24
+status_code HasStore = 25
+status_code NoRoom = 26
+status_code NotFound = 27
+status_code BadRule = 30
+status_code BadJson = 31
+status_code BadShape = 32
+status_code BadRon = 33
+status_code BadEnd = 34
+
+-- that of why a cookie is refused
+abbrev pub refusal_status : CookieError → Status
+refusal_status refused.NonHttpScheme = NonHttpScheme
+refusal_status refused.NonRelativeScheme = NonRelativeScheme
+refusal_status refused.DomainMismatch = DomainMismatch
+refusal_status refused.Expired = Expired
+refusal_status refused.Parse = Parse
+refusal_status refused.PublicSuffix = PublicSuffix
+refusal_status refused.UnspecifiedDomain = UnspecifiedDomain
+refusal_status refused.Memory = NoMemory
+
+-- that of what a store replies
+abbrev pub reply_status : Reply → Status
+reply_status (Stored (Ok action.Inserted)) = Inserted
+reply_status (Stored (Ok action.UpdatedExisting)) = Updated
+reply_status (Stored (Ok action.ExpiredExisting)) = ExpiredExisting
+reply_status (Stored (Err refusal)) = refusal_status refusal
+reply_status (Removed (Some row)) = Done
+reply_status (Removed None) = NotFound
+reply_status Cleared = Done
+
+-- that of why a list of cookies is refused
+abbrev pub fault_status : Error → Status
+fault_status (fault.Cookie refusal) = refusal_status refusal
+fault_status (fault.Saved saved.Json) = BadJson
+fault_status (fault.Saved saved.Shape) = BadShape
+fault_status (fault.Saved saved.Ron) = BadRon
+fault_status (fault.Saved saved.Moment) = BadEnd
+fault_status fault.NotUtf8 = NotUtf8
+fault_status other = NoMemory
+
+-- the number is that of a status with which this holds
+abbrev pub Tells : ℕ → (Status → Type 0) → Type 0
+Tells code Holds = (status : Status) × (code ≡ status_code status) × Holds status

@@ -1,0 +1,62 @@
+//! What programs in C hand over.
+ghost use Rattle.std.specs.Prelude.{◌≡◌, Err, IsOk};
+ghost use Rattle.std.specs.Result.{result_map_both};
+ghost use Rattle.cookie_words.specs.Moments.{epoch, moment_of};
+ghost use Rattle.cookie_store_c.specs.Asked.{look, moment_in, request, text_in, url_in, Gives};
+
+use crate::status::Status;
+use cookie_words::moments_are_on_the_scale;
+use jiff::SignedDuration;
+use jiff::civil::{DateTime, date};
+use std::alloc::Global;
+use url::{ParseError, Url};
+
+/// The text of bytes in UTF-8.
+pub(crate) fn text_in(bytes: &[u8]) -> Result<&str, Status>
+    ensures { result_map_both (λ text. text.now) (λ status. status) result ≡ text_in bytes.now }
+{
+    match str::from_utf8(bytes) {
+        Ok(text) => Ok(text),
+        Err(_) => Err(Status::NotUtf8),
+    }
+}
+
+/// The moment so many seconds from the epoch.
+pub(crate) fn moment_in(seconds: i64) -> Result<DateTime, Status>
+    ensures { result_map_both moment_of (λ status. status) result ≡ moment_in seconds }
+{
+    moments_are_on_the_scale();
+    match epoch().checked_add(SignedDuration::from_secs(seconds)) {
+        Ok(moment) => Ok(moment),
+        Err(_) => Err(Status::BadMoment),
+    }
+}
+
+/// 1970-01-01T00:00:00.
+pub(crate) fn epoch() -> DateTime
+    ensures { moment_of result ≡ epoch }
+{
+    date(1970, 1, 1).at(0, 0, 0, 0)
+}
+
+// The URL of a text.
+#[tactic(auto, unfolding(crate::specs::Asked::url_in))]
+fn url_in(alloc: Global, text: &str) -> Result<Url, Status>
+    ensures { Gives result (url_in text.now) }
+{
+    match Url::parse(alloc, text) {
+        Ok(url) => Ok(url),
+        Err(ParseError::OutOfMemory) => Err(Status::NoMemory),
+        Err(ParseError::Overflow) => Err(Status::NoMemory),
+        Err(_) => Err(Status::BadUrl),
+    }
+}
+
+/// The URL of a text, and the moment so many seconds from the epoch. Memory is wanted only once the rest is read.
+pub(crate) fn request(alloc: Global, url: &[u8], now: i64) -> Result<(Url, DateTime), Status>
+    ensures value { Gives (result_map_both (λ request. (request.0, moment_of request.1)) (λ status. status) result) (request url.now now) }
+    ensures memory { result ≡ Err Status.NoMemory → IsOk (look url.now now) }
+{
+    let (text, now) = (text_in(url)?, moment_in(now)?);
+    Ok((url_in(alloc, text)?, now))
+}

@@ -1,0 +1,72 @@
+//! Texts that are written into a buffer of the caller's.
+ghost use Rattle.std.specs.Prelude.{◌≡◌, ℕ, ◌+◌, ◌^◌, ◌≤◌, ◌++◌, length, List};
+ghost use Rattle.std.specs.Option.{MatchOption};
+ghost use Rattle.std.specs.Result.{result_map_both};
+ghost use Rattle.cookie_device.specs.Texts.{joined};
+ghost use Rattle.cookie_store_c.specs.Buffers.{handed, Stands};
+
+use crate::status::Status;
+
+/// A length with those of texts, and None where that is too great a number.
+pub(crate) fn with_lengths(total: usize, texts: &[&str]) -> Option<usize>
+    ensures { MatchOption result (2 ^ 64 ≤ total + length (joined texts.now)) (λ n. n ≡ total + length (joined texts.now)) }
+{
+    let mut sum = total;
+    for text in texts {
+        sum = sum.checked_add(text.len())?;
+    }
+    Some(sum)
+}
+
+/// Writes texts, one after the other, from the place on, and answers the place behind them.
+pub(crate) fn put_all(buffer: &mut [u8], place: usize, texts: &[&str]) -> usize
+    requires { place + length (joined texts.now) ≤ length buffer.old }
+    ensures end { result ≡ place + length (joined texts.now) }
+    ensures long { length buffer.new ≡ length buffer.old }
+    ensures stands { (front before : List ℕ) → Stands front before buffer.old place
+        → Stands (front ++ joined texts.now) before buffer.new result }
+{
+    let mut end = place;
+    for text in texts {
+        end = put(buffer, end, text.as_bytes());
+    }
+    end
+}
+
+// Writes a text from the place on, and answers the place behind it.
+fn put(buffer: &mut [u8], place: usize, text: &[u8]) -> usize
+    requires { place + length text.now ≤ length buffer.old }
+    ensures end { result ≡ place + length text.now }
+    ensures long { length buffer.new ≡ length buffer.old }
+    ensures stands { (front before : List ℕ) → Stands front before buffer.old place
+        → Stands (front ++ text.now) before buffer.new result }
+{
+    let end = place + text.len();
+    buffer[place..end].copy_from_slice(text);
+    end
+}
+
+/// Hands over a text, if there is one.
+pub(crate) fn hand_over(
+    answer: Result<Vec<u8>, Status>,
+    buffer: &mut [u8],
+    needed: &mut usize,
+) -> Status
+    ensures { record { status = result; buffer = buffer.new; needed = needed.new }
+        ≡ handed (result_map_both (λ text. text.items) (λ status. status) answer) buffer.old }
+{
+    match answer {
+        Ok(text) => {
+            *needed = text.len();
+            if buffer.len() < text.len() {
+                return Status::NoRoom;
+            }
+            buffer[..text.len()].copy_from_slice(text.as_slice());
+            Status::Done
+        }
+        Err(status) => {
+            *needed = 0;
+            status
+        }
+    }
+}

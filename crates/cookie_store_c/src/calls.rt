@@ -1,0 +1,97 @@
+//! Calls that change a store.
+ghost use Rattle.std.specs.Prelude.{◌≡◌, ◌⊎◌, Ok, Some, IsOk};
+ghost use Rattle.std.specs.Result.{result_map_both};
+ghost use Rattle.cookie_laws.specs.Rows.{key_at};
+ghost use Rattle.cookie_laws.specs.Runs.{Clear, Remove};
+ghost use Rattle.cookie_store_c.specs.Asked.{look, remove_call, set_call, text_in};
+ghost use Rattle.cookie_store_c.specs.Calls.{store_turn, Comes, ObeysText, RunsOut};
+
+use crate::asked::{request, text_in};
+use crate::status::Status;
+use cookie_store::CookieStore;
+use cookie_store::psl::{List, ListError};
+use std::alloc::Global;
+use std::mem;
+
+/// Takes the cookie of a Set-Cookie text.
+pub(crate) fn set(
+    alloc: Global,
+    store: &mut CookieStore,
+    url: &[u8],
+    text: &[u8],
+    now: i64,
+) -> Status
+    ensures { Comes (store_turn store.old (set_call url.now text.now now)) (IsOk (text_in text.now) × IsOk (look url.now now))
+        (Some store.old) result (Some store.new) }
+{
+    let text = match text_in(text) {
+        Ok(text) => text,
+        Err(status) => return status,
+    };
+    match request(alloc, url, now) {
+        Ok((url, now)) => Status::of_reply(store.parse(text, &url, now)),
+        Err(status) => status,
+    }
+}
+
+/// Puts the store under the public suffix list of a text, and tells the number of the first bad line.
+pub(crate) fn use_suffixes(
+    alloc: Global,
+    store: &mut CookieStore,
+    list: &[u8],
+    bad_line: &mut usize,
+) -> Status
+    ensures { ObeysText store.old (text_in list.now) bad_line.new (record { status = result; store = Some store.new })
+        ⊎ ((bad_line.new ≡ 0) × RunsOut (IsOk (text_in list.now)) (Some store.old) result (Some store.new)) }
+{
+    *bad_line = 0;
+    let text = match text_in(list) {
+        Ok(text) => text,
+        Err(status) => return status,
+    };
+    match List::from_text(alloc, text) {
+        Ok(list) => {
+            let begun = mem::replace(store, CookieStore::new(alloc));
+            *store = begun.with_suffix_list(list);
+            Status::Done
+        }
+        Err(ListError::BadRule { line }) => {
+            *bad_line = line;
+            Status::BadRule
+        }
+        Err(ListError::Memory) => Status::NoMemory,
+    }
+}
+
+/// Removes the cookie of a domain, a path and a name.
+pub(crate) fn remove(store: &mut CookieStore, domain: &[u8], path: &[u8], name: &[u8]) -> Status
+    ensures { record { status = result; store = Some store.new } ≡ store_turn store.old (remove_call domain.now path.now name.now) }
+{
+    match key_in(domain, path, name) {
+        Ok((domain, path, name)) => match store.remove(domain, path, name) {
+            Some(_) => Status::Done,
+            None => Status::NotFound,
+        },
+        Err(status) => status,
+    }
+}
+
+// The texts of a domain, a path and a name.
+fn key_in<'a>(
+    domain: &'a [u8],
+    path: &'a [u8],
+    name: &'a [u8],
+) -> Result<(&'a str, &'a str, &'a str), Status>
+    ensures { result_map_both (λ key. Remove (key_at key.0.now key.1.now key.2.now)) (λ status. status) result
+        ≡ remove_call domain.now path.now name.now }
+{
+    Ok((text_in(domain)?, text_in(path)?, text_in(name)?))
+}
+
+/// Removes all cookies.
+pub(crate) fn clear(store: &mut CookieStore) -> Status
+    ensures { record { status = result; store = Some store.new } ≡ store_turn store.old (Ok Clear) }
+{
+    store.clear();
+    Status::Done
+}

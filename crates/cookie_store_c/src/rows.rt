@@ -1,0 +1,158 @@
+//! All rows of a store, as an editor shows them.
+ghost use Rattle.std.specs.Prelude.{◌≡◌, ◌⊎◌, ℕ, ◌+◌, ◌^◌, ◌≤◌, ◌++◌, flat_map, length, map, pos};
+ghost use Rattle.std.specs.Option.{MatchOption};
+ghost use Rattle.std.specs.Int.{int_div_euclid};
+ghost use Rattle.cookie_words.specs.Moments.{moment_of, nanoseconds};
+ghost use Rattle.cookie_parts.specs.Views.{expiry_value};
+ghost use Rattle.cookie_store_c.specs.Buffers.{at_front};
+ghost use Rattle.cookie_store_c.specs.Rows.{end_second, nothing_told, row_texts, row_told, rows_told, IsBeyond};
+ghost use Rattle.cookie_store_c.specs.declared.status.Status.TheVariants.{NoMemory};
+
+use crate::asked::epoch;
+use crate::buffer::{put_all, with_lengths};
+use crate::status::Status;
+use cookie_store::{Cookie, CookieDomain, CookieExpiration, CookieStore, IterAny};
+use jiff::civil::DateTime;
+
+/// What is told of a row. Its texts stand elsewhere: domain, path, name, value.
+#[repr(C)]
+#[derive(Clone, Copy)]
+pub struct CookieRow {
+    pub domain_len: usize,
+    pub path_len: usize,
+    pub name_len: usize,
+    pub value_len: usize,
+    pub ends_at: i64,
+    pub persistent: bool,
+    pub host_only: bool,
+    pub has_path: bool,
+    pub secure: bool,
+    pub http_only: bool,
+}
+
+/// Tells all rows, and their texts one after the other.
+pub(crate) fn tell_rows(
+    store: &CookieStore,
+    rows: &mut [CookieRow],
+    texts: &mut [u8],
+    rows_needed: &mut usize,
+    texts_needed: &mut usize,
+) -> Status
+    ensures { (record { status = result; rows = rows.new; texts = texts.new; rows_needed = rows_needed.new; texts_needed = texts_needed.new }
+        ≡ rows_told store.now.rows rows.old texts.old)
+        ⊎ (IsBeyond store.now.rows
+        × (record { status = result; rows = rows.new; texts = texts.new; rows_needed = rows_needed.new; texts_needed = texts_needed.new }
+        ≡ nothing_told NoMemory rows.old texts.old)) }
+{
+    (*rows_needed, *texts_needed) = (0, 0);
+    let (Some(count), Some(length)) = (rows_len(store.iter_any()), texts_len(store.iter_any()))
+    else {
+        return Status::NoMemory;
+    };
+    (*rows_needed, *texts_needed) = (count, length);
+    if rows.len() < count || texts.len() < length {
+        return Status::NoRoom;
+    }
+    put_rows(store.iter_any(), rows);
+    put_texts(store.iter_any(), texts);
+    Status::Done
+}
+
+/// How many rows there are, and None where that is too great a number.
+pub(crate) fn rows_len(all: IterAny<'_>) -> Option<usize>
+    ensures { MatchOption result (2 ^ 64 ≤ length all.entry) (λ n. n ≡ length all.entry) }
+{
+    let mut count: usize = 0;
+    for row in all {
+        let _row = row;
+        count = count.checked_add(1)?;
+    }
+    Some(count)
+}
+
+// How long their texts are, and None where that is too great a number.
+fn texts_len(all: IterAny<'_>) -> Option<usize>
+    ensures { MatchOption result (2 ^ 64 ≤ length (flat_map row_texts all.entry)) (λ n. n ≡ length (flat_map row_texts all.entry)) }
+{
+    let mut total = 0;
+    for row in all {
+        total = with_lengths(
+            total,
+            &[
+                row.domain.as_str(),
+                row.path.as_str(),
+                row.name(),
+                row.value(),
+            ],
+        )?;
+    }
+    Some(total)
+}
+
+// Writes their texts to the front of the buffer.
+fn put_texts(all: IterAny<'_>, texts: &mut [u8])
+    requires { length (flat_map row_texts all) ≤ length texts.old }
+    ensures { texts.new ≡ at_front (flat_map row_texts all.entry) texts.old }
+{
+    let mut place = 0;
+    for row in all {
+        place = put_all(
+            texts,
+            place,
+            &[
+                row.domain.as_str(),
+                row.path.as_str(),
+                row.name(),
+                row.value(),
+            ],
+        );
+    }
+}
+
+// Writes what is told of each to the front of the buffer.
+fn put_rows(all: IterAny<'_>, rows: &mut [CookieRow])
+    requires { length all ≤ length rows.old }
+    ensures { rows.new ≡ at_front (map row_told all.entry) rows.old }
+{
+    let mut place = 0;
+    for row in all {
+        rows[place] = told(row);
+        place += 1;
+    }
+}
+
+fn told(row: &Cookie<'static>) -> CookieRow
+    ensures { result ≡ row_told row.now }
+{
+    CookieRow {
+        domain_len: row.domain.as_str().len(),
+        path_len: row.path.as_str().len(),
+        name_len: row.name().len(),
+        value_len: row.value().len(),
+        ends_at: end_second(&row.expires),
+        persistent: row.is_persistent(),
+        host_only: matches!(row.domain, CookieDomain::HostOnly(_)),
+        has_path: row.path.is_from_path_attr(),
+        secure: row.raw().secure().unwrap_or(false),
+        http_only: row.raw().http_only().unwrap_or(false),
+    }
+}
+
+fn end_second(end: &CookieExpiration) -> i64
+    ensures { result ≡ end_second (expiry_value end.now) }
+{
+    match end {
+        CookieExpiration::AtUtc(moment) => second_of(*moment),
+        CookieExpiration::SessionEnd => 0,
+    }
+}
+
+// The second of a moment, counted from the epoch.
+fn second_of(moment: DateTime) -> i64
+    ensures { result ≡ int_div_euclid (nanoseconds (moment_of moment)) (pos 1_000_000_000) }
+{
+    moment
+        .duration_since(epoch())
+        .as_nanos()
+        .div_euclid(1_000_000_000) as i64
+}

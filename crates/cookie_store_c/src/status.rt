@@ -1,0 +1,113 @@
+//! What a call answers.
+ghost use Rattle.std.specs.Prelude.{◌≡◌};
+ghost use Rattle.cookie_laws.specs.Runs.{Stored};
+ghost use Rattle.cookie_store_c.specs.Statuses.{fault_status, refusal_status, reply_status, status_code};
+
+use cookie_store::saved::SavedError;
+use cookie_store::{CookieError, Error, InsertResult, StoreAction};
+
+/// What a call answers, as `cookie_store.h` says.
+#[derive(Clone, Copy, Debug, PartialEq, Eq)]
+pub enum Status {
+    Done,
+    Inserted,
+    Updated,
+    ExpiredExisting,
+    NonHttpScheme,
+    NonRelativeScheme,
+    DomainMismatch,
+    Expired,
+    Parse,
+    PublicSuffix,
+    UnspecifiedDomain,
+    NoMemory,
+    BadUrl,
+    NotUtf8,
+    BadMoment,
+    NoStore,
+    HasStore,
+    NoRoom,
+    NotFound,
+    BadRule,
+    BadJson,
+    BadShape,
+    BadRon,
+    BadEnd,
+}
+
+impl Status {
+    /// Its number.
+    pub fn code(self) -> u32
+        ensures { result ≡ status_code self }
+    {
+        match self {
+            Status::Done => 0,
+            Status::Inserted => 1,
+            Status::Updated => 2,
+            Status::ExpiredExisting => 3,
+            Status::NonHttpScheme => 10,
+            Status::NonRelativeScheme => 11,
+            Status::DomainMismatch => 12,
+            Status::Expired => 13,
+            Status::Parse => 14,
+            Status::PublicSuffix => 15,
+            Status::UnspecifiedDomain => 16,
+            Status::NoMemory => 20,
+            Status::BadUrl => 21,
+            Status::NotUtf8 => 22,
+            Status::BadMoment => 23,
+            Status::NoStore => 24,
+            Status::HasStore => 25,
+            Status::NoRoom => 26,
+            Status::NotFound => 27,
+            Status::BadRule => 30,
+            Status::BadJson => 31,
+            Status::BadShape => 32,
+            Status::BadRon => 33,
+            Status::BadEnd => 34,
+        }
+    }
+
+    /// That of what a store told.
+    pub(crate) fn of_reply(told: InsertResult) -> Status
+        ensures { result ≡ reply_status (Stored told) }
+    {
+        match told {
+            Ok(StoreAction::Inserted) => Status::Inserted,
+            Ok(StoreAction::UpdatedExisting) => Status::Updated,
+            Ok(StoreAction::ExpiredExisting) => Status::ExpiredExisting,
+            Err(refusal) => Status::of_refusal(refusal),
+        }
+    }
+
+    // That of a refusal.
+    fn of_refusal(refusal: CookieError) -> Status
+        ensures { result ≡ refusal_status refusal }
+    {
+        match refusal {
+            CookieError::NonHttpScheme => Status::NonHttpScheme,
+            CookieError::NonRelativeScheme => Status::NonRelativeScheme,
+            CookieError::DomainMismatch => Status::DomainMismatch,
+            CookieError::Expired => Status::Expired,
+            CookieError::Parse => Status::Parse,
+            CookieError::PublicSuffix => Status::PublicSuffix,
+            CookieError::UnspecifiedDomain => Status::UnspecifiedDomain,
+            CookieError::Memory => Status::NoMemory,
+        }
+    }
+
+    /// That of why a list is not saved or loaded. A reader or writer of memory fails for want of it alone.
+    pub(crate) fn of_fault(fault: Error) -> Status
+        ensures { result ≡ fault_status fault }
+    {
+        match fault {
+            Error::Cookie(refusal) => Status::of_refusal(refusal),
+            Error::Saved(SavedError::Json) => Status::BadJson,
+            Error::Saved(SavedError::Shape) => Status::BadShape,
+            Error::Saved(SavedError::Ron) => Status::BadRon,
+            Error::Saved(SavedError::Moment) => Status::BadEnd,
+            Error::NotUtf8 => Status::NotUtf8,
+            _ => Status::NoMemory,
+        }
+    }
+}
