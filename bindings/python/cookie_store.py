@@ -367,7 +367,7 @@ def _from_wire(text: str) -> bytes:
 
 
 def _to_wire(text: str) -> str:
-    return text.encode('utf-8').decode('latin-1')
+    return text if text.isascii() else text.encode('utf-8').decode('latin-1')
 
 
 def _shown_domain(row: Cookie) -> str:
