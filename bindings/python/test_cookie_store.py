@@ -569,15 +569,13 @@ class ClientTests(unittest.TestCase):
     def opener(jar):
         return urllib.request.build_opener(urllib.request.ProxyHandler({}), urllib.request.HTTPCookieProcessor(jar))
 
-    def session(self, jar, adapter=None):
+    def session(self, jar):
         if requests is None:
             self.skipTest('requests is not installed')
         session = requests.Session()
         session.trust_env = False
         session.cookies = jar
         self.addCleanup(session.close)
-        if adapter:
-            session.mount('http://', adapter)
         return session
 
     def test_urllib(self):
@@ -595,7 +593,8 @@ class ClientTests(unittest.TestCase):
     def test_requests_adapter(self):
         """The store's own header is sent, where Python's jar would choose otherwise."""
         jar = StoreJar()
-        session = self.session(jar, cookie_store.requests_adapter(jar, max_retries=0))
+        session = self.session(jar)
+        session.mount('http://', cookie_store.requests_adapter(jar, max_retries=0))
         session.get(self.begin, timeout=SECONDS)
         self.assert_followed(jar)
         self.server.visits.clear()
