@@ -42,8 +42,10 @@ static enum cookie_store_status set(cookie_store *store, const char *url, const 
 static void gives(const char *name, cookie_store *store, const char *url, int64_t now, const char *wanted) {
     char out[256];
     size_t needed = UNTOLD;
+    memset(out, '-', sizeof out);
     equal(name, cookie_store_get(store, TEXT(url), now, out, sizeof out, &needed), COOKIE_STORE_OK);
     same_text(name, out, needed, wanted);
+    equal("no zero is written", out[needed], '-');
 }
 
 /* One after the other in one store, at one moment. */
@@ -122,6 +124,7 @@ static void test_get(void) {
     gives("Secure", &store, "https://a.example/d/page", NOW, "a=1; s=3; c=4; b=2");
     gives("at the end of a", &store, PAGE, NOW + 60, "c=4; b=2");
     gives("another path", &store, "http://a.example/", NOW, "b=2");
+    gives("a path that only begins so", &store, "http://a.example/dx", NOW, "b=2");
     gives("another host", &store, "http://b.example/d/page", NOW, "");
     for (size_t at = 0; at < sizeof MOMENTS / sizeof *MOMENTS; at++) {
         needed = UNTOLD;
