@@ -387,13 +387,21 @@ def _shown(row: Cookie) -> http.cookiejar.Cookie:
     return shown
 
 
+def _standing(store: CookieStore) -> List[Cookie]:
+    """The cookies that have not ended."""
+    now = int(time.time())
+    return [row for row in store if row.ends_at is None or row.ends_at > now]
+
+
 def _host(cookie: http.cookiejar.Cookie) -> str:
-    """The domain of a cookie of Python's, as a URL names it."""
+    """The domain of a cookie of Python's, as a URL names it. The `.local` of a host without a dot goes, where that is known to be one:
+    of a cookie that the store has shown, of `localhost`, and of an address in brackets."""
     domain = cookie.domain[1:] if cookie.domain.startswith('.') else cookie.domain
     own = cookie.__dict__.get('store_domain')
     if own is not None and domain in (own, own + '.local'):
         return own
-    return 'localhost' if domain == 'localhost.local' else domain
+    is_bare = domain == 'localhost.local' or domain.endswith('].local')
+    return domain[:-len('.local')] if is_bare else domain
 
 
 def _set_cookie_text(cookie: http.cookiejar.Cookie, has_path: bool, now: int) -> str:
@@ -490,7 +498,7 @@ class StoreJar(http.cookiejar.CookieJar):
         with CookieStore() as store:
             for text in texts:
                 self._take(store, text, request, now)
-            return [_shown(row) for row in store]
+            return [_shown(row) for row in _standing(store)]
 
     @staticmethod
     def _take(store: CookieStore, text: str, request: urllib.request.Request, now: int) -> None:
@@ -519,16 +527,11 @@ class StoreJar(http.cookiejar.CookieJar):
             if not self._is_asked or self._policy.set_ok(cookie, request):
                 self._take(self.store, text, request, now)
 
-    def _standing(self) -> List[Cookie]:
-        """The cookies that have not ended."""
-        now = int(time.time())
-        return [row for row in self.store if row.ends_at is None or row.ends_at > now]
-
     def __iter__(self) -> Iterator[http.cookiejar.Cookie]:
-        return (_shown(row) for row in self._standing())
+        return (_shown(row) for row in _standing(self.store))
 
     def __len__(self) -> int:
-        return len(self._standing())
+        return len(_standing(self.store))
 
     def clear(self, domain: Optional[str] = None, path: Optional[str] = None, name: Optional[str] = None) -> None:
         """Removes all cookies, or those of a domain, of a domain and path, or the one of that name. Raises KeyError where there is none,
@@ -540,7 +543,7 @@ class StoreJar(http.cookiejar.CookieJar):
             return
         if path is None and name is not None:
             raise ValueError('a name is of a domain and a path')
-        gone = [row for row in self._standing() if _shown_domain(row) == domain
+        gone = [row for row in _standing(self.store) if _shown_domain(row) == domain
                 and path in (None, _to_wire(row.path)) and name in (None, _to_wire(row.name))]
         if not gone:
             raise KeyError(next(word for word in (name, path, domain) if word is not None))

@@ -349,6 +349,7 @@ TAKEN = [
     (python_cookie('a.example'), 'http://a.example/', 'a=1', 'http://b.a.example/'),
     (python_cookie('.a.example'), 'http://b.a.example/', 'a=1', 'http://example/'),
     (python_cookie('localhost.local'), 'http://localhost/', 'a=1', 'http://a.example/'),
+    (python_cookie('[::1].local'), 'http://[::1]/', 'a=1', 'http://localhost/'),
     (python_cookie('127.0.0.1', '/d'), 'http://127.0.0.1/d/x', 'a=1', 'http://127.0.0.1/e'),
     (python_cookie('a.example', '/d', path_specified=False), 'http://a.example/d/x', 'a=1', 'http://a.example/dx'),
     (python_cookie('a.example', '/d;x', path_specified=False), 'http://a.example/d;x/y', 'a=1', 'http://a.example/d'),
@@ -415,7 +416,7 @@ class JarTests(unittest.TestCase):
 
     def test_make_cookies(self):
         jar = StoreJar()
-        made = jar.make_cookies(Response('a=1', 'b=2; Domain=b.example', 'c=3; Path=/'), urllib.request.Request(PAGE))
+        made = jar.make_cookies(Response('a=1', 'b=2; Domain=b.example', 'c=3; Path=/', 'd=4', 'd=; Max-Age=0'), urllib.request.Request(PAGE))
         self.assertEqual([(cookie.name, cookie.path) for cookie in made], [('a', '/d'), ('c', '/')])
         self.assertEqual(len(jar), 0)
 
