@@ -18,6 +18,7 @@ import threading
 import time
 import unittest
 import urllib.request
+from unittest import mock
 
 import cookie_store
 from cookie_store import BadRule, Cookie, CookieStore, CookieStoreError, Status, StoreJar
@@ -159,6 +160,12 @@ class StoreTests(unittest.TestCase):
         with CookieStore() as store, self.assertRaises(BadRule) as raised:
             store.use_suffixes('example\na..b\n')
         self.assertEqual((raised.exception.line, str(raised.exception)), (2, 'bad rule in line 2'))
+
+    def test_no_memory(self):
+        no_memory = mock.patch.object(cookie_store, '_set', lambda *_: Status.NO_MEMORY)
+        with CookieStore() as store, no_memory, self.assertRaises(MemoryError) as raised:
+            store.set(PAGE, 'a=1')
+        self.assertIs(raised.exception.status, Status.NO_MEMORY)
 
     def test_closed(self):
         store = filled('a=1')
