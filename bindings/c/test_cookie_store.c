@@ -131,6 +131,10 @@ static void test_get(void) {
         equal("a moment", cookie_store_get(&store, TEXT("http://b.example/"), MOMENTS[at].now, out, sizeof out, &needed), MOMENTS[at].wanted);
         equal("nothing is needed", (long)needed, 0);
     }
+    needed = UNTOLD;
+    equal("a text with a zero", cookie_store_set(&store, TEXT("http://z.example/"), "z=1\0" "2", 5, NOW), COOKIE_STORE_INSERTED);
+    equal("get a zero", cookie_store_get(&store, TEXT("http://z.example/"), NOW, out, sizeof out, &needed), COOKIE_STORE_OK);
+    equal("what came is given", needed == 5 && memcmp(out, "z=1\0" "2", 5) == 0, true);
     equal("set at no moment", set(&store, PAGE, "a=1", LAST + 1), COOKIE_STORE_BAD_MOMENT);
     needed = UNTOLD;
     equal("get not UTF-8", cookie_store_get(&store, NOT_UTF8, NOW, out, sizeof out, &needed), COOKIE_STORE_NOT_UTF8);
