@@ -1,0 +1,126 @@
+/* Fetches the URLs of its arguments, one after the other, with one cookie store. It follows redirects itself, so that each hop is sent
+   the cookies that are for it, and sets those of its response. For each hop it prints a line: the URL, the Cookie header that was sent,
+   and what became of each cookie that came, where a refusal is told by its number in cookie_store.h.
+       cc -o fetch fetch.c $(pkg-config --cflags --libs cookie_store libcurl)
+       ./fetch http://example.com/
+   It ends with status 0; 1 where a fetch failed; 2 without arguments; 3 where there was no memory. */
+#define _POSIX_C_SOURCE 200809L
+#include <cookie_store.h>
+#include <curl/curl.h>
+#include <stdio.h>
+#include <stdlib.h>
+#include <string.h>
+#include <strings.h>
+#include <time.h>
+
+enum { MOST_HOPS = 20, DONE = 0, FAILED = 1, BAD_ARGUMENTS = 2, NO_MEMORY = 3 };
+
+/* What curl hands to take_header. */
+struct hop {
+    cookie_store *store;
+    const char *url;
+    bool has_memory;
+};
+
+/* Sets the cookie of a header line. Curl hands over each line whole, and with its end. */
+static size_t take_header(char *line, size_t size, size_t count, void *handed) {
+    static const char name[] = "Set-Cookie:";
+    static const char *const done[] = {"done", "inserted", "updated", "expired existing"};
+    struct hop *hop = handed;
+    size_t length = size * count, begin = sizeof name - 1, end = length;
+    if (length < begin || strncasecmp(line, name, begin) != 0) return length;
+    while (end > begin && (line[end - 1] == '\r' || line[end - 1] == '\n')) end--;
+    enum cookie_store_status status =
+        cookie_store_set(hop->store, hop->url, strlen(hop->url), line + begin, end - begin, (int64_t)time(NULL));
+    hop->has_memory = status != COOKIE_STORE_NO_MEMORY;
+    if (!hop->has_memory) return 0;
+    int written = status <= COOKIE_STORE_EXPIRED_EXISTING ? printf(" [%s]", done[status]) : printf(" [refused: %d]", (int)status);
+    return written < 0 ? 0 : length;
+}
+
+static size_t pass_over(char *bytes, size_t size, size_t count, void *handed) {
+    (void)bytes, (void)handed;
+    return size * count;
+}
+
+/* The store's header for the URL, with a zero at its end, or NULL where there is no memory. It is the caller's to free. A URL that the
+   store does not read has no cookies. */
+static char *header_for(cookie_store *store, const char *url) {
+    size_t room = 256, needed = 0;
+    char *header = NULL;
+    enum cookie_store_status status = COOKIE_STORE_NO_ROOM;
+    while (status == COOKIE_STORE_NO_ROOM) {
+        free(header);
+        header = malloc(room + 1);
+        if (!header) return NULL;
+        status = cookie_store_get(store, url, strlen(url), (int64_t)time(NULL), header, room, &needed);
+        room = needed;
+    }
+    if (status == COOKIE_STORE_NO_MEMORY) {
+        free(header);
+        return NULL;
+    }
+    header[needed] = 0;
+    return header;
+}
+
+/* Fetches a URL, without what it redirects to. `*next` is that URL, which is the caller's to free, or NULL. */
+static int fetch_hop(CURL *curl, cookie_store *store, const char *url, char **next) {
+    struct hop hop = {store, url, true};
+    char *header = header_for(store, url), *redirect = NULL;
+    if (!header) return NO_MEMORY;
+    CURLcode fault = printf("%s [%s]", url, header) < 0 ? CURLE_WRITE_ERROR : CURLE_OK;
+    if (!fault) fault = curl_easy_setopt(curl, CURLOPT_URL, url);
+    if (!fault) fault = curl_easy_setopt(curl, CURLOPT_COOKIE, *header ? header : NULL);
+    if (!fault) fault = curl_easy_setopt(curl, CURLOPT_HEADERDATA, &hop);
+    if (!fault) fault = curl_easy_perform(curl);
+    if (!fault) fault = curl_easy_getinfo(curl, CURLINFO_REDIRECT_URL, &redirect);
+    if (putchar('\n') == EOF) fault = CURLE_WRITE_ERROR;
+    free(header);
+    if (!hop.has_memory || fault == CURLE_OUT_OF_MEMORY) return NO_MEMORY;
+    if (fault) fprintf(stderr, "fetch: %s: %s\n", url, curl_easy_strerror(fault));
+    if (fault) return FAILED;
+    if (redirect && !(*next = strdup(redirect))) return NO_MEMORY;
+    return DONE;
+}
+
+/* Fetches a URL, and what it redirects to. */
+static int fetch(CURL *curl, cookie_store *store, const char *begin) {
+    char *url = strdup(begin);
+    int status = url ? DONE : NO_MEMORY;
+    for (int hops = 0; url && status == DONE; hops++) {
+        char *next = NULL;
+        if (hops == MOST_HOPS) fprintf(stderr, "fetch: %s: too many redirects\n", begin);
+        status = hops == MOST_HOPS ? FAILED : fetch_hop(curl, store, url, &next);
+        free(url);
+        url = next;
+    }
+    return status;
+}
+
+/* What is the same for each hop. The headers of a proxy are none of the server's. */
+static CURLcode prepare(CURL *curl) {
+    CURLcode fault = curl_easy_setopt(curl, CURLOPT_FOLLOWLOCATION, 0L);
+    if (!fault) fault = curl_easy_setopt(curl, CURLOPT_PROTOCOLS_STR, "http,https");
+    if (!fault) fault = curl_easy_setopt(curl, CURLOPT_SUPPRESS_CONNECT_HEADERS, 1L);
+    if (!fault) fault = curl_easy_setopt(curl, CURLOPT_TIMEOUT, 30L);
+    if (!fault) fault = curl_easy_setopt(curl, CURLOPT_HEADERFUNCTION, take_header);
+    if (!fault) fault = curl_easy_setopt(curl, CURLOPT_WRITEFUNCTION, pass_over);
+    return fault;
+}
+
+int main(int count, char **words) {
+    cookie_store store = COOKIE_STORE_INIT;
+    if (count < 2) return BAD_ARGUMENTS;
+    if (curl_global_init(CURL_GLOBAL_DEFAULT)) return FAILED;
+    CURL *curl = curl_easy_init();
+    int status = curl && cookie_store_new(&store) == COOKIE_STORE_OK ? DONE : NO_MEMORY;
+    if (status == DONE && prepare(curl)) status = FAILED;
+    for (int at = 1; at < count && status == DONE; at++) status = fetch(curl, &store, words[at]);
+    if (status == NO_MEMORY) fputs("fetch: out of memory\n", stderr);
+    if (fflush(stdout) == EOF && status == DONE) status = FAILED;
+    cookie_store_free(&store);
+    curl_easy_cleanup(curl);
+    curl_global_cleanup();
+    return status;
+}

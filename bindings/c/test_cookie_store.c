@@ -1,0 +1,331 @@
+/* Calls each function of cookie_store.h, with what it is handed well and badly: a table for what becomes of a cookie, each status that
+   a call can answer, each buffer one byte too short, and the layout of what is handed over. What fails is told on the standard error.
+   The last line is 'test_cookie_store: N passed, M failed'. */
+#include <cookie_store.h>
+#include <stddef.h>
+#include <stdio.h>
+#include <string.h>
+
+static int passed, failed;
+
+static void tell(bool is_well, const char *name, long got, long wanted) {
+    if (is_well) {
+        passed++;
+        return;
+    }
+    failed++;
+    fprintf(stderr, "%s: FAILED: wanted %ld, got %ld\n", name, wanted, got);
+}
+
+static void equal(const char *name, long got, long wanted) { tell(got == wanted, name, got, wanted); }
+
+static void same_text(const char *name, const char *got, size_t length, const char *wanted) {
+    bool is_well = length == strlen(wanted) && memcmp(got, wanted, length) == 0;
+    tell(is_well, name, (long)length, (long)strlen(wanted));
+    if (!is_well) fprintf(stderr, "wanted: %s\ngot: %.*s\n", wanted, (int)length, got);
+}
+
+/* A text as a pointer and its length. */
+#define TEXT(text) (text), strlen(text)
+#define NOT_UTF8 "a=\xff", 3
+#define NOW INT64_C(1767225600) /* 2026-01-01T00:00:00 */
+#define FIRST INT64_C(-377705116800)
+#define LAST INT64_C(253402300799)
+#define UNTOLD 77
+
+static const char *const PAGE = "http://a.example/d/page";
+
+static enum cookie_store_status set(cookie_store *store, const char *url, const char *text, int64_t now) {
+    return cookie_store_set(store, TEXT(url), TEXT(text), now);
+}
+
+static void gives(const char *name, cookie_store *store, const char *url, int64_t now, const char *wanted) {
+    char out[256];
+    size_t needed = UNTOLD;
+    memset(out, '-', sizeof out);
+    equal(name, cookie_store_get(store, TEXT(url), now, out, sizeof out, &needed), COOKIE_STORE_OK);
+    same_text(name, out, needed, wanted);
+    equal("no zero is written", out[needed], '-');
+}
+
+/* One after the other in one store, at one moment. */
+static const struct {
+    const char *url, *text;
+    enum cookie_store_status wanted;
+} SETS[] = {
+    {"http://a.example/d/page", "a=1", COOKIE_STORE_INSERTED},
+    {"http://a.example/d/page", "a=2", COOKIE_STORE_UPDATED},
+    {"http://a.example/d/page", "a=3; Max-Age=0", COOKIE_STORE_EXPIRED_EXISTING},
+    {"http://a.example/d/page", "new=1; Max-Age=0", COOKIE_STORE_EXPIRED},
+    {"http://a.example/d/page", "h=1; HttpOnly", COOKIE_STORE_INSERTED},
+    {"ftp://a.example/d/page", "h=2", COOKIE_STORE_NON_HTTP_SCHEME},
+    {"ftp://a.example/d/page", "i=1; HttpOnly", COOKIE_STORE_NON_HTTP_SCHEME},
+    {"data:x", "a=1", COOKIE_STORE_NON_RELATIVE_SCHEME},
+    {"data:x", "a=1; Path=/", COOKIE_STORE_NON_RELATIVE_SCHEME},
+    {"data:x", "a=1; Domain=a.example", COOKIE_STORE_DOMAIN_MISMATCH},
+    {"http://a.example/", "a=1; Domain=b.example", COOKIE_STORE_DOMAIN_MISMATCH},
+    {"http://a.example/", "a=1; Domain=x.a.example", COOKIE_STORE_DOMAIN_MISMATCH},
+    {"http://a.example/", "no pair", COOKIE_STORE_PARSE},
+    {"http://a.example/", "=1", COOKIE_STORE_PARSE},
+    {"http://a.example/", "", COOKIE_STORE_PARSE},
+    {"http://a.example/", "a=1; Domain=example", COOKIE_STORE_PUBLIC_SUFFIX},
+    {"http://example/", "a=1; Domain=example", COOKIE_STORE_INSERTED},
+    {"no url", "a=1", COOKIE_STORE_BAD_URL},
+    {"", "a=1", COOKIE_STORE_BAD_URL},
+};
+
+static void test_set(void) {
+    cookie_store store = COOKIE_STORE_INIT;
+    size_t line = UNTOLD;
+    equal("new", cookie_store_new(&store), COOKIE_STORE_OK);
+    equal("suffixes", cookie_store_use_suffixes(&store, TEXT("// a comment\nexample\n"), &line), COOKIE_STORE_OK);
+    equal("no bad line", (long)line, 0);
+    for (size_t at = 0; at < sizeof SETS / sizeof *SETS; at++) {
+        char name[128];
+        snprintf(name, sizeof name, "set %s %s", SETS[at].url, SETS[at].text);
+        equal(name, set(&store, SETS[at].url, SETS[at].text, NOW), SETS[at].wanted);
+    }
+    gives("what was set", &store, PAGE, NOW, "h=1");
+    gives("a public suffix alone", &store, "http://example/", NOW, "a=1");
+    gives("nothing below it", &store, "http://b.example/", NOW, "");
+    cookie_store_free(&store);
+}
+
+static void test_suffixes(void) {
+    cookie_store store = COOKIE_STORE_INIT;
+    size_t line = UNTOLD;
+    cookie_store_new(&store);
+    equal("bad rule", cookie_store_use_suffixes(&store, TEXT("example\na..b\n"), &line), COOKIE_STORE_BAD_RULE);
+    equal("its line", (long)line, 2);
+    equal("the list is as it was", set(&store, PAGE, "a=1; Domain=example", NOW), COOKIE_STORE_INSERTED);
+    equal("suffixes not UTF-8", cookie_store_use_suffixes(&store, NOT_UTF8, &line), COOKIE_STORE_NOT_UTF8);
+    equal("no line of it", (long)line, 0);
+    equal("an empty list", cookie_store_use_suffixes(&store, TEXT(""), &line), COOKIE_STORE_OK);
+    cookie_store_free(&store);
+}
+
+/* The header is that of the moment; a moment is one of the years -9999 to 9999. */
+static void test_get(void) {
+    static const struct {
+        int64_t now;
+        enum cookie_store_status wanted;
+    } MOMENTS[] = {{INT64_MIN, COOKIE_STORE_BAD_MOMENT}, {FIRST - 1, COOKIE_STORE_BAD_MOMENT}, {FIRST, COOKIE_STORE_OK},
+                   {LAST, COOKIE_STORE_OK},              {LAST + 1, COOKIE_STORE_BAD_MOMENT},  {INT64_MAX, COOKIE_STORE_BAD_MOMENT}};
+    cookie_store store = COOKIE_STORE_INIT;
+    char out[8];
+    size_t needed = UNTOLD;
+    cookie_store_new(&store);
+    set(&store, PAGE, "a=1; Max-Age=60", NOW);
+    set(&store, PAGE, "b=2; Path=/", NOW);
+    set(&store, PAGE, "s=3; Secure", NOW);
+    /* A text needs no zero at its end. */
+    equal("a text within another", cookie_store_set(&store, PAGE, strlen(PAGE), "c=4_", 3, NOW), COOKIE_STORE_INSERTED);
+    gives("in the order of the store", &store, PAGE, NOW, "a=1; c=4; b=2");
+    gives("Secure", &store, "https://a.example/d/page", NOW, "a=1; s=3; c=4; b=2");
+    gives("at the end of a", &store, PAGE, NOW + 60, "c=4; b=2");
+    gives("another path", &store, "http://a.example/", NOW, "b=2");
+    gives("a path that only begins so", &store, "http://a.example/dx", NOW, "b=2");
+    gives("another host", &store, "http://b.example/d/page", NOW, "");
+    for (size_t at = 0; at < sizeof MOMENTS / sizeof *MOMENTS; at++) {
+        needed = UNTOLD;
+        equal("a moment", cookie_store_get(&store, TEXT("http://b.example/"), MOMENTS[at].now, out, sizeof out, &needed), MOMENTS[at].wanted);
+        equal("nothing is needed", (long)needed, 0);
+    }
+    needed = UNTOLD;
+    equal("a text with a zero", cookie_store_set(&store, TEXT("http://z.example/"), "z=1\0" "2", 5, NOW), COOKIE_STORE_INSERTED);
+    equal("get a zero", cookie_store_get(&store, TEXT("http://z.example/"), NOW, out, sizeof out, &needed), COOKIE_STORE_OK);
+    equal("what came is given", needed == 5 && memcmp(out, "z=1\0" "2", 5) == 0, true);
+    equal("set at no moment", set(&store, PAGE, "a=1", LAST + 1), COOKIE_STORE_BAD_MOMENT);
+    needed = UNTOLD;
+    equal("get not UTF-8", cookie_store_get(&store, NOT_UTF8, NOW, out, sizeof out, &needed), COOKIE_STORE_NOT_UTF8);
+    equal("nothing is needed of no UTF-8", (long)needed, 0);
+    equal("get of no URL", cookie_store_get(&store, TEXT("no url"), NOW, out, sizeof out, &needed), COOKIE_STORE_BAD_URL);
+    equal("set at a URL not UTF-8", cookie_store_set(&store, NOT_UTF8, TEXT("a=1"), NOW), COOKIE_STORE_NOT_UTF8);
+    equal("set a text not UTF-8", cookie_store_set(&store, TEXT(PAGE), NOT_UTF8, NOW), COOKIE_STORE_NOT_UTF8);
+    cookie_store_free(&store);
+}
+
+static void test_remove(void) {
+    cookie_store store = COOKIE_STORE_INIT;
+    cookie_store_new(&store);
+    set(&store, PAGE, "a=1", NOW);
+    equal("remove domain not UTF-8", cookie_store_remove(&store, NOT_UTF8, TEXT("/d"), TEXT("a")), COOKIE_STORE_NOT_UTF8);
+    equal("remove path not UTF-8", cookie_store_remove(&store, TEXT("a.example"), NOT_UTF8, TEXT("a")), COOKIE_STORE_NOT_UTF8);
+    equal("remove name not UTF-8", cookie_store_remove(&store, TEXT("a.example"), TEXT("/d"), NOT_UTF8), COOKIE_STORE_NOT_UTF8);
+    equal("remove another", cookie_store_remove(&store, TEXT("a.example"), TEXT("/"), TEXT("a")), COOKIE_STORE_NOT_FOUND);
+    equal("remove nothing", cookie_store_remove(&store, "", 0, "", 0, "", 0), COOKIE_STORE_NOT_FOUND);
+    equal("it stands", (long)cookie_store_count(&store), 1);
+    equal("remove", cookie_store_remove(&store, TEXT("a.example"), TEXT("/d"), TEXT("a")), COOKIE_STORE_OK);
+    equal("it is gone", (long)cookie_store_count(&store), 0);
+    set(&store, PAGE, "a=1", NOW);
+    equal("clear", cookie_store_clear(&store), COOKIE_STORE_OK);
+    equal("all are gone", (long)cookie_store_count(&store), 0);
+    cookie_store_free(&store);
+}
+
+/* Two rows, the second with all that the first has not. */
+static void test_rows(void) {
+    cookie_store store = COOKIE_STORE_INIT;
+    cookie_store_row rows[2];
+    char texts[64];
+    const char *whole = "a.example/da1example/k\xc3\xbc" "22";
+    size_t rows_needed = UNTOLD, texts_needed = UNTOLD;
+    cookie_store_new(&store);
+    equal("no rows", cookie_store_rows(&store, rows, 0, texts, 0, &rows_needed, &texts_needed), COOKIE_STORE_OK);
+    equal("no rows needed", (long)(rows_needed + texts_needed), 0);
+    set(&store, PAGE, "a=1", NOW);
+    set(&store, "http://b.example/", "k\xc3\xbc=22; Domain=example; Path=/; Max-Age=60; Secure; HttpOnly", NOW);
+    for (int is_short = 2; is_short >= 0; is_short--) {
+        rows_needed = texts_needed = UNTOLD;
+        memset(texts, '-', sizeof texts);
+        enum cookie_store_status status = cookie_store_rows(&store, rows, is_short == 2 ? 1 : 2, texts, strlen(whole) - (is_short == 1),
+                                                            &rows_needed, &texts_needed);
+        equal("rows with room, or not", status, is_short ? COOKIE_STORE_NO_ROOM : COOKIE_STORE_OK);
+        equal("rows needed", (long)rows_needed, 2);
+        equal("texts needed", (long)texts_needed, (long)strlen(whole));
+        equal("nothing is written after the texts", texts[is_short ? 0 : texts_needed], '-');
+    }
+    same_text("texts", texts, texts_needed, whole);
+    const cookie_store_row *first = &rows[0], *second = &rows[1];
+    equal("lengths of a row", first->domain_len == 9 && first->path_len == 2 && first->name_len == 1 && first->value_len == 1, true);
+    equal("lengths of another", second->domain_len == 7 && second->path_len == 1 && second->name_len == 3 && second->value_len == 2, true);
+    equal("of a session", first->persistent, false);
+    equal("no end", (long)first->ends_at, 0);
+    equal("for its host", first->host_only, true);
+    equal("without more", first->has_path || first->secure || first->http_only, false);
+    equal("persistent", second->persistent, true);
+    equal("its end", (long)(second->ends_at - NOW), 60);
+    equal("for more hosts", second->host_only, false);
+    equal("with more", second->has_path && second->secure && second->http_only, true);
+    cookie_store_free(&store);
+}
+
+/* The two forms of a list: what saves and loads it, and texts that are none. */
+static const struct form {
+    const char *name;
+    enum cookie_store_status (*save)(cookie_store *, int64_t, bool, char *, size_t, size_t *);
+    enum cookie_store_status (*load)(cookie_store *, const char *, size_t, int64_t, bool);
+    const char *no_list, *other, *bad_end, *no_cookie;
+    enum cookie_store_status no_list_status, other_status;
+} FORMS[] = {
+    {"JSON", cookie_store_save_json, cookie_store_load_json, "[", "{}",
+     "[{\"raw_cookie\":\"a=1\",\"path\":[\"/\",false],\"domain\":{\"HostOnly\":\"a.example\"},\"expires\":{\"AtUtc\":\"soon\"}}]",
+     "[{\"raw_cookie\":\"a\",\"path\":[\"/\",false],\"domain\":{\"HostOnly\":\"a.example\"},\"expires\":\"SessionEnd\"}]",
+     COOKIE_STORE_BAD_JSON, COOKIE_STORE_BAD_SHAPE},
+    {"RON", cookie_store_save_ron, cookie_store_load_ron, "[", "{}",
+     "[(raw_cookie: \"a=1\", path: (\"/\", false), domain: HostOnly(\"a.example\"), expires: AtUtc(\"soon\"))]",
+     "[(raw_cookie: \"a\", path: (\"/\", false), domain: HostOnly(\"a.example\"), expires: SessionEnd)]",
+     COOKIE_STORE_BAD_RON, COOKIE_STORE_BAD_RON},
+};
+
+static void loads(const char *name, const struct form *form, const char *list, size_t length, int64_t now, bool all,
+                  enum cookie_store_status wanted, size_t count) {
+    cookie_store store = COOKIE_STORE_INIT;
+    equal(name, form->load(&store, list, length, now, all), wanted);
+    equal(form->name, (long)cookie_store_count(&store), (long)count);
+    cookie_store_free(&store);
+}
+
+static void test_list(const struct form *form) {
+    cookie_store store = COOKIE_STORE_INIT;
+    char list[1024];
+    size_t needed = UNTOLD;
+    cookie_store_new(&store);
+    set(&store, PAGE, "a=1; Max-Age=60", NOW);
+    set(&store, PAGE, "b=2", NOW);
+    equal("save", form->save(&store, NOW, true, list, sizeof list, &needed), COOKIE_STORE_OK);
+    loads("load all", form, list, needed, NOW + 60, true, COOKIE_STORE_OK, 2);
+    loads("load those that have not ended", form, list, needed, NOW + 60, false, COOKIE_STORE_OK, 1);
+    equal("a list ends with a line feed", list[needed - 1], '\n');
+    size_t whole = needed;
+    memset(list, '-', sizeof list);
+    equal("save one byte too short", form->save(&store, NOW, true, list, whole - 1, &needed), COOKIE_STORE_NO_ROOM);
+    equal("what is needed", (long)needed, (long)whole);
+    equal("nothing is written", list[0], '-');
+    equal("save in the very room", form->save(&store, NOW, true, list, whole, &needed), COOKIE_STORE_OK);
+    equal("nothing is written after it", list[whole], '-');
+    equal("save those that stay", form->save(&store, NOW, false, list, sizeof list, &needed), COOKIE_STORE_OK);
+    loads("load those that stayed", form, list, needed, NOW, true, COOKIE_STORE_OK, 1);
+    equal("save at no moment", form->save(&store, LAST + 1, false, list, sizeof list, &needed), COOKIE_STORE_BAD_MOMENT);
+    equal("nothing is needed at no moment", (long)needed, 0);
+    equal("load into a store", form->load(&store, list, 0, NOW, true), COOKIE_STORE_HAS_STORE);
+    set(&store, PAGE, "c=3; Max-Age=1", FIRST);
+    equal("save an end before the year 0", form->save(&store, FIRST, true, list, sizeof list, &needed), COOKIE_STORE_BAD_END);
+    cookie_store_free(&store);
+    loads("load no list", form, TEXT(form->no_list), NOW, true, form->no_list_status, 0);
+    loads("load nothing", form, TEXT(""), NOW, true, form->no_list_status, 0);
+    loads("load another", form, TEXT(form->other), NOW, true, form->other_status, 0);
+    loads("load a bad end", form, TEXT(form->bad_end), NOW, true, COOKIE_STORE_BAD_END, 0);
+    loads("load no cookie", form, TEXT(form->no_cookie), NOW, true, COOKIE_STORE_PARSE, 0);
+    loads("load not UTF-8", form, NOT_UTF8, NOW, true, COOKIE_STORE_NOT_UTF8, 0);
+    loads("load at no moment", form, TEXT("[]"), LAST + 1, false, COOKIE_STORE_BAD_MOMENT, 0);
+}
+
+/* A header one byte too short, and in the very room. */
+static void test_room(void) {
+    cookie_store store = COOKIE_STORE_INIT;
+    char out[8] = "-------";
+    size_t needed = UNTOLD;
+    cookie_store_new(&store);
+    set(&store, PAGE, "a=1", NOW);
+    equal("get one byte too short", cookie_store_get(&store, TEXT(PAGE), NOW, out, 2, &needed), COOKIE_STORE_NO_ROOM);
+    equal("what a header needs", (long)needed, 3);
+    same_text("nothing is written of a header", out, 7, "-------");
+    equal("get in the very room", cookie_store_get(&store, TEXT(PAGE), NOW, out, 3, &needed), COOKIE_STORE_OK);
+    same_text("nothing is written after a header", out, 7, "a=1----");
+    equal("new where there is one", cookie_store_new(&store), COOKIE_STORE_HAS_STORE);
+    cookie_store_free(&store);
+}
+
+/* Where there is no store, also after it was freed. */
+static void test_no_store(void) {
+    cookie_store store = COOKIE_STORE_INIT;
+    cookie_store_row row;
+    char out[8];
+    size_t needed = UNTOLD, other = UNTOLD;
+    for (int round = 0; round < 2; round++) {
+        equal("suffixes of none", cookie_store_use_suffixes(&store, TEXT("com"), &needed), COOKIE_STORE_NO_STORE);
+        equal("set in none", set(&store, PAGE, "a=1", NOW), COOKIE_STORE_NO_STORE);
+        equal("get of none", cookie_store_get(&store, TEXT(PAGE), NOW, out, sizeof out, &needed), COOKIE_STORE_NO_STORE);
+        equal("remove of none", cookie_store_remove(&store, "", 0, "", 0, "", 0), COOKIE_STORE_NO_STORE);
+        equal("clear none", cookie_store_clear(&store), COOKIE_STORE_NO_STORE);
+        equal("count of none", (long)cookie_store_count(&store), 0);
+        equal("rows of none", cookie_store_rows(&store, &row, 1, out, sizeof out, &needed, &other), COOKIE_STORE_NO_STORE);
+        equal("nothing is needed of none", (long)(needed + other), 0);
+        for (size_t at = 0; at < sizeof FORMS / sizeof *FORMS; at++)
+            equal("save none", FORMS[at].save(&store, NOW, true, out, sizeof out, &needed), COOKIE_STORE_NO_STORE);
+        cookie_store_new(&store);
+        set(&store, PAGE, "a=1", NOW);
+        cookie_store_free(&store);
+        cookie_store_free(&store);
+    }
+}
+
+/* The layout of what programs share with the library, where pointers have 64 bits. */
+static void test_layout(void) {
+    equal("size of a store", (long)sizeof(cookie_store), 16);
+    equal("at", (long)offsetof(cookie_store, at), 8);
+    equal("size of a row", (long)sizeof(cookie_store_row), 48);
+    equal("value_len", (long)offsetof(cookie_store_row, value_len), 24);
+    equal("ends_at", (long)offsetof(cookie_store_row, ends_at), 32);
+    equal("persistent", (long)offsetof(cookie_store_row, persistent), 40);
+    equal("host_only", (long)offsetof(cookie_store_row, host_only), 41);
+    equal("has_path", (long)offsetof(cookie_store_row, has_path), 42);
+    equal("secure", (long)offsetof(cookie_store_row, secure), 43);
+    equal("http_only", (long)offsetof(cookie_store_row, http_only), 44);
+    equal("size of a status", (long)sizeof(enum cookie_store_status), 4);
+}
+
+int main(void) {
+    test_layout();
+    test_set();
+    test_suffixes();
+    test_get();
+    test_remove();
+    test_rows();
+    for (size_t at = 0; at < sizeof FORMS / sizeof *FORMS; at++) test_list(&FORMS[at]);
+    test_room();
+    test_no_store();
+    printf("test_cookie_store: %d passed, %d failed\n", passed, failed);
+    return failed > 0;
+}

@@ -1,0 +1,133 @@
+/* Refuses each growth of memory in turn, in each call that takes memory: it must answer that memory is wanting and leave the store as it
+   was, or get along. The library of tools/refuse.c stands before malloc (LD_PRELOAD), and REFUSE_MARK names the file that it makes. What
+   fails is told on the standard error. The last line is 'test_growths: N passed, M failed'. */
+#define _POSIX_C_SOURCE 200809L
+#include <cookie_store.h>
+#include <stdio.h>
+#include <stdlib.h>
+#include <string.h>
+#include <unistd.h>
+
+/* Growths of these sizes start and end the count of tools/refuse.c. */
+enum { START = 48271, END = 48281, MOST = 10000 };
+
+#define NOW INT64_C(1767225600) /* 2026-01-01T00:00:00 */
+#define TEXT(text) (text), strlen(text)
+
+static const char *const PAGE = "http://shop.a.example/d/page";
+static const char *const TEXTS[] = {"a=1; Domain=a.example", "b=2; Path=/; Max-Age=60", "c=3; Expires=Thu, 01 Jan 2099 00:00:00 GMT"};
+static char json[4096], ron[4096];
+static size_t json_len, ron_len;
+
+static enum cookie_store_status fill(cookie_store *store) {
+    enum cookie_store_status status = cookie_store_new(store);
+    for (size_t at = 0; status <= COOKIE_STORE_INSERTED && at < sizeof TEXTS / sizeof *TEXTS; at++)
+        status = cookie_store_set(store, TEXT(PAGE), TEXT(TEXTS[at]), NOW);
+    return status;
+}
+
+static enum cookie_store_status begin(cookie_store *store) { return cookie_store_new(store); }
+
+static enum cookie_store_status set_new(cookie_store *store) {
+    return cookie_store_set(store, TEXT("http://b.example/x/y"), TEXT("d=4; Domain=b.example; Path=/x"), NOW);
+}
+
+static enum cookie_store_status set_again(cookie_store *store) { return cookie_store_set(store, TEXT(PAGE), TEXT(TEXTS[0]), NOW); }
+
+static enum cookie_store_status get(cookie_store *store) {
+    char out[256];
+    size_t needed;
+    return cookie_store_get(store, TEXT(PAGE), NOW, out, sizeof out, &needed);
+}
+
+static enum cookie_store_status use_suffixes(cookie_store *store) {
+    size_t line;
+    return cookie_store_use_suffixes(store, TEXT("com\n*.ck\n!www.ck\nb\xc3\xbc" "cher.example\n"), &line);
+}
+
+static enum cookie_store_status save_json(cookie_store *store) {
+    char out[4096];
+    size_t needed;
+    return cookie_store_save_json(store, NOW, true, out, sizeof out, &needed);
+}
+
+static enum cookie_store_status save_ron(cookie_store *store) {
+    char out[4096];
+    size_t needed;
+    return cookie_store_save_ron(store, NOW, true, out, sizeof out, &needed);
+}
+
+static enum cookie_store_status load_json(cookie_store *store) { return cookie_store_load_json(store, json, json_len, NOW, true); }
+
+static enum cookie_store_status load_ron(cookie_store *store) { return cookie_store_load_ron(store, ron, ron_len, NOW, true); }
+
+static const struct {
+    const char *name;
+    bool is_begun;
+    enum cookie_store_status (*call)(cookie_store *);
+    enum cookie_store_status wanted;
+} CALLS[] = {
+    {"new", false, begin, COOKIE_STORE_OK},
+    {"set", true, set_new, COOKIE_STORE_INSERTED},
+    {"set again", true, set_again, COOKIE_STORE_UPDATED},
+    {"get", true, get, COOKIE_STORE_OK},
+    {"use_suffixes", true, use_suffixes, COOKIE_STORE_OK},
+    {"save_json", true, save_json, COOKIE_STORE_OK},
+    {"save_ron", true, save_ron, COOKIE_STORE_OK},
+    {"load_json", false, load_json, COOKIE_STORE_OK},
+    {"load_ron", false, load_ron, COOKIE_STORE_OK},
+};
+
+/* Whether the store has the cookies that it began with. */
+static bool is_as_it_was(cookie_store *store, bool is_begun) {
+    char out[4096];
+    size_t needed = 0;
+    enum cookie_store_status status = cookie_store_save_json(store, NOW, true, out, sizeof out, &needed);
+    if (!is_begun) return status == COOKIE_STORE_NO_STORE;
+    return status == COOKIE_STORE_OK && needed == json_len && memcmp(out, json, json_len) == 0;
+}
+
+/* A growth of that size, which the compiler does not leave out. */
+static void grow(size_t size) {
+    void *volatile grown = malloc(size);
+    free(grown);
+}
+
+/* Refuses growth after growth until a run meets no refusal. Answers how many were refused, or -1 where one was answered wrongly. */
+static int refused_in(size_t at, const char *mark) {
+    for (int growth = 1; growth < MOST; growth++) {
+        char digits[16];
+        cookie_store store = COOKIE_STORE_INIT;
+        if (CALLS[at].is_begun && fill(&store) != COOKIE_STORE_INSERTED) return -1;
+        snprintf(digits, sizeof digits, "%d", growth);
+        if (setenv("REFUSE_GROWTH", digits, 1)) return -1;
+        grow(START);
+        enum cookie_store_status status = CALLS[at].call(&store);
+        grow(END);
+        bool is_refused = unlink(mark) == 0;
+        bool is_well = status == CALLS[at].wanted ||
+                       (is_refused && status == COOKIE_STORE_NO_MEMORY && is_as_it_was(&store, CALLS[at].is_begun));
+        cookie_store_free(&store);
+        if (!is_well) fprintf(stderr, "%s, growth %d: FAILED: answered %d\n", CALLS[at].name, growth, (int)status);
+        if (!is_well) return -1;
+        if (!is_refused) return growth - 1;
+    }
+    return -1;
+}
+
+int main(void) {
+    const char *mark = getenv("REFUSE_MARK");
+    cookie_store store = COOKIE_STORE_INIT;
+    int passed = 0, failed = 0;
+    bool is_ready = mark && fill(&store) == COOKIE_STORE_INSERTED &&
+                    cookie_store_save_json(&store, NOW, true, json, sizeof json, &json_len) == COOKIE_STORE_OK &&
+                    cookie_store_save_ron(&store, NOW, true, ron, sizeof ron, &ron_len) == COOKIE_STORE_OK;
+    cookie_store_free(&store);
+    for (size_t at = 0; at < sizeof CALLS / sizeof *CALLS; at++) {
+        int refused = is_ready ? refused_in(at, mark) : -1;
+        if (refused == 0) fprintf(stderr, "%s: FAILED: it takes no memory\n", CALLS[at].name);
+        refused > 0 ? passed++ : failed++;
+    }
+    printf("test_growths: %d passed, %d failed\n", passed, failed);
+    return failed > 0;
+}
