@@ -1,28 +1,28 @@
-/* A cookie store of RFC 6265 for HTTP clients.
- *
- *     #include <cookie_store.h>
+/* A cookie store of RFC 6265 for HTTP clients, on machines of 64 bits. Link with -lcookie_store (pkg-config cookie_store).
  *
  *     cookie_store store = COOKIE_STORE_INIT;
- *     size_t needed;
  *     char header[4096];
- *     cookie_store_new(&store);
+ *     size_t needed;
+ *     if (cookie_store_new(&store) != COOKIE_STORE_OK) abort();
  *     cookie_store_set(&store, url, strlen(url), set_cookie, strlen(set_cookie), time(NULL));
- *     if (cookie_store_get(&store, url, strlen(url), time(NULL), header, sizeof header, &needed) == COOKIE_STORE_OK)
+ *     if (cookie_store_get(&store, url, strlen(url), time(NULL), header, sizeof header, &needed) == COOKIE_STORE_OK && needed > 0)
  *         printf("Cookie: %.*s\n", (int)needed, header);
  *     cookie_store_free(&store);
  *
- * Link with -lcookie_store (pkg-config cookie_store).
+ * A text is a pointer and a length in bytes; it needs no zero at its end, and none is written. Any bytes may be handed over: what is no
+ * UTF-8, no URL or no list is answered by a status of its own. A pointer is never NULL, not even where the length is 0, and is aligned
+ * for its type. What a call writes to overlaps nothing else that it is handed, the store and the lengths included.
  *
- * A text is a pointer and a length in bytes; it needs no zero at its end, and none is written. A pointer is never NULL, not
- * even where the length is 0. What is written to does not overlap anything else that a call is handed. No call asks anything of
- * the bytes of a text: what is no UTF-8, no URL or no list has a status of its own, and so has want of memory.
+ * A moment is the number of seconds since 1970-01-01T00:00:00 UTC, without leap seconds, as time(2) tells it. A cookie that ends at a
+ * moment has ended at that moment.
  *
- * A moment is the number of seconds since 1970-01-01T00:00:00 UTC, without leap seconds, as time(2) tells it.
+ * A call that is not done leaves the store as it was, and writes to no buffer. The lengths that are told (`needed` and its like) are always
+ * set: to what is needed after COOKIE_STORE_OK and COOKIE_STORE_NO_ROOM, and else to 0. So a call that is handed a length of 0, and a pointer
+ * to anything, tells the length. With each call stand the statuses by which it is not done, in the order in which they are tested. Where a `;`
+ * stands, NO_MEMORY may come in the place of those behind it, and of a call that would be done; where none stands it does not come.
  *
- * A status other than those that the call names as done leaves the store as it was, and writes to no buffer. The lengths that are
- * told (`needed` and its like) are always set: to what is needed after COOKIE_STORE_OK and COOKIE_STORE_NO_ROOM, and else to 0.
- *
- * One store is used by one thread at a time; different stores may be used at once. */
+ * One store is used by one thread at a time, also by calls that only ask; different stores may be used at once. A store may go from one
+ * thread to another. */
 #ifndef COOKIE_STORE_H
 #define COOKIE_STORE_H
 
@@ -47,17 +47,17 @@ enum cookie_store_status {
 
     /* Refusals of a cookie. It or the stored one is HttpOnly, and the scheme of the URL not HTTP. */
     COOKIE_STORE_NON_HTTP_SCHEME = 10,
-    /* It has no path of its own, and the URL is none that has one. */
+    /* It names no domain, and the URL has no host. */
     COOKIE_STORE_NON_RELATIVE_SCHEME = 11,
     /* Its domain does not cover the host of the URL. */
     COOKIE_STORE_DOMAIN_MISMATCH = 12,
-    /* It has ended, and there is none to end. */
+    /* It has ended, and no cookie of its domain, path and name stands that has not. */
     COOKIE_STORE_EXPIRED = 13,
-    /* The text is no cookie. Of a list: the text of one of its cookies is none. */
+    /* The text is no cookie, or its Domain is no domain name. Of a list: the text of one of its cookies is none. */
     COOKIE_STORE_PARSE = 14,
     /* Its domain is a public suffix on the list, and not the host of the URL. */
     COOKIE_STORE_PUBLIC_SUFFIX = 15,
-    /* It names no domain, and the URL has no host. */
+    /* No call answers this one: it is a refusal of the crate that this store is after. */
     COOKIE_STORE_UNSPECIFIED_DOMAIN = 16,
 
     /* There is not enough memory. */
@@ -76,6 +76,8 @@ enum cookie_store_status {
     COOKIE_STORE_NO_ROOM = 26,
     /* There is no cookie of this domain, path and name. */
     COOKIE_STORE_NOT_FOUND = 27,
+    /* A limit is at least 1. */
+    COOKIE_STORE_BAD_LIMIT = 28,
 
     /* A line of a public suffix list is no rule. Its number is told. */
     COOKIE_STORE_BAD_RULE = 30,
@@ -95,35 +97,47 @@ typedef struct cookie_store {
 
 #define COOKIE_STORE_INIT { false, NULL }
 
-/* Begins a store without cookies and without a public suffix list. HAS_STORE, NO_MEMORY. */
+/* Begins a store without cookies, without a public suffix list and without a limit. HAS_STORE; */
 enum cookie_store_status cookie_store_new(cookie_store *store);
 
 /* Frees the store, if there is one. Then there is none. */
 void cookie_store_free(cookie_store *store);
 
 /* Puts the store under the public suffix list of this text, in the format of publicsuffix.org: from now on no cookie enters for
- * all hosts below a public suffix. The cookies that it has stay. NO_STORE, NOT_UTF8, NO_MEMORY; BAD_RULE, where `bad_line` is the
- * number of the first bad line, counted from 1, and else 0. */
+ * all hosts below a public suffix. The cookies that it has stay. NO_STORE, NOT_UTF8; BAD_RULE, where `bad_line` is the number of the
+ * first bad line, counted from 1, and else 0. */
 enum cookie_store_status cookie_store_use_suffixes(cookie_store *store, const char *list, size_t list_len, size_t *bad_line);
 
-/* Takes the cookie of a Set-Cookie header's value that came from the URL at the moment, RFC 6265 5.3. Done: INSERTED, UPDATED,
- * EXPIRED_EXISTING. Else, in this order: NO_STORE, NOT_UTF8, BAD_MOMENT, BAD_URL, a refusal, NO_MEMORY. */
+/* Lets no more than so many cookies of one domain stand from now on, RFC 6265 6.1: before a cookie is inserted, cookies of its domain leave
+ * until it fits, those that have ended first, then those that were inserted least recently. NO_STORE, BAD_LIMIT. */
+enum cookie_store_status cookie_store_set_domain_limit(cookie_store *store, size_t limit);
+
+/* Lets the maps of the store hash by a key from now on, of which the first 16 bytes count. It changes no answer. Who takes cookies of servers
+ * that he does not trust hands over random bytes, so that no server can choose names that make the store slow. NO_STORE; */
+enum cookie_store_status cookie_store_set_hash_key(cookie_store *store, const char *key, size_t key_len);
+
+/* Takes the cookie of one Set-Cookie header's value that came from the URL at the moment, RFC 6265 5.3. Done: INSERTED, UPDATED,
+ * EXPIRED_EXISTING. NO_STORE, NOT_UTF8, BAD_MOMENT; BAD_URL, a refusal. */
 enum cookie_store_status cookie_store_set(cookie_store *store, const char *url, size_t url_len, const char *text, size_t text_len,
                                           int64_t now);
 
-/* Writes the value of the Cookie header of a request for the URL at the moment, RFC 6265 5.4, as `a=1; b=2`. `needed` is its
- * length: 0 where no cookie is given, and then no header is to be sent. NO_STORE, NOT_UTF8, BAD_MOMENT, BAD_URL, NO_MEMORY, NO_ROOM. */
+/* Writes the value of the Cookie header of a request for the URL at the moment, as `a=1; b=2`: the cookies of RFC 6265 5.4, of which those
+ * of one domain stand together, in them those of one path, and in these as they were inserted. `needed` is its length: 0 where no cookie is
+ * given, and then no header is to be sent. Secure cookies are given for https, and for any scheme on this machine; HttpOnly ones for schemes
+ * that begin with http. Names and values are written as they came: a text that was no line of a header may have put a line feed
+ * or a zero among them. NO_STORE, NOT_UTF8, BAD_MOMENT; BAD_URL, NO_ROOM. */
 enum cookie_store_status cookie_store_get(cookie_store *store, const char *url, size_t url_len, int64_t now, char *out,
                                           size_t out_len, size_t *needed);
 
-/* Removes the cookie of this domain, path and name, whether it has ended or not. NO_STORE, NOT_UTF8, NOT_FOUND. */
+/* Removes the cookie of this domain, path and name, whether it has ended or not. They are compared byte for byte with what
+ * cookie_store_rows tells. NO_STORE, NOT_UTF8, NOT_FOUND. */
 enum cookie_store_status cookie_store_remove(cookie_store *store, const char *domain, size_t domain_len, const char *path,
                                              size_t path_len, const char *name, size_t name_len);
 
-/* Removes all cookies. The public suffix list stays. NO_STORE. */
+/* Removes all cookies. List, limit and key stay. NO_STORE. */
 enum cookie_store_status cookie_store_clear(cookie_store *store);
 
-/* How many cookies the store has, also such as have ended; 0 where there is no store. */
+/* How many cookies the store has, also such as have ended: they stand until they are removed. 0 where there is no store. */
 size_t cookie_store_count(cookie_store *store);
 
 /* A cookie, as an editor shows it. Its texts stand elsewhere, one after the other: domain, path, name, value. */
@@ -132,7 +146,7 @@ typedef struct cookie_store_row {
     size_t path_len;
     size_t name_len;
     size_t value_len;
-    /* The moment at which it ends, or 0 where it ends with the session. */
+    /* The moment at which it ends, without the fraction of a second that a list may say; 0 where it ends with the session. */
     int64_t ends_at;
     /* It ends at a moment, and not with the session. */
     bool persistent;
@@ -150,13 +164,13 @@ enum cookie_store_status cookie_store_rows(cookie_store *store, cookie_store_row
                                            size_t texts_len, size_t *rows_needed, size_t *texts_needed);
 
 /* Writes the cookies as a list in JSON or RON and a line feed, in UTF-8: all of them, or else those that have not ended by the
- * moment and do not end with the session. NO_STORE, BAD_MOMENT, BAD_END, NO_MEMORY, NO_ROOM. */
+ * moment and do not end with the session. NO_STORE, BAD_MOMENT, BAD_END; NO_ROOM. */
 enum cookie_store_status cookie_store_save_json(cookie_store *store, int64_t now, bool all, char *out, size_t out_len, size_t *needed);
 enum cookie_store_status cookie_store_save_ron(cookie_store *store, int64_t now, bool all, char *out, size_t out_len, size_t *needed);
 
 /* Begins a store with the cookies of such a list: all of them, or else those that have not ended by the moment. It has no public
- * suffix list, and the domains of the cookies are not tested. HAS_STORE, BAD_MOMENT, NOT_UTF8; BAD_JSON, BAD_SHAPE or BAD_RON;
- * BAD_END; PARSE; NO_MEMORY. */
+ * suffix list and no limit, and the domains of the cookies are not tested. HAS_STORE, BAD_MOMENT; NOT_UTF8, BAD_JSON, BAD_SHAPE or BAD_RON,
+ * BAD_END, PARSE. */
 enum cookie_store_status cookie_store_load_json(cookie_store *store, const char *list, size_t list_len, int64_t now, bool all);
 enum cookie_store_status cookie_store_load_ron(cookie_store *store, const char *list, size_t list_len, int64_t now, bool all);
 

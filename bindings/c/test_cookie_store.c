@@ -163,6 +163,24 @@ static void test_remove(void) {
     cookie_store_free(&store);
 }
 
+/* The limit, and a key, which changes nothing. */
+static void test_limit_and_key(void) {
+    cookie_store store = COOKIE_STORE_INIT;
+    cookie_store_new(&store);
+    equal("limit of 0", cookie_store_set_domain_limit(&store, 0), COOKIE_STORE_BAD_LIMIT);
+    equal("limit", cookie_store_set_domain_limit(&store, 1), COOKIE_STORE_OK);
+    set(&store, PAGE, "a=1", NOW);
+    equal("set at the limit", set(&store, PAGE, "b=2", NOW), COOKIE_STORE_INSERTED);
+    equal("one stands", (long)cookie_store_count(&store), 1);
+    equal("the first one has left", cookie_store_remove(&store, TEXT("a.example"), TEXT("/d"), TEXT("a")), COOKIE_STORE_NOT_FOUND);
+    for (size_t length = 0; length <= 17; length += 17) {
+        equal("key", cookie_store_set_hash_key(&store, "0123456789abcdefg", length), COOKIE_STORE_OK);
+        equal("it stands under the key", (long)cookie_store_count(&store), 1);
+        equal("it is found under the key", set(&store, PAGE, "b=3", NOW), COOKIE_STORE_UPDATED);
+    }
+    cookie_store_free(&store);
+}
+
 /* Two rows, the second with all that the first has not. */
 static void test_rows(void) {
     cookie_store store = COOKIE_STORE_INIT;
@@ -287,6 +305,8 @@ static void test_no_store(void) {
         equal("suffixes of none", cookie_store_use_suffixes(&store, TEXT("com"), &needed), COOKIE_STORE_NO_STORE);
         equal("set in none", set(&store, PAGE, "a=1", NOW), COOKIE_STORE_NO_STORE);
         equal("get of none", cookie_store_get(&store, TEXT(PAGE), NOW, out, sizeof out, &needed), COOKIE_STORE_NO_STORE);
+        equal("limit of none", cookie_store_set_domain_limit(&store, 0), COOKIE_STORE_NO_STORE);
+        equal("key of none", cookie_store_set_hash_key(&store, "", 0), COOKIE_STORE_NO_STORE);
         equal("remove of none", cookie_store_remove(&store, "", 0, "", 0, "", 0), COOKIE_STORE_NO_STORE);
         equal("clear none", cookie_store_clear(&store), COOKIE_STORE_NO_STORE);
         equal("count of none", (long)cookie_store_count(&store), 0);
@@ -322,6 +342,7 @@ int main(void) {
     test_suffixes();
     test_get();
     test_remove();
+    test_limit_and_key();
     test_rows();
     for (size_t at = 0; at < sizeof FORMS / sizeof *FORMS; at++) test_list(&FORMS[at]);
     test_room();

@@ -45,6 +45,8 @@ static enum cookie_store_status use_suffixes(cookie_store *store) {
     return cookie_store_use_suffixes(store, TEXT("com\n*.ck\n!www.ck\nb\xc3\xbc" "cher.example\n"), &line);
 }
 
+static enum cookie_store_status set_hash_key(cookie_store *store) { return cookie_store_set_hash_key(store, TEXT("0123456789abcdef")); }
+
 static enum cookie_store_status save_json(cookie_store *store) {
     char out[4096];
     size_t needed;
@@ -72,6 +74,7 @@ static const struct {
     {"set again", true, set_again, COOKIE_STORE_UPDATED},
     {"get", true, get, COOKIE_STORE_OK},
     {"use_suffixes", true, use_suffixes, COOKIE_STORE_OK},
+    {"set_hash_key", true, set_hash_key, COOKIE_STORE_OK},
     {"save_json", true, save_json, COOKIE_STORE_OK},
     {"save_ron", true, save_ron, COOKIE_STORE_OK},
     {"load_json", false, load_json, COOKIE_STORE_OK},

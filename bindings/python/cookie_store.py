@@ -54,6 +54,7 @@ class Status(enum.IntEnum):
     HAS_STORE = 25
     NO_ROOM = 26
     NOT_FOUND = 27
+    BAD_LIMIT = 28
     BAD_RULE = 30
     BAD_JSON = 31
     BAD_SHAPE = 32
@@ -129,6 +130,8 @@ _SIGNATURES = {
     'cookie_store_new': (ctypes.c_int, [_AT]),
     'cookie_store_free': (None, [_AT]),
     'cookie_store_use_suffixes': (ctypes.c_int, [_AT, *_TEXT, _LENGTH]),
+    'cookie_store_set_domain_limit': (ctypes.c_int, [_AT, ctypes.c_size_t]),
+    'cookie_store_set_hash_key': (ctypes.c_int, [_AT, *_TEXT]),
     'cookie_store_set': (ctypes.c_int, [_AT, *_TEXT, *_TEXT, ctypes.c_int64]),
     'cookie_store_get': (ctypes.c_int, [_AT, *_TEXT, ctypes.c_int64, *_OUT, _LENGTH]),
     'cookie_store_remove': (ctypes.c_int, [_AT, *_TEXT, *_TEXT, *_TEXT]),
@@ -173,6 +176,8 @@ _LIBRARY = _load_library()
 _new = _LIBRARY.cookie_store_new
 _free = _LIBRARY.cookie_store_free
 _use_suffixes = _LIBRARY.cookie_store_use_suffixes
+_set_domain_limit = _LIBRARY.cookie_store_set_domain_limit
+_set_hash_key = _LIBRARY.cookie_store_set_hash_key
 _set = _LIBRARY.cookie_store_set
 _get = _LIBRARY.cookie_store_get
 _remove = _LIBRARY.cookie_store_remove
@@ -216,8 +221,10 @@ class CookieStore:
         self._at = ctypes.byref(self._store)
         self._lock = threading.Lock()
         self._suffixes: Optional[bytes] = None
+        self._limit: Optional[int] = None
         self._buffer = ctypes.create_string_buffer(4096)
         _check(_new(self._at))
+        self._draw_key()
         self._finalizer = weakref.finalize(self, _free, self._at)
         # Another thread may still be in a call when the program ends.
         self._finalizer.atexit = False
@@ -233,6 +240,10 @@ class CookieStore:
     def __exit__(self, *_: object) -> None:
         self.close()
 
+    def _draw_key(self) -> None:
+        """The maps hash by a key that no server knows."""
+        _check(_set_hash_key(self._at, os.urandom(16), 16))
+
     def use_suffixes(self, text: Text) -> None:
         """Puts the store under the public suffix list of this text, in the format of publicsuffix.org. The cookies that it has stay.
         Raises BadRule, with the number of the line."""
@@ -243,6 +254,17 @@ class CookieStore:
                 raise BadRule(line.value)
             _check(number)
             self._suffixes = rules
+
+    def set_domain_limit(self, limit: int) -> None:
+        """Lets no more than so many cookies of one domain stand from now on, 1 at least: before a cookie is inserted, cookies of its domain
+        leave until it fits, those that have ended first, then those that were inserted least recently. Raises BAD_LIMIT."""
+        limit = operator.index(limit)
+        if limit < 0:
+            raise CookieStoreError(Status.BAD_LIMIT)
+        limit = min(limit, 2**64 - 1)
+        with self._lock:
+            _check(_set_domain_limit(self._at, limit))
+            self._limit = limit
 
     def set(self, url: Text, text: Text, now: Optional[int] = None) -> Status:
         """Takes the cookie of a Set-Cookie header's value that came from the URL, and answers INSERTED, UPDATED, EXPIRED_EXISTING or the
@@ -347,13 +369,16 @@ class CookieStore:
         saved, moment, store = _bytes(text), _moment(now), cls()
         _free(store._at)
         _check(call(store._at, saved, len(saved), moment, all))
+        store._draw_key()
         return store
 
     def copy(self) -> CookieStore:
-        """Another store with the same cookies and the same public suffix list. Raises BAD_END where a cookie ends before the year 0."""
+        """Another store with the same cookies, public suffix list and limit. Its cookies count as inserted in the store's order. Raises BAD_END where a cookie ends before the year 0."""
         other = self.load_ron(self.save_ron(all=True), all=True)
         if self._suffixes is not None:
             other.use_suffixes(self._suffixes)
+        if self._limit is not None:
+            other.set_domain_limit(self._limit)
         return other
 
 

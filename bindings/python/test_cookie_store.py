@@ -92,6 +92,7 @@ CLOSED = [
     ('set', lambda store: store.set(PAGE, 'a=1')),
     ('header', lambda store: store.header(PAGE)),
     ('use_suffixes', lambda store: store.use_suffixes('')),
+    ('set_domain_limit', lambda store: store.set_domain_limit(1)),
     ('remove', lambda store: store.remove('', '', '')),
     ('clear', lambda store: store.clear()),
     ('cookies', lambda store: store.cookies()),
@@ -199,6 +200,19 @@ class StoreTests(unittest.TestCase):
         """Rows of one domain and path stand together, as they came; a longer path does not come first."""
         store = filled('b=2; Path=/', 'a=1', 'd=4; Domain=example', 'c=3; Path=/')
         self.assertEqual(store.header(PAGE, NOW), 'b=2; c=3; a=1; d=4')
+
+    def test_domain_limit(self):
+        store = CookieStore()
+        for limit in (0, -1):
+            self.assert_raises(f'limit {limit}', Status.BAD_LIMIT, store.set_domain_limit, limit)
+        store.set_domain_limit(2**70)
+        store.set_domain_limit(2)
+        for text in ('a=1', 'b=2', 'a=3', 'c=4'):
+            store.set(PAGE, text, NOW)
+        self.assertEqual(store.header(PAGE, NOW), 'b=2; c=4')
+        other = store.copy()
+        other.set(PAGE, 'd=5', NOW)
+        self.assertEqual((other.header(PAGE, NOW), store.header(PAGE, NOW)), ('c=4; d=5', 'b=2; c=4'))
 
     def test_remove(self):
         store = filled('a=1', 'b=2', 'c=3')

@@ -1,5 +1,5 @@
 -- What calls come to.
-use Rattle.std.specs.Prelude.{◌≡◌, ◌⊎◌, ℕ, ◌^◌, ◌-◌, min, List, [], length, Option, Some, None, Result, Ok, Err}
+use Rattle.std.specs.Prelude.{◌≡◌, ◌==◌, if◌then◌else◌, ◌⊎◌, ℕ, ◌^◌, ◌-◌, min, List, [], length, Option, Some, None, Result, Ok, Err}
 use Rattle.cookie_psl.specs.Reading.{rules_from}
 use Rattle.cookie_psl.specs.Rules.{RuleList, SameRules}
 use Rattle.cookie_parts.specs.Cookie.{Row}
@@ -8,7 +8,7 @@ use Rattle.cookie_laws.specs.Runs.{Call, step}
 use Rattle.cookie_store_c.specs.Asked.{text_in}
 use Rattle.cookie_store_c.specs.Statuses.{reply_status}
 use Rattle.cookie_store_c.specs.declared.status.Status.{Status}
-use Rattle.cookie_store_c.specs.declared.status.Status.TheVariants.{Done, NoMemory, NoStore, HasStore, BadRule}
+use Rattle.cookie_store_c.specs.declared.status.Status.TheVariants.{Done, NoMemory, NoStore, HasStore, BadLimit, BadRule}
 
 -- what a call answers, and the store after it, if there is one
 pub record Turn : Type 0 where
@@ -33,6 +33,18 @@ turn (Some store) call = store_turn store call
 abbrev pub new_turn : Option Contents → Turn
 new_turn None = record { status = Done; store = Some (record { rows = []; made = []; suffixes = None; limit = None }) }
 new_turn (Some store) = refused (Some store) HasStore
+
+-- a store stays as it is
+abbrev pub kept_turn : Option Contents → Turn
+kept_turn None = refused None NoStore
+kept_turn (Some store) = record { status = Done; store = Some store }
+
+-- a store lets no more than so many cookies of one domain stand, which are one at least
+abbrev pub limit_turn : ℕ → Option Contents → Turn
+limit_turn n None = refused None NoStore
+limit_turn n (Some store) =
+    if n == 0 then refused (Some store) BadLimit
+    else record { status = Done; store = Some (record store { limit = Some n }) }
 
 -- memory ran out where it may be wanted, and nothing has changed
 abbrev pub RunsOut : Type 0 → Option Contents → Status → Option Contents → Type 0

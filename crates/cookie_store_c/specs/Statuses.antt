@@ -8,7 +8,7 @@ use Rattle.cookie_parts.specs.declared.error.Error.TheVariants as fault
 use Rattle.cookie_parts.specs.declared.store_action.StoreAction.TheVariants as action
 use Rattle.cookie_laws.specs.Runs.{Reply, Stored, Removed, Cleared}
 use Rattle.cookie_store_c.specs.declared.status.Status.{Status}
-use Rattle.cookie_store_c.specs.declared.status.Status.TheVariants.{Done, Inserted, Updated, ExpiredExisting, NonHttpScheme, NonRelativeScheme, DomainMismatch, Expired, Parse, PublicSuffix, UnspecifiedDomain, NoMemory, BadUrl, NotUtf8, BadMoment, NoStore, HasStore, NoRoom, NotFound, BadRule, BadJson, BadShape, BadRon, BadEnd}
+use Rattle.cookie_store_c.specs.declared.status.Status.TheVariants.{Done, Inserted, Updated, ExpiredExisting, NonHttpScheme, NonRelativeScheme, DomainMismatch, Expired, Parse, PublicSuffix, UnspecifiedDomain, NoMemory, BadUrl, NotUtf8, BadMoment, NoStore, HasStore, NoRoom, NotFound, BadLimit, BadRule, BadJson, BadShape, BadRon, BadEnd}
 
 -- the number of a status
 abbrev pub status_code : Status → ℕ
@@ -31,6 +31,7 @@ status_code NoStore = 24
 status_code HasStore = 25
 status_code NoRoom = 26
 status_code NotFound = 27
+status_code BadLimit = 28
 status_code BadRule = 30
 status_code BadJson = 31
 status_code BadShape = 32

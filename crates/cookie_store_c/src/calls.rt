@@ -4,14 +4,16 @@ ghost use Rattle.std.specs.Result.{result_map_both};
 ghost use Rattle.cookie_laws.specs.Rows.{key_at};
 ghost use Rattle.cookie_laws.specs.Runs.{Clear, Remove};
 ghost use Rattle.cookie_store_c.specs.Asked.{look, remove_call, set_call, text_in};
-ghost use Rattle.cookie_store_c.specs.Calls.{store_turn, Comes, ObeysText, RunsOut};
+ghost use Rattle.cookie_store_c.specs.Calls.{limit_turn, store_turn, Comes, ObeysText, RunsOut};
 
 use crate::asked::{request, text_in};
 use crate::status::Status;
-use cookie_store::CookieStore;
 use cookie_store::psl::{List, ListError};
+use cookie_store::{CookieStore, HashKey};
 use std::alloc::Global;
-use std::mem;
+use std::hash::RandomState;
+use std::random::RandomSource;
+use std::{io, mem};
 
 /// Takes the cookie of a Set-Cookie text.
 pub(crate) fn set(
@@ -94,4 +96,44 @@ pub(crate) fn clear(store: &mut CookieStore) -> Status
 {
     store.clear();
     Status::Done
+}
+
+/// Lets no more than so many cookies of one domain stand from now on.
+pub(crate) fn set_domain_limit(alloc: Global, store: &mut CookieStore, limit: usize) -> Status
+    ensures { record { status = result; store = Some store.new } ≡ limit_turn limit (Some store.old) }
+{
+    if limit == 0 {
+        return Status::BadLimit;
+    }
+    let begun = mem::replace(store, CookieStore::new(alloc));
+    *store = begun.with_domain_limit(limit);
+    Status::Done
+}
+
+/// Lets the maps of the store hash by a key of these bytes from now on.
+pub(crate) fn set_hash_key(store: &mut CookieStore, key: &[u8]) -> Status
+    ensures status { (result ≡ Status.Done) ⊎ (result ≡ Status.NoMemory) }
+    ensures store { store.new ≡ store.old }
+{
+    let Ok(state) = RandomState::new(&Drawn { key }) else {
+        return Status::NoMemory;
+    };
+    match store.set_hash_key(HashKey::Drawn(state)) {
+        Ok(()) => Status::Done,
+        Err(_) => Status::NoMemory,
+    }
+}
+
+// Bytes that the caller drew, in the place of those of a system.
+#[derive(Drop)]
+struct Drawn<'a> {
+    key: &'a [u8],
+}
+
+impl<'a> RandomSource for Drawn<'a> {
+    fn fill_bytes(&self, buf: &mut [u8]) -> io::Result<()> {
+        let count = buf.len().min(self.key.len());
+        buf[..count].copy_from_slice(&self.key[..count]);
+        Ok(())
+    }
 }

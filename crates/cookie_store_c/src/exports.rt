@@ -5,7 +5,7 @@ ghost use Rattle.cookie_laws.specs.Runs.{Clear};
 ghost use Rattle.cookie_store.specs.RonLists.{RonCookies};
 ghost use Rattle.cookie_store_c.specs.Asked.{look, moment_in, remove_call, set_call, text_in};
 ghost use Rattle.cookie_store_c.specs.Buffers.{Hands};
-ghost use Rattle.cookie_store_c.specs.Calls.{count_of, in_store, new_turn, turn, Comes, Obeys, RunsOut, Turn};
+ghost use Rattle.cookie_store_c.specs.Calls.{count_of, in_store, kept_turn, limit_turn, new_turn, turn, Comes, Obeys, RunsOut, Turn};
 ghost use Rattle.cookie_store_c.specs.Lists.{json_saved, ron_saved, saved_in, Loads, SaysJson};
 ghost use Rattle.cookie_store_c.specs.Rows.{header_in, TellsRows};
 ghost use Rattle.cookie_store_c.specs.Statuses.{Tells};
@@ -52,6 +52,41 @@ pub extern "C" fn cookie_store_free(alloc: Global, handle: &mut StoreHandle)
     ensures { handle.new.slot.store ≡ None }
 {
     let _store = handle.take(alloc);
+}
+
+/// Lets no more than so many cookies of one domain stand.
+#[unsafe(no_mangle)]
+pub extern "C" fn cookie_store_set_domain_limit(
+    alloc: Global,
+    handle: &mut StoreHandle,
+    limit: usize,
+) -> u32
+    ensures { Tells result (λ status. record { status = status; store = handle.new.slot.store } ≡ limit_turn limit handle.old.slot.store) }
+{
+    let Some(mut store) = handle.take(alloc) else {
+        return Status::NoStore.code();
+    };
+    let status = calls::set_domain_limit(alloc, &mut store, limit);
+    handle.put(alloc, store);
+    status.code()
+}
+
+/// Lets the maps of the store hash by a key.
+#[unsafe(no_mangle)]
+pub extern "C" fn cookie_store_set_hash_key(
+    alloc: Global,
+    handle: &mut StoreHandle,
+    key: &[u8],
+) -> u32
+    ensures { Tells result (λ status. Comes (kept_turn handle.old.slot.store) (IsSome handle.old.slot.store)
+        handle.old.slot.store status handle.new.slot.store) }
+{
+    let Some(mut store) = handle.take(alloc) else {
+        return Status::NoStore.code();
+    };
+    let status = calls::set_hash_key(&mut store, key);
+    handle.put(alloc, store);
+    status.code()
 }
 
 /// Takes the cookie of a Set-Cookie text.
