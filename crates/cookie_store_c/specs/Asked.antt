@@ -34,23 +34,22 @@ url_in text = result_map_both (λ url. url) (λ _. BadUrl) (parse_url None text)
 
 -- a URL's text and a moment
 abbrev pub look : List ℕ → ℤ → Result (List ℕ × Moment) Status
-look url now = and_then (text_in url) (λ url. and_then (moment_in now) (λ now. Ok (url, now)))
+look url now = and_then (text_in url) (λ text. and_then (moment_in now) (λ moment. Ok (text, moment)))
 
 -- a URL and a moment
 abbrev pub request : List ℕ → ℤ → Result (Parts × Moment) Status
-request url now = and_then (look url now) (λ look. and_then (url_in look.0) (λ url. Ok (url, look.1)))
+request url now = and_then (look url now) (λ asked. and_then (url_in asked.0) (λ parts. Ok (parts, asked.1)))
 
 -- a Set-Cookie text that came from a URL at a moment
 abbrev pub set_call : List ℕ → List ℕ → ℤ → Result Call Status
 set_call url text now =
-    and_then (text_in text) (λ text. and_then (request url now) (λ request. Ok (Set text request.0 request.1)))
+    and_then (text_in text) (λ said. and_then (request url now) (λ asked. Ok (Set said asked.0 asked.1)))
 
 -- the cookie of a domain, a path and a name is to go
 abbrev pub remove_call : List ℕ → List ℕ → List ℕ → Result Call Status
 remove_call domain path name =
-    and_then (text_in domain) (λ domain. and_then (text_in path) (λ path. and_then (text_in name) (λ name.
-    Ok (Remove (key_at domain path name)))))
+    and_then (text_in domain) (λ d. and_then (text_in path) (λ p. and_then (text_in name) (λ n. Ok (Remove (key_at d p n)))))
 
--- a result, unless memory ran out
-abbrev pub Gives : {T : Type 0} → Result T Status → Result T Status → Type 0
-Gives result answer = (result ≡ answer) ⊎ (result ≡ Err NoMemory)
+-- the result is the answer, or memory ran out
+abbrev pub GivesOrRunsOut : {T : Type 0} → Result T Status → Result T Status → Type 0
+GivesOrRunsOut result answer = (result ≡ answer) ⊎ (result ≡ Err NoMemory)

@@ -1,7 +1,6 @@
 -- Rows that are saved as a list, and loaded from one.
-use Rattle.std.specs.Prelude.{◌≡◌, ◌⊎◌, ℕ, Bool, false, List, [], ◌∷◌, ◌++◌, map, Option, Some, None, Result, Ok, Err, IsTrue, if◌then◌else◌, ℤ}
+use Rattle.std.specs.Prelude.{◌≡◌, ℕ, Bool, List, [], ◌∷◌, ◌++◌, map, Option, Some, None, Result, Ok, Err, if◌then◌else◌, ℤ}
 use Rattle.std.specs.Result.{result_map_both}
-use Rattle.std.specs.Str.{is_utf8}
 use Rattle.cookie_words.specs.Moments.{Moment}
 use Rattle.cookie_forms.specs.Texts.{pretty_text}
 use Rattle.cookie_forms.specs.WrittenTrees.{list_written}
@@ -10,14 +9,17 @@ use Rattle.cookie_ron.specs.Printed.{ron_written}
 use Rattle.cookie_parts.specs.Cookie.{Row, and_then}
 use Rattle.cookie_parts.specs.Passage.{saved_of}
 use Rattle.cookie_parts.specs.declared.error.Error.{Error}
-use Rattle.cookie_parts.specs.declared.error.Error.TheVariants.{NotUtf8, Saved}
+use Rattle.cookie_parts.specs.declared.error.Error.TheVariants.{Saved}
 use Rattle.cookie_laws.specs.Contents.{Contents, contents_of}
 use Rattle.cookie_laws.specs.Rows.{built}
 use Rattle.cookie_store.specs.JsonLists.{json_cookies}
+use Rattle.cookie_store.specs.RonLists.{RonCookies}
 use Rattle.cookie_store.specs.Saving.{saved_rows}
-use Rattle.cookie_store_c.specs.Asked.{moment_in}
+use Rattle.cookie_store_c.specs.Asked.{moment_in, text_in}
 use Rattle.cookie_store_c.specs.Calls.{Turn, refused}
 use Rattle.cookie_store_c.specs.Statuses.{fault_status}
+use Rattle.cookie_store_c.specs.declared.lists.Form.{Form}
+use Rattle.cookie_store_c.specs.declared.lists.Form.TheVariants.{Json, Ron}
 use Rattle.cookie_store_c.specs.declared.status.Status.{Status}
 use Rattle.cookie_store_c.specs.declared.status.Status.TheVariants.{Done, HasStore}
 
@@ -29,42 +31,39 @@ chosen all now rows = if all then rows else saved_rows now rows
 abbrev pub as_line : Result (List ℕ) SavedError → Result (List ℕ) Status
 as_line text = result_map_both (λ text. text ++ 10 ∷ []) (λ why. fault_status (Saved why)) text
 
--- rows as a list in JSON
-abbrev pub json_saved : List Row → Result (List ℕ) Status
-json_saved rows = as_line (result_map_both pretty_text (λ why. why) (list_written (map saved_of rows)))
+-- rows as a list in JSON or in RON
+abbrev pub saved_as : Form → List Row → Result (List ℕ) Status
+saved_as Json rows = as_line (result_map_both pretty_text (λ why. why) (list_written (map saved_of rows)))
+saved_as Ron rows = as_line (ron_written (map saved_of rows))
 
--- rows as a list in RON
-abbrev pub ron_saved : List Row → Result (List ℕ) Status
-ron_saved rows = as_line (ron_written (map saved_of rows))
+-- the rows of a store that are chosen at so many seconds, as a list
+abbrev pub saved_in : Form → Bool → ℤ → List Row → Result (List ℕ) Status
+saved_in form all now rows = and_then (moment_in now) (λ moment. saved_as form (chosen all moment rows))
 
--- the rows of a store that are chosen at so many seconds, by one of these two
-abbrev pub saved_in : (List Row → Result (List ℕ) Status) → List Row → Bool → ℤ → Result (List ℕ) Status
-saved_in saved rows all now = and_then (moment_in now) (λ now. saved (chosen all now rows))
+-- what a text in JSON or in RON says
+abbrev pub Says : Form → List ℕ → Result (List Row) Error → Type 0
+Says Json text answer = json_cookies text ≡ answer
+Says Ron text answer = RonCookies text answer
 
--- what a text in JSON says
-abbrev pub SaysJson : List ℕ → Result (List Row) Error → Type 0
-SaysJson text answer = json_cookies text ≡ answer
-
--- a list that is loaded says cookies, which a store begins with, or why it says none
+-- the turn of what a list says, all or what has not ended: a store begins with its cookies, or it is told why there are none
 abbrev pub loaded : Bool → Moment → Result (List Row) Error → Turn
 loaded all now (Ok cookies) = record { status = Done; store = Some (contents_of (built all now cookies) None None) }
 loaded all now (Err why) = refused None (fault_status why)
 
-module _ (Says : List ℕ → Result (List Row) Error → Type 0) where
-  -- what bytes say: what their text does, and `NotUtf8` where they are none
-  abbrev pub BytesSay : List ℕ → Result (List Row) Error → Type 0
-  BytesSay bytes answer = (IsTrue (is_utf8 bytes) × Says bytes answer) ⊎ ((is_utf8 bytes ≡ false) × (answer ≡ Err NotUtf8))
+-- a text was loaded
+abbrev pub LoadsText : Form → Bool → Moment → List ℕ → Turn → Type 0
+LoadsText form all now text turn = (answer : Result (List Row) Error) × Says form text answer × (turn ≡ loaded all now answer)
 
-  -- a list was loaded
-  abbrev pub LoadsList : Bool → Moment → List ℕ → Turn → Type 0
-  LoadsList all now list turn = (answer : Result (List Row) Error) × BytesSay list answer × (turn ≡ loaded all now answer)
+-- the moment and the text of a list that is to be loaded
+abbrev pub to_load : ℤ → List ℕ → Result (Moment × List ℕ) Status
+to_load now list = and_then (moment_in now) (λ moment. and_then (text_in list) (λ text. Ok (moment, text)))
 
-  -- the same at so many seconds, if that is a moment
-  abbrev pub LoadsAt : Result Moment Status → Bool → List ℕ → Turn → Type 0
-  LoadsAt (Ok now) all list turn = LoadsList all now list turn
-  LoadsAt (Err status) all list turn = turn ≡ refused None status
+-- a list was loaded at so many seconds
+abbrev pub LoadsAt : Form → Bool → Result (Moment × List ℕ) Status → Turn → Type 0
+LoadsAt form all (Ok given) turn = LoadsText form all given.0 given.1 turn
+LoadsAt form all (Err status) turn = turn ≡ refused None status
 
-  -- the same, where there is no store
-  abbrev pub Loads : Option Contents → Bool → ℤ → List ℕ → Turn → Type 0
-  Loads None all now list turn = LoadsAt (moment_in now) all list turn
-  Loads (Some store) all now list turn = turn ≡ refused (Some store) HasStore
+-- the same, where there is no store
+abbrev pub Loads : Form → Option Contents → Bool → ℤ → List ℕ → Turn → Type 0
+Loads form None all now list turn = LoadsAt form all (to_load now list) turn
+Loads form (Some store) all now list turn = turn ≡ refused (Some store) HasStore

@@ -40,6 +40,10 @@ abbrev pub is_host_only : DomainValue → Bool
 is_host_only (HostOnly d) = true
 is_host_only other = false
 
+-- a flag as a byte
+abbrev pub flag : Bool → ℕ
+flag set = if set then 1 else 0
+
 -- what is told of a row
 abbrev pub row_told : Row → CookieRow
 row_told row = record {
@@ -48,11 +52,11 @@ row_told row = record {
   name_len = length row.raw.name;
   value_len = length row.raw.value;
   ends_at = end_second row.expires;
-  persistent = is_persistent row.expires;
-  host_only = is_host_only row.domain;
-  has_path = row.path.is_from_attribute;
-  secure = is_secure_only row.raw;
-  http_only = is_http_only row.raw;
+  persistent = flag (is_persistent row.expires);
+  host_only = flag (is_host_only row.domain);
+  has_path = flag (row.path.is_from_attribute);
+  secure = flag (is_secure_only row.raw);
+  http_only = flag (is_http_only row.raw);
 }
 
 -- its texts
@@ -67,28 +71,25 @@ pub record Told : Type 0 where
   pub rows_needed : ℕ
   pub texts_needed : ℕ
 
--- rows are told where they and their texts fit
-abbrev pub rows_told : List Row → List CookieRow → List ℕ → Told
-rows_told all rows texts =
-    if nat_le (length all) (length rows) && nat_le (length (flat_map row_texts all)) (length texts) then record {
-      status = Done;
-      rows = at_front (map row_told all) rows;
-      texts = at_front (flat_map row_texts all) texts;
-      rows_needed = length all;
-      texts_needed = length (flat_map row_texts all);
-    }
-    else record {
-      status = NoRoom;
-      rows = rows;
-      texts = texts;
-      rows_needed = length all;
-      texts_needed = length (flat_map row_texts all);
-    }
-
 -- a status alone
 abbrev pub nothing_told : Status → List CookieRow → List ℕ → Told
 nothing_told status rows texts =
     record { status = status; rows = rows; texts = texts; rows_needed = 0; texts_needed = 0 }
+
+-- how long the buffers have to be
+abbrev pub lengths_told : List Row → List CookieRow → List ℕ → Told
+lengths_told all rows texts =
+    record (nothing_told NoRoom rows texts) { rows_needed = length all; texts_needed = length (flat_map row_texts all) }
+
+-- rows are told where they and their texts fit
+abbrev pub rows_told : List Row → List CookieRow → List ℕ → Told
+rows_told all rows texts =
+    if nat_le (length all) (length rows) && nat_le (length (flat_map row_texts all)) (length texts) then record (lengths_told all rows texts) {
+      status = Done;
+      rows = at_front (map row_told all) rows;
+      texts = at_front (flat_map row_texts all) texts;
+    }
+    else lengths_told all rows texts
 
 -- there are more rows, or longer texts, than a machine counts
 abbrev pub IsBeyond : List Row → Type 0

@@ -59,7 +59,8 @@ reply_status (Removed (Some row)) = Done
 reply_status (Removed None) = NotFound
 reply_status Cleared = Done
 
--- that of why a list of cookies is refused
+-- that of why a list of cookies is refused, or not written: a reader and a writer of memory fail for want of it alone, and no list is refused
+-- for what `idna` or a function of the user's says
 abbrev pub fault_status : Error → Status
 fault_status (fault.Cookie refusal) = refusal_status refusal
 fault_status (fault.Saved saved.Json) = BadJson
@@ -67,7 +68,11 @@ fault_status (fault.Saved saved.Shape) = BadShape
 fault_status (fault.Saved saved.Ron) = BadRon
 fault_status (fault.Saved saved.Moment) = BadEnd
 fault_status fault.NotUtf8 = NotUtf8
-fault_status other = NoMemory
+fault_status (fault.Saved saved.Memory) = NoMemory
+fault_status fault.Memory = NoMemory
+fault_status fault.Io = NoMemory
+fault_status (fault.Idna why) = NoMemory
+fault_status (fault.Other text) = NoMemory
 
 -- the number is that of a status with which this holds
 abbrev pub Tells : ℕ → (Status → Type 0) → Type 0

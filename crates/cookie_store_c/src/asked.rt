@@ -1,8 +1,9 @@
 //! What programs in C hand over.
-ghost use Rattle.std.specs.Prelude.{◌≡◌, Err, IsOk};
+ghost use Rattle.std.specs.Prelude.{◌≡◌, ◌↔◌, Err, IsErrAnd, IsOk};
 ghost use Rattle.std.specs.Result.{result_map_both};
+ghost use Rattle.url.specs.Parser.{IsOutOfRoom};
 ghost use Rattle.cookie_words.specs.Moments.{epoch, moment_of};
-ghost use Rattle.cookie_store_c.specs.Asked.{look, moment_in, request, text_in, url_in, Gives};
+ghost use Rattle.cookie_store_c.specs.Asked.{look, moment_in, request, text_in, url_in, GivesOrRunsOut};
 
 use crate::status::Status;
 use cookie_words::moments_are_on_the_scale;
@@ -42,9 +43,17 @@ pub(crate) fn epoch() -> DateTime
 // The URL of a text.
 #[tactic(auto, unfolding(crate::specs::Asked::url_in))]
 fn url_in(alloc: Global, text: &str) -> Result<Url, Status>
-    ensures { Gives result (url_in text.now) }
+    ensures { GivesOrRunsOut result (url_in text.now) }
 {
-    match Url::parse(alloc, text) {
+    parsed_url(Url::parse(alloc, text))
+}
+
+// The URL that was parsed. A refusal that says nothing of the text is want of memory.
+fn parsed_url(parsed: Result<Url, ParseError>) -> Result<Url, Status>
+    ensures url { GivesOrRunsOut result (result_map_both (λ url. url) (λ _. Status.BadUrl) parsed) }
+    ensures room { result ≡ Err Status.NoMemory ↔ IsErrAnd parsed IsOutOfRoom }
+{
+    match parsed {
         Ok(url) => Ok(url),
         Err(ParseError::OutOfMemory) => Err(Status::NoMemory),
         Err(ParseError::Overflow) => Err(Status::NoMemory),
@@ -54,7 +63,7 @@ fn url_in(alloc: Global, text: &str) -> Result<Url, Status>
 
 /// The URL of a text, and the moment so many seconds from the epoch. Memory is wanted only once the rest is read.
 pub(crate) fn request(alloc: Global, url: &[u8], now: i64) -> Result<(Url, DateTime), Status>
-    ensures value { Gives (result_map_both (λ request. (request.0, moment_of request.1)) (λ status. status) result) (request url.now now) }
+    ensures value { GivesOrRunsOut (result_map_both (λ request. (request.0, moment_of request.1)) (λ status. status) result) (request url.now now) }
     ensures memory { result ≡ Err Status.NoMemory → IsOk (look url.now now) }
 {
     let (text, now) = (text_in(url)?, moment_in(now)?);

@@ -2,16 +2,16 @@
 ghost use Rattle.std.specs.Prelude.{◌≡◌, ◌≢◌, ◌⊎◌, ℕ, ◌^◌, ◌≤◌, flat_map, length, option_map, Ok, Some, None, IsOk, IsSome};
 ghost use Rattle.cookie_laws.specs.Contents.{Contents};
 ghost use Rattle.cookie_laws.specs.Runs.{Clear};
-ghost use Rattle.cookie_store.specs.RonLists.{RonCookies};
-ghost use Rattle.cookie_store_c.specs.Asked.{look, moment_in, remove_call, set_call, text_in};
+ghost use Rattle.cookie_store_c.specs.Asked.{look, remove_call, set_call, text_in};
 ghost use Rattle.cookie_store_c.specs.Buffers.{Hands};
 ghost use Rattle.cookie_store_c.specs.Calls.{count_of, in_store, kept_turn, limit_turn, new_turn, turn, Comes, Obeys, RunsOut, Turn};
-ghost use Rattle.cookie_store_c.specs.Lists.{json_saved, ron_saved, saved_in, Loads, SaysJson};
+ghost use Rattle.cookie_store_c.specs.Lists.{saved_in, to_load, Loads};
 ghost use Rattle.cookie_store_c.specs.Rows.{header_in, TellsRows};
 ghost use Rattle.cookie_store_c.specs.Statuses.{Tells};
 ghost use Rattle.cookie_store_c.specs.declared.status.Status.{Status};
 
 use crate::handle::StoreHandle;
+use crate::lists::Form;
 use crate::rows::{self, CookieRow};
 use crate::status::Status;
 use crate::{calls, header, lists};
@@ -236,15 +236,15 @@ pub extern "C" fn cookie_store_save_json(
     out: &mut [u8],
     needed: &mut usize,
 ) -> u32
-    ensures text { Tells result (λ status. Hands (in_store (λ rows. saved_in json_saved rows all now) handle.old.slot.store)
-        (IsOk (in_store (λ rows. saved_in json_saved rows all now) handle.old.slot.store)) out.old status out.new needed.new) }
+    ensures text { Tells result (λ status. Hands (in_store (saved_in Form.Json all now) handle.old.slot.store)
+        (IsOk (in_store (saved_in Form.Json all now) handle.old.slot.store)) out.old status out.new needed.new) }
     ensures store { handle.new.slot.store ≡ handle.old.slot.store }
 {
     *needed = 0;
     let Some(store) = handle.take(alloc) else {
         return Status::NoStore.code();
     };
-    let status = lists::save_json(alloc, &store, now, all, out, needed);
+    let status = lists::save(Form::Json, alloc, &store, now, all, out, needed);
     handle.put(alloc, store);
     status.code()
 }
@@ -259,15 +259,15 @@ pub extern "C" fn cookie_store_save_ron(
     out: &mut [u8],
     needed: &mut usize,
 ) -> u32
-    ensures text { Tells result (λ status. Hands (in_store (λ rows. saved_in ron_saved rows all now) handle.old.slot.store)
-        (IsOk (in_store (λ rows. saved_in ron_saved rows all now) handle.old.slot.store)) out.old status out.new needed.new) }
+    ensures text { Tells result (λ status. Hands (in_store (saved_in Form.Ron all now) handle.old.slot.store)
+        (IsOk (in_store (saved_in Form.Ron all now) handle.old.slot.store)) out.old status out.new needed.new) }
     ensures store { handle.new.slot.store ≡ handle.old.slot.store }
 {
     *needed = 0;
     let Some(store) = handle.take(alloc) else {
         return Status::NoStore.code();
     };
-    let status = lists::save_ron(alloc, &store, now, all, out, needed);
+    let status = lists::save(Form::Ron, alloc, &store, now, all, out, needed);
     handle.put(alloc, store);
     status.code()
 }
@@ -281,14 +281,14 @@ pub extern "C" fn cookie_store_load_json(
     now: i64,
     all: bool,
 ) -> u32
-    ensures { Tells result (λ status. Loads SaysJson handle.old.slot.store all now list.now (record { status = status; store = handle.new.slot.store })
-        ⊎ RunsOut ((handle.old.slot.store ≡ None) × IsOk (moment_in now)) handle.old.slot.store status handle.new.slot.store) }
+    ensures { Tells result (λ status. Loads Form.Json handle.old.slot.store all now list.now (record { status = status; store = handle.new.slot.store })
+        ⊎ RunsOut ((handle.old.slot.store ≡ None) × IsOk (to_load now list.now)) handle.old.slot.store status handle.new.slot.store) }
 {
     if let Some(store) = handle.take(alloc) {
         handle.put(alloc, store);
         return Status::HasStore.code();
     }
-    match lists::load_json(alloc, list, now, all) {
+    match lists::load(Form::Json, alloc, list, now, all) {
         Ok(store) => begin(alloc, handle, store).code(),
         Err(status) => status.code(),
     }
@@ -303,14 +303,14 @@ pub extern "C" fn cookie_store_load_ron(
     now: i64,
     all: bool,
 ) -> u32
-    ensures { Tells result (λ status. Loads RonCookies handle.old.slot.store all now list.now (record { status = status; store = handle.new.slot.store })
-        ⊎ RunsOut ((handle.old.slot.store ≡ None) × IsOk (moment_in now)) handle.old.slot.store status handle.new.slot.store) }
+    ensures { Tells result (λ status. Loads Form.Ron handle.old.slot.store all now list.now (record { status = status; store = handle.new.slot.store })
+        ⊎ RunsOut ((handle.old.slot.store ≡ None) × IsOk (to_load now list.now)) handle.old.slot.store status handle.new.slot.store) }
 {
     if let Some(store) = handle.take(alloc) {
         handle.put(alloc, store);
         return Status::HasStore.code();
     }
-    match lists::load_ron(alloc, list, now, all) {
+    match lists::load(Form::Ron, alloc, list, now, all) {
         Ok(store) => begin(alloc, handle, store).code(),
         Err(status) => status.code(),
     }

@@ -6,11 +6,12 @@ use cookie_store::CookieStore;
 use std::alloc::Global;
 use std::mem;
 
-/// A store that C holds, if it is live. A handle that is not live is two zeros. It is not `Drop`: no store is forgotten.
+/// A store that C holds, if it is live. A handle that is not live is two zeros. It is not `Drop`, so that it does not go out of
+/// scope with a store.
 #[repr(C)]
 pub struct StoreHandle {
     live: bool,
-    slot: Slot,
+    pub slot: Slot,
     ghost agrees: { live ≡ is_some slot.store },
 }
 
@@ -65,7 +66,7 @@ fn sent<T: Send>(value: T) -> T
     value
 }
 
-/// A handle may go to another thread.
+/// A handle may go to another thread: this is accepted only while its type is `Send`.
 pub(crate) fn goes(handle: StoreHandle) -> StoreHandle
     ensures { result ≡ handle }
 {

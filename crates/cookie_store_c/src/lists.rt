@@ -1,15 +1,13 @@
 //! Stores that are saved as a list, and loaded from one.
-ghost use Rattle.std.specs.Prelude.{◌≡◌, ◌⊎◌, Err, Some, None, IfErr, IfOk, IsOk};
+ghost use Rattle.std.specs.Prelude.{◌≡◌, ◌⊎◌, Err, None, Ok, Some, IfErr, IfOk, IsOk};
 ghost use Rattle.std.specs.Result.{result_map_both};
 ghost use Rattle.cookie_words.specs.Moments.{moment_of};
-ghost use Rattle.cookie_store.specs.RonLists.{RonCookies};
-ghost use Rattle.cookie_store_c.specs.Asked.{moment_in};
 ghost use Rattle.cookie_store_c.specs.Buffers.{Hands};
 ghost use Rattle.cookie_store_c.specs.Calls.{refused};
-ghost use Rattle.cookie_store_c.specs.Lists.{chosen, json_saved, ron_saved, saved_in, LoadsAt, LoadsList, SaysJson};
+ghost use Rattle.cookie_store_c.specs.Lists.{chosen, saved_as, saved_in, to_load, LoadsAt, LoadsText};
 ghost use Rattle.cookie_store_c.specs.Statuses.{fault_status};
 
-use crate::asked::moment_in;
+use crate::asked::{moment_in, text_in};
 use crate::buffer::hand_over;
 use crate::status::Status;
 use cookie_store::device::Counted;
@@ -18,8 +16,18 @@ use cookie_store::{CookieStore, Error};
 use jiff::civil::DateTime;
 use std::alloc::Global;
 
-/// Hands over the rows as a list in JSON.
-pub(crate) fn save_json(
+/// What a list is written in.
+#[derive(Clone, Copy)]
+pub enum Form {
+    /// A tree of JSON.
+    Json,
+    /// A list in RON.
+    Ron,
+}
+
+/// Hands over the rows as a list: those that have not ended by the moment and end at one, or all.
+pub(crate) fn save(
+    form: Form,
     alloc: Global,
     store: &CookieStore,
     now: i64,
@@ -27,33 +35,31 @@ pub(crate) fn save_json(
     out: &mut [u8],
     needed: &mut usize,
 ) -> Status
-    ensures { Hands (saved_in json_saved store.now.rows all now) (IsOk (saved_in json_saved store.now.rows all now))
-        out.old result out.new needed.new }
+    ensures { Hands (saved_in form all now store.now.rows) (IsOk (saved_in form all now store.now.rows)) out.old result out.new needed.new }
 {
     let text = match moment_in(now) {
-        Ok(now) => json_text(alloc, store, now, all),
+        Ok(now) => text_of(form, alloc, store, now, all),
         Err(status) => Err(status),
     };
     hand_over(text, out, needed)
 }
 
-/// Hands over the rows as a list in RON.
-pub(crate) fn save_ron(
+// The rows as a list.
+fn text_of(
+    form: Form,
     alloc: Global,
     store: &CookieStore,
-    now: i64,
+    now: DateTime,
     all: bool,
-    out: &mut [u8],
-    needed: &mut usize,
-) -> Status
-    ensures { Hands (saved_in ron_saved store.now.rows all now) (IsOk (saved_in ron_saved store.now.rows all now))
-        out.old result out.new needed.new }
+) -> Result<Vec<u8>, Status>
+    ensures text { IfOk result (λ text. saved_as form (chosen all (moment_of now) store.now.rows) ≡ Ok text.items) }
+    ensures refused { IfErr result (λ status. (saved_as form (chosen all (moment_of now) store.now.rows) ≡ Err status)
+        ⊎ ((status ≡ Status.NoMemory) × IsOk (saved_as form (chosen all (moment_of now) store.now.rows)))) }
 {
-    let text = match moment_in(now) {
-        Ok(now) => ron_text(alloc, store, now, all),
-        Err(status) => Err(status),
-    };
-    hand_over(text, out, needed)
+    match form {
+        Form::Json => json_text(alloc, store, now, all),
+        Form::Ron => ron_text(alloc, store, now, all),
+    }
 }
 
 // The rows as a list in JSON.
@@ -63,9 +69,9 @@ fn json_text(
     now: DateTime,
     all: bool,
 ) -> Result<Vec<u8>, Status>
-    ensures text { IfOk result (λ text. json_saved (chosen all (moment_of now) store.now.rows) ≡ Ok text.items) }
-    ensures refused { IfErr result (λ status. (json_saved (chosen all (moment_of now) store.now.rows) ≡ Err status)
-        ⊎ ((status ≡ Status.NoMemory) × IsOk (json_saved (chosen all (moment_of now) store.now.rows)))) }
+    ensures text { IfOk result (λ text. saved_as Form.Json (chosen all (moment_of now) store.now.rows) ≡ Ok text.items) }
+    ensures refused { IfErr result (λ status. (saved_as Form.Json (chosen all (moment_of now) store.now.rows) ≡ Err status)
+        ⊎ ((status ≡ Status.NoMemory) × IsOk (saved_as Form.Json (chosen all (moment_of now) store.now.rows)))) }
 {
     let mut writer = Counted::new(Vec::new(alloc));
     let saved = if all {
@@ -81,9 +87,9 @@ fn json_text(
 
 // The rows as a list in RON.
 fn ron_text(alloc: Global, store: &CookieStore, now: DateTime, all: bool) -> Result<Vec<u8>, Status>
-    ensures text { IfOk result (λ text. ron_saved (chosen all (moment_of now) store.now.rows) ≡ Ok text.items) }
-    ensures refused { IfErr result (λ status. (ron_saved (chosen all (moment_of now) store.now.rows) ≡ Err status)
-        ⊎ ((status ≡ Status.NoMemory) × IsOk (ron_saved (chosen all (moment_of now) store.now.rows)))) }
+    ensures text { IfOk result (λ text. saved_as Form.Ron (chosen all (moment_of now) store.now.rows) ≡ Ok text.items) }
+    ensures refused { IfErr result (λ status. (saved_as Form.Ron (chosen all (moment_of now) store.now.rows) ≡ Err status)
+        ⊎ ((status ≡ Status.NoMemory) × IsOk (saved_as Form.Ron (chosen all (moment_of now) store.now.rows)))) }
 {
     let mut writer = Counted::new(Vec::new(alloc));
     let saved = if all {
@@ -97,57 +103,39 @@ fn ron_text(alloc: Global, store: &CookieStore, now: DateTime, all: bool) -> Res
     }
 }
 
-/// A store of the cookies of a list in JSON, those that have not ended by the moment or all.
-pub(crate) fn load_json(
+/// A store of the cookies of a list: those that have not ended by the moment, or all.
+pub(crate) fn load(
+    form: Form,
     alloc: Global,
     list: &[u8],
     now: i64,
     all: bool,
 ) -> Result<CookieStore, Status>
-    ensures store { IfOk result (λ store. LoadsAt SaysJson (moment_in now) all list.now (record { status = Status.Done; store = Some store })) }
-    ensures refused { IfErr result (λ status. LoadsAt SaysJson (moment_in now) all list.now (refused None status)
-        ⊎ ((status ≡ Status.NoMemory) × IsOk (moment_in now))) }
+    ensures store { IfOk result (λ store. LoadsAt form all (to_load now list.now) (record { status = Status.Done; store = Some store })) }
+    ensures refused { IfErr result (λ status. LoadsAt form all (to_load now list.now) (refused None status)
+        ⊎ ((status ≡ Status.NoMemory) × IsOk (to_load now list.now))) }
 {
-    json_store(alloc, list, moment_in(now)?, all)
+    let now = moment_in(now)?;
+    store_of(form, alloc, text_in(list)?, now, all)
 }
 
-/// A store of the cookies of a list in RON, those that have not ended by the moment or all.
-pub(crate) fn load_ron(
+// A store of the cookies of a text.
+fn store_of(
+    form: Form,
     alloc: Global,
-    list: &[u8],
-    now: i64,
+    text: &str,
+    now: DateTime,
     all: bool,
 ) -> Result<CookieStore, Status>
-    ensures store { IfOk result (λ store. LoadsAt RonCookies (moment_in now) all list.now (record { status = Status.Done; store = Some store })) }
-    ensures refused { IfErr result (λ status. LoadsAt RonCookies (moment_in now) all list.now (refused None status)
-        ⊎ ((status ≡ Status.NoMemory) × IsOk (moment_in now))) }
+    ensures store { IfOk result (λ store. LoadsText form all (moment_of now) text.now (record { status = Status.Done; store = Some store })) }
+    ensures refused { IfErr result (λ status. LoadsText form all (moment_of now) text.now (refused None status) ⊎ (status ≡ Status.NoMemory)) }
 {
-    ron_store(alloc, list, moment_in(now)?, all)
-}
-
-// A store of the cookies of a list in JSON.
-fn json_store(alloc: Global, list: &[u8], now: DateTime, all: bool) -> Result<CookieStore, Status>
-    ensures store { IfOk result (λ store. LoadsList SaysJson all (moment_of now) list.now (record { status = Status.Done; store = Some store })) }
-    ensures refused { IfErr result (λ status. LoadsList SaysJson all (moment_of now) list.now (refused None status) ⊎ (status ≡ Status.NoMemory)) }
-{
-    let mut reader = Counted::new(list);
-    if all {
-        loaded(json::load_all(alloc, &mut reader, now))
-    } else {
-        loaded(json::load(alloc, &mut reader, now))
-    }
-}
-
-// A store of the cookies of a list in RON.
-fn ron_store(alloc: Global, list: &[u8], now: DateTime, all: bool) -> Result<CookieStore, Status>
-    ensures store { IfOk result (λ store. LoadsList RonCookies all (moment_of now) list.now (record { status = Status.Done; store = Some store })) }
-    ensures refused { IfErr result (λ status. LoadsList RonCookies all (moment_of now) list.now (refused None status) ⊎ (status ≡ Status.NoMemory)) }
-{
-    let mut reader = Counted::new(list);
-    if all {
-        loaded(ron::load_all(alloc, &mut reader, now))
-    } else {
-        loaded(ron::load(alloc, &mut reader, now))
+    let mut reader = Counted::new(text.as_bytes());
+    match (form, all) {
+        (Form::Json, true) => loaded(json::load_all(alloc, &mut reader, now)),
+        (Form::Json, false) => loaded(json::load(alloc, &mut reader, now)),
+        (Form::Ron, true) => loaded(ron::load_all(alloc, &mut reader, now)),
+        (Form::Ron, false) => loaded(ron::load(alloc, &mut reader, now)),
     }
 }
 

@@ -14,7 +14,8 @@ use crate::status::Status;
 use cookie_store::{Cookie, CookieDomain, CookieExpiration, CookieStore, IterAny};
 use jiff::civil::DateTime;
 
-/// What is told of a row. Its texts stand elsewhere: domain, path, name, value.
+/// What is told of a row. Its texts stand elsewhere: domain, path, name, value. What is a `bool` of C is a byte here, 0 or 1, for what a
+/// caller hands over may be any byte.
 #[repr(C)]
 #[derive(Clone, Copy)]
 pub struct CookieRow {
@@ -23,11 +24,11 @@ pub struct CookieRow {
     pub name_len: usize,
     pub value_len: usize,
     pub ends_at: i64,
-    pub persistent: bool,
-    pub host_only: bool,
-    pub has_path: bool,
-    pub secure: bool,
-    pub http_only: bool,
+    pub persistent: u8,
+    pub host_only: u8,
+    pub has_path: u8,
+    pub secure: u8,
+    pub http_only: u8,
 }
 
 /// Tells all rows, and their texts one after the other.
@@ -63,8 +64,7 @@ pub(crate) fn rows_len(all: IterAny<'_>) -> Option<usize>
     ensures { MatchOption result (2 ^ 64 ≤ length all.entry) (λ n. n ≡ length all.entry) }
 {
     let mut count: usize = 0;
-    for row in all {
-        let _row = row;
+    for _row in all {
         count = count.checked_add(1)?;
     }
     Some(count)
@@ -130,11 +130,11 @@ fn told(row: &Cookie<'static>) -> CookieRow
         name_len: row.name().len(),
         value_len: row.value().len(),
         ends_at: end_second(&row.expires),
-        persistent: row.is_persistent(),
-        host_only: matches!(row.domain, CookieDomain::HostOnly(_)),
-        has_path: row.path.is_from_path_attr(),
-        secure: row.raw().secure().unwrap_or(false),
-        http_only: row.raw().http_only().unwrap_or(false),
+        persistent: u8::from(row.is_persistent()),
+        host_only: u8::from(matches!(row.domain, CookieDomain::HostOnly(_))),
+        has_path: u8::from(row.path.is_from_path_attr()),
+        secure: u8::from(row.raw().secure().unwrap_or(false)),
+        http_only: u8::from(row.raw().http_only().unwrap_or(false)),
     }
 }
 

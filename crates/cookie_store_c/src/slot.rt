@@ -7,8 +7,8 @@ use std::alloc::Global;
 use std::marker::Model;
 use std::ptr;
 
-/// Where a store lies that C holds, if there is one. It is not `Drop`, so that no store is forgotten: what takes a slot makes
-/// a box of its store, or shows that it has none.
+/// Where a store lies that C holds, if there is one. It is not `Drop`, so that it does not go out of scope with a
+/// store: what takes a slot makes a box of its store, or shows that it has none.
 #[repr(C)]
 pub struct Slot {
     at: *mut u8,

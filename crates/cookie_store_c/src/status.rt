@@ -109,7 +109,11 @@ impl Status {
             Error::Saved(SavedError::Ron) => Status::BadRon,
             Error::Saved(SavedError::Moment) => Status::BadEnd,
             Error::NotUtf8 => Status::NotUtf8,
-            _ => Status::NoMemory,
+            Error::Saved(SavedError::Memory)
+            | Error::Memory
+            | Error::Io
+            | Error::Idna(_)
+            | Error::Other(_) => Status::NoMemory,
         }
     }
 }

@@ -4,8 +4,8 @@ use Rattle.cookie_store_c.proofs.rows.rows_len.Given as goal
 
 abbrev pub invariant-loop-row : goal.invariant-loop-row
 invariant-loop-row l = record {
-  can : goal.iterator-loop-row.can_next l.row-iterator;
-  ends : goal.iterator-loop-row.is_finite l.row-iterator;
-  rest : map (λ c. c.now) l.yielded ++ l.row-iterator ≡ l.fn.all;
+  can : goal.iterator-loop-row.can_next l._row-iterator;
+  ends : goal.iterator-loop-row.is_finite l._row-iterator;
+  rest : map (λ c. c.now) l.yielded ++ l._row-iterator ≡ l.fn.all;
   counted : l.count ≡ length l.yielded;
 }
