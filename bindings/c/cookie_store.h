@@ -10,8 +10,9 @@
  *     cookie_store_free(&store);
  *
  * A text is a pointer and a length in bytes; it needs no zero at its end, and none is written. Any bytes may be handed over: what is no
- * UTF-8, no URL or no list is answered by a status of its own. A pointer is never NULL, not even where the length is 0, and is aligned
- * for its type. What a call writes to overlaps nothing else that it is handed, the store and the lengths included.
+ * UTF-8, no URL or no list is answered by a status of its own. All bytes of a length can be read, or written where the call writes, and
+ * they are PTRDIFF_MAX at most. A pointer is never NULL, not even where the length is 0, and is aligned for its type. What a call writes to
+ * overlaps nothing else that it is handed, the store and the lengths included. A bool is 0 or 1.
  *
  * A moment is the number of seconds since 1970-01-01T00:00:00 UTC, without leap seconds, as time(2) tells it. A cookie that ends at a
  * moment has ended at that moment.
@@ -21,8 +22,9 @@
  * to anything, tells the length. With each call stand the statuses by which it is not done, in the order in which they are tested. Where a `;`
  * stands, NO_MEMORY may come in the place of those behind it, and of a call that would be done; where none stands it does not come.
  *
- * One store is used by one thread at a time, also by calls that only ask; different stores may be used at once. A store may go from one
- * thread to another. */
+ * One store is used by one thread at a time, also by calls that only ask, with a lock, a join or the like between two threads; different
+ * stores may be used at once. No call is made from a signal handler, nor in the forked child of a program with threads. Memory is had from
+ * malloc, realloc and free, which are those of one allocator. An enum has 32 bits. */
 #ifndef COOKIE_STORE_H
 #define COOKIE_STORE_H
 
@@ -89,7 +91,8 @@ enum cookie_store_status {
     COOKIE_STORE_BAD_END = 34
 };
 
-/* A store, or none. It begins as COOKIE_STORE_INIT, which is none. It is not copied, and its members are not touched. */
+/* A store, or none. It begins as COOKIE_STORE_INIT, which is none, and so are all zeros. Its members are not touched. It may be moved by
+ * memcpy, if the old one is not used again; else it is not copied. */
 typedef struct cookie_store {
     bool live;
     void *at;
@@ -97,7 +100,7 @@ typedef struct cookie_store {
 
 #define COOKIE_STORE_INIT { false, NULL }
 
-/* Begins a store without cookies, without a public suffix list and without a limit. HAS_STORE; */
+/* Begins a store without cookies, without a public suffix list and without a limit. HAS_STORE; NO_MEMORY. */
 enum cookie_store_status cookie_store_new(cookie_store *store);
 
 /* Frees the store, if there is one. Then there is none. */
@@ -109,11 +112,13 @@ void cookie_store_free(cookie_store *store);
 enum cookie_store_status cookie_store_use_suffixes(cookie_store *store, const char *list, size_t list_len, size_t *bad_line);
 
 /* Lets no more than so many cookies of one domain stand from now on, RFC 6265 6.1: before a cookie is inserted, cookies of its domain leave
- * until it fits, those that have ended first, then those that were inserted least recently. NO_STORE, BAD_LIMIT. */
+ * until it fits, those that have ended first, then those that were inserted least recently. The cookies that it has stay till then.
+ * NO_STORE, BAD_LIMIT. */
 enum cookie_store_status cookie_store_set_domain_limit(cookie_store *store, size_t limit);
 
 /* Lets the maps of the store hash by a key from now on, of which the first 16 bytes count. It changes no answer. Who takes cookies of servers
- * that he does not trust hands over random bytes, so that no server can choose names that make the store slow. NO_STORE; */
+ * that he does not trust hands over random bytes, so that no server can choose names that make the store slow; a key of fewer
+ * bytes is filled up with zeros. NO_STORE; NO_MEMORY. */
 enum cookie_store_status cookie_store_set_hash_key(cookie_store *store, const char *key, size_t key_len);
 
 /* Takes the cookie of one Set-Cookie header's value that came from the URL at the moment, RFC 6265 5.3. Done: INSERTED, UPDATED,
@@ -137,7 +142,8 @@ enum cookie_store_status cookie_store_remove(cookie_store *store, const char *do
 /* Removes all cookies. List, limit and key stay. NO_STORE. */
 enum cookie_store_status cookie_store_clear(cookie_store *store);
 
-/* How many cookies the store has, also such as have ended: they stand until they are removed. 0 where there is no store. */
+/* How many cookies the store has, also such as have ended: they stand until they are removed. 0 where there is no store, and
+ * SIZE_MAX where there are more. */
 size_t cookie_store_count(cookie_store *store);
 
 /* A cookie, as an editor shows it. Its texts stand elsewhere, one after the other: domain, path, name, value. */
@@ -159,18 +165,19 @@ typedef struct cookie_store_row {
 } cookie_store_row;
 
 /* Tells all cookies, in the store's order, also such as have ended: each in one of `rows`, and their texts one after the other in
- * `texts`. `rows_needed` is the number of rows, and `texts_needed` the length of all texts. NO_STORE, NO_ROOM. */
+ * `texts`. `rows_needed` is the number of rows, and `texts_needed` the length of all texts. NO_STORE, NO_ROOM, and NO_MEMORY where one of
+ * these is 2^64 or more. */
 enum cookie_store_status cookie_store_rows(cookie_store *store, cookie_store_row *rows, size_t rows_len, char *texts,
                                            size_t texts_len, size_t *rows_needed, size_t *texts_needed);
 
 /* Writes the cookies as a list in JSON or RON and a line feed, in UTF-8: all of them, or else those that have not ended by the
- * moment and do not end with the session. NO_STORE, BAD_MOMENT, BAD_END; NO_ROOM. */
+ * moment and do not end with the session. The moment is tested in both cases. NO_STORE, BAD_MOMENT, BAD_END; NO_ROOM. */
 enum cookie_store_status cookie_store_save_json(cookie_store *store, int64_t now, bool all, char *out, size_t out_len, size_t *needed);
 enum cookie_store_status cookie_store_save_ron(cookie_store *store, int64_t now, bool all, char *out, size_t out_len, size_t *needed);
 
-/* Begins a store with the cookies of such a list: all of them, or else those that have not ended by the moment. It has no public
- * suffix list and no limit, and the domains of the cookies are not tested. HAS_STORE, BAD_MOMENT; NOT_UTF8, BAD_JSON, BAD_SHAPE or BAD_RON,
- * BAD_END, PARSE. */
+/* Begins a store with the cookies of such a list: all of them, or else those that have not ended by the moment, which is tested in both
+ * cases. A later cookie takes the place of an earlier one of its domain, path and name. The store has no public suffix list and no
+ * limit, and the domains of the cookies are not tested. HAS_STORE, BAD_MOMENT, NOT_UTF8; BAD_JSON, BAD_SHAPE or BAD_RON, BAD_END, PARSE. */
 enum cookie_store_status cookie_store_load_json(cookie_store *store, const char *list, size_t list_len, int64_t now, bool all);
 enum cookie_store_status cookie_store_load_ron(cookie_store *store, const char *list, size_t list_len, int64_t now, bool all);
 

@@ -336,8 +336,45 @@ static void test_layout(void) {
     equal("size of a status", (long)sizeof(enum cookie_store_status), 4);
 }
 
+#if defined(__GLIBC__) && (__GLIBC__ > 2 || __GLIBC_MINOR__ >= 33)
+#include <malloc.h>
+
+static size_t used(void) { return mallinfo2().uordblks; }
+#else
+static size_t used(void) { return 0; }
+#endif
+
+/* Stores that are filled, asked, changed, saved, loaded and freed leave no memory behind, once malloc has its stock of free blocks. */
+static void test_memory(void) {
+    char list[1024];
+    size_t needed = 0, before = 0;
+    for (int round = 0; round < 1000; round++) {
+        cookie_store store = COOKIE_STORE_INIT;
+        if (round == 500) before = used();
+        cookie_store_new(&store);
+        cookie_store_use_suffixes(&store, TEXT("com\nco.uk"), &needed);
+        cookie_store_use_suffixes(&store, TEXT("com"), &needed);
+        cookie_store_set_hash_key(&store, "0123456789abcdef", 16);
+        set(&store, PAGE, "a=1; Max-Age=60", NOW);
+        set(&store, PAGE, "b=2; Domain=b.example", NOW);
+        cookie_store_set_domain_limit(&store, 5);
+        cookie_store_get(&store, TEXT(PAGE), NOW, list, sizeof list, &needed);
+        cookie_store_save_json(&store, NOW, true, list, sizeof list, &needed);
+        cookie_store_remove(&store, TEXT("a.example"), TEXT("/d"), TEXT("a"));
+        cookie_store_clear(&store);
+        cookie_store_load_json(&store, list, needed, NOW, true);
+        cookie_store_free(&store);
+        cookie_store_load_json(&store, list, needed, NOW, true);
+        cookie_store_free(&store);
+        cookie_store_load_json(&store, list, needed - 3, NOW, true);
+        cookie_store_free(&store);
+    }
+    equal("memory that is left behind", (long)(used() - before), 0);
+}
+
 int main(void) {
     test_layout();
+    test_memory();
     test_set();
     test_suffixes();
     test_get();

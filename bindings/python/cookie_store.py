@@ -224,10 +224,10 @@ class CookieStore:
         self._limit: Optional[int] = None
         self._buffer = ctypes.create_string_buffer(4096)
         _check(_new(self._at))
-        self._draw_key()
         self._finalizer = weakref.finalize(self, _free, self._at)
         # Another thread may still be in a call when the program ends.
         self._finalizer.atexit = False
+        self._draw_key()
 
     def close(self) -> None:
         """Frees the store. Then calls raise NO_STORE, and there are no cookies to count."""
@@ -373,7 +373,8 @@ class CookieStore:
         return store
 
     def copy(self) -> CookieStore:
-        """Another store with the same cookies, public suffix list and limit. Its cookies count as inserted in the store's order. Raises BAD_END where a cookie ends before the year 0."""
+        """Another store with the same cookies, public suffix list and limit, whose cookies count as inserted in the store's order. Raises
+        BAD_END where a cookie ends before the year 0."""
         other = self.load_ron(self.save_ron(all=True), all=True)
         if self._suffixes is not None:
             other.use_suffixes(self._suffixes)
