@@ -29,6 +29,7 @@ except ImportError:
     requests = None
 
 HEADER = pathlib.Path(__file__).resolve().parent.parent / 'c' / 'cookie_store.h'
+PROVED = HEADER.parent.parent.parent / 'crates' / 'cookie_store_c' / 'src'
 PAGE = 'http://a.example/d/page'
 NOW = 1767225600  # 2026-01-01T00:00:00
 FIRST, LAST = -377705116800, 253402300799  # the years -9999 and 9999
@@ -280,7 +281,7 @@ class StoreTests(unittest.TestCase):
 
 
 class HeaderTests(unittest.TestCase):
-    """The header says what the module says."""
+    """The header says what the module says, and what the functions that are proved are."""
 
     TYPES = {'cookie_store *': ctypes.POINTER(cookie_store._Store), 'cookie_store_row *': ctypes.POINTER(cookie_store._Row),
              'const char *': ctypes.c_char_p, 'char *': ctypes.POINTER(ctypes.c_char), 'size_t': ctypes.c_size_t,
@@ -309,6 +310,31 @@ class HeaderTests(unittest.TestCase):
         calls = re.findall(r'^(enum cookie_store_status|void|size_t) (cookie_store_\w+)\((.*?)\);', self.text, re.M | re.S)
         told = {name: (self.TYPES[answer], [self.declared(word)[1] for word in taken.split(',')]) for answer, name, taken in calls}
         self.assertEqual(told, cookie_store._SIGNATURES)
+
+    # What a parameter, an answer or a field of Rattle's is to C. An allocator is nothing to it.
+    IN_C = {'Global': [], '&mut StoreHandle': ['cookie_store *'], '&[u8]': ['const char *', 'size_t'], '&mut [u8]': ['char *', 'size_t'],
+            '&mut [CookieRow]': ['cookie_store_row *', 'size_t'], '&mut usize': ['size_t *'], 'usize': ['size_t'], 'i64': ['int64_t'],
+            'bool': ['bool'], 'u8': ['bool'], 'u32': ['enum cookie_store_status'], '': ['void']}
+
+    def in_c(self, words):
+        return [self.TYPES[kind] for word in words for kind in self.IN_C[word.strip()]]
+
+    def test_proved_signatures(self):
+        exports = re.findall(r'#\[unsafe\(no_mangle\)\]\npub extern "C" fn (\w+)\((.*?)\)(?: -> (\w+))?\n', (PROVED / 'exports.rt').read_text(), re.S)
+        proved = {name: (self.in_c([answer])[0], self.in_c(re.findall(r'\w+: ([^,]+)', taken))) for name, taken, answer in exports}
+        self.assertEqual(proved, cookie_store._SIGNATURES)
+
+    def test_proved_statuses(self):
+        told = {name: int(number) for name, number in re.findall(r'Status::(\w+) => (\d+),', (PROVED / 'status.rt').read_text())}
+        shout = {re.sub(r'(?<=[a-z])(?=[A-Z])', '_', name).upper(): number for name, number in told.items()}
+        self.assertEqual({'OK' if name == 'DONE' else name: number for name, number in shout.items()}, {status.name: status.value for status in Status})
+
+    def test_proved_structs(self):
+        body = re.search(r'pub struct CookieRow \{(.*?)\}', (PROVED / 'rows.rt').read_text(), re.S).group(1)
+        fields = [(name, self.in_c([kind])[0]) for name, kind in re.findall(r'pub (\w+): (\w+),', body)]
+        self.assertEqual(fields, cookie_store._Row._fields_)
+        self.assertRegex((PROVED / 'handle.rt').read_text(), r'#\[repr\(C\)\]\npub struct StoreHandle \{\n    live: bool,\n    pub slot: Slot,')
+        self.assertRegex((PROVED / 'slot.rt').read_text(), r'#\[repr\(C\)\]\npub struct Slot \{\n    at: \*mut u8,')
 
 
 class Response:
