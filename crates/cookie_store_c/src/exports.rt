@@ -1,10 +1,9 @@
 //! What programs in C call. The header says what each answers.
-ghost use Rattle.std.specs.Prelude.{◌≡◌, ◌≢◌, ◌⊎◌, ℕ, ◌^◌, ◌≤◌, flat_map, length, option_map, Ok, Some, None, IsOk, IsSome};
-ghost use Rattle.cookie_laws.specs.Contents.{Contents};
+ghost use Rattle.std.specs.Prelude.{◌≡◌, ◌⊎◌, Ok, Some, None, IsOk, IsSome};
 ghost use Rattle.cookie_laws.specs.Runs.{Clear};
 ghost use Rattle.cookie_store_c.specs.Asked.{look, remove_call, set_call, text_in};
 ghost use Rattle.cookie_store_c.specs.Buffers.{Hands};
-ghost use Rattle.cookie_store_c.specs.Calls.{count_of, in_store, kept_turn, limit_turn, new_turn, turn, Comes, Obeys, RunsOut, Turn};
+ghost use Rattle.cookie_store_c.specs.Calls.{count_of, in_store, kept_turn, limit_turn, new_turn, turn, Comes, Obeys, RunsOut};
 ghost use Rattle.cookie_store_c.specs.Lists.{saved_in, to_load, Loads};
 ghost use Rattle.cookie_store_c.specs.Rows.{header_in, TellsRows};
 ghost use Rattle.cookie_store_c.specs.Statuses.{Tells};

@@ -1,9 +1,7 @@
 //! The Cookie header of a request, RFC 6265 4.2.1.
-ghost use Rattle.std.specs.Prelude.{◌≡◌, ◌⊎◌, ℕ, ◌+◌, ◌^◌, ◌≤◌, ◌++◌, codes, flat_map, length, map, Ok, IsOk, List};
+ghost use Rattle.std.specs.Prelude.{◌≡◌, ◌⊎◌, ℕ, ◌+◌, ◌^◌, ◌≤◌, ◌++◌, flat_map, length, map, IsOk, List};
 ghost use Rattle.std.specs.Option.{MatchOption};
-ghost use Rattle.cookie_parts.specs.Cookie.{and_then};
-ghost use Rattle.cookie_laws.specs.Given.{given};
-ghost use Rattle.cookie_store_c.specs.Asked.{look, request};
+ghost use Rattle.cookie_store_c.specs.Asked.{look};
 ghost use Rattle.cookie_store_c.specs.Buffers.{at_front, handed_text, Hands, Stands};
 ghost use Rattle.cookie_store_c.specs.Rows.{cookie_string, header_in, later_pair, pair_text};
 ghost use Rattle.cookie_store_c.specs.declared.status.Status.TheVariants.{NoMemory};

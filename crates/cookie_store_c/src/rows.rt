@@ -1,5 +1,5 @@
 //! All rows of a store, as an editor shows them.
-ghost use Rattle.std.specs.Prelude.{◌≡◌, ◌⊎◌, ℕ, ◌+◌, ◌^◌, ◌≤◌, ◌++◌, flat_map, length, map, pos};
+ghost use Rattle.std.specs.Prelude.{◌≡◌, ◌⊎◌, ◌+◌, ◌^◌, ◌≤◌, flat_map, length, map, pos};
 ghost use Rattle.std.specs.Option.{MatchOption};
 ghost use Rattle.std.specs.Int.{int_div_euclid};
 ghost use Rattle.cookie_words.specs.Moments.{moment_of, nanoseconds};
