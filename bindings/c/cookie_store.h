@@ -4,9 +4,15 @@
  *     char header[4096];
  *     size_t needed;
  *     if (cookie_store_new(&store) != COOKIE_STORE_OK) abort();
- *     cookie_store_set(&store, url, strlen(url), set_cookie, strlen(set_cookie), time(NULL));
+ *     if (cookie_store_set(&store, url, strlen(url), set_cookie, strlen(set_cookie), time(NULL)) == COOKIE_STORE_NO_MEMORY) abort();
  *     if (cookie_store_get(&store, url, strlen(url), time(NULL), header, sizeof header, &needed) == COOKIE_STORE_OK && needed > 0)
  *         printf("Cookie: %.*s\n", (int)needed, header);
+ *     if (cookie_store_save_json(&store, time(NULL), false, header, 0, &needed) == COOKIE_STORE_NO_ROOM) {
+ *         char *list = malloc(needed);
+ *         if (list && cookie_store_save_json(&store, time(NULL), false, list, needed, &needed) == COOKIE_STORE_OK)
+ *             fwrite(list, 1, needed, file);
+ *         free(list);
+ *     }
  *     cookie_store_free(&store);
  *
  * A text is a pointer and a length in bytes; it needs no zero at its end, and none is written. Any bytes may be handed over: what is no
@@ -17,10 +23,13 @@
  * A moment is the number of seconds since 1970-01-01T00:00:00 UTC, without leap seconds, as time(2) tells it. A cookie that ends at a
  * moment has ended at that moment.
  *
- * A call that is not done leaves the store as it was, and writes to no buffer. The lengths that are told (`needed` and its like) are always
- * set: to what is needed after COOKIE_STORE_OK and COOKIE_STORE_NO_ROOM, and else to 0. So a call that is handed a length of 0, and a pointer
- * to anything, tells the length. With each call stand the statuses by which it is not done, in the order in which they are tested. Where a `;`
- * stands, NO_MEMORY may come in the place of those behind it, and of a call that would be done; where none stands it does not come.
+ * A call that is not done leaves the store as it was, and writes to no buffer of texts or rows. The lengths that are told (`needed` and its
+ * like) are always set: to what is needed after COOKIE_STORE_OK and COOKIE_STORE_NO_ROOM, and else to 0. So a call that is handed a length of
+ * 0, and a pointer to anything, tells the length.
+ *
+ * With each call stand the statuses by which it is not done: the first of them that holds is answered. Want of memory shows late: it is
+ * answered, as NO_MEMORY, only where none of those before a `;` holds, and then it may come in the place of those behind it too. A call without
+ * a `;` never wants memory.
  *
  * One store is used by one thread at a time, also by calls that only ask, with a lock, a join or the like between two threads; different
  * stores may be used at once. No call is made from a signal handler, nor in the forked child of a program with threads. Memory is had from
@@ -36,13 +45,13 @@
 extern "C" {
 #endif
 
-/* What a call answers. The numbers stay as they are. */
+/* What a call answers: below 10 that it is done. The numbers stay as they are. */
 enum cookie_store_status {
     /* It is done. */
     COOKIE_STORE_OK = 0,
     /* The cookie was put as a new one. */
     COOKIE_STORE_INSERTED = 1,
-    /* The cookie took the place of the one of its domain, path and name. */
+    /* The cookie took the place of the one of its domain, path and name, which may have ended. */
     COOKIE_STORE_UPDATED = 2,
     /* The cookie has ended, and so the stored one of its domain, path and name was ended. */
     COOKIE_STORE_EXPIRED_EXISTING = 3,
@@ -106,9 +115,10 @@ enum cookie_store_status cookie_store_new(cookie_store *store);
 /* Frees the store, if there is one. Then there is none. */
 void cookie_store_free(cookie_store *store);
 
-/* Puts the store under the public suffix list of this text, in the format of publicsuffix.org: from now on no cookie enters for
- * all hosts below a public suffix. The cookies that it has stay. NO_STORE, NOT_UTF8; BAD_RULE, where `bad_line` is the number of the
- * first bad line, counted from 1, and else 0. */
+/* Puts the store under the public suffix list of this text, in the format of publicsuffix.org: from now on no cookie enters whose Domain is
+ * a public suffix by a rule of the list, but from that very host, for that host alone. A domain that no rule is for is no public suffix here.
+ * The cookies that it has stay. NO_STORE, NOT_UTF8; BAD_RULE. `bad_line` is set: to the number of the first bad line, counted from 1, after
+ * BAD_RULE, and else to 0. */
 enum cookie_store_status cookie_store_use_suffixes(cookie_store *store, const char *list, size_t list_len, size_t *bad_line);
 
 /* Lets no more than so many cookies of one domain stand from now on, RFC 6265 6.1: before a cookie is inserted, cookies of its domain leave
@@ -126,11 +136,12 @@ enum cookie_store_status cookie_store_set_hash_key(cookie_store *store, const ch
 enum cookie_store_status cookie_store_set(cookie_store *store, const char *url, size_t url_len, const char *text, size_t text_len,
                                           int64_t now);
 
-/* Writes the value of the Cookie header of a request for the URL at the moment, as `a=1; b=2`: the cookies of RFC 6265 5.4, of which those
- * of one domain stand together, in them those of one path, and in these as they were inserted. `needed` is its length: 0 where no cookie is
- * given, and then no header is to be sent. Secure cookies are given for https, and for any scheme on this machine; HttpOnly ones for schemes
- * that begin with http. Names and values are written as they came: a text that was no line of a header may have put a line feed
- * or a zero among them. NO_STORE, NOT_UTF8, BAD_MOMENT; BAD_URL, NO_ROOM. */
+/* Writes the value of the Cookie header of a request for the URL at the moment, as `a=1; b=2`: the cookies of RFC 6265 5.4, in the store's
+ * order. Longer paths do not come first: domains stand in the order in which each got its first cookie, in them paths, and in these names.
+ * `needed` is its length: 0 where no cookie is given, and then no header is to be sent. Secure cookies are given for https, and for any scheme
+ * on this machine (localhost, 127.0.0.0/8, [::1]); HttpOnly ones for schemes that begin with http. Names and values are written as they
+ * came: a text that was no line of a header may have put any control character among them, so look before they go into a connection.
+ * NO_STORE, NOT_UTF8, BAD_MOMENT; BAD_URL, NO_ROOM. */
 enum cookie_store_status cookie_store_get(cookie_store *store, const char *url, size_t url_len, int64_t now, char *out,
                                           size_t out_len, size_t *needed);
 
@@ -152,7 +163,8 @@ typedef struct cookie_store_row {
     size_t path_len;
     size_t name_len;
     size_t value_len;
-    /* The moment at which it ends, without the fraction of a second that a list may say; 0 where it ends with the session. */
+    /* The moment at which it ends, without the fraction of a second that a list may say; 0 where it was ended by another cookie, and where it ends
+     * with the session. */
     int64_t ends_at;
     /* It ends at a moment, and not with the session. */
     bool persistent;
@@ -176,8 +188,9 @@ enum cookie_store_status cookie_store_save_json(cookie_store *store, int64_t now
 enum cookie_store_status cookie_store_save_ron(cookie_store *store, int64_t now, bool all, char *out, size_t out_len, size_t *needed);
 
 /* Begins a store with the cookies of such a list: all of them, or else those that have not ended by the moment, which is tested in both
- * cases. A later cookie takes the place of an earlier one of its domain, path and name. The store has no public suffix list and no
- * limit, and the domains of the cookies are not tested. HAS_STORE, BAD_MOMENT, NOT_UTF8; BAD_JSON, BAD_SHAPE or BAD_RON, BAD_END, PARSE. */
+ * cases. A cookie of the list that ends with the session has not ended. A later cookie takes the place of an earlier one of its domain, path
+ * and name. The store has no public suffix list, no limit and no key, and the domains of the cookies are not tested. HAS_STORE, BAD_MOMENT,
+ * NOT_UTF8; BAD_JSON, BAD_SHAPE or BAD_RON, BAD_END, PARSE. */
 enum cookie_store_status cookie_store_load_json(cookie_store *store, const char *list, size_t list_len, int64_t now, bool all);
 enum cookie_store_status cookie_store_load_ron(cookie_store *store, const char *list, size_t list_len, int64_t now, bool all);
 

@@ -34,7 +34,18 @@ Text = Union[str, bytes]
 
 
 class Status(enum.IntEnum):
-    """What a call answers. The numbers, and what each says, are those of cookie_store.h."""
+    """What a call answers, by the numbers of cookie_store.h: below 10 it is done.
+
+    INSERTED: a new cookie was put. UPDATED: it took the place of the one of its domain, path and name. EXPIRED_EXISTING: it has ended, and so
+    that one was ended.
+
+    Refusals of a cookie. NON_HTTP_SCHEME: it or the stored one is HttpOnly, and the scheme of the URL not HTTP. NON_RELATIVE_SCHEME: it names no
+    domain, and the URL has no host. DOMAIN_MISMATCH: its domain does not cover the host. EXPIRED: it has ended, and there is none to end.
+    PARSE: the text is no cookie, or its Domain no domain name. PUBLIC_SUFFIX: its domain is a public suffix on the list.
+
+    What was handed over. BAD_URL, NOT_UTF8, BAD_MOMENT (not of the years -9999 to 9999), BAD_LIMIT, BAD_RULE (a line of a public suffix
+    list), BAD_JSON, BAD_SHAPE (JSON, but no list of cookies), BAD_RON, BAD_END (the text of an end is no moment, or one before the year 0 was
+    to be saved)."""
     OK = 0
     INSERTED = 1
     UPDATED = 2
@@ -209,7 +220,8 @@ def _check(number: int) -> None:
 
 
 class CookieStore:
-    """A store of cookies. Threads may share one: each call is done before the next one begins.
+    """A store of cookies. Threads may share one: each call is done before the next one begins. Its maps hash by a random key of its own. As a
+    list it is false where it has no cookies.
 
     Where a call cannot be done it raises CookieStoreError, whose `status` is what the call of the library answered: NOT_UTF8 at a text
     that is none, BAD_MOMENT at one before the year -9999 or after the year 9999, NO_STORE after close(), and NoMemory. What else a call
@@ -277,7 +289,8 @@ class CookieStore:
         return _STATUSES[number]
 
     def header(self, url: Text, now: Optional[int] = None) -> str:
-        """The value of the Cookie header of a request for the URL; the empty text where no header is to be sent. Raises BAD_URL."""
+        """The value of the Cookie header of a request for the URL; the empty text where no header is to be sent. The cookies stand in the store's
+        order: longer paths do not come first. A text that was no line of a header may have put a control character into it. Raises BAD_URL."""
         page, moment, needed = _bytes(url), _moment(now), ctypes.c_size_t()
         with self._lock:
             number = _get(self._at, page, len(page), moment, self._buffer, len(self._buffer), needed)
@@ -456,7 +469,7 @@ _PLAIN_PATH = re.compile(r"/[-a-zA-Z0-9_~!$&'()*+,;=:@/]*")
 
 
 class StoreJar(http.cookiejar.CookieJar):
-    """A jar for urllib.request and requests whose cookies are those of a CookieStore, `store`.
+    """A jar for urllib.request and requests whose cookies are those of a CookieStore, its attribute `store`. It does not close it.
 
         opener = urllib.request.build_opener(urllib.request.HTTPCookieProcessor(StoreJar()))
 
