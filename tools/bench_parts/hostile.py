@@ -1,0 +1,141 @@
+"""Inputs that a hostile server or page may choose, each at n, 4n and 16n, and how the time grows with n."""
+import math
+import subprocess
+from dataclasses import dataclass
+from typing import Callable
+
+from bench_parts.measure import Task, repeated
+from bench_parts.scripts import CLEAR, NOW, removals, sets
+
+TARGET = 0.1  # seconds that a run repeats the operation
+PATIENCE = 10.0  # seconds: a larger input is skipped if it may take longer
+LABELS = ['a'] * 122 + ['com']
+DEEP = '.'.join(LABELS)  # a host of 247 bytes
+
+
+@dataclass(frozen=True)
+class Family:
+    title: str  # what is timed
+    least: int  # n
+    task: Callable[[int], Task]
+    has_peer: bool = True
+
+    def sizes(self):
+        return self.least, 4 * self.least, 16 * self.least
+
+
+def set_cookie(header, host='h.com'):
+    return f'set http://{host}/ {header}\n'
+
+
+def set_each(headers):
+    return ''.join(map(set_cookie, headers))
+
+
+def set_one(header):
+    """Sets the same cookie again and again."""
+    return repeated(NOW, set_cookie(header))
+
+
+def get(setup, url, **options):
+    return repeated(NOW + setup, f'get {url}\n', **options)
+
+
+def slashes(count, host='h.com'):
+    return f'http://{host}{"/" * count}'
+
+
+PARENTS = ''.join(set_cookie(f'c{at}=1; Domain={".".join(LABELS[at:])}', DEEP) for at in range(1, 121))
+LONG_PATH = set_cookie(f'p=1; Path={"/" * 7999}a', DEEP)
+PATHS = set_each(f'c=1; Path={"/" * length}a' for length in range(1, 1001))
+
+
+def remove_in_order(cookies, per_host):
+    return repeated(NOW, sets(cookies, per_host) + removals(cookies, per_host, shuffled=False))
+
+
+def get_beside_expired(size):
+    """A set and a get after the expiry are not timed, which may delete the expired cookies once."""
+    expired = set_each(f'c{number}=1; Max-Age=1' for number in range(size))
+    later = 'now 2026-01-02T00:00:00Z\n' + set_cookie('a=1') + 'get http://h.com/\n'
+    return get(expired + later, 'http://h.com/')
+
+
+def set_at_limit(limit):
+    setup = NOW + set_each(f'c{number}=1' for number in range(limit))
+    return Task(lambda count: setup, lambda count: setup + set_each(f'd{number}=1' for number in range(count)),
+                arguments=('--limit', str(limit)))
+
+
+def get_after_evictions(size):
+    evicted = set_each(f'c=1; Path=/{"a" * number}' for number in range(size))
+    return get(evicted, slashes(4000), arguments=('--limit', '50'))
+
+
+def get_after_removals(size):
+    stored = set_each(f'c=1; Path=/{"a" * number}' for number in range(size))
+    removed = ''.join(f'remove h.com /{"a" * number} c\n' for number in reversed(range(size)))
+    return get(set_cookie('a=1; Path=/') + stored + removed, slashes(4000))
+
+
+def convert(size):
+    lines = ''.join(
+        f'{{"raw_cookie":"c{number % 20}={number}; Secure","path":["/",false],'
+        f'"domain":{{"HostOnly":"h{number // 20}.com"}},"expires":{{"AtUtc":"2100-08-03T00:38:37Z"}}}}\n'
+        for number in range(size))
+    return Task(lambda _: '', lambda _: lines, arguments=('--convert',), most=1)
+
+
+FAMILIES = [
+    Family('get, URL of n slashes, 120 parent domains with a cookie each', 2000,
+           lambda n: get(PARENTS, slashes(n, DEEP))),
+    Family('the same, and a stored path of 8,000 bytes', 2000, lambda n: get(PARENTS + LONG_PATH, slashes(n, DEEP))),
+    Family('get, URL of n slashes, one cookie', 5000, lambda n: get(set_cookie('a=1; Path=/'), slashes(n))),
+    Family('get, URL of n slashes, 1,000 paths of different lengths', 2000, lambda n: get(PATHS, slashes(n))),
+    Family('get, host of n labels, empty store', 2000, lambda n: get('', f'http://{"a." * n}com/')),
+    Family('get, host of n labels, one cookie', 2000, lambda n: get(set_cookie('a=1'), f'http://{"a." * n}com/')),
+    Family('get after n cookies of different paths were evicted', 250, get_after_evictions, has_peer=False),
+    Family('get after n cookies of different paths were removed', 250, get_after_removals),
+    Family('get, n expired cookies of the host', 2000, get_beside_expired, has_peer=False),
+    Family('n sets, and n removals in the same order, one host', 1000, lambda n: remove_in_order(n, n)),
+    Family('n sets, and n removals in the same order, n hosts', 1000, lambda n: remove_in_order(n, 1)),
+    Family('set, host at its limit of n cookies', 1000, set_at_limit, has_peer=False),
+    Family('set, value of n bytes', 10000, lambda n: set_one(f'c={"v" * n}')),
+    Family('set, n attributes', 10000, lambda n: set_one(f'c=1{"; a=b" * n}')),
+    Family('set, date of n words', 10000, lambda n: set_one(f'c=1; Expires={"x " * n}3 Aug 2100 00:38:37')),
+    Family('n lines of JSON by --convert', 5000, convert, has_peer=False),
+]
+
+
+def colliding(program, least):
+    """Finding the names takes half a minute."""
+    done = subprocess.run([program, str(16 * least)], stdout=subprocess.PIPE, check=True, text=True)
+    lines = done.stdout.splitlines(keepends=True)[1:]
+    return Family('n sets, names that collide under the fixed hash key', least,
+                  lambda n: repeated(NOW, ''.join(lines[:n]) + CLEAR))
+
+
+def grow(meter, programs, family):
+    """The seconds at n, 4n and 16n by program name: fewer if the next may take longer than PATIENCE."""
+    took = {program.name: [] for program in programs}
+    for size in family.sizes():
+        patient = [program for program in programs if 16 * max(took[program.name], default=0) < PATIENCE]
+        for name, seconds in meter.time(patient, family.task(size), TARGET).items():
+            took[name].append(seconds)
+    return took
+
+
+def exponent(took):
+    """The growth between the last two sizes: 1 is linear, 2 is quadratic."""
+    if len(took) < 2 or min(took[-2:]) <= 0:
+        return None
+    return round(math.log(took[-1] / took[-2], 4), 2) + 0.0  # no -0
+
+
+def measure(meter, own, *peers, families):
+    """Yields each family with the seconds at its sizes by program name."""
+    for family in families:
+        programs = [own, *peers] if family.has_peer else [own]
+        if len(programs) > 1:
+            meter.compare(programs, family.task(family.least).script(1))
+        yield family, grow(meter, programs, family)

@@ -1,0 +1,151 @@
+"""Measures programs that run a script: processor time, peak memory, instructions, cookies given."""
+import os
+import re
+import shutil
+import subprocess
+import sys
+import tempfile
+from dataclasses import dataclass
+from typing import Callable
+
+GNU_TIME = '/usr/bin/time'
+RUNS = 5
+BUDGET = 15.0  # seconds of a series after which no further run begins
+
+
+@dataclass(frozen=True)
+class Program:
+    name: str
+    command: tuple
+    version: str
+
+
+@dataclass(frozen=True)
+class Task:
+    """`script(count)` does `count` times `units` operations more than `base(count)`."""
+    base: Callable[[int], str]
+    script: Callable[[int], str]
+    units: int = 1
+    arguments: tuple = ()
+    most: int = 4 ** 9  # the greatest count
+
+
+def repeated(setup, operation, **options):
+    """The task of repeating the lines of an operation after those of `setup`."""
+    return Task(lambda count: setup, lambda count: setup + operation * count, **options)
+
+
+def has_gnu_time():
+    return os.access(GNU_TIME, os.X_OK)
+
+
+def has_valgrind():
+    return shutil.which('valgrind') is not None
+
+
+class Series:
+    """Runs of a program on the base and on the script of a task."""
+
+    def __init__(self, program, task, count, paths):
+        self.program, self.task, self.count, self.paths = program, task, count, paths
+        self.best, self.spent = [float('inf')] * 2, 0.0
+
+    def run(self):
+        took = [_seconds(self.program, self.task, path) for path in self.paths]
+        self.best = [*map(min, self.best, took)]
+        self.spent += sum(took)
+
+    def is_long(self, target):
+        """Whether the operations take `target` seconds, and enough beside the base to tell them apart."""
+        base, script = self.best
+        return script - base >= max(target, base / 2)
+
+    def seconds(self):
+        base, script = self.best
+        return (script - base) / self.count / self.task.units
+
+    def remove(self):
+        for path in self.paths:
+            os.remove(path)
+
+
+class Meter:
+    """Runs programs on scripts, which it writes into a folder."""
+
+    def __init__(self, folder):
+        self.folder = folder
+
+    def compare(self, programs, script):
+        """Stops if the programs give different numbers of cookies in any Cookie header."""
+        first, *others = programs
+        expected = self._given(first, script)
+        for other in others:
+            if self._given(other, script) != expected:
+                sys.exit(f'bench: {first.name} and {other.name} give different cookies')
+
+    def time(self, programs, task, target):
+        """Seconds of one operation by program name: the best of interleaved runs, less the base.
+
+        Each program repeats the operation until it takes about `target` seconds.
+        """
+        all_series = [self._series(program, task, target) for program in programs]
+        for _ in range(RUNS - 1):
+            for series in all_series:
+                if series.spent < BUDGET:
+                    series.run()
+        for series in all_series:
+            series.remove()
+        return {series.program.name: series.seconds() for series in all_series}
+
+    def peak(self, program, script):
+        """The peak of resident memory in bytes.
+
+        GNU time starts the program: if Python did, the peak would include Python's own memory.
+        """
+        report = os.path.join(self.folder, 'peak')
+        self._run([GNU_TIME, '-f', '%M', '-o', report, *program.command], script)
+        with open(report) as kilobytes:
+            return int(kilobytes.read()) * 1024
+
+    def instructions(self, program, script):
+        command = ['valgrind', '--tool=callgrind', '--callgrind-out-file=/dev/null', *program.command]
+        return int(re.search(rb'Collected : (\d+)', self._run(command, script).stderr)[1])
+
+    def _series(self, program, task, target):
+        """A series whose count is great enough, with its first run."""
+        count = 1
+        while True:
+            series = Series(program, task, count, [self._write(task.base(count)), self._write(task.script(count))])
+            series.run()
+            if series.is_long(target) or count * 4 > task.most:
+                return series
+            series.remove()
+            count *= 4
+
+    def _given(self, program, script):
+        """The number of cookies in each Cookie header that the program prints."""
+        lines = self._run(program.command, script).stdout.splitlines()
+        return [line.count(b'=') for line in lines if line.startswith(b'Cookie:')]
+
+    def _run(self, command, script):
+        path = self._write(script)
+        with open(path) as lines:
+            done = subprocess.run(command, stdin=lines, capture_output=True, check=True)
+        os.remove(path)
+        return done
+
+    def _write(self, script):
+        descriptor, path = tempfile.mkstemp(dir=self.folder)
+        with os.fdopen(descriptor, 'w') as file:
+            file.write(script)
+        return path
+
+
+def _seconds(program, task, path):
+    """The processor time of one run, user and system."""
+    with open(path) as lines, open(os.devnull, 'w') as output:
+        child = subprocess.Popen([*program.command, *task.arguments], stdin=lines, stdout=output)
+        _, status, usage = os.wait4(child.pid, 0)
+    if status:
+        sys.exit(f'bench: {program.name} failed with status {os.waitstatus_to_exitcode(status)}')
+    return usage.ru_utime + usage.ru_stime

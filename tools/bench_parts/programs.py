@@ -1,0 +1,83 @@
+"""The program and its peers, which are built into a temporary folder."""
+import os
+import re
+import shutil
+import subprocess
+import sys
+
+from bench_parts.measure import Program
+
+ROOT = os.path.realpath(os.path.join(os.path.dirname(__file__), '..', '..'))
+DEFAULT = os.path.join(ROOT, 'crates', 'cookie_jar', 'out', 'cookie_jar')
+PEERS = os.path.join(ROOT, 'tools', 'peers')
+REGISTRY = '/usr/share/cargo/registry'
+OWN, RUST, GO = 'cookie_jar', 'Rust crate', 'Go'
+
+
+def output(*command, cwd=ROOT):
+    """What a command prints, or '' if it is missing or fails."""
+    try:
+        done = subprocess.run(command, cwd=cwd, stdout=subprocess.PIPE, stderr=subprocess.DEVNULL, text=True)
+    except OSError:
+        return ''
+    return done.stdout.strip() if done.returncode == 0 else ''
+
+
+def own(path):
+    if not os.access(path, os.X_OK):
+        sys.exit(f'bench: {path} is not built: run rt run in crates/cookie_jar')
+    path = os.path.realpath(path)
+    return Program(OWN, (path,), os.path.relpath(path, ROOT) if path.startswith(ROOT) else 'another build')
+
+
+class Missing(Exception):
+    """Why a peer cannot be built."""
+
+
+def build(folder):
+    """The peers that can be built, and a line for each that cannot."""
+    peers, missing = [], []
+    for name, builder in ((RUST, build_rust), (GO, build_go)):
+        try:
+            peers.append(builder(folder))
+        except Missing as why:
+            missing.append(f'{name} is not measured: {why}.')
+    return peers, missing
+
+
+def build_rust(folder):
+    registry = os.listdir(REGISTRY) if os.path.isdir(REGISTRY) else []
+    if not any(name.startswith('cookie_store-') for name in registry):
+        raise Missing('librust-cookie-store-dev is not installed')
+    source = os.path.join(folder, 'rust')
+    shutil.copytree(os.path.join(PEERS, 'rust'), source)
+    run_compiler('cargo', 'build', '--release', '--offline', cwd=source)
+    with open(os.path.join(source, 'Cargo.lock')) as lock:
+        version = re.search(r'name = "cookie_store"\nversion = "(.*)"', lock.read())[1]
+    version = f'cookie_store {version} with preserve_order, LTO, {output("rustc", "--version", cwd=source)}'
+    return Program(RUST, (os.path.join(source, 'target', 'release', 'peer'),), version)
+
+
+def build_go(folder):
+    path = os.path.join(folder, 'jar')
+    run_compiler('go', 'build', '-o', path, os.path.join(PEERS, 'go', 'jar.go'), cwd=folder)
+    return Program(GO, (path,), f'net/http/cookiejar, {output("go", "version")}')
+
+
+def run_compiler(*command, cwd):
+    if not shutil.which(command[0]):
+        raise Missing(f'{command[0]} is not installed')
+    done = subprocess.run(command, cwd=cwd, stdout=subprocess.PIPE, stderr=subprocess.STDOUT, text=True)
+    if done.returncode:
+        raise Missing(f'{command[0]} fails: {done.stdout.strip().splitlines()[-1]}')
+
+
+def build_collisions(folder):
+    """The path of tools/collisions, or None without a C compiler."""
+    compiler = shutil.which('cc') or shutil.which('clang')
+    if not compiler:
+        return None
+    path = os.path.join(folder, 'collisions')
+    subprocess.run([compiler, '-O3', '-o', path, os.path.join(ROOT, 'tools', 'collisions.c')], check=True)
+    return path
+

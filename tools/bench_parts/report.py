@@ -1,0 +1,130 @@
+"""Tables of figures, as text and as Markdown, the document and the chart."""
+import datetime
+import os
+import platform
+from dataclasses import dataclass
+
+from bench_parts.programs import ROOT, output
+
+
+@dataclass
+class Table:
+    title: str
+    note: str
+    columns: list
+    rows: list
+
+    def text(self):
+        lines = [self.columns, *self.rows]
+        first, *others = (max(map(len, column)) for column in zip(*lines))
+        form = '  '.join([f'{{:{first}}}', *(f'{{:>{width}}}' for width in others)])
+        return '\n'.join([self.title, *(form.format(*line) for line in lines), ''])
+
+    def markdown(self):
+        heads = ['---', *['---:'] * (len(self.columns) - 1)]
+        lines = [f'| {" | ".join(line)} |' for line in (self.columns, heads, *self.rows)]
+        return '\n'.join([f'## {self.title}', '', self.note, '', *lines, ''])
+
+
+def number(value):
+    """A figure with three digits, or '-' if there is none."""
+    if value is None:
+        return '-'
+    if abs(value) < 1:
+        return f'{value:.3g}'
+    return f'{value:,.{0 if abs(value) >= 100 else 1 if abs(value) >= 10 else 2}f}'
+
+
+def ratio(peer, own):
+    """The peer's figure divided by ours; a figure may be 0 or less if it is below what can be measured."""
+    value = peer / own if own > 0 else None
+    return f'{value:.2f}' if value is not None and value < 1 else number(value)
+
+
+def machine():
+    with open('/proc/cpuinfo') as lines:
+        models = [line.split(':')[1].strip() for line in lines if line.startswith('model name')]
+    return f'{models[0] if models else platform.machine()}, {os.cpu_count()} processors'
+
+
+def commit():
+    changed = output('git', 'status', '--porcelain', '--', '.', ':!docs/FIGURES.md', ':!docs/speed.svg')
+    return f'{output("git", "rev-parse", "--short", "HEAD")}, {"with uncommitted changes" if changed else "clean"}'
+
+
+def circumstances(programs, load):
+    """What was measured, where and when, as rows."""
+    return [
+        ['date', datetime.date.today().isoformat()],
+        ['machine', machine()],
+        ['load average at the start', f'{load:.2f}'],
+        ['system', f'{platform.system()} {platform.release()}'],
+        ['commit', commit()],
+        ['toolchain', output('rt', 'version') or 'unknown'],
+        *([program.name, program.version] for program in programs),
+    ]
+
+
+HEAD = '''# Figures
+
+`tools/bench --write` writes this file and [speed.svg](speed.svg). Each program runs the same scripts.
+
+- A time is processor time, user and system, of the whole process, less that of the script without the
+  measured lines. Reading the line and parsing the URL are part of it.
+- It is the best of five interleaved runs, or of fewer if they take more than 15 seconds.
+- A ratio is the peer's figure divided by ours: above 1, ours is faster or smaller.
+- All figures are of one run on one machine. Compare the ratios, not the times, with those of another.
+
+'''
+
+REPEAT = '''
+## How to repeat it
+
+On Debian:
+
+```sh
+apt-get install cargo librust-cookie-store-dev librust-cookie-dev librust-publicsuffix-dev golang-go valgrind time
+(cd crates/cookie_jar && rt run < stdin)    # builds the program
+tools/bench --write                         # on an idle machine
+```
+
+A peer or a tool that is missing is left out.
+'''
+
+
+def write_document(rows, tables, missing, others):
+    lines = ['| | |', '|---|---|', *(f'| {name} | {value} |' for name, value in rows), '']
+    lines += [*(f'{line}\n' for line in missing), '']
+    tools = [f'\n## `{command}`\n\n```text\n{text}\n```\n' for command, text in others]
+    document = [HEAD, '\n'.join(lines), '\n'.join(table.markdown() for table in tables), *tools, REPEAT]
+    write(os.path.join(ROOT, 'docs', 'FIGURES.md'), ''.join(document))
+
+
+def write(path, text):
+    with open(path, 'w') as file:
+        file.write(text)
+
+
+STYLE = '''text { font: 13px sans-serif; fill: #24292f; } .title { font-weight: bold; }
+.bar0 { fill: #1f77b4; } .bar1 { fill: #d9822b; } .bar2 { fill: #6b9e3f; }
+@media (prefers-color-scheme: dark) { text { fill: #e6edf3; } }'''
+WIDTH, LABEL, BAR, ROW = 720, 110, 480, 20
+
+
+def write_chart(panels):
+    """A panel of bars for each (title, [(name, microseconds)]), each to its own scale."""
+    drawn, y = [], 24
+    for title, bars in panels:
+        drawn.append(f'<text class="title" x="10" y="{y}">{title}</text>')
+        longest = max(value for _, value in bars)
+        for at, (name, value) in enumerate(bars):
+            y += ROW
+            length = max(1, round(BAR * value / longest))
+            drawn.append(f'<text x="10" y="{y}">{name}</text>'
+                         f'<rect class="bar{at}" x="{LABEL}" y="{y - 12}" width="{length}" height="14"/>'
+                         f'<text x="{LABEL + length + 6}" y="{y}">{number(value)} µs</text>')
+        y += ROW + 14
+    drawn.append(f'<text x="10" y="{y}">Processor time, shorter is faster. Each group has its own scale.</text>')
+    head = (f'<svg xmlns="http://www.w3.org/2000/svg" width="{WIDTH}" height="{y + 10}" '
+            f'viewBox="0 0 {WIDTH} {y + 10}" role="img" aria-label="Time of a set and of a get">')
+    write(os.path.join(ROOT, 'docs', 'speed.svg'), '\n'.join([head, f'<style>{STYLE}</style>', *drawn, '</svg>', '']))

@@ -1,0 +1,33 @@
+"""Scripts in the line language of cookie_jar, as strings. Random choices have a fixed seed."""
+import random
+
+NOW = 'now 2026-01-01T00:00:00Z\n'
+CLEAR = 'clear\n'
+
+
+def host_count(cookies, per_host):
+    return max(1, cookies // per_host)
+
+
+def sets(cookies, per_host, suffix=''):
+    """Sets `cookies` cookies, one at each host in turn until each host has `per_host`."""
+    hosts = host_count(cookies, per_host)
+    return ''.join(
+        f'set http://h{number % hosts}.com/ c{number // hosts}={number}{suffix}; Max-Age=86400\n'
+        for number in range(cookies))
+
+
+def gets(cookies, per_host, count):
+    """Gets the cookies of `count` random hosts."""
+    hosts = host_count(cookies, per_host)
+    generator = random.Random(2)
+    return ''.join(f'get http://h{generator.randrange(hosts)}.com/a/b\n' for _ in range(count))
+
+
+def removals(cookies, per_host, shuffled=True):
+    """Removes all cookies, in random or in insertion order."""
+    hosts = host_count(cookies, per_host)
+    order = list(range(cookies))
+    if shuffled:
+        random.Random(1).shuffle(order)
+    return ''.join(f'remove h{number % hosts}.com / c{number // hosts}\n' for number in order)

@@ -1,0 +1,68 @@
+//! Runs the lines `set URL HEADER`, `get URL`, `remove DOMAIN PATH NAME` and `clear` of a script over the Rust crate
+//! `cookie_store`: a peer for tools/bench. The crate reads the system's clock, so `now` lines are skipped.
+use cookie_store::CookieStore;
+use std::io::{self, BufRead, BufReader, BufWriter, Write};
+use url::Url;
+
+/// Parses a URL of a script. Scripts of tools/bench contain no malformed URL.
+fn parse_url(text: &str) -> Url {
+    Url::parse(text).expect("URL")
+}
+
+fn set(store: &mut CookieStore, words: &str, out: &mut impl Write) -> io::Result<()> {
+    let (url, header) = words.split_once(' ').expect("set URL HEADER");
+    match store.parse(header, &parse_url(url)) {
+        Ok(_) => out.write_all(b"inserted\n"),
+        Err(error) => writeln!(out, "refused: {error}"),
+    }
+}
+
+fn get(store: &CookieStore, url: &str, out: &mut impl Write) -> io::Result<()> {
+    out.write_all(b"Cookie:")?;
+    let mut separator = " ";
+    for (name, value) in store.get_request_values(&parse_url(url)) {
+        for part in [separator, name, "=", value] {
+            out.write_all(part.as_bytes())?;
+        }
+        separator = "; ";
+    }
+    out.write_all(b"\n")
+}
+
+fn remove(store: &mut CookieStore, words: &str, out: &mut impl Write) -> io::Result<()> {
+    let mut words = words.splitn(3, ' ');
+    let mut next = || words.next().expect("remove DOMAIN PATH NAME");
+    let removed = store.remove(next(), next(), next());
+    out.write_all(if removed.is_some() {
+        b"removed\n"
+    } else {
+        b"none\n"
+    })
+}
+
+/// Runs one line of the script.
+fn run(store: &mut CookieStore, line: &str, out: &mut impl Write) -> io::Result<()> {
+    let (verb, words) = line.split_once(' ').unwrap_or((line, ""));
+    match verb {
+        "set" => set(store, words, out),
+        "get" => get(store, words, out),
+        "remove" => remove(store, words, out),
+        "clear" => {
+            store.clear();
+            out.write_all(b"cleared\n")
+        }
+        _ => Ok(()),
+    }
+}
+
+fn main() -> io::Result<()> {
+    let mut source = BufReader::with_capacity(1 << 16, io::stdin().lock());
+    let mut out = BufWriter::with_capacity(1 << 16, io::stdout().lock());
+    let mut store = CookieStore::default();
+    let mut line = String::new();
+    while source.read_line(&mut line)? > 0 {
+        run(&mut store, line.trim_end_matches(['\r', '\n']), &mut out)?;
+        line.clear();
+    }
+    out.flush()
+}
