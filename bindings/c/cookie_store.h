@@ -153,6 +153,11 @@ enum cookie_store_status cookie_store_remove(cookie_store *store, const char *do
 /* Removes all cookies. List, limit and key stay. NO_STORE. */
 enum cookie_store_status cookie_store_clear(cookie_store *store);
 
+/* Removes the cookies that have expired at `now`, and frees their memory. The others keep their order. From `now` on cookie_store_get returns
+ * the same as before: it never returns an expired cookie. `removed` is set to the number of cookies removed, and to 0 on an error. NO_STORE,
+ * BAD_MOMENT. */
+enum cookie_store_status cookie_store_remove_expired(cookie_store *store, int64_t now, size_t *removed);
+
 /* How many cookies the store has, also such as have ended: they stand until they are removed. 0 where there is no store, and
  * SIZE_MAX where there are more. */
 size_t cookie_store_count(cookie_store *store);

@@ -163,6 +163,33 @@ static void test_remove(void) {
     cookie_store_free(&store);
 }
 
+/* Each cookie before it expires, at its expiry and after. */
+static void test_remove_expired(void) {
+    static const struct {
+        int64_t now;
+        enum cookie_store_status wanted;
+        size_t removed, left;
+    } CALLS[] = {{FIRST - 1, COOKIE_STORE_BAD_MOMENT, 0, 5}, {LAST + 1, COOKIE_STORE_BAD_MOMENT, 0, 5}, {NOW - 1, COOKIE_STORE_OK, 1, 4},
+                 {NOW + 59, COOKIE_STORE_OK, 0, 4},          {NOW + 60, COOKIE_STORE_OK, 2, 2},         {NOW + 60, COOKIE_STORE_OK, 0, 2},
+                 {LAST, COOKIE_STORE_OK, 1, 1}};
+    cookie_store store = COOKIE_STORE_INIT;
+    cookie_store_new(&store);
+    set(&store, PAGE, "a=1; Max-Age=60", NOW);
+    set(&store, PAGE, "s=2", NOW);
+    set(&store, PAGE, "b=3; Path=/; Max-Age=60", NOW);
+    set(&store, "http://b.example/", "c=4; Max-Age=61", NOW);
+    set(&store, PAGE, "d=5", NOW);
+    set(&store, PAGE, "d=6; Max-Age=0", NOW);
+    for (size_t at = 0; at < sizeof CALLS / sizeof *CALLS; at++) {
+        size_t removed = UNTOLD;
+        equal("remove_expired", cookie_store_remove_expired(&store, CALLS[at].now, &removed), CALLS[at].wanted);
+        equal("so many are removed", (long)removed, (long)CALLS[at].removed);
+        equal("so many are left", (long)cookie_store_count(&store), (long)CALLS[at].left);
+    }
+    gives("what has not expired", &store, PAGE, NOW, "s=2");
+    cookie_store_free(&store);
+}
+
 /* The limit, and a key, which changes nothing. */
 static void test_limit_and_key(void) {
     cookie_store store = COOKIE_STORE_INIT;
@@ -309,6 +336,8 @@ static void test_no_store(void) {
         equal("key of none", cookie_store_set_hash_key(&store, "", 0), COOKIE_STORE_NO_STORE);
         equal("remove of none", cookie_store_remove(&store, "", 0, "", 0, "", 0), COOKIE_STORE_NO_STORE);
         equal("clear none", cookie_store_clear(&store), COOKIE_STORE_NO_STORE);
+        equal("remove_expired of none", cookie_store_remove_expired(&store, LAST + 1, &needed), COOKIE_STORE_NO_STORE);
+        equal("none removed of none", (long)needed, 0);
         equal("count of none", (long)cookie_store_count(&store), 0);
         equal("rows of none", cookie_store_rows(&store, &row, 1, out, sizeof out, &needed, &other), COOKIE_STORE_NO_STORE);
         equal("nothing is needed of none", (long)(needed + other), 0);
@@ -347,7 +376,7 @@ static size_t used(void) { return 0; }
 /* Stores that are filled, asked, changed, saved, loaded and freed leave no memory behind, once malloc has its stock of free blocks. */
 static void test_memory(void) {
     char list[1024];
-    size_t needed = 0, before = 0;
+    size_t needed = 0, other = 0, before = 0;
     for (int round = 0; round < 1000; round++) {
         cookie_store store = COOKIE_STORE_INIT;
         if (round == 500) before = used();
@@ -360,6 +389,7 @@ static void test_memory(void) {
         cookie_store_set_domain_limit(&store, 5);
         cookie_store_get(&store, TEXT(PAGE), NOW, list, sizeof list, &needed);
         cookie_store_save_json(&store, NOW, true, list, sizeof list, &needed);
+        cookie_store_remove_expired(&store, NOW + 60, &other);
         cookie_store_remove(&store, TEXT("a.example"), TEXT("/d"), TEXT("a"));
         cookie_store_clear(&store);
         cookie_store_load_json(&store, list, needed, NOW, true);
@@ -380,6 +410,7 @@ int main(void) {
     test_suffixes();
     test_get();
     test_remove();
+    test_remove_expired();
     test_limit_and_key();
     test_rows();
     for (size_t at = 0; at < sizeof FORMS / sizeof *FORMS; at++) test_list(&FORMS[at]);

@@ -147,6 +147,7 @@ _SIGNATURES = {
     'cookie_store_get': (ctypes.c_int, [_AT, *_TEXT, ctypes.c_int64, *_OUT, _LENGTH]),
     'cookie_store_remove': (ctypes.c_int, [_AT, *_TEXT, *_TEXT, *_TEXT]),
     'cookie_store_clear': (ctypes.c_int, [_AT]),
+    'cookie_store_remove_expired': (ctypes.c_int, [_AT, ctypes.c_int64, _LENGTH]),
     'cookie_store_count': (ctypes.c_size_t, [_AT]),
     'cookie_store_rows': (ctypes.c_int, [_AT, ctypes.POINTER(_Row), ctypes.c_size_t, *_OUT, _LENGTH, _LENGTH]),
     'cookie_store_save_json': _SAVE,
@@ -193,6 +194,7 @@ _set = _LIBRARY.cookie_store_set
 _get = _LIBRARY.cookie_store_get
 _remove = _LIBRARY.cookie_store_remove
 _clear = _LIBRARY.cookie_store_clear
+_remove_expired = _LIBRARY.cookie_store_remove_expired
 _count = _LIBRARY.cookie_store_count
 _rows = _LIBRARY.cookie_store_rows
 
@@ -314,6 +316,14 @@ class CookieStore:
         """Removes all cookies. The public suffix list stays."""
         with self._lock:
             _check(_clear(self._at))
+
+    def remove_expired(self, now: Optional[int] = None) -> int:
+        """Removes the cookies that have expired at `now`, and returns how many. The others keep their order. From then on header() returns
+        the same as before: it never returns an expired cookie."""
+        moment, removed = _moment(now), ctypes.c_size_t()
+        with self._lock:
+            _check(_remove_expired(self._at, moment, removed))
+        return removed.value
 
     def __len__(self) -> int:
         """How many cookies the store has, also such as have ended."""
@@ -597,9 +607,8 @@ class StoreJar(http.cookiejar.CookieJar):
         self._remove([row for row in self.store if row.ends_at is None])
 
     def clear_expired_cookies(self) -> None:
-        """Removes the cookies that have ended."""
-        now = int(time.time())
-        self._remove([row for row in self.store if row.ends_at is not None and row.ends_at <= now])
+        """Removes the cookies that have expired."""
+        self.store.remove_expired()
 
     def copy(self) -> StoreJar:
         """Another jar, of a copy of the store, with the same policy."""

@@ -71,6 +71,8 @@ RAISES = [
     ('remove, domain not UTF-8', lambda store: store.remove(b'\xff', '/', 'a'), Status.NOT_UTF8),
     ('remove, path not UTF-8', lambda store: store.remove('a.example', b'\xff', 'a'), Status.NOT_UTF8),
     ('remove, name not UTF-8', lambda store: store.remove('a.example', '/', b'\xff'), Status.NOT_UTF8),
+    ('remove_expired, before the years', lambda store: store.remove_expired(FIRST - 1), Status.BAD_MOMENT),
+    ('remove_expired, after the years', lambda store: store.remove_expired(LAST + 1), Status.BAD_MOMENT),
     ('suffixes, not UTF-8', lambda store: store.use_suffixes(b'\xff'), Status.NOT_UTF8),
     ('suffixes, no rule', lambda store: store.use_suffixes('example\na..b\n'), Status.BAD_RULE),
     ('save JSON, after the years', lambda store: store.save_json(LAST + 1), Status.BAD_MOMENT),
@@ -96,6 +98,7 @@ CLOSED = [
     ('set_domain_limit', lambda store: store.set_domain_limit(1)),
     ('remove', lambda store: store.remove('', '', '')),
     ('clear', lambda store: store.clear()),
+    ('remove_expired', lambda store: store.remove_expired()),
     ('cookies', lambda store: store.cookies()),
     ('save_json', lambda store: store.save_json()),
     ('save_ron', lambda store: store.save_ron()),
@@ -222,6 +225,13 @@ class StoreTests(unittest.TestCase):
         self.assertEqual((len(store), store.header(PAGE, NOW)), (2, 'b=2; c=3'))
         store.clear()
         self.assertEqual((len(store), store.cookies()), (0, []))
+
+    def test_remove_expired(self):
+        store = filled('a=1; Max-Age=60', 's=2', 'b=3; Path=/; Max-Age=60', 'c=4; Max-Age=61', 'd=5', 'd=6; Max-Age=0')
+        for now, removed, left in [(NOW - 1, 1, 'ascb'), (NOW + 59, 0, 'ascb'), (NOW + 60, 2, 'sc'), (NOW + 60, 0, 'sc'), (LAST, 1, 's')]:
+            self.assertEqual((store.remove_expired(now), ''.join(row.name for row in store)), (removed, left), now)
+        store.set(PAGE, 'e=7; Max-Age=1', int(time.time()) - 1)
+        self.assertEqual((store.remove_expired(), store.header(PAGE)), (1, 's=2'))
 
     def test_long(self):
         """What is longer than the buffers at their beginning."""

@@ -20,3 +20,4 @@ pub mod SameCounts
 pub mod SingleInsertions
 pub mod StoresOfKeys
 pub mod TurnsToLeave
+pub mod UnexpiredRows

@@ -6,7 +6,7 @@ use Rattle.cookie_words.specs.Moments.{Moment}
 use Rattle.cookie_psl.specs.Rules.{RuleList}
 use Rattle.cookie_parts.specs.Cookie.{Row, is_expired}
 use Rattle.cookie_parts.specs.Hosts.{passes}
-use Rattle.cookie_laws.specs.Rows.{Key, Kept, differ, key_of, make, put, row_of, same_domain, same_key}
+use Rattle.cookie_laws.specs.Rows.{Key, Kept, differ, key_of, live_rows, make, put, row_of, same_domain, same_key}
 
 -- its rows, and their keys by making, the one that was made least recently first; the public suffix list that it obeys, if there
 -- is one; and how many rows of one domain it lets stand, if there is a limit
@@ -55,6 +55,13 @@ abbrev pub without : List Key → Contents → Contents
 without keys store = record store {
   rows = filter (λ row. is_none_of keys (key_of row)) store.rows;
   made = filter (is_none_of keys) store.made;
+}
+
+-- RFC 6265 5.3: the store without its expired cookies
+abbrev pub unexpired : Moment → Contents → Contents
+unexpired now store = record store {
+  rows = live_rows now store.rows;
+  made = filter (λ key. not (has_ended now store.rows key)) store.made;
 }
 
 -- the store with the cookie in the place of the row of its key, or as a new row, which is made last

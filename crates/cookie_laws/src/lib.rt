@@ -12,7 +12,7 @@ ghost use Rattle.cookie_parts.specs.declared.cookie_error.CookieError.{CookieErr
 ghost use Rattle.cookie_parts.specs.declared.store_action.StoreAction.TheVariants.{ExpiredExisting, Inserted};
 ghost use Rattle.cookie_laws.specs.Acceptance.{admitted, is_listed, received, IsPut, Leaves};
 ghost use Rattle.cookie_laws.specs.Confinement.{IsConfined, IsConfinedAsPut};
-ghost use Rattle.cookie_laws.specs.Contents.{contents_of, has_ended, leaving, Contents, HasMade};
+ghost use Rattle.cookie_laws.specs.Contents.{contents_of, has_ended, leaving, unexpired, Contents, HasMade};
 ghost use Rattle.cookie_laws.specs.Given.{given, is_given};
 ghost use Rattle.cookie_laws.specs.Related.{concerns, domain_calls, domain_keys, domain_rows, is_of_domain, is_related, left, replies_to};
 ghost use Rattle.cookie_laws.specs.Rows.{are_rows, built, changed, has_key, is_live, key_of, row_of, same_domain, same_key, Key};
@@ -130,4 +130,12 @@ pub fn rebuilt()
 pub fn given_is_related()
     ensures { (url : Parts) (now : Moment) (row : Row)
         → is_given url now row ≡ true → is_related url (domain_text row.domain) ≡ true }
+{}
+
+/// Removing the cookies that have expired changes no request: at any time from then on the same cookies are given. The keys in
+/// creation order stay those of the rows.
+pub fn given_without_expired()
+    ensures given { (store : Contents) (url : Parts) (now later : Moment) → nanoseconds now ≤ℤ nanoseconds later
+        → given url later (unexpired now store).rows ≡ given url later store.rows }
+    ensures made { (store : Contents) (now : Moment) → HasMade store → HasMade (unexpired now store) }
 {}

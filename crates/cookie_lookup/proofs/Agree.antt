@@ -94,7 +94,7 @@ pub sum_flat : {T A : Type 0} (f : A → ℕ) (h : T → List A) (ts : List T) �
 sum_flat f h [] = refl
 sum_flat f h (t ∷ ts) = omega (arith, sum_by-append f (h t) (flat_map h ts), sum_by-cons (λ t. sum_by f (h t)) t ts, sum_flat f h ts)
 
-sum_alike : {T : Type 0} (f h : T → ℕ) → ((t : T) → f t ≡ h t) → (ts : List T) → sum_by f ts ≡ sum_by h ts
+pub sum_alike : {T : Type 0} (f h : T → ℕ) → ((t : T) → f t ≡ h t) → (ts : List T) → sum_by f ts ≡ sum_by h ts
 sum_alike f h e [] = refl
 sum_alike f h e (t ∷ ts) = omega (arith, sum_by-cons f t ts, sum_by-cons h t ts, e t, sum_alike f h e ts)
 

@@ -1,16 +1,17 @@
 -- The texts that a path is looked up by are those of the definition, and a path that path-matches is among them.
-use Rattle.std.proofs.Common.{◌≡◌, ℕ, zero, suc, ◌+◌, ◌<◌, ◌⊎◌, Bool, true, ◌||◌, List, [], ◌∷◌, ◌++◌, length, take, drop, get_or, refl, sym, ◌∙◌, ap, subst, inl, inr, eqb, bytes_eq, arith, length-append, append_assoc, append-nil}
-use Rattle.std.specs.Prelude.{nat_eq}
+use Rattle.std.proofs.Common.{◌≡◌, ℕ, zero, suc, ◌+◌, ◌-◌, ◌<◌, ◌⊎◌, Bool, true, false, ◌&&◌, ◌||◌, List, [], ◌∷◌, ◌++◌, length, take, drop, get_or, refl, sym, ◌∙◌, ap, subst, inl, inr, eqb, bytes_eq, arith, length-append, append_assoc, append-nil}
+use Rattle.std.specs.Prelude.{nat_eq, nat_le}
+use Rattle.std.specs.Str.{IsUtf8, IsCharBoundary}
 use Rattle.std.specs.Bool.{Decides}
 use Rattle.std.specs.List.{list_any, starts_with}
 use Rattle.std.proofs.Math.ListN.{get_or-append}
 use Rattle.std.proofs.Math.Seq.{get_or-append_seam, take-length}
 use Rattle.std.proofs.lemmas.Bool.{or_cases, or_left, or_right}
-use Rattle.std.proofs.lemmas.Bool.Decides.{nat_tests}
-use Rattle.std.proofs.lemmas.Slice.Eq.{bytes_eq-Decides}
+use Rattle.std.proofs.lemmas.Bool.Decides.{nat_tests, Decides-eqb}
+use Rattle.std.proofs.lemmas.Slice.Eq.{bytes_eq-Decides, starts_is}
 use Rattle.cookie_parts.specs.Path.{CoversPath}
-use Rattle.cookie_lookup.specs.Texts.{ends_text, front_texts, path_texts, IsPathText, IsRelated}
-use Rattle.cookie_lookup.proofs.Cuts.{bool_cases}
+use Rattle.cookie_lookup.specs.Texts.{ends_text, front_texts, is_path_text, path_texts, IsPathText, IsRelated}
+use Rattle.cookie_lookup.proofs.Cuts.{bool_cases, cut_boundary}
 use Rattle.cookie_lookup.proofs.PathTexts.{any_append}
 
 any_single : {X : Type 0} (p : X → Bool) (x : X) → p x ≡ true → list_any p (x ∷ []) ≡ true
@@ -65,7 +66,7 @@ split_at [] i h = absurd (omega arith)
 split_at (b ∷ r) zero h = refl
 split_at (b ∷ r) (suc i) h = ap (λ t. b ∷ t) (split_at r i (omega arith))
 
-take_next : (r : List ℕ) (i : ℕ) → i < length r → take (suc i) r ≡ take i r ++ get_or r i 0 ∷ []
+pub take_next : (r : List ℕ) (i : ℕ) → i < length r → take (suc i) r ≡ take i r ++ get_or r i 0 ∷ []
 take_next [] i h = absurd (omega arith)
 take_next (b ∷ r) zero h = refl
 take_next (b ∷ r) (suc i) h = ap (λ t. b ∷ t) (take_next r i (omega arith))
@@ -134,6 +135,69 @@ path_texts_are path text = (there path text, λ w. covering_among text path (cov
           )
       | inr e ↦ let h' = rw e at h in absurd (cc)
     ]
+
+-- a front that begins with a slash and ends where a text does is among the texts
+front_among : (b : ℕ) (p r rest : List ℕ) → starts_with nat_eq (b ∷ p) (47 ∷ []) ≡ true → ends_text r (length p) ≡ true → r ≡ (b ∷ p) ++ rest → list_any (bytes_eq (b ∷ p)) (path_texts r) ≡ true
+front_among b p r rest s ends split =
+    let begins : starts_with eqb r (47 ∷ []) ≡ true = subst (λ t. starts_with eqb t (47 ∷ []) ≡ true) (sym split) (grind (arith, nat_tests, s)) in
+    let there : length p < length r = omega (arith, ap length split, length-append (b ∷ p) rest) in
+    let it : take (suc (length p)) r ≡ b ∷ p = ap (take (suc (length p))) split ∙ take_front (b ∷ p) rest in
+    rw begins (subst (λ t. list_any (bytes_eq t) (front_texts r (length r)) ≡ true) it (among_fronts r (length p) (length r) there ends))
+
+four_hold : (a b c d : Bool) → a ≡ true → b ≡ true → c ≡ true → d ≡ true → (a && b && c && d) ≡ true
+four_hold a b c d p q r s = rw (p, q, r, s) refl
+
+each_holds : (a b c d : Bool) → (a && b && c && d) ≡ true → (a ≡ true) × (b ≡ true) × (c ≡ true) × (d ≡ true)
+each_holds false b c d h = absurd (cc)
+each_holds true false c d h = absurd (cc)
+each_holds true true false d h = absurd (cc)
+each_holds true true true false h = absurd (cc)
+each_holds true true true true h = (refl, refl, refl, refl)
+
+-- the test says whether a text is among the texts
+pub path_text_is : (path text : List ℕ) → is_path_text path text ≡ list_any (bytes_eq text) (path_texts path)
+path_text_is path text = elim (bool_cases (list_any (bytes_eq text) (path_texts path))) [
+  | inl e ↦ rw e (holds text ((path_texts_are path text).0 e))
+  | inr e ↦ elim (bool_cases (is_path_text path text)) [
+    | inl t ↦ let among = among text t in absurd (cc)
+    | inr t ↦ t ∙ sym e
+  ]
+]
+  where
+    holds : (text : List ℕ) → IsPathText path text → is_path_text path text ≡ true
+    holds [] is = absurd (cc)
+    holds (b ∷ p) is =
+        let o = covers_it path (b ∷ p) is in
+        let last : suc (length p) - 1 ≡ length p = omega arith in
+        let ends : ends_text path (suc (length p) - 1) ≡ true = ap (ends_text path) last ∙ ends_there (b ∷ p) path o.0 (length p) refl o.1 o.2 in
+        let there : length p < length path = omega (arith, ap length o.1, length-append (b ∷ p) o.0) in
+        four_hold (starts_with nat_eq (b ∷ p) (47 ∷ [])) (nat_le (suc (length p)) (length path)) (ends_text path (suc (length p) - 1)) (starts_with nat_eq path (b ∷ p))
+        is.0 (grind (arith, nat_tests, there)) ends ((starts_is Decides-eqb path (b ∷ p) (starts_with nat_eq path (b ∷ p)) refl).1 o.0 o.1)
+
+    among : (text : List ℕ) → is_path_text path text ≡ true → list_any (bytes_eq text) (path_texts path) ≡ true
+    among [] t = absurd (cc)
+    among (b ∷ p) t =
+        let all = each_holds (starts_with nat_eq (b ∷ p) (47 ∷ [])) (nat_le (suc (length p)) (length path)) (ends_text path (suc (length p) - 1)) (starts_with nat_eq path (b ∷ p)) t in
+        let last : suc (length p) - 1 ≡ length p = omega arith in
+        front_among b p path (drop (suc (length p)) path) all.0 (ap (ends_text path) (sym last) ∙ all.2) ((starts_is Decides-eqb path (b ∷ p) (starts_with nat_eq path (b ∷ p)) refl).0 all.3)
+
+pub path_text_by : (path text bytes other : List ℕ) → bytes ≡ path → other ≡ text → is_path_text bytes other ≡ list_any (bytes_eq text) (path_texts path)
+path_text_by path text bytes other b o = ap (λ x. is_path_text x other) b ∙ ap (is_path_text path) o ∙ path_text_is path text
+
+-- it is a front of the path, which is cut there
+pub front_text : (path text : List ℕ) → list_any (bytes_eq text) (path_texts path) ≡ true → take (length text) path ≡ text
+front_text path text h =
+    let o = covers_it path text ((path_texts_are path text).0 h) in
+    ap (take (length text)) o.1 ∙ take_front text o.0
+
+pub front_boundary : (path text : List ℕ) → IsUtf8 path → list_any (bytes_eq text) (path_texts path) ≡ true → IsCharBoundary path (length text)
+front_boundary path [] u h = let is = (path_texts_are path []).0 h in absurd (cc)
+front_boundary path (b ∷ p) u h =
+    let o = covers_it path (b ∷ p) ((path_texts_are path (b ∷ p)).0 h) in
+    let ends = ends_there (b ∷ p) path o.0 (length p) refl o.1 o.2 in
+    let there : length p < length path = omega (arith, ap length o.1, length-append (b ∷ p) o.0) in
+    let next : length p + 1 ≡ suc (length p) = omega arith in
+    subst (IsCharBoundary path) next (cut_boundary path (length p) u there ends)
 
 -- what follows a dot of a host is related to it
 pub behind_dot : (host : List ℕ) (at : ℕ) → at < length host → get_or host at 0 ≡ 46 → IsRelated host (drop (at + 1) host)

@@ -7,10 +7,12 @@ pub mod Cuts
 pub mod GivenRows
 pub mod HostTexts
 pub mod Known
+pub mod Listed
 pub mod Order
 pub mod PathTexts
 pub mod RelatedRows
 pub mod Results
 pub mod Spots
 pub mod Steps
+pub mod SuffixTexts
 pub mod Whole

@@ -12,7 +12,7 @@ use Rattle.cookie_lookup.proofs.Cuts.{bool_cases}
 
 -- the rows of a group
 
-drop_at : {X : Type 0} (rows : List X) (n : ℕ) (row : X) → Some row ≡ slice_get rows n → drop n rows ≡ row ∷ drop (n + 1) rows
+pub drop_at : {X : Type 0} (rows : List X) (n : ℕ) (row : X) → Some row ≡ slice_get rows n → drop n rows ≡ row ∷ drop (n + 1) rows
 drop_at rows n row e = drop_more rows n row (slice_get_within rows n row (sym e)) ∙ ap (λ r. r ∷ drop (n + 1) rows) (get_or_from_slice_get rows n row row (sym e))
 
 drop_end : {X : Type 0} (rows : List X) (n : ℕ) → None ≡ slice_get rows n → drop n rows ≡ []

@@ -1,9 +1,12 @@
 -- The steps of the loops over the texts that a URL is looked up by.
 use Rattle.std.proofs.Common.{◌≡◌, ℕ, ◌+◌, ◌*◌, ◌<◌, ◌≤◌, true, false, List, [], ◌∷◌, ◌++◌, length, take, drop, get_or, refl, sym, ◌∙◌, ap, eqb, nat_eq, arith, append_assoc, append-nil, length-append}
 use Rattle.std.specs.Prelude.{◌≢◌}
-use Rattle.std.specs.List.{flat_map, starts_with}
+use Rattle.std.specs.List.{flat_map, starts_with, sum_by}
 use Rattle.std.proofs.lemmas.Grind.{flat_map-append}
+use Rattle.std.proofs.lemmas.List.Sums.{sum_by-append}
 use Rattle.cookie_laws.specs.Related.{after_dots}
+use Rattle.cookie_lookup.specs.Seen.{Spot}
+use Rattle.cookie_lookup.specs.Spots.{SameSpots}
 use Rattle.cookie_lookup.specs.Texts.{ends_text, front_texts, path_texts, related_texts, slashes}
 use Rattle.cookie_lookup.proofs.Cuts.{at_dot, at_no_dot, dots_suffix, front_more, front_prefix, front_same}
 use Rattle.cookie_lookup.proofs.PathTexts.{length_paths}
@@ -52,17 +55,20 @@ module _ {A : Type 0} (f : List ℕ → List A) (r : List ℕ) (at : ℕ) where
 
 -- what follows the dots of a host
 
-module _ {A : Type 0} (f : List ℕ → List A) (h : List ℕ) (at : ℕ) (below : at < length h) where
-  pub dot_pushed : (all spots new : List A) → spots ++ flat_map f (after_dots (drop at h)) ≡ all → get_or h at 0 ≡ 46 → new ≡ spots ++ f (drop (at + 1) h)
-      → new ++ flat_map f (after_dots (drop (at + 1) h)) ≡ all
-  dot_pushed all spots new so_far dot e =
-      ap (λ s. s ++ flat_map f (after_dots (drop (at + 1) h))) e ∙ append_assoc spots (f (drop (at + 1) h)) (flat_map f (after_dots (drop (at + 1) h)))
-      ∙ ap (λ ts. spots ++ flat_map f ts) (sym (at_dot h at below dot)) ∙ so_far
+module _ (f : List ℕ → List Spot) (h : List ℕ) (at : ℕ) (below : at < length h) where
+  pub dot_pushed : (all spots new : List Spot) → SameSpots (spots ++ flat_map f (after_dots (drop at h))) all → get_or h at 0 ≡ 46 → SameSpots new (spots ++ f (drop (at + 1) h))
+      → SameSpots (new ++ flat_map f (after_dots (drop (at + 1) h))) all
+  dot_pushed all spots new so_far dot e = λ s.
+      let left = flat_map f (after_dots (drop at h)) in
+      let more = flat_map f (after_dots (drop (at + 1) h)) in
+      let here = f (drop (at + 1) h) in
+      let split : sum_by s left ≡ sum_by s here + sum_by s more = ap (λ ts. sum_by s (flat_map f ts)) (at_dot h at below dot) ∙ sum_by-append s here more in
+      omega (arith, e s, so_far s, split, sum_by-append s new more, sum_by-append s spots here, sum_by-append s spots left)
 
-  pub dot_kept : (all spots new : List A) → spots ++ flat_map f (after_dots (drop at h)) ≡ all → eqb (get_or h at 0) 46 ≡ false → new ≡ spots
-      → new ++ flat_map f (after_dots (drop (at + 1) h)) ≡ all
-  dot_kept all spots new so_far dot e =
-      ap (λ s. s ++ flat_map f (after_dots (drop (at + 1) h))) e ∙ ap (λ ts. spots ++ flat_map f ts) (sym (at_no_dot h at below dot)) ∙ so_far
+  pub dot_kept : (all spots new : List Spot) → SameSpots (spots ++ flat_map f (after_dots (drop at h))) all → eqb (get_or h at 0) 46 ≡ false → new ≡ spots
+      → SameSpots (new ++ flat_map f (after_dots (drop (at + 1) h))) all
+  dot_kept all spots new so_far dot e = λ s.
+      ap (λ ss. sum_by s (ss ++ flat_map f (after_dots (drop (at + 1) h)))) e ∙ ap (λ ts. sum_by s (spots ++ flat_map f ts)) (sym (at_no_dot h at below dot)) ∙ so_far s
 
   pub dot_gives : get_or h at 0 ≡ 46 → f (drop (at + 1) h) ≢ [] → flat_map f (related_texts h) ≢ []
   dot_gives dot some none =

@@ -14,6 +14,7 @@ use Rattle.cookie_lookup.specs.Texts.{related_texts, domain_texts, path_texts, m
 use Rattle.cookie_laws.specs.Given.{is_given}
 use Rattle.cookie_lookup.specs.Groups.{PathGroups, DomainGroups, AreGroups, ArePaths, Filled}
 use Rattle.cookie_lookup.specs.Seen.{Spot, row_spots, path_spots, domain_spots, given_spots, at_domain, how_many_found}
+use Rattle.cookie_lookup.specs.Spots.{SameSpots}
 use Rattle.cookie_lookup.proofs.Cuts.{bool_cases}
 use Rattle.cookie_lookup.proofs.HostTexts.{related_differ}
 use Rattle.cookie_lookup.proofs.PathTexts.{path_differ}
@@ -146,10 +147,10 @@ module _ (url : Parts) (now : Moment) (asked : AreAsked url now) where
 
   -- what is found is sorted into what a walk gives
   pub found_sorted : (host : List ℕ) → Some host ≡ host_of url → (groups : DomainGroups) → AreGroups groups → (unsorted sorted : List Spot)
-      → unsorted ≡ flat_map (at_domain (is_given url now) groups (path_texts url.path)) (related_texts host) → IsPermutation unsorted sorted → IsSortedBy stands_before sorted
+      → SameSpots unsorted (flat_map (at_domain (is_given url now) groups (path_texts url.path)) (related_texts host)) → IsPermutation unsorted sorted → IsSortedBy stands_before sorted
       → sorted ≡ given_spots url now groups
   found_sorted host e groups a unsorted sorted u p up =
-      sorted_is unsorted sorted (given_spots url now groups) (λ f. ap (sum_by f) u ∙ same_sums f host (sym e) groups a) (domains_ascend (is_given url now) 0 groups) p up
+      sorted_is unsorted sorted (given_spots url now groups) (λ f. u f ∙ same_sums f host (sym e) groups a) (domains_ascend (is_given url now) 0 groups) p up
 
   -- without a host nothing is due
   none_given : None ≡ host_of url → (row : Row) → is_given url now row ≡ false
@@ -181,8 +182,8 @@ module _ (url : Parts) (now : Moment) (asked : AreAsked url now) where
       nothing (x ∷ xs) z = absurd (omega (arith, z, sum_by-cons (λ (_ : Spot). 1) x xs))
 
 -- what was added to none
-pub from_none : (old new more : List Spot) → new ≡ old ++ more → old ≡ [] → new ≡ more
-from_none old new more e none = e ∙ ap (λ s. s ++ more) none
+pub from_none : (old new more : List Spot) → SameSpots new (old ++ more) → old ≡ [] → SameSpots new more
+from_none old new more e none = λ f. e f ∙ ap (λ s. sum_by f (s ++ more)) none
 
 -- the bounds by the URL
 

@@ -1,4 +1,5 @@
 pub mod Asked
 pub mod Groups
 pub mod Seen
+pub mod Spots
 pub mod Texts

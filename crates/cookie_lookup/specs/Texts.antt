@@ -1,6 +1,6 @@
 -- The texts that a URL is looked up by, after RFC 6265 5.1.3 and 5.1.4.
-use Rattle.std.specs.Prelude.{◌≡◌, true, ◌⊎◌, ℕ, zero, suc, ◌+◌, ◌*◌, Bool, ◌||◌, ◌==◌, List, [], ◌∷◌, ◌++◌, length, take, slice_index, nat_eq, count_by, None, Some, if◌then◌else◌}
-use Rattle.std.specs.List.{starts_with}
+use Rattle.std.specs.Prelude.{◌≡◌, true, ◌⊎◌, ℕ, zero, suc, ◌+◌, ◌-◌, ◌*◌, Bool, ◌&&◌, ◌||◌, ◌==◌, List, [], ◌∷◌, ◌++◌, length, take, slice_index, nat_eq, nat_le, nat_lt, count_by, None, Some, if◌then◌else◌}
+use Rattle.std.specs.List.{ends_with, starts_with}
 use Rattle.url.specs.Parts.{Parts}
 use Rattle.cookie_parts.specs.Hosts.{host_of}
 use Rattle.cookie_laws.specs.Related.{after_dots}
@@ -16,6 +16,12 @@ related_texts host = host ∷ after_dots host
 -- those of a URL; without a host there are none
 abbrev pub domain_texts : Parts → List (List ℕ)
 domain_texts url = elim (host_of url) [ None ↦ [] | Some host ↦ related_texts host ]
+
+-- a text is one of them, tested without making them
+abbrev pub is_domain_text : List ℕ → List ℕ → Bool
+is_domain_text host text =
+    ((length text == length host) || nat_lt (length text) (length host) && (slice_index host (length host - length text - 1) == 46))
+    && ends_with nat_eq host text
 
 -- 5.1.4: a path that path-matches begins with `/`, and is the request path, or stands before one of its slashes, or ends with one
 abbrev pub IsPathText : List ℕ → List ℕ → Type 0
@@ -34,6 +40,12 @@ front_texts path (suc at) = front_texts path at ++ (if ends_text path at then ta
 -- those of a path that begins with a slash
 abbrev pub path_texts : List ℕ → List (List ℕ)
 path_texts path = if starts_with nat_eq path (47 ∷ []) then front_texts path (length path) else []
+
+-- a text is one of them, tested without making them
+abbrev pub is_path_text : List ℕ → List ℕ → Bool
+is_path_text path text =
+    starts_with nat_eq text (47 ∷ []) && nat_le (length text) (length path) && ends_text path (length text - 1)
+    && starts_with nat_eq path text
 
 -- how many there are
 

@@ -5,11 +5,11 @@ ghost use Rattle.cookie_laws.specs.Given.{is_given};
 ghost use Rattle.cookie_lookup.specs.Asked.{is_asked_for, is_host, is_name, is_of_host, kind_is_for, AgreesUnder};
 ghost use Rattle.cookie_lookup.specs.Texts.{IsRelated};
 ghost use Rattle.cookie_parts.specs.Cookie.{is_http_only, is_secure_only};
-ghost use Rattle.cookie_parts.specs.Hosts.{host_of, is_http_scheme, is_secure};
+ghost use Rattle.cookie_parts.specs.Hosts.{host_of, is_host_name, is_http_scheme, is_secure};
 ghost use Rattle.cookie_parts.specs.Views.{domain_value};
 
 use cookie_parts::laws::path_match_is_tested;
-use cookie_parts::utils::{is_host_name, is_http_scheme, is_secure};
+use cookie_parts::utils::{is_http_scheme, is_secure};
 use cookie_parts::{Cookie, CookieDomain};
 use jiff::civil::DateTime;
 use url::Url;
@@ -25,9 +25,16 @@ pub(crate) struct Asked<'a> {
 }
 
 impl<'a> Asked<'a> {
-    // What is left to ask under a text that the host of the URL is looked up by.
-    pub(crate) fn under(text: &str, host: &str, url: &'a Url, moment: DateTime) -> Asked<'a>
+    // What is left to ask under a text that the host of the URL is looked up by, where it is known whether the host is a name.
+    pub(crate) fn under(
+        text: &str,
+        host: &str,
+        host_is_name: bool,
+        url: &'a Url,
+        moment: DateTime,
+    ) -> Asked<'a>
         requires host { host_of url.now ≡ Some host.now }
+        requires name { host_is_name ≡ is_host_name host.now }
         requires related { IsRelated host.now text.now }
         ensures url { result.url.now ≡ url.now }
         ensures moment { result.moment ≡ moment }
@@ -39,7 +46,7 @@ impl<'a> Asked<'a> {
             url,
             moment,
             host_only: is_host(text, host),
-            suffix: is_of_host(text, host),
+            suffix: is_of_host(text, host, host_is_name),
         }
     }
 
@@ -73,10 +80,11 @@ fn is_host(text: &str, host: &str) -> bool
 }
 
 // Whether one for all that the text covers is.
-fn is_of_host(text: &str, host: &str) -> bool
+fn is_of_host(text: &str, host: &str, host_is_name: bool) -> bool
+    requires { host_is_name ≡ is_host_name host.now }
     ensures { result ≡ is_of_host text.now host.now }
 {
-    is_name(text) && (text.len() == host.len() || is_host_name(host))
+    is_name(text) && (text.len() == host.len() || host_is_name)
 }
 
 // Whether the text is the name of a domain: neither nothing nor a dot.

@@ -5,12 +5,15 @@ ghost use Rattle.cookie_words.specs.Moments.{moment_of};
 ghost use Rattle.cookie_laws.specs.Given.{is_given};
 ghost use Rattle.cookie_lookup.specs.Asked.{is_asked_for};
 ghost use Rattle.cookie_lookup.specs.Seen.{at_domain, at_path, given_spots, how_many_found, row_spots, rows_in, under};
+ghost use Rattle.cookie_lookup.specs.Spots.{SameSpots};
 ghost use Rattle.cookie_lookup.specs.Texts.{domain_texts, dots, ends_text, most_domains, most_paths, path_texts, related_texts, IsRelated};
-ghost use Rattle.cookie_parts.specs.Hosts.{host_of};
+ghost use Rattle.cookie_parts.specs.Hosts.{host_of, is_host_name};
 
 use crate::asked::Asked;
 use crate::laws;
-use crate::search::Search;
+use crate::listing::{ByListing, ByLookup, DomainSearch, PathSearch};
+use crate::search::{ListedSearch, Search};
+use cookie_parts::utils::is_host_name;
 use jiff::civil::DateTime;
 use std::alloc::{AllocError, Global};
 use url::Url;
@@ -33,20 +36,59 @@ pub fn found<S: Search>(
         ≤ how_many_found (S.seen search.old).groups (domain_texts url.now) * most_paths url.now }
     ensures memory { OnErr result (given_spots url.now (moment_of now) (S.seen search.old).groups ≢ []) }
 {
+    found_by::<S, ByLookup>(alloc, search, url, now)
+}
+
+/// Finds what `found` does, in time proportional to the length of the URL, the number of stored domains and their lengths, and what is
+/// stored under the domains that are found.
+pub fn found_listed<S: ListedSearch>(
+    alloc: Global,
+    search: &mut S,
+    url: &Url,
+    now: DateTime,
+) -> Result<Vec<(usize, usize, usize)>, AllocError>
+    requires domains { (S.seen search.old).domains ≡ 0 }
+    requires paths { (S.seen search.old).paths ≡ 0 }
+    ensures spots { IfOk result (λ spots. spots.items ≡ given_spots url.now (moment_of now) (S.seen search.old).groups) }
+    ensures groups { (S.seen search.new).groups ≡ (S.seen search.old).groups }
+    ensures domains { (S.seen search.new).domains ≤ most_domains url.now }
+    ensures paths { (S.seen search.new).paths
+        ≤ how_many_found (S.seen search.old).groups (domain_texts url.now) * most_paths url.now }
+    ensures memory { OnErr result (given_spots url.now (moment_of now) (S.seen search.old).groups ≢ []) }
+{
+    found_by::<S, ByListing>(alloc, search, url, now)
+}
+
+// Finds the spots, where domains are searched in this way.
+fn found_by<S: Search, D: DomainSearch<S>>(
+    alloc: Global,
+    search: &mut S,
+    url: &Url,
+    now: DateTime,
+) -> Result<Vec<(usize, usize, usize)>, AllocError>
+    requires domains { (S.seen search.old).domains ≡ 0 }
+    requires paths { (S.seen search.old).paths ≡ 0 }
+    ensures spots { IfOk result (λ spots. spots.items ≡ given_spots url.now (moment_of now) (S.seen search.old).groups) }
+    ensures groups { (S.seen search.new).groups ≡ (S.seen search.old).groups }
+    ensures domains { (S.seen search.new).domains ≤ most_domains url.now }
+    ensures paths { (S.seen search.new).paths
+        ≤ how_many_found (S.seen search.old).groups (domain_texts url.now) * most_paths url.now }
+    ensures memory { OnErr result (given_spots url.now (moment_of now) (S.seen search.old).groups ≢ []) }
+{
     laws::looked_up();
     let mut spots = Vec::new(alloc);
     if let Some(host) = url.host_str() {
         // No text is longer than half of what can be addressed, so that the counts stay in their range.
         let _ = host.as_bytes();
         let _ = url.path().as_bytes();
-        push_domains(search, host, url, now, &mut spots)?;
+        D::push_domains(search, host, url, now, &mut spots)?;
         spots.sort_unstable();
     }
     Ok(spots)
 }
 
 // Adds the spots under the texts that the host is looked up by, from the longest text to the shortest.
-fn push_domains<S: Search>(
+pub(crate) fn push_domains<S: Search, P: PathSearch<S>>(
     search: &mut S,
     host: &str,
     url: &Url,
@@ -56,8 +98,8 @@ fn push_domains<S: Search>(
     requires host { host_of url.now ≡ Some host.now }
     requires domains { (S.seen search.old).domains + (1 + dots host.now) < 2 ^ 128 }
     requires paths { (S.seen search.old).paths + (1 + dots host.now) * most_paths url.now < 2 ^ 128 }
-    ensures spots { OnOk result (spots.new.items ≡ spots.old.items
-        ++ flat_map (at_domain (is_given url.now (moment_of now)) (S.seen search.old).groups (path_texts url.now.path)) (related_texts host.now)) }
+    ensures spots { OnOk result (SameSpots spots.new.items (spots.old.items
+        ++ flat_map (at_domain (is_given url.now (moment_of now)) (S.seen search.old).groups (path_texts url.now.path)) (related_texts host.now))) }
     ensures groups { (S.seen search.new).groups ≡ (S.seen search.old).groups }
     ensures domains { (S.seen search.new).domains ≤ (S.seen search.old).domains + (1 + dots host.now) }
     ensures paths { (S.seen search.new).paths
@@ -65,31 +107,34 @@ fn push_domains<S: Search>(
     ensures memory { OnErr result
         (flat_map (at_domain (is_given url.now (moment_of now)) (S.seen search.old).groups (path_texts url.now.path)) (related_texts host.now) ≢ []) }
 {
-    push_domain(search, host, host, url, now, spots)?;
+    let host_is_name = is_host_name(host);
+    push_domain::<S, P>(search, host, host, host_is_name, url, now, spots)?;
     let bytes = host.as_bytes();
     for at in 0..bytes.len() {
         if bytes[at] == b'.' {
-            push_domain(search, &host[at + 1..], host, url, now, spots)?;
+            push_domain::<S, P>(search, &host[at + 1..], host, host_is_name, url, now, spots)?;
         }
     }
     Ok(())
 }
 
-// Adds the spots under a text that the host is looked up by.
-fn push_domain<S: Search>(
+// Adds the spots under a text that the host is looked up by, where it is known whether the host is a name.
+pub(crate) fn push_domain<S: Search, P: PathSearch<S>>(
     search: &mut S,
     text: &str,
     host: &str,
+    host_is_name: bool,
     url: &Url,
     now: DateTime,
     spots: &mut Vec<(usize, usize, usize)>,
 ) -> Result<(), AllocError>
     requires host { host_of url.now ≡ Some host.now }
+    requires name { host_is_name ≡ is_host_name host.now }
     requires related { IsRelated host.now text.now }
     requires domains { (S.seen search.old).domains + 1 < 2 ^ 128 }
     requires paths { (S.seen search.old).paths + most_paths url.now < 2 ^ 128 }
-    ensures spots { OnOk result (spots.new.items ≡ spots.old.items
-        ++ at_domain (is_given url.now (moment_of now)) (S.seen search.old).groups (path_texts url.now.path) text.now) }
+    ensures spots { OnOk result (SameSpots spots.new.items (spots.old.items
+        ++ at_domain (is_given url.now (moment_of now)) (S.seen search.old).groups (path_texts url.now.path) text.now)) }
     ensures groups { (S.seen search.new).groups ≡ (S.seen search.old).groups }
     ensures domains { (S.seen search.new).domains ≡ (S.seen search.old).domains + 1 }
     ensures paths { (S.seen search.new).paths
@@ -98,13 +143,16 @@ fn push_domain<S: Search>(
         (at_domain (is_given url.now (moment_of now)) (S.seen search.old).groups (path_texts url.now.path) text.now ≢ []) }
 {
     match search.domain(text) {
-        Some(domain) => push_paths(search, domain, &Asked::under(text, host, url, now), spots),
+        Some(domain) => {
+            let asked = Asked::under(text, host, host_is_name, url, now);
+            P::push_paths(search, domain, &asked, spots)
+        }
         None => Ok(()),
     }
 }
 
 // Adds the spots in the domain at a position under the texts that the URL's path is looked up by, from the shortest to the longest.
-fn push_paths<S: Search>(
+pub(crate) fn push_paths<S: Search>(
     search: &mut S,
     domain: usize,
     asked: &Asked<'_>,
@@ -133,7 +181,7 @@ fn push_paths<S: Search>(
 }
 
 // Whether the byte is the last, or a slash, or one follows.
-fn ends_text(path: &[u8], at: usize) -> bool
+pub(crate) fn ends_text(path: &[u8], at: usize) -> bool
     requires { at < length path.now }
     ensures { result ≡ ends_text path.now at }
 {
@@ -141,7 +189,7 @@ fn ends_text(path: &[u8], at: usize) -> bool
 }
 
 // Adds the spots under the text of a path in the domain at a position.
-fn push_path<S: Search>(
+pub(crate) fn push_path<S: Search>(
     search: &mut S,
     domain: usize,
     text: &str,
@@ -180,9 +228,23 @@ fn push_rows<S: Search>(
     let mut row = 0;
     while let Some(cookie) = search.cookie(row) {
         if asked.gives(cookie) {
-            spots.push((domain, path, row))?;
+            push_spot(spots, (domain, path, row))?;
         }
         row += 1;
     }
+    Ok(())
+}
+
+// Adds a spot. The first takes room for 32 at once.
+fn push_spot(
+    spots: &mut Vec<(usize, usize, usize)>,
+    spot: (usize, usize, usize),
+) -> Result<(), AllocError>
+    ensures { OnOk result (spots.new.items ≡ spots.old.items ++ spot ∷ []) }
+{
+    if spots.is_empty() {
+        spots.reserve_exact(32)?;
+    }
+    spots.push(spot)?;
     Ok(())
 }

@@ -8,9 +8,10 @@
 mod asked;
 mod finding;
 pub mod laws;
+mod listing;
 mod lookups;
 mod search;
 
-pub use finding::found;
+pub use finding::{found, found_listed};
 pub use lookups::Lookups;
-pub use search::Search;
+pub use search::{ListedSearch, Search};

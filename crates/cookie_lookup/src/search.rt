@@ -1,5 +1,5 @@
 //! What is searched.
-ghost use Rattle.std.specs.Prelude.{◌≡◌, ◌<◌, ◌+◌, ◌^◌, length, option_map, slice_get, IfSome};
+ghost use Rattle.std.specs.Prelude.{◌≡◌, ◌<◌, ◌+◌, ◌^◌, length, map, option_map, slice_get, IfSome};
 ghost use Rattle.cookie_lookup.specs.Groups.{AreGroups};
 ghost use Rattle.cookie_lookup.specs.Seen.{Seen, now_at, place_of, rows_in, under};
 
@@ -32,4 +32,24 @@ pub trait Search {
         ensures room { IfSome result (λ _. row + 1 < 2 ^ 64) };
 
     ghost are_groups: { (s : Self) → AreGroups (seen s).groups };
+}
+
+/// A search that also lists its domains, and the paths of each.
+pub trait ListedSearch: Search {
+    /// The number of domains.
+    fn domain_count(&self) -> usize
+        ensures { result ≡ length (Self.seen self.now).groups };
+
+    /// The domain at a position.
+    fn domain_text(&self, domain: usize) -> Option<&str>
+        ensures { option_map (λ text. text.now) result ≡ slice_get (map (λ g. g.0) (Self.seen self.now).groups) domain };
+
+    /// The number of paths in the group of the domain at a position.
+    fn path_count(&self, domain: usize) -> usize
+        ensures { result ≡ length (under domain (Self.seen self.now).groups) };
+
+    /// The path at a position in the group of the domain at a position.
+    fn path_text(&self, domain: usize, path: usize) -> Option<&str>
+        ensures { option_map (λ text. text.now) result
+            ≡ slice_get (map (λ p. p.0) (under domain (Self.seen self.now).groups)) path };
 }

@@ -441,3 +441,31 @@ fn prints_the_table(rt: HostRuntime) {
         prints(&rt, rt.alloc(), &cookie, printed, *is_plain);
     }
 }
+
+// The cookie has the Max-Age that its builder was given, as its copy does.
+fn has_built_age(rt: &impl Abort, alloc: Global, age: SignedDuration) {
+    let cookie = builder(rt, alloc, "a", "1").max_age(age).build();
+    let copy = cookie.clone().expect(rt, "memory");
+    is_equal(rt, cookie.max_age(), Some(age), &age);
+    is_equal(rt, copy.max_age(), Some(age), &age);
+}
+
+// Ages in nanoseconds.
+const AGES: &[i64] = &[
+    0,
+    1,
+    -1,
+    999_999_999,
+    -999_999_999,
+    1_500_000_000,
+    -1_500_000_000,
+];
+
+#[test]
+fn builds_ages_with_fractions(rt: HostRuntime) {
+    for nanos in AGES {
+        has_built_age(&rt, rt.alloc(), SignedDuration::from_nanos(*nanos));
+    }
+    has_built_age(&rt, rt.alloc(), SignedDuration::MIN);
+    has_built_age(&rt, rt.alloc(), SignedDuration::MAX);
+}

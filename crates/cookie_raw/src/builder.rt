@@ -5,6 +5,7 @@ ghost use Rattle.jiff.specs.Words.{signed_nanos};
 ghost use Rattle.cookie_raw.specs.Raw.{pair};
 ghost use Rattle.cookie_raw.specs.Views.{ending};
 
+use crate::max_age::MaxAge;
 use crate::{Expiration, RawCookie, SameSite};
 use jiff::SignedDuration;
 use std::borrow::CowStr;
@@ -38,7 +39,7 @@ impl RawCookieBuilder {
                 secure: None,
                 http_only: None,
                 same_site: None,
-                max_age: None,
+                max_age: MaxAge::new(None),
                 expires: None,
             },
         }
@@ -79,7 +80,7 @@ impl RawCookieBuilder {
         ensures { result ≡ record self { max_age = Some (signed_nanos max_age) } }
     {
         let cookie = RawCookie {
-            max_age: Some(max_age),
+            max_age: MaxAge::new(Some(max_age)),
             ..self.cookie
         };
         RawCookieBuilder { cookie }

@@ -60,7 +60,7 @@ fn has_same_attributes(cookie: &RawCookie<'_>, other: &RawCookie<'_>) -> bool
     cookie.secure == other.secure
         && cookie.http_only == other.http_only
         && cookie.same_site == other.same_site
-        && cookie.max_age == other.max_age
+        && cookie.max_age() == other.max_age()
         && has_same_end(cookie.expires, other.expires)
 }
 

@@ -7,6 +7,7 @@ mod copies;
 mod date;
 mod expiration;
 pub mod laws;
+mod max_age;
 mod parse;
 mod plain;
 mod printing;

@@ -8,6 +8,7 @@ ghost use Rattle.cookie_raw.specs.Slices.{HasSlices};
 ghost use Rattle.cookie_raw.specs.Views.{ending};
 
 use crate::attributes::Attributes;
+use crate::max_age::MaxAge;
 use crate::{Expiration, RawCookieParseError, SameSite};
 use cookie_words::without_dot;
 use jiff::SignedDuration;
@@ -27,7 +28,7 @@ pub struct RawCookie<'a> {
     pub(crate) same_site: Option<SameSite>,
     pub(crate) domain: Option<CowStr<'a>>,
     pub(crate) path: Option<CowStr<'a>>,
-    pub(crate) max_age: Option<SignedDuration>,
+    pub(crate) max_age: MaxAge,
     pub(crate) expires: Option<Expiration>,
 }
 
@@ -35,9 +36,8 @@ impl<'a> Model for RawCookie<'a> {
     ghost use Rattle.std.specs.Prelude.{option_map};
     ghost use Rattle.std.specs.Cow.{cow_str_bytes};
     ghost use Rattle.cookie_words.specs.Texts.{without_dot};
-    ghost use Rattle.jiff.specs.Words.{signed_nanos};
     ghost use Rattle.cookie_raw.specs.Raw.{Raw};
-    ghost use Rattle.cookie_raw.specs.Views.{ending};
+    ghost use Rattle.cookie_raw.specs.Views.{ending, max_age_nanos};
 
     ghost Value = { Raw };
 
@@ -49,7 +49,7 @@ impl<'a> Model for RawCookie<'a> {
       secure = c.secure;
       http_only = c.http_only;
       same_site = c.same_site;
-      max_age = option_map signed_nanos c.max_age;
+      max_age = max_age_nanos c.max_age;
       expires = option_map ending c.expires;
     } };
 }
@@ -125,7 +125,7 @@ impl<'a> RawCookie<'a> {
             secure: attributes.secure,
             http_only: attributes.http_only,
             same_site: attributes.same_site,
-            max_age: attributes.max_age,
+            max_age: MaxAge::new(attributes.max_age),
             expires: attributes.expires,
         })
     }
@@ -197,7 +197,7 @@ impl<'a> RawCookie<'a> {
     pub fn max_age(&self) -> Option<SignedDuration>
         ensures { option_map signed_nanos result ≡ self.now.max_age }
     {
-        self.max_age
+        self.max_age.duration()
     }
 
     /// The Expires attribute.

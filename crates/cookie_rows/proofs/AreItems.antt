@@ -105,7 +105,6 @@ some_paths d [] l a = absurd (omega (arith, l))
 some_paths d (p ∷ ps) l a = some_front (rows_of p.1) (flat_paths (bare_paths ps)) (some_names p.1 a.0.0)
 
 -- those of all groups
-pub some_rows : (gs : ItemGroups) → AreGroups (bare gs) → (fs hs : ItemGroups) (g : List ℕ × ItemPaths) → fs ++ g ∷ hs ≡ gs → flat (bare gs) ≢ []
-some_rows [] a [] hs g is = absurd (cc)
-some_rows [] a (f ∷ fs) hs g is = absurd (cc)
-some_rows (g ∷ gs) a fs hs f is = some_front (flat_paths (bare_paths g.1)) (flat (bare gs)) (some_paths g.0 g.1 a.1.0.0 a.1.0.1.1)
+pub some_rows : (gs : ItemGroups) → AreGroups (bare gs) → gs ≢ [] → flat (bare gs) ≢ []
+some_rows [] a some = absurd (some refl)
+some_rows (g ∷ gs) a some = some_front (flat_paths (bare_paths g.1)) (flat (bare gs)) (some_paths g.0 g.1 a.1.0.0 a.1.0.1.1)

@@ -5,7 +5,8 @@ use Rattle.std.proofs.lemmas.Bool.{cases_Bool}
 use Rattle.cookie_parts.specs.Cookie.{Row}
 use Rattle.cookie_parts.specs.Domain.{domain_text}
 use Rattle.cookie_laws.specs.Rows.{Key}
-use Rattle.cookie_rows.specs.Groups.{is_named, row_named, put_name, end_name, remove_name, found, put_at, changed_at, kept, lessened_at, find_paths, find_groups, put_paths, put_groups, end_paths, end_groups, remove_paths, remove_groups}
+use Rattle.cookie_rows.specs.Groups.{is_named, row_named, found, put_at, changed_at, kept, lessened_at}
+use Rattle.cookie_rows.proofs.BareGroups.{put_name, end_name, remove_name, find_paths, find_groups, put_paths, put_groups, end_paths, end_groups, remove_paths, remove_groups}
 use Rattle.cookie_rows.specs.Items.{Item, ItemPaths, ItemGroups, rows_of, bare_paths, bare, put_item, end_item, remove_item, find_item_paths, find_items, put_item_paths, put_items, end_item_paths, end_items, remove_item_paths, remove_items}
 
 -- groups under texts, with what is in them seen through a function

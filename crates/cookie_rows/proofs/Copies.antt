@@ -1,6 +1,6 @@
 -- A map whose entries are copied one after the other into a map of another hasher.
 use Rattle.std.proofs.Common.{◌≡◌, ℕ, true, false, List, [], ◌∷◌, ◌++◌, map, refl, sym, ◌∙◌, ap, subst, bytes_eq, append_assoc, append-nil, arith}
-use Rattle.std.specs.Prelude.{string_bytes, String}
+use Rattle.std.specs.Prelude.{◌≢◌, string_bytes, String}
 use Rattle.std.specs.String.{string_eq}
 use Rattle.std.specs.List.{AllByRecursion, IsDistinct, list_any}
 use Rattle.std.specs.Map.{keys_of, values_of}
@@ -11,6 +11,11 @@ use Rattle.indexmap.specs.IndexMap.{insert_entry}
 use Rattle.cookie_laws.specs.Rows.{differ}
 use Rattle.cookie_rows.specs.Groups.{texts_of}
 use Rattle.cookie_rows.proofs.Maps.{values_texts}
+
+-- a list with an item in it is not empty
+not_nothing : {Y : Type 0} (xs ys : List Y) (y : Y) → xs ++ y ∷ ys ≢ []
+not_nothing [] ys y none = absurd (cc)
+not_nothing (x ∷ xs) ys y none = absurd (cc)
 
 module _ {A X : Type 0} where
   -- a text that differs from each of the keys is none of them
@@ -72,6 +77,12 @@ module _ {A X : Type 0} where
         ap (λ fs. texts_of fs ++ texts_of rest) came
         ∙ copied_next done rest all e k v (subst (λ fs. IsDistinct string_eq (keys_of fs)) (sym same) distinct)
         (ap (λ fs. texts_of done ++ texts_of fs) (sym first) ∙ so_far) key value
+
+    -- one was left, so there are some
+    pub some_left : (done left rest : List (String A × X)) (e : String A × X) → texts_of done ++ texts_of left ≡ texts_of all → left ≡ e ∷ rest → texts_of es ≢ []
+    some_left done left rest e so_far first none =
+        not_nothing (texts_of done) (texts_of rest) (string_bytes e.0, e.1)
+        (ap (λ fs. texts_of done ++ texts_of fs) (sym first) ∙ so_far ∙ ap texts_of same ∙ none)
 
     -- none is left
     pub copied_all : (done left : List (String A × X)) → texts_of done ++ texts_of left ≡ texts_of all → left ≡ [] → texts_of done ≡ texts_of es

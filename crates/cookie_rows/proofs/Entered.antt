@@ -1,5 +1,5 @@
 -- A new row enters groups, after others of its domain left.
-use Rattle.std.proofs.Common.{◌≡◌, ℕ, suc, ◌+◌, ◌-◌, ◌<◌, ◌≤◌, Bool, true, false, not, List, [], ◌∷◌, ◌++◌, filter, length, map, take, refl, sym, ◌∙◌, ap, ap₂, subst, inl, inr, arith, max, take_all, zero, Ok, Some, None, IsPermutation}
+use Rattle.std.proofs.Common.{◌≡◌, ℕ, suc, ◌+◌, ◌-◌, ◌<◌, Bool, true, false, not, List, [], ◌∷◌, ◌++◌, filter, length, map, take, refl, sym, ◌∙◌, ap, ap₂, subst, inl, inr, arith, max, take_all, zero, Ok, Some, None, IsPermutation}
 use Rattle.std.specs.Prelude.{slice_get, nat_eq}
 use Rattle.std.specs.List.{AllByRecursion, list_any}
 use Rattle.std.proofs.lemmas.List.{length-map, map-append}
@@ -11,11 +11,11 @@ use Rattle.cookie_parts.specs.declared.store_action.StoreAction.TheVariants.{Ins
 use Rattle.cookie_laws.specs.Acceptance.{store_by}
 use Rattle.cookie_laws.specs.Contents as Store
 use Rattle.cookie_laws.specs.Contents.{Contents, by_turn, contents_of, has_ended, keep, leaving, without}
-use Rattle.cookie_laws.specs.Rows.{Key, Kept, differ, is_live, key_at, key_of, make, put, row_of, same_domain, same_key}
+use Rattle.cookie_laws.specs.Rows.{Key, Kept, differ, key_at, key_of, make, put, row_of, same_domain, same_key}
 use Rattle.cookie_lookup.specs.Groups.{flat}
 use Rattle.cookie_rows.specs.Groups.{lessened_at}
 use Rattle.cookie_rows.specs.Items.{AreItems, Item, ItemGroups, ItemPaths, bare, by_number, kept_of, made_of, numbered, numbered_names, numbered_paths, put_items}
-use Rattle.cookie_rows.specs.Turns.{EntersItems, IsFirst, Turn, comes_before, entered_items, passing, paths_of, stays, turn_cmp, turn_of, turns_of}
+use Rattle.cookie_rows.specs.Turns.{EntersItems, IsFirst, Turn, comes_before, entered_items, passing, paths_of, stays, turn_of, turns_of}
 use Rattle.cookie_rows.proofs.AreItems.{found_items, items_put, kept_put}
 use Rattle.cookie_rows.proofs.ByNumber.{all_map}
 use Rattle.cookie_rows.proofs.Entering.{entered_is}

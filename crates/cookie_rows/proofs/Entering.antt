@@ -1,6 +1,5 @@
 -- A row enters groups that others leave. It is put before they leave, so its groups are moved last where it is alone in them.
 use Rattle.std.proofs.Common.{◌≡◌, ℕ, zero, suc, ◌+◌, ◌-◌, ◌<◌, ◌==◌, Bool, true, false, not, cond, List, [], ◌∷◌, ◌++◌, length, map, filter, remove, insert, refl, sym, ◌∙◌, ap, subst, inl, inr, bytes_eq, slice_get, position, string_bytes, String, Option, Some, None, option_map, arith}
-use Rattle.std.specs.Prelude.{if◌then◌else◌}
 use Rattle.std.specs.List.{AllByRecursion, list_any}
 use Rattle.std.specs.Map.{keys_of, lookup, values_of}
 use Rattle.std.specs.Map.Calls.{RetainsPairs}

@@ -161,7 +161,7 @@ module _ (test : Item → Bool) where
   filled_passing d (p ∷ ps) a = filled_next d p.0 (filter test p.1) (passing test ps) (of_filter d p.0 p.1 a.0.1) (filled_passing d ps a.1)
 
   -- groups of a domain
-  paths_passing : (d : List ℕ) (ps : ItemPaths) → ArePaths d (bare_paths ps) → ArePaths d (bare_paths (passing test ps))
+  pub paths_passing : (d : List ℕ) (ps : ItemPaths) → ArePaths d (bare_paths ps) → ArePaths d (bare_paths (passing test ps))
   paths_passing d ps a =
       let all = λ (qs : ItemPaths). seen_texts (λ (x : Item). x.row) qs in
       let before : differ bytes_eq (map (λ p. p.0) (tested ps)) ≡ true = ap (differ bytes_eq) (texts_tested ps ∙ sym (all ps)) ∙ a.0 in

@@ -8,7 +8,8 @@ use Rattle.cookie_parts.specs.Cookie.{Row}
 use Rattle.cookie_parts.specs.Domain.{domain_text}
 use Rattle.cookie_laws.specs.Rows.{Key, differ}
 use Rattle.cookie_lookup.specs.Groups.{PathGroups, DomainGroups, Of, ArePaths, AreGroups}
-use Rattle.cookie_rows.specs.Groups.{is_named, put_name, end_name, remove_name, put_at, changed_at, kept, lessened_at, put_paths, put_groups, end_paths, end_groups, remove_paths, remove_groups}
+use Rattle.cookie_rows.specs.Groups.{is_named, put_at, changed_at, kept, lessened_at}
+use Rattle.cookie_rows.proofs.BareGroups.{put_name, end_name, remove_name, put_paths, put_groups, end_paths, end_groups, remove_paths, remove_groups}
 use Rattle.cookie_rows.proofs.Flat.{any_append}
 
 -- a text that is not there goes last, and the texts differ

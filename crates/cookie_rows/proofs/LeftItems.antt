@@ -138,11 +138,11 @@ module _ (n : ℕ) (gs : ItemGroups) (a : AreItems n gs) where
 
 module _ {Y : Type 0} where
   -- something of each item of the groups of a domain
-  abbrev listed_in : (List ℕ → Item → Y) → ItemPaths → List Y
+  abbrev pub listed_in : (List ℕ → Item → Y) → ItemPaths → List Y
   listed_in of paths = flat_map (λ p. map (of p.0) p.1) paths
 
   -- and of all
-  abbrev listed : (List ℕ → List ℕ → Item → Y) → ItemGroups → List Y
+  abbrev pub listed : (List ℕ → List ℕ → Item → Y) → ItemGroups → List Y
   listed of groups = flat_map (λ g. listed_in (of g.0) g.1) groups
 
   -- what holds of it for each item holds of the list
@@ -179,7 +179,7 @@ module _ {Y : Type 0} where
     ]
 
     -- of a domain
-    paths_left : (of : List ℕ → Item → Y) (ps : ItemPaths) → EachIn (λ p x. keeps (of p x) ≡ test x) ps → listed_in of (passing test ps) ≡ filter keeps (listed_in of ps)
+    pub paths_left : (of : List ℕ → Item → Y) (ps : ItemPaths) → EachIn (λ p x. keeps (of p x) ≡ test x) ps → listed_in of (passing test ps) ≡ filter keeps (listed_in of ps)
     paths_left of [] a = refl
     paths_left of (p ∷ ps) a =
         listed_next of p.0 (filter test p.1) (passing test ps)
@@ -244,7 +244,7 @@ rows_listed_in [] = refl
 rows_listed_in (p ∷ ps) = ap (λ rows. rows_of p.1 ++ rows) (rows_listed_in ps)
 
 -- and of all
-rows_listed : (gs : ItemGroups) → flat (bare gs) ≡ listed (λ d p x. x.row) gs
+pub rows_listed : (gs : ItemGroups) → flat (bare gs) ≡ listed (λ d p x. x.row) gs
 rows_listed [] = refl
 rows_listed (g ∷ gs) = ap₂ (λ xs ys. xs ++ ys) (rows_listed_in g.1) (rows_listed gs)
 

@@ -1,6 +1,7 @@
 pub mod AfterLast
 pub mod AreItems
 pub mod Bare
+pub mod BareGroups
 pub mod Built
 pub mod ByNumber
 pub mod ChosenTurn
@@ -28,3 +29,4 @@ pub mod Results
 pub mod StandTogether
 pub mod TurnOrder
 pub mod Turns
+pub mod UnexpiredItems

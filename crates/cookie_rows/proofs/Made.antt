@@ -51,7 +51,7 @@ keys_paths d [] a = refl
 keys_paths d (p ∷ ps) a = keys_both (rows_of p.1) (flat_paths (bare_paths ps)) (numbered_names d p.0 p.1) (numbered_paths d ps) (keys_names d p.0 p.1 a.0.1) (keys_paths d ps a.1)
 
 -- among all
-keys_groups : (gs : ItemGroups) → AllByRecursion (λ g. (0 < length g.1) × ArePaths g.0 g.1) (bare gs) → map key_of (flat (bare gs)) ≡ map (λ x. x.0) (numbered gs)
+pub keys_groups : (gs : ItemGroups) → AllByRecursion (λ g. (0 < length g.1) × ArePaths g.0 g.1) (bare gs) → map key_of (flat (bare gs)) ≡ map (λ x. x.0) (numbered gs)
 keys_groups [] a = refl
 keys_groups (g ∷ gs) a = keys_both (flat_paths (bare_paths g.1)) (flat (bare gs)) (numbered_paths g.0 g.1) (numbered gs) (keys_paths g.0 g.1 a.0.1.1) (keys_groups gs a.1)
 

@@ -2,7 +2,6 @@
 use Rattle.std.proofs.Common.{◌≡◌, ℕ, ◌==◌, Bool, true, false, List, [], ◌∷◌, map, length, refl, ◌∙◌, ap, inl, inr, bytes_eq, Option, Some, None, arith}
 use Rattle.std.specs.Prelude.{string_bytes, String}
 use Rattle.std.specs.String.{string_eq}
-use Rattle.std.specs.List.{AllZip}
 use Rattle.std.specs.Map.{lookup, set_value, remove_entry, values_of}
 use Rattle.std.proofs.lemmas.Bool.{cases_Bool}
 use Rattle.indexmap.specs.IndexMap.{insert_entry}
@@ -104,13 +103,6 @@ module _ {A X : Type 0} where
   pub values_texts : (es : List (String A × X)) → values_of es ≡ map (λ g. g.1) (texts_of es)
   values_texts [] = refl
   values_texts (e ∷ es) = ap (λ xs. e.1 ∷ xs) (values_texts es)
-
-  -- clones of the entries have the same texts and groups
-  pub text_clones : (es fs : List (String A × List X)) → AllZip (λ p q. (string_bytes q.0 ≡ string_bytes p.0) × (q.1 ≡ p.1)) es fs → texts_of fs ≡ texts_of es
-  text_clones [] [] z = refl
-  text_clones [] (f ∷ fs) z = absurd z
-  text_clones (e ∷ es) [] z = absurd z
-  text_clones (e ∷ es) (f ∷ fs) z = ap (λ xs. (string_bytes f.0, f.1) ∷ xs) (text_clones es fs z.1) ∙ ap (λ g. g ∷ texts_of es) (ap (λ t. (t, f.1)) z.0.0 ∙ ap (λ v. (string_bytes e.0, v)) z.0.1)
 
 -- a group that was changed is dropped where nothing is left in it
 module _ {X : Type 0} (f : List X → List X) (q : List ℕ) where

@@ -1,8 +1,8 @@
 -- A map of items under their names is a list of items.
-use Rattle.std.proofs.Common.{◌≡◌, ℕ, Bool, true, false, List, [], ◌∷◌, refl, sym, ◌∙◌, ap, subst, inl, inr, bytes_eq, Some, None}
+use Rattle.std.proofs.Common.{◌≡◌, ℕ, Bool, true, false, List, [], ◌∷◌, refl, sym, ◌∙◌, ap, subst, inl, inr, bytes_eq, Option, Some, None}
 use Rattle.std.specs.Prelude.{string_bytes, String, option_map}
 use Rattle.std.specs.String.{string_eq}
-use Rattle.std.specs.List.{AllByRecursion, AllZip}
+use Rattle.std.specs.List.{AllByRecursion}
 use Rattle.std.specs.Map.{values_of, lookup, set_value, remove_entry}
 use Rattle.std.proofs.lemmas.Bool.{cases_Bool}
 use Rattle.std.proofs.lemmas.Slice.Eq.{bytes_eq-Decides}
@@ -10,6 +10,11 @@ use Rattle.indexmap.specs.IndexMap.{insert_entry}
 use Rattle.cookie_parts.specs.Cookie.{Row, ended}
 use Rattle.cookie_rows.specs.Groups.{row_named, texts_of}
 use Rattle.cookie_rows.specs.Items.{AreNamed, Item, end_item, is_item_named, put_item, remove_item, rows_of}
+
+-- there is no item that has no row
+no_item : (x : Option Item) → option_map (λ (x : Item). x.row) x ≡ None → None ≡ x
+no_item None e = refl
+no_item (Some x) e = absurd (cc)
 
 module _ {A : Type 0} where
   -- the test of a key by a text
@@ -27,6 +32,10 @@ module _ {A : Type 0} where
     | inl t ↦ rw (t, same_test q e g.0 true t) refl
     | inr f ↦ rw (f, same_test q e g.0 false f) (row_found q es g.1)
   ]
+
+  -- nothing stands under a name that no row has
+  pub none_named : (q : List ℕ) (es : List (String A × Item)) → AreNamed es → row_named q (rows_of (values_of es)) ≡ None → None ≡ lookup (at_text q) es
+  none_named q es g none = no_item (lookup (at_text q) es) (row_found q es g ∙ none)
 
   module _ (q : List ℕ) (w : Row) (n : ℕ) (is : w.raw.name ≡ q) where
     -- a row of the name was written there
@@ -107,20 +116,6 @@ module _ {A : Type 0} where
       | inl t ↦ rw (t, same_test q e g.0 true t) refl
       | inr f ↦ rw (f, same_test q e g.0 false f) (ap (λ xs. e.1 ∷ xs) (remove_values es g.1))
     ]
-
--- clones of the entries have the same names and items
-pub named_clones : {A : Type 0} (es fs : List (String A × Item)) → AllZip (λ p q. (string_bytes q.0 ≡ string_bytes p.0) × (q.1 ≡ p.1)) es fs → AreNamed es → AreNamed fs
-named_clones [] [] z g = tt
-named_clones [] (f ∷ fs) z g = absurd z
-named_clones (e ∷ es) [] z g = absurd z
-named_clones (e ∷ es) (f ∷ fs) z g = (z.0.0 ∙ g.0 ∙ ap (λ (x : Item). x.row.raw.name) (sym z.0.1), named_clones es fs z.1 g.1)
-
--- and the same items
-pub value_clones : {A : Type 0} (es fs : List (String A × Item)) → AllZip (λ p q. (string_bytes q.0 ≡ string_bytes p.0) × (q.1 ≡ p.1)) es fs → values_of fs ≡ values_of es
-value_clones [] [] z = refl
-value_clones [] (f ∷ fs) z = absurd z
-value_clones (e ∷ es) [] z = absurd z
-value_clones (e ∷ es) (f ∷ fs) z = ap (λ x. x ∷ values_of fs) z.0.1 ∙ ap (λ xs. e.1 ∷ xs) (value_clones es fs z.1)
 
 -- each text is the name of its item
 abbrev AreNames : List (List ℕ × Item) → Type 0

@@ -7,8 +7,8 @@ use Rattle.std.proofs.lemmas.Iterator.Adapters.{position_from-zero}
 use Rattle.std.proofs.lemmas.Option.{slice_get_within}
 use Rattle.cookie_parts.specs.Cookie.{Row}
 use Rattle.cookie_lookup.specs.Groups.{DomainGroups}
-use Rattle.cookie_lookup.specs.Seen.{Spot, place_of, under, rows_at, list_of}
-use Rattle.cookie_rows.specs.Groups.{texts_of}
+use Rattle.cookie_lookup.specs.Seen.{Spot, place_of, under, rows_at, rows_in, list_of}
+use Rattle.cookie_rows.specs.Groups.{found, texts_of}
 use Rattle.cookie_rows.specs.Items.{Item, ItemGroups, bare, rows_of}
 
 bool_cases : (b : Bool) → (b ≡ true) ⊎ (b ≡ false)
@@ -39,10 +39,61 @@ under_is [] n k v h = absurd (omega (arith, slice_get_within [] n (k, v) h))
 under_is (e ∷ es) zero k v h = let s : e ≡ (k, v) = cc in ap (λ p. p.1) (sym s)
 under_is (e ∷ es) (suc n) k v h = under_is es n k v h
 
+-- positions one further on
+not_first : (o : Option ℕ) → option_map suc o ≡ Some 0 → ⊥
+not_first None h = absurd (cc)
+not_first (Some p) h = let e : suc p ≡ 0 = cc in omega (arith, e)
+
+one_back : (o : Option ℕ) (n : ℕ) → option_map suc o ≡ Some (suc n) → o ≡ Some n
+one_back None n h = absurd (cc)
+one_back (Some p) n h = let e : suc p ≡ suc n = cc in let back : p ≡ n = omega (arith, e) in ap Some back
+
+none_back : (o : Option ℕ) → option_map suc o ≡ None → o ≡ None
+none_back None h = refl
+none_back (Some p) h = absurd (cc)
+
+module _ {X : Type 0} (f : List X → Option Row) (q : List ℕ) where
+  -- what is found under a text is found in the group at its position
+  pub found_at : (gs : List (List ℕ × List X)) (n : ℕ) → place_of q gs ≡ Some n → f (under n gs) ≡ found f q gs
+  found_at [] n h = absurd (cc)
+  found_at (g ∷ gs) zero h = elim (bool_cases (bytes_eq q g.0)) [
+    | inl t ↦ rw t refl
+    | inr t ↦ let h' = rw t at h in absurd (not_first (place_of q gs) h')
+  ]
+  found_at (g ∷ gs) (suc n) h = elim (bool_cases (bytes_eq q g.0)) [
+    | inl t ↦ let h' = rw t at h in let e : 0 ≡ suc n = cc in absurd (omega (arith, e))
+    | inr t ↦ let h' = rw t at h in rw t (found_at gs n (one_back (place_of q gs) n h'))
+  ]
+
+  -- and nothing where it has none
+  pub found_nowhere : (gs : List (List ℕ × List X)) → place_of q gs ≡ None → None ≡ found f q gs
+  found_nowhere [] h = refl
+  found_nowhere (g ∷ gs) h = elim (bool_cases (bytes_eq q g.0)) [
+    | inl t ↦ let h' = rw t at h in absurd (cc)
+    | inr t ↦ let h' = rw t at h in rw t (found_nowhere gs (none_back (place_of q gs) h'))
+  ]
+
+-- the rows of the group at a position
+pub rows_under : (gs : List (List ℕ × List Item)) (n : ℕ) → rows_in (option_map rows_of (slice_get (map (λ g. g.1) gs) n)) ≡ rows_of (under n gs)
+rows_under [] n = refl
+rows_under (g ∷ gs) zero = refl
+rows_under (g ∷ gs) (suc n) = rows_under gs n
+
 pub under_none : {A X : Type 0} (es : List (String A × List X)) (n : ℕ) → None ≡ slice_get es n → [] ≡ under n (texts_of es)
 under_none [] n h = refl
 under_none (e ∷ es) zero h = absurd (cc)
 under_none (e ∷ es) (suc n) h = under_none es n h
+
+-- the text at a place
+pub text_is : {A X : Type 0} (es : List (String A × X)) (n : ℕ) (k : String A) (v : X) → slice_get es n ≡ Some (k, v) → Some (string_bytes k) ≡ slice_get (map (λ p. p.0) (texts_of es)) n
+text_is [] n k v h = absurd (omega (arith, slice_get_within [] n (k, v) h))
+text_is (e ∷ es) zero k v h = let s : e ≡ (k, v) = cc in ap (λ p. Some (string_bytes p.0)) (sym s)
+text_is (e ∷ es) (suc n) k v h = text_is es n k v h
+
+pub text_none : {A X : Type 0} (es : List (String A × X)) (n : ℕ) → None ≡ slice_get es n → None ≡ slice_get (map (λ p. p.0) (texts_of es)) n
+text_none [] n h = refl
+text_none (e ∷ es) zero h = absurd (cc)
+text_none (e ∷ es) (suc n) h = text_none es n h
 
 pub get_nothing : {X : Type 0} (n : ℕ) (xs : List X) → [] ≡ xs → None ≡ slice_get xs n
 get_nothing n xs e = ap (λ ys. slice_get ys n) e
@@ -83,3 +134,27 @@ bare_place text d gs = seen_place rows_of text (under d gs) ∙ ap (place_of tex
 -- the rows under a path in a domain
 pub bare_rows : (d p : ℕ) (gs : ItemGroups) → rows_of (under p (under d gs)) ≡ under p (under d (bare gs))
 bare_rows d p gs = seen_under (λ (item : Item). item.row) p (under d gs) ∙ ap (under p) (seen_under (λ (p : List ℕ × List Item). (p.0, rows_of p.1)) d gs)
+
+-- the paths of a domain
+pub bare_texts : (d : ℕ) (gs : ItemGroups) → map (λ p. p.0) (under d gs) ≡ map (λ p. p.0) (under d (bare gs))
+bare_texts d gs = firsts (under d gs) ∙ ap (map (λ p. p.0)) (seen_under (λ (p : List ℕ × List Item). (p.0, rows_of p.1)) d gs)
+  where
+    firsts : (ps : List (List ℕ × List Item)) → map (λ p. p.0) ps ≡ map (λ (p : List ℕ × List Row). p.0) (map (λ (p : List ℕ × List Item). (p.0, rows_of p.1)) ps)
+    firsts [] = refl
+    firsts (p ∷ ps) = ap (λ ts. p.0 ∷ ts) (firsts ps)
+
+pub bare_count : (d : ℕ) (gs : ItemGroups) → length (under d gs) ≡ length (under d (bare gs))
+bare_count d gs = sym (texts_count (under d gs)) ∙ ap length (bare_texts d gs) ∙ texts_count (under d (bare gs))
+  where
+    texts_count : {X : Type 0} (ps : List (List ℕ × X)) → length (map (λ p. p.0) ps) ≡ length ps
+    texts_count [] = refl
+    texts_count (p ∷ ps) = ap suc (texts_count ps)
+
+-- and the domains
+pub bare_domains : (gs : ItemGroups) → map (λ g. g.0) gs ≡ map (λ g. g.0) (bare gs)
+bare_domains [] = refl
+bare_domains (g ∷ gs) = ap (λ ts. g.0 ∷ ts) (bare_domains gs)
+
+pub domains_count : {A : Type 0} (es : List (String A × List (List ℕ × List Item))) → length es ≡ length (bare (texts_of es))
+domains_count [] = refl
+domains_count (e ∷ es) = ap suc (domains_count es)

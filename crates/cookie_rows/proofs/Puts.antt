@@ -7,7 +7,7 @@ use Rattle.cookie_parts.specs.Cookie.{Row}
 use Rattle.cookie_parts.specs.Domain.{domain_text}
 use Rattle.cookie_laws.specs.Rows.{key_of, in_domain, in_group, has_key, differ, replaced, put}
 use Rattle.cookie_lookup.specs.Groups.{PathGroups, DomainGroups, flat_paths, flat, Filled, AreGroups}
-use Rattle.cookie_rows.specs.Groups.{put_name, put_paths, put_groups}
+use Rattle.cookie_rows.proofs.BareGroups.{put_name, put_paths, put_groups}
 use Rattle.cookie_rows.proofs.Flat.{after_all, put_right, put_left, put_later, put_earlier}
 use Rattle.cookie_rows.proofs.Members.{absent, any_of_all, no_group_rows, all_domain_rows, all_group_rows, no_key, no_group, by_name, no_group_paths, no_domain_paths, some_or_none, no_domain_groups, some_domain}
 

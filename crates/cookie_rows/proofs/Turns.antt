@@ -89,7 +89,7 @@ module _ {T : Type 0} where
 
   module _ (alike : T → T → Bool) where
     -- items that differ, in std's word
-    distinct_from_differ : (xs : List T) → differ alike xs ≡ true → IsDistinct alike xs
+    pub distinct_from_differ : (xs : List T) → differ alike xs ≡ true → IsDistinct alike xs
     unfolding IsDistinct
     distinct_from_differ [] d = tt
     distinct_from_differ (x ∷ xs) d =

@@ -35,13 +35,17 @@ abbrev pub stays : Moment → Turn → Item → Bool
 stays now first item = not (comes_before (turn_of now item) first)
 
 -- there is something in the group
-abbrev pub is_filled : List ℕ × List Item → Bool
-is_filled (path, []) = false
-is_filled (path, item ∷ items) = true
+abbrev pub is_filled : {X : Type 0} → List ℕ × List X → Bool
+is_filled (text, []) = false
+is_filled (text, x ∷ xs) = true
 
 -- the items of a domain that pass the test, without the groups in which none does
 abbrev pub passing : (Item → Bool) → ItemPaths → ItemPaths
 passing test paths = filter is_filled (map (λ p. (p.0, filter test p.1)) paths)
+
+-- the items of all domains that pass the test, without the groups in which none does
+abbrev pub passing_groups : (Item → Bool) → ItemGroups → ItemGroups
+passing_groups test groups = filter is_filled (map (λ g. (g.0, passing test g.1)) groups)
 
 -- the groups of a domain
 abbrev pub paths_of : List ℕ → ItemGroups → ItemPaths

@@ -4,6 +4,8 @@ ghost use Rattle.cookie_words.specs.Moments.{moment_of};
 ghost use Rattle.cookie_parts.specs.Cookie.{ended};
 ghost use Rattle.cookie_rows.specs.Turns.{turn_of};
 
+use crate::copying::Rehash;
+use crate::hashing::HashKey;
 use cookie_parts::Cookie;
 use jiff::civil::DateTime;
 use std::alloc::{AllocError, Global};
@@ -55,6 +57,12 @@ impl Clone for BoxedCookie {
     }
 }
 
+impl Rehash for BoxedCookie {
+    fn rehashed(&self, _alloc: Global, _hash_key: HashKey) -> Result<BoxedCookie, AllocError> {
+        self.clone()
+    }
+}
+
 impl BoxedCookie {
     // The cookie with this number, in a box.
     pub(crate) fn new(
@@ -74,6 +82,13 @@ impl BoxedCookie {
         ensures { result.now ≡ self.now.row }
     {
         &self.inner.as_ref().cookie
+    }
+
+    // The number.
+    pub(crate) fn number(&self) -> u64
+        ensures { result ≡ self.now.number }
+    {
+        self.inner.as_ref().number
     }
 
     // When the row leaves, at the moment: one that has ended before one that has not, and else the one that was made less recently.

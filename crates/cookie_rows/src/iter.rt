@@ -1,5 +1,5 @@
 //! The cookies of a store, one after the other.
-ghost use Rattle.std.specs.Prelude.{◌≡◌};
+ghost use Rattle.std.specs.Prelude.{◌≡◌, ◌<◌, ◌^◌, length};
 ghost use Rattle.cookie_words.specs.Moments.{moment_of};
 ghost use Rattle.cookie_laws.specs.Rows.{live_rows};
 ghost use Rattle.cookie_rows.specs.Items.{all_groups, joined, rows_of};
@@ -61,6 +61,18 @@ impl<'a> Iterator for Groups<'a> {
             }
         }
     }
+}
+
+// How many rows these domains have.
+pub(crate) fn count_rows(domains: &[Paths]) -> usize
+    requires few { length (joined (all_groups domains.now)) < 2 ^ 64 }
+    ensures { result ≡ length (joined (all_groups domains.now)) }
+{
+    let mut count: usize = 0;
+    for names in Groups::new(domains) {
+        count += names.rows().len();
+    }
+    count
 }
 
 /// The cookies of a store, whether they have ended or not, in its order.

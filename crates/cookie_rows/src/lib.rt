@@ -3,6 +3,7 @@
 #![tactic(auto)]
 
 mod boxed;
+mod copying;
 mod hashing;
 mod iter;
 mod names;

@@ -1,94 +1,85 @@
 //! The rows of one domain and path, by name.
-ghost use Rattle.std.specs.Prelude.{◌≡◌, ◌<◌, ◌+◌, ◌^◌, ◌∷◌, [], ◌==◌, filter, length, option_map, slice_get, string_bytes, None, IfOk, IfSome, OnErr, OnOk};
+ghost use Rattle.std.specs.Prelude.{◌≡◌, ◌≢◌, ◌<◌, ◌+◌, ◌^◌, ◌∷◌, [], ◌==◌, ℕ, filter, length, option_map, slice_get, string_bytes, None, IfOk, IfSome, OnErr, OnOk, false, ◌≤◌};
 ghost use Rattle.std.specs.Map.{values_of};
 ghost use Rattle.std.specs.Option.{option_copied};
+ghost use Rattle.std.specs.String.{string_eq};
+ghost use Rattle.indexmap.specs.IndexMap.{spare};
 ghost use Rattle.cookie_words.specs.Moments.{moment_of};
 ghost use Rattle.cookie_rows.specs.Groups.{row_named};
 ghost use Rattle.cookie_rows.specs.Items.{AreNamed, end_item, put_item, remove_item, rows_of};
+ghost use Rattle.cookie_rows.specs.NameMaps.{items_of, HasNames};
 ghost use Rattle.cookie_rows.specs.Turns.{stays};
 
 use crate::boxed::BoxedCookie;
+use crate::copying::{Rehash, rehashed_table};
 use crate::hashing::HashKey;
 use cookie_parts::Cookie;
 use indexmap::IndexMap;
 use jiff::civil::DateTime;
 use std::alloc::{AllocError, Global};
 use std::marker::Model;
+use std::{mem, slice};
+
+/// Rows by name. A single row is stored in place, so that a path with one cookie needs no table.
+#[derive(Drop)]
+pub(crate) enum NameMap {
+    Empty,
+    Single(BoxedCookie),
+    Table(Box<IndexMap<String, BoxedCookie, HashKey>>),
+}
 
 /// The rows of one domain and path, each under its name.
 #[derive(Drop)]
 pub(crate) struct Names {
-    rows: Box<IndexMap<String, BoxedCookie, HashKey>>,
+    rows: NameMap,
 }
 
 impl Model for Names {
     ghost use Rattle.std.specs.Prelude.{List};
-    ghost use Rattle.std.specs.Map.{values_of};
-    ghost use Rattle.cookie_rows.specs.Items.{AreNamed, Item};
+    ghost use Rattle.cookie_rows.specs.Items.{Item};
+    ghost use Rattle.cookie_rows.specs.NameMaps.{items_of, HasNames};
 
     ghost Value = { List Item };
 
-    ghost view = { λ names. values_of names.rows.value.entries };
+    ghost view = { λ names. items_of names.rows };
 
-    ghost invariant = { λ names. AreNamed names.rows.value.entries };
+    ghost invariant = { λ names. HasNames names.rows };
 }
 
-impl Clone for Names {
-    ghost use Rattle.std.specs.Prelude.{◌≡◌};
-
-    ghost is_clone = { λ names copy. copy ≡ names };
-
-    fn clone(&self) -> Result<Names, AllocError> {
+impl Rehash for Names {
+    fn rehashed(&self, alloc: Global, hash_key: HashKey) -> Result<Names, AllocError> {
         Ok(Names {
-            rows: self.rows.clone()?,
+            rows: rehashed(&self.rows, alloc, hash_key)?,
         })
     }
 }
 
 impl Names {
-    // The row of this cookie alone, in maps that take no more room than it needs.
-    pub(crate) fn of_one(
-        alloc: Global,
-        hash_key: HashKey,
-        cookie: Cookie<'static>,
-        number: u64,
-    ) -> Result<Names, AllocError>
-        ensures { IfOk result (λ names. names ≡ record { row = cookie.entry; number = number } ∷ []) }
+    // A group of this row alone.
+    pub(crate) fn of_one(row: BoxedCookie) -> Names
+        ensures { result ≡ row ∷ [] }
     {
-        let (name, row) = entry_of(alloc, cookie, number)?;
-        let mut rows = IndexMap::with_hasher(alloc, hash_key);
-        rows.insert(name, row)?;
-        rows.shrink_to_fit();
-        Ok(Names {
-            rows: Box::new(alloc, rows)?,
-        })
-    }
-
-    // Copies of the rows, in a map that hashes by this key.
-    pub(crate) fn rehashed(&self, alloc: Global, hash_key: HashKey) -> Result<Names, AllocError>
-        ensures { IfOk result (λ names. names ≡ self.now) }
-    {
-        let mut rows = IndexMap::with_hasher(alloc, hash_key);
-        for (name, row) in self.rows.iter() {
-            rows.insert(name.clone()?, row.clone()?)?;
+        Names {
+            rows: NameMap::Single(row),
         }
-        Ok(Names {
-            rows: Box::new(alloc, rows)?,
-        })
     }
 
     // Whether there are no rows.
     pub(crate) fn is_empty(&self) -> bool
         ensures { result ≡ (length self.now == 0) }
     {
-        self.rows.len() == 0
+        self.rows().len() == 0
     }
 
     // The rows, in their order.
     pub(crate) fn rows(&self) -> &[BoxedCookie]
         ensures { result.now ≡ self.now }
     {
-        self.rows.values().as_slice()
+        match &self.rows {
+            NameMap::Empty => &[],
+            NameMap::Single(row) => slice::from_ref(row),
+            NameMap::Table(rows) => rows.values().as_slice(),
+        }
     }
 
     // The row at a position.
@@ -106,85 +97,249 @@ impl Names {
     pub(crate) fn get(&self, name: &str) -> Option<&Cookie<'static>>
         ensures { option_copied result ≡ row_named name.now (rows_of self.now) }
     {
-        match self.rows.get(name) {
-            Some(row) => Some(row.cookie()),
-            None => None,
+        match &self.rows {
+            NameMap::Empty => None,
+            NameMap::Single(row) => single_of(row, name),
+            NameMap::Table(rows) => row_in(rows.as_ref(), name),
         }
     }
 
-    // Puts the cookie in the place of the row of its name, or last with this number.
-    pub(crate) fn put(&mut self, cookie: Cookie<'static>, number: u64) -> Result<(), AllocError>
-        ensures put { OnOk result (self.new ≡ put_item cookie.entry number self.old) }
-        ensures err { OnErr result (self.new ≡ self.old) }
-        ensures memory { OnErr result (row_named cookie.entry.raw.name (rows_of self.old) ≡ None) }
+    // Replaces the row of the cookie's name.
+    pub(crate) fn replace(&mut self, cookie: Cookie<'static>)
+        requires stored { row_named cookie.raw.name (rows_of self.old) ≢ None }
+        ensures { (number : ℕ) → self.new ≡ put_item cookie.entry number self.old }
     {
-        put_row(self.rows.as_mut(), cookie, number)
+        replace_row(&mut self.rows, cookie);
+    }
+
+    // Adds the row as the last one.
+    pub(crate) fn add(
+        &mut self,
+        alloc: Global,
+        hash_key: HashKey,
+        row: BoxedCookie,
+    ) -> Result<(), AllocError>
+        requires new { row_named row.row.raw.name (rows_of self.old) ≡ None }
+        ensures added { OnOk result (self.new ≡ put_item row.row row.number self.old) }
+        ensures err { OnErr result (self.new ≡ self.old) }
+    {
+        let rows = mem::replace(&mut self.rows, NameMap::Empty);
+        let (rows, outcome) = with_row(rows, alloc, hash_key, row);
+        self.rows = rows;
+        outcome
     }
 
     // Keeps the rows whose turn does not come before this one, at the moment.
     pub(crate) fn retain(&mut self, first: (bool, u64), now: DateTime)
         ensures { self.new ≡ filter (stays (moment_of now) first) self.old }
     {
-        retain_rows(self.rows.as_mut(), first, now);
+        retain_rows(&mut self.rows, first, now);
     }
 
-    // Ends the row of this name.
+    // Expires the row of this name.
     pub(crate) fn end(&mut self, name: &str)
         ensures { self.new ≡ end_item name.now self.old }
     {
-        end_row(self.rows.as_mut(), name)
+        end_row(&mut self.rows, name)
     }
 
-    // Takes out the row of this name. The others keep their order.
+    // Removes the row of this name. The others keep their order.
     pub(crate) fn remove(&mut self, name: &str) -> Option<Cookie<'static>>
         ensures value { result ≡ row_named name.now (rows_of self.old) }
         ensures removed { self.new ≡ remove_item name.now self.old }
     {
-        remove_row(self.rows.as_mut(), name)
+        let (rows, row) = without_row(mem::replace(&mut self.rows, NameMap::Empty), name);
+        self.rows = rows;
+        row
     }
 }
 
-// The cookie's name, and the row that stands under it.
-fn entry_of(
-    alloc: Global,
-    cookie: Cookie<'static>,
-    number: u64,
-) -> Result<(String, BoxedCookie), AllocError>
-    ensures name { IfOk result (λ entry. string_bytes entry.0 ≡ cookie.entry.raw.name) }
-    ensures row { IfOk result (λ entry. entry.1 ≡ record { row = cookie.entry; number = number }) }
+// The single row, if it has this name.
+fn single_of<'a>(row: &'a BoxedCookie, name: &str) -> Option<&'a Cookie<'static>>
+    ensures { option_copied result ≡ row_named name.now (row.now.row ∷ []) }
 {
-    let name = String::from_str(alloc, cookie.name())?;
-    let row = BoxedCookie::new(alloc, cookie, number)?;
-    Ok((name, row))
+    let cookie = row.cookie();
+    if cookie.name() == name {
+        Some(cookie)
+    } else {
+        None
+    }
 }
 
-// Puts the cookie in the place of the row of its name, or last with this number.
-fn put_row(
-    rows: &mut IndexMap<String, BoxedCookie, HashKey>,
-    cookie: Cookie<'static>,
-    number: u64,
-) -> Result<(), AllocError>
+// The row of this name in a table.
+fn row_in<'a>(
+    rows: &'a IndexMap<String, BoxedCookie, HashKey>,
+    name: &str,
+) -> Option<&'a Cookie<'static>>
+    requires named { AreNamed rows.now.entries }
+    ensures { option_copied result ≡ row_named name.now (rows_of (values_of rows.now.entries)) }
+{
+    match rows.get(name) {
+        Some(row) => Some(row.cookie()),
+        None => None,
+    }
+}
+
+// A copy of the rows, hashed by this key.
+fn rehashed(rows: &NameMap, alloc: Global, hash_key: HashKey) -> Result<NameMap, AllocError>
+    requires named { HasNames rows.now }
+    ensures items { IfOk result (λ copies. items_of copies ≡ items_of rows.now) }
+    ensures named { IfOk result HasNames }
+{
+    match rows {
+        NameMap::Empty => Ok(NameMap::Empty),
+        NameMap::Single(row) => Ok(NameMap::Single(row.clone()?)),
+        NameMap::Table(rows) => {
+            let copies = rehashed_table(rows, alloc, hash_key)?;
+            Ok(NameMap::Table(Box::new(alloc, copies)?))
+        }
+    }
+}
+
+// Replaces the row of the cookie's name.
+fn replace_row(rows: &mut NameMap, cookie: Cookie<'static>)
+    requires named { HasNames rows.old }
+    requires stored { row_named cookie.raw.name (rows_of (items_of rows.old)) ≢ None }
+    ensures put { (number : ℕ) → items_of rows.new ≡ put_item cookie.entry number (items_of rows.old) }
+    ensures named { HasNames rows.new }
+{
+    match rows {
+        NameMap::Empty => {}
+        NameMap::Single(row) => row.set(cookie),
+        NameMap::Table(rows) => replace_in(rows.as_mut(), cookie),
+    }
+}
+
+// Replaces the row of the cookie's name in a table.
+fn replace_in(rows: &mut IndexMap<String, BoxedCookie, HashKey>, cookie: Cookie<'static>)
     requires named { AreNamed rows.old.entries }
-    ensures put { OnOk result (values_of rows.new.entries ≡ put_item cookie.entry number (values_of rows.old.entries)) }
-    ensures err { OnErr result (values_of rows.new.entries ≡ values_of rows.old.entries) }
-    ensures memory { OnErr result (row_named cookie.entry.raw.name (rows_of (values_of rows.old.entries)) ≡ None) }
+    requires stored { row_named cookie.raw.name (rows_of (values_of rows.old.entries)) ≢ None }
+    ensures put { (number : ℕ) → values_of rows.new.entries ≡ put_item cookie.entry number (values_of rows.old.entries) }
     ensures named { AreNamed rows.new.entries }
 {
     match rows.get_mut(cookie.name()) {
-        Some(row) => {
-            row.set(cookie);
-            Ok(())
-        }
-        None => {
-            let (name, row) = entry_of(*rows.allocator(), cookie, number)?;
-            rows.insert(name, row)?;
-            Ok(())
+        Some(row) => row.set(cookie),
+        None => {}
+    }
+}
+
+// Adds the row as the last one. Returns the rows unchanged if memory runs out.
+fn with_row(
+    rows: NameMap,
+    alloc: Global,
+    hash_key: HashKey,
+    row: BoxedCookie,
+) -> (NameMap, Result<(), AllocError>)
+    requires named { HasNames rows }
+    requires new { row_named row.row.raw.name (rows_of (items_of rows)) ≡ None }
+    ensures added { OnOk result.1 (items_of result.0 ≡ put_item row.row row.number (items_of rows)) }
+    ensures err { OnErr result.1 (items_of result.0 ≡ items_of rows) }
+    ensures named { HasNames result.0 }
+{
+    match rows {
+        NameMap::Empty => (NameMap::Single(row), Ok(())),
+        NameMap::Single(first) => with_second(first, alloc, hash_key, row),
+        NameMap::Table(mut table) => {
+            let outcome = add_in(&mut table, alloc, row);
+            (NameMap::Table(table), outcome)
         }
     }
 }
 
+// Adds the row behind a single one. Returns the single row if memory runs out.
+fn with_second(
+    first: BoxedCookie,
+    alloc: Global,
+    hash_key: HashKey,
+    row: BoxedCookie,
+) -> (NameMap, Result<(), AllocError>)
+    requires new { row_named row.row.raw.name (first.row ∷ []) ≡ None }
+    ensures added { OnOk result.1 (items_of result.0 ≡ first ∷ row ∷ []) }
+    ensures err { OnErr result.1 (items_of result.0 ≡ first ∷ []) }
+    ensures named { HasNames result.0 }
+{
+    match table_for(alloc, hash_key, &first, &row) {
+        Ok((table, first_name, name)) => (pair(table, first_name, first, name, row), Ok(())),
+        Err(error) => (NameMap::Single(first), Err(error)),
+    }
+}
+
+// An empty table with room for two rows, and their names.
+fn table_for(
+    alloc: Global,
+    hash_key: HashKey,
+    first: &BoxedCookie,
+    second: &BoxedCookie,
+) -> Result<(Box<IndexMap<String, BoxedCookie, HashKey>>, String, String), AllocError>
+    ensures empty { IfOk result (λ made. made.0.value.entries ≡ []) }
+    ensures room { IfOk result (λ made. 2 ≤ spare made.0.value) }
+    ensures first { IfOk result (λ made. string_bytes made.1 ≡ first.now.row.raw.name) }
+    ensures second { IfOk result (λ made. string_bytes made.2 ≡ second.now.row.raw.name) }
+{
+    let first = String::from_str(alloc, first.cookie().name())?;
+    let second = String::from_str(alloc, second.cookie().name())?;
+    let table = IndexMap::with_capacity_and_hasher(alloc, 2, hash_key)?;
+    Ok((Box::new(alloc, table)?, first, second))
+}
+
+// A table of two rows.
+fn pair(
+    table: Box<IndexMap<String, BoxedCookie, HashKey>>,
+    first_name: String,
+    first: BoxedCookie,
+    second_name: String,
+    second: BoxedCookie,
+) -> NameMap
+    requires empty { table.value.entries ≡ [] }
+    requires room { 2 ≤ spare table.value }
+    requires differ { string_eq second_name first_name ≡ false }
+    requires first { string_bytes first_name ≡ first.row.raw.name }
+    requires second { string_bytes second_name ≡ second.row.raw.name }
+    ensures items { items_of result ≡ first ∷ second ∷ [] }
+    ensures named { HasNames result }
+{
+    let mut table = table;
+    table.insert(first_name, first).unwrap();
+    table.insert(second_name, second).unwrap();
+    NameMap::Table(table)
+}
+
+// Adds the row to a table as the last one.
+fn add_in(
+    rows: &mut IndexMap<String, BoxedCookie, HashKey>,
+    alloc: Global,
+    row: BoxedCookie,
+) -> Result<(), AllocError>
+    requires named { AreNamed rows.old.entries }
+    requires new { row_named row.row.raw.name (rows_of (values_of rows.old.entries)) ≡ None }
+    ensures added { OnOk result (values_of rows.new.entries ≡ put_item row.row row.number (values_of rows.old.entries)) }
+    ensures err { OnErr result (values_of rows.new.entries ≡ values_of rows.old.entries) }
+    ensures named { AreNamed rows.new.entries }
+{
+    let name = String::from_str(alloc, row.cookie().name())?;
+    rows.insert(name, row)?;
+    Ok(())
+}
+
 // Keeps the rows whose turn does not come before this one, at the moment.
-fn retain_rows(rows: &mut IndexMap<String, BoxedCookie, HashKey>, first: (bool, u64), now: DateTime)
+fn retain_rows(rows: &mut NameMap, first: (bool, u64), now: DateTime)
+    requires named { HasNames rows.old }
+    ensures retained { items_of rows.new ≡ filter (stays (moment_of now) first) (items_of rows.old) }
+    ensures named { HasNames rows.new }
+{
+    match rows {
+        NameMap::Empty => {}
+        NameMap::Single(row) => {
+            if row.turn(now) < first {
+                *rows = NameMap::Empty;
+            }
+        }
+        NameMap::Table(rows) => retain_in(rows.as_mut(), first, now),
+    }
+}
+
+// Keeps these rows of a table.
+fn retain_in(rows: &mut IndexMap<String, BoxedCookie, HashKey>, first: (bool, u64), now: DateTime)
     requires named { AreNamed rows.old.entries }
     ensures retained { values_of rows.new.entries ≡ filter (stays (moment_of now) first) (values_of rows.old.entries) }
     ensures named { AreNamed rows.new.entries }
@@ -196,8 +351,25 @@ fn retain_rows(rows: &mut IndexMap<String, BoxedCookie, HashKey>, first: (bool, 
     );
 }
 
-// Ends the row of this name.
-fn end_row(rows: &mut IndexMap<String, BoxedCookie, HashKey>, name: &str)
+// Expires the row of this name.
+fn end_row(rows: &mut NameMap, name: &str)
+    requires named { HasNames rows.old }
+    ensures ended { items_of rows.new ≡ end_item name.now (items_of rows.old) }
+    ensures named { HasNames rows.new }
+{
+    match rows {
+        NameMap::Empty => {}
+        NameMap::Single(row) => {
+            if row.cookie().name() == name {
+                row.expire();
+            }
+        }
+        NameMap::Table(rows) => end_in(rows.as_mut(), name),
+    }
+}
+
+// Expires the row of this name in a table.
+fn end_in(rows: &mut IndexMap<String, BoxedCookie, HashKey>, name: &str)
     requires named { AreNamed rows.old.entries }
     ensures ended { values_of rows.new.entries ≡ end_item name.now (values_of rows.old.entries) }
     ensures named { AreNamed rows.new.entries }
@@ -208,8 +380,31 @@ fn end_row(rows: &mut IndexMap<String, BoxedCookie, HashKey>, name: &str)
     }
 }
 
-// Takes out the row of this name. The others keep their order.
-fn remove_row(
+// Removes the row of this name. Returns the rows that are left, and the row.
+fn without_row(rows: NameMap, name: &str) -> (NameMap, Option<Cookie<'static>>)
+    requires named { HasNames rows }
+    ensures value { result.1 ≡ row_named name.now (rows_of (items_of rows)) }
+    ensures removed { items_of result.0 ≡ remove_item name.now (items_of rows) }
+    ensures named { HasNames result.0 }
+{
+    match rows {
+        NameMap::Empty => (NameMap::Empty, None),
+        NameMap::Single(row) => {
+            if row.cookie().name() == name {
+                (NameMap::Empty, Some(row.into_cookie()))
+            } else {
+                (NameMap::Single(row), None)
+            }
+        }
+        NameMap::Table(mut table) => {
+            let row = remove_in(table.as_mut(), name);
+            (NameMap::Table(table), row)
+        }
+    }
+}
+
+// Removes the row of this name from a table. The others keep their order.
+fn remove_in(
     rows: &mut IndexMap<String, BoxedCookie, HashKey>,
     name: &str,
 ) -> Option<Cookie<'static>>

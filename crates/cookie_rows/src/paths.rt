@@ -1,13 +1,17 @@
 //! The rows of one domain, by path.
-ghost use Rattle.std.specs.Prelude.{◌≡◌, ◌∷◌, [], ◌++◌, ◌==◌, ◌<◌, ◌≤◌, filter, length, map, not, option_map, string_bytes, None, IfNone, IfOk, IfSome, OnErr, OnOk, OnSome};
+ghost use Rattle.std.specs.Prelude.{◌≡◌, ◌∷◌, [], ◌++◌, ◌==◌, ◌<◌, ◌≤◌, filter, length, map, not, option_map, slice_get, string_bytes, None, IfNone, IfOk, IfSome, OnErr, OnOk, OnSome, ℕ, bytes_eq, false, ◌≢◌};
 ghost use Rattle.std.specs.Option.{option_copied};
+ghost use Rattle.std.specs.String.{string_eq};
+ghost use Rattle.indexmap.specs.IndexMap.{spare};
 ghost use Rattle.cookie_words.specs.Moments.{moment_of};
 ghost use Rattle.cookie_lookup.specs.Seen.{place_of, rows_in, under};
 ghost use Rattle.cookie_rows.specs.Groups.{changed_at, is_empty_at, texts_of};
+ghost use Rattle.cookie_rows.specs.PathMaps.{groups_of};
 ghost use Rattle.cookie_rows.specs.Items.{end_item_paths, find_item_paths, put_item_paths, remove_item, remove_item_paths, rows_of};
 ghost use Rattle.cookie_rows.specs.Turns.{is_single, is_single_paths, passing, settled, stays, turn_of, turns_of, EntersPaths, IsFirst};
 
 use crate::boxed::BoxedCookie;
+use crate::copying::{Rehash, rehashed_table};
 use crate::hashing::HashKey;
 use crate::names::Names;
 use crate::texts::path_text;
@@ -16,63 +20,47 @@ use indexmap::IndexMap;
 use jiff::civil::DateTime;
 use std::alloc::{AllocError, Global};
 use std::marker::Model;
+use std::{mem, slice};
+
+/// Groups by path. A single group is stored in place, so that a domain with one path needs no table.
+#[derive(Drop)]
+pub(crate) enum PathMap {
+    Empty,
+    Single(String, Names),
+    Table(Box<IndexMap<String, Names, HashKey>>),
+}
 
 /// The rows of one domain, those of each path under it.
 #[derive(Drop)]
 pub(crate) struct Paths {
-    groups: Box<IndexMap<String, Names, HashKey>>,
+    groups: PathMap,
 }
 
 impl Model for Paths {
-    ghost use Rattle.cookie_rows.specs.Groups.{texts_of};
     ghost use Rattle.cookie_rows.specs.Items.{ItemPaths};
+    ghost use Rattle.cookie_rows.specs.PathMaps.{groups_of};
 
     ghost Value = { ItemPaths };
 
-    ghost view = { λ paths. texts_of paths.groups.value.entries };
+    ghost view = { λ paths. groups_of paths.groups };
 }
 
-impl Clone for Paths {
-    ghost use Rattle.std.specs.Prelude.{◌≡◌};
-
-    ghost is_clone = { λ paths copy. copy ≡ paths };
-
-    fn clone(&self) -> Result<Paths, AllocError> {
+impl Rehash for Paths {
+    fn rehashed(&self, alloc: Global, hash_key: HashKey) -> Result<Paths, AllocError> {
         Ok(Paths {
-            groups: self.groups.clone()?,
+            groups: rehashed(&self.groups, alloc, hash_key)?,
         })
     }
 }
 
 impl Paths {
-    // The row of this cookie alone, in maps that take no more room than it needs.
-    pub(crate) fn of_one(
-        alloc: Global,
-        hash_key: HashKey,
-        cookie: Cookie<'static>,
-        number: u64,
-    ) -> Result<Paths, AllocError>
-        ensures { IfOk result (λ paths. paths ≡ put_item_paths cookie.entry number []) }
+    // The groups of this row alone.
+    pub(crate) fn of_one(alloc: Global, row: BoxedCookie) -> Result<Paths, AllocError>
+        ensures { IfOk result (λ paths. paths ≡ put_item_paths row.row row.number []) }
     {
-        let (path, group) = entry_of(alloc, hash_key, cookie, number)?;
-        let mut groups = IndexMap::with_hasher(alloc, hash_key);
-        groups.insert(path, group)?;
-        groups.shrink_to_fit();
+        let path = String::from_str(alloc, path_text(row.cookie()))?;
         Ok(Paths {
-            groups: Box::new(alloc, groups)?,
-        })
-    }
-
-    // Copies of the rows, in maps that hash by this key.
-    pub(crate) fn rehashed(&self, alloc: Global, hash_key: HashKey) -> Result<Paths, AllocError>
-        ensures { IfOk result (λ paths. paths ≡ self.now) }
-    {
-        let mut groups = IndexMap::with_hasher(alloc, hash_key);
-        for (path, group) in self.groups.iter() {
-            groups.insert(path.clone()?, group.rehashed(alloc, hash_key)?)?;
-        }
-        Ok(Paths {
-            groups: Box::new(alloc, groups)?,
+            groups: PathMap::Single(path, Names::of_one(row)),
         })
     }
 
@@ -80,14 +68,18 @@ impl Paths {
     pub(crate) fn is_empty(&self) -> bool
         ensures { result ≡ (length self.now == 0) }
     {
-        self.groups.len() == 0
+        self.groups().len() == 0
     }
 
     // The groups, in their order.
     pub(crate) fn groups(&self) -> &[Names]
         ensures { result.now ≡ map (λ g. g.1) self.now }
     {
-        self.groups.values().as_slice()
+        match &self.groups {
+            PathMap::Empty => &[],
+            PathMap::Single(_, names) => slice::from_ref(names),
+            PathMap::Table(groups) => groups.values().as_slice(),
+        }
     }
 
     // The position of the group of this path, and that group.
@@ -95,9 +87,16 @@ impl Paths {
         ensures place { option_map (λ found. found.0) result ≡ place_of path.now self.now }
         ensures names { IfSome result (λ found. found.1.now ≡ under found.0 self.now) }
     {
-        match self.groups.get_full(path) {
-            Some((at, _, names)) => Some((at, names)),
-            None => None,
+        match &self.groups {
+            PathMap::Empty => None,
+            PathMap::Single(own, names) => {
+                if own.as_str() == path {
+                    Some((0, names))
+                } else {
+                    None
+                }
+            }
+            PathMap::Table(groups) => found_in(groups.as_ref(), path),
         }
     }
 
@@ -105,9 +104,33 @@ impl Paths {
     pub(crate) fn at(&self, place: usize) -> Option<&Names>
         ensures { rows_in (option_map (λ names. rows_of names.now) result) ≡ rows_of (under place self.now) }
     {
-        match self.groups.get_index(place) {
-            Some((_, names)) => Some(names),
+        match self.groups().get(place) {
+            Some(names) => Some(names),
             None => None,
+        }
+    }
+
+    // The number of paths.
+    pub(crate) fn count(&self) -> usize
+        ensures { result ≡ length self.now }
+    {
+        self.groups().len()
+    }
+
+    // The path at a position.
+    pub(crate) fn text(&self, place: usize) -> Option<&str>
+        ensures { option_map (λ text. text.now) result ≡ slice_get (map (λ p. p.0) self.now) place }
+    {
+        match &self.groups {
+            PathMap::Empty => None,
+            PathMap::Single(path, _) => {
+                if place == 0 {
+                    Some(path.as_str())
+                } else {
+                    None
+                }
+            }
+            PathMap::Table(groups) => text_in(groups.as_ref(), place),
         }
     }
 
@@ -115,41 +138,57 @@ impl Paths {
     pub(crate) fn get(&self, path: &str, name: &str) -> Option<&Cookie<'static>>
         ensures { option_copied result ≡ find_item_paths path.now name.now self.now }
     {
-        match self.groups.get(path) {
-            Some(group) => group.get(name),
+        match self.find(path) {
+            Some((_, group)) => group.get(name),
             None => None,
         }
     }
 
-    // Puts the cookie in the place of the row of its path and name, or last of its path with this number.
-    pub(crate) fn put(&mut self, cookie: Cookie<'static>, number: u64) -> Result<(), AllocError>
-        ensures put { OnOk result (self.new ≡ put_item_paths cookie.entry number self.old) }
-        ensures err { OnErr result (self.new ≡ self.old) }
-        ensures memory { OnErr result (find_item_paths cookie.entry.path.text cookie.entry.raw.name self.old ≡ None) }
+    // Replaces the row of the cookie's path and name.
+    pub(crate) fn replace(&mut self, cookie: Cookie<'static>)
+        requires stored { find_item_paths cookie.path.text cookie.raw.name self.old ≢ None }
+        ensures { (number : ℕ) → self.new ≡ put_item_paths cookie.entry number self.old }
     {
-        put_path(self.groups.as_mut(), cookie, number)
+        replace_path(&mut self.groups, cookie);
     }
 
-    // Puts the cookie as a new row with this number, and lets the rows leave whose turn it is at the moment, so that no more than the
-    // limit stand. Says whether any left.
+    // Adds the row as the last one of its path.
+    pub(crate) fn add(
+        &mut self,
+        alloc: Global,
+        hash_key: HashKey,
+        row: BoxedCookie,
+    ) -> Result<(), AllocError>
+        requires new { find_item_paths row.row.path.text row.row.raw.name self.old ≡ None }
+        ensures added { OnOk result (self.new ≡ put_item_paths row.row row.number self.old) }
+        ensures err { OnErr result (self.new ≡ self.old) }
+    {
+        let groups = mem::replace(&mut self.groups, PathMap::Empty);
+        let (groups, outcome) = with_row(groups, alloc, hash_key, row);
+        self.groups = groups;
+        outcome
+    }
+
+    // Adds a new row and evicts rows of the domain, so that at most `limit` are stored. Returns whether any was evicted.
     pub(crate) fn enter(
         &mut self,
         alloc: Global,
-        cookie: Cookie<'static>,
-        number: u64,
+        hash_key: HashKey,
+        row: BoxedCookie,
         limit: usize,
         now: DateTime,
     ) -> Result<bool, AllocError>
         requires limit { 0 < limit }
-        ensures entered { IfOk result (λ left. EntersPaths limit (moment_of now) cookie.entry number self.old self.new left) }
+        requires new { find_item_paths row.row.path.text row.row.raw.name self.old ≡ None }
+        ensures entered { IfOk result (λ left. EntersPaths limit (moment_of now) row.row row.number self.old self.new left) }
         ensures err { OnErr result (self.new ≡ self.old) }
     {
-        let Some(first) = self.first_to_stay(alloc, number, limit, now)? else {
-            self.put(cookie, number)?;
+        let Some(first) = self.first_to_stay(alloc, row.number(), limit, now)? else {
+            self.add(alloc, hash_key, row)?;
             return Ok(false);
         };
-        let path = String::from_str(alloc, path_text(&cookie))?;
-        self.put(cookie, number)?;
+        let path = String::from_str(alloc, path_text(row.cookie()))?;
+        self.add(alloc, hash_key, row)?;
         self.retain(first, now);
         self.settle(path.as_str());
         Ok(true)
@@ -192,17 +231,17 @@ impl Paths {
     }
 
     // Keeps the rows whose turn does not come before this one, at the moment, and drops the groups that are emptied.
-    fn retain(&mut self, first: (bool, u64), now: DateTime)
+    pub(crate) fn retain(&mut self, first: (bool, u64), now: DateTime)
         ensures { self.new ≡ passing (stays (moment_of now) first) self.old }
     {
-        retain_paths(self.groups.as_mut(), first, now);
+        retain_paths(&mut self.groups, first, now);
     }
 
-    // Lets the group of this path be the last, if there is one row in it.
+    // Moves the group of this path to the end, if it has a single row.
     fn settle(&mut self, path: &str)
         ensures { self.new ≡ settled is_single path.now self.old }
     {
-        settle_path(self.groups.as_mut(), path);
+        settle_path(&mut self.groups, path);
     }
 
     // Whether there is one row alone.
@@ -215,52 +254,189 @@ impl Paths {
         }
     }
 
-    // Ends the row of this path and name.
+    // Expires the row of this path and name.
     pub(crate) fn end(&mut self, path: &str, name: &str)
         ensures { self.new ≡ end_item_paths path.now name.now self.old }
     {
-        end_path(self.groups.as_mut(), path, name)
+        let groups = mem::replace(&mut self.groups, PathMap::Empty);
+        self.groups = with_end(groups, path, name);
     }
 
-    // Takes out the row of this path and name. The others keep their order.
+    // Removes the row of this path and name. The others keep their order.
     pub(crate) fn remove(&mut self, path: &str, name: &str) -> Option<Cookie<'static>>
         ensures value { result ≡ find_item_paths path.now name.now self.old }
         ensures removed { self.new ≡ remove_item_paths path.now name.now self.old }
     {
-        remove_path(self.groups.as_mut(), path, name)
+        let groups = mem::replace(&mut self.groups, PathMap::Empty);
+        let (groups, row) = without_row(groups, path, name);
+        self.groups = groups;
+        row
     }
 }
 
-// The cookie's path, and a group of the cookie alone, to stand under it.
-fn entry_of(
-    alloc: Global,
-    hash_key: HashKey,
-    cookie: Cookie<'static>,
-    number: u64,
-) -> Result<(String, Names), AllocError>
-    ensures path { IfOk result (λ entry. string_bytes entry.0 ≡ cookie.entry.path.text) }
-    ensures group { IfOk result (λ entry. entry.1 ≡ record { row = cookie.entry; number = number } ∷ []) }
+// The position of the group of this path in a table, and that group.
+fn found_in<'a>(
+    groups: &'a IndexMap<String, Names, HashKey>,
+    path: &str,
+) -> Option<(usize, &'a Names)>
+    ensures place { option_map (λ found. found.0) result ≡ place_of path.now (texts_of groups.now.entries) }
+    ensures names { IfSome result (λ found. found.1.now ≡ under found.0 (texts_of groups.now.entries)) }
 {
-    let path = String::from_str(alloc, path_text(&cookie))?;
-    let group = Names::of_one(alloc, hash_key, cookie, number)?;
-    Ok((path, group))
+    match groups.get_full(path) {
+        Some((at, _, names)) => Some((at, names)),
+        None => None,
+    }
 }
 
-// Puts the cookie into the group of its path, with this number where it is a new row.
-fn put_path(
-    groups: &mut IndexMap<String, Names, HashKey>,
-    cookie: Cookie<'static>,
-    number: u64,
-) -> Result<(), AllocError>
-    ensures put { OnOk result (texts_of groups.new.entries ≡ put_item_paths cookie.entry number (texts_of groups.old.entries)) }
-    ensures err { OnErr result (texts_of groups.new.entries ≡ texts_of groups.old.entries) }
-    ensures memory { OnErr result (find_item_paths cookie.entry.path.text cookie.entry.raw.name (texts_of groups.old.entries) ≡ None) }
+// The path at a position of a table.
+fn text_in(groups: &IndexMap<String, Names, HashKey>, place: usize) -> Option<&str>
+    ensures { option_map (λ text. text.now) result ≡ slice_get (map (λ p. p.0) (texts_of groups.now.entries)) place }
+{
+    match groups.get_index(place) {
+        Some((path, _)) => Some(path.as_str()),
+        None => None,
+    }
+}
+
+// A copy of the rows, hashed by this key.
+fn rehashed(groups: &PathMap, alloc: Global, hash_key: HashKey) -> Result<PathMap, AllocError>
+    ensures { IfOk result (λ copies. groups_of copies ≡ groups_of groups.now) }
+{
+    match groups {
+        PathMap::Empty => Ok(PathMap::Empty),
+        PathMap::Single(path, names) => Ok(PathMap::Single(
+            path.clone()?,
+            names.rehashed(alloc, hash_key)?,
+        )),
+        PathMap::Table(groups) => {
+            let copies = rehashed_table(groups, alloc, hash_key)?;
+            Ok(PathMap::Table(Box::new(alloc, copies)?))
+        }
+    }
+}
+
+// Replaces the row of the cookie's path and name.
+fn replace_path(groups: &mut PathMap, cookie: Cookie<'static>)
+    requires stored { find_item_paths cookie.path.text cookie.raw.name (groups_of groups.old) ≢ None }
+    ensures { (number : ℕ) → groups_of groups.new ≡ put_item_paths cookie.entry number (groups_of groups.old) }
+{
+    match groups {
+        PathMap::Empty => {}
+        PathMap::Single(_, names) => names.replace(cookie),
+        PathMap::Table(groups) => replace_in(groups.as_mut(), cookie),
+    }
+}
+
+// Replaces the row of the cookie's path and name in a table.
+fn replace_in(groups: &mut IndexMap<String, Names, HashKey>, cookie: Cookie<'static>)
+    requires stored { find_item_paths cookie.path.text cookie.raw.name (texts_of groups.old.entries) ≢ None }
+    ensures { (number : ℕ) → texts_of groups.new.entries ≡ put_item_paths cookie.entry number (texts_of groups.old.entries) }
 {
     match groups.get_mut(path_text(&cookie)) {
-        Some(group) => group.put(cookie, number),
+        Some(group) => group.replace(cookie),
+        None => {}
+    }
+}
+
+// Adds the row as the last one of its path. Returns the groups unchanged if memory runs out.
+fn with_row(
+    groups: PathMap,
+    alloc: Global,
+    hash_key: HashKey,
+    row: BoxedCookie,
+) -> (PathMap, Result<(), AllocError>)
+    requires new { find_item_paths row.row.path.text row.row.raw.name (groups_of groups) ≡ None }
+    ensures added { OnOk result.1 (groups_of result.0 ≡ put_item_paths row.row row.number (groups_of groups)) }
+    ensures err { OnErr result.1 (groups_of result.0 ≡ groups_of groups) }
+{
+    match groups {
+        PathMap::Empty => match String::from_str(alloc, path_text(row.cookie())) {
+            Ok(path) => (PathMap::Single(path, Names::of_one(row)), Ok(())),
+            Err(error) => (PathMap::Empty, Err(error)),
+        },
+        PathMap::Single(path, mut names) => {
+            if path.as_str() == path_text(row.cookie()) {
+                let outcome = names.add(alloc, hash_key, row);
+                (PathMap::Single(path, names), outcome)
+            } else {
+                with_second(path, names, alloc, hash_key, row)
+            }
+        }
+        PathMap::Table(mut table) => {
+            let outcome = add_in(table.as_mut(), alloc, hash_key, row);
+            (PathMap::Table(table), outcome)
+        }
+    }
+}
+
+// Adds the row, whose path is another, behind a single group. Returns the single group if memory runs out.
+fn with_second(
+    first: String,
+    names: Names,
+    alloc: Global,
+    hash_key: HashKey,
+    row: BoxedCookie,
+) -> (PathMap, Result<(), AllocError>)
+    requires other { bytes_eq row.row.path.text (string_bytes first) ≡ false }
+    ensures added { OnOk result.1 (groups_of result.0 ≡ (string_bytes first, names) ∷ (row.row.path.text, row ∷ []) ∷ []) }
+    ensures err { OnErr result.1 (groups_of result.0 ≡ (string_bytes first, names) ∷ []) }
+{
+    match table_for(alloc, hash_key, &row) {
+        Ok((table, path)) => (pair(table, first, names, path, row), Ok(())),
+        Err(error) => (PathMap::Single(first, names), Err(error)),
+    }
+}
+
+// An empty table with room for two groups, and the row's path.
+fn table_for(
+    alloc: Global,
+    hash_key: HashKey,
+    row: &BoxedCookie,
+) -> Result<(Box<IndexMap<String, Names, HashKey>>, String), AllocError>
+    ensures empty { IfOk result (λ made. made.0.value.entries ≡ []) }
+    ensures room { IfOk result (λ made. 2 ≤ spare made.0.value) }
+    ensures path { IfOk result (λ made. string_bytes made.1 ≡ row.now.row.path.text) }
+{
+    let path = String::from_str(alloc, path_text(row.cookie()))?;
+    let table = IndexMap::with_capacity_and_hasher(alloc, 2, hash_key)?;
+    Ok((Box::new(alloc, table)?, path))
+}
+
+// A table of a group, and of one of a row alone.
+fn pair(
+    table: Box<IndexMap<String, Names, HashKey>>,
+    first: String,
+    names: Names,
+    path: String,
+    row: BoxedCookie,
+) -> PathMap
+    requires empty { table.value.entries ≡ [] }
+    requires room { 2 ≤ spare table.value }
+    requires differ { string_eq path first ≡ false }
+    ensures { groups_of result ≡ (string_bytes first, names) ∷ (string_bytes path, row ∷ []) ∷ [] }
+{
+    let mut table = table;
+    table.insert(first, names).unwrap();
+    table.insert(path, Names::of_one(row)).unwrap();
+    PathMap::Table(table)
+}
+
+// Adds the row to a table, as the last one of its path.
+fn add_in(
+    groups: &mut IndexMap<String, Names, HashKey>,
+    alloc: Global,
+    hash_key: HashKey,
+    row: BoxedCookie,
+) -> Result<(), AllocError>
+    requires new { find_item_paths row.row.path.text row.row.raw.name (texts_of groups.old.entries) ≡ None }
+    ensures added { OnOk result (texts_of groups.new.entries ≡ put_item_paths row.row row.number (texts_of groups.old.entries)) }
+    ensures err { OnErr result (texts_of groups.new.entries ≡ texts_of groups.old.entries) }
+{
+    match groups.get_mut(path_text(row.cookie())) {
+        Some(group) => group.add(alloc, hash_key, row),
         None => {
-            let (path, group) = entry_of(*groups.allocator(), *groups.hasher(), cookie, number)?;
-            groups.insert(path, group)?;
+            let path = String::from_str(alloc, path_text(row.cookie()))?;
+            groups.insert(path, Names::of_one(row))?;
             Ok(())
         }
     }
@@ -281,7 +457,23 @@ fn push_turns(
 }
 
 // Keeps the rows whose turn does not come before this one, at the moment, and drops the groups that are emptied.
-fn retain_paths(groups: &mut IndexMap<String, Names, HashKey>, first: (bool, u64), now: DateTime)
+fn retain_paths(groups: &mut PathMap, first: (bool, u64), now: DateTime)
+    ensures { groups_of groups.new ≡ passing (stays (moment_of now) first) (groups_of groups.old) }
+{
+    match groups {
+        PathMap::Empty => {}
+        PathMap::Single(_, names) => {
+            names.retain(first, now);
+            if names.is_empty() {
+                *groups = PathMap::Empty;
+            }
+        }
+        PathMap::Table(groups) => retain_in(groups.as_mut(), first, now),
+    }
+}
+
+// Keeps those of a table, and drops the groups that are emptied.
+fn retain_in(groups: &mut IndexMap<String, Names, HashKey>, first: (bool, u64), now: DateTime)
     ensures { texts_of groups.new.entries ≡ passing (stays (moment_of now) first) (texts_of groups.old.entries) }
 {
     groups.retain(
@@ -294,8 +486,18 @@ fn retain_paths(groups: &mut IndexMap<String, Names, HashKey>, first: (bool, u64
     );
 }
 
-// Lets the group of this path be the last, if there is one row in it.
-fn settle_path(groups: &mut IndexMap<String, Names, HashKey>, path: &str)
+// Moves the group of this path to the end, if it has a single row.
+fn settle_path(groups: &mut PathMap, path: &str)
+    ensures { groups_of groups.new ≡ settled is_single path.now (groups_of groups.old) }
+{
+    match groups {
+        PathMap::Empty | PathMap::Single(_, _) => {}
+        PathMap::Table(groups) => settle_in(groups.as_mut(), path),
+    }
+}
+
+// Moves the group of this path to the end of a table, if it has a single row.
+fn settle_in(groups: &mut IndexMap<String, Names, HashKey>, path: &str)
     ensures { texts_of groups.new.entries ≡ settled is_single path.now (texts_of groups.old.entries) }
 {
     let Some((at, _, names)) = groups.get_full(path) else {
@@ -307,8 +509,28 @@ fn settle_path(groups: &mut IndexMap<String, Names, HashKey>, path: &str)
     }
 }
 
-// Ends the row of this path and name.
-fn end_path(groups: &mut IndexMap<String, Names, HashKey>, path: &str, name: &str)
+// Expires the row of this path and name. Returns the groups.
+fn with_end(groups: PathMap, path: &str, name: &str) -> PathMap
+    ensures { groups_of result ≡ end_item_paths path.now name.now (groups_of groups) }
+{
+    match groups {
+        PathMap::Empty => PathMap::Empty,
+        PathMap::Single(own, mut names) => {
+            if own.as_str() != path {
+                return PathMap::Single(own, names);
+            }
+            names.end(name);
+            PathMap::Single(own, names)
+        }
+        PathMap::Table(mut table) => {
+            end_in(&mut table, path, name);
+            PathMap::Table(table)
+        }
+    }
+}
+
+// Expires the row of this path and name in a table.
+fn end_in(groups: &mut IndexMap<String, Names, HashKey>, path: &str, name: &str)
     ensures { texts_of groups.new.entries ≡ end_item_paths path.now name.now (texts_of groups.old.entries) }
 {
     match groups.get_mut(path) {
@@ -317,7 +539,44 @@ fn end_path(groups: &mut IndexMap<String, Names, HashKey>, path: &str, name: &st
     }
 }
 
-// Takes the row of this path and name out of its group, and says whether nothing is left in that.
+// Removes the row of this path and name, and its group with the last row. Returns the groups that are left, and the row.
+fn without_row(groups: PathMap, path: &str, name: &str) -> (PathMap, Option<Cookie<'static>>)
+    ensures value { result.1 ≡ find_item_paths path.now name.now (groups_of groups) }
+    ensures removed { groups_of result.0 ≡ remove_item_paths path.now name.now (groups_of groups) }
+{
+    match groups {
+        PathMap::Empty => (PathMap::Empty, None),
+        PathMap::Single(own, names) => without_named(own, names, path, name),
+        PathMap::Table(mut table) => {
+            let row = remove_in(table.as_mut(), path, name);
+            (PathMap::Table(table), row)
+        }
+    }
+}
+
+// The same for a single group.
+fn without_named(
+    own: String,
+    names: Names,
+    path: &str,
+    name: &str,
+) -> (PathMap, Option<Cookie<'static>>)
+    ensures value { result.1 ≡ find_item_paths path.now name.now ((string_bytes own, names) ∷ []) }
+    ensures removed { groups_of result.0 ≡ remove_item_paths path.now name.now ((string_bytes own, names) ∷ []) }
+{
+    if own.as_str() != path {
+        return (PathMap::Single(own, names), None);
+    }
+    let mut names = names;
+    let row = names.remove(name);
+    if names.is_empty() {
+        (PathMap::Empty, row)
+    } else {
+        (PathMap::Single(own, names), row)
+    }
+}
+
+// Removes the row of this path and name from its group in a table. Returns it, and whether the group is empty now.
 fn take_named(
     groups: &mut IndexMap<String, Names, HashKey>,
     path: &str,
@@ -336,8 +595,8 @@ fn take_named(
     }
 }
 
-// Takes out the row of this path and name, and its path with the last one.
-fn remove_path(
+// Removes the row of this path and name from a table, and its group with the last row.
+fn remove_in(
     groups: &mut IndexMap<String, Names, HashKey>,
     path: &str,
     name: &str,

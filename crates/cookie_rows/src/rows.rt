@@ -1,5 +1,5 @@
 //! The rows, as one list.
-ghost use Rattle.std.specs.Prelude.{◌≡◌, ◌≢◌, ◌≤◌, ◌<◌, false, ◌+◌, ◌*◌, [], ◌∷◌, map, string_bytes, IfErr, IfOk, IsTrue, None, Ok, OnErr, OnOk, Some, ◌⊎◌};
+ghost use Rattle.std.specs.Prelude.{◌≡◌, ◌≢◌, ◌≤◌, ◌<◌, ℕ, false, true, ◌+◌, ◌*◌, ◌^◌, ◌==◌, [], ◌∷◌, length, map, not, string_bytes, IfErr, IfOk, IfSome, IsTrue, None, Ok, OnErr, OnOk, Some, ◌⊎◌};
 ghost use Rattle.std.specs.Iterator.{IsFinite};
 ghost use Rattle.std.specs.Option.{option_copied};
 ghost use Rattle.cookie_words.specs.Moments.{moment_of};
@@ -7,7 +7,7 @@ ghost use Rattle.cookie_parts.specs.Cookie.{ended, is_expired};
 ghost use Rattle.cookie_parts.specs.Domain.{domain_text};
 ghost use Rattle.cookie_parts.specs.declared.store_action.StoreAction.TheVariants.{Inserted};
 ghost use Rattle.cookie_laws.specs.Acceptance.{store_by};
-ghost use Rattle.cookie_laws.specs.Contents.{contents_of, kept_of};
+ghost use Rattle.cookie_laws.specs.Contents.{contents_of, kept_of, unexpired};
 ghost use Rattle.cookie_laws.specs.Given.{given};
 ghost use Rattle.cookie_laws.specs.Rows.{are_rows, changed, has_key, included, key_at, key_of, live_rows, make, make_all, put, put_all, removed, row_of, same_key};
 ghost use Rattle.cookie_lookup.specs.Seen.{domains_found};
@@ -16,10 +16,12 @@ ghost use Rattle.cookie_rows.specs.Building.{Builds, BuildsAt, FailsFirst, Fails
 ghost use Rattle.cookie_rows.specs.Groups.{changed_at, is_empty_at, texts_of};
 ghost use Rattle.cookie_rows.specs.Items.{end_items, find_items, put_item_paths, put_items, remove_item_paths, remove_items};
 ghost use Rattle.cookie_rows.specs.Requests.{name_and_value};
-ghost use Rattle.cookie_rows.specs.Turns.{is_single_paths, settled, EntersItems};
+ghost use Rattle.cookie_rows.specs.Turns.{is_single_paths, passing, passing_groups, settled, stays, EntersItems};
 
+use crate::boxed::BoxedCookie;
+use crate::copying::rehashed_table;
 use crate::hashing::HashKey;
-use crate::iter::{IterAny, IterUnexpired};
+use crate::iter::{IterAny, IterUnexpired, count_rows};
 use crate::paths::Paths;
 use crate::request::{RequestCookies, RequestValues};
 use crate::search::searched;
@@ -59,10 +61,7 @@ impl Clone for Rows {
     ghost is_clone = { λ rows copy. copy ≡ rows };
 
     fn clone(&self) -> Result<Rows, AllocError> {
-        Ok(Rows {
-            groups: self.groups.clone()?,
-            made: self.made,
-        })
+        self.rehashed(*self.groups.allocator(), *self.groups.hasher())
     }
 }
 
@@ -193,24 +192,17 @@ impl Rows {
         Ok(RequestCookies::new(self.given(alloc, url, now)?))
     }
 
-    /// Puts the cookie in the place of the row of its domain, path and name, which stays made when it was, or as a new row that is
-    /// made last: after the last row of its domain and path, else after the last of its domain, else last. Want of memory, or of
-    /// a number for a new row, leaves the rows, and comes only where there is no such row.
-    pub fn put(&mut self, cookie: Cookie<'static>) -> Result<(), AllocError>
-        ensures put { OnOk result (self.new
-            ≡ record { rows = put self.old.rows cookie.entry; made = make self.old.made (key_of cookie.entry) }) }
-        ensures err { OnErr result (self.new ≡ self.old) }
-        ensures memory { OnErr result (row_of (key_of cookie.entry) self.old.rows ≡ None) }
+    /// Replaces the row of the cookie's domain, path and name, which keeps its place and its creation order.
+    pub fn replace(&mut self, cookie: Cookie<'static>)
+        requires stored { row_of (key_of cookie) self.old.rows ≢ None }
+        ensures { self.new ≡ record { rows = put self.old.rows cookie.entry; made = make self.old.made (key_of cookie.entry) } }
     {
-        let next = number_after(&self.groups, self.made, &cookie)?;
-        put_row(&mut self.groups, cookie, self.made)?;
-        self.made = next;
-        Ok(())
+        replace_row(&mut self.groups, cookie);
     }
 
-    /// Puts a cookie that has not ended as a new row, which is made last. Under a limit rows of its domain leave before, so that no more
-    /// than so many stand: first those that have ended by the moment, then the others, each time the one that was made least
-    /// recently. Want of memory, or of a number for a new row, leaves the rows.
+    /// Adds the cookie as a new row, which is created last. Under a limit, rows of its domain are evicted so that at most so many are
+    /// stored: first those that have expired, then the others, each time the one that was created least recently. If memory, or the
+    /// number for a new row, runs out, the rows are unchanged.
     pub fn enter(
         &mut self,
         cookie: Cookie<'static>,
@@ -218,14 +210,26 @@ impl Rows {
         now: DateTime,
     ) -> Result<(), AllocError>
         requires new { row_of (key_of cookie) self.old.rows ≡ None }
-        requires live { is_expired (moment_of now) cookie ≡ false }
+        requires live { IfSome limit (λ _. is_expired (moment_of now) cookie ≡ false) }
         ensures entered { OnOk result (self.new
             ≡ kept_of (store_by (Ok Inserted) (contents_of self.old None limit) cookie.entry (moment_of now))) }
         ensures err { OnErr result (self.new ≡ self.old) }
     {
+        let Some(next) = self.made.checked_add(1) else {
+            return Err(AllocError);
+        };
+        let row = BoxedCookie::new(*self.groups.allocator(), cookie, self.made)?;
         match limit {
-            None => self.put(cookie),
-            Some(limit) => self.enter_within(cookie, limit.max(1), now),
+            None => {
+                add_row(&mut self.groups, row)?;
+                self.made = next;
+                Ok(())
+            }
+            Some(limit) => {
+                enter_row(&mut self.groups, row, limit.max(1), now)?;
+                self.made = next;
+                Ok(())
+            }
         }
     }
 
@@ -245,9 +249,25 @@ impl Rows {
         ensures memory { OnErr result (IsNewRow include_expired (moment_of now) self.old cookie.entry) }
     {
         if include_expired || !cookie.is_expired(now) {
-            return self.put(cookie);
+            return self.put(cookie, now);
         }
         Ok(())
+    }
+
+    // Replaces the row of the cookie's domain, path and name, or adds a new row.
+    fn put(&mut self, cookie: Cookie<'static>, now: DateTime) -> Result<(), AllocError>
+        ensures put { OnOk result (self.new
+            ≡ record { rows = put self.old.rows cookie.entry; made = make self.old.made (key_of cookie.entry) }) }
+        ensures err { OnErr result (self.new ≡ self.old) }
+        ensures memory { OnErr result (row_of (key_of cookie.entry) self.old.rows ≡ None) }
+    {
+        match self.row_of(&cookie) {
+            Some(_) => {
+                self.replace(cookie);
+                Ok(())
+            }
+            None => self.enter(cookie, None, now),
+        }
     }
 
     /// Ends the row of the cookie's domain, path and name, if there is one.
@@ -266,6 +286,26 @@ impl Rows {
         remove_row(&mut self.groups, domain, path, name)
     }
 
+    /// Removes the cookies that have expired at `now`, RFC 6265 5.3, and returns how many. The others keep their order. Allocates
+    /// nothing.
+    pub fn remove_expired(&mut self, now: DateTime) -> usize
+        ensures rows { self.new ≡ kept_of (unexpired (moment_of now) (contents_of self.old None None)) }
+        ensures removed { result + length self.new.rows ≡ length self.old.rows }
+    {
+        let before = self.len();
+        retain_groups(&mut self.groups, now);
+        before - self.len()
+    }
+
+    // How many rows there are.
+    fn len(&self) -> usize
+        ensures { result ≡ length self.now.rows }
+    {
+        // for the checker: each row has a number of its own below this one, so their count fits
+        let _made = self.made;
+        count_rows(self.groups.values().as_slice())
+    }
+
     /// Copies the rows into maps that hash by this key. Want of memory leaves the maps that were, and comes only where there is
     /// a row.
     pub fn set_hash_key(&mut self, alloc: Global, hash_key: HashKey) -> Result<(), AllocError>
@@ -281,36 +321,11 @@ impl Rows {
         ensures rows { IfOk result (λ rows. rows ≡ self.now) }
         ensures memory { OnErr result (self.now.rows ≢ []) }
     {
-        let mut groups = IndexMap::with_hasher(alloc, hash_key);
-        for (domain, group) in self.groups.iter() {
-            groups.insert(domain.clone()?, group.rehashed(alloc, hash_key)?)?;
-        }
+        let groups = rehashed_table(&self.groups, alloc, hash_key)?;
         Ok(Rows {
             groups,
             made: self.made,
         })
-    }
-
-    // Puts a cookie as `enter` does, under this limit.
-    fn enter_within(
-        &mut self,
-        cookie: Cookie<'static>,
-        limit: usize,
-        now: DateTime,
-    ) -> Result<(), AllocError>
-        requires limit { 0 < limit }
-        requires new { row_of (key_of cookie) self.old.rows ≡ None }
-        requires live { is_expired (moment_of now) cookie ≡ false }
-        ensures entered { OnOk result (self.new
-            ≡ kept_of (store_by (Ok Inserted) (contents_of self.old None (Some limit)) cookie.entry (moment_of now))) }
-        ensures err { OnErr result (self.new ≡ self.old) }
-    {
-        let Some(next) = self.made.checked_add(1) else {
-            return Err(AllocError);
-        };
-        enter_row(&mut self.groups, cookie, self.made, limit, now)?;
-        self.made = next;
-        Ok(())
     }
 
     /// Takes out all rows.
@@ -361,85 +376,67 @@ fn find_row<'a>(
     }
 }
 
-// The cookie's domain, and groups of the cookie alone, to stand under it.
-fn entry_of(
-    alloc: Global,
-    hash_key: HashKey,
-    cookie: Cookie<'static>,
-    number: u64,
-) -> Result<(String, Paths), AllocError>
-    ensures domain { IfOk result (λ entry. string_bytes entry.0 ≡ domain_text cookie.entry.domain) }
-    ensures group { IfOk result (λ entry. entry.1 ≡ put_item_paths cookie.entry number []) }
+// The row's domain, and its groups: the row alone.
+fn entry_of(alloc: Global, row: BoxedCookie) -> Result<(String, Paths), AllocError>
+    ensures domain { IfOk result (λ entry. string_bytes entry.0 ≡ domain_text row.row.domain) }
+    ensures group { IfOk result (λ entry. entry.1 ≡ put_item_paths row.row row.number []) }
 {
-    let domain = String::from_str(alloc, domain_text(&cookie))?;
-    let group = Paths::of_one(alloc, hash_key, cookie, number)?;
+    let domain = String::from_str(alloc, domain_text(row.cookie()))?;
+    let group = Paths::of_one(alloc, row)?;
     Ok((domain, group))
 }
 
-// The count of the cookies that were put, after this one is put at the number. The greatest number stays, where the cookie takes
-// the place of a row, and no new row is made.
-fn number_after(
-    groups: &IndexMap<String, Paths, HashKey>,
-    number: u64,
-    cookie: &Cookie<'static>,
-) -> Result<u64, AllocError>
-    ensures counts { IfOk result (λ next.
-        (next ≡ number + 1) ⊎ ((next ≡ number) × (find_items (key_of cookie.now) (texts_of groups.now.entries) ≢ None))) }
-    ensures greatest { OnErr result (find_items (key_of cookie.now) (texts_of groups.now.entries) ≡ None) }
+// Replaces the row of the cookie's key.
+fn replace_row(groups: &mut IndexMap<String, Paths, HashKey>, cookie: Cookie<'static>)
+    requires stored { find_items (key_of cookie) (texts_of groups.old.entries) ≢ None }
+    ensures { (number : ℕ) → texts_of groups.new.entries ≡ put_items cookie.entry number (texts_of groups.old.entries) }
 {
-    match number.checked_add(1) {
-        Some(next) => Ok(next),
-        None => match find_row(
-            groups,
-            domain_text(cookie),
-            path_text(cookie),
-            cookie.name(),
-        ) {
-            Some(_) => Ok(number),
-            None => Err(AllocError),
-        },
+    match groups.get_mut(domain_text(&cookie)) {
+        Some(group) => group.replace(cookie),
+        None => {}
     }
 }
 
-// Puts the cookie into the groups of its domain, with this number where it is a new row.
-fn put_row(
+// Adds the row to the groups of its domain.
+fn add_row(
     groups: &mut IndexMap<String, Paths, HashKey>,
-    cookie: Cookie<'static>,
-    number: u64,
+    row: BoxedCookie,
 ) -> Result<(), AllocError>
-    ensures put { OnOk result (texts_of groups.new.entries ≡ put_items cookie.entry number (texts_of groups.old.entries)) }
+    requires new { find_items (key_of row.row) (texts_of groups.old.entries) ≡ None }
+    ensures added { OnOk result (texts_of groups.new.entries ≡ put_items row.row row.number (texts_of groups.old.entries)) }
     ensures err { OnErr result (texts_of groups.new.entries ≡ texts_of groups.old.entries) }
-    ensures memory { OnErr result (find_items (key_of cookie.entry) (texts_of groups.old.entries) ≡ None) }
 {
-    match groups.get_mut(domain_text(&cookie)) {
-        Some(group) => group.put(cookie, number),
+    let alloc = *groups.allocator();
+    let hash_key = *groups.hasher();
+    match groups.get_mut(domain_text(row.cookie())) {
+        Some(group) => group.add(alloc, hash_key, row),
         None => {
-            let (domain, group) = entry_of(*groups.allocator(), *groups.hasher(), cookie, number)?;
+            let (domain, group) = entry_of(alloc, row)?;
             groups.insert(domain, group)?;
             Ok(())
         }
     }
 }
 
-// Puts the cookie as a new row with this number into the groups of its domain, and lets rows of it leave, so that no more than the
-// limit stand.
+// Adds the row to the groups of its domain and evicts rows of the domain, so that at most `limit` are stored.
 fn enter_row(
     groups: &mut IndexMap<String, Paths, HashKey>,
-    cookie: Cookie<'static>,
-    number: u64,
+    row: BoxedCookie,
     limit: usize,
     now: DateTime,
 ) -> Result<(), AllocError>
     requires limit { 0 < limit }
-    ensures entered { OnOk result (EntersItems limit (moment_of now) cookie.entry number
+    requires new { find_items (key_of row.row) (texts_of groups.old.entries) ≡ None }
+    ensures entered { OnOk result (EntersItems limit (moment_of now) row.row row.number
         (texts_of groups.old.entries) (texts_of groups.new.entries)) }
     ensures err { OnErr result (texts_of groups.new.entries ≡ texts_of groups.old.entries) }
 {
     let alloc = *groups.allocator();
-    let domain = String::from_str(alloc, domain_text(&cookie))?;
+    let hash_key = *groups.hasher();
+    let domain = String::from_str(alloc, domain_text(row.cookie()))?;
     let left = match groups.get_mut(domain.as_str()) {
-        Some(group) => group.enter(alloc, cookie, number, limit, now)?,
-        None => return put_row(groups, cookie, number),
+        Some(group) => group.enter(alloc, hash_key, row, limit, now)?,
+        None => return add_row(groups, row),
     };
     if left {
         settle_group(groups, domain.as_str());
@@ -505,4 +502,19 @@ fn remove_row(
         groups.shift_remove(domain);
     }
     row
+}
+
+// Keeps the rows that have not expired at `now`, and drops the groups that are emptied. An expired row is one whose turn comes before
+// (true, 0).
+fn retain_groups(groups: &mut IndexMap<String, Paths, HashKey>, now: DateTime)
+    ensures { texts_of groups.new.entries ≡ passing_groups (stays (moment_of now) (true, 0)) (texts_of groups.old.entries) }
+{
+    groups.retain(
+        |_domain: &String, group: &mut Paths| -> bool
+            ensures { (group.new ≡ passing (stays (moment_of now) (true, 0)) group.old) × (result ≡ not (length group.new == 0)) }
+        {
+            group.retain((true, 0), now);
+            !group.is_empty()
+        },
+    );
 }

@@ -13,7 +13,7 @@ ghost use Rattle.cookie_rows.specs.Items.{bare, rows_of};
 use crate::hashing::HashKey;
 use crate::names::Names;
 use crate::paths::Paths;
-use cookie_lookup::{Lookups, Search, found, laws};
+use cookie_lookup::{ListedSearch, Lookups, Search, found_listed, laws};
 use cookie_parts::Cookie;
 use indexmap::IndexMap;
 use jiff::civil::DateTime;
@@ -59,6 +59,33 @@ impl<'a> Search for MapSearch<'a> {
     ghost are_groups = { λ search. search.rows };
 }
 
+impl<'a> ListedSearch for MapSearch<'a> {
+    fn domain_count(&self) -> usize {
+        self.groups.len()
+    }
+
+    fn domain_text(&self, domain: usize) -> Option<&str> {
+        match self.groups.get_index(domain) {
+            Some((text, _)) => Some(text.as_str()),
+            None => None,
+        }
+    }
+
+    fn path_count(&self, domain: usize) -> usize {
+        match self.groups.get_index(domain) {
+            Some((_, paths)) => paths.count(),
+            None => 0,
+        }
+    }
+
+    fn path_text(&self, domain: usize, path: usize) -> Option<&str> {
+        match self.groups.get_index(domain) {
+            Some((_, paths)) => paths.text(path),
+            None => None,
+        }
+    }
+}
+
 /// The rows that are given for the URL at the moment, in their order, and how often the maps were searched for them. Memory is
 /// wanted only where there is one.
 pub(crate) fn searched<'a>(
@@ -84,7 +111,7 @@ pub(crate) fn searched<'a>(
             paths: 0,
         },
     };
-    let spots = found(alloc, &mut search, url, now)?;
+    let spots = found_listed(alloc, &mut search, url, now)?;
     let cookies = rows_at(groups, alloc, &spots)?;
     Ok((cookies, search.lookups))
 }
@@ -97,9 +124,9 @@ fn rows_at<'a>(
 ) -> Result<Vec<&'a Cookie<'static>>, AllocError>
     ensures rows { IfOk result
         (λ cookies. map (λ c. c.now) cookies.items ≡ flat_map (rows_at (bare (texts_of groups.now.entries))) spots.now) }
-    ensures memory { OnErr result (flat_map (rows_at (bare (texts_of groups.now.entries))) spots.now ≢ []) }
+    ensures memory { OnErr result (spots.now ≢ []) }
 {
-    let mut cookies = Vec::new(alloc);
+    let mut cookies = Vec::with_capacity(alloc, spots.len())?;
     for spot in spots {
         if let Some(cookie) = row_at(groups, spot.0, spot.1, spot.2) {
             cookies.push(cookie)?;

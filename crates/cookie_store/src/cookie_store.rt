@@ -1,5 +1,5 @@
 //! The store.
-ghost use Rattle.std.specs.Prelude.{◌≡◌, ◌≢◌, ◌≤◌, ◌*◌, ◌-◌, ◌^◌, ◌<◌, [], false, is_some, map, true, Err, None, Ok, Some, IfErr, IfOk, IsTrue, OnErr, OnOk, ◌⊎◌};
+ghost use Rattle.std.specs.Prelude.{◌≡◌, ◌≢◌, ◌≤◌, ◌+◌, ◌*◌, ◌-◌, ◌^◌, ◌<◌, [], false, is_some, length, map, true, Err, None, Ok, Some, IfErr, IfOk, IsTrue, OnErr, OnOk, ◌⊎◌};
 ghost use Rattle.std.specs.Iterator.{IsFinite};
 ghost use Rattle.std.specs.Option.{option_copied};
 ghost use Rattle.cookie_words.specs.Moments.{moment_of};
@@ -8,7 +8,7 @@ ghost use Rattle.cookie_parts.specs.Cookie.{cookie_of, early, early_refusal};
 ghost use Rattle.cookie_parts.specs.declared.cookie_error.CookieError.TheVariants.{Memory};
 ghost use Rattle.cookie_parts.specs.declared.store_action.StoreAction.TheVariants.{Inserted};
 ghost use Rattle.cookie_laws.specs.Acceptance.{received, MayRefuse};
-ghost use Rattle.cookie_laws.specs.Contents.{contents_of, kept_of};
+ghost use Rattle.cookie_laws.specs.Contents.{contents_of, kept_of, unexpired};
 ghost use Rattle.cookie_lookup.specs.Seen.{domains_found};
 ghost use Rattle.cookie_lookup.specs.Texts.{most_domains, most_paths};
 ghost use Rattle.cookie_rows.specs.Building.{Builds, FailsFirst, WantsRoom};
@@ -275,6 +275,15 @@ impl CookieStore {
         self.rows.remove(domain, path, name)
     }
 
+    /// Removes the cookies that have expired at `now`, RFC 6265 5.3, and returns how many. The others keep their order. Allocates
+    /// nothing. No later request changes by it: [`matches`](Self::matches) returns no expired cookie.
+    pub fn remove_expired(&mut self, now: DateTime) -> usize
+        ensures store { self.new ≡ unexpired (moment_of now) self.old }
+        ensures removed { result + length self.new.rows ≡ length self.old.rows }
+    {
+        self.rows.remove_expired(now)
+    }
+
     /// Lets the maps hash by this key from now on, also in a store that was built or loaded: the cookies are copied once. The key
     /// changes no answer. Want of memory leaves the key that was, and comes only where there is a cookie.
     pub fn set_hash_key(&mut self, hash_key: HashKey) -> Result<(), AllocError>
@@ -413,7 +422,15 @@ impl CookieStore {
         ensures memory { result ≡ Err Memory → (made.entry ≡ Err Memory)
             ⊎ ((received self.old made.entry url.now (moment_of now)).reply ≡ Ok Inserted) }
     {
-        self.insert(made?, url, now)
+        let cookie = made?;
+        accept(
+            self.suffixes.as_ref(),
+            self.limit,
+            &mut self.rows,
+            cookie,
+            url,
+            now,
+        )
     }
 
     // A store of these rows, without a public suffix list.

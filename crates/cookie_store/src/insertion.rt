@@ -68,39 +68,48 @@ fn for_that_host(domain: CookieDomain) -> CookieDomain
     }
 }
 
-// A cookie whose domain is a public suffix is for that very host alone, and no other host may set it.
-fn by_list(suffixes: Option<&List>, cookie: Cookie<'static>, url: &Url) -> CookieResult<'static>
-    ensures value { result ≡ by_list (option_copied suffixes.entry) url.now cookie.entry }
-    ensures refusals { IfErr result (λ refusal. refusal ≡ CookieError.PublicSuffix) }
+// Makes a cookie whose domain is a public suffix host-only, if it comes from that very host, and rejects it else.
+fn by_list(
+    suffixes: Option<&List>,
+    cookie: &mut Cookie<'static>,
+    url: &Url,
+) -> Result<(), CookieError>
+    ensures accepted { OnOk result (by_list (option_copied suffixes.entry) url.now cookie.old ≡ Ok cookie.new) }
+    ensures rejected { IfErr result (λ error. by_list (option_copied suffixes.entry) url.now cookie.old ≡ Err error) }
+    ensures errors { IfErr result (λ error. error ≡ CookieError.PublicSuffix) }
 {
     let Some(list) = suffixes else {
-        return Ok(cookie);
+        return Ok(());
     };
     if !cookie.domain.is_public_suffix(list) {
-        return Ok(cookie);
+        return Ok(());
     }
     if !cookie.domain.host_is_identical(url) {
         return Err(CookieError::PublicSuffix);
     }
-    let mut cookie = cookie;
     let domain = mem::replace(&mut cookie.domain, CookieDomain::Empty);
     cookie.domain = for_that_host(domain);
-    Ok(cookie)
+    Ok(())
 }
 
-// The cookie that may enter, or why it may not, whatever is stored.
-fn admitted(suffixes: Option<&List>, cookie: Cookie<'static>, url: &Url) -> CookieResult<'static>
-    ensures value { result ≡ admitted (option_copied suffixes.entry) url.now cookie.entry }
-    ensures refusals { IfErr result (λ refusal. MayRefuse refusal × (refusal ≢ Memory)) }
+// Makes the cookie what may enter, or returns why it may not, whatever is stored.
+fn admit(
+    suffixes: Option<&List>,
+    cookie: &mut Cookie<'static>,
+    url: &Url,
+) -> Result<(), CookieError>
+    ensures admitted { OnOk result (admitted (option_copied suffixes.entry) url.now cookie.old ≡ Ok cookie.new) }
+    ensures rejected { IfErr result (λ error. admitted (option_copied suffixes.entry) url.now cookie.old ≡ Err error) }
+    ensures errors { IfErr result (λ error. MayRefuse error × (error ≢ Memory)) }
 {
     if cookie.is_out_of_reach(url) {
         return Err(CookieError::NonHttpScheme);
     }
-    let cookie = by_list(suffixes, cookie, url)?;
+    by_list(suffixes, cookie, url)?;
     if !cookie.domain.matches(url) {
         return Err(CookieError::DomainMismatch);
     }
-    Ok(cookie)
+    Ok(())
 }
 
 // The reply to a cookie that may enter, by the row of its key.
@@ -151,10 +160,14 @@ pub(crate) fn accept(
     ensures memory { result ≡ Err Memory
         → (accept (contents_of rows.old (option_copied suffixes.entry) limit) cookie.entry url.now (moment_of now)).reply ≡ Ok Inserted }
 {
-    let cookie = admitted(suffixes, cookie, url)?;
+    let mut cookie = cookie;
+    admit(suffixes, &mut cookie, url)?;
     match reply_at(rows.row_of(&cookie), &cookie, url, now)? {
         StoreAction::Inserted => stored(rows.enter(cookie, limit, now), StoreAction::Inserted),
-        StoreAction::UpdatedExisting => stored(rows.put(cookie), StoreAction::UpdatedExisting),
+        StoreAction::UpdatedExisting => {
+            rows.replace(cookie);
+            Ok(StoreAction::UpdatedExisting)
+        }
         StoreAction::ExpiredExisting => {
             rows.end(&cookie);
             Ok(StoreAction::ExpiredExisting)

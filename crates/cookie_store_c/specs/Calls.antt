@@ -1,9 +1,10 @@
 -- What calls come to.
 use Rattle.std.specs.Prelude.{◌≡◌, ◌==◌, if◌then◌else◌, ◌⊎◌, ℕ, ◌^◌, ◌-◌, min, List, [], length, Option, Some, None, Result, Ok, Err}
+use Rattle.cookie_words.specs.Moments.{Moment}
 use Rattle.cookie_psl.specs.Reading.{rules_from}
 use Rattle.cookie_psl.specs.Rules.{RuleList, SameRules}
 use Rattle.cookie_parts.specs.Cookie.{Row}
-use Rattle.cookie_laws.specs.Contents.{Contents}
+use Rattle.cookie_laws.specs.Contents.{Contents, unexpired}
 use Rattle.cookie_laws.specs.Runs.{Call, step}
 use Rattle.cookie_store_c.specs.Asked.{text_in}
 use Rattle.cookie_store_c.specs.Statuses.{reply_status}
@@ -46,6 +47,12 @@ limit_turn n (Some store) =
     if n == 0 then refused (Some store) BadLimit
     else record { status = Done; store = Some (record store { limit = Some n }) }
 
+-- the expired cookies are removed, unless the time is out of range
+abbrev pub expired_turn : Result Moment Status → Option Contents → Turn
+expired_turn now None = refused None NoStore
+expired_turn (Ok now) (Some store) = record { status = Done; store = Some (unexpired now store) }
+expired_turn (Err status) (Some store) = refused (Some store) status
+
 -- memory ran out where it may be wanted, and nothing has changed
 abbrev pub RunsOut : Type 0 → Option Contents → Status → Option Contents → Type 0
 RunsOut MayWant old status new = (status ≡ NoMemory) × MayWant × (new ≡ old)
@@ -77,7 +84,11 @@ abbrev pub in_store : {T : Type 0} → (List Row → Result T Status) → Option
 in_store made None = Err NoStore
 in_store made (Some store) = made store.rows
 
--- how many rows there are, as far as a machine counts
+-- how many rows there are
+abbrev pub rows_count : Option Contents → ℕ
+rows_count None = 0
+rows_count (Some store) = length store.rows
+
+-- the same, as far as a machine counts
 abbrev pub count_of : Option Contents → ℕ
-count_of None = 0
-count_of (Some store) = min (length store.rows) (2 ^ 64 - 1)
+count_of store = min (rows_count store) (2 ^ 64 - 1)

@@ -1,12 +1,12 @@
 //! Calls that change a store.
-ghost use Rattle.std.specs.Prelude.{◌≡◌, ◌⊎◌, Ok, Some, IsOk};
+ghost use Rattle.std.specs.Prelude.{◌≡◌, ◌⊎◌, ◌+◌, length, Ok, Some, IsOk};
 ghost use Rattle.std.specs.Result.{result_map_both};
 ghost use Rattle.cookie_laws.specs.Rows.{key_at};
 ghost use Rattle.cookie_laws.specs.Runs.{Clear, Remove};
-ghost use Rattle.cookie_store_c.specs.Asked.{look, remove_call, set_call, text_in};
-ghost use Rattle.cookie_store_c.specs.Calls.{limit_turn, store_turn, Comes, ObeysText, RunsOut};
+ghost use Rattle.cookie_store_c.specs.Asked.{look, moment_in, remove_call, set_call, text_in};
+ghost use Rattle.cookie_store_c.specs.Calls.{expired_turn, limit_turn, store_turn, Comes, ObeysText, RunsOut};
 
-use crate::asked::{request, text_in};
+use crate::asked::{moment_in, request, text_in};
 use crate::status::Status;
 use cookie_store::psl::{List, ListError};
 use cookie_store::{CookieStore, HashKey};
@@ -96,6 +96,21 @@ pub(crate) fn clear(store: &mut CookieStore) -> Status
 {
     store.clear();
     Status::Done
+}
+
+/// Removes the cookies that have expired `now` seconds from the epoch, and sets `removed` to their number, or to 0 on an error.
+pub(crate) fn remove_expired(store: &mut CookieStore, now: i64, removed: &mut usize) -> Status
+    ensures store { record { status = result; store = Some store.new } ≡ expired_turn (moment_in now) (Some store.old) }
+    ensures removed { removed.new + length store.new.rows ≡ length store.old.rows }
+{
+    *removed = 0;
+    match moment_in(now) {
+        Ok(now) => {
+            *removed = store.remove_expired(now);
+            Status::Done
+        }
+        Err(status) => status,
+    }
 }
 
 /// Lets no more than so many cookies of one domain stand from now on.

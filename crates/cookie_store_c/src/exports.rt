@@ -1,9 +1,9 @@
 //! What programs in C call. The header says what each answers.
-ghost use Rattle.std.specs.Prelude.{◌≡◌, ◌⊎◌, Ok, Some, None, IsOk, IsSome};
+ghost use Rattle.std.specs.Prelude.{◌≡◌, ◌⊎◌, ◌+◌, Ok, Some, None, IsOk, IsSome};
 ghost use Rattle.cookie_laws.specs.Runs.{Clear};
-ghost use Rattle.cookie_store_c.specs.Asked.{look, remove_call, set_call, text_in};
+ghost use Rattle.cookie_store_c.specs.Asked.{look, moment_in, remove_call, set_call, text_in};
 ghost use Rattle.cookie_store_c.specs.Buffers.{Hands};
-ghost use Rattle.cookie_store_c.specs.Calls.{count_of, in_store, kept_turn, limit_turn, new_turn, turn, Comes, Obeys, RunsOut};
+ghost use Rattle.cookie_store_c.specs.Calls.{count_of, expired_turn, in_store, kept_turn, limit_turn, new_turn, rows_count, turn, Comes, Obeys, RunsOut};
 ghost use Rattle.cookie_store_c.specs.Lists.{saved_in, to_load, Loads};
 ghost use Rattle.cookie_store_c.specs.Rows.{header_in, TellsRows};
 ghost use Rattle.cookie_store_c.specs.Statuses.{Tells};
@@ -184,6 +184,27 @@ pub extern "C" fn cookie_store_clear(alloc: Global, handle: &mut StoreHandle) ->
         return Status::NoStore.code();
     };
     let status = calls::clear(&mut store);
+    handle.put(alloc, store);
+    status.code()
+}
+
+/// Removes the cookies that have expired.
+#[unsafe(no_mangle)]
+pub extern "C" fn cookie_store_remove_expired(
+    alloc: Global,
+    handle: &mut StoreHandle,
+    now: i64,
+    removed: &mut usize,
+) -> u32
+    ensures store { Tells result (λ status. record { status = status; store = handle.new.slot.store }
+        ≡ expired_turn (moment_in now) handle.old.slot.store) }
+    ensures removed { removed.new + rows_count handle.new.slot.store ≡ rows_count handle.old.slot.store }
+{
+    *removed = 0;
+    let Some(mut store) = handle.take(alloc) else {
+        return Status::NoStore.code();
+    };
+    let status = calls::remove_expired(&mut store, now, removed);
     handle.put(alloc, store);
     status.code()
 }

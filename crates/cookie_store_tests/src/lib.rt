@@ -12,6 +12,8 @@ mod checks;
 #[cfg(test)]
 mod devices;
 #[cfg(test)]
+mod expired;
+#[cfg(test)]
 mod forms;
 #[cfg(test)]
 mod growths;

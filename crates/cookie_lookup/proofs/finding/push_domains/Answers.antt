@@ -1,4 +1,4 @@
-use Rattle.std.proofs.Common.{◌≡◌, ◌+◌, ◌*◌, ◌<◌, ◌≤◌, ◌++◌, List, ℕ, false, length, drop, get_or, eqb, lit<, arith, ap, ◌∙◌, sym, subst, ◌∷◌, [], append_assoc}
+use Rattle.std.proofs.Common.{◌≡◌, ◌+◌, ◌*◌, ◌<◌, ◌≤◌, ◌++◌, List, ℕ, false, length, drop, get_or, eqb, lit<, arith, ap, ◌∙◌, sym, subst, ◌∷◌, []}
 use Rattle.std.specs.Prelude.{◌≢◌}
 use Rattle.std.specs.List.{flat_map}
 use Rattle.std.proofs.lemmas.Bool.Decides.{nat_tests}
@@ -7,11 +7,13 @@ use Rattle.cookie_laws.specs.Given.{is_given}
 use Rattle.cookie_laws.specs.Related.{after_dots}
 use Rattle.cookie_lookup.specs.Groups.{DomainGroups}
 use Rattle.cookie_lookup.specs.Seen.{at_domain, how_many_found}
-use Rattle.cookie_lookup.specs.Texts.{path_texts, most_paths, dots, IsRelated}
+use Rattle.cookie_lookup.specs.Spots.{SameSpots}
+use Rattle.cookie_lookup.specs.Texts.{path_texts, related_texts, most_paths, dots, IsRelated}
 use Rattle.cookie_lookup.proofs.Counts.{paths_next, room_next, room_here}
 use Rattle.cookie_lookup.proofs.Cuts.{after_byte, at_dot, at_no_dot}
 use Rattle.cookie_lookup.proofs.CoveringTexts.{behind_dot}
 use Rattle.cookie_lookup.proofs.HostTexts.{length_dots}
+use Rattle.cookie_lookup.proofs.Listed.{same_more}
 use Rattle.cookie_lookup.proofs.Results.{either_way}
 use Rattle.cookie_lookup.proofs.Spots.{some_given}
 use Rattle.cookie_lookup.proofs.Steps.{dot_pushed, dot_kept, dot_gives}
@@ -31,7 +33,7 @@ loop-at-init g c =
     let host = c.args.host.now in
     let look : List ℕ → List (ℕ × ℕ × ℕ) = at_domain (is_given url (moment_of c.args.now)) first.groups (path_texts url.path) in
     record {
-      spots = ap (λ s. s ++ flat_map look (after_dots host)) c.in_ok-push_domain.ensures.spots ∙ append_assoc c.args.spots.now.items (look host) (flat_map look (after_dots host));
+      spots = same_more c.push_domain.new.spots.items c.args.spots.now.items (look host) (flat_map look (after_dots host)) c.in_ok-push_domain.ensures.spots;
       groups = c.in_ok-push_domain.ensures.groups;
       domains = omega (arith, c.in_ok-push_domain.ensures.domains, length_dots host);
       room = rw (length_dots host) (room_next first.groups host (most_paths url) (dots host) first.paths (g.S.Search.seen c.push_domain.new.search).paths c.in_ok-push_domain.ensures.paths);
@@ -113,10 +115,13 @@ loop-at-preserved g c =
           (subst (λ t. after.paths ≤ before.paths + how_many_found before.groups (t ∷ []) * m) there w.in_ok-push_domain-2.ensures.paths) in
           let room = rw left at c.loop-at.invariant.room in
           let paths = rw left at c.loop-at.invariant.paths in
+          let pushed : SameSpots c.if-bytes-at-eq46.spots.items (c.loop-at.spots.items ++ look first.groups text) =
+          subst (λ v. SameSpots v.items (c.loop-at.spots.items ++ look first.groups text)) (sym w.spots-is)
+          (subst (λ t. SameSpots w.push_domain-then-bytes-at-eq46.new.spots.items (c.loop-at.spots.items ++ look first.groups t)) there
+          (subst (λ groups. SameSpots w.push_domain-then-bytes-at-eq46.new.spots.items (c.loop-at.spots.items ++ look groups w.range_from.result.now)) c.loop-at.invariant.groups
+          w.in_ok-push_domain-2.ensures.spots)) in
           rw w.search-is record {
-            spots = dot_pushed (look first.groups) host c.loop-at.at below _ c.loop-at.spots.items c.if-bytes-at-eq46.spots.items c.loop-at.invariant.spots dot
-                (ap (λ v. v.items) w.spots-is ∙ w.in_ok-push_domain-2.ensures.spots
-                ∙ ap (λ groups. c.loop-at.spots.items ++ look groups w.range_from.result.now) c.loop-at.invariant.groups ∙ ap (λ t. c.loop-at.spots.items ++ look first.groups t) there);
+            spots = dot_pushed (look first.groups) host c.loop-at.at below (c.args.spots.now.items ++ flat_map (look first.groups) (related_texts host)) c.loop-at.spots.items c.if-bytes-at-eq46.spots.items c.loop-at.invariant.spots dot pushed;
             groups = w.in_ok-push_domain-2.ensures.groups ∙ c.loop-at.invariant.groups;
             domains = omega (arith, w.in_ok-push_domain-2.ensures.domains, c.loop-at.invariant.domains, ap length left);
             room = omega (arith, room, room_next first.groups text m (length (after_dots text)) before.paths after.paths asked);
@@ -127,7 +132,7 @@ loop-at-preserved g c =
           let dot : eqb (get_or host c.loop-at.at 0) 46 ≡ false = grind (arith, nat_tests, other) in
           let left = at_no_dot host c.loop-at.at below dot in
           rw w.search-is record {
-            spots = dot_kept (look first.groups) host c.loop-at.at below _ c.loop-at.spots.items c.if-bytes-at-eq46.spots.items c.loop-at.invariant.spots dot (ap (λ v. v.items) w.spots-is);
+            spots = dot_kept (look first.groups) host c.loop-at.at below (c.args.spots.now.items ++ flat_map (look first.groups) (related_texts host)) c.loop-at.spots.items c.if-bytes-at-eq46.spots.items c.loop-at.invariant.spots dot (ap (λ v. v.items) w.spots-is);
             groups = c.loop-at.invariant.groups;
             domains = rw left at c.loop-at.invariant.domains;
             room = rw left at c.loop-at.invariant.room;

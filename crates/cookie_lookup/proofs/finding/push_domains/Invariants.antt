@@ -4,6 +4,7 @@ use Rattle.cookie_words.specs.Moments.{moment_of}
 use Rattle.cookie_laws.specs.Given.{is_given}
 use Rattle.cookie_laws.specs.Related.{after_dots}
 use Rattle.cookie_lookup.specs.Seen.{at_domain, how_many_found}
+use Rattle.cookie_lookup.specs.Spots.{SameSpots}
 use Rattle.cookie_lookup.specs.Texts.{dots, most_paths, path_texts, related_texts}
 use Rattle.cookie_lookup.proofs.finding.push_domains.Given as goal
 
@@ -14,7 +15,7 @@ invariant-loop-at g l =
     let left = after_dots (drop l.at l.host) in
     let look = at_domain (is_given l.url (moment_of l.now)) first.groups (path_texts l.url.path) in
     record {
-      spots : l.spots.items ++ flat_map look left ≡ l.fn.spots.items ++ flat_map look (related_texts l.host);
+      spots : SameSpots (l.spots.items ++ flat_map look left) (l.fn.spots.items ++ flat_map look (related_texts l.host));
       groups : seen.groups ≡ first.groups;
       domains : seen.domains + length left ≡ first.domains + (1 + dots l.host);
       room : seen.paths + length left * most_paths l.url ≤ first.paths + (1 + dots l.host) * most_paths l.url;

@@ -1,13 +1,13 @@
-use Rattle.std.proofs.Common.{◌≡◌, ◌∙◌, ◌∷◌, [], ℕ, ◌<◌, ◌≤◌, Bool, true, false, List, String, ap, bytes_eq, inl, inr, length, refl, string_bytes, subst, sym, arith, Some, None}
+use Rattle.std.proofs.Common.{◌≡◌, ◌∙◌, ◌∷◌, [], ℕ, ◌<◌, ◌≤◌, Bool, true, false, List, String, ap, inl, inr, length, refl, subst, sym, Some, None}
 use Rattle.std.specs.Map.{lookup, set_value}
 use Rattle.std.proofs.lemmas.Bool.{cases_Bool}
 use Rattle.cookie_words.specs.Moments.{Moment, moment_of}
 use Rattle.cookie_parts.specs.Cookie.{Row}
 use Rattle.cookie_parts.specs.Domain.{domain_text}
-use Rattle.cookie_rows.specs.Groups.{texts_of}
-use Rattle.cookie_rows.specs.Items.{Item, ItemGroups, ItemPaths, put_item_paths, put_items}
+use Rattle.cookie_rows.specs.Groups.{found, texts_of}
+use Rattle.cookie_rows.specs.Items.{Item, ItemGroups, ItemPaths, find_item_paths, put_item_paths, put_items}
 use Rattle.cookie_rows.specs.Turns.{EntersItems, EntersPaths, IsFirst, entered_paths, is_single_paths, paths_of, settled, stays, turns_of}
-use Rattle.cookie_rows.proofs.Maps.{at_text, put_set, same_set}
+use Rattle.cookie_rows.proofs.Maps.{at_text, found_some, put_set, same_set}
 use Rattle.cookie_rows.proofs.Results.{either_way, on_ok_map}
 use Rattle.cookie_rows.proofs.rows.enter_row.Goals.{then-left, else-left}
 use Rattle.cookie_rows.proofs.rows.enter_row.Goals as goal
@@ -59,6 +59,14 @@ module _ {A : Type 0} (limit : ℕ) (now : Moment) (row : Row) (n : ℕ) (es : L
         )
   ]
 
+pub enter-requires-clause-new : goal.enter-requires-clause-new
+enter-requires-clause-new c =
+    let es = c.args.groups.now.entries in
+    let row = c.args.row.row in
+    let named = find_item_paths row.path.text row.raw.name in
+    let q = c.as_str.ensures.value ∙ c.in_ok-domain.ensures.ok ∙ c.domain_text.ensures ∙ ap (λ (r : Row). domain_text r.domain) c.cookie.ensures in
+    found_some named c.as_str.result.now es c.in-Some.group.now c.in-Some.ensures.value ∙ ap (λ t. found named t (texts_of es)) q ∙ c.requires.new
+
 pub returns-in_err-left-in-Some-clause-err : goal.returns-in_err-left-in-Some-clause-err
 returns-in_err-left-in-Some-clause-err c =
     either_way c.from_residual-in_err-left-in-Some.result
@@ -67,31 +75,31 @@ returns-in_err-left-in-Some-clause-err c =
 
 pub returns-in-None-clause-entered : goal.returns-in-None-clause-entered
 returns-in-None-clause-entered c =
-    let row = c.args.cookie in
-    let q = c.as_str.ensures.value ∙ c.in_ok-domain.ensures.ok ∙ c.domain_text.ensures in
+    let row = c.args.row.row in
+    let q = c.as_str.ensures.value ∙ c.in_ok-domain.ensures.ok ∙ c.domain_text.ensures ∙ ap (λ (r : Row). domain_text r.domain) c.cookie.ensures in
     let none = subst (λ t. None ≡ lookup (at_text t) c.args.groups.now.entries) q c.in-None.ensures.value in
     let room = subst (λ ps. length (turns_of (moment_of c.args.now) ps) < c.args.limit) (sym (paths_none (domain_text row.domain) c.args.groups.now.entries none)) c.requires.limit in
-    on_ok_map c.put_row.result
-    (λ put. inl (room, put ∙ ap (λ m. put_items row c.args.number (texts_of m.entries)) c.get_mut.follows.holds-at-none))
-    c.put_row.ensures.put
+    on_ok_map c.add_row.result
+    (λ added. inl (room, added ∙ ap (λ m. put_items row c.args.row.number (texts_of m.entries)) c.get_mut.follows.holds-at-none))
+    c.add_row.ensures.added
 
 pub returns-clause-entered : goal.returns-clause-entered
 returns-clause-entered c =
-    let row = c.args.cookie in
+    let row = c.args.row.row in
     let now = moment_of c.args.now in
     let es = c.args.groups.now.entries in
-    let q = c.as_str.ensures.value ∙ c.in_ok-domain.ensures.ok ∙ c.domain_text.ensures in
+    let q = c.as_str.ensures.value ∙ c.in_ok-domain.ensures.ok ∙ c.domain_text.ensures ∙ ap (λ (r : Row). domain_text r.domain) c.cookie.ensures in
     let there = subst (λ t. Some c.in-Some.group.now ≡ lookup (at_text t) es) q c.in-Some.ensures.value in
     let set = (c.get_mut.follows.holds c.enter.new.self).0 ∙ ap (λ t. set_value (at_text t) es c.enter.new.self) q in
     elim c.if-left.branch [
       | then-left w ↦
-          subst (EntersItems c.args.limit now row c.args.number (texts_of es))
+          subst (EntersItems c.args.limit now row c.args.row.number (texts_of es))
           (sym (ap (λ m. texts_of m.entries) w.groups-is ∙ w.settle_group.ensures
-          ∙ ap (λ t. settled is_single_paths t (texts_of (c.get_mut.follows.lender c.enter.new.self).entries)) (w.as_str-then-left.ensures.value ∙ c.in_ok-domain.ensures.ok ∙ c.domain_text.ensures)
+          ∙ ap (λ t. settled is_single_paths t (texts_of (c.get_mut.follows.lender c.enter.new.self).entries)) (w.as_str-then-left.ensures.value ∙ c.in_ok-domain.ensures.ok ∙ c.domain_text.ensures ∙ ap (λ (r : Row). domain_text r.domain) c.cookie.ensures)
           ∙ ap (λ hs. settled is_single_paths (domain_text row.domain) (texts_of hs)) set))
-          (enters_left c.args.limit now row c.args.number es c.in-Some.group.now c.enter.new.self there c.in_ok-left-in-Some.left c.in_ok-left-in-Some.ensures.entered w.if-left.true)
+          (enters_left c.args.limit now row c.args.row.number es c.in-Some.group.now c.enter.new.self there c.in_ok-left-in-Some.left c.in_ok-left-in-Some.ensures.entered w.if-left.true)
       | else-left w ↦
-          subst (EntersItems c.args.limit now row c.args.number (texts_of es))
+          subst (EntersItems c.args.limit now row c.args.row.number (texts_of es))
           (sym (ap (λ m. texts_of m.entries) w.groups-is ∙ ap texts_of set))
-          (enters_room c.args.limit now row c.args.number es c.in-Some.group.now c.enter.new.self there c.in_ok-left-in-Some.left c.in_ok-left-in-Some.ensures.entered w.if-left.false)
+          (enters_room c.args.limit now row c.args.row.number es c.in-Some.group.now c.enter.new.self there c.in_ok-left-in-Some.left c.in_ok-left-in-Some.ensures.entered w.if-left.false)
     ]

@@ -1,15 +1,15 @@
-use Rattle.std.proofs.Common.{◌∙◌, ap}
-use Rattle.cookie_rows.specs.Groups.{texts_of, row_named}
-use Rattle.cookie_rows.specs.Items.{find_item_paths, rows_of}
-use Rattle.cookie_rows.proofs.Maps.{found_some, found_none}
+use Rattle.std.proofs.Common.{List, ◌∙◌, sym, ap, Some}
+use Rattle.std.specs.Prelude.{option_map}
+use Rattle.cookie_rows.specs.Groups.{row_named}
+use Rattle.cookie_rows.specs.Items.{rows_of, Item}
+use Rattle.cookie_rows.proofs.Places.{found_at, found_nowhere}
 use Rattle.cookie_rows.proofs.paths.Paths.get.Goals as goal
 
 pub returns-in-Some : goal.returns-in-Some
 returns-in-Some c =
-    c.get-in-Some.ensures ∙ found_some (λ items. row_named c.args.name.now (rows_of items)) c.args.path.now c.deref.result.now.entries c.in-Some.group.now c.in-Some.ensures.value
-    ∙ ap (λ m. find_item_paths c.args.path.now c.args.name.now (texts_of m.entries)) c.deref.ensures ∙ ap (find_item_paths c.args.path.now c.args.name.now) c.self.view_is
+    let named = λ (items : List Item). row_named c.args.name.now (rows_of items) in
+    c.get.ensures ∙ ap named c.in-Some.ensures.names ∙ found_at named c.args.path.now c.args.self.now c.in-Some.field-0-0 (sym c.in-Some.ensures.place)
 
 pub returns-in-None : goal.returns-in-None
 returns-in-None c =
-    found_none (λ items. row_named c.args.name.now (rows_of items)) c.args.path.now c.deref.result.now.entries c.in-None.ensures.value
-    ∙ ap (λ m. find_item_paths c.args.path.now c.args.name.now (texts_of m.entries)) c.deref.ensures ∙ ap (find_item_paths c.args.path.now c.args.name.now) c.self.view_is
+    found_nowhere (λ (items : List Item). row_named c.args.name.now (rows_of items)) c.args.path.now c.args.self.now (sym c.in-None.ensures.place)

@@ -1,19 +1,78 @@
-use Rattle.std.proofs.Common.{◌∙◌, ap, None, Ok, Some}
+use Rattle.std.proofs.Common.{◌≡◌, ◌∙◌, ◌+◌, ap, inl, refl, subst, sym, None, Ok, Some}
 use Rattle.cookie_words.specs.Moments.{moment_of}
 use Rattle.cookie_parts.specs.declared.store_action.StoreAction.TheVariants.{Inserted}
 use Rattle.cookie_laws.specs.Acceptance.{store_by}
-use Rattle.cookie_laws.specs.Contents.{contents_of, kept_of}
-use Rattle.cookie_rows.proofs.Entered.{kept_at_least_one, kept_unlimited}
-use Rattle.cookie_rows.proofs.Results.{on_ok_map}
+use Rattle.cookie_laws.specs.Contents as Store
+use Rattle.cookie_laws.specs.Contents.{contents_of}
+use Rattle.cookie_laws.specs.Rows.{Kept, key_of, make, put, row_of}
+use Rattle.cookie_rows.specs.Groups.{texts_of}
+use Rattle.cookie_rows.specs.Items.{AreItems, Item, find_items, kept_of, put_items}
+use Rattle.cookie_rows.specs.Turns.{EntersItems}
+use Rattle.cookie_rows.proofs.AreItems.{found_items, items_put, kept_put}
+use Rattle.cookie_rows.proofs.Entered.{items_entered, kept_at_least_one, kept_entered, kept_unlimited}
 use Rattle.cookie_rows.proofs.rows.Rows.enter.Goals as goal
 
-pub returns-in-None-clause-entered : goal.returns-in-None-clause-entered
-returns-in-None-clause-entered c =
-    rw c.in-None.is
-    (on_ok_map c.put.result (λ put. put ∙ kept_unlimited c.args.self.now c.args.cookie (moment_of c.args.now)) c.put.ensures.put)
+pub add_row-requires : goal.add_row-requires
+add_row-requires c =
+    let n = c.self.inside.made in
+    let gs = texts_of c.self.inside.groups.entries in
+    let key = key_of c.args.cookie in
+    record {
+      new = ap (λ (i : Item). find_items (key_of i.row) gs) c.in_ok-row.ensures ∙ found_items n gs c.self.invariant key
+          ∙ ap (λ (k : Kept). row_of key k.rows) c.self.view_is ∙ c.requires.new;
+    }
 
-pub returns-in-Some-clause-entered : goal.returns-in-Some-clause-entered
-returns-in-Some-clause-entered c =
-    rw c.in-Some.is
-    (on_ok_map c.enter_within.result (λ entered. entered ∙ ap (λ l. kept_of (store_by (Ok Inserted) (contents_of c.args.self.now None (Some l)) c.args.cookie (moment_of c.args.now))) c.max.ensures
-    ∙ kept_at_least_one c.args.self.now c.in-Some.limit c.args.cookie (moment_of c.args.now)) c.enter_within.ensures.entered)
+pub invariant_of-self-in-None : goal.invariant_of-self-in-None
+invariant_of-self-in-None c =
+    let n = c.self.inside.made in
+    let gs = texts_of c.self.inside.groups.entries in
+    let added = c.in_ok-add_row-in-None.ensures.added ∙ ap (λ (i : Item). put_items i.row i.number gs) c.in_ok-row.ensures in
+    subst (λ m. AreItems m (texts_of c.add_row.new.groups.entries)) (sym c.in-Some.ensures.1)
+    (subst (AreItems (n + 1)) (sym added) (items_put n gs c.self.invariant c.args.cookie (n + 1) (inl refl)))
+
+pub returns-in_ok-add_row-in-None-clause-entered : goal.returns-in_ok-add_row-in-None-clause-entered
+returns-in_ok-add_row-in-None-clause-entered c =
+    let n = c.self.inside.made in
+    let gs = texts_of c.self.inside.groups.entries in
+    let row = c.args.cookie in
+    rw c.in-None.is
+    (ap kept_of (c.in_ok-add_row-in-None.ensures.added ∙ ap (λ (i : Item). put_items i.row i.number gs) c.in_ok-row.ensures)
+    ∙ kept_put n gs c.self.invariant row
+    ∙ ap (λ (k : Kept). record { rows = put k.rows row; made = make k.made (key_of row) }) c.self.view_is
+    ∙ kept_unlimited c.args.self.now row (moment_of c.args.now))
+
+pub enter_row-requires-clause-new : goal.enter_row-requires-clause-new
+enter_row-requires-clause-new c =
+    let n = c.self.inside.made in
+    let gs = texts_of c.self.inside.groups.entries in
+    let key = key_of c.args.cookie in
+    ap (λ (i : Item). find_items (key_of i.row) gs) c.in_ok-row.ensures ∙ found_items n gs c.self.invariant key
+    ∙ ap (λ (k : Kept). row_of key k.rows) c.self.view_is ∙ c.requires.new
+
+pub invariant_of-self-in-Some-limit : goal.invariant_of-self-in-Some-limit
+invariant_of-self-in-Some-limit c =
+    let n = c.self.inside.made in
+    let gs = texts_of c.self.inside.groups.entries in
+    let row = c.args.cookie in
+    let new = texts_of c.enter_row.new.groups.entries in
+    let fresh = ap (λ (k : Kept). row_of (key_of row) k.rows) c.self.view_is ∙ c.requires.new in
+    let live = rw c.in-Some-limit.is at c.requires.live in
+    let entered = subst (λ (i : Item). EntersItems c.max.result (moment_of c.args.now) i.row i.number gs new) c.in_ok-row.ensures c.in_ok-enter_row-in-Some-limit.ensures.entered in
+    subst (λ m. AreItems m new) (sym c.in-Some.ensures.1)
+    (items_entered n c.max.result gs c.self.invariant row (moment_of c.args.now) fresh live new entered)
+
+pub returns-in_ok-enter_row-in-Some-limit-clause-entered : goal.returns-in_ok-enter_row-in-Some-limit-clause-entered
+returns-in_ok-enter_row-in-Some-limit-clause-entered c =
+    let n = c.self.inside.made in
+    let gs = texts_of c.self.inside.groups.entries in
+    let row = c.args.cookie in
+    let now = moment_of c.args.now in
+    let new = texts_of c.enter_row.new.groups.entries in
+    let fresh = ap (λ (k : Kept). row_of (key_of row) k.rows) c.self.view_is ∙ c.requires.new in
+    let live = rw c.in-Some-limit.is at c.requires.live in
+    let entered = subst (λ (i : Item). EntersItems c.max.result now i.row i.number gs new) c.in_ok-row.ensures c.in_ok-enter_row-in-Some-limit.ensures.entered in
+    rw c.in-Some-limit.is
+    (kept_entered n c.max.result gs c.self.invariant row now fresh live new entered
+    ∙ ap (λ (k : Kept). Store.kept_of (store_by (Ok Inserted) (contents_of k None (Some c.max.result)) row now)) c.self.view_is
+    ∙ ap (λ l. Store.kept_of (store_by (Ok Inserted) (contents_of c.args.self.now None (Some l)) row now)) c.max.ensures
+    ∙ kept_at_least_one c.args.self.now c.in-Some-limit.limit row now)

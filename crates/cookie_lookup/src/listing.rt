@@ -1,0 +1,261 @@
+//! How the texts that a URL is looked up by are searched for: each by a lookup, or in a walk over those that are stored.
+ghost use Rattle.std.specs.List.{flat_map, list_any};
+ghost use Rattle.std.specs.Prelude.{◌≡◌, ◌≢◌, ◌≤◌, ◌<◌, ◌+◌, ◌*◌, ◌^◌, ℕ, [], ◌++◌, bytes_eq, false, filter, length, map, slice_get, true, IfNone, IfSome, List, OnErr, OnOk, Some};
+ghost use Rattle.cookie_words.specs.Moments.{moment_of};
+ghost use Rattle.cookie_laws.specs.Given.{is_given};
+ghost use Rattle.cookie_lookup.specs.Asked.{is_asked_for};
+ghost use Rattle.cookie_lookup.specs.Seen.{at_domain, at_path, how_many_found, under};
+ghost use Rattle.cookie_lookup.specs.Spots.{SameSpots};
+ghost use Rattle.cookie_lookup.specs.Texts.{dots, is_domain_text, is_path_text, most_paths, path_texts, related_texts};
+ghost use Rattle.cookie_parts.specs.Hosts.{host_of};
+
+use crate::asked::Asked;
+use crate::finding::{ends_text, push_domain, push_domains, push_path, push_paths};
+use crate::search::{ListedSearch, Search};
+use cookie_parts::utils::is_host_name;
+use jiff::civil::DateTime;
+use std::alloc::AllocError;
+use url::Url;
+
+// How the domains are searched.
+pub(crate) trait DomainSearch<S: Search> {
+    // Adds the spots under the texts that the host is looked up by, in any order.
+    fn push_domains(
+        search: &mut S,
+        host: &str,
+        url: &Url,
+        now: DateTime,
+        spots: &mut Vec<(usize, usize, usize)>,
+    ) -> Result<(), AllocError>
+        requires host { host_of url.now ≡ Some host.now }
+        requires domains { (S.seen search.old).domains + (1 + dots host.now) < 2 ^ 128 }
+        requires paths { (S.seen search.old).paths + (1 + dots host.now) * most_paths url.now < 2 ^ 128 }
+        ensures spots { OnOk result (SameSpots spots.new.items (spots.old.items
+            ++ flat_map (at_domain (is_given url.now (moment_of now)) (S.seen search.old).groups (path_texts url.now.path)) (related_texts host.now))) }
+        ensures groups { (S.seen search.new).groups ≡ (S.seen search.old).groups }
+        ensures domains { (S.seen search.new).domains ≤ (S.seen search.old).domains + (1 + dots host.now) }
+        ensures paths { (S.seen search.new).paths
+            ≤ (S.seen search.old).paths + how_many_found (S.seen search.old).groups (related_texts host.now) * most_paths url.now }
+        ensures memory { OnErr result
+            (flat_map (at_domain (is_given url.now (moment_of now)) (S.seen search.old).groups (path_texts url.now.path)) (related_texts host.now) ≢ []) };
+}
+
+// How the paths of a domain are searched.
+pub(crate) trait PathSearch<S: Search> {
+    // Adds the spots in the domain at a position under the texts that the URL's path is looked up by, in any order.
+    fn push_paths(
+        search: &mut S,
+        domain: usize,
+        asked: &Asked<'_>,
+        spots: &mut Vec<(usize, usize, usize)>,
+    ) -> Result<(), AllocError>
+        requires room { (S.seen search.old).paths + most_paths asked.now.url.now < 2 ^ 128 }
+        requires domain { domain < length (S.seen search.old).groups }
+        ensures spots { OnOk result (SameSpots spots.new.items (spots.old.items
+            ++ flat_map (at_path (is_asked_for asked.now.host_only asked.now.suffix asked.now.url.now (moment_of asked.now.moment)) domain (under domain (S.seen search.old).groups)) (path_texts asked.now.url.now.path))) }
+        ensures groups { (S.seen search.new).groups ≡ (S.seen search.old).groups }
+        ensures domains { (S.seen search.new).domains ≡ (S.seen search.old).domains }
+        ensures paths { (S.seen search.new).paths ≤ (S.seen search.old).paths + most_paths asked.now.url.now }
+        ensures memory { OnErr result
+            (flat_map (at_path (is_asked_for asked.now.host_only asked.now.suffix asked.now.url.now (moment_of asked.now.moment)) domain (under domain (S.seen search.old).groups)) (path_texts asked.now.url.now.path) ≢ []) };
+}
+
+// By a lookup of each text.
+pub(crate) struct ByLookup;
+
+impl<S: Search> PathSearch<S> for ByLookup {
+    fn push_paths(
+        search: &mut S,
+        domain: usize,
+        asked: &Asked<'_>,
+        spots: &mut Vec<(usize, usize, usize)>,
+    ) -> Result<(), AllocError> {
+        push_paths(search, domain, asked, spots)
+    }
+}
+
+impl<S: Search> DomainSearch<S> for ByLookup {
+    fn push_domains(
+        search: &mut S,
+        host: &str,
+        url: &Url,
+        now: DateTime,
+        spots: &mut Vec<(usize, usize, usize)>,
+    ) -> Result<(), AllocError> {
+        push_domains::<S, ByLookup>(search, host, url, now, spots)
+    }
+}
+
+// In a walk over the stored texts where they are few, else by a lookup of each text. A walk compares at most what is stored, and a
+// text only where its length allows it. Lookups of all the texts that a text of n bytes is looked up by hash at most n * n bytes,
+// and that is no more than 128 for each stored text where no walk is taken. So either is proportional to what is stored.
+pub(crate) struct ByListing;
+
+impl<S: ListedSearch> PathSearch<S> for ByListing {
+    fn push_paths(
+        search: &mut S,
+        domain: usize,
+        asked: &Asked<'_>,
+        spots: &mut Vec<(usize, usize, usize)>,
+    ) -> Result<(), AllocError> {
+        let count = search.path_count(domain);
+        if are_few_paths(count, asked.url.path().len()) {
+            push_listed(search, domain, count, asked, spots)
+        } else {
+            push_paths(search, domain, asked, spots)
+        }
+    }
+}
+
+impl<S: ListedSearch> DomainSearch<S> for ByListing {
+    fn push_domains(
+        search: &mut S,
+        host: &str,
+        url: &Url,
+        now: DateTime,
+        spots: &mut Vec<(usize, usize, usize)>,
+    ) -> Result<(), AllocError> {
+        let count = search.domain_count();
+        if are_few_domains(count, host.len()) {
+            push_listed_domains(search, count, host, url, now, spots)
+        } else {
+            push_domains::<S, ByListing>(search, host, url, now, spots)
+        }
+    }
+}
+
+// Whether the paths of a domain are few for a URL's path of so many bytes.
+fn are_few_paths(count: usize, len: usize) -> bool {
+    count <= len || count <= len.saturating_mul(len) / 128
+}
+
+// Whether the domains are few for a host of so many bytes. An ordinary host is short and looked up.
+fn are_few_domains(count: usize, len: usize) -> bool {
+    count <= len.saturating_mul(len) / 128
+}
+
+// Adds the spots under the domains that the host is looked up by, in the order of the domains.
+fn push_listed_domains<S: ListedSearch>(
+    search: &mut S,
+    count: usize,
+    host: &str,
+    url: &Url,
+    now: DateTime,
+    spots: &mut Vec<(usize, usize, usize)>,
+) -> Result<(), AllocError>
+    requires count { count ≡ length (S.seen search.old).groups }
+    requires host { host_of url.now ≡ Some host.now }
+    requires domains { (S.seen search.old).domains + (1 + dots host.now) < 2 ^ 128 }
+    requires paths { (S.seen search.old).paths + (1 + dots host.now) * most_paths url.now < 2 ^ 128 }
+    ensures spots { OnOk result (SameSpots spots.new.items (spots.old.items
+        ++ flat_map (at_domain (is_given url.now (moment_of now)) (S.seen search.old).groups (path_texts url.now.path)) (related_texts host.now))) }
+    ensures groups { (S.seen search.new).groups ≡ (S.seen search.old).groups }
+    ensures domains { (S.seen search.new).domains ≤ (S.seen search.old).domains + (1 + dots host.now) }
+    ensures paths { (S.seen search.new).paths
+        ≤ (S.seen search.old).paths + how_many_found (S.seen search.old).groups (related_texts host.now) * most_paths url.now }
+    ensures memory { OnErr result
+        (flat_map (at_domain (is_given url.now (moment_of now)) (S.seen search.old).groups (path_texts url.now.path)) (related_texts host.now) ≢ []) }
+{
+    let host_is_name = is_host_name(host);
+    for place in 0..count {
+        if let Some(text) = suffix_at(search, place, host) {
+            push_domain::<S, ByListing>(search, text, host, host_is_name, url, now, spots)?;
+        }
+    }
+    Ok(())
+}
+
+// The end of the host that is the text of a domain, if the host is looked up by it.
+fn suffix_at<'a, S: ListedSearch>(search: &S, place: usize, host: &'a str) -> Option<&'a str>
+    ensures suffix { IfSome result (λ suffix. Some suffix.now ≡ slice_get (map (λ g. g.0) (S.seen search.now).groups) place) }
+    ensures is { IfSome result (λ suffix. list_any (bytes_eq suffix.now) (related_texts host.now) ≡ true) }
+    ensures none { IfNone result ((text : List ℕ) → Some text ≡ slice_get (map (λ g. g.0) (S.seen search.now).groups) place
+        → list_any (bytes_eq text) (related_texts host.now) ≡ false) }
+{
+    let bytes = host.as_bytes();
+    match search.domain_text(place) {
+        Some(text) => {
+            if is_domain_text(text.as_bytes(), bytes) {
+                Some(&host[host.len() - text.len()..])
+            } else {
+                None
+            }
+        }
+        None => None,
+    }
+}
+
+// Whether the host is looked up by the text. The bytes are compared last, and so only where the length allows it.
+fn is_domain_text(text: &[u8], host: &[u8]) -> bool
+    ensures { result ≡ is_domain_text host.now text.now }
+{
+    (text.len() == host.len()
+        || text.len() < host.len() && host[host.len() - text.len() - 1] == b'.')
+        && host.ends_with(text)
+}
+
+// Adds the spots in the domain at a position under the texts of its paths that the URL's path is looked up by, in the order of the
+// paths.
+fn push_listed<S: ListedSearch>(
+    search: &mut S,
+    domain: usize,
+    count: usize,
+    asked: &Asked<'_>,
+    spots: &mut Vec<(usize, usize, usize)>,
+) -> Result<(), AllocError>
+    requires room { (S.seen search.old).paths + most_paths asked.now.url.now < 2 ^ 128 }
+    requires domain { domain < length (S.seen search.old).groups }
+    requires count { count ≡ length (under domain (S.seen search.old).groups) }
+    ensures spots { OnOk result (spots.new.items ≡ spots.old.items
+        ++ flat_map (at_path (is_asked_for asked.now.host_only asked.now.suffix asked.now.url.now (moment_of asked.now.moment)) domain (under domain (S.seen search.old).groups))
+        (filter (λ text. list_any (bytes_eq text) (path_texts asked.now.url.now.path)) (map (λ p. p.0) (under domain (S.seen search.old).groups)))) }
+    ensures groups { (S.seen search.new).groups ≡ (S.seen search.old).groups }
+    ensures domains { (S.seen search.new).domains ≡ (S.seen search.old).domains }
+    ensures paths { (S.seen search.new).paths ≤ (S.seen search.old).paths + most_paths asked.now.url.now }
+    ensures memory { OnErr result
+        (flat_map (at_path (is_asked_for asked.now.host_only asked.now.suffix asked.now.url.now (moment_of asked.now.moment)) domain (under domain (S.seen search.old).groups))
+        (filter (λ text. list_any (bytes_eq text) (path_texts asked.now.url.now.path)) (map (λ p. p.0) (under domain (S.seen search.old).groups))) ≢ []) }
+{
+    let path = asked.url.path();
+    for place in 0..count {
+        if let Some(front) = front_at(search, domain, place, path) {
+            push_path(search, domain, front, asked, spots)?;
+        }
+    }
+    Ok(())
+}
+
+// The front of the path that is the text of a path of the domain, if the path is looked up by it.
+fn front_at<'a, S: ListedSearch>(
+    search: &S,
+    domain: usize,
+    place: usize,
+    path: &'a str,
+) -> Option<&'a str>
+    ensures front { IfSome result (λ front. Some front.now ≡ slice_get (map (λ p. p.0) (under domain (S.seen search.now).groups)) place) }
+    ensures is { IfSome result (λ front. list_any (bytes_eq front.now) (path_texts path.now) ≡ true) }
+    ensures none { IfNone result ((text : List ℕ) → Some text ≡ slice_get (map (λ p. p.0) (under domain (S.seen search.now).groups)) place
+        → list_any (bytes_eq text) (path_texts path.now) ≡ false) }
+{
+    let bytes = path.as_bytes();
+    match search.path_text(domain, place) {
+        Some(text) => {
+            if is_path_text(text.as_bytes(), bytes) {
+                Some(&path[..text.len()])
+            } else {
+                None
+            }
+        }
+        None => None,
+    }
+}
+
+// Whether the path is looked up by the text. The bytes are compared last, and so only where the length allows it.
+fn is_path_text(text: &[u8], path: &[u8]) -> bool
+    ensures { result ≡ is_path_text path.now text.now }
+{
+    text.starts_with(b"/")
+        && text.len() <= path.len()
+        && ends_text(path, text.len() - 1)
+        && path.starts_with(text)
+}

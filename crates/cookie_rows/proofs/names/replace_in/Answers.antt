@@ -1,0 +1,26 @@
+use Rattle.std.proofs.Common.{◌∙◌, sym, ap}
+use Rattle.std.specs.Prelude.{option_map}
+use Rattle.std.specs.Map.{values_of, set_value}
+use Rattle.cookie_rows.specs.Groups.{row_named}
+use Rattle.cookie_rows.specs.Items.{Item, rows_of}
+use Rattle.cookie_rows.proofs.Named.{at_text, row_found, named_set, put_set}
+use Rattle.cookie_rows.proofs.names.replace_in.Goals as goal
+
+pub returns-in-Some-clause-put : goal.returns-in-Some-clause-put
+returns-in-Some-clause-put c number =
+    let es = c.args.rows.now.entries in
+    ap values_of ((c.get_mut.follows.holds c.set.new.self).0 ∙ ap (set_value (at_text c.name.result.now) es) c.set.ensures)
+    ∙ put_set c.name.result.now c.args.cookie number (sym c.name.ensures) c.in-Some.row.now es c.requires.named c.in-Some.ensures.value
+
+pub returns-in-Some-clause-named : goal.returns-in-Some-clause-named
+returns-in-Some-clause-named c =
+    let es = c.args.rows.now.entries in
+    rw ((c.get_mut.follows.holds c.set.new.self).0 ∙ ap (set_value (at_text c.name.result.now) es) c.set.ensures)
+    (named_set c.name.result.now c.args.cookie 0 (sym c.name.ensures) c.in-Some.row.now es c.requires.named)
+
+pub returns-in-None-clause-put : goal.returns-in-None-clause-put
+returns-in-None-clause-put c number =
+    let es = c.args.rows.now.entries in
+    absurd (c.requires.stored
+    (ap (λ t. row_named t (rows_of (values_of es))) (sym c.name.ensures) ∙ sym (row_found c.name.result.now es c.requires.named)
+    ∙ ap (option_map (λ (x : Item). x.row)) (sym c.in-None.ensures.value)))

@@ -1,0 +1,30 @@
+//! Copies of maps.
+ghost use Rattle.std.specs.Prelude.{◌≡◌, ◌≢◌, [], IfOk, OnErr};
+ghost use Rattle.cookie_rows.specs.Groups.{texts_of};
+
+use crate::hashing::HashKey;
+use indexmap::IndexMap;
+use std::alloc::{AllocError, Global};
+
+/// A value of a map that can be copied into maps of another hash key.
+pub(crate) trait Rehash: Drop {
+    /// A copy whose maps hash by this key.
+    fn rehashed(&self, alloc: Global, hash_key: HashKey) -> Result<Self, AllocError>
+        ensures { IfOk result (λ copy. copy ≡ self.now) };
+}
+
+/// A copy of a table, hashed by this key. Allocates only if there is an entry.
+pub(crate) fn rehashed_table<V: Rehash>(
+    table: &IndexMap<String, V, HashKey>,
+    alloc: Global,
+    hash_key: HashKey,
+) -> Result<IndexMap<String, V, HashKey>, AllocError>
+    ensures texts { IfOk result (λ copy. texts_of copy.entries ≡ texts_of table.now.entries) }
+    ensures memory { OnErr result (texts_of table.now.entries ≢ []) }
+{
+    let mut copy = IndexMap::with_hasher(alloc, hash_key);
+    for (text, value) in table.iter() {
+        copy.insert(text.clone()?, value.rehashed(alloc, hash_key)?)?;
+    }
+    Ok(copy)
+}
