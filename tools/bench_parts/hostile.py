@@ -8,7 +8,8 @@ from bench_parts.measure import Task, repeated
 from bench_parts.scripts import CLEAR, NOW, removals, sets
 
 TARGET = 0.1  # seconds that a run repeats the operation
-PATIENCE = 10.0  # seconds: a larger input is skipped if it may take longer
+PATIENCE = 40.0  # seconds: a larger input is skipped if it may take longer
+STEEPEST = 1.15  # the greatest exponent of a family that must be linear
 LABELS = ['a'] * 122 + ['com']
 DEEP = '.'.join(LABELS)  # a host of 247 bytes
 
@@ -50,10 +51,6 @@ LONG_PATH = set_cookie(f'p=1; Path={"/" * 7999}a', DEEP)
 PATHS = set_each(f'c=1; Path={"/" * length}a' for length in range(1, 1001))
 
 
-def remove_in_order(cookies, per_host):
-    return repeated(NOW, sets(cookies, per_host) + removals(cookies, per_host, shuffled=False))
-
-
 def get_beside_expired(size):
     """A set and a get after the expiry are not timed, which may delete the expired cookies once."""
     expired = set_each(f'c{number}=1; Max-Age=1' for number in range(size))
@@ -86,33 +83,43 @@ def convert(size):
     return Task(lambda _: '', lambda _: lines, arguments=('--convert',), most=1)
 
 
-FAMILIES = [
-    Family('get, URL of n slashes, 120 parent domains with a cookie each', 2000,
+# A time grows faster than n while the cookies fall out of the processor's caches, so n is small or large enough.
+LINEAR = [
+    Family('get, URL of n slashes, 120 parent domains with a cookie each', 10_000,
            lambda n: get(PARENTS, slashes(n, DEEP))),
-    Family('the same, and a stored path of 8,000 bytes', 2000, lambda n: get(PARENTS + LONG_PATH, slashes(n, DEEP))),
+    Family('the same, and a stored path of 8,000 bytes', 10_000, lambda n: get(PARENTS + LONG_PATH, slashes(n, DEEP))),
     Family('get, URL of n slashes, one cookie', 5000, lambda n: get(set_cookie('a=1; Path=/'), slashes(n))),
-    Family('get, URL of n slashes, 1,000 paths of different lengths', 2000, lambda n: get(PATHS, slashes(n))),
+    Family('get, URL of n slashes, 1,000 paths of different lengths', 10_000, lambda n: get(PATHS, slashes(n))),
     Family('get, host of n labels, empty store', 2000, lambda n: get('', f'http://{"a." * n}com/')),
     Family('get, host of n labels, one cookie', 2000, lambda n: get(set_cookie('a=1'), f'http://{"a." * n}com/')),
     Family('get after n cookies of different paths were evicted', 250, get_after_evictions, has_peer=False),
     Family('get after n cookies of different paths were removed', 250, get_after_removals),
-    Family('get, n expired cookies of the host', 2000, get_beside_expired, has_peer=False),
-    Family('n sets, and n removals in the same order, one host', 1000, lambda n: remove_in_order(n, n)),
-    Family('n sets, and n removals in the same order, n hosts', 1000, lambda n: remove_in_order(n, 1)),
-    Family('set, host at its limit of n cookies', 1000, set_at_limit, has_peer=False),
-    Family('set, value of n bytes', 10000, lambda n: set_one(f'c={"v" * n}')),
-    Family('set, n attributes', 10000, lambda n: set_one(f'c=1{"; a=b" * n}')),
-    Family('set, date of n words', 10000, lambda n: set_one(f'c=1; Expires={"x " * n}3 Aug 2100 00:38:37')),
+    Family('get, n expired cookies of the host', 40_000, get_beside_expired, has_peer=False),
+    Family('set, value of n bytes', 10_000, lambda n: set_one(f'c={"v" * n}')),
+    Family('set, n attributes', 10_000, lambda n: set_one(f'c=1{"; a=b" * n}')),
+    Family('set, date of n words', 10_000, lambda n: set_one(f'c=1; Expires={"x " * n}3 Aug 2100 00:38:37')),
     Family('n lines of JSON by --convert', 5000, convert, has_peer=False),
 ]
 
 
-def colliding(program, least):
-    """Finding the names takes half a minute."""
+def colliding(program, least=100):
+    """Finding the names takes some 15 seconds."""
     done = subprocess.run([program, str(16 * least)], stdout=subprocess.PIPE, check=True, text=True)
     lines = done.stdout.splitlines(keepends=True)[1:]
     return Family('n sets, names that collide under the fixed hash key', least,
                   lambda n: repeated(NOW, ''.join(lines[:n]) + CLEAR))
+
+
+def removing(order, hosts, per_host):
+    """`per_host` is a function of n."""
+    return Family(f'n sets, and n removals in {order} order, {hosts}', 2500,
+                  lambda n: repeated(NOW, sets(n, per_host(n)) + removals(n, per_host(n), order)))
+
+
+# In creation order and in its reverse, by the number of hosts.
+REMOVALS = {hosts: [removing(order, hosts, per_host) for order in ('creation', 'reverse')]
+            for hosts, per_host in (('one host', lambda n: n), ('n hosts', lambda n: 1))}
+AT_LIMIT = Family('set, host at its limit of n cookies', 1000, set_at_limit, has_peer=False)
 
 
 def grow(meter, programs, family):
@@ -133,9 +140,11 @@ def exponent(took):
 
 
 def measure(meter, own, *peers, families):
-    """Yields each family with the seconds at its sizes by program name."""
+    """Each family with the seconds at its sizes by program name."""
+    grown = []
     for family in families:
         programs = [own, *peers] if family.has_peer else [own]
         if len(programs) > 1:
             meter.compare(programs, family.task(family.least).script(1))
-        yield family, grow(meter, programs, family)
+        grown.append((family, grow(meter, programs, family)))
+    return grown

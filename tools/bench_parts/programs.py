@@ -9,6 +9,7 @@ from bench_parts.measure import Program
 
 ROOT = os.path.realpath(os.path.join(os.path.dirname(__file__), '..', '..'))
 DEFAULT = os.path.join(ROOT, 'crates', 'cookie_jar', 'out', 'cookie_jar')
+ARCHIVE = os.path.join(ROOT, 'crates', 'cookie_store_c', 'out', 'libcookie_store_c.a')
 PEERS = os.path.join(ROOT, 'tools', 'peers')
 REGISTRY = '/usr/share/cargo/registry'
 OWN, RUST, GO = 'cookie_jar', 'Rust crate', 'Go'

@@ -2,10 +2,13 @@
 import datetime
 import os
 import platform
-from dataclasses import dataclass
+import textwrap
+from dataclasses import dataclass, field
 
+from bench_parts.others import MINUTES
 from bench_parts.programs import ROOT, output
 
+IDLE = 0.5  # the greatest load average of an idle machine
 
 @dataclass
 class Table:
@@ -13,17 +16,27 @@ class Table:
     note: str
     columns: list
     rows: list
+    warnings: list = field(default_factory=list)
 
     def text(self):
         lines = [self.columns, *self.rows]
         first, *others = (max(map(len, column)) for column in zip(*lines))
         form = '  '.join([f'{{:{first}}}', *(f'{{:>{width}}}' for width in others)])
-        return '\n'.join([self.title, *(form.format(*line) for line in lines), ''])
+        return '\n'.join([self.title, *(form.format(*line) for line in lines), *self.warnings, ''])
 
     def markdown(self):
         heads = ['---', *['---:'] * (len(self.columns) - 1)]
         lines = [f'| {" | ".join(line)} |' for line in (self.columns, heads, *self.rows)]
-        return '\n'.join([f'## {self.title}', '', self.note, '', *lines, ''])
+        return '\n'.join([f'## {self.title}', '', paragraph(self.note), '', *lines, *paragraphs(self.warnings), ''])
+
+
+def paragraph(text):
+    return textwrap.fill(text, 100, break_long_words=False, break_on_hyphens=False)
+
+
+def paragraphs(texts):
+    """Each behind an empty line."""
+    return [f'\n{paragraph(text)}' for text in texts]
 
 
 def number(value):
@@ -52,6 +65,12 @@ def commit():
     return f'{output("git", "rev-parse", "--short", "HEAD")}, {"with uncommitted changes" if changed else "clean"}'
 
 
+def busy(load):
+    """A warning if something else was running."""
+    if load > IDLE:
+        yield f'Warning: the load average at the start was {load:.2f}. Measure on an idle machine.'
+
+
 def circumstances(programs, load):
     """What was measured, where and when, as rows."""
     return [
@@ -67,14 +86,15 @@ def circumstances(programs, load):
 
 HEAD = '''# Figures
 
-`tools/bench --write` writes this file and [speed.svg](speed.svg). Each program runs the same scripts.
+`tools/bench --write` writes this file and [speed.svg](speed.svg). Each program runs the same
+scripts.
 
-- A time is processor time, user and system, of the whole process, less that of the script without the
-  measured lines. Reading the line and parsing the URL are part of it.
+- A time is processor time, user and system, of the whole process, less that of the script without
+  the measured lines. Reading the line and parsing the URL are part of it.
 - It is the best of five interleaved runs, or of fewer if they take more than 15 seconds.
 - A ratio is the peer's figure divided by ours: above 1, ours is faster or smaller.
-- All figures are of one run on one machine. Compare the ratios, not the times, with those of another.
-
+- All figures are of one run on one machine. Compare the ratios, not the times, with those of
+  another.
 '''
 
 REPEAT = '''
@@ -83,26 +103,57 @@ REPEAT = '''
 On Debian:
 
 ```sh
-apt-get install cargo librust-cookie-store-dev librust-cookie-dev librust-publicsuffix-dev golang-go valgrind time
+apt-get install cargo librust-cookie-store-dev librust-cookie-dev librust-publicsuffix-dev \\
+    golang-go valgrind time
 (cd crates/cookie_jar && rt run < stdin)    # builds the program
 tools/bench --write                         # on an idle machine
 ```
 
-A peer or a tool that is missing is left out.
+A peer or a tool that is missing is left out. Two of the other tools need builds of their own:
+
+```sh
+(cd crates/cookie_store_c && rt lib)       # the library, or another one by --archive FILE
+COOKIE_LISTS=FOLDER tools/speed_lists 1    # some ten minutes
+tools/bench --write --lists FOLDER
+```
 '''
 
+OTHERS = f'''
+## Other tools
 
-def write_document(rows, tables, missing, others):
-    lines = ['| | |', '|---|---|', *(f'| {name} | {value} |' for name, value in rows), '']
-    lines += [*(f'{line}\n' for line in missing), '']
-    tools = [f'\n## `{command}`\n\n```text\n{text}\n```\n' for command, text in others]
-    document = [HEAD, '\n'.join(lines), '\n'.join(table.markdown() for table in tables), *tools, REPEAT]
-    write(os.path.join(ROOT, 'docs', 'FIGURES.md'), ''.join(document))
+`tools/speed` and `tools/speed_convert` run the program that the tables above measure. A tool that
+takes more than {MINUTES} minutes is stopped.'''
+
+
+@dataclass
+class Document:
+    """docs/FIGURES.md."""
+    rows: list  # what was measured, where and when
+    notices: list  # what is missing, or may distort the figures
+    tables: list = field(default_factory=list)
+    sections: list = field(default_factory=list)  # the other tools' commands, and what they printed
+
+    def text(self):
+        """What precedes the tables."""
+        return '\n'.join([*map(': '.join, self.rows), *self.notices, ''])
+
+    def markdown(self):
+        rows = ['| | |', '|---|---|', *(f'| {name} | {value} |' for name, value in self.rows)]
+        lines = [*rows, *paragraphs(self.notices), *(f'\n{table.markdown()[:-1]}' for table in self.tables)]
+        if self.sections:
+            lines += [OTHERS]
+        lines += [f'\n### `{command}`\n\n```text\n{text}\n```' for command, text in self.sections]
+        return '\n'.join([HEAD, *lines, REPEAT])
+
+    def write(self):
+        write(os.path.join(ROOT, 'docs', 'FIGURES.md'), self.markdown())
 
 
 def write(path, text):
-    with open(path, 'w') as file:
+    """The old file stays until the new one is whole."""
+    with open(f'{path}.part', 'w') as file:
         file.write(text)
+    os.replace(f'{path}.part', path)
 
 
 STYLE = '''text { font: 13px sans-serif; fill: #24292f; } .title { font-weight: bold; }

@@ -24,10 +24,12 @@ def gets(cookies, per_host, count):
     return ''.join(f'get http://h{generator.randrange(hosts)}.com/a/b\n' for _ in range(count))
 
 
-def removals(cookies, per_host, shuffled=True):
-    """Removes all cookies, in random or in insertion order."""
+def removals(cookies, per_host, order='random'):
+    """Removes all cookies, in random order, in creation order or in its reverse."""
     hosts = host_count(cookies, per_host)
-    order = list(range(cookies))
-    if shuffled:
-        random.Random(1).shuffle(order)
-    return ''.join(f'remove h{number % hosts}.com / c{number // hosts}\n' for number in order)
+    numbers = list(range(cookies))
+    if order == 'random':
+        random.Random(1).shuffle(numbers)
+    elif order == 'reverse':
+        numbers.reverse()
+    return ''.join(f'remove h{number % hosts}.com / c{number // hosts}\n' for number in numbers)
