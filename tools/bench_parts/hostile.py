@@ -118,7 +118,7 @@ def removing(order, hosts, per_host):
 
 # In creation order and in its reverse, by the number of hosts.
 REMOVALS = {hosts: [removing(order, hosts, per_host) for order in ('creation', 'reverse')]
-            for hosts, per_host in (('one host', lambda n: n), ('n hosts', lambda n: 1))}
+            for hosts, per_host in (('one host', lambda n: n), ('a host each', lambda n: 1))}
 AT_LIMIT = Family('set, host at its limit of n cookies', 1000, set_at_limit, has_peer=False)
 
 
