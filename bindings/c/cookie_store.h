@@ -1,9 +1,9 @@
 /* A cookie store of RFC 6265 for HTTP clients, on machines of 64 bits. Link with -lcookie_store (pkg-config cookie_store).
  *
  *     cookie_store store = COOKIE_STORE_INIT;
- *     char header[4096];
+ *     char key[16], header[4096];
  *     size_t needed;
- *     if (cookie_store_new(&store) != COOKIE_STORE_OK) abort();
+ *     if (getentropy(key, sizeof key) || cookie_store_new(&store, key, sizeof key) != COOKIE_STORE_OK) abort();
  *     if (cookie_store_set(&store, url, strlen(url), set_cookie, strlen(set_cookie), time(NULL)) == COOKIE_STORE_NO_MEMORY) abort();
  *     if (cookie_store_get(&store, url, strlen(url), time(NULL), header, sizeof header, &needed) == COOKIE_STORE_OK && needed > 0)
  *         printf("Cookie: %.*s\n", (int)needed, header);
@@ -109,8 +109,10 @@ typedef struct cookie_store {
 
 #define COOKIE_STORE_INIT { false, NULL }
 
-/* Begins a store without cookies, without a public suffix list and without a limit. HAS_STORE; NO_MEMORY. */
-enum cookie_store_status cookie_store_new(cookie_store *store);
+/* Begins a store without cookies, without a public suffix list and without a limit, whose maps hash by a key. Only the first 16 bytes of the
+ * key count, and fewer are filled up with zeros. It changes no answer. With random bytes no server can choose names that make the store slow;
+ * a program that trusts its servers may give none ("", 0). HAS_STORE; NO_MEMORY. */
+enum cookie_store_status cookie_store_new(cookie_store *store, const char *key, size_t key_len);
 
 /* Frees the store, if there is one. Then there is none. */
 void cookie_store_free(cookie_store *store);
@@ -126,9 +128,8 @@ enum cookie_store_status cookie_store_use_suffixes(cookie_store *store, const ch
  * NO_STORE, BAD_LIMIT. */
 enum cookie_store_status cookie_store_set_domain_limit(cookie_store *store, size_t limit);
 
-/* Lets the maps of the store hash by a key from now on, of which the first 16 bytes count. It changes no answer. Who takes cookies of servers
- * that he does not trust hands over random bytes, so that no server can choose names that make the store slow; a key of fewer
- * bytes is filled up with zeros. NO_STORE; NO_MEMORY. */
+/* Lets the maps of the store hash by another key from now on, as cookie_store_new takes it. The cookies are copied once. NO_STORE;
+ * NO_MEMORY. */
 enum cookie_store_status cookie_store_set_hash_key(cookie_store *store, const char *key, size_t key_len);
 
 /* Takes the cookie of one Set-Cookie header's value that came from the URL at the moment, RFC 6265 5.3. Done: INSERTED, UPDATED,
@@ -194,10 +195,12 @@ enum cookie_store_status cookie_store_save_ron(cookie_store *store, int64_t now,
 
 /* Begins a store with the cookies of such a list: all of them, or else those that have not ended by the moment, which is tested in both
  * cases. A cookie of the list that ends with the session has not ended. A later cookie takes the place of an earlier one of its domain, path
- * and name. The store has no public suffix list, no limit and no key, and the domains of the cookies are not tested. HAS_STORE, BAD_MOMENT,
- * NOT_UTF8; BAD_JSON, BAD_SHAPE or BAD_RON, BAD_END, PARSE. */
-enum cookie_store_status cookie_store_load_json(cookie_store *store, const char *list, size_t list_len, int64_t now, bool all);
-enum cookie_store_status cookie_store_load_ron(cookie_store *store, const char *list, size_t list_len, int64_t now, bool all);
+ * and name. The store has no public suffix list and no limit, its maps hash by the key, as cookie_store_new takes it, and the domains of the
+ * cookies are not tested. HAS_STORE, BAD_MOMENT, NOT_UTF8; BAD_JSON, BAD_SHAPE or BAD_RON, BAD_END, PARSE. */
+enum cookie_store_status cookie_store_load_json(cookie_store *store, const char *key, size_t key_len, const char *list, size_t list_len,
+                                                int64_t now, bool all);
+enum cookie_store_status cookie_store_load_ron(cookie_store *store, const char *key, size_t key_len, const char *list, size_t list_len,
+                                               int64_t now, bool all);
 
 #ifdef __cplusplus
 }

@@ -4,13 +4,14 @@
        cc -o fetch fetch.c $(pkg-config --cflags --libs cookie_store libcurl)
        ./fetch http://example.com/
    It ends with status 0; 1 where a fetch failed; 2 without arguments; 3 where there was no memory. */
-#define _POSIX_C_SOURCE 200809L
+#define _DEFAULT_SOURCE
 #include <cookie_store.h>
 #include <curl/curl.h>
 #include <stdio.h>
 #include <stdlib.h>
 #include <string.h>
 #include <strings.h>
+#include <sys/random.h>
 #include <time.h>
 
 enum { MOST_HOPS = 20, DONE = 0, FAILED = 1, BAD_ARGUMENTS = 2, NO_MEMORY = 3 };
@@ -111,10 +112,12 @@ static CURLcode prepare(CURL *curl) {
 
 int main(int count, char **words) {
     cookie_store store = COOKIE_STORE_INIT;
+    char key[16];
     if (count < 2) return BAD_ARGUMENTS;
+    if (getentropy(key, sizeof key)) return FAILED;
     if (curl_global_init(CURL_GLOBAL_DEFAULT)) return FAILED;
     CURL *curl = curl_easy_init();
-    int status = curl && cookie_store_new(&store) == COOKIE_STORE_OK ? DONE : NO_MEMORY;
+    int status = curl && cookie_store_new(&store, key, sizeof key) == COOKIE_STORE_OK ? DONE : NO_MEMORY;
     if (status == DONE && prepare(curl)) status = FAILED;
     for (int at = 1; at < count && status == DONE; at++) status = fetch(curl, &store, words[at]);
     if (status == NO_MEMORY) fputs("fetch: out of memory\n", stderr);

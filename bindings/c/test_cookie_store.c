@@ -77,7 +77,7 @@ static const struct {
 static void test_set(void) {
     cookie_store store = COOKIE_STORE_INIT;
     size_t line = UNTOLD;
-    equal("new", cookie_store_new(&store), COOKIE_STORE_OK);
+    equal("new", cookie_store_new(&store, "", 0), COOKIE_STORE_OK);
     equal("suffixes", cookie_store_use_suffixes(&store, TEXT("// a comment\nexample\n"), &line), COOKIE_STORE_OK);
     equal("no bad line", (long)line, 0);
     for (size_t at = 0; at < sizeof SETS / sizeof *SETS; at++) {
@@ -94,7 +94,7 @@ static void test_set(void) {
 static void test_suffixes(void) {
     cookie_store store = COOKIE_STORE_INIT;
     size_t line = UNTOLD;
-    cookie_store_new(&store);
+    cookie_store_new(&store, "", 0);
     equal("bad rule", cookie_store_use_suffixes(&store, TEXT("example\na..b\n"), &line), COOKIE_STORE_BAD_RULE);
     equal("its line", (long)line, 2);
     equal("the list is as it was", set(&store, PAGE, "a=1; Domain=example", NOW), COOKIE_STORE_INSERTED);
@@ -114,7 +114,7 @@ static void test_get(void) {
     cookie_store store = COOKIE_STORE_INIT;
     char out[8];
     size_t needed = UNTOLD;
-    cookie_store_new(&store);
+    cookie_store_new(&store, "", 0);
     set(&store, PAGE, "a=1; Max-Age=60", NOW);
     set(&store, PAGE, "b=2; Path=/", NOW);
     set(&store, PAGE, "s=3; Secure", NOW);
@@ -147,7 +147,7 @@ static void test_get(void) {
 
 static void test_remove(void) {
     cookie_store store = COOKIE_STORE_INIT;
-    cookie_store_new(&store);
+    cookie_store_new(&store, "", 0);
     set(&store, PAGE, "a=1", NOW);
     equal("remove domain not UTF-8", cookie_store_remove(&store, NOT_UTF8, TEXT("/d"), TEXT("a")), COOKIE_STORE_NOT_UTF8);
     equal("remove path not UTF-8", cookie_store_remove(&store, TEXT("a.example"), NOT_UTF8, TEXT("a")), COOKIE_STORE_NOT_UTF8);
@@ -173,7 +173,7 @@ static void test_remove_expired(void) {
                  {NOW + 59, COOKIE_STORE_OK, 0, 4},          {NOW + 60, COOKIE_STORE_OK, 2, 2},         {NOW + 60, COOKIE_STORE_OK, 0, 2},
                  {LAST, COOKIE_STORE_OK, 1, 1}};
     cookie_store store = COOKIE_STORE_INIT;
-    cookie_store_new(&store);
+    cookie_store_new(&store, "", 0);
     set(&store, PAGE, "a=1; Max-Age=60", NOW);
     set(&store, PAGE, "s=2", NOW);
     set(&store, PAGE, "b=3; Path=/; Max-Age=60", NOW);
@@ -193,7 +193,7 @@ static void test_remove_expired(void) {
 /* The limit, and a key, which changes nothing. */
 static void test_limit_and_key(void) {
     cookie_store store = COOKIE_STORE_INIT;
-    cookie_store_new(&store);
+    cookie_store_new(&store, "", 0);
     equal("limit of 0", cookie_store_set_domain_limit(&store, 0), COOKIE_STORE_BAD_LIMIT);
     equal("limit", cookie_store_set_domain_limit(&store, 1), COOKIE_STORE_OK);
     set(&store, PAGE, "a=1", NOW);
@@ -215,7 +215,7 @@ static void test_rows(void) {
     char texts[64];
     const char *whole = "a.example/da1example/k\xc3\xbc" "22";
     size_t rows_needed = UNTOLD, texts_needed = UNTOLD;
-    cookie_store_new(&store);
+    cookie_store_new(&store, "", 0);
     equal("no rows", cookie_store_rows(&store, rows, 0, texts, 0, &rows_needed, &texts_needed), COOKIE_STORE_OK);
     equal("no rows needed", (long)(rows_needed + texts_needed), 0);
     set(&store, PAGE, "a=1", NOW);
@@ -249,7 +249,7 @@ static void test_rows(void) {
 static const struct form {
     const char *name;
     enum cookie_store_status (*save)(cookie_store *, int64_t, bool, char *, size_t, size_t *);
-    enum cookie_store_status (*load)(cookie_store *, const char *, size_t, int64_t, bool);
+    enum cookie_store_status (*load)(cookie_store *, const char *, size_t, const char *, size_t, int64_t, bool);
     const char *no_list, *other, *bad_end, *no_cookie;
     enum cookie_store_status no_list_status, other_status;
 } FORMS[] = {
@@ -266,7 +266,7 @@ static const struct form {
 static void loads(const char *name, const struct form *form, const char *list, size_t length, int64_t now, bool all,
                   enum cookie_store_status wanted, size_t count) {
     cookie_store store = COOKIE_STORE_INIT;
-    equal(name, form->load(&store, list, length, now, all), wanted);
+    equal(name, form->load(&store, TEXT("0123456789abcdef"), list, length, now, all), wanted);
     equal(form->name, (long)cookie_store_count(&store), (long)count);
     cookie_store_free(&store);
 }
@@ -275,7 +275,7 @@ static void test_list(const struct form *form) {
     cookie_store store = COOKIE_STORE_INIT;
     char list[1024];
     size_t needed = UNTOLD;
-    cookie_store_new(&store);
+    cookie_store_new(&store, "", 0);
     set(&store, PAGE, "a=1; Max-Age=60", NOW);
     set(&store, PAGE, "b=2", NOW);
     equal("save", form->save(&store, NOW, true, list, sizeof list, &needed), COOKIE_STORE_OK);
@@ -293,7 +293,7 @@ static void test_list(const struct form *form) {
     loads("load those that stayed", form, list, needed, NOW, true, COOKIE_STORE_OK, 1);
     equal("save at no moment", form->save(&store, LAST + 1, false, list, sizeof list, &needed), COOKIE_STORE_BAD_MOMENT);
     equal("nothing is needed at no moment", (long)needed, 0);
-    equal("load into a store", form->load(&store, list, 0, NOW, true), COOKIE_STORE_HAS_STORE);
+    equal("load into a store", form->load(&store, "", 0, list, 0, NOW, true), COOKIE_STORE_HAS_STORE);
     set(&store, PAGE, "c=3; Max-Age=1", FIRST);
     equal("save an end before the year 0", form->save(&store, FIRST, true, list, sizeof list, &needed), COOKIE_STORE_BAD_END);
     cookie_store_free(&store);
@@ -311,14 +311,14 @@ static void test_room(void) {
     cookie_store store = COOKIE_STORE_INIT;
     char out[8] = "-------";
     size_t needed = UNTOLD;
-    cookie_store_new(&store);
+    cookie_store_new(&store, "", 0);
     set(&store, PAGE, "a=1", NOW);
     equal("get one byte too short", cookie_store_get(&store, TEXT(PAGE), NOW, out, 2, &needed), COOKIE_STORE_NO_ROOM);
     equal("what a header needs", (long)needed, 3);
     same_text("nothing is written of a header", out, 7, "-------");
     equal("get in the very room", cookie_store_get(&store, TEXT(PAGE), NOW, out, 3, &needed), COOKIE_STORE_OK);
     same_text("nothing is written after a header", out, 7, "a=1----");
-    equal("new where there is one", cookie_store_new(&store), COOKIE_STORE_HAS_STORE);
+    equal("new where there is one", cookie_store_new(&store, "", 0), COOKIE_STORE_HAS_STORE);
     cookie_store_free(&store);
 }
 
@@ -343,7 +343,7 @@ static void test_no_store(void) {
         equal("nothing is needed of none", (long)(needed + other), 0);
         for (size_t at = 0; at < sizeof FORMS / sizeof *FORMS; at++)
             equal("save none", FORMS[at].save(&store, NOW, true, out, sizeof out, &needed), COOKIE_STORE_NO_STORE);
-        cookie_store_new(&store);
+        cookie_store_new(&store, "", 0);
         set(&store, PAGE, "a=1", NOW);
         cookie_store_free(&store);
         cookie_store_free(&store);
@@ -380,7 +380,7 @@ static void test_memory(void) {
     for (int round = 0; round < 1000; round++) {
         cookie_store store = COOKIE_STORE_INIT;
         if (round == 500) before = used();
-        cookie_store_new(&store);
+        cookie_store_new(&store, "", 0);
         cookie_store_use_suffixes(&store, TEXT("com\nco.uk"), &needed);
         cookie_store_use_suffixes(&store, TEXT("com"), &needed);
         cookie_store_set_hash_key(&store, "0123456789abcdef", 16);
@@ -392,11 +392,11 @@ static void test_memory(void) {
         cookie_store_remove_expired(&store, NOW + 60, &other);
         cookie_store_remove(&store, TEXT("a.example"), TEXT("/d"), TEXT("a"));
         cookie_store_clear(&store);
-        cookie_store_load_json(&store, list, needed, NOW, true);
+        cookie_store_load_json(&store, "", 0, list, needed, NOW, true);
         cookie_store_free(&store);
-        cookie_store_load_json(&store, list, needed, NOW, true);
+        cookie_store_load_json(&store, "", 0, list, needed, NOW, true);
         cookie_store_free(&store);
-        cookie_store_load_json(&store, list, needed - 3, NOW, true);
+        cookie_store_load_json(&store, "", 0, list, needed - 3, NOW, true);
         cookie_store_free(&store);
     }
     /* What malloc keeps for itself moves a little; a block of 32 bytes, the least, in each round would be 16,000. */

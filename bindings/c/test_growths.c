@@ -20,13 +20,13 @@ static char json[4096], ron[4096];
 static size_t json_len, ron_len;
 
 static enum cookie_store_status fill(cookie_store *store) {
-    enum cookie_store_status status = cookie_store_new(store);
+    enum cookie_store_status status = cookie_store_new(store, "", 0);
     for (size_t at = 0; status <= COOKIE_STORE_INSERTED && at < sizeof TEXTS / sizeof *TEXTS; at++)
         status = cookie_store_set(store, TEXT(PAGE), TEXT(TEXTS[at]), NOW);
     return status;
 }
 
-static enum cookie_store_status begin(cookie_store *store) { return cookie_store_new(store); }
+static enum cookie_store_status begin(cookie_store *store) { return cookie_store_new(store, "", 0); }
 
 static enum cookie_store_status set_new(cookie_store *store) {
     return cookie_store_set(store, TEXT("http://b.example/x/y"), TEXT("d=4; Domain=b.example; Path=/x"), NOW);
@@ -59,7 +59,7 @@ static enum cookie_store_status save_ron(cookie_store *store) {
     return cookie_store_save_ron(store, NOW, true, out, sizeof out, &needed);
 }
 
-static enum cookie_store_status load_json(cookie_store *store) { return cookie_store_load_json(store, json, json_len, NOW, true); }
+static enum cookie_store_status load_json(cookie_store *store) { return cookie_store_load_json(store, "", 0, json, json_len, NOW, true); }
 
 static enum cookie_store_status remove_cookie(cookie_store *store) {
     return cookie_store_remove(store, TEXT("a.example"), TEXT("/d"), TEXT("a"));
@@ -70,7 +70,7 @@ static enum cookie_store_status remove_expired(cookie_store *store) {
     return cookie_store_remove_expired(store, NOW + 60, &removed);
 }
 
-static enum cookie_store_status load_ron(cookie_store *store) { return cookie_store_load_ron(store, ron, ron_len, NOW, true); }
+static enum cookie_store_status load_ron(cookie_store *store) { return cookie_store_load_ron(store, "", 0, ron, ron_len, NOW, true); }
 
 static const struct {
     const char *name;

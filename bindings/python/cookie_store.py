@@ -134,15 +134,14 @@ _TEXT = [ctypes.c_char_p, ctypes.c_size_t]
 _OUT = [ctypes.POINTER(ctypes.c_char), ctypes.c_size_t]
 _LENGTH = ctypes.POINTER(ctypes.c_size_t)
 _SAVE = (ctypes.c_int, [_AT, ctypes.c_int64, ctypes.c_bool, *_OUT, _LENGTH])
-_LOAD = (ctypes.c_int, [_AT, *_TEXT, ctypes.c_int64, ctypes.c_bool])
+_LOAD = (ctypes.c_int, [_AT, *_TEXT, *_TEXT, ctypes.c_int64, ctypes.c_bool])
 
 # What each call of the header answers and takes.
 _SIGNATURES = {
-    'cookie_store_new': (ctypes.c_int, [_AT]),
+    'cookie_store_new': (ctypes.c_int, [_AT, *_TEXT]),
     'cookie_store_free': (None, [_AT]),
     'cookie_store_use_suffixes': (ctypes.c_int, [_AT, *_TEXT, _LENGTH]),
     'cookie_store_set_domain_limit': (ctypes.c_int, [_AT, ctypes.c_size_t]),
-    'cookie_store_set_hash_key': (ctypes.c_int, [_AT, *_TEXT]),
     'cookie_store_set': (ctypes.c_int, [_AT, *_TEXT, *_TEXT, ctypes.c_int64]),
     'cookie_store_get': (ctypes.c_int, [_AT, *_TEXT, ctypes.c_int64, *_OUT, _LENGTH]),
     'cookie_store_remove': (ctypes.c_int, [_AT, *_TEXT, *_TEXT, *_TEXT]),
@@ -189,7 +188,6 @@ _new = _LIBRARY.cookie_store_new
 _free = _LIBRARY.cookie_store_free
 _use_suffixes = _LIBRARY.cookie_store_use_suffixes
 _set_domain_limit = _LIBRARY.cookie_store_set_domain_limit
-_set_hash_key = _LIBRARY.cookie_store_set_hash_key
 _set = _LIBRARY.cookie_store_set
 _get = _LIBRARY.cookie_store_get
 _remove = _LIBRARY.cookie_store_remove
@@ -202,6 +200,11 @@ _rows = _LIBRARY.cookie_store_rows
 def _bytes(text: Text) -> bytes:
     """What a call is handed of a text. A lone surrogate becomes no UTF-8, which the library refuses."""
     return text if isinstance(text, bytes) else text.encode('utf-8', 'surrogatepass')
+
+
+def _drawn_key() -> tuple[bytes, int]:
+    """A hash key that no server knows, and its length."""
+    return os.urandom(16), 16
 
 
 def _moment(now: Optional[int]) -> int:
@@ -237,11 +240,10 @@ class CookieStore:
         self._suffixes: Optional[bytes] = None
         self._limit: Optional[int] = None
         self._buffer = ctypes.create_string_buffer(4096)
-        _check(_new(self._at))
+        _check(_new(self._at, *_drawn_key()))
         self._finalizer = weakref.finalize(self, _free, self._at)
         # Another thread may still be in a call when the program ends.
         self._finalizer.atexit = False
-        self._draw_key()
 
     def close(self) -> None:
         """Frees the store. Then calls raise NO_STORE, and there are no cookies to count."""
@@ -253,10 +255,6 @@ class CookieStore:
 
     def __exit__(self, *_: object) -> None:
         self.close()
-
-    def _draw_key(self) -> None:
-        """The maps hash by a key that no server knows."""
-        _check(_set_hash_key(self._at, os.urandom(16), 16))
 
     def use_suffixes(self, text: Text) -> None:
         """Puts the store under the public suffix list of this text, in the format of publicsuffix.org. The cookies that it has stay.
@@ -391,8 +389,7 @@ class CookieStore:
     def _load(cls, call: Callable[..., int], text: Text, now: Optional[int], all: bool) -> CookieStore:
         saved, moment, store = _bytes(text), _moment(now), cls()
         _free(store._at)
-        _check(call(store._at, saved, len(saved), moment, all))
-        store._draw_key()
+        _check(call(store._at, *_drawn_key(), saved, len(saved), moment, all))
         return store
 
     def copy(self) -> CookieStore:

@@ -1,7 +1,9 @@
 //! A store as a Rust program has it: what it needs of `cookie_store.h` is declared here, behind a type that frees it.
 //! Compile with `rustc -L PREFIX/lib -l cookie_store`.
 
+use std::collections::hash_map::RandomState;
 use std::ffi::c_char;
+use std::hash::{BuildHasher, Hasher};
 use std::ptr;
 
 /// The numbers of the header that this program asks for.
@@ -16,7 +18,7 @@ struct Handle {
 }
 
 extern "C" {
-    fn cookie_store_new(store: *mut Handle) -> u32;
+    fn cookie_store_new(store: *mut Handle, key: *const c_char, key_len: usize) -> u32;
     fn cookie_store_free(store: *mut Handle);
     fn cookie_store_set(
         store: *mut Handle,
@@ -37,6 +39,12 @@ extern "C" {
     ) -> u32;
 }
 
+/// A hash key that no server knows.
+fn drawn_key() -> [u8; 16] {
+    let half = || u128::from(RandomState::new().build_hasher().finish());
+    (half() << 64 | half()).to_ne_bytes()
+}
+
 /// A cookie store. Its calls take it alone, also those that only ask.
 struct Store(Handle);
 
@@ -47,7 +55,8 @@ impl Store {
     /// Without cookies, or the status of why there is none.
     fn new() -> Result<Store, u32> {
         let mut handle = Handle { live: false, at: ptr::null_mut() };
-        match unsafe { cookie_store_new(&mut handle) } {
+        let key = drawn_key();
+        match unsafe { cookie_store_new(&mut handle, key.as_ptr().cast(), key.len()) } {
             OK => Ok(Store(handle)),
             status => Err(status),
         }

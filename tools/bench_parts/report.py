@@ -10,6 +10,7 @@ from bench_parts.programs import ROOT, output
 
 IDLE = 0.5  # the greatest load average of an idle machine
 
+
 @dataclass
 class Table:
     title: str

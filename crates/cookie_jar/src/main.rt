@@ -11,7 +11,7 @@
 use cookie_device::Counted;
 use cookie_psl::List;
 use cookie_script::fault::MainFault;
-use cookie_script::{HashKey, arguments, convert, fault, run, suffixes};
+use cookie_script::{HashKey, StoreAlloc, arguments, convert, fault, run, suffixes};
 use std::hash::RandomState;
 use std::process::ExitCode;
 use std::{env, fs};
@@ -33,24 +33,21 @@ fn work(rt: &HostRuntime) -> Result<(), MainFault> {
         .collect(rt.alloc())?;
     let own = arguments::own_words(words.as_slice());
     let options = arguments::options(own)?;
+    let hash_key = HashKey::Drawn(RandomState::new(rt).map_err(fault::draw_fault)?);
+    let alloc = StoreAlloc {
+        alloc: rt.alloc(),
+        hash_key,
+    };
     let mut source = Counted::new(rt.stdin());
     let mut sink = Counted::new(rt.stdout());
     if options.convert {
-        return Ok(convert::convert(rt.alloc(), &mut source, &mut sink)?);
+        return Ok(convert::convert(alloc, &mut source, &mut sink)?);
     }
     let list = match options.suffixes {
         Some(file) => Some(read_list(rt, file)?),
         None => None,
     };
-    let hash_key = HashKey::Drawn(RandomState::new(rt).map_err(fault::draw_fault)?);
-    Ok(run::run(
-        rt.alloc(),
-        &mut source,
-        &mut sink,
-        list,
-        options.limit,
-        hash_key,
-    )?)
+    Ok(run::run(alloc, &mut source, &mut sink, list, options.limit)?)
 }
 
 // The public suffix list of a file.

@@ -13,7 +13,7 @@ mod rows;
 mod search;
 mod texts;
 
-pub use hashing::HashKey;
+pub use hashing::{HashKey, StoreAlloc};
 pub use iter::{IterAny, IterUnexpired};
 pub use request::{RequestCookies, RequestValues};
 pub use rows::Rows;

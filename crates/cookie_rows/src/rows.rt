@@ -20,7 +20,7 @@ ghost use Rattle.cookie_rows.specs.Turns.{is_single_paths, passing, passing_grou
 
 use crate::boxed::BoxedCookie;
 use crate::copying::rehashed_table;
-use crate::hashing::HashKey;
+use crate::hashing::{HashKey, StoreAlloc};
 use crate::iter::{IterAny, IterUnexpired, count_rows};
 use crate::paths::Paths;
 use crate::request::{RequestCookies, RequestValues};
@@ -66,19 +66,12 @@ impl Clone for Rows {
 }
 
 impl Rows {
-    /// No rows, in maps that hash by the fixed key.
-    pub fn new(alloc: Global) -> Rows
-        ensures { result ≡ record { rows = []; made = [] } }
-    {
-        Rows::with_hash_key(alloc, HashKey::Fixed)
-    }
-
-    /// No rows, in maps that hash by this key.
-    pub fn with_hash_key(alloc: Global, hash_key: HashKey) -> Rows
+    /// No rows.
+    pub fn new(alloc: StoreAlloc) -> Rows
         ensures { result ≡ record { rows = []; made = [] } }
     {
         Rows {
-            groups: IndexMap::with_hasher(alloc, hash_key),
+            groups: IndexMap::with_hasher(alloc.alloc, alloc.hash_key),
             made: 0,
         }
     }
@@ -87,7 +80,7 @@ impl Rows {
     /// first error that the iterator gives, or `Memory`, which comes only at a cookie that would be a new row, and asks for no
     /// item after that.
     pub fn from_cookies<I: Iterator<Item = Result<Cookie<'static>, Error>> + Drop>(
-        alloc: Global,
+        alloc: StoreAlloc,
         mut cookies: I,
         include_expired: bool,
         now: DateTime,
@@ -338,7 +331,7 @@ impl Rows {
 
 // The rows of the cookies that are left. The error, and the cookie that finds no room, are the last item that is taken.
 fn build<I: Iterator<Item = Result<Cookie<'static>, Error>>>(
-    alloc: Global,
+    alloc: StoreAlloc,
     cookies: &mut I,
     include_expired: bool,
     now: DateTime,

@@ -11,7 +11,7 @@ use Rattle.cookie_store.specs.declared.serde.migration.MigrateError.TheVariants 
 use Rattle.cookie_script.specs.declared.fault.ConvertFault.{ConvertFault}
 use Rattle.cookie_script.specs.declared.fault.ConvertFault.TheVariants as Conversion
 use Rattle.cookie_script.specs.declared.fault.MainFault.{MainFault}
-use Rattle.cookie_script.specs.declared.fault.MainFault.TheVariants.{BadArguments, CannotReadList, BadRule, Run, Convert}
+use Rattle.cookie_script.specs.declared.fault.MainFault.TheVariants.{BadArguments, CannotReadList, BadRule, CannotDrawKey, Run, Convert}
 use Rattle.cookie_script.specs.declared.fault.RunFault.{RunFault}
 use Rattle.cookie_script.specs.declared.fault.RunFault.TheVariants.{Read, Write, Memory}
 
@@ -20,6 +20,7 @@ abbrev pub status_of : MainFault → ℕ
 status_of BadArguments = 2
 status_of CannotReadList = 2
 status_of (BadRule line) = 2
+status_of CannotDrawKey = 1
 status_of (Run Read) = 1
 status_of (Run Write) = 1
 status_of (Run Memory) = 3
@@ -46,6 +47,7 @@ abbrev pub fault_text : MainFault → List ℕ
 fault_text BadArguments = codes "cookie_jar: bad arguments"
 fault_text CannotReadList = codes "cookie_jar: cannot read list"
 fault_text (BadRule line) = codes "cookie_jar: bad rule in line " ++ decimal line
+fault_text CannotDrawKey = codes "cookie_jar: cannot draw a hash key"
 fault_text (Run fault) = codes "cookie_jar: " ++ run_fault_text fault
 fault_text (Convert fault) = codes "cookie_jar: " ++ convert_fault_text fault
 

@@ -8,15 +8,14 @@ ghost use Rattle.cookie_store.specs.Migration.{FailsToMigrate};
 
 use crate::fault::ConvertFault;
 use cookie_device::{Sink, Source};
-use cookie_store::Error;
 use cookie_store::serde::{migrate_lines, ron};
-use std::alloc::Global;
+use cookie_store::{Error, StoreAlloc};
 
 /// Reads every line of the source as a saved cookie in JSON, those that have ended too, and writes the rows that they make as a list
 /// in RON, and a line feed. Nothing is written before all lines are read and the whole list is made. Where a write failed, a beginning
 /// of it was written.
-pub fn convert<R: Source, W: Sink>(
-    alloc: Global,
+pub fn convert<A: Into<StoreAlloc>, R: Source, W: Sink>(
+    alloc: A,
     source: &mut R,
     sink: &mut W,
 ) -> Result<(), ConvertFault>

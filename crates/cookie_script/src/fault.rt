@@ -122,6 +122,8 @@ pub enum MainFault {
     CannotReadList,
     /// This line of the public suffix list, counted from 1, is the first that is no rule.
     BadRule(usize),
+    /// The system gave no random bytes for the hash key.
+    CannotDrawKey,
     /// The script was not run to its end.
     Run(RunFault),
     /// Lines of JSON were not converted.
@@ -129,13 +131,14 @@ pub enum MainFault {
 }
 
 impl MainFault {
-    /// The exit status: 1 where a read or a write of the script or of a conversion failed, 2 for bad arguments, a list that cannot
-    /// be read or has a bad rule and a line that is no saved cookie, 3 where there was no memory.
+    /// The exit status: 1 where a read or a write of the script or of a conversion failed, or no hash key could be drawn, 2 for bad
+    /// arguments, a list that cannot be read or has a bad rule and a line that is no saved cookie, 3 where there was no memory.
     pub fn status(&self) -> u8
         ensures { result ≡ status_of self.now }
     {
         match self {
             MainFault::BadArguments | MainFault::CannotReadList | MainFault::BadRule(_) => 2,
+            MainFault::CannotDrawKey => 1,
             MainFault::Run(RunFault::Read | RunFault::Write) => 1,
             MainFault::Run(RunFault::Memory) => 3,
             MainFault::Convert(ConvertFault::Read | ConvertFault::Write) => 1,
@@ -189,11 +192,11 @@ impl From<ListError> for MainFault {
     }
 }
 
-/// What it is that no hash key could be drawn: a read from the system that failed.
+/// Why no hash key could be drawn.
 pub fn draw_fault(_error: io::Error) -> MainFault
-    ensures { result ≡ MainFault.Run RunFault.Read }
+    ensures { result ≡ MainFault.CannotDrawKey }
 {
-    MainFault::Run(RunFault::Read)
+    MainFault::CannotDrawKey
 }
 
 /// The whole text that goes to standard error, but for its line feed.
@@ -208,6 +211,7 @@ impl fmt::Display for MainFault {
             MainFault::BadArguments => f.write_str("cookie_jar: bad arguments"),
             MainFault::CannotReadList => f.write_str("cookie_jar: cannot read list"),
             MainFault::BadRule(line) => write!(f, "cookie_jar: bad rule in line {line}"),
+            MainFault::CannotDrawKey => f.write_str("cookie_jar: cannot draw a hash key"),
             MainFault::Run(fault) => write!(f, "cookie_jar: {fault}"),
             MainFault::Convert(fault) => write!(f, "cookie_jar: {fault}"),
         }

@@ -9,7 +9,7 @@ ghost use Rattle.cookie_script.specs.Script.{command_turn, empty, start, turn};
 use crate::answer::Answer;
 use crate::command::{Command, read_command};
 use cookie_store::psl::List;
-use cookie_store::{CookieError, CookieStore, HashKey, InsertResult, Reply};
+use cookie_store::{CookieError, CookieStore, InsertResult, Reply, StoreAlloc};
 use jiff::civil::{DateTime, date};
 use std::alloc::{AllocError, Global};
 use std::marker::Model;
@@ -47,12 +47,12 @@ impl Model for Jar {
 }
 
 impl Jar {
-    /// An empty store under the list and the limit, if there are any, whose maps hash by this key, at the epoch.
-    pub fn new(alloc: Global, list: Option<List>, limit: Option<usize>, hash_key: HashKey) -> Jar
+    /// An empty store under the list and the limit, if there are any, at the epoch.
+    pub fn new(alloc: StoreAlloc, list: Option<List>, limit: Option<usize>) -> Jar
         requires { IfSome limit (λ limit. 1 ≤ limit) }
         ensures { result ≡ start (empty list limit) }
     {
-        let store = CookieStore::with_hash_key(alloc, hash_key);
+        let store = CookieStore::with_hash_key(alloc.alloc, alloc.hash_key);
         let store = match list {
             Some(list) => store.with_suffix_list(list),
             None => store,

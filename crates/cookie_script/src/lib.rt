@@ -15,4 +15,4 @@ pub mod options;
 pub mod run;
 pub mod suffixes;
 
-pub use cookie_store::HashKey;
+pub use cookie_store::{HashKey, StoreAlloc};

@@ -10,21 +10,19 @@ ghost use Rattle.cookie_script.specs.Script.{empty, output_of, turn};
 use crate::fault::RunFault;
 use crate::jar::Jar;
 use cookie_device::{LineBuffer, Output, Sink, Source};
-use cookie_store::HashKey;
+use cookie_store::StoreAlloc;
 use cookie_store::psl::List;
 use std::alloc::Global;
 
 /// Runs the script that the source gives, and writes its answers to the sink. The store obeys the public suffix list and the limit
-/// of cookies for each domain, if there are any, and its maps hash by the key, which changes no answer. Where a read failed, the answers to all whole lines
-/// that were read went out, and nothing else. Where memory ran out, those did, or the answers to the lines before one that
-/// may want memory.
-pub fn run<R: Source, W: Sink>(
-    alloc: Global,
+/// of cookies for each domain, if there are any. Where a read failed, the answers to all whole lines that were read went out, and
+/// nothing else. Where memory ran out, those did, or the answers to the lines before one that may want memory.
+pub fn run<A: Into<StoreAlloc>, R: Source, W: Sink>(
+    alloc: A,
     source: &mut R,
     sink: &mut W,
     list: Option<List>,
     limit: Option<usize>,
-    hash_key: HashKey,
 ) -> Result<(), RunFault>
     requires limit { IfSome limit (λ limit. 1 ≤ limit) }
     requires readable { R.failed source.old < 2 ^ 64 - 1 }
@@ -43,8 +41,9 @@ pub fn run<R: Source, W: Sink>(
     ensures reads { IfSome (R.remaining source.old) (λ input.
         R.reads_left source.old ≤ R.reads_left source.new + length input + 1) }
 {
-    let mut out = Output::new(alloc)?;
-    match answer_lines(alloc, source, &mut out, sink, list, limit, hash_key) {
+    let alloc = alloc.into();
+    let mut out = Output::new(alloc.alloc)?;
+    match answer_lines(alloc, source, &mut out, sink, list, limit) {
         Err(RunFault::Memory) => {
             out.flush(sink)?;
             Err(RunFault::Memory)
@@ -56,13 +55,12 @@ pub fn run<R: Source, W: Sink>(
 
 // Answers the lines that the source gives, up to its end.
 fn answer_lines<R: Source, W: Sink>(
-    alloc: Global,
+    alloc: StoreAlloc,
     source: &mut R,
     out: &mut Output,
     sink: &mut W,
     list: Option<List>,
     limit: Option<usize>,
-    hash_key: HashKey,
 ) -> Result<(), RunFault>
     requires limit { IfSome limit (λ limit. 1 ≤ limit) }
     requires readable { R.failed source.old < 2 ^ 64 - 1 }
@@ -81,11 +79,11 @@ fn answer_lines<R: Source, W: Sink>(
     ensures reads { IfSome (R.remaining source.old) (λ input.
         R.reads_left source.old ≤ R.reads_left source.new + length input + 1) }
 {
-    let mut input = LineBuffer::new(alloc);
-    let mut jar = Jar::new(alloc, list, limit, hash_key);
+    let mut input = LineBuffer::new(alloc.alloc);
+    let mut jar = Jar::new(alloc, list, limit);
     'lines: loop {
         if let Some(end) = input.line_end() {
-            answer_line(alloc, &mut jar, input.line(end), out, sink)?;
+            answer_line(alloc.alloc, &mut jar, input.line(end), out, sink)?;
             input.pass(end + 1);
         } else {
             // Who drives the other end has each answer before the next line has to come.
@@ -98,7 +96,7 @@ fn answer_lines<R: Source, W: Sink>(
     if input.rest().is_empty() {
         return Ok(());
     }
-    answer_line(alloc, &mut jar, input.rest(), out, sink)
+    answer_line(alloc.alloc, &mut jar, input.rest(), out, sink)
 }
 
 // Does what a line asks, and gathers its answer.

@@ -2,7 +2,6 @@
 use crate::scripts::{HOSTS, HOSTS_OUTPUT, output};
 use cookie_device::Counted;
 use cookie_fakes::Fake;
-use cookie_script::HashKey;
 use cookie_script::fault::RunFault;
 use cookie_script::run::run;
 use std::alloc::Global;
@@ -16,7 +15,7 @@ fn read_from<'a>(
 ) -> (Result<(), RunFault>, Vec<u8>, Fake<&'a [u8]>) {
     let mut source = Counted::new(fake);
     let mut sink = Counted::new(Vec::new(alloc));
-    let outcome = run(alloc, &mut source, &mut sink, None, None, HashKey::Fixed);
+    let outcome = run(alloc, &mut source, &mut sink, None, None);
     (outcome, sink.into_inner(), source.into_inner())
 }
 
@@ -24,7 +23,7 @@ fn read_from<'a>(
 fn written_to(alloc: Global, fake: Fake<Vec<u8>>) -> (Result<(), RunFault>, Fake<Vec<u8>>) {
     let mut source = Counted::new(HOSTS);
     let mut sink = Counted::new(fake);
-    let outcome = run(alloc, &mut source, &mut sink, None, None, HashKey::Fixed);
+    let outcome = run(alloc, &mut source, &mut sink, None, None);
     (outcome, sink.into_inner())
 }
 

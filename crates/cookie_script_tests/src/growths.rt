@@ -2,7 +2,6 @@
 use crate::lists::LIST;
 use cookie_device::Counted;
 use cookie_psl::List;
-use cookie_script::HashKey;
 use cookie_script::fault::{MainFault, RunFault};
 use cookie_script::run::run;
 use cookie_script::suffixes::list_of;
@@ -52,7 +51,7 @@ fn run_into(alloc: Global, room: &mut [u8]) -> (Result<(), RunFault>, usize) {
     let size = room.len();
     let mut source = Counted::new(SCRIPT);
     let mut sink = Counted::new(room);
-    let outcome = run(alloc, &mut source, &mut sink, None, None, HashKey::Fixed);
+    let outcome = run(alloc, &mut source, &mut sink, None, None);
     (outcome, size.saturating_sub(sink.into_inner().len()))
 }
 

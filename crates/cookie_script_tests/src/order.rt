@@ -1,7 +1,6 @@
 //! When answers go out.
 use cookie_device::Counted;
 use cookie_fakes::Fake;
-use cookie_script::HashKey;
 use cookie_script::fault::RunFault;
 use cookie_script::run::run;
 use std::alloc::{AllocError, Global};
@@ -80,7 +79,7 @@ fn seen_at_reads(
         calls: 0,
     });
     let mut sink = Counted::new(CountingWriter { out });
-    run(alloc, &mut source, &mut sink, None, None, HashKey::Fixed)?;
+    run(alloc, &mut source, &mut sink, None, None)?;
     let reader = source.into_inner();
     Ok((reader.seen, reader.calls))
 }
@@ -115,7 +114,7 @@ fn repeated(
 fn calls_of(alloc: Global, script: &[u8]) -> Result<(usize, usize, usize), RunFault> {
     let mut source = Counted::new(Fake::new(script, 4_096, 0));
     let mut sink = Counted::new(Fake::new(Vec::new(alloc), usize::MAX, 0));
-    run(alloc, &mut source, &mut sink, None, None, HashKey::Fixed)?;
+    run(alloc, &mut source, &mut sink, None, None)?;
     let writer = sink.into_inner();
     Ok((source.into_inner().calls, writer.calls, writer.inner.len()))
 }

@@ -3,7 +3,6 @@ ghost use Rattle.std.specs.Prelude.{◌≤◌, IfSome};
 
 use cookie_device::Counted;
 use cookie_psl::List;
-use cookie_script::HashKey;
 use cookie_script::run::run;
 use std::alloc::Global;
 use std::process::Abort;
@@ -240,7 +239,7 @@ pub fn output(
 {
     let mut source = Counted::new(script);
     let mut sink = Counted::new(Vec::new(alloc));
-    run(alloc, &mut source, &mut sink, list, limit, HashKey::Fixed)?;
+    run(alloc, &mut source, &mut sink, list, limit)?;
     Ok(sink.into_inner())
 }
 

@@ -153,10 +153,15 @@ fn what_cannot_be_read_is_a_fault(rt: HostRuntime) {
     }
 }
 
-static FAULTS: [(MainFault, u8, &str); 10] = [
+static FAULTS: [(MainFault, u8, &str); 11] = [
     (MainFault::BadArguments, 2, "cookie_jar: bad arguments"),
     (MainFault::CannotReadList, 2, "cookie_jar: cannot read list"),
     (MainFault::BadRule(17), 2, "cookie_jar: bad rule in line 17"),
+    (
+        MainFault::CannotDrawKey,
+        1,
+        "cookie_jar: cannot draw a hash key",
+    ),
     (MainFault::Run(RunFault::Read), 1, "cookie_jar: read failed"),
     (
         MainFault::Run(RunFault::Write),

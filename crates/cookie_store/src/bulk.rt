@@ -21,9 +21,10 @@ use crate::{CookieStore, InsertResult};
 use cookie_device::{Sink, Source};
 use cookie_parts::{Cookie, CookieError, Error, StoreResult};
 use cookie_raw::RawCookie;
+use cookie_rows::StoreAlloc;
 use jiff::civil::DateTime;
 use log::Log;
-use std::alloc::{AllocError, Global};
+use std::alloc::AllocError;
 use url::Url;
 
 /// What a [`CookieStore`] does with many cookies at once: it writes them as lines, reads them from lines, and takes those of a
@@ -121,8 +122,8 @@ pub trait Bulk: Drop {
     /// feed, of which a carriage return before is a part, and the last line may go without. Answers `Io` where the reader
     /// failed, `NotUtf8` at a line that is no UTF-8, the first error that the function answers, or `Memory`, where there was no
     /// room for a cookie that the function made, or for more of the reader's bytes.
-    final fn load<R: Source, F: Fn(&str) -> Result<Cookie<'_>, Error>>(
-        alloc: Global,
+    final fn load<A: Into<StoreAlloc>, R: Source, F: Fn(&str) -> Result<Cookie<'_>, Error>>(
+        alloc: A,
         reader: &mut R,
         cookie_from_str: F,
         now: DateTime,
@@ -139,13 +140,14 @@ pub trait Bulk: Drop {
             (R.reads_left reader.old) (R.reads_left reader.new)) }
         ensures reads { ReadsEachOnce (R.remaining reader.old) (R.reads_left reader.old) (R.reads_left reader.new) }
     {
+        let alloc = alloc.into();
         let rows = load_rows(alloc, reader, cookie_from_str, false, now)?;
-        Ok(Self::of_store(CookieStore::of_rows(alloc, rows)))
+        Ok(Self::of_store(CookieStore::of_rows(alloc.alloc, rows)))
     }
 
     /// The same, where cookies that have ended are kept. The moment is not looked at.
-    final fn load_all<R: Source, F: Fn(&str) -> Result<Cookie<'_>, Error>>(
-        alloc: Global,
+    final fn load_all<A: Into<StoreAlloc>, R: Source, F: Fn(&str) -> Result<Cookie<'_>, Error>>(
+        alloc: A,
         reader: &mut R,
         cookie_from_str: F,
         now: DateTime,
@@ -162,14 +164,19 @@ pub trait Bulk: Drop {
             (R.reads_left reader.old) (R.reads_left reader.new)) }
         ensures reads { ReadsEachOnce (R.remaining reader.old) (R.reads_left reader.old) (R.reads_left reader.new) }
     {
+        let alloc = alloc.into();
         let rows = load_rows(alloc, reader, cookie_from_str, true, now)?;
-        Ok(Self::of_store(CookieStore::of_rows(alloc, rows)))
+        Ok(Self::of_store(CookieStore::of_rows(alloc.alloc, rows)))
     }
 
     /// [`load`](Self::load) of lines that are saved forms of cookies as JSON. At a line answers `Saved(Json)` where it is no JSON,
     /// `Saved(Shape)` where its tree is not of the form, or holds a float, `Saved(Moment)` where only its end is no moment, and
     /// `Cookie(Parse)` where only its text is no cookie.
-    final fn load_json<R: Source>(alloc: Global, reader: &mut R, now: DateTime) -> StoreResult<Self>
+    final fn load_json<A: Into<StoreAlloc>, R: Source>(
+        alloc: A,
+        reader: &mut R,
+        now: DateTime,
+    ) -> StoreResult<Self>
         requires readable { R.failed reader.old < 2 ^ 64 - 1 }
         ensures built { IfOk result (λ store. BuildsFrom MakesJson (R.remaining reader.old) false (moment_of now) (kept_of (contents store))) }
         ensures suffixes { IfOk result (λ store. (contents store).suffixes ≡ None) }
@@ -180,13 +187,14 @@ pub trait Bulk: Drop {
             (R.reads_left reader.old) (R.reads_left reader.new)) }
         ensures reads { ReadsEachOnce (R.remaining reader.old) (R.reads_left reader.old) (R.reads_left reader.new) }
     {
+        let alloc = alloc.into();
         let rows = load_json_rows(alloc, reader, false, now)?;
-        Ok(Self::of_store(CookieStore::of_rows(alloc, rows)))
+        Ok(Self::of_store(CookieStore::of_rows(alloc.alloc, rows)))
     }
 
     /// The same, where cookies that have ended are kept. The moment is not looked at.
-    final fn load_json_all<R: Source>(
-        alloc: Global,
+    final fn load_json_all<A: Into<StoreAlloc>, R: Source>(
+        alloc: A,
         reader: &mut R,
         now: DateTime,
     ) -> StoreResult<Self>
@@ -200,8 +208,9 @@ pub trait Bulk: Drop {
             (R.reads_left reader.old) (R.reads_left reader.new)) }
         ensures reads { ReadsEachOnce (R.remaining reader.old) (R.reads_left reader.old) (R.reads_left reader.new) }
     {
+        let alloc = alloc.into();
         let rows = load_json_rows(alloc, reader, true, now)?;
-        Ok(Self::of_store(CookieStore::of_rows(alloc, rows)))
+        Ok(Self::of_store(CookieStore::of_rows(alloc.alloc, rows)))
     }
 
     /// Takes the cookies of a response that came from the URL at the moment, one after the other, as

@@ -24,7 +24,9 @@ use cookie_lookup::Lookups;
 use cookie_parts::{Cookie, CookieError, CookieResult, Error, StoreAction, StoreResult};
 use cookie_psl::List;
 use cookie_raw::RawCookie;
-use cookie_rows::{HashKey, IterAny, IterUnexpired, RequestCookies, RequestValues, Rows};
+use cookie_rows::{
+    HashKey, IterAny, IterUnexpired, RequestCookies, RequestValues, Rows, StoreAlloc,
+};
 use jiff::civil::DateTime;
 use std::alloc::{AllocError, Global};
 use std::marker::Model;
@@ -87,7 +89,7 @@ impl CookieStore {
     pub fn with_hash_key(alloc: Global, hash_key: HashKey) -> CookieStore
         ensures { result ≡ record { rows = []; made = []; suffixes = None; limit = None } }
     {
-        CookieStore::of_rows(alloc, Rows::with_hash_key(alloc, hash_key))
+        CookieStore::of_rows(alloc, Rows::new(StoreAlloc { alloc, hash_key }))
     }
 
     /// A store without cookies, under the public suffix list if there is one.
@@ -96,7 +98,7 @@ impl CookieStore {
     {
         CookieStore {
             alloc,
-            rows: Rows::new(alloc),
+            rows: Rows::new(alloc.into()),
             suffixes,
             limit: None,
         }
@@ -129,12 +131,10 @@ impl CookieStore {
     /// public suffix list. Those that have ended are passed over unless `include_expired`. Answers the first error that the
     /// iterator gives, or `Memory`, which comes only at a cookie that would enter and take no earlier one's place, and asks for
     /// no item after that.
-    pub fn from_cookies<I: Iterator<Item = Result<Cookie<'static>, Error>> + Drop>(
-        alloc: Global,
-        cookies: I,
-        include_expired: bool,
-        now: DateTime,
-    ) -> Result<CookieStore, Error>
+    pub fn from_cookies<
+        A: Into<StoreAlloc>,
+        I: Iterator<Item = Result<Cookie<'static>, Error>> + Drop,
+    >(alloc: A, cookies: I, include_expired: bool, now: DateTime) -> Result<CookieStore, Error>
         requires can { I.can_next cookies }
         requires ends { IsFinite (I.remaining cookies) }
         ensures built { IfOk result (λ store. Builds I.next_gives cookies include_expired (moment_of now) (kept_of store)) }
@@ -144,8 +144,9 @@ impl CookieStore {
             ((error ≡ Error.Memory) × WantsRoom I.next_gives cookies include_expired (moment_of now))
             ⊎ FailsFirst I.next_gives cookies error) }
     {
+        let alloc = alloc.into();
         let rows = Rows::from_cookies(alloc, cookies, include_expired, now)?;
-        Ok(CookieStore::of_rows(alloc, rows))
+        Ok(CookieStore::of_rows(alloc.alloc, rows))
     }
 
     /// Takes the cookie of a Set-Cookie text that came from the URL at the moment: the cookie that

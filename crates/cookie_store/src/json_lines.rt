@@ -16,7 +16,7 @@ use crate::saving::save_rows;
 use cookie_device::{Sink, Source};
 use cookie_forms::{SavedError, from_value, laws, to_value};
 use cookie_parts::{Cookie, CookieExpiration, Error};
-use cookie_rows::Rows;
+use cookie_rows::{Rows, StoreAlloc};
 use jiff::civil::DateTime;
 use serde_json::Value;
 use std::alloc::Global;
@@ -68,7 +68,7 @@ pub(crate) fn ends_early(cookie: &Cookie<'_>) -> bool
 
 /// The rows of the cookies whose saved form the lines of the source are, as JSON, all or those that have not ended.
 pub(crate) fn load_json_rows<R: Source>(
-    alloc: Global,
+    alloc: StoreAlloc,
     source: &mut R,
     include_expired: bool,
     now: DateTime,
@@ -86,7 +86,7 @@ pub(crate) fn load_json_rows<R: Source>(
 
 /// The same, where the fault tells the number of the line.
 pub(crate) fn numbered_json_rows<R: Source>(
-    alloc: Global,
+    alloc: StoreAlloc,
     source: &mut R,
     include_expired: bool,
     now: DateTime,
@@ -104,7 +104,7 @@ pub(crate) fn numbered_json_rows<R: Source>(
         source,
         |line: &str| -> Result<Cookie<'_>, Error>
             ensures { MakesJson line.now result }
-        { cookie_of_json_line(alloc, line) },
+        { cookie_of_json_line(alloc.alloc, line) },
         include_expired,
         now,
     )

@@ -26,5 +26,5 @@ pub use cookie_parts::{
 pub use cookie_psl as psl;
 pub use cookie_raw as raw;
 pub use cookie_raw::{RawCookie, RawCookieParseError};
-pub use cookie_rows::{HashKey, IterAny, IterUnexpired, RequestCookies, RequestValues};
+pub use cookie_rows::{HashKey, IterAny, IterUnexpired, RequestCookies, RequestValues, StoreAlloc};
 pub use cookie_store::{CookieStore, InsertResult};

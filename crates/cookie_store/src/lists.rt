@@ -12,7 +12,7 @@ ghost use Rattle.cookie_store.specs.Saving.{is_among, line_text};
 use crate::saving::is_among;
 use cookie_device::{FillError, Sink, Source, read_all, write_line};
 use cookie_parts::{Cookie, Error};
-use cookie_rows::Rows;
+use cookie_rows::{Rows, StoreAlloc};
 use jiff::civil::DateTime;
 use std::alloc::{AllocError, Global};
 
@@ -73,7 +73,7 @@ pub(crate) fn write_text<W: Sink>(sink: &mut W, text: &String) -> Result<(), Err
 
 /// The rows of the cookies that the function makes of all that the source gives, all or those that have not ended.
 pub(crate) fn load_list<R: Source, F: Fn(&str) -> Result<Vec<Cookie<'_>>, Error>>(
-    alloc: Global,
+    alloc: StoreAlloc,
     source: &mut R,
     cookies_of: F,
     include_expired: bool,
@@ -89,7 +89,7 @@ pub(crate) fn load_list<R: Source, F: Fn(&str) -> Result<Vec<Cookie<'_>>, Error>
         (R.reads_left source.old) (R.reads_left source.new)) }
     ensures reads { ReadsEachOnce (R.remaining source.old) (R.reads_left source.old) (R.reads_left source.new) }
 {
-    let bytes = read_bytes(alloc, source)?;
+    let bytes = read_bytes(alloc.alloc, source)?;
     let cookies = made_of(&bytes, &cookies_of)?;
     rows_of(alloc, cookies, include_expired, now)
 }
@@ -130,7 +130,7 @@ fn made_of<'l, F: Fn(&str) -> Result<Vec<Cookie<'_>>, Error>>(
 
 /// The rows of the cookies, put one after the other, all or those that have not ended. Memory is wanted only where there is one.
 pub(crate) fn rows_of(
-    alloc: Global,
+    alloc: StoreAlloc,
     cookies: Vec<Cookie<'_>>,
     include_expired: bool,
     now: DateTime,
@@ -139,6 +139,7 @@ pub(crate) fn rows_of(
     ensures memory { IfErr result (λ error. (error ≡ Error.Memory) × (cookies.entry.items ≢ [])) }
 {
     let mut rows = Rows::new(alloc);
+    let alloc = alloc.alloc;
     for cookie in cookies {
         let cookie = cookie.into_owned(alloc)?;
         rows.take(cookie, include_expired, now)?;

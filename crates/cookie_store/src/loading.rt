@@ -8,7 +8,7 @@ ghost use Rattle.cookie_store.specs.Loading.{BuildsFrom, FailsAtLine, FailsToLoa
 
 use cookie_device::{FillError, LineBuffer, Source};
 use cookie_parts::{Cookie, Error};
-use cookie_rows::Rows;
+use cookie_rows::{Rows, StoreAlloc};
 use jiff::civil::DateTime;
 use std::alloc::Global;
 
@@ -48,7 +48,7 @@ impl From<LoadFault> for Error {
 
 /// The rows of the cookies that the function makes of the lines of the source, all or those that have not ended.
 pub(crate) fn load_rows<R: Source, F: Fn(&str) -> Result<Cookie<'_>, Error>>(
-    alloc: Global,
+    alloc: StoreAlloc,
     source: &mut R,
     cookie_of: F,
     include_expired: bool,
@@ -69,7 +69,7 @@ pub(crate) fn load_rows<R: Source, F: Fn(&str) -> Result<Cookie<'_>, Error>>(
 
 /// The same, where the fault tells the number of the line.
 pub(crate) fn numbered_rows<R: Source, F: Fn(&str) -> Result<Cookie<'_>, Error>>(
-    alloc: Global,
+    alloc: StoreAlloc,
     source: &mut R,
     cookie_of: F,
     include_expired: bool,
@@ -85,7 +85,7 @@ pub(crate) fn numbered_rows<R: Source, F: Fn(&str) -> Result<Cookie<'_>, Error>>
         (R.reads_left source.old) (R.reads_left source.new)) }
     ensures reads { ReadsEachOnce (R.remaining source.old) (R.reads_left source.old) (R.reads_left source.new) }
 {
-    let mut input = LineBuffer::new(alloc);
+    let mut input = LineBuffer::new(alloc.alloc);
     let mut rows = Rows::new(alloc);
     let mut number: u64 = 1;
     'lines: loop {
@@ -93,7 +93,7 @@ pub(crate) fn numbered_rows<R: Source, F: Fn(&str) -> Result<Cookie<'_>, Error>>
             let line = input.line(end);
             take_numbered(
                 &mut rows,
-                alloc,
+                alloc.alloc,
                 line,
                 number,
                 &cookie_of,
@@ -110,7 +110,7 @@ pub(crate) fn numbered_rows<R: Source, F: Fn(&str) -> Result<Cookie<'_>, Error>>
     if !line.is_empty() {
         take_numbered(
             &mut rows,
-            alloc,
+            alloc.alloc,
             line,
             number,
             &cookie_of,

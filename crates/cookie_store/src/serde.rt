@@ -12,8 +12,8 @@ use crate::lists::{load_list, save_copies};
 use crate::{Bulk, CookieStore};
 use cookie_device::{Sink, Source};
 use cookie_parts::{Cookie, Error, StoreResult};
+use cookie_rows::StoreAlloc;
 use jiff::civil::DateTime;
-use std::alloc::Global;
 
 mod forms;
 pub mod json;
@@ -74,8 +74,8 @@ pub fn save_incl_expired_and_nonpersistent<
 /// path and name, without a public suffix list. Those that have ended are passed over. Answers `Io` where the reader failed, `NotUtf8`
 /// where the text is no UTF-8, the error that the function answers, or `Memory`, where there was no room for the text or for a
 /// cookie that the function made.
-pub fn load<S: Bulk, R: Source, F: Fn(&str) -> Result<Vec<Cookie<'_>>, Error>>(
-    alloc: Global,
+pub fn load<S: Bulk, A: Into<StoreAlloc>, R: Source, F: Fn(&str) -> Result<Vec<Cookie<'_>>, Error>>(
+    alloc: A,
     reader: &mut R,
     cookies_from_str: F,
     now: DateTime,
@@ -92,17 +92,18 @@ pub fn load<S: Bulk, R: Source, F: Fn(&str) -> Result<Vec<Cookie<'_>>, Error>>(
         (R.reads_left reader.old) (R.reads_left reader.new)) }
     ensures reads { ReadsEachOnce (R.remaining reader.old) (R.reads_left reader.old) (R.reads_left reader.new) }
 {
+    let alloc = alloc.into();
     let rows = load_list(alloc, reader, cookies_from_str, false, now)?;
-    Ok(S::of_store(CookieStore::of_rows(alloc, rows)))
+    Ok(S::of_store(CookieStore::of_rows(alloc.alloc, rows)))
 }
 
 /// The same, where cookies that have ended are kept. The moment is not looked at.
-pub fn load_all<S: Bulk, R: Source, F: Fn(&str) -> Result<Vec<Cookie<'_>>, Error>>(
-    alloc: Global,
-    reader: &mut R,
-    cookies_from_str: F,
-    now: DateTime,
-) -> StoreResult<S>
+pub fn load_all<
+    S: Bulk,
+    A: Into<StoreAlloc>,
+    R: Source,
+    F: Fn(&str) -> Result<Vec<Cookie<'_>>, Error>,
+>(alloc: A, reader: &mut R, cookies_from_str: F, now: DateTime) -> StoreResult<S>
     requires callable { F.IsAlwaysCallable cookies_from_str }
     requires readable { R.failed reader.old < 2 ^ 64 - 1 }
     ensures built { IfOk result (λ store. BuildsFromList (MakesVec (FnReturnsAt F.Fn cookies_from_str)) (R.remaining reader.old)
@@ -115,6 +116,7 @@ pub fn load_all<S: Bulk, R: Source, F: Fn(&str) -> Result<Vec<Cookie<'_>>, Error
         (R.reads_left reader.old) (R.reads_left reader.new)) }
     ensures reads { ReadsEachOnce (R.remaining reader.old) (R.reads_left reader.old) (R.reads_left reader.new) }
 {
+    let alloc = alloc.into();
     let rows = load_list(alloc, reader, cookies_from_str, true, now)?;
-    Ok(S::of_store(CookieStore::of_rows(alloc, rows)))
+    Ok(S::of_store(CookieStore::of_rows(alloc.alloc, rows)))
 }

@@ -1,5 +1,5 @@
 //! Calls that change a store.
-ghost use Rattle.std.specs.Prelude.{◌≡◌, ◌⊎◌, ◌+◌, length, Ok, Some, IsOk};
+ghost use Rattle.std.specs.Prelude.{◌≡◌, ◌⊎◌, ◌+◌, length, Ok, Some, IfErr, IsOk};
 ghost use Rattle.std.specs.Result.{result_map_both};
 ghost use Rattle.cookie_laws.specs.Rows.{key_at};
 ghost use Rattle.cookie_laws.specs.Runs.{Clear, Remove};
@@ -130,12 +130,23 @@ pub(crate) fn set_hash_key(store: &mut CookieStore, key: &[u8]) -> Status
     ensures status { (result ≡ Status.Done) ⊎ (result ≡ Status.NoMemory) }
     ensures store { store.new ≡ store.old }
 {
-    let Ok(state) = RandomState::new(&Drawn { key }) else {
-        return Status::NoMemory;
+    let hash_key = match hash_key(key) {
+        Ok(hash_key) => hash_key,
+        Err(status) => return status,
     };
-    match store.set_hash_key(HashKey::Drawn(state)) {
+    match store.set_hash_key(hash_key) {
         Ok(()) => Status::Done,
         Err(_) => Status::NoMemory,
+    }
+}
+
+/// The hash key of these bytes.
+pub(crate) fn hash_key(key: &[u8]) -> Result<HashKey, Status>
+    ensures { IfErr result (λ status. status ≡ Status.NoMemory) }
+{
+    match RandomState::new(&Drawn { key }) {
+        Ok(state) => Ok(HashKey::Drawn(state)),
+        Err(_) => Err(Status::NoMemory),
     }
 }
 

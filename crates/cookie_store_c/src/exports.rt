@@ -19,7 +19,7 @@ use std::alloc::Global;
 
 /// Begins a store.
 #[unsafe(no_mangle)]
-pub extern "C" fn cookie_store_new(alloc: Global, handle: &mut StoreHandle) -> u32
+pub extern "C" fn cookie_store_new(alloc: Global, handle: &mut StoreHandle, key: &[u8]) -> u32
     ensures { Tells result (λ status. Comes (new_turn handle.old.slot.store) (handle.old.slot.store ≡ None)
         handle.old.slot.store status handle.new.slot.store) }
 {
@@ -27,7 +27,10 @@ pub extern "C" fn cookie_store_new(alloc: Global, handle: &mut StoreHandle) -> u
         handle.put(alloc, store);
         return Status::HasStore.code();
     }
-    begin(alloc, handle, CookieStore::new(alloc)).code()
+    match calls::hash_key(key) {
+        Ok(hash_key) => begin(alloc, handle, CookieStore::with_hash_key(alloc, hash_key)).code(),
+        Err(status) => status.code(),
+    }
 }
 
 // Puts a store into a handle without one.
@@ -297,6 +300,7 @@ pub extern "C" fn cookie_store_save_ron(
 pub extern "C" fn cookie_store_load_json(
     alloc: Global,
     handle: &mut StoreHandle,
+    key: &[u8],
     list: &[u8],
     now: i64,
     all: bool,
@@ -308,7 +312,7 @@ pub extern "C" fn cookie_store_load_json(
         handle.put(alloc, store);
         return Status::HasStore.code();
     }
-    match lists::load(Form::Json, alloc, list, now, all) {
+    match lists::load(Form::Json, alloc, key, list, now, all) {
         Ok(store) => begin(alloc, handle, store).code(),
         Err(status) => status.code(),
     }
@@ -319,6 +323,7 @@ pub extern "C" fn cookie_store_load_json(
 pub extern "C" fn cookie_store_load_ron(
     alloc: Global,
     handle: &mut StoreHandle,
+    key: &[u8],
     list: &[u8],
     now: i64,
     all: bool,
@@ -330,7 +335,7 @@ pub extern "C" fn cookie_store_load_ron(
         handle.put(alloc, store);
         return Status::HasStore.code();
     }
-    match lists::load(Form::Ron, alloc, list, now, all) {
+    match lists::load(Form::Ron, alloc, key, list, now, all) {
         Ok(store) => begin(alloc, handle, store).code(),
         Err(status) => status.code(),
     }

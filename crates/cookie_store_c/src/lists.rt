@@ -9,10 +9,11 @@ ghost use Rattle.cookie_store_c.specs.Statuses.{fault_status};
 
 use crate::asked::{moment_in, text_in};
 use crate::buffer::hand_over;
+use crate::calls::hash_key;
 use crate::status::Status;
 use cookie_store::device::Counted;
 use cookie_store::serde::{json, ron};
-use cookie_store::{CookieStore, Error};
+use cookie_store::{CookieStore, Error, StoreAlloc};
 use jiff::civil::DateTime;
 use std::alloc::Global;
 
@@ -103,10 +104,11 @@ fn ron_text(alloc: Global, store: &CookieStore, now: DateTime, all: bool) -> Res
     }
 }
 
-/// A store of the cookies of a list: those that have not ended by the moment, or all.
+/// A store of the cookies of a list, whose maps hash by a key of these bytes: those that have not ended by the moment, or all.
 pub(crate) fn load(
     form: Form,
     alloc: Global,
+    key: &[u8],
     list: &[u8],
     now: i64,
     all: bool,
@@ -116,13 +118,15 @@ pub(crate) fn load(
         ⊎ ((status ≡ Status.NoMemory) × IsOk (to_load now list.now))) }
 {
     let now = moment_in(now)?;
-    store_of(form, alloc, text_in(list)?, now, all)
+    let text = text_in(list)?;
+    let hash_key = hash_key(key)?;
+    store_of(form, StoreAlloc { alloc, hash_key }, text, now, all)
 }
 
 // A store of the cookies of a text.
 fn store_of(
     form: Form,
-    alloc: Global,
+    alloc: StoreAlloc,
     text: &str,
     now: DateTime,
     all: bool,

@@ -2,7 +2,7 @@
 use crate::checks::{end_of, is_equal};
 use crate::steps::new_year;
 use crate::texts::{are_all, are_listed, header, unexpired, url};
-use cookie_store::{Cookie, CookieStore, Error};
+use cookie_store::{Cookie, CookieStore, Error, HashKey, StoreAlloc};
 use std::alloc::Global;
 use std::process::Abort;
 use std::vec::IntoIter;
@@ -33,6 +33,10 @@ pub fn built(
     items: IntoIter<Item>,
     include_expired: bool,
 ) -> Result<CookieStore, Error> {
+    let alloc = StoreAlloc {
+        alloc,
+        hash_key: HashKey::Fixed,
+    };
     CookieStore::from_cookies(alloc, items, include_expired, new_year())
 }
 

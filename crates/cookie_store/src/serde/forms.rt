@@ -24,7 +24,7 @@ use cookie_device::{Sink, Source};
 use cookie_forms::{Saved, SavedError, list_from_value, list_to_text};
 use cookie_parts::{Cookie, Error};
 use cookie_ron::{from_ron, to_ron};
-use cookie_rows::Rows;
+use cookie_rows::{Rows, StoreAlloc};
 use jiff::civil::DateTime;
 use serde_json::Value;
 use std::alloc::{AllocError, Global};
@@ -101,7 +101,7 @@ fn saved_list(alloc: Global, rows: &Rows, now: &Option<DateTime>) -> Result<Vec<
 /// The rows of the cookies of the list that the source gives, all or those that have not ended.
 pub(crate) fn load_rows<R: Source>(
     form: Form,
-    alloc: Global,
+    alloc: StoreAlloc,
     source: &mut R,
     include_expired: bool,
     now: DateTime,
@@ -114,8 +114,8 @@ pub(crate) fn load_rows<R: Source>(
         (R.reads_left source.old) (R.reads_left source.new)) }
     ensures reads { ReadsEachOnce (R.remaining source.old) (R.reads_left source.old) (R.reads_left source.new) }
 {
-    let bytes = read_bytes(alloc, source)?;
-    let cookies = cookies_of_bytes(form, alloc, &bytes)?;
+    let bytes = read_bytes(alloc.alloc, source)?;
+    let cookies = cookies_of_bytes(form, alloc.alloc, &bytes)?;
     rows_of(alloc, cookies, include_expired, now)
 }
 

@@ -12,8 +12,8 @@ use crate::json_lines::numbered_json_rows;
 use crate::loading::LoadFault;
 use cookie_device::{FillError, Source};
 use cookie_parts::Error;
+use cookie_rows::StoreAlloc;
 use jiff::civil::date;
-use std::alloc::Global;
 use std::fmt;
 
 /// Why lines of JSON made no store.
@@ -69,7 +69,10 @@ impl std::error::Error for MigrateError {}
 /// A store of the cookies of the reader's lines, as [`load_json_all`](crate::Bulk::load_json_all) makes it: each in the place of an
 /// earlier one of its domain, path and name, those that have ended too, without a public suffix list or a limit. Each can be saved:
 /// none ends before the year 0.
-pub fn migrate_lines<R: Source>(alloc: Global, reader: &mut R) -> Result<CookieStore, MigrateError>
+pub fn migrate_lines<A: Into<StoreAlloc>, R: Source>(
+    alloc: A,
+    reader: &mut R,
+) -> Result<CookieStore, MigrateError>
     requires readable { R.failed reader.old < 2 ^ 64 - 1 }
     ensures built { IfOk result (λ store. Migrates (R.remaining reader.old) (kept_of store)) }
     ensures saved { IfOk result (λ store. HaveSavedForms store.rows) }
@@ -83,6 +86,7 @@ pub fn migrate_lines<R: Source>(alloc: Global, reader: &mut R) -> Result<CookieS
 {
     // All are taken, so the moment is not looked at.
     let now = date(1970, 1, 1).at(0, 0, 0, 0);
+    let alloc = alloc.into();
     let rows = numbered_json_rows(alloc, reader, true, now)?;
-    Ok(CookieStore::of_rows(alloc, rows))
+    Ok(CookieStore::of_rows(alloc.alloc, rows))
 }

@@ -12,8 +12,8 @@ use super::forms::{Form, load_rows, save_rows};
 use crate::CookieStore;
 use cookie_device::{Sink, Source};
 use cookie_parts::StoreResult;
+use cookie_rows::StoreAlloc;
 use jiff::civil::DateTime;
-use std::alloc::Global;
 
 /// Writes the cookies that have not ended by the moment and end at one as a list in RON, a field a line, in the store's order, and a
 /// line feed. Where one ends before the year 0 the list is refused `Saved(Moment)`, and no memory is wanted before that.
@@ -47,7 +47,11 @@ pub fn save_incl_expired_and_nonpersistent<W: Sink>(
 /// path and name, without a public suffix list. Those that have ended are passed over. In this order: `Io` where the reader failed;
 /// `NotUtf8`; `Saved(Ron)` where the text is no list in RON; `Saved(Moment)` where the text of an end is no moment; `Cookie(Parse)` where
 /// that of a raw cookie is none. `Memory` where there was no room.
-pub fn load<R: Source>(alloc: Global, reader: &mut R, now: DateTime) -> StoreResult<CookieStore>
+pub fn load<A: Into<StoreAlloc>, R: Source>(
+    alloc: A,
+    reader: &mut R,
+    now: DateTime,
+) -> StoreResult<CookieStore>
     requires readable { R.failed reader.old < 2 ^ 64 - 1 }
     ensures built { IfOk result (λ store. BuildsFromList MakesRonList (R.remaining reader.old) false (moment_of now) (kept_of store)) }
     ensures suffixes { IfOk result (λ store. store.suffixes ≡ None) }
@@ -58,12 +62,17 @@ pub fn load<R: Source>(alloc: Global, reader: &mut R, now: DateTime) -> StoreRes
         (R.reads_left reader.old) (R.reads_left reader.new)) }
     ensures reads { ReadsEachOnce (R.remaining reader.old) (R.reads_left reader.old) (R.reads_left reader.new) }
 {
+    let alloc = alloc.into();
     let rows = load_rows(Form::Ron, alloc, reader, false, now)?;
-    Ok(CookieStore::of_rows(alloc, rows))
+    Ok(CookieStore::of_rows(alloc.alloc, rows))
 }
 
 /// The same, where cookies that have ended are kept. The moment is not looked at.
-pub fn load_all<R: Source>(alloc: Global, reader: &mut R, now: DateTime) -> StoreResult<CookieStore>
+pub fn load_all<A: Into<StoreAlloc>, R: Source>(
+    alloc: A,
+    reader: &mut R,
+    now: DateTime,
+) -> StoreResult<CookieStore>
     requires readable { R.failed reader.old < 2 ^ 64 - 1 }
     ensures built { IfOk result (λ store. BuildsFromList MakesRonList (R.remaining reader.old) true (moment_of now) (kept_of store)) }
     ensures suffixes { IfOk result (λ store. store.suffixes ≡ None) }
@@ -74,6 +83,7 @@ pub fn load_all<R: Source>(alloc: Global, reader: &mut R, now: DateTime) -> Stor
         (R.reads_left reader.old) (R.reads_left reader.new)) }
     ensures reads { ReadsEachOnce (R.remaining reader.old) (R.reads_left reader.old) (R.reads_left reader.new) }
 {
+    let alloc = alloc.into();
     let rows = load_rows(Form::Ron, alloc, reader, true, now)?;
-    Ok(CookieStore::of_rows(alloc, rows))
+    Ok(CookieStore::of_rows(alloc.alloc, rows))
 }
