@@ -1,11 +1,23 @@
 -- The first line feed, where no line feed stands in what was scanned.
-use Rattle.std.proofs.Common.{◌≡◌, ◌≢◌, ℕ, ◌+◌, ◌-◌, ◌<◌, ◌≤◌, zero, suc, true, false, not, cond, eqb, ltb, List, length, drop, Some, None, position, length-drop, length-append, arith, subst, ◌++◌}
+use Rattle.std.proofs.Common.{◌≡◌, ◌≢◌, ℕ, ◌+◌, ◌-◌, ◌<◌, ◌≤◌, zero, suc, true, false, not, cond, eqb, ltb, List, length, drop, Option, Some, None, position, length-drop, length-append, arith, subst, ◌++◌}
+use Rattle.std.proofs.lemmas.Bool.{false_from_ne_true}
 use Rattle.std.proofs.lemmas.Bool.Decides.{nat_tests}
 use Rattle.std.proofs.lemmas.Grind.{common_steps}
-use Rattle.std.proofs.lemmas.List.Sums.{prefix_len-drop_yes, fails_before_first}
+use Rattle.std.proofs.lemmas.List.Sums.{prefix_len-drop_yes, fails_before_first, position_or_len_is}
 use Rattle.std.proofs.Math.ListN.{get_or-append}
 use Rattle.std.specs.List.{AllWithin, position_or_len}
+use Rattle.memchr.specs.Find.{IsFirstByte, is_byte}
 use Rattle.cookie_device.specs.Lines.{IsScanned}
+
+-- the place that `memchr` finds
+pub position-first : (bytes : List ℕ) (r : Option ℕ) → IsFirstByte (is_byte 10) bytes r → r ≡ position (λ b. eqb b 10) bytes
+position-first bytes None nowhere =
+    let end = position_or_len_is (λ b. eqb b 10) bytes (length bytes) 0 (omega arith) (λ k l. false_from_ne_true _ (nowhere k (omega arith) l)) (λ l. absurd (omega arith)) in
+    grind (arith, nat_tests, end)
+position-first bytes (Some k) found =
+    let first = found.0 in
+    let place = position_or_len_is (λ b. eqb b 10) bytes k 0 (omega arith) (λ j l. false_from_ne_true _ (first.before j (omega arith) l)) (λ l. found.1) in
+    grind (arith, nat_tests, place)
 
 -- what is no line feed passes the search
 passes : (b : ℕ) → b ≢ 10 → not (eqb b 10) ≡ true

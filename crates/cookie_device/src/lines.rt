@@ -8,6 +8,7 @@ ghost use Rattle.cookie_device.specs.Lines.{EndsLine, IsLastLine};
 
 use crate::device::{DeviceFailed, Source};
 use crate::reading::{READ_LIMIT, read_more};
+use memchr::memchr;
 use std::alloc::{AllocError, Global};
 use std::marker::Model;
 
@@ -148,7 +149,7 @@ impl LineBuffer {
 fn first_line_feed(bytes: &[u8]) -> Option<usize>
     ensures { result ≡ position (λ b. b == 10) bytes.now }
 {
-    bytes.iter().position(|b| *b == b'\n')
+    memchr(b'\n', bytes)
 }
 
 // A line without the carriage return before its line feed.
