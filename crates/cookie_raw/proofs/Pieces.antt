@@ -1,17 +1,29 @@
--- The pieces that a loop over `text.split(';').skip(1)` goes over are the attributes of the text.
-use Rattle.std.proofs.Common.{◌≡◌, ℕ, List, true, lit<}
-use Rattle.std.specs.Iterator.Adapters.{skip_source, skip_count, skip_steps}
+-- The attributes of a text are the pieces of what follows its first `;`, which a loop goes over.
+use Rattle.std.proofs.Common.{◌≡◌, ℕ, ◌<◌, List, [], true, length, drop, sym, ap, arith, lit<}
+use Rattle.std.specs.List.{after_first, position_or_len}
 use Rattle.std.specs.Str.Iter.{split_text, split_has_more, split_pattern, split_steps}
 use Rattle.std.specs.Str.Pattern.{FindsChar}
 use Rattle.std.proofs.lemmas.Iterator.{YieldsList}
-use Rattle.std.proofs.lemmas.Iterator.Adapters.{YieldsList-from_skip}
 use Rattle.std.proofs.lemmas.Iterator.Consumers.{YieldsList-at}
 use Rattle.std.proofs.lemmas.Iterator.Splits.{YieldsList-from_str_split}
-use Rattle.cookie_raw.specs.Reading.{attributes}
+use Rattle.std.proofs.lemmas.List.Splits.{slice_split_first, slice_split_none}
+use Rattle.std.proofs.lemmas.List.Sums.{fails_before_first}
+use Rattle.cookie_words.specs.Texts.{pieces}
+use Rattle.cookie_raw.specs.Reading.{attributes, is_semicolon}
 
-pub yields_attributes : {s : _} {t : _} {i : _} (text : List ℕ)
-    → split_text s ≡ text → split_has_more s ≡ true → split_pattern {P = ℕ} s ≡ 59
-    → skip_source t ≡ s → skip_count t ≡ 1 → i ≡ t
-    → YieldsList (skip_steps (split_steps FindsChar (λ a b. b ≡ a))) (λ x. x.now) i (attributes text)
-yields_attributes text whole more pattern source count same =
-    YieldsList-at same (YieldsList-from_skip 1 (YieldsList-at source (YieldsList-from_str_split 59 text (lit< tt) whole more pattern)) count)
+-- the attributes of a text that has a `;`
+pub attributes-after_first : (text : List ℕ) → position_or_len is_semicolon text < length text
+    → pieces 59 (after_first is_semicolon text) ≡ attributes text
+attributes-after_first text has = sym (ap (drop 1) (slice_split_first is_semicolon text 0 has))
+
+-- a text that has none has no attributes
+pub attributes-none : (text : List ℕ) → position_or_len is_semicolon text ≡ length text → [] ≡ attributes text
+attributes-none text none =
+    sym (ap (drop 1) (slice_split_none is_semicolon text (λ k d within. fails_before_first is_semicolon text k d (omega arith))))
+
+-- the pieces that a loop over `text.split(';')` goes over
+pub yields_pieces : {s : _} {i : _} (text : List ℕ)
+    → split_text s ≡ text → split_has_more s ≡ true → split_pattern {P = ℕ} s ≡ 59 → i ≡ s
+    → YieldsList (split_steps FindsChar (λ a b. b ≡ a)) (λ x. x.now) i (pieces 59 text)
+yields_pieces text whole more pattern same =
+    YieldsList-at same (YieldsList-from_str_split 59 text (lit< tt) whole more pattern)

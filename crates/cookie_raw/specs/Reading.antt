@@ -28,6 +28,11 @@ pair_of text = before_first is_semicolon text
 abbrev pub attributes : List ℕ → List (List ℕ)
 attributes text = drop 1 (pieces 59 text)
 
+-- the attributes of what follows the first `;`, if there is one
+abbrev pub attributes_after : Option (List ℕ) → List (List ℕ)
+attributes_after None = []
+attributes_after (Some rest) = pieces 59 rest
+
 -- the piece has a `=`
 abbrev pub has_equals : List ℕ → Bool
 has_equals piece = list_any is_equals piece

@@ -5,7 +5,7 @@ ghost use Rattle.std.specs.List.{list_all};
 ghost use Rattle.std.specs.Str.Parse.{digits_value};
 ghost use Rattle.std.specs.Option.{option_copied, option_or};
 ghost use Rattle.jiff.specs.Words.{signed_nanos};
-ghost use Rattle.cookie_raw.specs.Reading.{age_of, attributes, domain_from, expires_from, http_only_from, is_named, last_given, max_age_from, name_of, path_from, piece_gives, same_site_from, secure_from, site_of, value_of};
+ghost use Rattle.cookie_raw.specs.Reading.{age_of, attributes_after, domain_from, expires_from, http_only_from, is_named, last_given, max_age_from, name_of, path_from, piece_gives, same_site_from, secure_from, site_of, value_of};
 ghost use Rattle.cookie_raw.specs.Views.{ending};
 
 use crate::raw_cookie::name_and_value;
@@ -150,18 +150,21 @@ fn read_expires(name: &str, value: &str) -> Option<Expiration>
 }
 
 impl<'a> Attributes<'a> {
-    /// The attributes of a whole Set-Cookie text.
-    pub(crate) fn of(text: &'a str) -> Attributes<'a>
-        ensures domain { option_copied result.domain ≡ last_given domain_from (attributes text.now) }
-        ensures path { option_copied result.path ≡ last_given path_from (attributes text.now) }
-        ensures secure { result.secure ≡ last_given secure_from (attributes text.now) }
-        ensures http_only { result.http_only ≡ last_given http_only_from (attributes text.now) }
-        ensures same_site { result.same_site ≡ last_given same_site_from (attributes text.now) }
-        ensures max_age { option_map signed_nanos result.max_age ≡ last_given max_age_from (attributes text.now) }
-        ensures expires { option_map ending result.expires ≡ last_given expires_from (attributes text.now) }
+    /// The attributes of what follows the first `;` of a Set-Cookie text, if there is one.
+    pub(crate) fn of(rest: Option<&'a str>) -> Attributes<'a>
+        ensures domain { option_copied result.domain ≡ last_given domain_from (attributes_after (option_copied rest.entry)) }
+        ensures path { option_copied result.path ≡ last_given path_from (attributes_after (option_copied rest.entry)) }
+        ensures secure { result.secure ≡ last_given secure_from (attributes_after (option_copied rest.entry)) }
+        ensures http_only { result.http_only ≡ last_given http_only_from (attributes_after (option_copied rest.entry)) }
+        ensures same_site { result.same_site ≡ last_given same_site_from (attributes_after (option_copied rest.entry)) }
+        ensures max_age { option_map signed_nanos result.max_age ≡ last_given max_age_from (attributes_after (option_copied rest.entry)) }
+        ensures expires { option_map ending result.expires ≡ last_given expires_from (attributes_after (option_copied rest.entry)) }
     {
         let mut found = Attributes::default();
-        for piece in text.split(';').skip(1) {
+        let Some(text) = rest else {
+            return found;
+        };
+        for piece in text.split(';') {
             found.take(piece);
         }
         found

@@ -3,7 +3,7 @@ ghost use Rattle.std.specs.Prelude.{◌≡◌, true, false, option_map, MatchOpt
 ghost use Rattle.std.specs.Cow.{cow_str_bytes};
 ghost use Rattle.std.specs.Option.{option_copied};
 ghost use Rattle.jiff.specs.Words.{signed_nanos};
-ghost use Rattle.cookie_raw.specs.Reading.{reading, pair_of, has_equals, name_of, value_of};
+ghost use Rattle.cookie_raw.specs.Reading.{reading, pair_of, attributes, attributes_after, has_equals, name_of, value_of};
 ghost use Rattle.cookie_raw.specs.Slices.{HasSlices};
 ghost use Rattle.cookie_raw.specs.Views.{ending};
 
@@ -54,13 +54,14 @@ impl<'a> Model for RawCookie<'a> {
     } };
 }
 
-// The part of a Set-Cookie text before its first `;`.
-fn pair(text: &str) -> &str
-    ensures { result.now ≡ pair_of text.now }
+// The part of a Set-Cookie text before its first `;`, and the part after it, if there is one.
+fn pair_and_rest(text: &str) -> (&str, Option<&str>)
+    ensures pair { result.0.now ≡ pair_of text.now }
+    ensures rest { attributes_after (option_copied result.1) ≡ attributes text.now }
 {
     match text.split_once(';') {
-        Some((pair, _)) => pair,
-        None => text,
+        Some((pair, rest)) => (pair, Some(rest)),
+        None => (text, None),
     }
 }
 
@@ -110,13 +111,14 @@ impl<'a> RawCookie<'a> {
         ensures reading { result ≡ reading text.now }
         ensures slices { IfOk result (HasSlices text.now) }
     {
-        let Some((name, value)) = name_and_value(pair(text)) else {
+        let (pair, rest) = pair_and_rest(text);
+        let Some((name, value)) = name_and_value(pair) else {
             return Err(RawCookieParseError::MissingPair);
         };
         if name.is_empty() {
             return Err(RawCookieParseError::EmptyName);
         }
-        let attributes = Attributes::of(text);
+        let attributes = Attributes::of(rest);
         Ok(RawCookie {
             name: CowStr::Borrowed(name),
             value: CowStr::Borrowed(value),

@@ -1,26 +1,28 @@
-use Rattle.std.proofs.Common.{◌≡◌, map, ap, ◌∙◌}
+use Rattle.std.proofs.Common.{◌≡◌, map, sym, ap, ◌∙◌}
+use Rattle.std.specs.Option.{option_copied}
 use Rattle.std.proofs.lemmas.Iterator.Consumers.{YieldsList-end}
-use Rattle.cookie_raw.specs.Reading.{attributes, domain_from, expires_from, http_only_from, last_given, max_age_from, path_from, same_site_from, secure_from}
+use Rattle.cookie_raw.specs.Reading.{attributes_after, domain_from, expires_from, http_only_from, last_given, max_age_from, path_from, same_site_from, secure_from}
 use Rattle.cookie_raw.proofs.LastGiven.{last_given-push}
-use Rattle.cookie_raw.proofs.Pieces.{yields_attributes}
+use Rattle.cookie_raw.proofs.Pieces.{yields_pieces}
 use Rattle.cookie_raw.proofs.attributes.Attributes.of.Goals as goal
 
 pub loop-piece-preserved : goal.loop-piece-preserved
 loop-piece-preserved c = record {
-  domain = rw (c.take.ensures.domain, last_given-push domain_from c.loop-piece.yielded c.in-Some.piece, c.loop-piece.invariant.domain);
-  path = rw (c.take.ensures.path, last_given-push path_from c.loop-piece.yielded c.in-Some.piece, c.loop-piece.invariant.path);
-  secure = rw (c.take.ensures.secure, last_given-push secure_from c.loop-piece.yielded c.in-Some.piece, c.loop-piece.invariant.secure);
-  http_only = rw (c.take.ensures.http_only, last_given-push http_only_from c.loop-piece.yielded c.in-Some.piece, c.loop-piece.invariant.http_only);
-  same_site = rw (c.take.ensures.same_site, last_given-push same_site_from c.loop-piece.yielded c.in-Some.piece, c.loop-piece.invariant.same_site);
-  max_age = rw (c.take.ensures.max_age, last_given-push max_age_from c.loop-piece.yielded c.in-Some.piece, c.loop-piece.invariant.max_age);
-  expires = rw (c.take.ensures.expires, last_given-push expires_from c.loop-piece.yielded c.in-Some.piece, c.loop-piece.invariant.expires);
+  domain = rw (c.take.ensures.domain, last_given-push domain_from c.loop-piece.yielded c.in-Some-piece.piece, c.loop-piece.invariant.domain);
+  path = rw (c.take.ensures.path, last_given-push path_from c.loop-piece.yielded c.in-Some-piece.piece, c.loop-piece.invariant.path);
+  secure = rw (c.take.ensures.secure, last_given-push secure_from c.loop-piece.yielded c.in-Some-piece.piece, c.loop-piece.invariant.secure);
+  http_only = rw (c.take.ensures.http_only, last_given-push http_only_from c.loop-piece.yielded c.in-Some-piece.piece, c.loop-piece.invariant.http_only);
+  same_site = rw (c.take.ensures.same_site, last_given-push same_site_from c.loop-piece.yielded c.in-Some-piece.piece, c.loop-piece.invariant.same_site);
+  max_age = rw (c.take.ensures.max_age, last_given-push max_age_from c.loop-piece.yielded c.in-Some-piece.piece, c.loop-piece.invariant.max_age);
+  expires = rw (c.take.ensures.expires, last_given-push expires_from c.loop-piece.yielded c.in-Some-piece.piece, c.loop-piece.invariant.expires);
 }
 
 -- the pieces that were walked are the attributes
-walked : (c : goal.In-None) → map (λ x. x.now) c.loop-piece.yielded ≡ attributes c.args.text.now
+walked : (c : goal.In-None) → map (λ x. x.now) c.loop-piece.yielded ≡ attributes_after (option_copied c.args.rest)
 walked c =
-    let road = yields_attributes c.args.text.now c.split.ensures.text c.split.ensures.has_more c.split.ensures.pattern c.skip-piece-items.ensures.source c.skip-piece-items.ensures.count c.into_iter-piece-iterator.ensures.into_iter_gives in
+    let road = yields_pieces c.in-Some.text.now c.split-piece-items.ensures.text c.split-piece-items.ensures.has_more c.split-piece-items.ensures.pattern c.into_iter-piece-iterator.ensures.into_iter_gives in
     (YieldsList-end road c.loop-piece.yielded _ c.loop-piece.yielded_by _ _ c.in-None.is c.next.ensures.steps).0
+    ∙ ap (λ rest. attributes_after (option_copied rest)) (sym c.in-Some.is)
 
 pub returns-clause-domain : goal.returns-clause-domain
 returns-clause-domain c = c.loop-piece.invariant.domain ∙ ap (last_given domain_from) (walked c)
