@@ -42,7 +42,11 @@ pub(crate) fn owned_cookie(
     ensures value { Gives (λ cookie. cookie) result (cookie_at text.now url.now (moment_of now)) }
     ensures early { (refusal : CookieError) → early (reading text.now) url.now ≡ Some refusal → result ≡ Err refusal }
 {
-    owned(alloc, Cookie::parse(alloc, text, url, now)?)
+    // A `?` would move the cookie once more.
+    match Cookie::parse(alloc, text, url, now) {
+        Ok(cookie) => owned(alloc, cookie),
+        Err(error) => Err(error),
+    }
 }
 
 /// The cookie of a raw cookie, with texts of its own.
