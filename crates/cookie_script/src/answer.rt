@@ -2,11 +2,10 @@
 ghost use Rattle.std.specs.Prelude.{◌≡◌, ◌++◌, ◌^◌, ◌-◌, ◌<◌, codes, flat_map, map};
 ghost use Rattle.cookie_script.specs.Answering.{answer_text, Gathers};
 ghost use Rattle.cookie_script.specs.Script.{header_text, line_text, pair_text, reply_text, row_line, rows_text};
-ghost use Rattle.cookie_store.specs.CallViews.{reply_view};
 ghost use Rattle.cookie_store.specs.Runs.{Stored};
 
 use cookie_device::{DeviceFailed, Output, Sink};
-use cookie_store::{Cookie, InsertResult, IterAny, Reply, StoreAction};
+use cookie_store::{Cookie, InsertResult, IterAny, StoreAction};
 
 /// What is written of a line.
 #[derive(Drop)]
@@ -22,19 +21,8 @@ pub enum Answer<'a> {
 }
 
 impl<'a> Answer<'a> {
-    /// What a store replied, as a line.
-    pub fn reply(reply: Reply) -> Answer<'a>
-        ensures { answer_text result ≡ line_text (reply_text (reply_view reply)) }
-    {
-        match reply {
-            Reply::Stored(told) => Answer::stored(told),
-            Reply::Removed(Some(_)) => Answer::Line("", "removed"),
-            Reply::Removed(None) => Answer::Line("", "none"),
-            Reply::Cleared => Answer::Line("", "cleared"),
-        }
-    }
-
-    fn stored(told: InsertResult) -> Answer<'a>
+    /// What became of the cookie of a text, as a line.
+    pub fn stored(told: InsertResult) -> Answer<'a>
         ensures { answer_text result ≡ line_text (reply_text (Stored told)) }
     {
         match told {

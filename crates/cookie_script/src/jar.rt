@@ -9,7 +9,7 @@ ghost use Rattle.cookie_script.specs.Script.{command_turn, empty, start, turn};
 use crate::answer::Answer;
 use crate::command::{Command, read_command};
 use cookie_store::psl::List;
-use cookie_store::{CookieError, CookieStore, InsertResult, Reply, StoreAlloc};
+use cookie_store::{CookieError, CookieStore, InsertResult, StoreAlloc};
 use jiff::civil::{DateTime, date};
 use std::alloc::{AllocError, Global};
 use std::marker::Model;
@@ -22,8 +22,12 @@ pub enum Told {
     Nothing,
     /// The line is a bad one.
     BadLine,
-    /// The store replied.
-    Said(Reply),
+    /// What became of the cookie of a text. Never `Memory`.
+    Stored(InsertResult),
+    /// Whether a cookie was removed.
+    Removed(bool),
+    /// All cookies were removed.
+    Cleared,
     /// The cookies of the URL are asked for.
     Cookies(Url),
     /// All rows are asked for.
@@ -103,11 +107,11 @@ impl Jar {
             Command::ListRows => Ok(Told::Rows),
             Command::Remove(domain, path, name) => {
                 let removed = self.store.remove(domain, path, name);
-                Ok(Told::Said(Reply::Removed(removed)))
+                Ok(Told::Removed(removed.is_some()))
             }
             Command::Clear => {
                 self.store.clear();
-                Ok(Told::Said(Reply::Cleared))
+                Ok(Told::Cleared)
             }
         }
     }
@@ -120,7 +124,10 @@ impl Jar {
         match told {
             Told::Nothing => Ok(Answer::Nothing),
             Told::BadLine => Ok(Answer::Line("", "bad line")),
-            Told::Said(reply) => Ok(Answer::reply(reply)),
+            Told::Stored(told) => Ok(Answer::stored(told)),
+            Told::Removed(true) => Ok(Answer::Line("", "removed")),
+            Told::Removed(false) => Ok(Answer::Line("", "none")),
+            Told::Cleared => Ok(Answer::Line("", "cleared")),
             Told::Cookies(url) => Ok(Answer::Header(self.store.matches(&url, self.moment)?)),
             Told::Rows => Ok(Answer::Rows(self.store.iter_any())),
         }
@@ -129,11 +136,11 @@ impl Jar {
 
 // What a cookie came to that the store took or refused.
 fn said(told: InsertResult) -> Result<Told, AllocError>
-    ensures said { IfOk result (λ said. (said ≡ Told.Said (Reply.Stored told)) × (told ≢ Err CookieError.Memory)) }
+    ensures said { IfOk result (λ said. (said ≡ Told.Stored told) × (told ≢ Err CookieError.Memory)) }
     ensures memory { OnErr result (told ≡ Err CookieError.Memory) }
 {
     match told {
         Err(CookieError::Memory) => Err(AllocError),
-        told => Ok(Told::Said(Reply::Stored(told))),
+        told => Ok(Told::Stored(told)),
     }
 }
