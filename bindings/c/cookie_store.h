@@ -118,9 +118,10 @@ enum cookie_store_status cookie_store_new(cookie_store *store, const char *key, 
 void cookie_store_free(cookie_store *store);
 
 /* Puts the store under the public suffix list of this text, in the format of publicsuffix.org: from now on no cookie enters whose Domain is
- * a public suffix by a rule of the list, but from that very host, for that host alone. A domain that no rule is for is no public suffix here.
- * The cookies that it has stay. NO_STORE, NOT_UTF8; BAD_RULE. `bad_line` is set: to the number of the first bad line, counted from 1, after
- * BAD_RULE, and else to 0. */
+ * a public suffix by a rule of the list, but from that very host, for that host alone. A domain that no rule matches is no public suffix: the
+ * list of publicsuffix.org has *.np and no rule np, and so with eight other top-level domains. Append a line with the rule * to have these
+ * listed too. The cookies that it has stay. NO_STORE, NOT_UTF8; BAD_RULE. `bad_line` is set: to the number of the first bad line, counted from
+ * 1, after BAD_RULE, and else to 0. */
 enum cookie_store_status cookie_store_use_suffixes(cookie_store *store, const char *list, size_t list_len, size_t *bad_line);
 
 /* Lets no more than so many cookies of one domain stand from now on, RFC 6265 6.1: before a cookie is inserted, cookies of its domain leave

@@ -257,8 +257,9 @@ class CookieStore:
         self.close()
 
     def use_suffixes(self, text: Text) -> None:
-        """Puts the store under the public suffix list of this text, in the format of publicsuffix.org. The cookies that it has stay.
-        Raises BadRule, with the number of the line."""
+        """Puts the store under the public suffix list of this text, in the format of publicsuffix.org. The cookies that it has stay. A domain
+        that no rule matches is no public suffix: append a line with the rule * to have top-level domains listed that have no rule of their own,
+        as np. Raises BadRule, with the number of the line."""
         rules, line = _bytes(text), ctypes.c_size_t()
         with self._lock:
             number = _use_suffixes(self._at, rules, len(rules), line)

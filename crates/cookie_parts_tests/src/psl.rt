@@ -78,6 +78,38 @@ fn finds_suffixes(rt: HostRuntime) {
     }
 }
 
+// A list, a domain, and its suffix where the list has the rule `*` too.
+static WITH_DEFAULT_RULE: [(&str, &str, (&str, bool)); 4] = [
+    ("com\n*.np", "np", ("np", true)),
+    ("com\n*.np", "a.com.np", ("com.np", true)),
+    ("com\n*.np", "a.zz", ("zz", true)),
+    ("co.uk\nuk", "a.co.uk", ("co.uk", true)),
+];
+
+// What the list of the text says with the rule `*`.
+fn found_by_default<'d>(
+    rt: &impl Abort,
+    alloc: Global,
+    text: &str,
+    domain: &'d str,
+) -> Option<(&'d str, bool)> {
+    let list = List::from_text(alloc, text).expect(rt, "a list");
+    suffix_of(&list.with_default_rule().expect(rt, "memory"), domain)
+}
+
+#[test]
+fn the_default_rule_is_for_top_level_domains(rt: HostRuntime) {
+    for row in &WITH_DEFAULT_RULE {
+        let (text, domain, wanted) = *row;
+        is_equal(
+            &rt,
+            found_by_default(&rt, rt.alloc(), text, domain),
+            Some(wanted),
+            row,
+        );
+    }
+}
+
 // So many labels `a`.
 fn labels(rt: &impl Abort, alloc: Global, count: usize) -> String {
     let mut text = String::from_str(alloc, "a").expect(rt, "memory");

@@ -12,6 +12,10 @@ pub record Rule : Type 0 where
 abbrev pub RuleList : Type 0
 RuleList = List Rule
 
+-- the rule `*`, which prevails where no other rule matches
+abbrev pub default_rule : Rule
+default_rule = record { is_exception = false; labels = None ∷ [] }
+
 -- the labels of a domain, from the last to the first
 abbrev pub labels_of : List ℕ → List (List ℕ)
 labels_of domain = reverse (pieces 46 domain)

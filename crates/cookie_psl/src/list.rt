@@ -1,9 +1,9 @@
 //! A public suffix list, after publicsuffix.org.
-ghost use Rattle.std.specs.Prelude.{◌≡◌, [], option_map, IfSome};
+ghost use Rattle.std.specs.Prelude.{◌≡◌, ◌∷◌, [], option_map, IfOk, IfSome};
 ghost use Rattle.std.specs.Str.Iter.{HasSubslice};
 ghost use Rattle.cookie_psl.specs.Lists.{GivesList, TakesLine};
 ghost use Rattle.cookie_psl.specs.Reading.{line_rule, rules_from};
-ghost use Rattle.cookie_psl.specs.Rules.{suffix_of};
+ghost use Rattle.cookie_psl.specs.Rules.{default_rule, suffix_of, SameRules};
 ghost use Rattle.cookie_psl.specs.Views.{suffix_value};
 
 use crate::reading::{LineFault, read_line};
@@ -64,6 +64,17 @@ impl List {
             list.take(alloc, line, index + 1)?;
         }
         Ok(list)
+    }
+
+    /// The same list with the rule `*`, by which the algorithm of publicsuffix.org takes each top-level domain that no rule names for a
+    /// public suffix. A list without that rule takes it for none.
+    pub fn with_default_rule(self) -> Result<List, AllocError>
+        ensures { IfOk result (λ list. SameRules list (default_rule ∷ self)) }
+    {
+        let List { alloc, mut root } = self;
+        let labels = Vec::from_array(alloc, [None])?;
+        tree::add(alloc, &mut root, labels, false)?;
+        Ok(List { alloc, root })
     }
 
     /// The public suffix of a domain, a part of it, and whether a listed rule says so; nothing and a dot alone have none.
