@@ -89,6 +89,7 @@ pub trait Bulk: Drop {
 
     /// [`save`](Self::save) with the saved form of each cookie as a JSON object on a line. A cookie that ends before the year 0
     /// is refused `Saved(Moment)`, and no memory is wanted for it.
+    #[deprecated(note = "use `serde::json`")]
     final fn save_json<W: Sink>(&self, writer: &mut W, now: DateTime) -> StoreResult<()>
         requires writable { W.failed writer.old < 2 ^ 64 - 1 }
         ensures whole { OnOk result (WritesRows SaysJson (saved_rows (moment_of now) (contents self.now).rows)
@@ -103,6 +104,7 @@ pub trait Bulk: Drop {
     }
 
     /// The same of all cookies, also those that have ended and those that end with the session.
+    #[deprecated(note = "use `serde::json`")]
     final fn save_incl_expired_and_nonpersistent_json<W: Sink>(
         &self,
         writer: &mut W,
@@ -172,6 +174,7 @@ pub trait Bulk: Drop {
     /// [`load`](Self::load) of lines that are saved forms of cookies as JSON. At a line answers `Saved(Json)` where it is no JSON,
     /// `Saved(Shape)` where its tree is not of the form, or holds a float, `Saved(Moment)` where only its end is no moment, and
     /// `Cookie(Parse)` where only its text is no cookie.
+    #[deprecated(note = "use `serde::json`")]
     final fn load_json<A: Into<StoreAlloc>, R: Source>(
         alloc: A,
         reader: &mut R,
@@ -193,6 +196,7 @@ pub trait Bulk: Drop {
     }
 
     /// The same, where cookies that have ended are kept. The moment is not looked at.
+    #[deprecated(note = "use `serde::json`")]
     final fn load_json_all<A: Into<StoreAlloc>, R: Source>(
         alloc: A,
         reader: &mut R,
