@@ -4,17 +4,16 @@ from dataclasses import dataclass, field
 
 from surface_parts import source
 
-LAWS, TYPES = 'law', source.TYPES
-
 
 @dataclass(eq=False)
 class Public:
-    """A public item: its paths, of which the first is the shortest, and its declaration."""
+    """A public item, and the paths that a user may write for it."""
     item: source.Item
     paths: list = field(default_factory=list)
 
     @property
     def path(self):
+        """The shortest path."""
         return min(self.paths, key=lambda path: path.count('::'))
 
     @property
@@ -111,5 +110,5 @@ class Crates:
         public = found.setdefault(id(item), Public(item))
         if path not in public.paths:
             public.paths.append(path)
-        for method in self.methods(item) if item.kind in TYPES else []:
+        for method in self.methods(item) if item.kind in source.TYPES else []:
             self.add(method, f'{path}::{method.name}', found)

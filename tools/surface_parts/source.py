@@ -55,7 +55,7 @@ class Reader:
 
     def __init__(self, text):
         self.tokens = [found for found in TOKEN.finditer(text) if not found['blank']]
-        self.text = TOKEN.sub(lambda found: ' ' * len(found[0]) if found['blank'] else found[0], text)
+        self.text = TOKEN.sub(lambda found: ' ' * len(found[0]) if found['blank'] else found[0], text)  # without comments
         self.lines = [text.count('\n', 0, token.start()) + 1 for token in self.tokens]
         self.at = 0
 
@@ -112,7 +112,7 @@ class Reader:
         if self.takes('ghost'):
             self.until(';')
             return self.take() and None
-        is_public = bool(self.takes('pub')) and not (self.peek() == '(' and [self.group()])
+        is_public = self.takes_pub()
         while self.peek() in ('final', 'unsafe', 'const') and self.peek(1) in ('fn', 'impl', 'trait', 'unsafe'):
             self.take()
         line, word = self.lines[self.at], self.take()
@@ -122,6 +122,15 @@ class Reader:
         for each in item.items if word == 'use' else []:
             each.is_public = is_public
         return item
+
+    def takes_pub(self):
+        """Whether the item is public, which one that is `pub(crate)` is not."""
+        if not self.takes('pub'):
+            return False
+        if self.peek() != '(':
+            return True
+        self.group()
+        return False
 
     def module(self):
         name = self.take()
@@ -179,7 +188,7 @@ class Reader:
         if kind not in TYPES:
             raise SyntaxError(f'no item begins with `{kind}`')
         item = Item(kind, self.take(), 0)
-        words = normal(self.until('{', '(', '=', ';') if kind != 'const' else self.until('='))
+        item.head = normal(self.until('{', '(', '=', ';'))
         if kind in ('struct', 'enum') and self.peek() in ('{', '('):
             members = [normal(re.sub(r'#\[[^\]]*\]', '', each)) for each in split(self.group())]
             item.members = members if kind == 'enum' else [each[4:] for each in members if each.startswith('pub ')]
@@ -191,7 +200,6 @@ class Reader:
             item.members = [normal(self.until(';')).removeprefix('= ')] if kind == 'type' else []
             self.until(';')
             self.take()
-        item.head = words
         return item
 
 

@@ -25,7 +25,7 @@ class Line:
 def section(text):
     """The lines of the section."""
     lines = [Line(number, line) for number, line in enumerate(text.split('\n'), 1)]
-    begin = next(line.number for line in lines if line.text == '## Every public call')
+    begin = next((line.number for line in lines if line.text == '## Every public call'), len(lines))
     end = next((line.number for line in lines[begin:] if line.text.startswith('## ')), len(lines) + 1)
     return lines[begin:end - 1]
 
@@ -64,7 +64,7 @@ class Statements:
             self.scope = self.scope_of(line.text) or self.heading
             self.of_types = line.text.startswith('| type |')
         elif line.text.startswith('|') and not line.text.startswith('|---'):
-            first, second = re.split(r'(?<!\\)\|', line.text)[1:3]
+            first, second = [*re.split(r'(?<!\\)\|', line.text)[1:], '', ''][:2]
             if self.of_types:
                 self.type_row(line, first, second)
             else:
@@ -95,7 +95,7 @@ class Statements:
 
     def type_row(self, line, first, second):
         for text in spans(first):
-            name, body = re.match(r'([\w:]*)(?:<[^>]*>)?(?: \{ (.*) \})?$', text).groups()
+            name, body = re.fullmatch(r'([\w:]*)(?:<[^>]*>)?(?: \{ (.*) \})?|.*', text).groups()
             public = self.find(name)
             if public is None or public.item.kind not in TYPES:
                 self.differs(line, text, 'is no type of the sources')
