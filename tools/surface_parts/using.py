@@ -2,8 +2,9 @@
 
 A code span in the first column of a table states a function: its name, and its parameters and result as the source has
 them. The name is a path from the crate, or from what the span before it in the cell belongs to, or from the type or module
-that the heading of the table names first, or else the heading of the section. In a table of types the second column states
-their fields, variants and methods, and elsewhere sentences such as '`X` is `A` or `B`' do."""
+that the heading of the table names first, or else the heading of the section. In a table of types the braces behind the
+name, or else the second column, state the fields or variants, and the second column the methods. Elsewhere sentences such
+as '`X` is `A` or `B`' state the variants."""
 import re
 from dataclasses import dataclass
 
@@ -102,8 +103,8 @@ class Statements:
                 continue
             calls = [span for span in spans(second) if 'self' in span]
             self.functions(line, calls, name)
-            known = [span for span in spans(second) if span not in calls and not self.is_function(span)]
-            self.states(line, public, split(body or '') + known)
+            members = [span for span in spans(second) if span not in calls and not self.is_function(span)]
+            self.states(line, public, split(body) if body else members)
 
     def is_function(self, span):
         return any(path.split('::')[-1] == span for path, public in self.by_path.items() if public.item.kind == 'fn')
