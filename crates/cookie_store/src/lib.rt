@@ -19,6 +19,7 @@ pub use call::{Call, Reply, Stopped};
 pub use cookie_laws as laws;
 pub use cookie_lookup as lookup;
 pub use cookie_lookup::Lookups;
+pub use cookie_parts as parts;
 pub use cookie_parts::{
     Cookie, CookieDomain, CookieError, CookieExpiration, CookiePath, CookieResult, Error,
     IdnaErrors, StoreAction, StoreResult, StoreResult as Result, cookie_domain, cookie_path, utils,
