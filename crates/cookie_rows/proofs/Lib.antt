@@ -16,6 +16,7 @@ pub mod Kept
 pub mod KeptOrder
 pub mod LeftItems
 pub mod Made
+pub mod MadeOnce
 pub mod Maps
 pub mod Members
 pub mod Named

@@ -7,7 +7,7 @@ ghost use Rattle.cookie_parts.specs.Cookie.{ended, is_expired};
 ghost use Rattle.cookie_parts.specs.Domain.{domain_text};
 ghost use Rattle.cookie_parts.specs.declared.store_action.StoreAction.TheVariants.{Inserted};
 ghost use Rattle.cookie_laws.specs.Acceptance.{store_by};
-ghost use Rattle.cookie_laws.specs.Contents.{contents_of, kept_of, unexpired};
+ghost use Rattle.cookie_laws.specs.Contents.{contents_of, kept_of, unexpired, HasMade};
 ghost use Rattle.cookie_laws.specs.Given.{given};
 ghost use Rattle.cookie_laws.specs.Rows.{are_rows, changed, has_key, included, key_at, key_of, live_rows, make, make_all, put, put_all, removed, row_of, same_key};
 ghost use Rattle.cookie_lookup.specs.Seen.{domains_found};
@@ -134,6 +134,7 @@ impl Rows {
         ensures given { IfOk result
             (λ found. map (λ c. c.now) found.0.items ≡ given url.now (moment_of now) self.now.rows) }
         ensures in_order { IsTrue (are_rows self.now.rows) }
+        ensures has_made { HasMade (contents_of self.now None None) }
         ensures domains { IfOk result (λ found. found.1.domains ≤ most_domains url.now) }
         ensures paths { IfOk result
             (λ found. found.1.paths ≤ domains_found url.now self.now.rows * most_paths url.now) }
@@ -152,6 +153,7 @@ impl Rows {
         ensures given { IfOk result
             (λ cookies. map (λ c. c.now) cookies.items ≡ given url.now (moment_of now) self.now.rows) }
         ensures in_order { IsTrue (are_rows self.now.rows) }
+        ensures has_made { HasMade (contents_of self.now None None) }
         ensures memory { OnErr result (given url.now (moment_of now) self.now.rows ≢ []) }
     {
         Ok(self.given_counted(alloc, url, now)?.0)

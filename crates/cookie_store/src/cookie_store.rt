@@ -8,7 +8,7 @@ ghost use Rattle.cookie_parts.specs.Cookie.{cookie_of, early, early_refusal};
 ghost use Rattle.cookie_parts.specs.declared.cookie_error.CookieError.TheVariants.{Memory};
 ghost use Rattle.cookie_parts.specs.declared.store_action.StoreAction.TheVariants.{Inserted};
 ghost use Rattle.cookie_laws.specs.Acceptance.{received, MayRefuse};
-ghost use Rattle.cookie_laws.specs.Contents.{contents_of, kept_of, unexpired};
+ghost use Rattle.cookie_laws.specs.Contents.{contents_of, kept_of, unexpired, HasMade};
 ghost use Rattle.cookie_lookup.specs.Seen.{domains_found};
 ghost use Rattle.cookie_lookup.specs.Texts.{most_domains, most_paths};
 ghost use Rattle.cookie_rows.specs.Building.{Builds, FailsFirst, WantsRoom};
@@ -307,6 +307,7 @@ impl CookieStore {
         ensures given { IfOk result
             (λ cookies. map (λ c. c.now) cookies.items ≡ given url.now (moment_of now) self.now.rows) }
         ensures in_order { IsTrue (are_rows self.now.rows) }
+        ensures has_made { HasMade self.now }
         ensures memory { OnErr result (given url.now (moment_of now) self.now.rows ≢ []) }
     {
         self.rows.given(self.alloc, url, now)
@@ -322,6 +323,7 @@ impl CookieStore {
         ensures given { IfOk result
             (λ found. map (λ c. c.now) found.0.items ≡ given url.now (moment_of now) self.now.rows) }
         ensures in_order { IsTrue (are_rows self.now.rows) }
+        ensures has_made { HasMade self.now }
         ensures domains { IfOk result (λ found. found.1.domains ≤ most_domains url.now) }
         ensures paths { IfOk result
             (λ found. found.1.paths ≤ domains_found url.now self.now.rows * most_paths url.now) }
