@@ -4,5 +4,6 @@ pub mod Gathering
 pub mod Limits
 pub mod OtherWords
 pub mod Progress
+pub mod StyledTexts
 pub mod Wanting
 pub mod WholeLines

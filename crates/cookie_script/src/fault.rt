@@ -5,6 +5,7 @@ ghost use Rattle.cookie_script.specs.Faults.{status_of};
 use cookie_device::{DeviceFailed, FillError};
 use cookie_store::psl::ListError;
 use cookie_store::serde::MigrateError;
+use itoa::Buffer;
 use std::alloc::AllocError;
 use std::{fmt, io};
 
@@ -103,12 +104,18 @@ impl fmt::Display for ConvertFault {
 
     ghost output = { λ fault. Some (convert_fault_text fault) };
 
+    ghost styled_output = { λ fault _. Some (convert_fault_text fault) };
+
+    #[tactic(auto, using(crate::proofs::StyledTexts::styled_two))]
     fn fmt<W: fmt::Write>(&self, f: &mut fmt::Formatter<W>) -> fmt::Result {
         match self {
             ConvertFault::Read => f.write_str("read failed"),
             ConvertFault::Write => f.write_str("write failed"),
             ConvertFault::Memory => f.write_str("out of memory"),
-            ConvertFault::BadLine(line) => write!(f, "bad line {line}"),
+            ConvertFault::BadLine(line) => {
+                f.write_str("bad line ")?;
+                f.write_str(Buffer::new().format(*line))
+            }
         }
     }
 }
@@ -206,14 +213,26 @@ impl fmt::Display for MainFault {
 
     ghost output = { λ fault. Some (fault_text fault) };
 
+    ghost styled_output = { λ fault _. Some (fault_text fault) };
+
+    #[tactic(auto, using(crate::proofs::StyledTexts::styled_two))]
     fn fmt<W: fmt::Write>(&self, f: &mut fmt::Formatter<W>) -> fmt::Result {
         match self {
             MainFault::BadArguments => f.write_str("cookie_jar: bad arguments"),
             MainFault::CannotReadList => f.write_str("cookie_jar: cannot read list"),
-            MainFault::BadRule(line) => write!(f, "cookie_jar: bad rule in line {line}"),
+            MainFault::BadRule(line) => {
+                f.write_str("cookie_jar: bad rule in line ")?;
+                f.write_str(Buffer::new().format(*line))
+            }
             MainFault::CannotDrawKey => f.write_str("cookie_jar: cannot draw a hash key"),
-            MainFault::Run(fault) => write!(f, "cookie_jar: {fault}"),
-            MainFault::Convert(fault) => write!(f, "cookie_jar: {fault}"),
+            MainFault::Run(fault) => {
+                f.write_str("cookie_jar: ")?;
+                fault.fmt(f)
+            }
+            MainFault::Convert(fault) => {
+                f.write_str("cookie_jar: ")?;
+                fault.fmt(f)
+            }
         }
     }
 }

@@ -15,4 +15,5 @@ pub mod Pairs
 pub mod RonBack
 pub mod SavedAlike
 pub mod SavedLines
+pub mod StyledTexts
 pub mod Walked

@@ -1,5 +1,5 @@
 -- Lines of JSON that are all taken, or read to the first that is refused.
-use Rattle.std.specs.Prelude.{◌≡◌, ℕ, ◌+◌, ◌++◌, true, false, List, map, Option, Result, IfSome, codes, decimal}
+use Rattle.std.specs.Prelude.{◌≡◌, ℕ, ◌+◌, ◌++◌, true, false, List, map, Option, Some, option_map, Result, IfSome, codes, decimal}
 use Rattle.std.specs.List.{list_any}
 use Rattle.cookie_words.specs.Moments.{epoch}
 use Rattle.cookie_forms.specs.WrittenTrees.{is_early}
@@ -7,7 +7,7 @@ use Rattle.cookie_parts.specs.Cookie.{Row}
 use Rattle.cookie_parts.specs.Passage.{saved_of}
 use Rattle.cookie_parts.specs.declared.error.Error.{Error}
 use Rattle.cookie_parts.specs.declared.error.Error.TheVariants as Fault
-use Rattle.cookie_parts.specs.Errors.{fault_text}
+use Rattle.cookie_parts.specs.Errors.{fault_text, styled_fault_text}
 use Rattle.cookie_laws.specs.Rows.{Kept}
 use Rattle.cookie_store.specs.JsonLines.{json_cookie, MakesJson}
 use Rattle.cookie_store.specs.LoadFault.{IsReachedAt}
@@ -25,11 +25,20 @@ migrate_error_of (Load.Source Fill.Memory) = Memory
 migrate_error_of (Load.Line number Fault.Memory) = Memory
 migrate_error_of (Load.Line number error) = Line number error
 
+-- the number of a line, before its error
+abbrev pub line_number_text : ℕ → List ℕ
+line_number_text number = codes "line " ++ decimal number ++ codes ": "
+
 -- it in words
 abbrev pub migrate_error_text : MigrateError → List ℕ
-migrate_error_text (Line number error) = codes "line " ++ decimal number ++ codes ": " ++ fault_text error
+migrate_error_text (Line number error) = line_number_text number ++ fault_text error
 migrate_error_text Io = codes "a read failed"
 migrate_error_text Memory = codes "out of memory"
+
+-- the same under a width or other options, which change nothing: of a line where the text of its error is known there
+abbrev pub styled_migrate_error_text : MigrateError → Option (List ℕ)
+styled_migrate_error_text (Line number error) = option_map (λ words. line_number_text number ++ words) (styled_fault_text error)
+styled_migrate_error_text other = Some (migrate_error_text other)
 
 -- rows that are built from all cookies of the lines of a text, where that is known
 abbrev pub Migrates : Option (List ℕ) → Kept → Type 0

@@ -6,6 +6,7 @@ ghost use Rattle.cookie_laws.specs.Runs as Runs;
 
 use crate::InsertResult;
 use cookie_parts::{Cookie, CookieError};
+use itoa::Buffer;
 use jiff::civil::DateTime;
 use std::alloc::AllocError;
 use std::fmt;
@@ -71,8 +72,13 @@ impl fmt::Display for Stopped {
 
     ghost output = { λ stopped. Some (stopped_text stopped) };
 
+    ghost styled_output = { λ stopped _. Some (stopped_text stopped) };
+
+    #[tactic(auto, using(crate::proofs::StyledTexts::styled_three))]
     fn fmt<W: fmt::Write>(&self, f: &mut fmt::Formatter<W>) -> fmt::Result {
-        write!(f, "out of memory after {} calls", self.count)
+        f.write_str("out of memory after ")?;
+        f.write_str(Buffer::new().format(self.count))?;
+        f.write_str(" calls")
     }
 }
 

@@ -1,11 +1,12 @@
 //! A store that is made of all lines of JSON, and tells the first that is refused.
 ghost use Rattle.std.specs.Prelude.{◌≡◌, ◌-◌, ◌^◌, ◌<◌, None, IfErr, IfOk, OnOk};
+ghost use Rattle.std.specs.Fmt.{WritesOnOk, WritesStyledOnOk};
 ghost use Rattle.std.specs.Io.KnownBytes.{IsAtEnd};
 ghost use Rattle.cookie_laws.specs.Contents.{kept_of};
 ghost use Rattle.cookie_store.specs.LoadFault.{StopsLoading};
 ghost use Rattle.cookie_store.specs.JsonLines.{MakesJson};
 ghost use Rattle.cookie_store.specs.Loading.{ReadsEachOnce};
-ghost use Rattle.cookie_store.specs.Migration.{FailsToMigrate, HaveSavedForms, Migrates};
+ghost use Rattle.cookie_store.specs.Migration.{line_number_text, FailsToMigrate, HaveSavedForms, Migrates};
 
 use crate::CookieStore;
 use crate::json_lines::numbered_json_rows;
@@ -13,6 +14,7 @@ use crate::loading::LoadFault;
 use cookie_device::{FillError, Source};
 use cookie_parts::Error;
 use cookie_rows::StoreAlloc;
+use itoa::Buffer;
 use jiff::civil::date;
 use std::fmt;
 
@@ -51,13 +53,18 @@ impl From<LoadFault> for MigrateError {
 
 impl fmt::Display for MigrateError {
     ghost use Rattle.std.specs.Prelude.{Some};
-    ghost use Rattle.cookie_store.specs.Migration.{migrate_error_text};
+    ghost use Rattle.cookie_store.specs.Migration.{migrate_error_text, styled_migrate_error_text};
 
     ghost output = { λ e. Some (migrate_error_text e) };
 
+    ghost styled_output = { λ e _. styled_migrate_error_text e };
+
     fn fmt<W: fmt::Write>(&self, f: &mut fmt::Formatter<W>) -> fmt::Result {
         match self {
-            MigrateError::Line { line, error } => write!(f, "line {line}: {error}"),
+            MigrateError::Line { line, error } => {
+                write_line_number(f, *line)?;
+                error.fmt(f)
+            }
             MigrateError::Io => f.write_str("a read failed"),
             MigrateError::Memory => f.write_str("out of memory"),
         }
@@ -65,6 +72,17 @@ impl fmt::Display for MigrateError {
 }
 
 impl std::error::Error for MigrateError {}
+
+// Writes the number of a line, and the colon that stands before its error.
+#[tactic(auto, using(crate::proofs::StyledTexts::styled_three))]
+fn write_line_number<W: fmt::Write>(f: &mut fmt::Formatter<W>, line: u64) -> fmt::Result
+    ensures writes { WritesOnOk W.write_str_gives f.old result (line_number_text line) f.new }
+    ensures styled { WritesStyledOnOk W.write_str_gives f.old result (line_number_text line) f.new }
+{
+    f.write_str("line ")?;
+    f.write_str(Buffer::new().format(line))?;
+    f.write_str(": ")
+}
 
 /// A store of the cookies of the reader's lines, as [`load_json_all`](crate::Bulk::load_json_all) makes it: each in the place of an
 /// earlier one of its domain, path and name, those that have ended too, without a public suffix list or a limit. Each can be saved:
