@@ -1,5 +1,6 @@
 -- What a line came to, and what is written of it.
 use Rattle.std.specs.Prelude.{ℕ, Bool, true, false, List, [], codes}
+use Rattle.cookie_parts.specs.Cookie.{Row}
 use Rattle.cookie_store.specs.Given.{given}
 use Rattle.cookie_store.specs.Runs as Runs
 use Rattle.cookie_script.specs.Script.{State, header_text, line_text, reply_text, rows_text}
@@ -26,3 +27,8 @@ told_may_want (Removed is_removed) = false
 told_may_want Cleared = false
 told_may_want (Cookies url) = true
 told_may_want Rows = false
+
+-- the cookies that are asked for, in the state after the line
+abbrev pub cookies_asked : Told → State → List Row
+cookies_asked (Cookies url) state = given url state.moment state.store.rows
+cookies_asked other state = []

@@ -1,7 +1,7 @@
 //! The state of a script, and what a line comes to.
-ghost use Rattle.std.specs.Prelude.{◌≡◌, ◌≢◌, ◌≤◌, Err, IfOk, IfSome, IsTrue, OnErr, OnOk, Some};
+ghost use Rattle.std.specs.Prelude.{◌≡◌, ◌≢◌, ◌≤◌, [], Err, IfOk, IfSome, IsTrue, OnErr, OnOk, Some};
 ghost use Rattle.cookie_script.specs.Answering.{answer_text};
-ghost use Rattle.cookie_script.specs.Told.{told_may_want, told_text};
+ghost use Rattle.cookie_script.specs.Told.{cookies_asked, told_may_want, told_text};
 ghost use Rattle.cookie_script.specs.CommandViews.{command_view};
 ghost use Rattle.cookie_script.specs.Commands.{command_may_want, may_want};
 ghost use Rattle.cookie_script.specs.Script.{command_turn, empty, start, turn};
@@ -116,10 +116,11 @@ impl Jar {
         }
     }
 
-    /// The answer to a line, after what it came to.
+    /// The answer to a line, after what it came to. Memory is wanted only for cookies that are asked for, where there is one.
     pub fn answer(&self, told: Told) -> Result<Answer<'_>, AllocError>
         ensures text { IfOk result (λ answer. answer_text answer ≡ told_text told self.now) }
         ensures wants { OnErr result (IsTrue (told_may_want told)) }
+        ensures given { OnErr result (cookies_asked told self.now ≢ []) }
     {
         match told {
             Told::Nothing => Ok(Answer::Nothing),
