@@ -1,16 +1,19 @@
 //! The Cookie header of a request, RFC 6265 4.2.1.
-ghost use Rattle.std.specs.Prelude.{◌≡◌, ◌⊎◌, ℕ, ◌+◌, ◌^◌, ◌≤◌, ◌++◌, flat_map, length, map, IsOk, List};
+ghost use Rattle.std.specs.Prelude.{◌≡◌, ◌≢◌, ℕ, ◌+◌, ◌^◌, ◌≤◌, [], ◌++◌, flat_map, length, map, IsOk, List, Ok};
 ghost use Rattle.std.specs.Option.{MatchOption};
+ghost use Rattle.cookie_words.specs.Moments.{moment_of};
+ghost use Rattle.cookie_laws.specs.Given.{given};
 ghost use Rattle.cookie_store_c.specs.Asked.{look};
-ghost use Rattle.cookie_store_c.specs.Buffers.{at_front, handed_text, Hands, Stands};
+ghost use Rattle.cookie_store_c.specs.Buffers.{at_front, Hands, Stands};
 ghost use Rattle.cookie_store_c.specs.Rows.{cookie_string, header_in, later_pair, pair_text};
-ghost use Rattle.cookie_store_c.specs.declared.status.Status.TheVariants.{NoMemory};
 
 use crate::asked::request;
 use crate::buffer::{put_all, with_lengths};
 use crate::status::Status;
 use cookie_store::{Cookie, CookieStore};
+use jiff::civil::DateTime;
 use std::alloc::Global;
+use url::Url;
 
 /// Hands over the value of the Cookie header of a request for the URL.
 pub(crate) fn get(
@@ -23,22 +26,38 @@ pub(crate) fn get(
 ) -> Status
     ensures { Hands (header_in store.now.rows url.now now) (IsOk (look url.now now)) out.old result out.new needed.new }
 {
+    match request(alloc, url, now) {
+        Ok((url, now)) => given_header(store, &url, now, out, needed),
+        Err(status) => {
+            *needed = 0;
+            status
+        }
+    }
+}
+
+// Hands over the header for a URL. Memory is wanted only where a cookie is given.
+fn given_header(
+    store: &CookieStore,
+    url: &Url,
+    now: DateTime,
+    out: &mut [u8],
+    needed: &mut usize,
+) -> Status
+    ensures { Hands (Ok (cookie_string (given url.now (moment_of now) store.now.rows)))
+        (given url.now (moment_of now) store.now.rows ≢ []) out.old result out.new needed.new }
+{
     *needed = 0;
-    let (url, now) = match request(alloc, url, now) {
-        Ok(request) => request,
-        Err(status) => return status,
-    };
-    match store.matches(&url, now) {
+    match store.matches(url, now) {
         Ok(cookies) => hand_header(&cookies, out, needed),
         Err(_) => Status::NoMemory,
     }
 }
 
-// Hands over the header of these cookies.
+// Hands over the header of these cookies, whose length has to be a number of the machine.
 fn hand_header(cookies: &[&Cookie<'static>], out: &mut [u8], needed: &mut usize) -> Status
     requires { needed.old ≡ 0 }
-    ensures { (record { status = result; buffer = out.new; needed = needed.new } ≡ handed_text (cookie_string (map (λ c. c.now) cookies.now)) out.old)
-        ⊎ ((result ≡ NoMemory) × (out.new ≡ out.old) × (needed.new ≡ 0)) }
+    ensures { Hands (Ok (cookie_string (map (λ c. c.now) cookies.now)))
+        (2 ^ 64 ≤ length (cookie_string (map (λ c. c.now) cookies.now))) out.old result out.new needed.new }
 {
     let Some(length) = header_len(cookies) else {
         return Status::NoMemory;
