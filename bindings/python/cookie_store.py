@@ -142,6 +142,7 @@ _SIGNATURES = {
     'cookie_store_free': (None, [_AT]),
     'cookie_store_use_suffixes': (ctypes.c_int, [_AT, *_TEXT, _LENGTH]),
     'cookie_store_set_domain_limit': (ctypes.c_int, [_AT, ctypes.c_size_t]),
+    'cookie_store_set_hash_key': (ctypes.c_int, [_AT, *_TEXT]),
     'cookie_store_set': (ctypes.c_int, [_AT, *_TEXT, *_TEXT, ctypes.c_int64]),
     'cookie_store_get': (ctypes.c_int, [_AT, *_TEXT, ctypes.c_int64, *_OUT, _LENGTH]),
     'cookie_store_remove': (ctypes.c_int, [_AT, *_TEXT, *_TEXT, *_TEXT]),
