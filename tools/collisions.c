@@ -1,12 +1,17 @@
 /* Prints a script that sets N cookies of one host whose names collide in the store's maps under the fixed hash key: their
    SipHash-1-3 by the key 0, of which a map uses 32 bits, has the same first byte and the same last 11 bits. A map of up to
-   20,000 names then has them all in one place. With a second argument the names are arbitrary.
+   18,432 names then has them all in one place.
        cc -O3 -o collisions tools/collisions.c
        ./collisions 20000 > colliding      (some four minutes)
-   tools/bench runs the program on such names: under its random key they take as long as others. */
+       ./collisions 2300 paths             (some four seconds)
+   With `names`, `paths` or `domains` as second argument it prints those, one a line. They have the same last 8 bits, and collide
+   in a map of up to 2,304.
+   tools/bench runs the program on such names, and tools/keys on all three: under its random key they take as long as others. */
+#include <stdbool.h>
 #include <stdint.h>
 #include <stdio.h>
 #include <stdlib.h>
+#include <string.h>
 
 static uint64_t rotated(uint64_t word, int bits) { return word << bits | word >> (64 - bits); }
 
@@ -37,18 +42,21 @@ static uint32_t hash(uint64_t word) {
 }
 
 int main(int argc, char **argv) {
-    const char *letters = "abcdefghijklmnopqrstuvwxyzABCDEFGHIJKLMNOPQRSTUVWXYZ0123456789-_";
-    int missing = argc > 1 ? atoi(argv[1]) : 20000;
-    puts("now 2026-01-01T00:00:00Z");
+    bool is_script = argc < 3;
+    int missing = argc > 1 ? atoi(argv[1]) : 20000, bits = is_script ? 6 : 5;
+    const char *letters = is_script ? "abcdefghijklmnopqrstuvwxyzABCDEFGHIJKLMNOPQRSTUVWXYZ0123456789-_"
+                                    : "abcdefghijklmnopqrstuvwxyz012345";
+    uint32_t mask = is_script ? 0xFF0007FF : 0xFF0000FF;
+    /* A domain that begins with a letter is no IPv4 address. */
+    char first = is_script ? 0 : strcmp(argv[2], "paths") == 0 ? '/' : 'a';
+    if (is_script) puts("now 2026-01-01T00:00:00Z");
     for (uint64_t number = 0; missing > 0; number++) {
         uint64_t word = (uint64_t)255 << 56, rest = number;
-        char name[8] = {0};
-        for (int at = 0; at < 7; at++, rest >>= 6) {
-            name[at] = letters[rest & 63];
-            word |= (uint64_t)(unsigned char)name[at] << 8 * at;
-        }
-        if (argc > 2 || (hash(word) & 0xFF0007FF) == 0x01000000) {
-            printf("set http://example.com/ %s=1\n", name);
+        char string[8] = {first};
+        for (int at = first ? 1 : 0; at < 7; at++, rest >>= bits) string[at] = letters[rest & ((1u << bits) - 1)];
+        for (int at = 0; at < 7; at++) word |= (uint64_t)(unsigned char)string[at] << 8 * at;
+        if ((hash(word) & mask) == 0x01000000) {
+            printf(is_script ? "set http://example.com/ %s=1\n" : "%s\n", string);
             missing--;
         }
     }

@@ -1,6 +1,7 @@
-/* Whether stores hash by the keys that they are handed. Reads names, a line each, that collide by the key of zeros (tools/collisions.c), fills
-   and loads a store of them by that key and by keys of which one byte differs, and compares the times: by the key of zeros it takes the
-   square of their number. What fails is told on the standard error. The last line is 'test_keys: N passed, M failed'. */
+/* Tests that stores hash by the keys they are passed. Reads a URL and a Set-Cookie value a line: cookies whose names, paths or domains
+   collide under the key of zeros (tools/collisions.c). Times each way to make a store of them with a key: with the key of zeros, where
+   the time grows with the square of their number, and with keys of which one byte differs. The argument names what collides, in the
+   messages on standard error and in the last line, 'test_keys, NAME: N passed, M failed'. */
 #include <cookie_store.h>
 #include <stdio.h>
 #include <stdlib.h>
@@ -9,65 +10,97 @@
 
 enum { MOST = 4000, BYTES = 16, ROUNDS = 5, NOW = 1700000000 };
 
-static const char url[] = "http://example.com/";
-static const char zeros[BYTES];
-static char names[MOST][16];
+static const char other[] = "0123456789abcdef";
+static char urls[MOST][40], texts[MOST][40];
 static int count;
 static char *list;
 static size_t list_len;
 
-static void fill(cookie_store *store, const char *key) {
+static void set(cookie_store *store, int number) {
+    for (int at = 0; at < number; at++) cookie_store_set(store, urls[at], strlen(urls[at]), texts[at], strlen(texts[at]), NOW);
+}
+
+/* With one more cookie of another path, the map of names is in one of paths. */
+static void begin(cookie_store *store, const char *key) {
+    static const char text[] = "a=1; Path=/other";
     cookie_store_new(store, key, BYTES);
-    for (int at = 0; at < count; at++) cookie_store_set(store, url, sizeof url - 1, names[at], strlen(names[at]), NOW);
+    cookie_store_set(store, urls[0], strlen(urls[0]), text, sizeof text - 1, NOW);
+    set(store, count);
 }
 
 static void load(cookie_store *store, const char *key) { cookie_store_load_ron(store, key, BYTES, list, list_len, NOW, true); }
 
-/* The least seconds that a store of all names takes by the key, or a negative number if a name is missing in it. */
-static double seconds(void (*begin)(cookie_store *, const char *), const char *key) {
-    double least = 1e9;
+/* Two cookies are enough for a map on the level at which they collide. */
+static void change_key(cookie_store *store, const char *key) {
+    cookie_store_new(store, other, BYTES);
+    set(store, 2);
+    cookie_store_set_hash_key(store, key, BYTES);
+    set(store, count);
+}
+
+static void clear(cookie_store *store, const char *key) {
+    cookie_store_new(store, key, BYTES);
+    set(store, 2);
+    cookie_store_clear(store);
+    set(store, count);
+}
+
+/* The seconds in which a store of all cookies is made with the key, or a negative number if it has not all. */
+static double seconds(void (*make)(cookie_store *, const char *), const char *key) {
+    cookie_store store = COOKIE_STORE_INIT;
+    clock_t begun = clock();
+    make(&store, key);
+    double took = (double)(clock() - begun) / CLOCKS_PER_SEC;
+    if (cookie_store_count(&store) < (size_t)count) took = -1;
+    cookie_store_free(&store);
+    return took;
+}
+
+/* The least seconds by the byte of the key that is not zero, and at BYTES with the key of zeros. The keys take turns, since a machine's
+   speed varies. */
+static void measure(void (*make)(cookie_store *, const char *), double least[BYTES + 1]) {
+    for (int at = 0; at <= BYTES; at++) least[at] = 1e9;
     for (int round = 0; round < ROUNDS; round++) {
-        cookie_store store = COOKIE_STORE_INIT;
-        clock_t begun = clock();
-        begin(&store, key);
-        double took = (double)(clock() - begun) / CLOCKS_PER_SEC;
-        if (took < least) least = took;
-        if (cookie_store_count(&store) != (size_t)count) least = -1;
-        cookie_store_free(&store);
+        for (int at = 0; at <= BYTES; at++) {
+            char key[BYTES + 1] = {0};
+            key[at] = 1;
+            double took = seconds(make, key);
+            if (took < least[at]) least[at] = took;
+        }
     }
-    return least;
 }
 
 static bool save(void) {
     cookie_store store = COOKIE_STORE_INIT;
-    fill(&store, "0123456789abcdef");
-    cookie_store_save_ron(&store, NOW, true, names[0], 0, &list_len);
+    begin(&store, other);
+    cookie_store_save_ron(&store, NOW, true, texts[0], 0, &list_len);
     list = malloc(list_len);
     bool is_saved = list && cookie_store_save_ron(&store, NOW, true, list, list_len, &list_len) == COOKIE_STORE_OK;
     cookie_store_free(&store);
     return is_saved;
 }
 
-int main(void) {
+int main(int argc, char **argv) {
     static const struct {
         const char *name;
-        void (*begin)(cookie_store *, const char *);
-    } calls[] = {{"new", fill}, {"load", load}};
+        void (*make)(cookie_store *, const char *);
+    } calls[] = {{"new", begin}, {"load", load}, {"set_hash_key", change_key}, {"clear", clear}};
     int passed = 0, failed = 0;
-    while (count < MOST && fgets(names[count], sizeof *names, stdin)) names[count][strcspn(names[count], "\n")] = '\0', count++;
-    if (count == 0 || !save()) return 2;
+    while (count < MOST && scanf("%39s %39[^\n]", urls[count], texts[count]) == 2) count++;
+    if (argc != 2 || count == 0 || !save()) return 2;
     for (size_t call = 0; call < sizeof calls / sizeof *calls; call++) {
-        double slow = seconds(calls[call].begin, zeros);
+        double least[BYTES + 1];
+        measure(calls[call].make, least);
         for (int at = 0; at < BYTES; at++) {
-            char key[BYTES] = {0};
-            key[at] = 1;
-            double quick = seconds(calls[call].begin, key);
-            bool is_well = quick >= 0 && slow > 1.5 * quick;
-            if (!is_well) fprintf(stderr, "%s, byte %d of the key: FAILED: %f seconds, by zeros %f\n", calls[call].name, at, quick, slow);
+            bool is_well = least[at] >= 0 && least[BYTES] > 2.5 * least[at];
+            if (!is_well) {
+                fprintf(stderr, "%s, %s, byte %d of the key: FAILED: %f seconds, with zeros %f\n", argv[1], calls[call].name, at,
+                        least[at], least[BYTES]);
+            }
             *(is_well ? &passed : &failed) += 1;
         }
     }
     free(list);
-    printf("test_keys: %d passed, %d failed\n", passed, failed);
+    printf("test_keys, %s: %d passed, %d failed\n", argv[1], passed, failed);
     return failed > 0;
 }
