@@ -1,5 +1,6 @@
 //! The passage between a cookie and its saved form.
-ghost use Rattle.std.specs.Prelude.{◌≡◌, ◌⊎◌, Err, IfErr, IfOk, Ok};
+ghost use Rattle.std.specs.Prelude.{◌≡◌, ◌⊎◌, Err, IfErr, IfOk, IsSome, Ok, OnErr};
+ghost use Rattle.cookie_parts.specs.Domain.{text_if_any};
 ghost use Rattle.cookie_parts.specs.Passage.{cookie_of_saved, domain_of_saved, end_of_saved, saved_domain, saved_end, saved_of};
 ghost use Rattle.cookie_parts.specs.Views.{domain_value, expiry_value};
 ghost use Rattle.cookie_forms.specs.Saved.{domain_view, expiry_view, saved_view};
@@ -55,7 +56,8 @@ impl Cookie<'static> {
 }
 
 fn saved_domain(domain: &CookieDomain) -> Result<SavedDomain, AllocError>
-    ensures { IfOk result (λ saved. domain_view saved ≡ saved_domain (domain_value domain.now)) }
+    ensures saved { IfOk result (λ saved. domain_view saved ≡ saved_domain (domain_value domain.now)) }
+    ensures memory { OnErr result (IsSome (text_if_any (domain_value domain.now))) }
 {
     Ok(match domain {
         CookieDomain::HostOnly(domain) => SavedDomain::HostOnly(domain.clone()?),

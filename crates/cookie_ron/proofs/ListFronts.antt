@@ -67,6 +67,19 @@ cookies_turn front entries s r t p no_bracket cookie_is comma_is is =
     ∙ onto_both front (p ∷ []) (cookies_at (suc (length t)) t)
     ∙ ap (λ es. onto es (cookies_at (suc (length t)) t)) (sym is)
 
+with_one : (front : List (Parts (List ℕ))) (p : Parts (List ℕ)) (o : Read) (rest : List ℕ) → onto front (onto (p ∷ []) o) ≡ Some ([], rest) → ⊥
+with_one front p None rest e = cc
+with_one [] p (Some read) rest e = let none : p ∷ read.0 ≡ [] = ap (λ q. q.0) (same_Some _ _ e) in cc
+with_one (q ∷ front) p (Some read) rest e = let none : q ∷ (front ++ p ∷ read.0) ≡ [] = ap (λ q. q.0) (same_Some _ _ e) in cc
+
+-- without a closing bracket it is no list of none
+pub some_cookie : (front : List (Parts (List ℕ))) (closing : Option (List ℕ)) (first : Option (Parts (List ℕ) × List ℕ))
+    (more : Parts (List ℕ) × List ℕ → Read) (rest : List ℕ) → closing ≡ None
+    → onto front (either closing (λ t. Some ([], t)) (option_and_then (λ p. onto (p.0 ∷ []) (more p)) first)) ≡ Some ([], rest) → ⊥
+some_cookie front (Some t) first more rest none e = cc
+some_cookie front None None more rest none e = cc
+some_cookie front None (Some p) more rest none e = with_one front p.0 (more p) rest e
+
 -- ---- cookies
 
 more_front : {s r t rest : List ℕ} (p : Parts (List ℕ)) (ps : List (Parts (List ℕ))) → Front (Cookie p) s r → Front (Sign (codes ",")) r t → Front (Cookies ps) t rest

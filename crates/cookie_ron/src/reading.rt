@@ -1,5 +1,5 @@
 //! Saved cookies out of a list in RON.
-ghost use Rattle.std.specs.Prelude.{◌≡◌, ◌⊎◌, [], None, Some, Ok, Err, IfOk, IfErr, length, map, option_map, suc, string_bytes};
+ghost use Rattle.std.specs.Prelude.{◌≡◌, ◌≢◌, ◌⊎◌, ℕ, List, [], None, Some, Ok, Err, IfOk, IfErr, IsOk, length, map, option_map, suc, string_bytes};
 ghost use Rattle.std.specs.Str.{chars};
 ghost use Rattle.cookie_forms.specs.Saved.{saved_view, domain_view, expiry_view};
 ghost use Rattle.cookie_forms.specs.ReadTrees.{ends_at, with_moment, all_with_moment};
@@ -52,6 +52,7 @@ fn with_moments(alloc: Global, entries: Vec<Entry>) -> Result<Vec<Saved>, SavedE
     ensures read { IfOk result (λ list. all_with_moment (map entry_view entries.items) ≡ Some (map saved_view list.items)) }
     ensures refused { IfErr result (λ e. (e ≡ SavedError.Memory)
         ⊎ ((e ≡ SavedError.Moment) × (all_with_moment (map entry_view entries.items) ≡ None))) }
+    ensures memory { result ≡ Err SavedError.Memory → entries.items ≢ [] }
 {
     let mut list = Vec::new(alloc);
     for entry in entries {
@@ -92,6 +93,7 @@ fn list_at(alloc: Global, input: &[char]) -> Result<Vec<Entry>, SavedError>
     ensures read { IfOk result (λ list. list_at input.now ≡ Some (map entry_view list.items)) }
     ensures refused { IfErr result (λ e. (e ≡ SavedError.Memory)
         ⊎ ((e ≡ SavedError.Ron) × (list_at input.now ≡ None))) }
+    ensures memory { list_at input.now ≡ Some [] → IsOk result }
 {
     let (entries, rest) = cookies_at(alloc, sign_at(b"[", input)?)?;
     match drop_blanks(rest) {
@@ -105,6 +107,7 @@ fn cookies_at(alloc: Global, input: &[char]) -> Result<(Vec<Entry>, &[char]), Sa
     ensures read { IfOk result (λ p. cookies_at (suc (length input.now)) input.now ≡ Some (map entry_view p.0.items, p.1.now)) }
     ensures refused { IfErr result (λ e. (e ≡ SavedError.Memory)
         ⊎ ((e ≡ SavedError.Ron) × (cookies_at (suc (length input.now)) input.now ≡ None))) }
+    ensures memory { (rest : List ℕ) → cookies_at (suc (length input.now)) input.now ≡ Some ([], rest) → IsOk result }
 {
     let mut entries = Vec::new(alloc);
     let mut rest = input;

@@ -1,5 +1,5 @@
 -- Rows that are walked to make a list of them, and cookies that come as a list.
-use Rattle.std.proofs.Common.{◌≡◌, ℕ, ◌+◌, Bool, true, List, [], ◌∷◌, ◌++◌, filter, Option, Result, Ok, Err, IfOk, IfErr, OnErr, OnOk, IsTrue, inr, refl, sym, ap, append_assoc, ◌∙◌}
+use Rattle.std.proofs.Common.{◌≡◌, ℕ, ◌+◌, Bool, true, List, [], ◌∷◌, ◌++◌, filter, Option, Result, Ok, Err, IfOk, IfErr, IsOk, OnErr, OnOk, IsTrue, inr, map, Bor, refl, sym, ap, append_assoc, ◌∙◌}
 use Rattle.std.specs.Io.KnownBytes.{Appends}
 use Rattle.std.specs.Prelude.{◌≢◌}
 use Rattle.std.specs.Result.{result_map_both}
@@ -10,15 +10,17 @@ use Rattle.std.specs.declared.vec.Vec.{Vec}
 use Rattle.cookie_words.specs.Moments.{Moment}
 use Rattle.cookie_device.specs.Device.{AppendsBeginning}
 use Rattle.cookie_forms.specs.Saved.{Parts}
-use Rattle.cookie_parts.specs.Cookie.{Row}
+use Rattle.cookie_forms.specs.declared.error.SavedError.{SavedError}
+use Rattle.cookie_parts.specs.Cookie.{Row, and_then}
 use Rattle.cookie_parts.specs.Passage.{cookie_of_saved}
 use Rattle.cookie_parts.specs.declared.cookie_error.CookieError.{CookieError}
 use Rattle.cookie_parts.specs.declared.error.Error.{Error}
-use Rattle.cookie_parts.specs.declared.error.Error.TheVariants.{Io}
-use Rattle.cookie_store.specs.SavedForms.{cookies_of_saved}
+use Rattle.cookie_parts.specs.declared.error.Error.TheVariants.{Cookie, Io}
+use Rattle.cookie_store.specs.SavedForms.{cookies_of_saved, read_cookies}
 use Rattle.cookie_store.specs.Lists.{FailsToSaveList, MakesCookies, MakesVec, RefusesText, WritesList}
 use Rattle.cookie_store.specs.Saving.{line_text}
 use Rattle.cookie_store.proofs.SavedLines.{filter_around}
+use Rattle.cookie_store.proofs.Walked.{around}
 
 -- a list with an item in it
 with_item : {A : Type 0} (before : List A) (x : A) (after : List A) → before ++ x ∷ after ≢ []
@@ -30,6 +32,12 @@ pub some_kept : {A : Type 0} (kept : A → Bool) (all before : List A) (x : A) (
     → filter kept all ≢ []
 some_kept kept all before x after is passes none =
     with_item (filter kept before) x (filter kept after) (sym (ap (filter kept) is ∙ filter_around kept before x after passes) ∙ none)
+
+-- a walk over all items comes to one that passes
+pub some_walked : {A : Type 0} (kept : A → Bool) (all : List A) (done : List (Bor A)) (x : Bor A) (left after : List A) → left ≡ x.now ∷ after
+    → map (λ c. c.now) done ++ left ≡ all → kept x.now ≡ true → filter kept all ≢ []
+some_walked kept all done x left after step so_far passes =
+    some_kept kept all (map (λ c. c.now) done) x.now after (around done x left after all step so_far) passes
 
 -- of an error that is the answer holds what holds in any case
 pub on_refusal : {T E P : Type 0} (answer : Result T E) → P → OnErr answer P
@@ -89,3 +97,25 @@ pub form_done : (done : List Row) (cookie : Row) (form : Parts Moment) (forms : 
     → result_map_both (λ cookies. done ++ cookies) (λ fault. fault) (cookies_of_saved (form ∷ forms))
     ≡ result_map_both (λ cookies. (done ++ cookie ∷ []) ++ cookies) (λ fault. fault) (cookies_of_saved forms)
 form_done done cookie form forms is = rw is (moved_over done cookie (cookies_of_saved forms))
+
+some_made : (made : Result Row CookieError) (others : Result (List Row) CookieError)
+    → result_map_both (λ cookies. cookies) Cookie (and_then made (λ cookie. result_map_both (λ cookies. cookie ∷ cookies) (λ fault. fault) others)) ≡ Ok []
+    → ⊥
+some_made (Err fault) others e = cc
+some_made (Ok cookie) (Err fault) e = cc
+some_made (Ok cookie) (Ok cookies) e = let some : Ok (cookie ∷ cookies) ≡ Ok [] = e in cc
+
+-- where there are no cookies, no form was read
+pub none_read : (told : Result (List (Parts Moment)) SavedError) → read_cookies told ≡ Ok [] → told ≡ Ok []
+none_read (Err fault) e = cc
+none_read (Ok []) e = refl
+none_read (Ok (form ∷ forms)) e = absurd (some_made (cookie_of_saved form) (cookies_of_saved forms) e)
+
+pub none_listed : (told : Result (List (Parts Moment)) SavedError) (forms : List (Parts Moment)) → told ≡ Ok forms → read_cookies told ≡ Ok [] → forms ≡ []
+none_listed told forms is none = let empty : told ≡ Ok [] = none_read told none in cc
+
+-- what fails for some items alone succeeds for none
+pub done_of_none : {A B T E : Type 0} (f : A → B) (items : List A) (answer : Result T E) → map f items ≡ [] → OnErr answer (items ≢ []) → IsOk answer
+done_of_none f items (Ok done) none fails = refl
+done_of_none f [] (Err error) none fails = absurd (fails refl)
+done_of_none f (x ∷ items) (Err error) none fails = cc

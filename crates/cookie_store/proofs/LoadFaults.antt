@@ -1,14 +1,13 @@
 -- Faults of loading, with and without the number of the line.
-use Rattle.std.proofs.Common.{◌≡◌, ℕ, ◌+◌, ◌++◌, ◌∷◌, List, Option, Result, Ok, Err, IfSome, IfOk, IfErr, inl, inr, refl, rules}
+use Rattle.std.proofs.Common.{◌≡◌, ℕ, List, Option, Result, Err, IfSome, inl, inr, refl}
 use Rattle.std.proofs.lemmas.Option.{IfSome_then}
-use Rattle.std.specs.Str.Lines.{lines}
 use Rattle.cookie_device.specs.FillError.{CountsRead}
 use Rattle.cookie_device.specs.declared.lines.FillError.{FillError}
 use Rattle.cookie_device.specs.declared.lines.FillError.TheVariants as Fill
 use Rattle.cookie_parts.specs.Cookie.{Row}
 use Rattle.cookie_parts.specs.declared.error.Error.{Error}
 use Rattle.cookie_store.specs.LoadFault.{error_of, IsReachedAt, StopsLoading}
-use Rattle.cookie_store.specs.Loading.{AreCookies, FailsAtLine, FailsToLoad, StopsWithinLine}
+use Rattle.cookie_store.specs.Loading.{FailsAtLine, FailsToLoad, StopsWithinLine}
 use Rattle.cookie_store.specs.declared.loading.LoadFault.{LoadFault}
 use Rattle.cookie_store.specs.declared.loading.LoadFault.TheVariants.{Source, Line}
 

@@ -1,5 +1,5 @@
 -- Cookies that are made of lines of JSON end at no moment before the year 0, nor do rows that are built from them.
-use Rattle.std.proofs.Common.{◌≡◌, ℕ, Bool, true, false, not, ◌&&◌, ◌||◌, List, [], ◌∷◌, map, Option, Some, None, option_map, Result, Ok, Err, int_lt, pos, ℤ, refl, sym, ap, subst, ◌∙◌, arith, if◌then◌else◌, drop}
+use Rattle.std.proofs.Common.{◌≡◌, ℕ, Bool, true, false, not, ◌&&◌, ◌||◌, List, [], ◌∷◌, map, Option, Some, None, option_map, Result, Ok, Err, int_lt, pos, refl, ap, subst, ◌∙◌, arith, if◌then◌else◌, drop}
 use Rattle.std.specs.List.{list_any}
 use Rattle.std.proofs.lemmas.Bool.{or_parts, cond_both}
 use Rattle.std.proofs.lemmas.Bool.Decides.{nat_tests}
@@ -24,7 +24,7 @@ use Rattle.cookie_parts.specs.declared.error.Error.{Error}
 use Rattle.cookie_parts.specs.declared.error.Error.TheVariants.{Cookie, Saved}
 use Rattle.cookie_laws.specs.Rows.{after_last, changed, has_key, in_domain, in_group, key_of, placed, put, put_all, replaced}
 use Rattle.cookie_raw.specs.Raw.{Raw}
-use Rattle.cookie_store.specs.JsonLines.{json_cookie, tree_cookie, MakesJson}
+use Rattle.cookie_store.specs.JsonLines.{tree_cookie, MakesJson}
 use Rattle.cookie_store.specs.Loading.{AreCookies}
 use Rattle.cookie_store.specs.Migration.{HaveSavedForms}
 

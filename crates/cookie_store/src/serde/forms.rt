@@ -1,5 +1,5 @@
 //! Lists of saved cookies in the forms that a store is saved in, and loaded from.
-ghost use Rattle.std.specs.Prelude.{◌≡◌, ◌⊎◌, ◌-◌, ◌^◌, ◌<◌, map, filter, option_map, Err, IfErr, IfOk, Ok, OnErr, OnOk};
+ghost use Rattle.std.specs.Prelude.{◌≡◌, ◌≢◌, ◌⊎◌, ◌-◌, ◌^◌, ◌<◌, [], map, filter, option_map, Err, IfErr, IfOk, IsOk, Ok, OnErr, OnOk};
 ghost use Rattle.std.specs.Io.KnownBytes.{IsAtEnd};
 ghost use Rattle.std.specs.List.{list_any};
 ghost use Rattle.std.specs.Result.{result_map_both};
@@ -86,8 +86,9 @@ fn any_early(rows: &Rows, now: &Option<DateTime>) -> bool
 
 // The saved forms of those rows.
 fn saved_list(alloc: Global, rows: &Rows, now: &Option<DateTime>) -> Result<Vec<Saved>, AllocError>
-    ensures { IfOk result (λ list. map saved_view list.items
+    ensures saved { IfOk result (λ list. map saved_view list.items
         ≡ map saved_of (filter (is_among (option_map moment_of now.now)) rows.now.rows)) }
+    ensures memory { OnErr result (filter (is_among (option_map moment_of now.now)) rows.now.rows ≢ []) }
 {
     let mut list = Vec::new(alloc);
     for row in rows.iter() {
@@ -166,6 +167,7 @@ fn cookies_of_tree(alloc: Global, tree: &Value) -> Result<Vec<Cookie<'static>>, 
     ensures cookies { IfOk result (λ cookies. tree_cookies (view tree.now) ≡ Ok cookies.items) }
     ensures refused { IfErr result (λ error. (error ≡ Error.Memory) ⊎ (tree_cookies (view tree.now) ≡ Err error)) }
     ensures early { (fault : SavedError) → list_at (view tree.now) ≡ Err fault → result ≡ Err (Error.Saved fault) }
+    ensures memory { tree_cookies (view tree.now) ≡ Ok [] → IsOk result }
 {
     let list = list_from_value(alloc, tree)?;
     cookies_of_list(alloc, list)
@@ -176,6 +178,7 @@ fn cookies_of_list(alloc: Global, list: Vec<Saved>) -> Result<Vec<Cookie<'static
     ensures cookies { IfOk result (λ cookies. cookies_of_saved (map saved_view list.items) ≡ Ok cookies.items) }
     ensures refused { IfErr result (λ error. (error ≡ Error.Memory)
         ⊎ (result_map_both (λ cookies. cookies) Error.Cookie (cookies_of_saved (map saved_view list.items)) ≡ Err error)) }
+    ensures memory { OnErr result (list.items ≢ []) }
 {
     let mut cookies = Vec::new(alloc);
     for saved in list {

@@ -1,13 +1,12 @@
-use Rattle.std.proofs.Common.{map, option_map, sym}
+use Rattle.std.proofs.Common.{option_map, sym}
 use Rattle.cookie_words.specs.Moments.{moment_of}
 use Rattle.cookie_store.specs.Saving.{is_among}
-use Rattle.cookie_store.proofs.ListedRows.{on_refusal, some_kept}
-use Rattle.cookie_store.proofs.Walked.{around}
+use Rattle.cookie_store.proofs.ListedRows.{on_refusal, some_walked}
 use Rattle.cookie_store.proofs.lists.copies_of.Goals as goal
 
 pub returns-in_err-push-clause-memory : goal.returns-in_err-push-clause-memory
 returns-in_err-push-clause-memory c =
     let l = c.loop-row in
-    let some = some_kept (is_among (option_map moment_of c.args.now.now)) c.args.rows.now.rows (map (λ c. c.now) l.yielded) c.in-Some.row.now c.next.new.self
-    (around l.yielded c.in-Some.row l.row-iterator c.next.new.self c.args.rows.now.rows c.in-Some.ensures.steps l.invariant.rest) (sym c.if-is_among.ensures) in
-    on_refusal c.from_residual-in_err-push.result some
+    on_refusal c.from_residual-in_err-push.result
+    (some_walked (is_among (option_map moment_of c.args.now.now)) c.args.rows.now.rows l.yielded c.in-Some.row l.row-iterator c.next.new.self
+    c.in-Some.ensures.steps l.invariant.rest (sym c.if-is_among.ensures))

@@ -13,4 +13,5 @@ invariant-loop-saved l = record {
   whole : cookies_of_saved (map saved_view l.fn.list.items)
       ≡ result_map_both (λ others. l.cookies.items ++ others) (λ fault. fault)
       (cookies_of_saved (map saved_view (into_iter_items l.saved-iterator)));
+  all : l.yielded ++ into_iter_items l.saved-iterator ≡ l.fn.list.items;
 }
