@@ -2,11 +2,11 @@
    SipHash-1-3 by the key 0, of which a map uses 32 bits, has the same first byte and the same last 11 bits. A map of up to
    18,432 names then has them all in one place.
        cc -O3 -o collisions tools/collisions.c
-       ./collisions 20000 > colliding      (some four minutes)
+       ./collisions 18000 > colliding      (some four minutes)
        ./collisions 2300 paths             (some four seconds)
    With `names`, `paths` or `domains` as second argument it prints those, one a line. They have the same last 8 bits, and collide
    in a map of up to 2,304.
-   tools/bench runs the program on such names, and tools/keys on all three: under its random key they take as long as others. */
+   tools/bench runs the program on such names, and tools/keys on all three: under its random key they take less than twice as long as others. */
 #include <stdbool.h>
 #include <stdint.h>
 #include <stdio.h>
@@ -43,7 +43,7 @@ static uint32_t hash(uint64_t word) {
 
 int main(int argc, char **argv) {
     bool is_script = argc < 3;
-    int missing = argc > 1 ? atoi(argv[1]) : 20000, bits = is_script ? 6 : 5;
+    int missing = argc > 1 ? atoi(argv[1]) : 18000, bits = is_script ? 6 : 5;
     const char *letters = is_script ? "abcdefghijklmnopqrstuvwxyzABCDEFGHIJKLMNOPQRSTUVWXYZ0123456789-_"
                                     : "abcdefghijklmnopqrstuvwxyz012345";
     uint32_t mask = is_script ? 0xFF0007FF : 0xFF0000FF;

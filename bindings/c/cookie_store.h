@@ -138,8 +138,9 @@ enum cookie_store_status cookie_store_set_hash_key(cookie_store *store, const ch
 enum cookie_store_status cookie_store_set(cookie_store *store, const char *url, size_t url_len, const char *text, size_t text_len,
                                           int64_t now);
 
-/* Writes the value of the Cookie header of a request for the URL at the moment, as `a=1; b=2`: the cookies of RFC 6265 5.4, in the store's
- * order. Longer paths do not come first: domains stand in the order in which each got its first cookie, in them paths, and in these names.
+/* Writes the value of the Cookie header of a request for the URL at `now`, such as `a=1; b=2`: the cookies of RFC 6265 5.4, in its order.
+ * Cookies with longer paths come first, and of equally long ones the cookie that was created first. A cookie that replaces another keeps its
+ * place, also that of an expired one which was not removed; loaded cookies count as created in the order of the list.
  * `needed` is its length: 0 where no cookie is given, and then no header is to be sent. Secure cookies are given for https, and for any scheme
  * on this machine (localhost, 127.0.0.0/8, [::1]); HttpOnly ones for schemes that begin with http. Names and values are written as they
  * came: a text that was no line of a header may have put any control character among them, so look before they go into a connection.
@@ -156,7 +157,7 @@ enum cookie_store_status cookie_store_remove(cookie_store *store, const char *do
 enum cookie_store_status cookie_store_clear(cookie_store *store);
 
 /* Removes the cookies that have expired at `now`, and frees their memory. The others keep their order. From `now` on cookie_store_get returns
- * the same as before: it never returns an expired cookie. `removed` is set to the number of cookies removed, and to 0 on an error. NO_STORE,
+ * the same cookies as before: it never returns an expired one. `removed` is set to the number of cookies removed, and to 0 on an error. NO_STORE,
  * BAD_MOMENT. */
 enum cookie_store_status cookie_store_remove_expired(cookie_store *store, int64_t now, size_t *removed);
 

@@ -115,12 +115,12 @@ static void test_get(void) {
     char out[8];
     size_t needed = UNTOLD;
     cookie_store_new(&store, "", 0);
-    set(&store, PAGE, "a=1; Max-Age=60", NOW);
     set(&store, PAGE, "b=2; Path=/", NOW);
+    set(&store, PAGE, "a=1; Max-Age=60", NOW);
     set(&store, PAGE, "s=3; Secure", NOW);
     /* A text needs no zero at its end. */
     equal("a text within another", cookie_store_set(&store, PAGE, strlen(PAGE), "c=4_", 3, NOW), COOKIE_STORE_INSERTED);
-    gives("in the order of the store", &store, PAGE, NOW, "a=1; c=4; b=2");
+    gives("longer paths first", &store, PAGE, NOW, "a=1; c=4; b=2");
     gives("Secure", &store, "https://a.example/d/page", NOW, "a=1; s=3; c=4; b=2");
     gives("at the end of a", &store, PAGE, NOW + 60, "c=4; b=2");
     gives("another path", &store, "http://a.example/", NOW, "b=2");

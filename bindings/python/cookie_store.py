@@ -291,8 +291,8 @@ class CookieStore:
         return _STATUSES[number]
 
     def header(self, url: Text, now: Optional[int] = None) -> str:
-        """The value of the Cookie header of a request for the URL; the empty text where no header is to be sent. The cookies stand in the store's
-        order: longer paths do not come first. A text that was no line of a header may have put a control character into it. Raises BAD_URL."""
+        """The value of the Cookie header of a request for the URL; the empty text if no header is to be sent. The cookies are in the order
+        of RFC 6265 5.4, longer paths first, as cookie_store_get of C has it. A text that was no line of a header may have put a control character into it. Raises BAD_URL."""
         page, moment, needed = _bytes(url), _moment(now), ctypes.c_size_t()
         with self._lock:
             number = _get(self._at, page, len(page), moment, self._buffer, len(self._buffer), needed)

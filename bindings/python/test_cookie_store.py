@@ -201,9 +201,9 @@ class StoreTests(unittest.TestCase):
         self.assertEqual(CookieStore().cookies(), [])
 
     def test_order(self):
-        """Rows of one domain and path stand together, as they came; a longer path does not come first."""
+        """Longer paths come first, and of equally long ones the cookie that was created first."""
         store = filled('b=2; Path=/', 'a=1', 'd=4; Domain=example', 'c=3; Path=/')
-        self.assertEqual(store.header(PAGE, NOW), 'b=2; c=3; a=1; d=4')
+        self.assertEqual(store.header(PAGE, NOW), 'a=1; d=4; b=2; c=3')
 
     def test_domain_limit(self):
         store = CookieStore()
@@ -545,7 +545,7 @@ class JarTests(unittest.TestCase):
         jar = StoreJar(policy=http.cookiejar.DefaultCookiePolicy(blocked_domains=['b.example']))
         for url in (PAGE, 'http://b.example/'):
             jar.extract_cookies(Response('a=1; Path=/', 'b=2'), urllib.request.Request(url))
-        self.assertEqual((sent(jar, PAGE), sent(jar, 'http://b.example/')), ('a=1; b=2', None))
+        self.assertEqual((sent(jar, PAGE), sent(jar, 'http://b.example/')), ('b=2; a=1', None))
         self.assertEqual(len(jar.copy()), 2)
         jar.extract_cookies(Response('a=1; Path=/; Max-Age=0'), urllib.request.Request(PAGE))
         self.assertEqual(sent(jar, PAGE), 'b=2')

@@ -8,7 +8,7 @@ from bench_parts.programs import ROOT
 
 MINUTES = 8  # after which a tool is stopped
 COMMANDS = ['tools/speed 50 20 2000', 'tools/speed_convert 10000 100000', 'tools/speed_bindings',
-            'tools/speed_lists 10000']
+            'tools/speed_lists 10000', 'tools/speed_header']
 
 
 def environment(program, archive, lists):

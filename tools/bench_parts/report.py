@@ -110,11 +110,12 @@ apt-get install cargo librust-cookie-store-dev librust-cookie-dev librust-public
 tools/bench --write                         # on an idle machine
 ```
 
-A peer or a tool that is missing is left out. Two of the other tools need builds of their own:
+A peer or a tool that is missing is left out. Three of the other tools need builds of their own:
 
 ```sh
 (cd crates/cookie_store_c && rt lib)       # the library, or another one by --archive FILE
 COOKIE_LISTS=FOLDER tools/speed_lists 1    # some ten minutes
+COOKIE_LISTS=FOLDER tools/speed_header     # some ten more
 tools/bench --write --lists FOLDER
 ```
 '''

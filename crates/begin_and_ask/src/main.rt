@@ -12,8 +12,7 @@ fn main(rt: HostRuntime) -> Result<(), Fail> {
     let mut store = CookieStore::new(alloc);
     let page = Url::parse(alloc, "http://example.com/foo/bar")?;
     store.parse("cookie1=value1", &page, now)?;
-    for cookie in store.matches(&Url::parse(alloc, "http://example.com/foo/x")?, now)? {
-        println!(rt; "{}={}", cookie.name(), cookie.value())?;
-    }
+    let header = store.cookie_header(&Url::parse(alloc, "http://example.com/foo/x")?, now)?;
+    println!(rt; "Cookie: {header}")?;
     Ok(())
 }

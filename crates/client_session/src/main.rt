@@ -27,7 +27,6 @@ const HEADERS: [(&str, &str); 4] = [
 /// A client's cookies of one site.
 #[derive(Drop)]
 struct Session {
-    alloc: Global,
     site: Url,
     store: CookieStore,
 }
@@ -42,7 +41,7 @@ impl Session {
     ) -> Result<Session, Error> {
         let file = fs::open(files, LEGACY).map_err(|_| Error::Io)?;
         let store = serde::ron::load(alloc, &mut Counted::new(file), now)?;
-        Ok(Session { alloc, site, store })
+        Ok(Session { site, store })
     }
 
     /// Takes the cookies of a response's headers that came at the moment. A cookie that is refused is logged and passed over.
@@ -61,18 +60,9 @@ impl Session {
         Ok(())
     }
 
-    /// The value of the header `Cookie` of a request at the moment.
+    /// The value of the Cookie header of a request at the moment.
     fn header(&self, now: DateTime) -> Result<String, Error> {
-        let mut header = String::new(self.alloc);
-        for (name, value) in self.store.get_request_values(&self.site, now)? {
-            if !header.is_empty() {
-                header.push_str("; ")?;
-            }
-            header.push_str(name)?;
-            header.push('=')?;
-            header.push_str(value)?;
-        }
-        Ok(header)
+        Ok(self.store.cookie_header(&self.site, now)?)
     }
 
     /// Writes the cookies that outlast the session as a list in JSON.
@@ -90,7 +80,7 @@ impl Session {
     ) -> Result<Session, Error> {
         let file = fs::open(files, FILE).map_err(|_| Error::Io)?;
         let store = serde::json::load(alloc, &mut Counted::new(file), now)?;
-        Ok(Session { alloc, site, store })
+        Ok(Session { site, store })
     }
 }
 

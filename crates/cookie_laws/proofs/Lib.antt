@@ -7,6 +7,7 @@ pub mod CoveredHosts
 pub mod DifferentKeys
 pub mod Filtered
 pub mod FoundRows
+pub mod HeaderOrder
 pub mod KeptByCalls
 pub mod LeavingKeys
 pub mod LimitedRows

@@ -1,8 +1,10 @@
 -- Calls for domains that are related to a URL, and the rows that are given for it.
-use Rattle.std.proofs.Common.{◌≡◌, ℕ, Bool, true, List, [], ◌∷◌, ◌++◌, eqb, Option, Some, None, nat_eq, ◌∙◌, refl, sym, ap, subst, ⊎_elim}
-use Rattle.std.specs.List.{list_any, ends_with}
+use Rattle.std.proofs.Common.{◌≡◌, ℕ, Bool, true, List, [], ◌∷◌, ◌++◌, eqb, Option, Some, None, nat_eq, ◌∙◌, refl, sym, ap, subst, ⊎_elim, inl, inr, IsPermutation}
+use Rattle.std.specs.List.{AllByRecursion, list_any, ends_with}
 use Rattle.std.specs.Str.{bytes_eq}
-use Rattle.std.proofs.lemmas.Bool.{and_parts, or_cases, or_left, or_right, cond_both}
+use Rattle.std.proofs.lemmas.Bool.{and_parts, cases_Bool, or_cases, or_left, or_right, cond_both}
+use Rattle.std.proofs.lemmas.List.Elements.{All-from_recursion}
+use Rattle.std.proofs.lemmas.List.Sorted.{All-permutation}
 use Rattle.std.proofs.lemmas.Slice.Eq.{bytes_eq-Decides}
 use Rattle.url.specs.Parts.{Parts}
 use Rattle.cookie_words.specs.Moments.{Moment}
@@ -11,11 +13,13 @@ use Rattle.cookie_parts.specs.Domain.{DomainValue, HostOnly, Suffix, NotPresent,
 use Rattle.cookie_parts.specs.Hosts.{host_of, passes}
 use Rattle.cookie_laws.specs.Contents.{Contents}
 use Rattle.cookie_laws.specs.Given.{given, is_given}
+use Rattle.cookie_laws.specs.Header.{InHeaderOrder}
 use Rattle.cookie_laws.specs.Rows.{Key, key_of}
-use Rattle.cookie_laws.specs.Runs.{Call, replies, rows_after}
+use Rattle.cookie_laws.specs.Runs.{Call, replies, rows_after, store_after}
 use Rattle.cookie_laws.specs.Related.{after_dots, is_related, passes_or_none, concerns, left, replies_to}
 use Rattle.cookie_laws.proofs.CoveredHosts.{front-ends_with}
 use Rattle.cookie_laws.proofs.Filtered.{filter-within}
+use Rattle.cookie_laws.proofs.HeaderOrder.{same_order}
 use Rattle.cookie_laws.proofs.RowsOfKeys.{IsByDomain}
 use Rattle.cookie_laws.proofs.RunsOfKeys.{IsOfKeys, same_stores, same_replies}
 
@@ -72,6 +76,14 @@ given-related url now row is =
     let for_url = (and_parts _ _ (and_parts _ _ (and_parts _ _ matches).0).0).0 in
     passes-weaker (is_for_host row.domain) (λ host. list_any (bytes_eq (domain_text row.domain)) (host ∷ after_dots host)) (for_host-related row.domain) (host_of url) for_url
 
+-- each of those that are given is
+all_related : (url : Parts) (now : Moment) (rows : List Row) → AllByRecursion (λ row. is_key_related url (key_of row) ≡ true) (given url now rows)
+all_related url now [] = tt
+all_related url now (row ∷ rows) = elim (cases_Bool (is_given url now row)) [
+  | inl is ↦ rw is (given-related url now row is, all_related url now rows)
+  | inr is ↦ rw is (all_related url now rows)
+]
+
 -- what is given for a URL depends on the calls for related domains alone
 pub same_given : (url : Parts) (now : Moment) (calls : List Call) (store : Contents)
     → given url now (rows_after calls store) ≡ given url now (rows_after (left url calls) store)
@@ -81,6 +93,20 @@ same_given url now calls store =
     sym (within (rows_after calls store))
     ∙ ap (λ after. given url now after.rows) (same_stores (related_calls url) calls store)
     ∙ within (rows_after (left url calls) store)
+
+-- so does its order in the header
+pub same_header : (url : Parts) (now : Moment) (calls : List Call) (store : Contents) (cookies : List Row)
+    → InHeaderOrder url now (store_after calls store) cookies → InHeaderOrder url now (store_after (left url calls) store) cookies
+same_header url now calls store cookies asked =
+    let IsRelated : Row → Type 0 = λ row. is_key_related url (key_of row) ≡ true in
+    let after = store_after calls store in
+    let alone = store_after (left url calls) store in
+    let made = ap (λ passing. passing.made) (same_stores (related_calls url) calls store) in
+    let related = All-from_recursion IsRelated (given url now after.rows) (all_related url now after.rows) in (
+      subst (λ rows. IsPermutation rows cookies) (same_given url now calls store) asked.0,
+      same_order (is_key_related url) after.made alone.made made cookies
+          (All-permutation IsRelated (given url now after.rows) cookies asked.0 related) asked.1,
+    )
 
 -- so do the replies to them
 pub same_related_replies : (url : Parts) (calls : List Call) (store : Contents) → replies_to (concerns url) calls store ≡ replies (left url calls) store

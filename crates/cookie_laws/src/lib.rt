@@ -14,6 +14,7 @@ ghost use Rattle.cookie_laws.specs.Acceptance.{admitted, is_listed, received, Is
 ghost use Rattle.cookie_laws.specs.Confinement.{IsConfined, IsConfinedAsPut};
 ghost use Rattle.cookie_laws.specs.Contents.{contents_of, has_ended, leaving, unexpired, Contents, HasMade};
 ghost use Rattle.cookie_laws.specs.Given.{given, is_given};
+ghost use Rattle.cookie_laws.specs.Header.{InHeaderOrder};
 ghost use Rattle.cookie_laws.specs.Related.{concerns, domain_calls, domain_keys, domain_rows, is_of_domain, is_related, left, replies_to};
 ghost use Rattle.cookie_laws.specs.Rows.{are_rows, built, changed, has_key, is_live, key_of, row_of, same_domain, same_key, Key};
 ghost use Rattle.cookie_laws.specs.Runs.{Call, replies, rows_after, store_after};
@@ -23,10 +24,13 @@ ghost use Rattle.std.specs.List.{list_any, All};
 ghost use Rattle.std.specs.Prelude.{◌+◌, ◌++◌, ◌<◌, ◌≡◌, ◌≤ℤ◌, ◌≤◌, ◌∷◌, ◌⊎◌, ℕ, [], false, length, max, min, true, Bool, List, Ok, Option, Result, Some};
 ghost use Rattle.url.specs.Parts.{Parts};
 
-/// Calls for domains that are not related to a URL change nothing in what is given for it, nor in the replies to the others.
+/// Calls for domains that are not related to a URL change nothing in what is given for it, nor in its order in the header, nor in the
+/// replies to the others.
 pub fn isolated()
     ensures given { (url : Parts) (now : Moment) (calls : List Call) (store : Contents)
         → given url now (rows_after calls store) ≡ given url now (rows_after (left url calls) store) }
+    ensures header { (url : Parts) (now : Moment) (calls : List Call) (store : Contents) (cookies : List Row)
+        → InHeaderOrder url now (store_after calls store) cookies → InHeaderOrder url now (store_after (left url calls) store) cookies }
     ensures replies { (url : Parts) (calls : List Call) (store : Contents)
         → replies_to (concerns url) calls store ≡ replies (left url calls) store }
 {}
@@ -130,6 +134,12 @@ pub fn rebuilt()
 pub fn given_is_related()
     ensures { (url : Parts) (now : Moment) (row : Row)
         → is_given url now row ≡ true → is_related url (domain_text row.domain) ≡ true }
+{}
+
+/// The cookies of a request have one order in the header: two lists of them in that order are the same list.
+pub fn one_header_order()
+    ensures { (url : Parts) (now : Moment) (store : Contents) (cookies others : List Row) → are_rows store.rows ≡ true → HasMade store
+        → InHeaderOrder url now store cookies → InHeaderOrder url now store others → cookies ≡ others }
 {}
 
 /// Removing the cookies that have expired changes no request: at any time from then on the same cookies are given. The keys in

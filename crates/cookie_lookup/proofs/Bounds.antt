@@ -14,7 +14,7 @@ use Rattle.cookie_lookup.proofs.Cuts.{bool_cases}
 use Rattle.cookie_lookup.proofs.PathTexts.{any_append}
 
 -- no more than half of what can be addressed are counted in a text
-counted : (p : ℕ → Bool) (text : List ℕ) → count_by p text ≤ length text
+pub counted : {T : Type 0} (p : T → Bool) (text : List T) → count_by p text ≤ length text
 counted p [] = omega arith
 counted p (b ∷ bs) = omega (arith, sum_by-cons (λ x. cond (p x) 1 0) b bs, below (p b), counted p bs)
   where
@@ -63,7 +63,7 @@ some_of_paths text domain [] h a e = absurd (omega (arith, h))
 some_of_paths text domain (p ∷ ps) h a e =
     any_append (is_of_domain text) p.1 (flat_paths ps) ∙ rw (some_of_rows text domain p.0 p.1 a.0.0 a.0.1 e) refl
 
-some_later : (o : Option ℕ) → is_some (option_map suc o) ≡ is_some o
+pub some_later : (o : Option ℕ) → is_some (option_map suc o) ≡ is_some o
 some_later None = refl
 some_later (Some n) = refl
 
@@ -77,7 +77,7 @@ found_where text (g ∷ gs) a =
       | inr e ↦ rw e (some_later (place_of text gs) ∙ found_where text gs a.1 ∙ sym (split ∙ rw (not_of_paths text g.0 g.1 a.0.1.1 e) refl))
     ]
 
-counts_alike : {T : Type 0} (p q : T → Bool) → ((t : T) → p t ≡ q t) → (ts : List T) → count_by p ts ≡ count_by q ts
+pub counts_alike : {T : Type 0} (p q : T → Bool) → ((t : T) → p t ≡ q t) → (ts : List T) → count_by p ts ≡ count_by q ts
 counts_alike p q e [] = refl
 counts_alike p q e (t ∷ ts) =
     sum_by-cons (λ y. cond (p y) 1 0) t ts ∙ ap (λ b. cond b 1 0 + count_by p ts) (e t) ∙ ap (λ n. cond (q t) 1 0 + n) (counts_alike p q e ts) ∙ sym (sum_by-cons (λ y. cond (q y) 1 0) t ts)

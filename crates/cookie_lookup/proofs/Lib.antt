@@ -4,6 +4,7 @@ pub mod Bounds
 pub mod Counts
 pub mod CoveringTexts
 pub mod Cuts
+pub mod FoundPairs
 pub mod GivenRows
 pub mod HostTexts
 pub mod Known

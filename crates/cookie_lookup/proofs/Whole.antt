@@ -13,7 +13,7 @@ use Rattle.cookie_parts.specs.Hosts.{host_of}
 use Rattle.cookie_lookup.specs.Texts.{related_texts, domain_texts, path_texts, most_paths}
 use Rattle.cookie_laws.specs.Given.{is_given}
 use Rattle.cookie_lookup.specs.Groups.{PathGroups, DomainGroups, AreGroups, ArePaths, Filled}
-use Rattle.cookie_lookup.specs.Seen.{Spot, row_spots, path_spots, domain_spots, given_spots, at_domain, how_many_found}
+use Rattle.cookie_lookup.specs.Seen.{Spot, row_spots, path_spots, domain_spots, given_spots, at_domain, how_many_found, of_host}
 use Rattle.cookie_lookup.specs.Spots.{SameSpots}
 use Rattle.cookie_lookup.proofs.Cuts.{bool_cases}
 use Rattle.cookie_lookup.proofs.HostTexts.{related_differ}
@@ -194,3 +194,9 @@ pub paths_bound : (groups : DomainGroups) (url : Parts) (host : List ℕ) (old n
     → new ≤ old + how_many_found groups (related_texts host) * most_paths url → new ≤ how_many_found groups (domain_texts url) * most_paths url
 paths_bound groups url host old new e o h =
     subst (λ texts. new ≤ how_many_found groups texts * most_paths url) (domain_texts_are url host e) (omega (arith, o, h))
+
+pub from_zero : (f : List (List ℕ) → ℕ) (url : Parts) (host : List ℕ) (old new : ℕ) → Some host ≡ host_of url → old ≡ 0 → old + f (related_texts host) ≤ new → f (domain_texts url) ≤ new
+from_zero f url host old new e o h = subst (λ texts. f texts ≤ new) (domain_texts_are url host e) (omega (arith, o, h))
+
+pub host_from_zero : (f : List ℕ → ℕ) (url : Parts) (host : List ℕ) (old new : ℕ) → Some host ≡ host_of url → old ≡ 0 → old + f host ≤ new → of_host f url ≤ new
+host_from_zero f url host old new e o h = rw (of_host, ← e) (omega (arith, o, h))

@@ -1,13 +1,14 @@
 -- What a search sees, and where the rows stand that it finds.
-use Rattle.std.specs.Prelude.{ℕ, zero, suc, ◌+◌, Bool, List, [], ◌∷◌, ◌++◌, Option, Some, None, option_map, slice_get, bytes_eq, is_some, count_by, if◌then◌else◌}
-use Rattle.std.specs.List.{flat_map, list_any}
+use Rattle.std.specs.Prelude.{ℕ, zero, suc, ◌+◌, Bool, ◌&&◌, List, [], ◌∷◌, ◌++◌, Option, Some, None, option_map, slice_get, bytes_eq, is_some, count_by, if◌then◌else◌}
+use Rattle.std.specs.List.{flat_map, list_any, sum_by}
 use Rattle.url.specs.Parts.{Parts}
 use Rattle.cookie_words.specs.Moments.{Moment}
 use Rattle.cookie_parts.specs.Cookie.{Row}
 use Rattle.cookie_parts.specs.Domain.{domain_text}
+use Rattle.cookie_parts.specs.Hosts.{host_of}
 use Rattle.cookie_laws.specs.Given.{is_given}
 use Rattle.cookie_lookup.specs.Groups.{PathGroups, DomainGroups}
-use Rattle.cookie_lookup.specs.Texts.{domain_texts}
+use Rattle.cookie_lookup.specs.Texts.{domain_texts, path_texts}
 
 -- what a search sees, how often it was asked for a domain and for a path, and the rows of the last group that it gave
 pub record Seen : Type 0 where
@@ -76,6 +77,22 @@ at_domain test groups texts text = elim (place_of text groups) [ None ↦ [] | S
 abbrev pub how_many_found : DomainGroups → List (List ℕ) → ℕ
 how_many_found groups texts = count_by (λ text. is_some (place_of text groups)) texts
 
+-- how many of the texts have a group in a domain
+abbrev pub how_many_paths : PathGroups → List (List ℕ) → ℕ
+how_many_paths paths texts = count_by (λ text. is_some (place_of text paths)) texts
+
+-- how many of these texts of paths have a group in the domain of a text; none where the text has no group
+abbrev pub paths_at_domain : DomainGroups → List (List ℕ) → List ℕ → ℕ
+paths_at_domain groups texts text = elim (place_of text groups) [ None ↦ 0 | Some d ↦ how_many_paths (under d groups) texts ]
+
+-- how many pairs of a text of a domain and a text of a path have a group
+abbrev pub how_many_pairs_found : DomainGroups → List (List ℕ) → List (List ℕ) → ℕ
+how_many_pairs_found groups texts domains = sum_by (paths_at_domain groups texts) domains
+
+-- the count of a URL's host, where it has one; without a host it is 0
+abbrev pub of_host : (List ℕ → ℕ) → Parts → ℕ
+of_host count url = elim (host_of url) [ None ↦ 0 | Some host ↦ count host ]
+
 -- the rows at spots
 
 -- a row is of this domain text
@@ -85,6 +102,15 @@ is_of_domain text row = bytes_eq text (domain_text row.domain)
 -- how many of the texts that the URL's host is looked up by are the domain text of a row
 abbrev pub domains_found : Parts → List Row → ℕ
 domains_found url rows = count_by (λ text. list_any (is_of_domain text) rows) (domain_texts url)
+
+-- a row is of this domain text and this path text
+abbrev pub is_of_texts : List ℕ → List ℕ → Row → Bool
+is_of_texts domain path row = is_of_domain domain row && bytes_eq path row.path.text
+
+-- how many pairs of a domain text and a path text that the URL is looked up by are the texts of a row
+abbrev pub paths_found : Parts → List Row → ℕ
+paths_found url rows =
+    sum_by (λ domain. count_by (λ path. list_any (is_of_texts domain path) rows) (path_texts url.path)) (domain_texts url)
 
 -- the one row that there may be
 abbrev pub list_of : {X : Type 0} → Option X → List X

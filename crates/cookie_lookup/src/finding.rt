@@ -4,7 +4,7 @@ ghost use Rattle.std.specs.Prelude.{◌≡◌, ◌≢◌, ◌≤◌, ◌<◌, �
 ghost use Rattle.cookie_words.specs.Moments.{moment_of};
 ghost use Rattle.cookie_laws.specs.Given.{is_given};
 ghost use Rattle.cookie_lookup.specs.Asked.{is_asked_for};
-ghost use Rattle.cookie_lookup.specs.Seen.{at_domain, at_path, given_spots, how_many_found, row_spots, rows_in, under};
+ghost use Rattle.cookie_lookup.specs.Seen.{at_domain, at_path, given_spots, how_many_found, how_many_pairs_found, of_host, paths_at_domain, row_spots, rows_in, under};
 ghost use Rattle.cookie_lookup.specs.Spots.{SameSpots};
 ghost use Rattle.cookie_lookup.specs.Texts.{domain_texts, dots, ends_text, most_domains, most_paths, path_texts, related_texts, IsRelated};
 ghost use Rattle.cookie_parts.specs.Hosts.{host_of, is_host_name};
@@ -20,7 +20,8 @@ use url::Url;
 
 /// Where the rows stand that are given for the URL at the moment, RFC 6265 5.4, in their order: the position of the domain's group,
 /// in it that of the path's, and in it that of the row. Each text that the URL is looked up by is looked up at most once in a
-/// group. Memory is wanted only where there is such a row.
+/// group. On success there were as many lookups of domains as the URL has texts for them, and no fewer of paths than have a group in
+/// the domains that are found. Memory is wanted only where there is such a row.
 pub fn found<S: Search>(
     alloc: Global,
     search: &mut S,
@@ -34,13 +35,16 @@ pub fn found<S: Search>(
     ensures domains { (S.seen search.new).domains ≤ most_domains url.now }
     ensures paths { (S.seen search.new).paths
         ≤ how_many_found (S.seen search.old).groups (domain_texts url.now) * most_paths url.now }
+    ensures every_domain { OnOk result ((S.seen search.new).domains ≡ most_domains url.now) }
+    ensures every_path { OnOk result
+        (how_many_pairs_found (S.seen search.old).groups (path_texts url.now.path) (domain_texts url.now) ≤ (S.seen search.new).paths) }
     ensures memory { OnErr result (given_spots url.now (moment_of now) (S.seen search.old).groups ≢ []) }
 {
     found_by::<S, ByLookup>(alloc, search, url, now)
 }
 
 /// Finds what `found` does, in time proportional to the length of the URL, the number of stored domains and their lengths, and what is
-/// stored under the domains that are found.
+/// stored under the domains that are found. On success there were no fewer lookups of domains, and of paths in them, than have a group.
 pub fn found_listed<S: ListedSearch>(
     alloc: Global,
     search: &mut S,
@@ -54,6 +58,9 @@ pub fn found_listed<S: ListedSearch>(
     ensures domains { (S.seen search.new).domains ≤ most_domains url.now }
     ensures paths { (S.seen search.new).paths
         ≤ how_many_found (S.seen search.old).groups (domain_texts url.now) * most_paths url.now }
+    ensures every_domain { OnOk result (how_many_found (S.seen search.old).groups (domain_texts url.now) ≤ (S.seen search.new).domains) }
+    ensures every_path { OnOk result
+        (how_many_pairs_found (S.seen search.old).groups (path_texts url.now.path) (domain_texts url.now) ≤ (S.seen search.new).paths) }
     ensures memory { OnErr result (given_spots url.now (moment_of now) (S.seen search.old).groups ≢ []) }
 {
     found_by::<S, ByListing>(alloc, search, url, now)
@@ -73,6 +80,9 @@ fn found_by<S: Search, D: DomainSearch<S>>(
     ensures domains { (S.seen search.new).domains ≤ most_domains url.now }
     ensures paths { (S.seen search.new).paths
         ≤ how_many_found (S.seen search.old).groups (domain_texts url.now) * most_paths url.now }
+    ensures every_domain { OnOk result (of_host (D.fewest (S.seen search.old).groups) url.now ≤ (S.seen search.new).domains) }
+    ensures every_path { OnOk result
+        (how_many_pairs_found (S.seen search.old).groups (path_texts url.now.path) (domain_texts url.now) ≤ (S.seen search.new).paths) }
     ensures memory { OnErr result (given_spots url.now (moment_of now) (S.seen search.old).groups ≢ []) }
 {
     laws::looked_up();
@@ -104,6 +114,9 @@ pub(crate) fn push_domains<S: Search, P: PathSearch<S>>(
     ensures domains { (S.seen search.new).domains ≤ (S.seen search.old).domains + (1 + dots host.now) }
     ensures paths { (S.seen search.new).paths
         ≤ (S.seen search.old).paths + how_many_found (S.seen search.old).groups (related_texts host.now) * most_paths url.now }
+    ensures every_domain { OnOk result ((S.seen search.new).domains ≡ (S.seen search.old).domains + (1 + dots host.now)) }
+    ensures every_path { OnOk result ((S.seen search.old).paths
+        + how_many_pairs_found (S.seen search.old).groups (path_texts url.now.path) (related_texts host.now) ≤ (S.seen search.new).paths) }
     ensures memory { OnErr result
         (flat_map (at_domain (is_given url.now (moment_of now)) (S.seen search.old).groups (path_texts url.now.path)) (related_texts host.now) ≢ []) }
 {
@@ -139,6 +152,8 @@ pub(crate) fn push_domain<S: Search, P: PathSearch<S>>(
     ensures domains { (S.seen search.new).domains ≡ (S.seen search.old).domains + 1 }
     ensures paths { (S.seen search.new).paths
         ≤ (S.seen search.old).paths + how_many_found (S.seen search.old).groups (text.now ∷ []) * most_paths url.now }
+    ensures every_path { OnOk result ((S.seen search.old).paths
+        + paths_at_domain (S.seen search.old).groups (path_texts url.now.path) text.now ≤ (S.seen search.new).paths) }
     ensures memory { OnErr result
         (at_domain (is_given url.now (moment_of now)) (S.seen search.old).groups (path_texts url.now.path) text.now ≢ []) }
 {
@@ -165,6 +180,7 @@ pub(crate) fn push_paths<S: Search>(
     ensures groups { (S.seen search.new).groups ≡ (S.seen search.old).groups }
     ensures domains { (S.seen search.new).domains ≡ (S.seen search.old).domains }
     ensures paths { (S.seen search.new).paths ≤ (S.seen search.old).paths + most_paths asked.now.url.now }
+    ensures every_path { OnOk result ((S.seen search.new).paths ≡ (S.seen search.old).paths + length (path_texts asked.now.url.now.path)) }
     ensures memory { OnErr result
         (flat_map (at_path (is_asked_for asked.now.host_only asked.now.suffix asked.now.url.now (moment_of asked.now.moment)) domain (under domain (S.seen search.old).groups)) (path_texts asked.now.url.now.path) ≢ []) }
 {

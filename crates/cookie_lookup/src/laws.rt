@@ -8,7 +8,7 @@ ghost use Rattle.cookie_parts.specs.Domain.{domain_text};
 ghost use Rattle.cookie_laws.specs.Given.{given, is_given};
 ghost use Rattle.cookie_laws.specs.Rows.{differ};
 ghost use Rattle.cookie_lookup.specs.Groups.{flat, AreGroups, DomainGroups};
-ghost use Rattle.cookie_lookup.specs.Seen.{domains_found, given_spots, how_many_found, rows_at};
+ghost use Rattle.cookie_lookup.specs.Seen.{domains_found, given_spots, how_many_found, how_many_pairs_found, paths_found, rows_at};
 ghost use Rattle.cookie_lookup.specs.Texts.{domain_texts, dots, path_texts, related_texts, slashes, IsPathText, IsRelated};
 ghost use Rattle.url.specs.Parts.{Parts};
 
@@ -30,7 +30,8 @@ pub fn looked_up()
 }
 
 /// The rows at the spots of those that are given are the rows that are given of all groups, in their order, one at each spot; and of
-/// the texts that a host is looked up by, those have a group that are the domain of a row.
+/// the texts that a host is looked up by, those have a group that are the domain of a row, and of the pairs of such a text and one
+/// that the path is looked up by those that are the domain and the path of a row.
 pub fn rows_at_spots()
     ensures rows { (url : Parts) (now : Moment) (groups : DomainGroups)
         → flat_map (rows_at groups) (given_spots url now groups) ≡ given url now (flat groups) }
@@ -38,4 +39,6 @@ pub fn rows_at_spots()
         → length (given_spots url now groups) ≡ length (given url now (flat groups)) }
     ensures found { (url : Parts) (groups : DomainGroups) → AreGroups groups
         → how_many_found groups (domain_texts url) ≡ domains_found url (flat groups) }
+    ensures pairs_found { (url : Parts) (groups : DomainGroups) → AreGroups groups
+        → how_many_pairs_found groups (path_texts url.path) (domain_texts url) ≡ paths_found url (flat groups) }
 {}

@@ -4,7 +4,8 @@ ghost use Rattle.std.specs.Prelude.{◌≡◌, ◌≢◌, ◌≤◌, ◌<◌, �
 ghost use Rattle.cookie_words.specs.Moments.{moment_of};
 ghost use Rattle.cookie_laws.specs.Given.{is_given};
 ghost use Rattle.cookie_lookup.specs.Asked.{is_asked_for};
-ghost use Rattle.cookie_lookup.specs.Seen.{at_domain, at_path, how_many_found, under};
+ghost use Rattle.cookie_lookup.specs.Groups.{DomainGroups};
+ghost use Rattle.cookie_lookup.specs.Seen.{at_domain, at_path, how_many_found, how_many_pairs_found, how_many_paths, under};
 ghost use Rattle.cookie_lookup.specs.Spots.{SameSpots};
 ghost use Rattle.cookie_lookup.specs.Texts.{dots, is_domain_text, is_path_text, most_paths, path_texts, related_texts};
 ghost use Rattle.cookie_parts.specs.Hosts.{host_of};
@@ -19,6 +20,9 @@ use url::Url;
 
 // How the domains are searched.
 pub(crate) trait DomainSearch<S: Search> {
+    // The fewest lookups of domains that it makes for a host.
+    ghost fewest: { DomainGroups → List ℕ → ℕ };
+
     // Adds the spots under the texts that the host is looked up by, in any order.
     fn push_domains(
         search: &mut S,
@@ -36,6 +40,10 @@ pub(crate) trait DomainSearch<S: Search> {
         ensures domains { (S.seen search.new).domains ≤ (S.seen search.old).domains + (1 + dots host.now) }
         ensures paths { (S.seen search.new).paths
             ≤ (S.seen search.old).paths + how_many_found (S.seen search.old).groups (related_texts host.now) * most_paths url.now }
+        ensures every_domain { OnOk result
+            ((S.seen search.old).domains + fewest (S.seen search.old).groups host.now ≤ (S.seen search.new).domains) }
+        ensures every_path { OnOk result ((S.seen search.old).paths
+            + how_many_pairs_found (S.seen search.old).groups (path_texts url.now.path) (related_texts host.now) ≤ (S.seen search.new).paths) }
         ensures memory { OnErr result
             (flat_map (at_domain (is_given url.now (moment_of now)) (S.seen search.old).groups (path_texts url.now.path)) (related_texts host.now) ≢ []) };
 }
@@ -56,6 +64,8 @@ pub(crate) trait PathSearch<S: Search> {
         ensures groups { (S.seen search.new).groups ≡ (S.seen search.old).groups }
         ensures domains { (S.seen search.new).domains ≡ (S.seen search.old).domains }
         ensures paths { (S.seen search.new).paths ≤ (S.seen search.old).paths + most_paths asked.now.url.now }
+        ensures every_path { OnOk result ((S.seen search.old).paths
+            + how_many_paths (under domain (S.seen search.old).groups) (path_texts asked.now.url.now.path) ≤ (S.seen search.new).paths) }
         ensures memory { OnErr result
             (flat_map (at_path (is_asked_for asked.now.host_only asked.now.suffix asked.now.url.now (moment_of asked.now.moment)) domain (under domain (S.seen search.old).groups)) (path_texts asked.now.url.now.path) ≢ []) };
 }
@@ -75,6 +85,8 @@ impl<S: Search> PathSearch<S> for ByLookup {
 }
 
 impl<S: Search> DomainSearch<S> for ByLookup {
+    ghost fewest = { λ groups host. 1 + dots host };
+
     fn push_domains(
         search: &mut S,
         host: &str,
@@ -108,6 +120,8 @@ impl<S: ListedSearch> PathSearch<S> for ByListing {
 }
 
 impl<S: ListedSearch> DomainSearch<S> for ByListing {
+    ghost fewest = { λ groups host. how_many_found groups (related_texts host) };
+
     fn push_domains(
         search: &mut S,
         host: &str,
@@ -153,6 +167,10 @@ fn push_listed_domains<S: ListedSearch>(
     ensures domains { (S.seen search.new).domains ≤ (S.seen search.old).domains + (1 + dots host.now) }
     ensures paths { (S.seen search.new).paths
         ≤ (S.seen search.old).paths + how_many_found (S.seen search.old).groups (related_texts host.now) * most_paths url.now }
+    ensures every_domain { OnOk result
+        ((S.seen search.old).domains + how_many_found (S.seen search.old).groups (related_texts host.now) ≤ (S.seen search.new).domains) }
+    ensures every_path { OnOk result ((S.seen search.old).paths
+        + how_many_pairs_found (S.seen search.old).groups (path_texts url.now.path) (related_texts host.now) ≤ (S.seen search.new).paths) }
     ensures memory { OnErr result
         (flat_map (at_domain (is_given url.now (moment_of now)) (S.seen search.old).groups (path_texts url.now.path)) (related_texts host.now) ≢ []) }
 {
@@ -212,6 +230,8 @@ fn push_listed<S: ListedSearch>(
     ensures groups { (S.seen search.new).groups ≡ (S.seen search.old).groups }
     ensures domains { (S.seen search.new).domains ≡ (S.seen search.old).domains }
     ensures paths { (S.seen search.new).paths ≤ (S.seen search.old).paths + most_paths asked.now.url.now }
+    ensures every_path { OnOk result ((S.seen search.new).paths ≡ (S.seen search.old).paths
+        + length (filter (λ text. list_any (bytes_eq text) (path_texts asked.now.url.now.path)) (map (λ p. p.0) (under domain (S.seen search.old).groups)))) }
     ensures memory { OnErr result
         (flat_map (at_path (is_asked_for asked.now.host_only asked.now.suffix asked.now.url.now (moment_of asked.now.moment)) domain (under domain (S.seen search.old).groups))
         (filter (λ text. list_any (bytes_eq text) (path_texts asked.now.url.now.path)) (map (λ p. p.0) (under domain (S.seen search.old).groups))) ≢ []) }

@@ -11,6 +11,7 @@ pub mod Entering
 pub mod FilteredGroups
 pub mod Flat
 pub mod FoundRows
+pub mod HeaderItems
 pub mod Joined
 pub mod Kept
 pub mod KeptOrder

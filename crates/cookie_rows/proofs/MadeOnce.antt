@@ -43,7 +43,7 @@ differ_place x [] = refl
 differ_place x (y ∷ ys) = grind (arith, same_key_equiv.symm x.0 y.0, any_key y.0 x ys, differ_place x ys)
 
 -- and all in order
-differ_order : (xs : List (Key × ℕ)) → differ same_key (keys_of (by_number xs)) ≡ differ same_key (keys_of xs)
+pub differ_order : (xs : List (Key × ℕ)) → differ same_key (keys_of (by_number xs)) ≡ differ same_key (keys_of xs)
 differ_order [] = refl
 differ_order (x ∷ xs) = grind (arith, differ_place x (by_number xs), any_order x.0 xs, differ_order xs)
   where

@@ -1,5 +1,5 @@
 -- A map from texts to groups, changed at one text.
-use Rattle.std.proofs.Common.{◌≡◌, ℕ, ◌==◌, Bool, true, false, List, [], ◌∷◌, map, length, refl, ◌∙◌, ap, inl, inr, bytes_eq, Option, Some, None, arith}
+use Rattle.std.proofs.Common.{◌≡◌, ℕ, ◌==◌, Bool, true, false, List, [], ◌∷◌, map, length, refl, ap, inl, inr, bytes_eq, Option, Some, None, arith}
 use Rattle.std.specs.Prelude.{string_bytes, String}
 use Rattle.std.specs.String.{string_eq}
 use Rattle.std.specs.Map.{lookup, set_value, remove_entry, values_of}

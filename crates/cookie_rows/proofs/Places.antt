@@ -7,8 +7,9 @@ use Rattle.std.proofs.lemmas.Iterator.Adapters.{position_from-zero}
 use Rattle.std.proofs.lemmas.Option.{slice_get_within}
 use Rattle.cookie_parts.specs.Cookie.{Row}
 use Rattle.cookie_lookup.specs.Groups.{DomainGroups}
-use Rattle.cookie_lookup.specs.Seen.{Spot, place_of, under, rows_at, rows_in, list_of}
+use Rattle.cookie_lookup.specs.Seen.{Spot, place_of, under, rows_at, list_of}
 use Rattle.cookie_rows.specs.Groups.{found, texts_of}
+use Rattle.cookie_rows.specs.HeaderItems.{items_in}
 use Rattle.cookie_rows.specs.Items.{Item, ItemGroups, bare, rows_of}
 
 bool_cases : (b : Bool) → (b ≡ true) ⊎ (b ≡ false)
@@ -74,10 +75,10 @@ module _ {X : Type 0} (f : List X → Option Row) (q : List ℕ) where
   ]
 
 -- the rows of the group at a position
-pub rows_under : (gs : List (List ℕ × List Item)) (n : ℕ) → rows_in (option_map rows_of (slice_get (map (λ g. g.1) gs) n)) ≡ rows_of (under n gs)
-rows_under [] n = refl
-rows_under (g ∷ gs) zero = refl
-rows_under (g ∷ gs) (suc n) = rows_under gs n
+pub items_under : (gs : List (List ℕ × List Item)) (n : ℕ) → items_in (slice_get (map (λ g. g.1) gs) n) ≡ under n gs
+items_under [] n = refl
+items_under (g ∷ gs) zero = refl
+items_under (g ∷ gs) (suc n) = items_under gs n
 
 pub under_none : {A X : Type 0} (es : List (String A × List X)) (n : ℕ) → None ≡ slice_get es n → [] ≡ under n (texts_of es)
 under_none [] n h = refl

@@ -1,6 +1,7 @@
 pub mod Building
 pub mod Groups
 pub mod Hashing
+pub mod HeaderItems
 pub mod Items
 pub mod NameMaps
 pub mod PathMaps

@@ -5,6 +5,7 @@
 mod boxed;
 mod copying;
 mod hashing;
+mod header;
 mod iter;
 mod names;
 mod paths;

@@ -82,12 +82,20 @@ impl Names {
         }
     }
 
+    // The row at a position, with its number.
+    pub(crate) fn item(&self, at: usize) -> Option<&BoxedCookie>
+        ensures item { option_map (λ r. r.now) result ≡ slice_get self.now at }
+        ensures room { IfSome result (λ _. at + 1 < 2 ^ 64) }
+    {
+        self.rows().get(at)
+    }
+
     // The row at a position.
     pub(crate) fn row(&self, at: usize) -> Option<&Cookie<'static>>
         ensures cookie { option_map (λ c. c.now) result ≡ slice_get (rows_of self.now) at }
         ensures room { IfSome result (λ _. at + 1 < 2 ^ 64) }
     {
-        match self.rows().get(at) {
+        match self.item(at) {
             Some(row) => Some(row.cookie()),
             None => None,
         }

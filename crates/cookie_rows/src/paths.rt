@@ -7,6 +7,7 @@ ghost use Rattle.cookie_words.specs.Moments.{moment_of};
 ghost use Rattle.cookie_lookup.specs.Seen.{place_of, rows_in, under};
 ghost use Rattle.cookie_rows.specs.Groups.{changed_at, is_empty_at, texts_of};
 ghost use Rattle.cookie_rows.specs.PathMaps.{groups_of};
+ghost use Rattle.cookie_rows.specs.HeaderItems.{items_in};
 ghost use Rattle.cookie_rows.specs.Items.{end_item_paths, find_item_paths, put_item_paths, remove_item, remove_item_paths, rows_of};
 ghost use Rattle.cookie_rows.specs.Turns.{is_single, is_single_paths, passing, settled, stays, turn_of, turns_of, EntersPaths, IsFirst};
 
@@ -102,7 +103,7 @@ impl Paths {
 
     // The group at a position.
     pub(crate) fn at(&self, place: usize) -> Option<&Names>
-        ensures { rows_in (option_map (λ names. rows_of names.now) result) ≡ rows_of (under place self.now) }
+        ensures { items_in (option_map (λ names. names.now) result) ≡ under place self.now }
     {
         match self.groups().get(place) {
             Some(names) => Some(names),

@@ -9,8 +9,9 @@ ghost use Rattle.cookie_parts.specs.declared.store_action.StoreAction.TheVariant
 ghost use Rattle.cookie_laws.specs.Acceptance.{store_by};
 ghost use Rattle.cookie_laws.specs.Contents.{contents_of, kept_of, unexpired, HasMade};
 ghost use Rattle.cookie_laws.specs.Given.{given};
+ghost use Rattle.cookie_laws.specs.Header.{InHeaderOrder};
 ghost use Rattle.cookie_laws.specs.Rows.{are_rows, changed, has_key, included, key_at, key_of, live_rows, make, make_all, put, put_all, removed, row_of, same_key};
-ghost use Rattle.cookie_lookup.specs.Seen.{domains_found};
+ghost use Rattle.cookie_lookup.specs.Seen.{domains_found, paths_found};
 ghost use Rattle.cookie_lookup.specs.Texts.{most_domains, most_paths};
 ghost use Rattle.cookie_rows.specs.Building.{Builds, BuildsAt, FailsFirst, FailsFirstAt, IsNewRow, TakesCookie, WantsRoom, WantsRoomAt};
 ghost use Rattle.cookie_rows.specs.Groups.{changed_at, is_empty_at, texts_of};
@@ -21,6 +22,7 @@ ghost use Rattle.cookie_rows.specs.Turns.{is_single_paths, passing, passing_grou
 use crate::boxed::BoxedCookie;
 use crate::copying::rehashed_table;
 use crate::hashing::{HashKey, StoreAlloc};
+use crate::header::in_header_order;
 use crate::iter::{IterAny, IterUnexpired, count_rows};
 use crate::paths::Paths;
 use crate::request::{RequestCookies, RequestValues};
@@ -124,7 +126,7 @@ impl Rows {
     }
 
     /// The rows that are given for the URL at the moment, RFC 6265 5.4, in their order, and how often the maps were searched for
-    /// them. Memory is wanted only where there is one.
+    /// them: for domains and for paths no less often than some were found. Memory is wanted only where there is one.
     pub fn given_counted(
         &self,
         alloc: Global,
@@ -138,6 +140,8 @@ impl Rows {
         ensures domains { IfOk result (λ found. found.1.domains ≤ most_domains url.now) }
         ensures paths { IfOk result
             (λ found. found.1.paths ≤ domains_found url.now self.now.rows * most_paths url.now) }
+        ensures every_domain { IfOk result (λ found. domains_found url.now self.now.rows ≤ found.1.domains) }
+        ensures every_path { IfOk result (λ found. paths_found url.now self.now.rows ≤ found.1.paths) }
         ensures memory { OnErr result (given url.now (moment_of now) self.now.rows ≢ []) }
     {
         searched(&self.groups, alloc, url, now)
@@ -157,6 +161,20 @@ impl Rows {
         ensures memory { OnErr result (given url.now (moment_of now) self.now.rows ≢ []) }
     {
         Ok(self.given_counted(alloc, url, now)?.0)
+    }
+
+    /// The rows that are given for the URL, in the order of the Cookie header, RFC 6265 5.4 step 2. Allocates only if there is one.
+    pub fn in_header_order(
+        &self,
+        alloc: Global,
+        url: &Url,
+        now: DateTime,
+    ) -> Result<Vec<&Cookie<'static>>, AllocError>
+        ensures order { IfOk result (λ cookies. InHeaderOrder url.now (moment_of now) (contents_of self.now None None)
+            (map (λ c. c.now) cookies.items)) }
+        ensures memory { OnErr result (given url.now (moment_of now) self.now.rows ≢ []) }
+    {
+        in_header_order(&self.groups, alloc, url, now)
     }
 
     /// The names and values of the rows that are given for the URL at the moment, in their order. Memory is wanted only

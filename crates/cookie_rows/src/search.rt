@@ -5,11 +5,12 @@ ghost use Rattle.std.specs.Prelude.{◌≡◌, ◌≢◌, ◌≤◌, ◌*◌, []
 ghost use Rattle.cookie_words.specs.Moments.{moment_of};
 ghost use Rattle.cookie_laws.specs.Given.{given};
 ghost use Rattle.cookie_lookup.specs.Groups.{flat, AreGroups};
-ghost use Rattle.cookie_lookup.specs.Seen.{domains_found, rows_at, under};
-ghost use Rattle.cookie_lookup.specs.Texts.{most_domains, most_paths};
+ghost use Rattle.cookie_lookup.specs.Seen.{domains_found, given_spots, how_many_found, how_many_pairs_found, paths_found, rows_at, under};
+ghost use Rattle.cookie_lookup.specs.Texts.{domain_texts, most_domains, most_paths, path_texts};
 ghost use Rattle.cookie_rows.specs.Groups.{texts_of};
 ghost use Rattle.cookie_rows.specs.Items.{bare, rows_of};
 
+use crate::boxed::BoxedCookie;
 use crate::hashing::HashKey;
 use crate::names::Names;
 use crate::paths::Paths;
@@ -100,9 +101,38 @@ pub(crate) fn searched<'a>(
     ensures domains { IfOk result (λ found. found.1.domains ≤ most_domains url.now) }
     ensures paths { IfOk result
         (λ found. found.1.paths ≤ domains_found url.now (flat (bare (texts_of groups.now.entries))) * most_paths url.now) }
+    ensures every_domain { IfOk result
+        (λ found. domains_found url.now (flat (bare (texts_of groups.now.entries))) ≤ found.1.domains) }
+    ensures every_path { IfOk result
+        (λ found. paths_found url.now (flat (bare (texts_of groups.now.entries))) ≤ found.1.paths) }
     ensures memory { OnErr result (given url.now (moment_of now) (flat (bare (texts_of groups.now.entries))) ≢ []) }
 {
     laws::rows_at_spots();
+    let (spots, lookups) = given_spots(groups, alloc, url, now)?;
+    let cookies = rows_at(groups, alloc, &spots)?;
+    Ok((cookies, lookups))
+}
+
+/// Where the rows stand that are given for the URL, in their order, and how often the maps were searched. Allocates only if there is
+/// one.
+pub(crate) fn given_spots(
+    groups: &IndexMap<String, Paths, HashKey>,
+    alloc: Global,
+    url: &Url,
+    now: DateTime,
+) -> Result<(Vec<(usize, usize, usize)>, Lookups), AllocError>
+    requires { AreGroups (bare (texts_of groups.now.entries)) }
+    ensures spots { IfOk result
+        (λ found. found.0.items ≡ given_spots url.now (moment_of now) (bare (texts_of groups.now.entries))) }
+    ensures domains { IfOk result (λ found. found.1.domains ≤ most_domains url.now) }
+    ensures paths { IfOk result
+        (λ found. found.1.paths ≤ how_many_found (bare (texts_of groups.now.entries)) (domain_texts url.now) * most_paths url.now) }
+    ensures every_domain { IfOk result
+        (λ found. how_many_found (bare (texts_of groups.now.entries)) (domain_texts url.now) ≤ found.1.domains) }
+    ensures every_path { IfOk result (λ found.
+        how_many_pairs_found (bare (texts_of groups.now.entries)) (path_texts url.now.path) (domain_texts url.now) ≤ found.1.paths) }
+    ensures memory { OnErr result (given_spots url.now (moment_of now) (bare (texts_of groups.now.entries)) ≢ []) }
+{
     let mut search = MapSearch {
         groups,
         current: None,
@@ -112,8 +142,7 @@ pub(crate) fn searched<'a>(
         },
     };
     let spots = found_listed(alloc, &mut search, url, now)?;
-    let cookies = rows_at(groups, alloc, &spots)?;
-    Ok((cookies, search.lookups))
+    Ok((spots, search.lookups))
 }
 
 // The rows at these spots.
@@ -145,11 +174,20 @@ fn row_at<'a>(
     ensures { option_map (λ c. c.now) result
         ≡ slice_get (under path (under domain (bare (texts_of groups.now.entries)))) row }
 {
+    Some(item_at(groups, domain, path, row)?.cookie())
+}
+
+/// The row at a spot, with its number.
+pub(crate) fn item_at<'a>(
+    groups: &'a IndexMap<String, Paths, HashKey>,
+    domain: usize,
+    path: usize,
+    row: usize,
+) -> Option<&'a BoxedCookie>
+    ensures { option_map (λ r. r.now) result ≡ slice_get (under path (under domain (texts_of groups.now.entries))) row }
+{
     match groups.get_index(domain) {
-        Some((_, paths)) => match paths.at(path) {
-            Some(names) => names.row(row),
-            None => None,
-        },
+        Some((_, paths)) => paths.at(path)?.item(row),
         None => None,
     }
 }

@@ -8,8 +8,9 @@ use Rattle.std.proofs.lemmas.List.Folds.{flat_map-map}
 use Rattle.std.specs.Result.{IsErr}
 use Rattle.cookie_device.proofs.Sending.{nothing_part, nothing_put, part_longer, part_then, put_then}
 use Rattle.cookie_parts.specs.Cookie.{Row}
+use Rattle.cookie_store.specs.Header.{later_pair, pair_text}
 use Rattle.cookie_script.specs.Answering.{Gathers}
-use Rattle.cookie_script.specs.Script.{header_text, line_text, pair_text, row_line, rows_text}
+use Rattle.cookie_script.specs.Script.{header_text, line_text, row_line, rows_text}
 
 -- nothing was gathered
 pub gathers_nothing : {E : Type 0} (a : Option (List ℕ)) (g : List ℕ) (n : ℕ) → Gathers {T = Unit {0}} {E = E} (Ok tt) a a g g n n []
@@ -80,12 +81,12 @@ module _ {A : Type 0} (f : A → List ℕ) (items : List A) where
 -- a header of cookies: the first one, and the others
 pub header_parts : {A : Type 0} (row : A → Row) (cookies : List A) (first : A) (others : List A) → cookies ≡ first ∷ others
     → line_text (header_text (map row cookies))
-    ≡ (codes "Cookie: " ++ pair_text (row first)) ++ line_text (flat_map (λ c. codes "; " ++ pair_text (row c)) others)
+    ≡ (codes "Cookie: " ++ pair_text (row first)) ++ line_text (flat_map (λ c. later_pair (row c)) others)
 header_parts row cookies first others are =
     let before = codes "Cookie: " ++ pair_text (row first) in
     ap (λ cs. line_text (header_text (map row cs))) are
-    ∙ append_assoc before (flat_map (λ c. codes "; " ++ pair_text c) (map row others)) (10 ∷ [])
-    ∙ ap (λ text. before ++ line_text text) (flat_map-map (λ c. codes "; " ++ pair_text c) row others)
+    ∙ append_assoc before (flat_map later_pair (map row others)) (10 ∷ [])
+    ∙ ap (λ text. before ++ line_text text) (flat_map-map later_pair row others)
 
 module _ (seen : List (Bor Row)) (row : Bor Row) where
   -- the rows that came, and one more

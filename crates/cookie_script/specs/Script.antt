@@ -9,6 +9,7 @@ use Rattle.cookie_parts.specs.Errors.{error_text}
 use Rattle.cookie_parts.specs.declared.store_action.StoreAction.TheVariants.{Inserted, ExpiredExisting, UpdatedExisting}
 use Rattle.cookie_store.specs.Contents.{Contents}
 use Rattle.cookie_store.specs.Given.{given}
+use Rattle.cookie_store.specs.Header.{cookie_string}
 use Rattle.cookie_store.specs.Runs as Runs
 use Rattle.cookie_store.specs.Runs.{Reply, Stored, Removed, Cleared, Step, step}
 use Rattle.cookie_script.specs.Commands.{Command, Now, Set, Get, ListRows, Remove, Clear, command_of}
@@ -41,15 +42,10 @@ reply_text (Removed (Some row)) = codes "removed"
 reply_text (Removed None) = codes "none"
 reply_text Cleared = codes "cleared"
 
--- a cookie in a Cookie header, RFC 6265 4.2.1
-abbrev pub pair_text : Row → List ℕ
-pair_text cookie = cookie.raw.name ++ codes "=" ++ cookie.raw.value
-
--- the Cookie header of the cookies, RFC 6265 4.2.1 and 5.4
+-- the Cookie header of cookies, RFC 6265 4.2.1, in the store's order
 abbrev pub header_text : List Row → List ℕ
 header_text [] = codes "Cookie:"
-header_text (cookie ∷ cookies) =
-    codes "Cookie: " ++ pair_text cookie ++ flat_map (λ c. codes "; " ++ pair_text c) cookies
+header_text (cookie ∷ cookies) = codes "Cookie: " ++ cookie_string (cookie ∷ cookies)
 
 -- a text as a line
 abbrev pub line_text : List ℕ → List ℕ

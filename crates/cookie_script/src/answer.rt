@@ -1,7 +1,8 @@
 //! The answers, and how their texts are put into an output.
 ghost use Rattle.std.specs.Prelude.{◌≡◌, ◌++◌, ◌^◌, ◌-◌, ◌<◌, codes, flat_map, map};
 ghost use Rattle.cookie_script.specs.Answering.{answer_text, Gathers};
-ghost use Rattle.cookie_script.specs.Script.{header_text, line_text, pair_text, reply_text, row_line, rows_text};
+ghost use Rattle.cookie_script.specs.Script.{header_text, line_text, reply_text, row_line, rows_text};
+ghost use Rattle.cookie_store.specs.Header.{later_pair, pair_text};
 ghost use Rattle.cookie_store.specs.Runs.{Stored};
 
 use cookie_device::{DeviceFailed, Output, Sink};
@@ -97,7 +98,7 @@ fn put_others<W: Sink>(
 ) -> Result<(), DeviceFailed>
     requires { W.failed sink.old < 2 ^ 64 - 1 }
     ensures { Gathers result (W.contents sink.old) (W.contents sink.new) out.old out.new (W.failed sink.old) (W.failed sink.new)
-        (line_text (flat_map (λ c. codes "; " ++ pair_text c.now) cookies.now)) }
+        (line_text (flat_map (λ c. later_pair c.now) cookies.now)) }
 {
     for cookie in cookies {
         put_pair("; ", cookie, out, sink)?;

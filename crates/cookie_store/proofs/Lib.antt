@@ -1,3 +1,4 @@
+pub mod CookieStrings
 pub mod CutRows
 pub mod EarlyRefusals
 pub mod Entered

@@ -2,6 +2,7 @@ pub use Rattle.cookie_laws.specs.Acceptance
 pub use Rattle.cookie_laws.specs.Confinement
 pub use Rattle.cookie_laws.specs.Contents
 pub use Rattle.cookie_laws.specs.Given
+pub use Rattle.cookie_laws.specs.Header
 pub use Rattle.cookie_laws.specs.Related
 pub use Rattle.cookie_laws.specs.Rows
 pub use Rattle.cookie_laws.specs.Runs

@@ -1,5 +1,5 @@
 //! The store.
-ghost use Rattle.std.specs.Prelude.{◌≡◌, ◌≢◌, ◌≤◌, ◌+◌, ◌*◌, ◌-◌, ◌^◌, ◌<◌, [], false, is_some, length, map, true, Err, None, Ok, Some, IfErr, IfOk, IsTrue, OnErr, OnOk, ◌⊎◌};
+ghost use Rattle.std.specs.Prelude.{◌≡◌, ◌≢◌, ◌≤◌, ◌+◌, ◌*◌, ◌-◌, ◌^◌, ◌<◌, [], false, is_some, length, map, string_bytes, true, Err, None, Ok, Some, IfErr, IfOk, IsTrue, OnErr, OnOk, ◌⊎◌};
 ghost use Rattle.std.specs.Iterator.{IsFinite};
 ghost use Rattle.std.specs.Option.{option_copied};
 ghost use Rattle.cookie_words.specs.Moments.{moment_of};
@@ -9,16 +9,18 @@ ghost use Rattle.cookie_parts.specs.declared.cookie_error.CookieError.TheVariant
 ghost use Rattle.cookie_parts.specs.declared.store_action.StoreAction.TheVariants.{Inserted};
 ghost use Rattle.cookie_laws.specs.Acceptance.{received, MayRefuse};
 ghost use Rattle.cookie_laws.specs.Contents.{contents_of, kept_of, unexpired, HasMade};
-ghost use Rattle.cookie_lookup.specs.Seen.{domains_found};
+ghost use Rattle.cookie_lookup.specs.Seen.{domains_found, paths_found};
 ghost use Rattle.cookie_lookup.specs.Texts.{most_domains, most_paths};
 ghost use Rattle.cookie_rows.specs.Building.{Builds, FailsFirst, WantsRoom};
 ghost use Rattle.cookie_rows.specs.Requests.{name_and_value};
 ghost use Rattle.cookie_store.specs.CallViews.{call_view, reply_view, MayWant, StopsAfter, StopsAt};
 ghost use Rattle.cookie_laws.specs.Given.{given};
+ghost use Rattle.cookie_laws.specs.Header.{InHeaderOrder, IsCookieHeader};
 ghost use Rattle.cookie_laws.specs.Rows.{are_rows, if_live, key_at, live_rows, row_of};
 ghost use Rattle.cookie_laws.specs.Runs.{replies, step, store_after, Clear, Insert, IsReply, Remove, Removed, Set, Stored, UnlessMemory};
 
 use crate::call::{Call, Reply, Stopped, stored};
+use crate::header::cookie_string;
 use crate::insertion::{accept, owned_cookie, owned_raw_cookie};
 use cookie_lookup::Lookups;
 use cookie_parts::{Cookie, CookieError, CookieResult, Error, StoreAction, StoreResult};
@@ -301,8 +303,8 @@ impl CookieStore {
         self.rows.clear();
     }
 
-    /// The cookies that are given for the URL at the moment, RFC 6265 5.4, in the store's order. Memory is wanted only where
-    /// there is one.
+    /// The cookies that are given for the URL at the moment, RFC 6265 5.4, in the store's order; for the header of a request use
+    /// [`cookie_header`](Self::cookie_header). Memory is wanted only where there is one.
     pub fn matches(&self, url: &Url, now: DateTime) -> Result<Vec<&Cookie<'static>>, AllocError>
         ensures given { IfOk result
             (λ cookies. map (λ c. c.now) cookies.items ≡ given url.now (moment_of now) self.now.rows) }
@@ -314,7 +316,8 @@ impl CookieStore {
     }
 
     /// What `matches` gives, and how often the maps of the store were searched for it: for a domain at most as often as the host
-    /// has labels, and in each domain that was found at most once more than twice the slashes of the URL's path.
+    /// has labels, and in each domain that was found at most once more than twice the slashes of the URL's path. Neither
+    /// count is lower than how many domains, and how many paths in them, were found.
     pub fn matches_counted(
         &self,
         url: &Url,
@@ -327,9 +330,36 @@ impl CookieStore {
         ensures domains { IfOk result (λ found. found.1.domains ≤ most_domains url.now) }
         ensures paths { IfOk result
             (λ found. found.1.paths ≤ domains_found url.now self.now.rows * most_paths url.now) }
+        ensures every_domain { IfOk result (λ found. domains_found url.now self.now.rows ≤ found.1.domains) }
+        ensures every_path { IfOk result (λ found. paths_found url.now self.now.rows ≤ found.1.paths) }
         ensures memory { OnErr result (given url.now (moment_of now) self.now.rows ≢ []) }
     {
         self.rows.given_counted(self.alloc, url, now)
+    }
+
+    /// The cookies that [`matches`](Self::matches) returns, in the order of the Cookie header, RFC 6265 5.4 step 2: longer paths first,
+    /// and of equally long ones the cookie that was created first. A cookie that replaces another keeps the creation of that one, also of
+    /// an expired one that was not removed; loaded cookies are created in the order of the list. Allocates only if a cookie matches.
+    pub fn cookies_in_order(
+        &self,
+        url: &Url,
+        now: DateTime,
+    ) -> Result<Vec<&Cookie<'static>>, AllocError>
+        ensures order { IfOk result
+            (λ cookies. InHeaderOrder url.now (moment_of now) self.now (map (λ c. c.now) cookies.items)) }
+        ensures memory { OnErr result (given url.now (moment_of now) self.now.rows ≢ []) }
+    {
+        self.rows.in_header_order(self.alloc, url, now)
+    }
+
+    /// The value of the Cookie header of a request for the URL, RFC 6265 4.2.1 and 5.4, such as `id=1; lang=de`: the cookies of
+    /// [`cookies_in_order`](Self::cookies_in_order). The empty string if no cookie matches: send no header then. Allocates only if a
+    /// cookie matches.
+    pub fn cookie_header(&self, url: &Url, now: DateTime) -> Result<String, AllocError>
+        ensures header { IfOk result (λ text. IsCookieHeader url.now (moment_of now) self.now (string_bytes text)) }
+        ensures memory { OnErr result (given url.now (moment_of now) self.now.rows ≢ []) }
+    {
+        cookie_string(self.alloc, &self.cookies_in_order(url, now)?)
     }
 
     /// The names and values of the cookies that are given for the URL at the moment, in the store's order. Memory is wanted

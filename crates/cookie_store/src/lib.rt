@@ -5,6 +5,7 @@ mod bulk;
 mod call;
 mod cookie_store;
 pub mod device;
+mod header;
 mod insertion;
 mod json_lines;
 mod lists;

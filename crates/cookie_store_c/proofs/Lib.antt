@@ -3,6 +3,6 @@ mod SlotSteps
 mod StoreBox
 mod StoreGlue
 mod Filling
-mod Headers
+mod HandedHeaders
 mod Loading
 mod Passing

@@ -30,8 +30,17 @@ abbrev pub handed : Result (List ℕ) Status → List ℕ → Handed
 handed (Ok text) buffer = handed_text text buffer
 handed (Err status) buffer = record { status = status; buffer = buffer; needed = 0 }
 
--- so the text was handed over; or memory ran out where it may be wanted, and nothing was
+-- memory ran out where it may be wanted, and nothing was handed over
+abbrev pub HandsNothing : Type 0 → List ℕ → Status → List ℕ → ℕ → Type 0
+HandsNothing MayWant old status new needed = (status ≡ NoMemory) × MayWant × (new ≡ old) × (needed ≡ 0)
+
+-- this answer was handed over, or nothing for want of memory
 abbrev pub Hands : Result (List ℕ) Status → Type 0 → List ℕ → Status → List ℕ → ℕ → Type 0
 Hands answer MayWant old status new needed =
-    (record { status = status; buffer = new; needed = needed } ≡ handed answer old)
-    ⊎ ((status ≡ NoMemory) × MayWant × (new ≡ old) × (needed ≡ 0))
+    (record { status = status; buffer = new; needed = needed } ≡ handed answer old) ⊎ HandsNothing MayWant old status new needed
+
+-- an answer of this kind was
+abbrev pub HandsSome : (Result (List ℕ) Status → Type 0) → Type 0 → List ℕ → Status → List ℕ → ℕ → Type 0
+HandsSome IsAnswer MayWant old status new needed =
+    ((answer : Result (List ℕ) Status) × IsAnswer answer × (record { status = status; buffer = new; needed = needed } ≡ handed answer old))
+    ⊎ HandsNothing MayWant old status new needed

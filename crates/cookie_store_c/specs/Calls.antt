@@ -3,6 +3,8 @@ use Rattle.std.specs.Prelude.{◌≡◌, ◌==◌, if◌then◌else◌, ◌⊎�
 use Rattle.cookie_words.specs.Moments.{Moment}
 use Rattle.cookie_psl.specs.Reading.{rules_from}
 use Rattle.cookie_psl.specs.Rules.{RuleList, SameRules}
+use Rattle.cookie_psl.specs.declared.error.ListError.{ListError}
+use Rattle.cookie_psl.specs.declared.error.ListError.TheVariants as fault
 use Rattle.cookie_parts.specs.Cookie.{Row}
 use Rattle.cookie_laws.specs.Contents.{Contents, unexpired}
 use Rattle.cookie_laws.specs.Runs.{Call, step}
@@ -61,6 +63,11 @@ RunsOut MayWant old status new = (status ≡ NoMemory) × MayWant × (new ≡ ol
 abbrev pub Comes : Turn → Type 0 → Option Contents → Status → Option Contents → Type 0
 Comes turn MayWant old status new =
     (record { status = status; store = new } ≡ turn) ⊎ RunsOut MayWant old status new
+
+-- the status of a list's error, and its malformed line
+abbrev pub list_error_status : ListError → Status × ℕ
+list_error_status (fault.BadRule line) = (BadRule, line)
+list_error_status fault.Memory = (NoMemory, 0)
 
 -- the store obeys a list of these rules from now on, and is else as it was; or a line is no rule
 abbrev pub ObeysRules : Contents → Result RuleList ℕ → ℕ → Turn → Type 0

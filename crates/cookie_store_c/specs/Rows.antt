@@ -1,34 +1,15 @@
 -- What is told of rows.
-use Rattle.std.specs.Prelude.{◌≡◌, ◌⊎◌, ℕ, ◌^◌, ◌≤◌, Bool, true, false, ◌&&◌, List, [], ◌∷◌, ◌++◌, codes, flat_map, length, map, nat_le, Option, Some, None, Result, Ok, if◌then◌else◌, ℤ, pos}
+use Rattle.std.specs.Prelude.{◌≡◌, ◌⊎◌, ℕ, ◌^◌, ◌≤◌, Bool, true, false, ◌&&◌, List, ◌++◌, flat_map, length, map, nat_le, Option, Some, None, if◌then◌else◌, ℤ, pos}
 use Rattle.std.specs.Int.{int_div_euclid}
 use Rattle.cookie_words.specs.Moments.{nanoseconds}
-use Rattle.cookie_parts.specs.Cookie.{Row, and_then, is_http_only, is_persistent, is_secure_only}
+use Rattle.cookie_parts.specs.Cookie.{Row, is_http_only, is_persistent, is_secure_only}
 use Rattle.cookie_parts.specs.Domain.{DomainValue, HostOnly, domain_text}
 use Rattle.cookie_parts.specs.Expiry.{Expiry, AtUtc, SessionEnd}
 use Rattle.cookie_laws.specs.Contents.{Contents}
-use Rattle.cookie_laws.specs.Given.{given}
-use Rattle.cookie_store_c.specs.Asked.{request}
 use Rattle.cookie_store_c.specs.Buffers.{at_front}
 use Rattle.cookie_store_c.specs.declared.rows.CookieRow.{CookieRow}
 use Rattle.cookie_store_c.specs.declared.status.Status.{Status}
 use Rattle.cookie_store_c.specs.declared.status.Status.TheVariants.{Done, NoMemory, NoRoom, NoStore}
-
--- RFC 6265 4.2.1: a cookie-pair
-abbrev pub pair_text : Row → List ℕ
-pair_text cookie = cookie.raw.name ++ codes "=" ++ cookie.raw.value
-
--- one that stands behind another
-abbrev pub later_pair : Row → List ℕ
-later_pair cookie = codes "; " ++ pair_text cookie
-
--- 4.2.1 and 5.4: the cookie-string of cookies
-abbrev pub cookie_string : List Row → List ℕ
-cookie_string [] = []
-cookie_string (cookie ∷ cookies) = pair_text cookie ++ flat_map later_pair cookies
-
--- the value of the Cookie header of a request
-abbrev pub header_in : List Row → List ℕ → ℤ → Result (List ℕ) Status
-header_in rows url now = and_then (request url now) (λ asked. Ok (cookie_string (given asked.0 asked.1 rows)))
 
 -- the second in which it ends, counted from the epoch, and 0 where it ends with the session
 abbrev pub end_second : Expiry → ℤ

@@ -4,7 +4,7 @@ ghost use Rattle.std.specs.Result.{result_map_both};
 ghost use Rattle.cookie_laws.specs.Rows.{key_at};
 ghost use Rattle.cookie_laws.specs.Runs.{Clear, Remove};
 ghost use Rattle.cookie_store_c.specs.Asked.{look, moment_in, remove_call, set_call, text_in};
-ghost use Rattle.cookie_store_c.specs.Calls.{expired_turn, limit_turn, store_turn, Comes, ObeysText, RunsOut};
+ghost use Rattle.cookie_store_c.specs.Calls.{expired_turn, limit_turn, list_error_status, store_turn, Comes, ObeysText, RunsOut};
 
 use crate::asked::{moment_in, request, text_in};
 use crate::status::Status;
@@ -57,11 +57,21 @@ pub(crate) fn use_suffixes(
             *store = begun.with_suffix_list(list);
             Status::Done
         }
-        Err(ListError::BadRule { line }) => {
+        Err(error) => list_error_status(error, bad_line),
+    }
+}
+
+// The status of a list's error. Sets `bad_line` to its malformed line, if there is one.
+fn list_error_status(error: ListError, bad_line: &mut usize) -> Status
+    requires { bad_line.old ≡ 0 }
+    ensures { (result, bad_line.new) ≡ list_error_status error }
+{
+    match error {
+        ListError::BadRule { line } => {
             *bad_line = line;
             Status::BadRule
         }
-        Err(ListError::Memory) => Status::NoMemory,
+        ListError::Memory => Status::NoMemory,
     }
 }
 

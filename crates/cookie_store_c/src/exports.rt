@@ -2,10 +2,11 @@
 ghost use Rattle.std.specs.Prelude.{◌≡◌, ◌⊎◌, ◌+◌, Ok, Some, None, IsOk, IsSome};
 ghost use Rattle.cookie_laws.specs.Runs.{Clear};
 ghost use Rattle.cookie_store_c.specs.Asked.{look, moment_in, remove_call, set_call, text_in};
-ghost use Rattle.cookie_store_c.specs.Buffers.{Hands};
+ghost use Rattle.cookie_store_c.specs.Buffers.{Hands, HandsSome};
 ghost use Rattle.cookie_store_c.specs.Calls.{count_of, expired_turn, in_store, kept_turn, limit_turn, new_turn, rows_count, turn, Comes, Obeys, RunsOut};
+ghost use Rattle.cookie_store_c.specs.Headers.{IsHeaderIn};
 ghost use Rattle.cookie_store_c.specs.Lists.{saved_in, to_load, Loads};
-ghost use Rattle.cookie_store_c.specs.Rows.{header_in, TellsRows};
+ghost use Rattle.cookie_store_c.specs.Rows.{TellsRows};
 ghost use Rattle.cookie_store_c.specs.Statuses.{Tells};
 ghost use Rattle.cookie_store_c.specs.declared.status.Status.{Status};
 
@@ -112,7 +113,7 @@ pub extern "C" fn cookie_store_set(
     status.code()
 }
 
-/// Hands over the value of the Cookie header of a request.
+/// Hands over the value of the Cookie header of a request, in the order of RFC 6265 5.4.
 #[unsafe(no_mangle)]
 pub extern "C" fn cookie_store_get(
     alloc: Global,
@@ -122,7 +123,7 @@ pub extern "C" fn cookie_store_get(
     out: &mut [u8],
     needed: &mut usize,
 ) -> u32
-    ensures text { Tells result (λ status. Hands (in_store (λ rows. header_in rows url.now now) handle.old.slot.store)
+    ensures text { Tells result (λ status. HandsSome (IsHeaderIn handle.old.slot.store url.now now)
         (IsSome handle.old.slot.store × IsOk (look url.now now)) out.old status out.new needed.new) }
     ensures store { handle.new.slot.store ≡ handle.old.slot.store }
 {

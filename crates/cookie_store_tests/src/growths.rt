@@ -201,6 +201,8 @@ fn parse_under_a_limit(rt: HostRuntime) {
 pub enum Asking {
     Matches,
     Counted,
+    InOrder,
+    Header,
     Values,
     Cookies,
     Clone,
@@ -234,6 +236,30 @@ fn counted_cookies(rt: &impl Abort, alloc: Global, store: &CookieStore, url: &Ur
         let header = header(rt, alloc, cookies.as_slice());
         is_equal(rt, &header.as_str(), &GIVEN_OF_FIVE, &"the cookies");
         are_between(rt, *counted, &COUNTED);
+    }
+    outcome.is_ok()
+}
+
+// The same cookies, longer paths first.
+const SENT_OF_FIVE: &str = "z=1; u=1; t=1; x=1; y=1";
+
+fn ordered_cookies(rt: &impl Abort, alloc: Global, store: &CookieStore, url: &Url) -> bool {
+    start(alloc);
+    let outcome = store.cookies_in_order(url, new_year());
+    end(alloc);
+    if let Ok(cookies) = &outcome {
+        let header = header(rt, alloc, cookies.as_slice());
+        is_equal(rt, &header.as_str(), &SENT_OF_FIVE, &"the cookies in order");
+    }
+    outcome.is_ok()
+}
+
+fn header_of(rt: &impl Abort, alloc: Global, store: &CookieStore, url: &Url) -> bool {
+    start(alloc);
+    let outcome = store.cookie_header(url, new_year());
+    end(alloc);
+    if let Ok(header) = &outcome {
+        is_equal(rt, &header.as_str(), &SENT_OF_FIVE, &"the header");
     }
     outcome.is_ok()
 }
@@ -309,6 +335,8 @@ fn is_answered_by(
     match asking {
         Asking::Matches => cookies_of(rt, alloc, store, url),
         Asking::Counted => counted_cookies(rt, alloc, store, url),
+        Asking::InOrder => ordered_cookies(rt, alloc, store, url),
+        Asking::Header => header_of(rt, alloc, store, url),
         Asking::Values => values_of(rt, alloc, store, url),
         Asking::Cookies => raw_cookies_of(rt, alloc, store, url),
         Asking::Clone => copy_of(rt, alloc, store, url),
@@ -339,6 +367,16 @@ fn matches(rt: HostRuntime) {
 #[test]
 fn matches_counted(rt: HostRuntime) {
     let _is_answered = answers(&rt, rt.alloc(), Asking::Counted);
+}
+
+#[test]
+fn cookies_in_order(rt: HostRuntime) {
+    let _is_answered = answers(&rt, rt.alloc(), Asking::InOrder);
+}
+
+#[test]
+fn cookie_header(rt: HostRuntime) {
+    let _is_answered = answers(&rt, rt.alloc(), Asking::Header);
 }
 
 #[test]

@@ -18,6 +18,8 @@ mod forms;
 #[cfg(test)]
 mod growths;
 #[cfg(test)]
+mod header;
+#[cfg(test)]
 mod insertion;
 #[cfg(test)]
 mod json;

@@ -76,9 +76,11 @@ fn a_row_of_no_name_or_no_absolute_path_is_given_for_no_url(rt: HostRuntime) {
     take_all(&rt, rt.alloc(), &mut store, &STANDING, new_year());
 }
 
-const ASKED: [(Asking, &str); 5] = [
+const ASKED: [(Asking, &str); 7] = [
     (Asking::Matches, "matches"),
     (Asking::Counted, "matches_counted"),
+    (Asking::InOrder, "cookies_in_order"),
+    (Asking::Header, "cookie_header"),
     (Asking::Values, "get_request_values"),
     (Asking::Cookies, "get_request_cookies"),
     (Asking::Clone, "clone"),

@@ -1,6 +1,6 @@
 //! What is done with a store step by step, and what must come of it.
 use crate::checks::is_equal;
-use crate::texts::{are_given, are_listed, url};
+use crate::texts::{are_given, are_listed, are_sent, url};
 use cookie_store::psl::List;
 use cookie_store::{CookieStore, InsertResult, StoreAction};
 use jiff::civil::{DateTime, date};
@@ -13,12 +13,14 @@ pub const UPDATED: InsertResult = Ok(StoreAction::UpdatedExisting);
 
 pub const ENDED: InsertResult = Ok(StoreAction::ExpiredExisting);
 
-// A text comes from a URL and has this reply; the rows are listed, each by its domain, path and name; cookies are given for a URL.
+// A text comes from a URL and has this reply; the rows are listed, each by its domain, path and name; cookies are given for a URL, and
+// sent to it.
 #[derive(Clone, Copy, Debug)]
 pub enum Step {
     Set(&'static str, &'static str, InsertResult),
     Listed(&'static str),
     Given(&'static str, &'static str),
+    Sent(&'static str, &'static str),
 }
 
 // The moment of most tests.
@@ -60,6 +62,9 @@ fn take(rt: &impl Abort, alloc: Global, store: &mut CookieStore, step: &Step, no
         }
         Step::Given(from, wanted) => {
             are_given(rt, alloc, store, (from, wanted), now, step);
+        }
+        Step::Sent(from, wanted) => {
+            are_sent(rt, alloc, store, (from, wanted), now, step);
         }
     }
 }

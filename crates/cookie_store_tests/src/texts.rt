@@ -51,6 +51,35 @@ pub fn are_given(
     is_equal(rt, &header.as_str(), &wanted.1, row);
 }
 
+// The Cookie header of a request for the URL.
+fn is_sent(
+    rt: &impl Abort,
+    store: &CookieStore,
+    url: &Url,
+    wanted: &str,
+    now: DateTime,
+    row: &impl Debug,
+) {
+    let sent = store.cookie_header(url, now).expect(rt, "memory");
+    is_equal(rt, &sent.as_str(), &wanted, row);
+}
+
+// At the moment the store sends this for a URL, and has the cookies in that order.
+pub fn are_sent(
+    rt: &impl Abort,
+    alloc: Global,
+    store: &CookieStore,
+    wanted: (&str, &str),
+    now: DateTime,
+    row: &impl Debug,
+) {
+    let url = url(rt, alloc, wanted.0);
+    is_sent(rt, store, &url, wanted.1, now, row);
+    let cookies = store.cookies_in_order(&url, now).expect(rt, "memory");
+    let header = header(rt, alloc, cookies.as_slice());
+    is_equal(rt, &header.as_str(), &wanted.1, row);
+}
+
 // The same of all rows.
 pub fn all_rows(rt: &impl Abort, alloc: Global, store: &CookieStore) -> String {
     let rows: Vec<&Cookie<'static>> = store.iter_any().collect(alloc).expect(rt, "memory");

@@ -33,7 +33,6 @@ const PAGES: [Page; 5] = [
 /// Visits pages, and keeps what their hosts set.
 #[derive(Drop)]
 struct Crawler {
-    alloc: Global,
     store: CookieStore,
 }
 
@@ -44,21 +43,13 @@ impl Crawler {
         let text = fs::read_to_string(rt, FILE).map_err(|_| Error::Io)?;
         let list = list_of(alloc, text.as_str())?;
         Ok(Crawler {
-            alloc,
             store: CookieStore::new_with_public_suffix(alloc, Some(list)),
         })
     }
 
-    /// The cookies that go with a request for the page.
+    /// The value of the Cookie header of a request for the page.
     fn header(&self, page: &Url, now: DateTime) -> Result<String, Error> {
-        let mut header = String::new(self.alloc);
-        for (name, value) in self.store.get_request_values(page, now)? {
-            header.push(' ')?;
-            header.push_str(name)?;
-            header.push('=')?;
-            header.push_str(value)?;
-        }
-        Ok(header)
+        Ok(self.store.cookie_header(page, now)?)
     }
 
     /// Takes a Set-Cookie text of the page, and says what became of it.
@@ -96,7 +87,7 @@ fn run(rt: &HostRuntime) -> Result<(), Error> {
     for (address, texts) in &PAGES {
         let page = url_of(alloc, address)?;
         let header = crawler.header(&page, now)?;
-        println!(rt; "{address}{header}").map_err(|_| Error::Io)?;
+        println!(rt; "{address} ({header})").map_err(|_| Error::Io)?;
         for text in *texts {
             let told = crawler.take(text, &page, now)?;
             println!(rt; "  {text}: {told}").map_err(|_| Error::Io)?;

@@ -1,8 +1,10 @@
 use Rattle.std.proofs.Common.{length, arith, ap, ◌∙◌}
 use Rattle.cookie_words.specs.Moments.{moment_of}
+use Rattle.cookie_lookup.specs.Seen.{how_many_pairs_found, of_host}
+use Rattle.cookie_lookup.specs.Texts.{domain_texts, path_texts}
 use Rattle.cookie_lookup.proofs.Bounds.{domains_most, paths_fit}
 use Rattle.cookie_lookup.proofs.Results.{either_way}
-use Rattle.cookie_lookup.proofs.Whole.{found_sorted, from_none, none_found, paths_bound, some_found}
+use Rattle.cookie_lookup.proofs.Whole.{found_sorted, from_none, from_zero, host_from_zero, none_found, paths_bound, some_found}
 use Rattle.cookie_lookup.proofs.finding.found_by.Goals.{in-Some+in_ok-push_domains, in_default}
 use Rattle.cookie_lookup.proofs.finding.found_by.Goals as goal
 
@@ -55,3 +57,23 @@ returns-clause-domains g c = elim c.match-host_str.branch [
       w.in-Some.ensures c.requires.domains w.push_domains.ensures.domains)
   | in_default w ↦ rw (w.search-is, c.requires.domains) (omega arith)
 ]
+
+pub returns-clause-every_domain : goal.returns-clause-every_domain
+returns-clause-every_domain g c =
+    let first = g.S.Search.seen c.args.search.now in
+    elim c.match-host_str.branch [
+      | in-Some+in_ok-push_domains w ↦
+          rw w.search-is (host_from_zero (g.D.DomainSearch.fewest first.groups) c.args.url.now w.in-Some.host.now first.domains (g.S.Search.seen w.push_domains.new.search).domains
+          w.in-Some.ensures c.requires.domains w.in_ok-push_domains.ensures.every_domain)
+      | in_default w ↦ rw (of_host, ← w.in_default.ensures) (omega arith)
+    ]
+
+pub returns-clause-every_path : goal.returns-clause-every_path
+returns-clause-every_path g c =
+    let first = g.S.Search.seen c.args.search.now in
+    elim c.match-host_str.branch [
+      | in-Some+in_ok-push_domains w ↦
+          rw w.search-is (from_zero (how_many_pairs_found first.groups (path_texts c.args.url.now.path)) c.args.url.now w.in-Some.host.now first.paths (g.S.Search.seen w.push_domains.new.search).paths
+          w.in-Some.ensures c.requires.paths w.in_ok-push_domains.ensures.every_path)
+      | in_default w ↦ rw (domain_texts, ← w.in_default.ensures) (omega arith)
+    ]

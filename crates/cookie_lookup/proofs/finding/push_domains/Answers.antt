@@ -6,12 +6,13 @@ use Rattle.cookie_words.specs.Moments.{moment_of}
 use Rattle.cookie_laws.specs.Given.{is_given}
 use Rattle.cookie_laws.specs.Related.{after_dots}
 use Rattle.cookie_lookup.specs.Groups.{DomainGroups}
-use Rattle.cookie_lookup.specs.Seen.{at_domain, how_many_found}
+use Rattle.cookie_lookup.specs.Seen.{at_domain, how_many_found, how_many_pairs_found, paths_at_domain}
 use Rattle.cookie_lookup.specs.Spots.{SameSpots}
 use Rattle.cookie_lookup.specs.Texts.{path_texts, related_texts, most_paths, dots, IsRelated}
 use Rattle.cookie_lookup.proofs.Counts.{paths_next, room_next, room_here}
 use Rattle.cookie_lookup.proofs.Cuts.{after_byte, at_dot, at_no_dot}
 use Rattle.cookie_lookup.proofs.CoveringTexts.{behind_dot}
+use Rattle.cookie_lookup.proofs.FoundPairs.{pairs_first, pairs_next}
 use Rattle.cookie_lookup.proofs.HostTexts.{length_dots}
 use Rattle.cookie_lookup.proofs.Listed.{same_more}
 use Rattle.cookie_lookup.proofs.Results.{either_way}
@@ -38,6 +39,7 @@ loop-at-init g c =
       domains = omega (arith, c.in_ok-push_domain.ensures.domains, length_dots host);
       room = rw (length_dots host) (room_next first.groups host (most_paths url) (dots host) first.paths (g.S.Search.seen c.push_domain.new.search).paths c.in_ok-push_domain.ensures.paths);
       paths = paths_next first.groups host (after_dots host) (most_paths url) first.paths (g.S.Search.seen c.push_domain.new.search).paths c.in_ok-push_domain.ensures.paths;
+      every_path = pairs_first first.groups (path_texts url.path) host (after_dots host) first.paths (g.S.Search.seen c.push_domain.new.search).paths c.in_ok-push_domain.ensures.every_path;
     }
 
 pub range_from-requires : goal.range_from-requires
@@ -115,6 +117,10 @@ loop-at-preserved g c =
           (subst (λ t. after.paths ≤ before.paths + how_many_found before.groups (t ∷ []) * m) there w.in_ok-push_domain-2.ensures.paths) in
           let room = rw left at c.loop-at.invariant.room in
           let paths = rw left at c.loop-at.invariant.paths in
+          let every_path = rw left at c.loop-at.invariant.every_path in
+          let looked_up : before.paths + paths_at_domain first.groups (path_texts url.path) text ≤ after.paths =
+          subst (λ groups. before.paths + paths_at_domain groups (path_texts url.path) text ≤ after.paths) c.loop-at.invariant.groups
+          (subst (λ t. before.paths + paths_at_domain before.groups (path_texts url.path) t ≤ after.paths) there w.in_ok-push_domain-2.ensures.every_path) in
           let pushed : SameSpots c.if-bytes-at-eq46.spots.items (c.loop-at.spots.items ++ look first.groups text) =
           subst (λ v. SameSpots v.items (c.loop-at.spots.items ++ look first.groups text)) (sym w.spots-is)
           (subst (λ t. SameSpots w.push_domain-then-bytes-at-eq46.new.spots.items (c.loop-at.spots.items ++ look first.groups t)) there
@@ -126,6 +132,7 @@ loop-at-preserved g c =
             domains = omega (arith, w.in_ok-push_domain-2.ensures.domains, c.loop-at.invariant.domains, ap length left);
             room = omega (arith, room, room_next first.groups text m (length (after_dots text)) before.paths after.paths asked);
             paths = omega (arith, paths, paths_next first.groups text (after_dots text) m before.paths after.paths asked);
+            every_path = pairs_next first.groups (path_texts url.path) text (after_dots text) (first.paths + how_many_pairs_found first.groups (path_texts url.path) (related_texts host)) before.paths after.paths every_path looked_up;
           }
       | else-bytes-at-eq46 w ↦
           let other : (get_or host c.loop-at.at 0 ≡ 46) → ⊥ = rw (← c.as_bytes-bytes.ensures.value) w.if-bytes-at-eq46.false in
@@ -137,5 +144,6 @@ loop-at-preserved g c =
             domains = rw left at c.loop-at.invariant.domains;
             room = rw left at c.loop-at.invariant.room;
             paths = rw left at c.loop-at.invariant.paths;
+            every_path = rw left at c.loop-at.invariant.every_path;
           }
     ]

@@ -3,7 +3,7 @@ use Rattle.std.specs.List.{flat_map}
 use Rattle.cookie_words.specs.Moments.{moment_of}
 use Rattle.cookie_laws.specs.Given.{is_given}
 use Rattle.cookie_laws.specs.Related.{after_dots}
-use Rattle.cookie_lookup.specs.Seen.{at_domain, how_many_found}
+use Rattle.cookie_lookup.specs.Seen.{at_domain, how_many_found, how_many_pairs_found}
 use Rattle.cookie_lookup.specs.Spots.{SameSpots}
 use Rattle.cookie_lookup.specs.Texts.{dots, most_paths, path_texts, related_texts}
 use Rattle.cookie_lookup.proofs.finding.push_domains.Given as goal
@@ -21,4 +21,6 @@ invariant-loop-at g l =
       room : seen.paths + length left * most_paths l.url ≤ first.paths + (1 + dots l.host) * most_paths l.url;
       paths : seen.paths + how_many_found first.groups left * most_paths l.url
           ≤ first.paths + how_many_found first.groups (related_texts l.host) * most_paths l.url;
+      every_path : first.paths + how_many_pairs_found first.groups (path_texts l.url.path) (related_texts l.host)
+          ≤ seen.paths + how_many_pairs_found first.groups (path_texts l.url.path) left;
     }

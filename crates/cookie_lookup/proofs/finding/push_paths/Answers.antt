@@ -97,3 +97,13 @@ returns-after-loop-at-clause-spots g c =
     let whole : c.loop-at.at ≡ length c.as_bytes-bytes.result.now = omega arith in
     let all : path_texts path ≡ front_texts path (length path) = rw (path_texts, begins) refl in
     c.loop-at.invariant.spots ∙ ap (λ texts. c.args.spots.now.items ++ flat_map look texts) (ap (front_texts path) (whole ∙ ap length bytes) ∙ sym all)
+
+pub returns-after-loop-at-clause-every_path : goal.returns-after-loop-at-clause-every_path
+returns-after-loop-at-clause-every_path g c =
+    let path = c.args.asked.now.url.now.path in
+    let first = g.S.Search.seen c.args.search.now in
+    let bytes : c.as_bytes-bytes.result.now ≡ path = c.as_bytes-bytes.ensures.value ∙ c.path-path.ensures.value in
+    let begins : starts_with nat_eq path (47 ∷ []) ≡ true = subst (λ b. starts_with nat_eq b (47 ∷ []) ≡ true) bytes (sym c.starts_with.ensures.value ∙ c.if-starts_with.true) in
+    let whole : c.loop-at.at ≡ length c.as_bytes-bytes.result.now = omega arith in
+    let all : path_texts path ≡ front_texts path (length path) = rw (path_texts, begins) refl in
+    c.loop-at.invariant.paths ∙ ap (λ texts. first.paths + length texts) (ap (front_texts path) (whole ∙ ap length bytes) ∙ sym all)

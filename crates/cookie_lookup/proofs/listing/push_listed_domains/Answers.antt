@@ -5,10 +5,11 @@ use Rattle.std.proofs.Math.Nat.{mul-le-mul_right}
 use Rattle.cookie_words.specs.Moments.{moment_of}
 use Rattle.cookie_laws.specs.Given.{is_given}
 use Rattle.cookie_lookup.specs.Groups.{DomainGroups}
-use Rattle.cookie_lookup.specs.Seen.{at_domain, how_many_found}
+use Rattle.cookie_lookup.specs.Seen.{at_domain, how_many_found, how_many_pairs_found, paths_at_domain}
 use Rattle.cookie_lookup.specs.Spots.{SameSpots}
 use Rattle.cookie_lookup.specs.Texts.{dots, most_paths, path_texts, related_texts}
 use Rattle.cookie_lookup.proofs.Counts.{paths_next, room_here, room_next}
+use Rattle.cookie_lookup.proofs.FoundPairs.{found_counted, listed_pairs, pairs_next}
 use Rattle.cookie_lookup.proofs.HostTexts.{length_related, related_differ, related_texts_are}
 use Rattle.cookie_lookup.proofs.Listed.{filter_at, filter_passed, length_texts, listed_domain_spots, listed_found, same_added, same_pushed, shared_most, some_same, text_gives}
 use Rattle.cookie_lookup.proofs.Results.{either_way}
@@ -32,6 +33,8 @@ loop-place-init g c =
       domains = omega (arith, most);
       room = omega (arith, mul-le-mul_right m most);
       paths = omega (arith, ap (λ n. n * m) (listed_found first.groups (related_texts host) (related_differ host) differ));
+      every_domain = omega (arith, listed_found first.groups (related_texts host) (related_differ host) differ, found_counted first.groups (filter test texts));
+      every_path = omega (arith, listed_pairs (related_texts host) (related_differ host) first.groups (path_texts c.args.url.now.path) differ);
     }
 
 pub push_domain-requires-clause-related : goal.push_domain-requires-clause-related
@@ -114,6 +117,7 @@ loop-place-preserved g c =
     let test : List ℕ → Bool = λ text. list_any (bytes_eq text) (related_texts host) in
     let texts : List (List ℕ) = map (λ p. p.0) first.groups in
     let look : DomainGroups → List ℕ → List (ℕ × ℕ × ℕ) = λ groups. at_domain (is_given c.args.url.now (moment_of c.args.now)) groups (path_texts c.args.url.now.path) in
+    let ps = path_texts c.args.url.now.path in
     let before = g.S.Search.seen c.loop-place.search in
     let end = c.args.spots.now.items ++ flat_map (look first.groups) (related_texts host) in
     elim c.match-suffix_at.branch [
@@ -137,6 +141,10 @@ loop-place-preserved g c =
             domains = omega (arith, w.in_ok-push_domain.ensures.domains, c.loop-place.invariant.domains, ap length left);
             room = omega (arith, c.loop-place.invariant.room, split, room_next first.groups text m (length more) before.paths after.paths asked);
             paths = omega (arith, next, all, c.loop-place.invariant.paths);
+            every_domain = omega (arith, w.in_ok-push_domain.ensures.domains, c.loop-place.invariant.every_domain, ap length left);
+            every_path = pairs_next first.groups ps text more (first.paths + how_many_pairs_found first.groups ps (related_texts host)) before.paths after.paths
+                (subst (λ ts. first.paths + how_many_pairs_found first.groups ps (related_texts host) ≤ before.paths + how_many_pairs_found first.groups ps ts) left c.loop-place.invariant.every_path)
+                (subst (λ groups. before.paths + paths_at_domain groups ps text ≤ after.paths) c.loop-place.invariant.groups w.in_ok-push_domain.ensures.every_path);
           }
       | in_default w ↦
           let below : c.loop-place.place < length texts = omega (arith, length_texts first.groups, c.requires.count, c.loop-place-test.true) in
@@ -150,5 +158,7 @@ loop-place-preserved g c =
             domains = omega (arith, ap length same, c.loop-place.invariant.domains);
             room = omega (arith, ap (λ ts. length ts * m) same, c.loop-place.invariant.room);
             paths = omega (arith, ap (λ ts. how_many_found first.groups ts * m) same, c.loop-place.invariant.paths);
+            every_domain = omega (arith, ap length same, c.loop-place.invariant.every_domain);
+            every_path = omega (arith, ap (how_many_pairs_found first.groups ps) same, c.loop-place.invariant.every_path);
           }
     ]

@@ -1,4 +1,4 @@
-use Rattle.std.proofs.Common.{◌≡◌, ◌∙◌, refl, sym, ap, rules}
+use Rattle.std.proofs.Common.{◌≡◌, ◌∙◌, refl, ap, rules}
 use Rattle.std.specs.Prelude.{string_bytes}
 use Rattle.std.specs.Map.{values_of}
 use Rattle.cookie_rows.proofs.Named.{named_insert, put_insert, none_named}

@@ -5,7 +5,7 @@ use Rattle.cookie_words.specs.Moments.{Moment, moment_of}
 use Rattle.cookie_parts.specs.Cookie.{Row}
 use Rattle.cookie_parts.specs.Domain.{domain_text}
 use Rattle.cookie_rows.specs.Groups.{found, texts_of}
-use Rattle.cookie_rows.specs.Items.{Item, ItemGroups, ItemPaths, find_item_paths, put_item_paths, put_items}
+use Rattle.cookie_rows.specs.Items.{ItemPaths, find_item_paths, put_item_paths, put_items}
 use Rattle.cookie_rows.specs.Turns.{EntersItems, EntersPaths, IsFirst, entered_paths, is_single_paths, paths_of, settled, stays, turns_of}
 use Rattle.cookie_rows.proofs.Maps.{at_text, found_some, put_set, same_set}
 use Rattle.cookie_rows.proofs.Results.{either_way, on_ok_map}

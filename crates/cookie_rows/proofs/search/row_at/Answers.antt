@@ -1,28 +1,25 @@
-use Rattle.std.proofs.Common.{◌∙◌, sym, ap}
-use Rattle.std.specs.Prelude.{slice_get}
+use Rattle.std.proofs.Common.{◌≡◌, ◌∙◌, ℕ, Some, ap, sym}
+use Rattle.std.specs.Prelude.{option_map, slice_get}
+use Rattle.std.proofs.lemmas.Option.{slice_get-map}
 use Rattle.cookie_lookup.specs.Seen.{under}
 use Rattle.cookie_rows.specs.Groups.{texts_of}
-use Rattle.cookie_rows.specs.Items.{rows_of}
-use Rattle.cookie_rows.proofs.Places.{bare_rows, under_is, under_none, get_nothing}
+use Rattle.cookie_rows.specs.Items.{Item, ItemGroups, bare}
+use Rattle.cookie_rows.proofs.Places.{bare_rows}
 use Rattle.cookie_rows.proofs.search.row_at.Goals as goal
 
-pub returns-in-Some-at : goal.returns-in-Some-at
-returns-in-Some-at c =
-    let es = c.args.groups.now.entries in
-    let there = under_is es c.args.domain c.in-Some.field-0-0.now c.in-Some.paths.now (sym c.in-Some.ensures.entry) in
-    c.row.ensures.cookie
-    ∙ ap (λ rows. slice_get rows c.args.row)
-    (c.in-Some-at.ensures ∙ ap (λ paths. rows_of (under c.args.path paths)) there ∙ bare_rows c.args.domain c.args.path (texts_of es))
+-- the row of what stands at a spot
+row_there : (gs : ItemGroups) (d p n : ℕ)
+    → option_map (λ (item : Item). item.row) (slice_get (under p (under d gs)) n) ≡ slice_get (under p (under d (bare gs))) n
+row_there gs d p n = sym (slice_get-map (λ (item : Item). item.row) (under p (under d gs)) n) ∙ ap (λ rows. slice_get rows n) (bare_rows d p gs)
 
-pub returns-in-None-at : goal.returns-in-None-at
-returns-in-None-at c =
-    let es = c.args.groups.now.entries in
-    let there = under_is es c.args.domain c.in-Some.field-0-0.now c.in-Some.paths.now (sym c.in-Some.ensures.entry) in
-    get_nothing c.args.row _
-    (c.in-None-at.ensures ∙ ap (λ paths. rows_of (under c.args.path paths)) there ∙ bare_rows c.args.domain c.args.path (texts_of es))
+pub returns-in_err-item_at : goal.returns-in_err-item_at
+returns-in_err-item_at c =
+    ap (option_map (λ x. x.now)) c.from_residual.ensures
+    ∙ ap (option_map (λ (item : Item). item.row)) c.in_err-item_at.ensures
+    ∙ row_there (texts_of c.args.groups.now.entries) c.args.domain c.args.path c.args.row
 
-pub returns-in-None : goal.returns-in-None
-returns-in-None c =
-    let es = c.args.groups.now.entries in
-    get_nothing c.args.row _
-    (ap (λ paths. rows_of (under c.args.path paths)) (under_none es c.args.domain c.in-None.ensures.entry) ∙ bare_rows c.args.domain c.args.path (texts_of es))
+pub returns : goal.returns
+returns c =
+    ap Some c.cookie.ensures
+    ∙ ap (option_map (λ (item : Item). item.row)) c.in_ok-item_at.ensures
+    ∙ row_there (texts_of c.args.groups.now.entries) c.args.domain c.args.path c.args.row

@@ -2,11 +2,11 @@
 use Rattle.std.proofs.Common.{◌++◌, Ok, codes, flat_map, take}
 use Rattle.cookie_device.specs.declared.device.DeviceFailed.{DeviceFailed}
 use Rattle.cookie_script.specs.Answering.{Gathers}
-use Rattle.cookie_script.specs.Script.{pair_text}
+use Rattle.cookie_store.specs.Header.{later_pair}
 use Rattle.cookie_script.proofs.answer.put_others.Given as goal
 
 abbrev pub invariant-loop-cookie : goal.invariant-loop-cookie
 invariant-loop-cookie g l =
     Gathers {T = Unit {0}} {E = DeviceFailed} (Ok tt) (g.W.Sink.contents l.initial.sink) (g.W.Sink.contents l.sink) l.initial.out l.out
     (g.W.Sink.failed l.initial.sink) (g.W.Sink.failed l.sink)
-    (flat_map (λ c. codes "; " ++ pair_text c.now) (take l.cookie-index l.cookies))
+    (flat_map (λ c. later_pair c.now) (take l.cookie-index l.cookies))

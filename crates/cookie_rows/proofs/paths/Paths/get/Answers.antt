@@ -1,5 +1,4 @@
-use Rattle.std.proofs.Common.{List, ◌∙◌, sym, ap, Some}
-use Rattle.std.specs.Prelude.{option_map}
+use Rattle.std.proofs.Common.{List, ◌∙◌, sym, ap}
 use Rattle.cookie_rows.specs.Groups.{row_named}
 use Rattle.cookie_rows.specs.Items.{rows_of, Item}
 use Rattle.cookie_rows.proofs.Places.{found_at, found_nowhere}

@@ -1,4 +1,4 @@
-use Rattle.std.proofs.Common.{◌≡◌, ◌∙◌, ◌+◌, ap, inl, refl, subst, sym, None, Ok, Some}
+use Rattle.std.proofs.Common.{◌∙◌, ◌+◌, ap, inl, refl, subst, sym, None, Ok, Some}
 use Rattle.cookie_words.specs.Moments.{moment_of}
 use Rattle.cookie_parts.specs.declared.store_action.StoreAction.TheVariants.{Inserted}
 use Rattle.cookie_laws.specs.Acceptance.{store_by}

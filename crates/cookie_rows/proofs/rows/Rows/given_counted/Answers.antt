@@ -1,4 +1,4 @@
-use Rattle.std.proofs.Common.{None, subst}
+use Rattle.std.proofs.Common.{None, subst, rules}
 use Rattle.cookie_laws.specs.Contents.{HasMade, contents_of}
 use Rattle.cookie_rows.specs.Groups.{texts_of}
 use Rattle.cookie_rows.proofs.MadeOnce.{made_once}
@@ -8,3 +8,9 @@ pub returns-clause-has_made : goal.returns-clause-has_made
 returns-clause-has_made c =
     subst (λ kept. HasMade (contents_of kept None None)) c.self.view_is
     (made_once c.self.inside.made (texts_of c.self.inside.groups.entries) c.self.invariant)
+
+pub returns-clause-paths : goal.returns-clause-paths
+returns-clause-paths c = rw (← c.self.view_is) (search rules)
+
+pub returns-clause-every_domain : goal.returns-clause-every_domain
+returns-clause-every_domain c = rw (← c.self.view_is) (search rules)

@@ -1,7 +1,7 @@
 use Rattle.std.proofs.Common.{◌∙◌, sym}
 use Rattle.cookie_words.specs.Moments.{moment_of}
 use Rattle.cookie_rows.proofs.Entered.{kept_unlimited}
-use Rattle.cookie_rows.proofs.Results.{either_way, on_ok_map}
+use Rattle.cookie_rows.proofs.Results.{on_ok_map}
 use Rattle.cookie_rows.proofs.rows.Rows.put.Goals as goal
 
 pub returns-in-None-clause-put : goal.returns-in-None-clause-put

@@ -1,0 +1,304 @@
+-- Rows in the order of their numbers are in creation order, so rows sorted by them are in the order of the Cookie header.
+use Rattle.std.proofs.Common.{◌≡◌, ℕ, zero, suc, ◌+◌, ◌<◌, ◌≤◌, Bool, true, false, true≢false, cond, ◌&&◌, ◌||◌, eqb, ltb, List, [], ◌∷◌, ◌++◌, length, map, get_or, Bor, Option, Some, None, refl, sym, ◌∙◌, ap, subst, inl, inr, arith, IsPermutation}
+use Rattle.std.specs.Prelude.{nat_eq, nat_le, slice_get}
+use Rattle.std.specs.Ordering.{is_lt, ordering_then}
+use Rattle.std.specs.declared.cmp.Ordering.TheVariants.{Less, Equal, Greater}
+use Rattle.std.specs.Cmp.{IsStrictWeakOrder, IsTotalOrder}
+use Rattle.std.specs.List.{All, AllByRecursion, flat_map, list_any, position_or_len}
+use Rattle.std.specs.List.Sorted.{IsSorted, IsSortedBy}
+use Rattle.std.proofs.lemmas.Bool.{and_parts, cases_Bool, or_left, or_right}
+use Rattle.std.proofs.lemmas.Bool.Decides.{nat_tests}
+use Rattle.std.proofs.lemmas.Cmp.{back_total, nat_cmp_total, on_total, then_total}
+use Rattle.std.proofs.lemmas.List.{get_or-map, length-map, map-append, nil_from_length}
+use Rattle.std.proofs.lemmas.List.Elements.{All-from_recursion, All-get_or}
+use Rattle.std.proofs.lemmas.List.Folds.{list_any-append}
+use Rattle.std.proofs.lemmas.List.Sorted.{All-permutation, IsPermutation-map, length_permutation, ranks_by}
+use Rattle.std.proofs.lemmas.Option.{same_Some}
+use Rattle.url.specs.Parts.{Parts}
+use Rattle.cookie_words.specs.Moments.{Moment}
+use Rattle.cookie_parts.specs.Cookie.{Row}
+use Rattle.cookie_laws.specs.Contents.{contents_of}
+use Rattle.cookie_laws.specs.Given.{given}
+use Rattle.cookie_laws.specs.Header.{creation, header_order, InHeaderOrder}
+use Rattle.cookie_laws.specs.Rows.{Key, differ, key_at, key_of, same_key, same_key-true, same_key_equiv}
+use Rattle.cookie_lookup.specs.Groups.{ArePaths, Filled, Of, flat}
+use Rattle.cookie_lookup.specs.Seen.{Spot, given_spots, list_of, rows_at, under}
+use Rattle.cookie_rows.specs.HeaderItems.{item_order, items_at}
+use Rattle.cookie_rows.specs.Items.{AreItems, Item, ItemGroups, ItemPaths, bare, bare_paths, by_number, kept_of, made_of, numbered, numbered_names, numbered_paths, place, rows_of}
+use Rattle.cookie_rows.proofs.ByNumber.{all_map, all_ordered, all_place, any_ordered}
+use Rattle.cookie_rows.proofs.Made.{keys_differ}
+use Rattle.cookie_rows.proofs.MadeOnce.{differ_order}
+use Rattle.cookie_rows.proofs.Places.{bare_rows}
+
+-- numbered keys
+
+abbrev Entry : Type 0
+Entry = Key × ℕ
+
+-- the keys of entries
+abbrev keys_of : List Entry → List Key
+keys_of xs = map (λ x. x.0) xs
+
+-- an entry is this one
+abbrev is_entry : Entry → Entry → Bool
+is_entry x y = same_key x.0 y.0 && nat_eq x.1 y.1
+
+-- where a key stands among those of entries
+abbrev place_in : List Entry → Entry → ℕ
+place_in xs x = position_or_len (same_key x.0) (keys_of xs)
+
+-- numbers ascend
+abbrev Ascend : List Entry → Type 0
+Ascend [] = Unit {0}
+Ascend (x ∷ xs) = AllByRecursion (λ y. x.1 < y.1) xs × Ascend xs
+
+-- they do with an entry in its place that has another number
+ascend_place : (x : Entry) (ys : List Entry) → AllByRecursion (λ y. nat_eq x.1 y.1 ≡ false) ys → Ascend ys → Ascend (place x ys)
+ascend_place x [] differs up = (tt, tt)
+ascend_place x (y ∷ ys) differs up = elim (cases_Bool (nat_le x.1 y.1)) [
+  | inl first ↦
+      let below : x.1 < y.1 = grind (arith, nat_tests, first, differs.0) in
+      rw first ((below, all_map (λ z. y.1 < z.1) (λ z. x.1 < z.1) (λ z above. omega (arith, below, above)) ys up.0), up)
+  | inr later ↦
+      let above : y.1 < x.1 = grind (arith, nat_tests, later) in
+      rw later (all_place (λ z. y.1 < z.1) x ys above up.0, ascend_place x ys differs.1 up.1)
+]
+
+-- a number that is none of these differs from each
+differs_from : (n : ℕ) (xs : List Entry) → list_any (nat_eq n) (map (λ x. x.1) xs) ≡ false → AllByRecursion (λ y. nat_eq n y.1 ≡ false) xs
+differs_from n [] none = tt
+differs_from n (x ∷ xs) none = (grind (arith, none), differs_from n xs (grind (arith, none)))
+
+-- entries in order ascend where their numbers differ
+ascend_order : (xs : List Entry) → differ nat_eq (map (λ x. x.1) xs) ≡ true → Ascend (by_number xs)
+ascend_order [] d = tt
+ascend_order (x ∷ xs) d =
+    ascend_place x (by_number xs)
+    (all_ordered (λ y. nat_eq x.1 y.1 ≡ false) xs (differs_from x.1 xs (grind (arith, d))))
+    (ascend_order xs (grind (arith, d)))
+
+-- an entry has its number
+same_number : (x y : Entry) → is_entry x y ≡ true → x.1 ≡ y.1
+same_number x y is = let number : nat_eq x.1 y.1 ≡ true = (and_parts (same_key x.0 y.0) (nat_eq x.1 y.1) is).1 in grind (arith, nat_tests, number)
+
+-- an entry among others with greater numbers has one
+above_all : (n : ℕ) (x : Entry) (ys : List Entry) → AllByRecursion (λ y. n < y.1) ys → list_any (is_entry x) ys ≡ true → n < x.1
+above_all n x [] above among = absurd (cc)
+above_all n x (y ∷ ys) above among = elim (cases_Bool (is_entry x y)) [
+  | inl here ↦ let same : x.1 ≡ y.1 = same_number x y here in omega (arith, same, above.0)
+  | inr there ↦ above_all n x ys above.1 (grind (arith, among, there))
+]
+
+-- its key is among theirs
+among_keys : (x : Entry) (ys : List Entry) → list_any (is_entry x) ys ≡ true → list_any (same_key x.0) (keys_of ys) ≡ true
+among_keys x [] among = among
+among_keys x (y ∷ ys) among = elim (cases_Bool (same_key x.0 y.0)) [
+  | inl here ↦ grind (arith, here)
+  | inr there ↦ grind (arith, there, among_keys x ys (grind (arith, there, among)))
+]
+
+-- where numbers ascend, a key with a smaller number, or the same, stands no later
+no_later : (xs : List Entry) → Ascend xs → differ same_key (keys_of xs) ≡ true → (x y : Entry) → list_any (is_entry x) xs ≡ true → list_any (is_entry y) xs ≡ true
+    → x.1 ≤ y.1 → place_in xs x ≤ place_in xs y
+no_later [] up d x y p q below = omega arith
+no_later (z ∷ zs) up d x y p q below = elim (cases_Bool (same_key x.0 z.0)) [
+  | inl here ↦ let first : place_in (z ∷ zs) x ≡ 0 = rw here refl in omega (arith, first)
+  | inr behind ↦
+      let among : list_any (is_entry x) zs ≡ true = grind (arith, p, behind) in
+      elim (cases_Bool (same_key y.0 z.0)) [
+        | inl here ↦
+            let alone : list_any (same_key z.0) (keys_of zs) ≡ false = grind (arith, d) in
+            let not_behind : list_any (is_entry y) zs ≡ false = is_false (list_any (is_entry y) zs) (λ also.
+            let other = among_keys y zs also in
+            true≢false (sym other ∙ ap (λ k. list_any (same_key k) (keys_of zs)) (same_key-true y.0 z.0 here) ∙ alone)) in
+            let is : is_entry y z ≡ true = grind (arith, q, not_behind) in
+            absurd (omega (arith, same_number y z is, below, above_all z.1 x zs up.0 among))
+        | inr later ↦
+            let also : list_any (is_entry y) zs ≡ true = grind (arith, q, later) in
+            let rest = no_later zs up.1 (grind (arith, d)) x y among also below in
+            let first : place_in (z ∷ zs) x ≡ 1 + place_in zs x = rw behind refl in
+            let second : place_in (z ∷ zs) y ≡ 1 + place_in zs y = rw later refl in
+            omega (arith, first, second, rest)
+      ]
+]
+  where
+    -- a test that cannot pass fails
+    is_false : (b : Bool) → (b ≡ true → ⊥) → b ≡ false
+    is_false true h = absurd (h refl)
+    is_false false h = refl
+
+-- what is sorted by what is seen of it
+
+sorted_map : {A B : Type 0} (see : A → B) (before : B → B → Bool) (xs : List A) → IsSortedBy (λ a b. before (see a) (see b)) xs → IsSortedBy before (map see xs)
+sorted_map see before [] up k d low high = absurd (omega (arith, high))
+sorted_map see before (x ∷ xs) up k d low high =
+    let all = x ∷ xs in
+    let within : k + 1 < length all = omega (arith, high, length-map all see) in
+    let later = get_or-map see all (k + 1) x d within in
+    let earlier = get_or-map see all k x d (omega (arith, within)) in
+    (λ i. before (later i) (earlier i)) ∙ up k x low within
+
+-- rows have a total order
+item_total : IsTotalOrder item_order
+item_total = then_total
+    (back_total (on_total (λ (item : Item). length item.row.path.text) nat_cmp_total))
+    (on_total (λ (item : Item). item.number) nat_cmp_total)
+
+-- so references to them can be sorted
+pub refs_order : IsStrictWeakOrder (λ (a b : Bor Item). is_lt (item_order a.now b.now))
+refs_order = ranks_by item_total (λ r. r.now)
+
+-- and then the rows are
+pub refs_sorted : (rows : List (Bor Item)) → IsSortedBy (λ a b. is_lt (item_order a.now b.now)) rows → IsSorted item_order (map (λ r. r.now) rows)
+refs_sorted rows up = sorted_map (λ (r : Bor Item). r.now) (λ a b. is_lt (item_order a b)) rows up
+
+-- the rows behind references
+pub refs_rows : (refs : List (Bor Item)) → map (λ r. r.now.row) refs ≡ rows_of (map (λ r. r.now) refs)
+refs_rows [] = refl
+refs_rows (r ∷ refs) = ap (λ rows. r.now.row ∷ rows) (refs_rows refs)
+
+-- there are none only where there are no references
+pub refs_none : (refs : List (Bor Item)) → map (λ r. r.now) refs ≡ [] → refs ≡ []
+refs_none [] none = refl
+refs_none (r ∷ refs) none = absurd (cc)
+
+-- rows and their entries
+
+-- the entry of a row
+abbrev entry_of : Item → Entry
+entry_of item = (key_of item.row, item.number)
+
+-- it is among these
+abbrev IsIn : List Entry → Item → Type 0
+IsIn entries item = list_any (is_entry (entry_of item)) entries ≡ true
+
+-- an entry is itself
+itself : (x : Entry) → is_entry x x ≡ true
+itself x = let key : same_key x.0 x.0 ≡ true = same_key_equiv.refl x.0 in grind (arith, nat_tests, key)
+
+-- the row at a place of a group
+in_names : (d p : List ℕ) (items : List Item) (n : ℕ) (item : Item) → AllByRecursion (Of d p) (rows_of items)
+    → slice_get items n ≡ Some item → IsIn (numbered_names d p items) item
+in_names d p [] n item of there = absurd (cc)
+in_names d p (x ∷ xs) zero item of there =
+    let same : x ≡ item = same_Some x item there in
+    let key : key_of x.row ≡ key_at d p x.row.raw.name = λ i. key_at (of.0.0 i) (of.0.1 i) x.row.raw.name in
+    let here : is_entry (entry_of x) (key_at d p x.row.raw.name, x.number) ≡ true = subst (λ k. is_entry (entry_of x) (k, x.number) ≡ true) key (itself (entry_of x)) in
+    subst (λ it. IsIn (numbered_names d p (x ∷ xs)) it) same (or_left _ _ here)
+in_names d p (x ∷ xs) (suc n) item of there = or_right _ _ (in_names d p xs n item of.1 there)
+
+-- in the groups of a domain
+in_paths : (d : List ℕ) (ps : ItemPaths) (m n : ℕ) (item : Item) → Filled d (bare_paths ps)
+    → slice_get (under m ps) n ≡ Some item → IsIn (numbered_paths d ps) item
+in_paths d [] m n item of there = absurd (cc)
+in_paths d (p ∷ ps) zero n item of there =
+    list_any-append (is_entry (entry_of item)) (numbered_names d p.0 p.1) (numbered_paths d ps)
+    ∙ or_left _ _ (in_names d p.0 p.1 n item of.0.1 there)
+in_paths d (p ∷ ps) (suc m) n item of there =
+    list_any-append (is_entry (entry_of item)) (numbered_names d p.0 p.1) (numbered_paths d ps)
+    ∙ or_right _ _ (in_paths d ps m n item of.1 there)
+
+-- and in all
+in_groups : (gs : ItemGroups) (l m n : ℕ) (item : Item) → AllByRecursion (λ g. (0 < length g.1) × ArePaths g.0 g.1) (bare gs)
+    → slice_get (under m (under l gs)) n ≡ Some item → IsIn (numbered gs) item
+in_groups [] l m n item of there = absurd (cc)
+in_groups (g ∷ gs) zero m n item of there =
+    list_any-append (is_entry (entry_of item)) (numbered_paths g.0 g.1) (numbered gs)
+    ∙ or_left _ _ (in_paths g.0 g.1 m n item of.0.1.1 there)
+in_groups (g ∷ gs) (suc l) m n item of there =
+    list_any-append (is_entry (entry_of item)) (numbered_paths g.0 g.1) (numbered gs)
+    ∙ or_right _ _ (in_groups gs l m n item of.1 there)
+
+module _ (gs : ItemGroups) where
+  -- what may stand at a spot, and what is then
+  known : (P : Item → Type 0) (there : Option Item) → ((item : Item) → there ≡ Some item → P item) → AllByRecursion P (list_of there)
+  known P None holds = tt
+  known P (Some item) holds = (holds item refl, tt)
+
+  -- what holds of two lists holds of both
+  all_both : (P : Item → Type 0) (xs ys : List Item) → AllByRecursion P xs → AllByRecursion P ys → AllByRecursion P (xs ++ ys)
+  all_both P [] ys p q = q
+  all_both P (x ∷ xs) ys p q = (p.0, all_both P xs ys p.1 q)
+
+  -- the rows at spots are among the numbered ones
+  all_in : AllByRecursion (λ g. (0 < length g.1) × ArePaths g.0 g.1) (bare gs) → (spots : List Spot) → AllByRecursion (IsIn (numbered gs)) (flat_map (items_at gs) spots)
+  all_in of [] = tt
+  all_in of (s ∷ spots) =
+      all_both (IsIn (numbered gs)) (items_at gs s) (flat_map (items_at gs) spots)
+      (known (IsIn (numbered gs)) (slice_get (under s.1 (under s.0 gs)) s.2) (λ item there. in_groups gs s.0 s.1 s.2 item of there))
+      (all_in of spots)
+
+  -- the rows of what stands at a spot
+  rows_known : (items : List Item) (n : ℕ) → rows_of (list_of (slice_get items n)) ≡ list_of (slice_get (rows_of items) n)
+  rows_known [] n = refl
+  rows_known (item ∷ items) zero = refl
+  rows_known (item ∷ items) (suc n) = rows_known items n
+
+  -- the rows of what stands at spots
+  rows_at_spots : (spots : List Spot) → rows_of (flat_map (items_at gs) spots) ≡ flat_map (rows_at (bare gs)) spots
+  rows_at_spots [] = refl
+  rows_at_spots (s ∷ spots) =
+      map-append (λ (item : Item). item.row) (items_at gs s) (flat_map (items_at gs) spots)
+      ∙ ap (λ rows. rows ++ rows_of (flat_map (items_at gs) spots))
+      (rows_known (under s.1 (under s.0 gs)) s.2 ∙ ap (λ rows. list_of (slice_get rows s.2)) (bare_rows s.0 s.1 gs))
+      ∙ ap (λ rows. list_of (slice_get (under s.1 (under s.0 (bare gs))) s.2) ++ rows) (rows_at_spots spots)
+
+  -- the two comparisons as tests
+  in_tests : (l e m f : Bool) → is_lt (ordering_then (cond l Less (cond e Equal Greater)) (cond m Less (cond f Equal Greater))) ≡ (l || (e && m))
+  in_tests true e m f = refl
+  in_tests false true true f = refl
+  in_tests false true false true = refl
+  in_tests false true false false = refl
+  in_tests false false m f = refl
+
+  -- of rows that are in the order of their numbers no later one was created first
+  in_creation_order : (n : ℕ) → AreItems n gs → (a b : Item) → IsIn (numbered gs) a → IsIn (numbered gs) b
+      → is_lt (item_order b a) ≡ false → is_lt (header_order (made_of gs) b.row a.row) ≡ false
+  in_creation_order n are a b p q up =
+      let made = by_number (numbered gs) in
+      let la : ℕ = length a.row.path.text in
+      let lb : ℕ = length b.row.path.text in
+      let differs = differ_order (numbered gs) ∙ keys_differ gs are.0 are.1 in
+      let later : a.number ≤ b.number → creation (made_of gs) a.row ≤ creation (made_of gs) b.row =
+      no_later made (ascend_order (numbered gs) are.3) differs (entry_of a) (entry_of b)
+      (any_ordered (is_entry (entry_of a)) (numbered gs) ∙ p) (any_ordered (is_entry (entry_of b)) (numbered gs) ∙ q) in
+      let tests = sym (in_tests (ltb la lb) (eqb la lb) (ltb b.number a.number) (eqb b.number a.number)) ∙ up in
+      in_tests (ltb la lb) (eqb la lb) (ltb (creation (made_of gs) b.row) (creation (made_of gs) a.row)) (eqb (creation (made_of gs) b.row) (creation (made_of gs) a.row))
+      ∙ ordered la lb a.number b.number (creation (made_of gs) a.row) (creation (made_of gs) b.row) later tests
+    where
+      -- so no test of creation passes where none of numbers does
+      ordered : (la lb m n i j : ℕ) → (m ≤ n → i ≤ j) → (ltb la lb || (eqb la lb && ltb n m)) ≡ false → (ltb la lb || (eqb la lb && ltb j i)) ≡ false
+      ordered la lb m n i j later tests = elim (cases_Bool (eqb la lb)) [
+        | inl same ↦
+            let below : m ≤ n = grind (arith, nat_tests, tests, same) in
+            let earlier : i ≤ j = later below in
+            grind (arith, nat_tests, tests, same, earlier)
+        | inr other ↦ grind (arith, tests, other)
+      ]
+
+  -- sorted rows are in the order of the header
+  rows_sorted : (n : ℕ) → AreItems n gs → (items : List Item) → All (IsIn (numbered gs)) items → IsSorted item_order items
+      → IsSorted (header_order (made_of gs)) (rows_of items)
+  rows_sorted n are items among up = sorted_map (λ (item : Item). item.row) (λ a b. is_lt (header_order (made_of gs) a b)) items (λ k d low high.
+      in_creation_order n are (get_or items k d) (get_or items (k + 1) d)
+      (All-get_or (IsIn (numbered gs)) items k d (omega (arith, high)) among)
+      (All-get_or (IsIn (numbered gs)) items (k + 1) d high among)
+      (up k d low high))
+
+  -- what is sorted of the rows that are given is in the order of the header
+  pub sorted_in_order : (n : ℕ) → AreItems n gs → (url : Parts) (now : Moment)
+      → flat_map (rows_at (bare gs)) (given_spots url now (bare gs)) ≡ given url now (flat (bare gs))
+      → (items sorted : List Item) → items ≡ flat_map (items_at gs) (given_spots url now (bare gs))
+      → IsPermutation items sorted → IsSorted item_order sorted
+      → InHeaderOrder url now (contents_of (kept_of gs) None None) (rows_of sorted)
+  sorted_in_order n are url now rows items sorted found moved up =
+      let all = ap rows_of found ∙ rows_at_spots (given_spots url now (bare gs)) ∙ rows in
+      let among = subst (AllByRecursion (IsIn (numbered gs))) (sym found) (all_in are.0.1 (given_spots url now (bare gs))) in (
+        subst (λ asked. IsPermutation asked (rows_of sorted)) all (IsPermutation-map (λ (item : Item). item.row) items sorted moved),
+        rows_sorted n are sorted (All-permutation (IsIn (numbered gs)) items sorted moved (All-from_recursion (IsIn (numbered gs)) items among)) up,
+      )
+
+  -- the rows are none only where none is given
+  pub sorted_some : (asked : List Row) (sorted : List Item) → IsPermutation asked (rows_of sorted) → asked ≡ [] → sorted ≡ []
+  sorted_some asked sorted moved none =
+      nil_from_length sorted (sym (length-map sorted (λ item. item.row)) ∙ length_permutation asked (rows_of sorted) moved ∙ ap length none)

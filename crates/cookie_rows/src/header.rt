@@ -1,0 +1,100 @@
+//! The rows of a request, in the order of the Cookie header.
+ghost use Rattle.std.specs.List.{flat_map};
+ghost use Rattle.std.specs.List.Sorted.{IsPermutation, IsSorted};
+ghost use Rattle.std.specs.Prelude.{◌≡◌, ◌≢◌, ℕ, [], map, None, IfOk, OnErr};
+ghost use Rattle.cookie_words.specs.Moments.{moment_of};
+ghost use Rattle.cookie_laws.specs.Contents.{contents_of};
+ghost use Rattle.cookie_laws.specs.Given.{given};
+ghost use Rattle.cookie_laws.specs.Header.{InHeaderOrder};
+ghost use Rattle.cookie_lookup.specs.Groups.{flat};
+ghost use Rattle.cookie_rows.specs.Groups.{texts_of};
+ghost use Rattle.cookie_rows.specs.HeaderItems.{item_order, items_at};
+ghost use Rattle.cookie_rows.specs.Items.{bare, kept_of, AreItems};
+
+use crate::boxed::BoxedCookie;
+use crate::hashing::HashKey;
+use crate::paths::Paths;
+use crate::search::{given_spots, item_at};
+use crate::texts::path_text;
+use cookie_lookup::laws;
+use cookie_parts::Cookie;
+use indexmap::IndexMap;
+use jiff::civil::DateTime;
+use std::alloc::{AllocError, Global};
+use std::cmp::Ordering;
+use url::Url;
+
+/// The rows that are given for the URL, in the order of RFC 6265 5.4 step 2. Allocates only if there is one.
+pub(crate) fn in_header_order<'a>(
+    groups: &'a IndexMap<String, Paths, HashKey>,
+    alloc: Global,
+    url: &Url,
+    now: DateTime,
+) -> Result<Vec<&'a Cookie<'static>>, AllocError>
+    requires { (n : ℕ) × AreItems n (texts_of groups.now.entries) }
+    ensures order { IfOk result (λ cookies. InHeaderOrder url.now (moment_of now)
+        (contents_of (kept_of (texts_of groups.now.entries)) None None) (map (λ c. c.now) cookies.items)) }
+    ensures memory { OnErr result (given url.now (moment_of now) (flat (bare (texts_of groups.now.entries))) ≢ []) }
+{
+    laws::rows_at_spots();
+    let (spots, _) = given_spots(groups, alloc, url, now)?;
+    let mut items = items_at(groups, alloc, &spots)?;
+    sort(&mut items);
+    cookies_of(alloc, &items)
+}
+
+// The rows at these spots, with their numbers.
+fn items_at<'a>(
+    groups: &'a IndexMap<String, Paths, HashKey>,
+    alloc: Global,
+    spots: &[(usize, usize, usize)],
+) -> Result<Vec<&'a BoxedCookie>, AllocError>
+    ensures items { IfOk result (λ items. map (λ r. r.now) items.items ≡ flat_map (items_at (texts_of groups.now.entries)) spots.now) }
+    ensures memory { OnErr result (spots.now ≢ []) }
+{
+    let mut items = Vec::with_capacity(alloc, spots.len())?;
+    for spot in spots {
+        if let Some(item) = item_at(groups, spot.0, spot.1, spot.2) {
+            items.push(item)?;
+        }
+    }
+    Ok(items)
+}
+
+// Sorts rows into the order of the header.
+fn sort(items: &mut Vec<&BoxedCookie>)
+    ensures moved { IsPermutation (map (λ r. r.now) items.old.items) (map (λ r. r.now) items.new.items) }
+    ensures sorted { IsSorted item_order (map (λ r. r.now) items.new.items) }
+{
+    items.sort_unstable_by(
+        |a, b| -> Ordering
+            ensures { result ≡ item_order a.now.now b.now.now }
+        { compare(a, b) },
+    );
+}
+
+// Longer paths first, and of equally long ones the row that was created first.
+fn compare(a: &BoxedCookie, b: &BoxedCookie) -> Ordering
+    ensures { result ≡ item_order a.now b.now }
+{
+    let (path, other) = (path_text(a.cookie()), path_text(b.cookie()));
+    other
+        .len()
+        .cmp(&path.len())
+        .then(a.number().cmp(&b.number()))
+}
+
+// The cookies of rows.
+fn cookies_of<'a>(
+    alloc: Global,
+    items: &[&'a BoxedCookie],
+) -> Result<Vec<&'a Cookie<'static>>, AllocError>
+    ensures cookies { IfOk result (λ cookies. map (λ c. c.now) cookies.items ≡ map (λ r. r.now.row) items.now) }
+    ensures memory { OnErr result (items.now ≢ []) }
+{
+    let mut cookies = Vec::with_capacity(alloc, items.len())?;
+    for item in items {
+        cookies.push(item.cookie())?;
+    }
+    Ok(cookies)
+}

@@ -1,0 +1,71 @@
+//! The Cookie header of a request, RFC 6265 4.2.1.
+ghost use Rattle.std.specs.Option.{MatchOption};
+ghost use Rattle.std.specs.Prelude.{◌≡◌, ◌≢◌, ◌+◌, ◌^◌, ◌≤◌, [], ◌++◌, flat_map, length, map, string_bytes, IfOk, OnErr, OnOk};
+ghost use Rattle.cookie_laws.specs.Header.{cookie_string, later_pair, pair_text};
+
+use cookie_parts::Cookie;
+use std::alloc::{AllocError, Global};
+
+/// The cookie-string of cookies: `name=value` of each, with `; ` between them. Allocates nothing if there are none.
+pub(crate) fn cookie_string(
+    alloc: Global,
+    cookies: &[&Cookie<'static>],
+) -> Result<String, AllocError>
+    ensures text { IfOk result (λ text. string_bytes text ≡ cookie_string (map (λ c. c.now) cookies.now)) }
+    ensures memory { OnErr result (cookies.now ≢ []) }
+{
+    let Some((first, others)) = cookies.split_first() else {
+        return Ok(String::new(alloc));
+    };
+    let Some(len) = string_len(first, others) else {
+        return Err(AllocError);
+    };
+    let mut text = String::with_capacity(alloc, len)?;
+    push_pair(&mut text, "", first)?;
+    push_later(&mut text, others)?;
+    Ok(text)
+}
+
+// How long the cookie-string is, and None if that is too great a number.
+fn string_len(first: &Cookie<'static>, others: &[&Cookie<'static>]) -> Option<usize>
+    ensures { MatchOption result (2 ^ 64 ≤ length (pair_text first.now) + length (flat_map (λ c. later_pair c.now) others.now))
+        (λ n. n ≡ length (pair_text first.now) + length (flat_map (λ c. later_pair c.now) others.now)) }
+{
+    let mut len = pair_len(0, "", first)?;
+    for cookie in others {
+        len = pair_len(len, "; ", cookie)?;
+    }
+    Some(len)
+}
+
+// A length with those of a separator and a cookie-pair.
+fn pair_len(len: usize, separator: &str, cookie: &Cookie<'static>) -> Option<usize>
+    ensures { MatchOption result (2 ^ 64 ≤ len + length (separator.now ++ pair_text cookie.now))
+        (λ n. n ≡ len + length (separator.now ++ pair_text cookie.now)) }
+{
+    len.checked_add(separator.len())?
+        .checked_add(cookie.name().len())?
+        .checked_add("=".len())?
+        .checked_add(cookie.value().len())
+}
+
+// Adds the cookie-pairs after the first one.
+fn push_later(text: &mut String, cookies: &[&Cookie<'static>]) -> Result<(), AllocError>
+    ensures { OnOk result (string_bytes text.new ≡ string_bytes text.old ++ flat_map (λ c. later_pair c.now) cookies.now) }
+{
+    for cookie in cookies {
+        push_pair(text, "; ", cookie)?;
+    }
+    Ok(())
+}
+
+// Adds a separator and a cookie-pair.
+fn push_pair(text: &mut String, separator: &str, cookie: &Cookie<'static>) -> Result<(), AllocError>
+    ensures { OnOk result (string_bytes text.new ≡ string_bytes text.old ++ (separator.now ++ pair_text cookie.now)) }
+{
+    text.push_str(separator)?;
+    text.push_str(cookie.name())?;
+    text.push_str("=")?;
+    text.push_str(cookie.value())?;
+    Ok(())
+}
