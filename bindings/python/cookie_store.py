@@ -318,8 +318,8 @@ class CookieStore:
             _check(_clear(self._at))
 
     def remove_expired(self, now: Optional[int] = None) -> int:
-        """Removes the cookies that have expired at `now`, and returns how many. The others keep their order. From then on header() returns
-        the same as before: it never returns an expired cookie."""
+        """Removes the cookies that have expired at `now`, and returns how many. The others keep their order. From then on header() has
+        the same cookies as before: it never has an expired one."""
         moment, removed = _moment(now), ctypes.c_size_t()
         with self._lock:
             _check(_remove_expired(self._at, moment, removed))
