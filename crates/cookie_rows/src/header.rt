@@ -78,10 +78,10 @@ fn compare(a: &BoxedCookie, b: &BoxedCookie) -> Ordering
     ensures { result ≡ item_order a.now b.now }
 {
     let (path, other) = (path_text(a.cookie()), path_text(b.cookie()));
-    other
-        .len()
-        .cmp(&path.len())
-        .then(a.number().cmp(&b.number()))
+    match other.len().cmp(&path.len()) {
+        Ordering::Equal => a.number().cmp(&b.number()),
+        unequal => unequal,
+    }
 }
 
 // The cookies of rows.

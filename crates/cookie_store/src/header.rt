@@ -21,7 +21,7 @@ pub(crate) fn cookie_string(
         return Err(AllocError);
     };
     let mut text = String::with_capacity(alloc, len)?;
-    push_pair(&mut text, "", first)?;
+    push_pair(&mut text, first)?;
     push_later(&mut text, others)?;
     Ok(text)
 }
@@ -54,18 +54,18 @@ fn push_later(text: &mut String, cookies: &[&Cookie<'static>]) -> Result<(), All
     ensures { OnOk result (string_bytes text.new ≡ string_bytes text.old ++ flat_map (λ c. later_pair c.now) cookies.now) }
 {
     for cookie in cookies {
-        push_pair(text, "; ", cookie)?;
+        text.push_str("; ")?;
+        push_pair(text, cookie)?;
     }
     Ok(())
 }
 
-// Adds a separator and a cookie-pair.
-fn push_pair(text: &mut String, separator: &str, cookie: &Cookie<'static>) -> Result<(), AllocError>
-    ensures { OnOk result (string_bytes text.new ≡ string_bytes text.old ++ (separator.now ++ pair_text cookie.now)) }
+// Adds a cookie-pair.
+fn push_pair(text: &mut String, cookie: &Cookie<'static>) -> Result<(), AllocError>
+    ensures { OnOk result (string_bytes text.new ≡ string_bytes text.old ++ pair_text cookie.now) }
 {
-    text.push_str(separator)?;
     text.push_str(cookie.name())?;
-    text.push_str("=")?;
+    text.push('=')?;
     text.push_str(cookie.value())?;
     Ok(())
 }

@@ -8,5 +8,5 @@ returns-clause-text c =
     let later = flat_map (λ x. later_pair x.now) c.in-Some.others.now in
     let first = pair_text c.in-Some.first.now.now in
     c.in_ok-push_later.ensures
-    ∙ ap (λ text. text ++ later) (c.in_ok-push_pair.ensures ∙ ap (λ text. text ++ ([] ++ first)) c.in_ok-text.ensures.bytes)
+    ∙ ap (λ text. text ++ later) (c.in_ok-push_pair.ensures ∙ ap (λ text. text ++ first) c.in_ok-text.ensures.bytes)
     ∙ sym (string_parts (λ x. x.now) c.args.cookies.now _ _ c.in-Some.ensures.cases.0)
