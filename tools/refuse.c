@@ -1,15 +1,16 @@
-// Refuses one growth of memory: preloaded (LD_PRELOAD) into a program, it stands before the C
-// library's `malloc` and `realloc`, and passes every call on but one. `tools/growths` builds it.
+// Makes one allocation fail: preloaded (LD_PRELOAD) into a program, it replaces the C library's
+// `malloc` and `realloc`, and passes on every call but one. `tools/growths` and `tools/bindings`
+// build it.
 //
-//   REFUSE_GROWTH=k       the growth to refuse, from 1
-//   REFUSE_MARK=FILE      the file that is made once a growth was refused
-//   REFUSE_FROM_START=1   every growth counts, from the program's first on
+//   REFUSE_GROWTH=k       the allocation that fails, from 1
+//   REFUSE_MARK=FILE      the file that is created when it fails
+//   REFUSE_FROM_START=1   every allocation counts, from the program's first on
 //
-// Without REFUSE_FROM_START a test says which growths count, by two growths of odd sizes: one of
+// Without REFUSE_FROM_START a test marks the allocations that count by two of odd sizes: one of
 // START bytes (`Vec::<u8>::with_capacity(alloc, 48_271)?`) starts the count at 0, and one of END
-// bytes ends it. What a test makes before its call, or to compare after it, is so left alone. A
-// test may start the count again for its next call. There are no headers, so that a bare compiler
-// builds it, with -nostdlib.
+// bytes ends it. So what a test allocates before its call, or to compare after it, never fails. A
+// test may start the count again for its next call. There are no headers, so that a compiler
+// without the C library builds it, with -nostdlib.
 
 enum { START = 48271, END = 48281 };
 
@@ -23,21 +24,21 @@ int close(int file);
 int *__errno_location(void);
 
 static int is_counting;
-static unsigned long growths;
+static unsigned long count;
 
-// Whether this growth is the one to refuse.
-static int is_refused(size_t size) {
+// Whether this allocation is the one that fails.
+static int fails(size_t size) {
     if (size == START || size == END) {
         is_counting = size == START;
-        growths = 0;
+        count = 0;
         return 0;
     }
     if (!is_counting && !getenv("REFUSE_FROM_START")) return 0;
-    growths++;
+    count++;
     const char *digits = getenv("REFUSE_GROWTH");
-    unsigned long refused = 0;
-    while (digits && *digits >= '0' && *digits <= '9') refused = 10 * refused + (*digits++ - '0');
-    if (growths != refused) return 0;
+    unsigned long failing = 0;
+    while (digits && *digits >= '0' && *digits <= '9') failing = 10 * failing + (*digits++ - '0');
+    if (count != failing) return 0;
     const char *mark = getenv("REFUSE_MARK");
     if (mark) close(creat(mark, 0644));
     *__errno_location() = 12; // ENOMEM
@@ -45,9 +46,9 @@ static int is_refused(size_t size) {
 }
 
 void *malloc(size_t size) {
-    return is_refused(size) ? 0 : __libc_malloc(size);
+    return fails(size) ? 0 : __libc_malloc(size);
 }
 
 void *realloc(void *old, size_t size) {
-    return is_refused(size) ? 0 : __libc_realloc(old, size);
+    return fails(size) ? 0 : __libc_realloc(old, size);
 }

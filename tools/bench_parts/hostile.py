@@ -5,7 +5,7 @@ from dataclasses import dataclass
 from typing import Callable
 
 from bench_parts.measure import Task, repeated
-from bench_parts.scripts import CLEAR, NOW, removals, sets
+from bench_parts.scripts import CLEAR, NOW, removals, saved_lines, sets
 
 TARGET = 0.1  # seconds that a run repeats the operation
 PATIENCE = 40.0  # seconds: a larger input is skipped if it may take longer
@@ -76,10 +76,7 @@ def get_after_removals(size):
 
 
 def convert(size):
-    lines = ''.join(
-        f'{{"raw_cookie":"c{number % 20}={number}; Secure","path":["/",false],'
-        f'"domain":{{"HostOnly":"h{number // 20}.com"}},"expires":{{"AtUtc":"2100-08-03T00:38:37Z"}}}}\n'
-        for number in range(size))
+    lines = saved_lines(size)
     return Task(lambda _: '', lambda _: lines, arguments=('--convert',), most=1)
 
 

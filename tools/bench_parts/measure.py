@@ -3,10 +3,12 @@ import os
 import re
 import shutil
 import subprocess
-import sys
 import tempfile
+from contextlib import contextmanager
 from dataclasses import dataclass
 from typing import Callable
+
+from common import processor_seconds, stop
 
 GNU_TIME = '/usr/bin/time'
 RUNS = 5
@@ -43,6 +45,13 @@ def has_valgrind():
     return shutil.which('valgrind') is not None
 
 
+def instructions(command, **options):
+    """The instructions of one run of a command, by callgrind."""
+    done = subprocess.run(['valgrind', '--tool=callgrind', '--callgrind-out-file=/dev/null', *command],
+                          stdout=subprocess.DEVNULL, stderr=subprocess.PIPE, check=True, **options)
+    return int(re.search(rb'Collected : (\d+)', done.stderr)[1])
+
+
 class Series:
     """Runs of a program on the base and on the script of a task."""
 
@@ -51,7 +60,7 @@ class Series:
         self.best, self.spent = [float('inf')] * 2, 0.0
 
     def run(self):
-        took = [_seconds(self.program, self.task, path) for path in self.paths]
+        took = [seconds(self.program, path, self.task.arguments) for path in self.paths]
         self.best = [*map(min, self.best, took)]
         self.spent += sum(took)
 
@@ -81,7 +90,7 @@ class Meter:
         expected = self._given(first, script)
         for other in others:
             if self._given(other, script) != expected:
-                sys.exit(f'bench: {first.name} and {other.name} give different cookies')
+                stop(f'{first.name} and {other.name} give different cookies')
 
     def time(self, programs, task, target):
         """Seconds of one operation by program name: the best of interleaved runs, less the base.
@@ -97,19 +106,28 @@ class Meter:
             series.remove()
         return {series.program.name: series.seconds() for series in all_series}
 
-    def peak(self, program, script):
-        """The peak of resident memory in bytes.
+    def once(self, program, script):
+        """The seconds of one run."""
+        with self._written(script) as path:
+            return seconds(program, path)
+
+    def peak(self, program, script, arguments=()):
+        return self.seconds_and_peak(program, script, arguments)[1]
+
+    def seconds_and_peak(self, program, script, arguments=()):
+        """The seconds of one run, and the peak of resident memory in bytes.
 
         GNU time starts the program: if Python did, the peak would include Python's own memory.
         """
         report = os.path.join(self.folder, 'peak')
-        self._run([GNU_TIME, '-f', '%M', '-o', report, *program.command], script)
+        with self._written(script) as path, open(path) as lines:
+            took = processor_seconds([GNU_TIME, '-f', '%M', '-o', report, *program.command, *arguments], stdin=lines)
         with open(report) as kilobytes:
-            return int(kilobytes.read()) * 1024
+            return took, int(kilobytes.read()) * 1024
 
     def instructions(self, program, script):
-        command = ['valgrind', '--tool=callgrind', '--callgrind-out-file=/dev/null', *program.command]
-        return int(re.search(rb'Collected : (\d+)', self._run(command, script).stderr)[1])
+        with self._written(script) as path, open(path) as lines:
+            return instructions(program.command, stdin=lines)
 
     def _series(self, program, task, target):
         """A series whose count is great enough, with its first run."""
@@ -124,15 +142,15 @@ class Meter:
 
     def _given(self, program, script):
         """The number of cookies in each Cookie header that the program prints."""
-        lines = self._run(program.command, script).stdout.splitlines()
-        return [line.count(b'=') for line in lines if line.startswith(b'Cookie:')]
+        with self._written(script) as path, open(path) as lines:
+            printed = subprocess.run(program.command, stdin=lines, capture_output=True, check=True).stdout
+        return [line.count(b'=') for line in printed.splitlines() if line.startswith(b'Cookie:')]
 
-    def _run(self, command, script):
+    @contextmanager
+    def _written(self, script):
         path = self._write(script)
-        with open(path) as lines:
-            done = subprocess.run(command, stdin=lines, capture_output=True, check=True)
+        yield path
         os.remove(path)
-        return done
 
     def _write(self, script):
         descriptor, path = tempfile.mkstemp(dir=self.folder)
@@ -141,11 +159,7 @@ class Meter:
         return path
 
 
-def _seconds(program, task, path):
-    """The processor time of one run, user and system."""
-    with open(path) as lines, open(os.devnull, 'w') as output:
-        child = subprocess.Popen([*program.command, *task.arguments], stdin=lines, stdout=output)
-        _, status, usage = os.wait4(child.pid, 0)
-    if status:
-        sys.exit(f'bench: {program.name} failed with status {os.waitstatus_to_exitcode(status)}')
-    return usage.ru_utime + usage.ru_stime
+def seconds(program, path, arguments=()):
+    """The processor time of one run on a script."""
+    with open(path) as lines:
+        return processor_seconds([*program.command, *arguments], stdin=lines)

@@ -1,26 +1,26 @@
-"""The other tools that measure, which run the program that tools/bench measured."""
+"""The other commands of tools/bench, which `stores --write` runs."""
 import contextlib
 import os
 import signal
 import subprocess
 
-from bench_parts.programs import ROOT
+from common import ROOT
 
-MINUTES = 8  # after which a tool is stopped
-COMMANDS = ['tools/speed 50 20 2000', 'tools/speed_convert 10000 100000', 'tools/speed_bindings',
-            'tools/speed_lists 10000', 'tools/speed_header']
+MINUTES = 8  # after which a command is stopped
+COMMANDS = [f'tools/bench {words}' for words in
+            ('requests 50 20 2000', 'convert 10000 100000', 'bindings', 'lists 10000', 'header')]
 
 
 def environment(program, archive, lists):
-    """The variables by which the tools find their programs."""
+    """The variables by which the commands find their programs."""
     found = {'COOKIE_JAR': program, 'COOKIE_STORE_ARCHIVE': archive, 'COOKIE_LISTS': lists}
     return {**os.environ, **{name: os.path.realpath(path) for name, path in found.items() if path}}
 
 
 def run(command, variables):
-    """What the tool prints, or a line that says why there is nothing."""
+    """What the command prints, or a line that says why there is nothing."""
     archive = variables['COOKIE_STORE_ARCHIVE']
-    if command == 'tools/speed_bindings' and not os.path.exists(archive):
+    if command == 'tools/bench bindings' and not os.path.exists(archive):
         return f'not run: {os.path.basename(archive)} is not built'
     try:
         tool = subprocess.Popen(command.split(), cwd=ROOT, env=variables, stdout=subprocess.PIPE,
@@ -41,7 +41,7 @@ def run(command, variables):
 
 
 def stop(tool):
-    """Stops the tool and all that it started, after some time to remove its files."""
+    """Stops the command and all that it started, after some time to remove its files."""
     for number in (signal.SIGINT, signal.SIGKILL):
         with contextlib.suppress(ProcessLookupError):
             os.killpg(tool.pid, number)

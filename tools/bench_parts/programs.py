@@ -1,15 +1,14 @@
 """The program and its peers, which are built into a temporary folder."""
 import os
+import platform
 import re
 import shutil
 import subprocess
 import sys
 
 from bench_parts.measure import Program
+from common import ROOT, c_compiler, compile_c, stop
 
-ROOT = os.path.realpath(os.path.join(os.path.dirname(__file__), '..', '..'))
-DEFAULT = os.path.join(ROOT, 'crates', 'cookie_jar', 'out', 'cookie_jar')
-ARCHIVE = os.path.join(ROOT, 'crates', 'cookie_store_c', 'out', 'libcookie_store_c.a')
 PEERS = os.path.join(ROOT, 'tools', 'peers')
 REGISTRY = '/usr/share/cargo/registry'
 OWN, RUST, GO = 'cookie_jar', 'Rust crate', 'Go'
@@ -26,9 +25,16 @@ def output(*command, cwd=ROOT):
 
 def own(path):
     if not os.access(path, os.X_OK):
-        sys.exit(f'bench: {path} is not built: run rt run in crates/cookie_jar')
+        stop(f'{path} is not built: run rt run in crates/cookie_jar')
     path = os.path.realpath(path)
     return Program(OWN, (path,), os.path.relpath(path, ROOT) if path.startswith(ROOT) else 'another build')
+
+
+def python_jar():
+    """Python's http.cookiejar."""
+    version = platform.python_version()
+    path = os.path.join(os.path.dirname(os.path.abspath(__file__)), 'jar.py')
+    return Program(f'http.cookiejar of Python {version}', (sys.executable, '-I', path), version)
 
 
 class Missing(Exception):
@@ -75,10 +81,4 @@ def run_compiler(*command, cwd):
 
 def build_collisions(folder):
     """The path of tools/collisions, or None without a C compiler."""
-    compiler = shutil.which('cc') or shutil.which('clang')
-    if not compiler:
-        return None
-    path = os.path.join(folder, 'collisions')
-    subprocess.run([compiler, '-O3', '-o', path, os.path.join(ROOT, 'tools', 'collisions.c')], check=True)
-    return path
-
+    return compile_c(os.path.join(folder, 'collisions'), '-O3', 'tools/collisions.c') if c_compiler() else None

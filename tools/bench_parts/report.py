@@ -6,7 +6,8 @@ import textwrap
 from dataclasses import dataclass, field
 
 from bench_parts.others import MINUTES
-from bench_parts.programs import ROOT, output
+from bench_parts.programs import output
+from common import ROOT
 
 IDLE = 0.5  # the greatest load average of an idle machine
 
@@ -110,21 +111,21 @@ apt-get install cargo librust-cookie-store-dev librust-cookie-dev librust-public
 tools/bench --write                         # on an idle machine
 ```
 
-A peer or a tool that is missing is left out. Three of the other tools need builds of their own:
+A peer or a tool that is missing is left out. Three of the other commands need builds of their own:
 
 ```sh
 (cd crates/cookie_store_c && rt lib)       # the library, or another one by --archive FILE
-COOKIE_LISTS=FOLDER tools/speed_lists 1    # some ten minutes
-COOKIE_LISTS=FOLDER tools/speed_header     # some ten more
+tools/bench lists 1 --lists FOLDER         # some ten minutes
+tools/bench header --lists FOLDER          # some ten more
 tools/bench --write --lists FOLDER
 ```
 '''
 
 OTHERS = f'''
-## Other tools
+## Other commands
 
-`tools/speed` and `tools/speed_convert` run the program that the tables above measure. A tool that
-takes more than {MINUTES} minutes is stopped.'''
+`requests` and `convert` run the program that the tables above measure. A command that takes more
+than {MINUTES} minutes is stopped.'''
 
 
 @dataclass
@@ -133,7 +134,7 @@ class Document:
     rows: list  # what was measured, where and when
     notices: list  # what is missing, or may distort the figures
     tables: list = field(default_factory=list)
-    sections: list = field(default_factory=list)  # the other tools' commands, and what they printed
+    sections: list = field(default_factory=list)  # the other commands, and what they printed
 
     def text(self):
         """What precedes the tables."""

@@ -1,4 +1,4 @@
-"""Scripts in the line language of cookie_jar, as strings. Random choices have a fixed seed."""
+"""Scripts in the line language of cookie_jar, and saved cookies, as strings. Random choices have a fixed seed."""
 import random
 
 NOW = 'now 2026-01-01T00:00:00Z\n'
@@ -9,11 +9,11 @@ def host_count(cookies, per_host):
     return max(1, cookies // per_host)
 
 
-def sets(cookies, per_host, suffix=''):
+def sets(cookies, per_host, suffix='', domain='com'):
     """Sets `cookies` cookies, one at each host in turn until each host has `per_host`."""
     hosts = host_count(cookies, per_host)
     return ''.join(
-        f'set http://h{number % hosts}.com/ c{number // hosts}={number}{suffix}; Max-Age=86400\n'
+        f'set http://h{number % hosts}.{domain}/ c{number // hosts}={number}{suffix}; Max-Age=86400\n'
         for number in range(cookies))
 
 
@@ -22,6 +22,18 @@ def gets(cookies, per_host, count):
     hosts = host_count(cookies, per_host)
     generator = random.Random(2)
     return ''.join(f'get http://h{generator.randrange(hosts)}.com/a/b\n' for _ in range(count))
+
+
+def gets_in_turn(hosts, count, domain):
+    return ''.join(f'get http://h{number % hosts}.{domain}/a/b\n' for number in range(count))
+
+
+def saved_lines(count, is_one_key=False):
+    """Lines of JSON, as --convert reads them: 20 cookies a host, or the same cookie `count` times with different values."""
+    keys = ((0, 0) if is_one_key else divmod(number, 20) for number in range(count))
+    return ''.join(
+        f'{{"raw_cookie":"c{name}={number}; Secure","path":["/",false],"domain":{{"HostOnly":"h{host}.com"}},'
+        f'"expires":{{"AtUtc":"2100-08-03T00:38:37Z"}}}}\n' for number, (host, name) in enumerate(keys))
 
 
 def removals(cookies, per_host, order='random'):

@@ -54,7 +54,7 @@ class Module:
         return found
 
     def publics(self):
-        """Pairs of a name and what it stands for."""
+        """Pairs of a name and what it names."""
         for item in self.items:
             if item.is_public and item.kind == 'mod':
                 yield item.name, self.modules[item.name]

@@ -1,4 +1,4 @@
-"""The items of a Rattle source file: what it declares, re-exports and asks of its callers."""
+"""The items of a Rattle source file: what it declares and re-exports, and its preconditions."""
 import re
 from dataclasses import dataclass, field
 
@@ -11,7 +11,7 @@ TYPES = ('struct', 'enum', 'trait', 'type', 'const')
 
 @dataclass(eq=False)
 class Item:
-    """A declaration. `head` is what follows the name: parameters and result, or what an alias stands for."""
+    """A declaration. `head` is what follows the name: parameters and result, or what an alias is for."""
     kind: str
     name: str
     line: int
@@ -25,7 +25,7 @@ class Item:
 
 @dataclass(eq=False)
 class Use:
-    """A name and the path that it stands for."""
+    """A name and the path that it is for."""
     name: str
     path: list
     is_public: bool
@@ -72,7 +72,7 @@ class Reader:
         return self.take() if self.peek() in words else ''
 
     def group(self):
-        """Takes a group in brackets, and returns what stands in it."""
+        """Takes a group in brackets, and returns what is in it."""
         begin, closers = self.at, []
         while True:
             token = self.take()
@@ -87,7 +87,7 @@ class Reader:
         return self.text[self.tokens[begin].start():self.tokens[end - 1].end()] if begin < end else ''
 
     def until(self, *stops):
-        """Takes what stands before one of these that is in no brackets."""
+        """Takes what comes before one of these that is in no brackets."""
         begin = self.at
         while self.peek() and self.peek() not in stops:
             if self.peek() in CLOSERS:
@@ -135,7 +135,7 @@ class Reader:
     def module(self):
         name = self.take()
         if not self.takes(';'):
-            raise SyntaxError(f'the module {name} stands in a file of another')
+            raise SyntaxError(f'the module {name} is in the file of another')
         return Item('mod', name, 0)
 
     def use(self):

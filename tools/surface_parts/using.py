@@ -146,7 +146,7 @@ def of_function(public, found):
         if head != public.item.head:
             yield f'{FILE}:{line.number}: {public.path}: has `{head}`, and {public.place} `{public.item.head}`'
     for line, _ in found[1:]:
-        yield f'{FILE}:{line.number}: {public.path}: stands there once more'
+        yield f'{FILE}:{line.number}: {public.path}: is there twice'
 
 
 def of_type(public, found, named):
@@ -159,4 +159,4 @@ def of_type(public, found, named):
             yield (f'{FILE}:{line.number}: {public.path}: has {", ".join(members) or "nothing"}, '
                    f'and {public.place} {", ".join(public.item.members) or "nothing"}')
     for line, _ in found[1:]:
-        yield f'{FILE}:{line.number}: {public.path}: stands there once more'
+        yield f'{FILE}:{line.number}: {public.path}: is there twice'

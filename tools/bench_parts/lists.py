@@ -1,19 +1,19 @@
-#!/usr/bin/env python3
-"""Times what a list of saved cookies costs: tools/speed_lists COOKIES..
+"""Times a list of saved cookies: loads a list of each number of COOKIES, in JSON and in RON, and saves it again.
+Usage: tools/bench lists [--lists FOLDER] COOKIES..
 
-Loads a list of each number of cookies, in JSON and in RON, into a store and saves it again. Prints microseconds of
-processor time a cookie in each form, and those of Python's json for reading the same file and writing it with the same
-indents. Two programs do it, which are proved and built in a copy of the repository in some ten minutes. The folder that
-COOKIE_LISTS names keeps them for the next run: empty it when the code has changed."""
+Prints microseconds of processor time a cookie in each form, and those of Python's json for reading the same file and
+writing it with the same indents. The two programs are proved and built in a copy of the repository, in ten minutes.
+
+Exit status: 0; 1 if a program fails or is not proved, or saves another list."""
 import json
 import os
-import subprocess
-import sys
 import tempfile
 import time
 
 from bench_parts.built import built
+from common import processor_seconds, read, stop
 
+OPTIONS = ['--lists']
 SOURCE = '''//! Loads the list in a file into a store, and saves it in another.
 #![tactic(auto)]
 
@@ -37,17 +37,17 @@ fn main(rt: HostRuntime) -> Result<(), Error> {
 
 
 def cookie(number):
-    """The host, and the text, of a cookie."""
+    """The host and the header value of a cookie."""
     return f'h{number // 20}.com', f'c{number % 20}={number}; Secure; Expires=Tue, 03 Aug 2100 00:38:37 GMT'
 
 
 def tree(number):
-    host, text = cookie(number)
+    host, header = cookie(number)
     return {
         'domain': {'HostOnly': host},
         'expires': {'AtUtc': '2100-08-03T00:38:37Z'},
         'path': ['/', False],
-        'raw_cookie': text,
+        'raw_cookie': header,
     }
 
 
@@ -61,8 +61,8 @@ def write_ron(path, cookies):
     with open(path, 'w') as file:
         file.write('[\n')
         for number in range(cookies):
-            host, text = cookie(number)
-            file.write(f'    (\n        raw_cookie: "{text}",\n        path: ("/", false),\n'
+            host, header = cookie(number)
+            file.write(f'    (\n        raw_cookie: "{header}",\n        path: ("/", false),\n'
                        f'        domain: HostOnly("{host}"),\n        expires: AtUtc("2100-08-03T00:38:37Z"),\n    ),\n')
         file.write(']\n')
 
@@ -75,14 +75,6 @@ def write_one(form, folder):
     WRITERS[form](os.path.join(folder, f'list.{form}'), 1)
 
 
-def own_seconds(command, folder):
-    child = subprocess.Popen([command], cwd=folder)
-    _, status, usage = os.wait4(child.pid, 0)
-    if status:
-        sys.exit(f'speed_lists: the program ended with status {status}')
-    return usage.ru_utime + usage.ru_stime
-
-
 def python_seconds(folder):
     begun = time.process_time()
     with open(os.path.join(folder, 'list.json')) as read, open(os.path.join(folder, 'python.json'), 'w') as written:
@@ -92,30 +84,25 @@ def python_seconds(folder):
 
 
 def is_same(folder, *names):
-    texts = []
-    for name in names:
-        with open(os.path.join(folder, name)) as file:
-            texts.append(file.read())
-    return len(set(texts)) == 1
+    return len({read(os.path.join(folder, name)) for name in names}) == 1
 
 
-def main():
-    if len(sys.argv) < 2:
-        sys.exit(__doc__)
-    with tempfile.TemporaryDirectory() as room:
+def add_arguments(parser):
+    parser.add_argument('COOKIES', type=int, nargs='+')
+
+
+def run(options):
+    with tempfile.TemporaryDirectory() as folder:
         sources = {f'loads_and_saves_{form}': SOURCE.replace('FORM', form) for form in WRITERS}
-        found = built(room, sources, lambda name, folder: write_one(name.rpartition('_')[2], folder))
+        found = built(folder, options.lists, sources, lambda name, folder: write_one(name.rpartition('_')[2], folder))
         commands = {name.rpartition('_')[2]: path for name, path in found.items()}
-        for cookies in map(int, sys.argv[1:]):
+        for cookies in options.COOKIES:
             took = {}
             for form, command in commands.items():
-                WRITERS[form](os.path.join(room, f'list.{form}'), cookies)
-                took[form] = own_seconds(command, room) / cookies * 1e6
-            python = python_seconds(room) / cookies * 1e6
-            if not is_same(room, 'saved.json', 'python.json') or not is_same(room, 'list.ron', 'saved.ron'):
-                sys.exit('speed_lists: another list was written')
+                WRITERS[form](os.path.join(folder, f'list.{form}'), cookies)
+                took[form] = processor_seconds([command], cwd=folder) / cookies * 1e6
+            python = python_seconds(folder) / cookies * 1e6
+            if not is_same(folder, 'saved.json', 'python.json') or not is_same(folder, 'list.ron', 'saved.ron'):
+                stop('another list was saved than was loaded')
             print(f"{cookies} cookies: {took['json']:.2f} us a cookie in JSON, {took['json'] / python:.2f} times Python's json,"
                   f" {took['ron']:.2f} us in RON, {took['ron'] / took['json']:.2f} times JSON")
-
-
-main()

@@ -1,17 +1,18 @@
-#!/usr/bin/env python3
-"""Times the Cookie header of a request for 20 cookies, of one path and of two in turn: tools/speed_header.
+"""Times the Cookie header of a request for 20 cookies, of one path and of two in turn.
+Usage: tools/bench header [--lists FOLDER]
 
-Prints instructions and microseconds of processor time for the cookies of `matches` written by hand, in the store's order, and for
-`cookie_header`, in that of RFC 6265 5.4, and the ratio. Four programs do it, which are proved and built in a copy of the repository in
-some ten minutes. The folder that COOKIE_LISTS names keeps them for the next run: empty it when the code has changed."""
-import os
-import re
-import subprocess
-import sys
+Prints instructions and microseconds of processor time for a header written by hand from the cookies of `matches`, in the
+store's order, and for `cookie_header`, in the order of RFC 6265 5.4, and the ratio. The four programs are proved and
+built in a copy of the repository, in ten minutes. Needs valgrind.
+
+Exit status: 0; 1 if a program fails or is not proved."""
 import tempfile
 
 from bench_parts.built import built
+from bench_parts.measure import instructions
+from common import processor_seconds
 
+OPTIONS = ['--lists']
 REPEATS, ROUNDS = 20_000, 5
 SHAPES = {'one path': '/', 'two paths in turn': '/a'}
 WAYS = {
@@ -79,35 +80,22 @@ def source_of(way, other):
     return SOURCE.replace('WAY', WAYS[way]).replace('REPEATS', str(REPEATS)).replace('OTHER', other)
 
 
+def add_arguments(parser):
+    pass
+
+
 def microseconds(command):
-    """The least processor time of some runs, of one header."""
-    took = []
-    for _ in range(ROUNDS):
-        child = subprocess.Popen([command], stdout=subprocess.DEVNULL)
-        _, status, usage = os.wait4(child.pid, 0)
-        if status:
-            sys.exit(f'speed_header: the program ended with status {status}')
-        took.append(usage.ru_utime + usage.ru_stime)
-    return min(took) / REPEATS * 1e6
+    """The least processor time of several runs, of one header."""
+    return min(processor_seconds([command]) for _ in range(ROUNDS)) / REPEATS * 1e6
 
 
-def instructions(command):
-    """Those of one header, by valgrind."""
-    done = subprocess.run(['valgrind', '--tool=callgrind', '--callgrind-out-file=/dev/null', command],
-                          stdout=subprocess.DEVNULL, stderr=subprocess.PIPE, check=True, text=True)
-    return int(re.search(r'Collected : (\d+)', done.stderr)[1]) / REPEATS
-
-
-def main():
-    with tempfile.TemporaryDirectory() as room:
+def run(options):
+    with tempfile.TemporaryDirectory() as folder:
         sources = {(shape, way): source_of(way, other) for shape, other in SHAPES.items() for way in WAYS}
         names = {key: f'header_{key[1]}_{key[0].partition(" ")[0]}' for key in sources}
-        found = built(room, {names[key]: source for key, source in sources.items()})
+        found = built(folder, options.lists, {names[key]: source for key, source in sources.items()})
         for shape in SHAPES:
             paths = [found[names[shape, way]] for way in WAYS]
-            counts, times = [instructions(path) for path in paths], [microseconds(path) for path in paths]
+            counts, times = [instructions([path]) / REPEATS for path in paths], [microseconds(path) for path in paths]
             print(f'{shape}: {counts[0]:,.0f} instructions and {times[0]:.2f} us by hand, {counts[1]:,.0f} and {times[1]:.2f} us by cookie_header;'
                   f' {counts[1] / counts[0]:.2f} and {times[1] / times[0]:.2f} times that')
-
-
-main()

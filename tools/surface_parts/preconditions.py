@@ -1,10 +1,10 @@
-"""The table 'What calls ask' of docs/PROOFS.md: the preconditions of public functions, as the sources have them."""
+"""The table 'Preconditions' of docs/PROOFS.md: the preconditions of public functions, as the sources have them."""
 import re
 from dataclasses import dataclass
 
 FILE = 'docs/PROOFS.md'
 BEGIN, END = '<!-- tools/surface --write: begin -->', '<!-- tools/surface --write: end -->'
-HEAD = ['| call | clause | asks |', '|---|---|---|']
+HEAD = ['| call | clause | requires |', '|---|---|---|']
 
 
 @dataclass
@@ -31,10 +31,10 @@ def clauses(publics, prefix=''):
 
 
 def parts(text):
-    """What stands before the table, the table, and what stands behind it."""
+    """The text before the table, the table, and the text after it."""
     found = re.fullmatch(f'(.*{re.escape(BEGIN)}\n)(.*)({re.escape(END)}\n.*)', text, re.DOTALL)
     if not found:
-        raise SystemExit(f'surface: {FILE}: the marks `{BEGIN}` and `{END}` do not stand there')
+        raise SystemExit(f'surface: {FILE}: the marks `{BEGIN}` and `{END}` are not there')
     return found.groups()
 
 

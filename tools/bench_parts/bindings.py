@@ -1,0 +1,103 @@
+"""Times a call from C and from Python, beside Python's http.cookiejar, in ten seconds.
+Usage: tools/bench bindings [--archive FILE]
+
+Prints microseconds of processor time a call, the least of three runs, and how many times as long http.cookiejar takes as
+StoreJar. A StoreJar counts unexpired cookies only. The library is installed in a temporary folder, from --archive; without it
+the library is proved and built first. Needs a C compiler.
+
+Exit status: 0; 1 if a call fails."""
+import http.cookiejar
+import importlib
+import os
+import subprocess
+import sys
+import tempfile
+import time
+import urllib.request
+
+from bench_parts.jar import Response
+from common import compile_c, install, stop
+
+OPTIONS = ['--archive']
+HOSTS, EACH = 50, 20
+NOW = 1767225600  # 2026-01-01T00:00:00
+SECONDS = 0.2  # that a run takes
+HEADERS = [f'c{number}=value{number}; Path=/; Max-Age=86400' for number in range(EACH)]
+
+
+def add_arguments(parser):
+    pass
+
+
+def build(folder, archive):
+    """Installs the library, and builds the program in C."""
+    prefix, defined = f'{folder}/prefix', {'HOSTS': HOSTS, 'EACH': EACH, 'NOW': NOW, 'SECONDS': SECONDS}
+    install(prefix, archive)
+    program = compile_c(f'{folder}/calls', '-std=c11', 'tools/bench_parts/calls.c', '-I', f'{prefix}/include',
+                        '-L', f'{prefix}/lib', '-lcookie_store', f'-Wl,-rpath,{prefix}/lib', *(f'-D{name}={value}' for name, value in defined.items()))
+    return prefix, program
+
+
+def measure(call, inputs):
+    """The seconds that a call takes, on each of the inputs in turn."""
+    least = float('inf')
+    for _ in range(3):
+        calls, begun, spent = 0, time.process_time(), 0.0
+        while spent < SECONDS:
+            for each in inputs:
+                call(each)
+            calls += len(inputs)
+            spent = time.process_time() - begun
+        least = min(least, spent / calls)
+    return least
+
+
+def measure_c(program):
+    printed = subprocess.run([program], check=True, stdout=subprocess.PIPE, text=True).stdout
+    return {name: float(seconds) for name, seconds in map(str.split, printed.splitlines())}
+
+
+def measure_store(module):
+    urls = [f'http://h{number}.example/a/b' for number in range(HOSTS)]
+    many, one = module.CookieStore(), module.CookieStore()
+    for url in urls:
+        one.set(url, 'c0=value0; Path=/', NOW)
+    took = {'set': measure(lambda pair: many.set(*pair, NOW), [(url, header) for url in urls for header in HEADERS])}
+    took['get_one'] = measure(lambda url: one.header(url, NOW), urls)
+    took['get_many'] = measure(lambda url: many.header(url, NOW), urls)
+    took['count'] = measure(lambda _: len(many), urls)
+    return took
+
+
+def add_and_remove(jar, request):
+    """Adds the Cookie header to a request, and removes it again."""
+    jar.add_cookie_header(request)
+    if not request.unredirected_hdrs.pop('Cookie', ''):
+        stop('a request has no Cookie header')
+
+
+def measure_jar(new):
+    requests = [urllib.request.Request(f'http://h{number}.example/a/b') for number in range(HOSTS)]
+    many, one, all_of, first = new(), new(), Response(HEADERS), Response(HEADERS[:1])
+    took = {'set': measure(lambda request: many.extract_cookies(all_of, request), requests) / EACH}
+    for request in requests:
+        one.extract_cookies(first, request)
+    took['get_one'] = measure(lambda request: add_and_remove(one, request), requests)
+    took['get_many'] = measure(lambda request: add_and_remove(many, request), requests)
+    took['count'] = measure(lambda _: len(many), requests[:5])
+    return took
+
+
+def run(options):
+    with tempfile.TemporaryDirectory() as folder:
+        prefix, program = build(folder, options.archive and os.path.realpath(options.archive))
+        sys.path.insert(0, f'{prefix}/lib/python3/dist-packages')
+        os.environ['COOKIE_STORE_LIBRARY'] = f'{prefix}/lib/libcookie_store.so'
+        module = importlib.import_module('cookie_store')
+        columns = [measure_c(program), measure_store(module), measure_jar(module.StoreJar), measure_jar(http.cookiejar.CookieJar)]
+    names = ['C', 'CookieStore', 'StoreJar', 'http.cookiejar', 'ratio']
+    print(f'{HOSTS} hosts, microseconds'.ljust(26) + ''.join(name.rjust(15) for name in names))
+    rows = [('set', 'set a cookie'), ('get_one', 'header, 1 cookie a host'), ('get_many', f'header, {EACH} cookies a host'), ('count', 'count')]
+    for key, name in rows:
+        took = [column[key] * 1e6 for column in columns]
+        print(name.ljust(26) + ''.join(f'{each:15.2f}' for each in took + [took[3] / took[2]]))

@@ -1,0 +1,217 @@
+"""Measures cookie_jar beside the Rust crate cookie_store and Go's net/http/cookiejar, in fifteen minutes.
+Usage: tools/bench [stores] [--write | --only PART]
+
+Prints the time of a set, a replaced cookie, a get and a removal, bytes and instructions, and how the time of
+hostile inputs grows. A peer that cannot be built is left out, and a line says so. --write runs the other commands
+too, and writes docs/FIGURES.md before the first of them and after each.
+
+Exit status: 0; 1 if the time of a hostile input grows faster than linearly, or a program fails."""
+import os
+import sys
+import tempfile
+
+from bench_parts import hostile, others, programs, report
+from bench_parts.measure import Meter, Task, has_gnu_time, has_valgrind, repeated
+from bench_parts.report import Document, Table, number, ratio
+from bench_parts.scripts import CLEAR, NOW, gets, removals, sets
+from common import ARCHIVE
+
+OPTIONS = ['--program', '--archive', '--lists']
+SIZES = [(cookies, per_host) for per_host in (20, 1) for cookies in (20, 1000, 100_000)]
+TARGET = 0.2  # seconds that a run repeats an operation
+PARTS = ['times', 'memory', 'instructions', 'hostile', 'growth']
+NOTES = {
+    'set': 'Microseconds to set a new cookie and to free it by `clear`.',
+    'replace': 'Microseconds to set a cookie again.',
+    'get': 'Microseconds to get the Cookie header, with all cookies of the host, of random hosts.',
+    'set and remove': 'Microseconds to set a cookie and to remove it, after all are set and in random order.',
+}
+
+
+def tasks(cookies, per_host):
+    """What is timed in stores of this size."""
+    filling, again = NOW + sets(cookies, per_host), sets(cookies, per_host, 'x')
+    removing = removals(cookies, per_host)
+    return {
+        'set': repeated('', filling + CLEAR, units=cookies),
+        'replace': repeated(filling, again, units=cookies),
+        'get': Task(lambda count: filling, lambda count: filling + gets(cookies, per_host, count)),
+        'set and remove': repeated('', filling + removing, units=cookies),
+    }
+
+
+def compare(meter, measured):
+    """Stops if the programs give different numbers of cookies."""
+    for size in SIZES:
+        meter.compare(measured, NOW + (sets(*size) + gets(*size, 20)) * 2)
+
+
+def time_operation(meter, measured, operation):
+    """Microseconds by size and program name."""
+    took = {}
+    for size in SIZES:
+        seconds = meter.time(measured, tasks(*size)[operation], TARGET)
+        took[size] = {name: each * 1e6 for name, each in seconds.items()}
+    return took
+
+
+def table(title, note, first, measured, rows):
+    """A table with our figures, the peers' and the ratios after the `first` columns."""
+    names = [program.name for program in measured]
+    heads = [*first, *names, *(f'{name} / ours' for name in names[1:])]
+    lines = []
+    for cells, figures in rows:
+        own, *peers = (figures[name] for name in names)
+        lines.append([*cells, *map(number, (own, *peers)), *(ratio(peer, own) for peer in peers)])
+    return Table(title, note, heads, lines)
+
+
+def time_table(operation, took, measured):
+    rows = [(map('{:,}'.format, size), figures) for size, figures in took.items()]
+    return table(operation.capitalize(), NOTES[operation], ['cookies', 'per host'], measured, rows)
+
+
+def memory_table(meter, measured):
+    def peak(program, script):
+        return min(meter.peak(program, script) for _ in range(3))
+
+    rows, cookies = [], 100_000
+    for per_host in (20, 1):
+        filling = sets(cookies, per_host)
+        figures = {program.name: (peak(program, NOW + filling) - peak(program, NOW)) / cookies for program in measured}
+        rows.append(([f'{cookies:,}', str(per_host)], figures))
+    note = 'Bytes a cookie: the peak of resident memory, less that of an empty store.'
+    return table('Memory', note, ['cookies', 'per host'], measured, rows)
+
+
+def instruction_table(meter, measured):
+    cookies, count = 1000, 2000
+    many, single = NOW + sets(cookies, 20), NOW + sets(cookies, 1)
+    scripts = [
+        ('set, 20 per host', NOW, many, cookies),
+        ('set, 1 per host', NOW, single, cookies),
+        ('replace, 20 per host', many, many + sets(cookies, 20, 'x'), cookies),
+        ('get of 20 cookies', many, many + gets(cookies, 20, count), count),
+        ('get of none', many, many + 'get http://other.org/a/b\n' * count, count),
+    ]
+    rows = [([name], {program.name: (meter.instructions(program, script) - meter.instructions(program, base)) / units
+                      for program in measured}) for name, base, script, units in scripts]
+    note = f'Instructions of one operation, store of {cookies:,} cookies, by callgrind.'
+    return table('Instructions', note, ['operation'], measured, rows)
+
+
+def growth_row(family, took, own, *peers):
+    cells = [family.title, f'{family.least:,}']
+    for program in (own, *peers):
+        times = took.get(program.name, [])
+        milliseconds = ([number(each * 1e3) for each in times] + ['-'] * 3)[:3]
+        cells += milliseconds if program is own else milliseconds[2:]
+        cells.append(number(hostile.exponent(times)))
+    return cells
+
+
+def growth_table(title, note, grown, own, *peers):
+    heads = ['timed', 'n', f'{own.name} at n', '4n', '16n', 'exponent']
+    for peer in peers:
+        heads += [f'{peer.name} at 16n', 'exponent']
+    return Table(title, note, heads, [growth_row(family, took, own, *peers) for family, took in grown])
+
+
+def hostile_table(meter, own, *peers):
+    finder = programs.build_collisions(meter.folder)
+    families = [*hostile.LINEAR, *([hostile.colliding(finder)] if finder else [])]
+    grown = hostile.measure(meter, own, *peers, families=families)
+    note = f'''Milliseconds of what the first column names. Between 4n and 16n the time grew as n to the power of the
+exponent: 0 does not grow, 1 is linear, 2 is quadratic. Each must be linear or less: `tools/bench` fails if an
+exponent of {own.name} is above {hostile.STEEPEST}. Each n is chosen so that no constant part decides the exponent, nor
+the step out of the processor's caches: at 4n the expired cookies are beyond them, at 16n the cookies with names
+that collide are still within. Where 16n would take too long, the exponent is that from n to 4n. `-` was not
+measured.'''
+    result = growth_table('Hostile inputs', note, grown, own, *peers)
+    exponents = [(family.title, hostile.exponent(took[own.name]) or 0) for family, took in grown]
+    result.warnings = [f'Warning: the exponent of "{title}" is {exponent}, above {hostile.STEEPEST}.'
+                       for title, exponent in exponents if exponent > hostile.STEEPEST]
+    return result
+
+
+def compare_orders(hosts, grown):
+    """How many times as long removals in creation order take as those in reverse order."""
+    (family, in_order), (_, reverse) = grown
+    factors = [f'{number(times[-1] / reverse[name][-1])} ({name})' for name, times in in_order.items()
+               if len(times) == len(reverse[name]) == 3]
+    cookies = f'{family.sizes()[-1]:,} cookies ({hosts})'
+    return f'With {cookies}, creation order took longer by a factor of {" and ".join(factors)}.'
+
+
+def explained_table(meter, own, *peers):
+    pairs = {hosts: hostile.measure(meter, own, *peers, families=pair) for hosts, pair in hostile.REMOVALS.items()}
+    at_limit = hostile.measure(meter, own, *peers, families=[hostile.AT_LIMIT])
+    note = '''Milliseconds, as above. [DECISIONS.md](DECISIONS.md) says why: a removal keeps the order of its map, so it
+shifts the entries behind it, and a set under a limit looks at all cookies of the host. A removal in reverse order
+shifts nothing. ''' + ' '.join(compare_orders(*pair) for pair in pairs.items())
+    grown = [*(each for pair in pairs.values() for each in pair), *at_limit]
+    return growth_table('Growth that a decision explains', note, grown, own, *peers)
+
+
+def chart_panels(took, measured):
+    """The bars of docs/speed.svg."""
+    return [(f'{name}, {cookies:,} cookies stored',
+             [(program.name, took[operation][cookies, 20][program.name]) for program in measured])
+            for operation, name in (('set', 'Set'), ('get', 'Get of 20 cookies')) for cookies in (1000, 100_000)]
+
+
+def measure(meter, measured, parts, took):
+    """Yields the tables of the parts, and puts the times of each operation into `took`."""
+    without_go = [program for program in measured if program.name != programs.GO]
+    if 'times' in parts:
+        compare(meter, measured)
+        for operation in NOTES:
+            took[operation] = time_operation(meter, measured, operation)
+            yield time_table(operation, took[operation], measured)
+    if 'memory' in parts and has_gnu_time():
+        yield memory_table(meter, measured)
+    if 'instructions' in parts and has_valgrind():
+        yield instruction_table(meter, without_go)
+    if 'hostile' in parts:
+        yield hostile_table(meter, *without_go)
+    if 'growth' in parts:
+        yield explained_table(meter, *without_go)
+
+
+def missing_tools():
+    if not has_gnu_time():
+        yield 'Memory is not measured: GNU time is not installed.'
+    if not has_valgrind():
+        yield 'Instructions are not counted: valgrind is not installed.'
+
+
+def add_arguments(parser):
+    group = parser.add_mutually_exclusive_group()
+    group.add_argument('--only', choices=PARTS, help='measure this part alone')
+    group.add_argument('--write', action='store_true', help='write docs/FIGURES.md and docs/speed.svg')
+
+
+def add_others(document, variables):
+    """Runs the other commands, and writes the document after each."""
+    for command in others.COMMANDS:
+        print(command, flush=True)
+        document.sections.append((command, others.run(command, variables)))
+        print(document.sections[-1][1], end='\n\n', flush=True)
+        document.write()
+
+
+def run(options):
+    own, load = programs.own(options.program), os.getloadavg()[0]
+    with tempfile.TemporaryDirectory() as folder:
+        peers, missing = programs.build(folder)
+        measured, took = [own, *peers], {}
+        document = Document(report.circumstances(measured, load), [*report.busy(load), *missing, *missing_tools()])
+        print(document.text(), flush=True)
+        for each in measure(Meter(folder), measured, [options.only] if options.only else PARTS, took):
+            print(each.text(), flush=True)
+            document.tables.append(each)
+    if options.write:
+        report.write_chart(chart_panels(took, measured))
+        document.write()
+        add_others(document, others.environment(options.program, options.archive or ARCHIVE, options.lists))
+    sys.exit(any(each.warnings for each in document.tables))

@@ -1,0 +1,86 @@
+"""What the Python tools share: the repository's files, the parser of arguments, compiling, copying and processor time."""
+import argparse
+import os
+import re
+import resource
+import shutil
+import subprocess
+import sys
+
+TOOLS = os.path.dirname(os.path.abspath(__file__))
+ROOT = os.path.dirname(TOOLS)
+PROGRAM = os.path.realpath(os.environ.get('COOKIE_JAR') or f'{ROOT}/crates/cookie_jar/out/cookie_jar')
+ARCHIVE = os.path.realpath(os.environ.get('COOKIE_STORE_ARCHIVE') or f'{ROOT}/crates/cookie_store_c/out/libcookie_store_c.a')
+TOOL = os.path.basename(sys.argv[0])
+
+
+class Parser(argparse.ArgumentParser):
+    """Prints `text`, which has the usage, and the options for --help. A wrong argument is one line on standard error, and status 2."""
+
+    def __init__(self, text, prog=f'tools/{TOOL}'):
+        super().__init__(prog=prog, usage=argparse.SUPPRESS, description=text, formatter_class=argparse.RawDescriptionHelpFormatter,
+                         allow_abbrev=False)
+
+    def error(self, message):
+        self.exit(2, f'{TOOL}: {message} (see {self.prog} --help)\n')
+
+
+def stop(message):
+    sys.exit(f'{TOOL}: {message}')
+
+
+def read(path):
+    with open(path, encoding='utf-8') as file:
+        return file.read()
+
+
+def write(path, text):
+    with open(path, 'w', encoding='utf-8') as file:
+        file.write(text)
+
+
+def crates():
+    """The names in crates.txt, lowest first."""
+    return re.findall(r'^(\w+)', read(f'{ROOT}/crates.txt'), re.M)
+
+
+def copy_repository(folder, *ignored):
+    """Copies the crates and what was built of them, without mutants and names that match `ignored`."""
+    shutil.copytree(f'{ROOT}/crates', f'{folder}/crates', ignore=shutil.ignore_patterns('*.edit', *ignored))
+    for name in ('crates.txt', 'HANDLES'):
+        shutil.copy(f'{ROOT}/{name}', folder)
+
+
+def c_compiler():
+    """The path of a C compiler, or None."""
+    return next(filter(None, map(shutil.which, ('clang', 'cc', 'gcc'))), None)
+
+
+def compile_c(path, *arguments):
+    """Compiles a C program into `path`, which it returns. Paths in `arguments` may begin at the repository's root."""
+    if subprocess.run([c_compiler() or stop('there is no C compiler'), '-O2', '-o', path, *arguments], cwd=ROOT).returncode:
+        stop(f'{os.path.basename(path)} does not compile')
+    return path
+
+
+def install(prefix, archive=None):
+    """Installs the C library and the Python module, from an archive if there is one."""
+    variables = {**os.environ, **({'COOKIE_STORE_ARCHIVE': archive} if archive else {})}
+    if subprocess.run([f'{TOOLS}/install', prefix], env=variables, stdout=subprocess.DEVNULL).returncode:
+        stop('the library is not installed')
+
+
+def timed(command, **options):
+    """Runs a command. Returns the result of `subprocess.run`, and the processor time, user and system, in seconds."""
+    before = resource.getrusage(resource.RUSAGE_CHILDREN)
+    done = subprocess.run(command, **options)
+    after = resource.getrusage(resource.RUSAGE_CHILDREN)
+    return done, after.ru_utime + after.ru_stime - before.ru_utime - before.ru_stime
+
+
+def processor_seconds(command, **options):
+    """The processor time of a command. Stops if the command fails."""
+    done, seconds = timed(command, stdout=subprocess.DEVNULL, **options)
+    if done.returncode:
+        stop(f'{command[0]} failed with status {done.returncode}')
+    return seconds
