@@ -1,39 +1,96 @@
-/* A cookie store of RFC 6265 for HTTP clients, on machines of 64 bits. Link with -lcookie_store (pkg-config cookie_store).
+/* cookie_store.h - an HTTP cookie store after RFC 6265.
+ *
+ * For 64-bit machines. Link with -lcookie_store (pkg-config cookie_store).
  *
  *     cookie_store store = COOKIE_STORE_INIT;
  *     char key[16], header[4096];
  *     size_t needed;
- *     if (getentropy(key, sizeof key) || cookie_store_new(&store, key, sizeof key) != COOKIE_STORE_OK) abort();
- *     if (cookie_store_set(&store, url, strlen(url), set_cookie, strlen(set_cookie), time(NULL)) == COOKIE_STORE_NO_MEMORY) abort();
- *     if (cookie_store_get(&store, url, strlen(url), time(NULL), header, sizeof header, &needed) == COOKIE_STORE_OK && needed > 0)
- *         printf("Cookie: %.*s\n", (int)needed, header);
- *     if (cookie_store_save_json(&store, time(NULL), false, header, 0, &needed) == COOKIE_STORE_NO_ROOM) {
+ *     enum cookie_store_status status;
+ *     if (getentropy(key, sizeof key)) abort();
+ *     if (cookie_store_new(&store, key, sizeof key) != COOKIE_STORE_OK) abort();
+ *
+ *     // A response from `url` had the header `Set-Cookie: value`.
+ *     status = cookie_store_set(&store, url, strlen(url), value, strlen(value), time(NULL));
+ *     if (status == COOKIE_STORE_NO_MEMORY) abort();
+ *
+ *     // The Cookie header of a request for `url`.
+ *     status = cookie_store_get(&store, url, strlen(url), time(NULL), header, sizeof header,
+ *                               &needed);
+ *     if (status == COOKIE_STORE_OK && needed > 0) printf("Cookie: %.*s\n", (int)needed, header);
+ *
+ *     // Save the cookies: first ask for the length, then write.
+ *     status = cookie_store_save_json(&store, time(NULL), false, header, 0, &needed);
+ *     if (status == COOKIE_STORE_NO_ROOM) {
  *         char *list = malloc(needed);
- *         if (list && cookie_store_save_json(&store, time(NULL), false, list, needed, &needed) == COOKIE_STORE_OK)
- *             fwrite(list, 1, needed, file);
+ *         if (!list) abort();
+ *         status = cookie_store_save_json(&store, time(NULL), false, list, needed, &needed);
+ *         if (status == COOKIE_STORE_OK) fwrite(list, 1, needed, file);
  *         free(list);
  *     }
  *     cookie_store_free(&store);
  *
- * A text is a pointer and a length in bytes; it needs no zero at its end, and none is written. Any bytes may be handed over: what is no
- * UTF-8, no URL or no list is answered by a status of its own. All bytes of a length can be read, or written where the call writes, and
- * they are PTRDIFF_MAX at most. A pointer is never NULL, not even where the length is 0, and is aligned for its type. What a call writes to
- * overlaps nothing else that it is handed, the store and the lengths included. A bool is 0 or 1.
+ * Handles
  *
- * A moment is the number of seconds since 1970-01-01T00:00:00 UTC, without leap seconds, as time(2) tells it. A cookie that ends at a
- * moment has ended at that moment.
+ *   A `cookie_store` is a handle: two words that the caller allocates, and that either hold a store
+ *   or are empty. A handle starts empty, as COOKIE_STORE_INIT or as all zero bytes.
+ *   cookie_store_new, cookie_store_load_json and cookie_store_load_ron create a store in an empty
+ *   handle. cookie_store_free frees the store and leaves the handle empty, so that it can be used
+ *   again. A handle may be moved with memcpy if the old one is not used again; otherwise it must
+ *   not be copied. Its members are private.
  *
- * A call that is not done leaves the store as it was, and writes to no buffer of texts or rows. The lengths that are told (`needed` and its
- * like) are always set: to what is needed after COOKIE_STORE_OK and COOKIE_STORE_NO_ROOM, and else to 0. So a call that is handed a length of
- * 0, and a pointer to anything, tells the length.
+ * Ownership
  *
- * With each call stand the statuses by which it is not done: the first of them that holds is answered. Want of memory shows late: it is
- * answered, as NO_MEMORY, only where none of those before a `;` holds, and then it may come in the place of those behind it too. A call without
- * a `;` never wants memory.
+ *   The library keeps no pointer into the caller's memory: what a call takes is copied, and what it
+ *   returns is written to buffers of the caller. Only the store itself is to be freed, with
+ *   cookie_store_free.
  *
- * One store is used by one thread at a time, also by calls that only ask, with a lock, a join or the like between two threads; different
- * stores may be used at once. No call is made from a signal handler, nor in the forked child of a program with threads. Memory is had from
- * malloc, realloc and free, which are those of one allocator. An enum has 32 bits. */
+ * Strings and pointers
+ *
+ *   A string is a pointer and a length in bytes. It needs no terminating zero, and none is written.
+ *   It may hold any bytes: a string that is not UTF-8, not a URL or not a list is reported by a
+ *   status of its own.
+ *
+ *   A pointer must not be NULL, not even if its length is 0, and must be aligned for its type. All
+ *   bytes up to the length, which must not exceed PTRDIFF_MAX, must be readable, or writable if the
+ *   call writes to them. Memory that a call writes to must not overlap any other argument; this
+ *   includes the handle and `*needed`. A bool must be 0 or 1.
+ *
+ * Buffers
+ *
+ *   A call that returns a string writes it to the start of `out`, at most `out_len` bytes, and sets
+ *   `*needed` to its length. If the buffer is too short, the call returns NO_ROOM, writes nothing
+ *   to the buffer and sets `*needed` to the length that it must have. On any other error `*needed`
+ *   is 0. To ask for the length alone, pass a length of 0 and any pointer that is not NULL.
+ *
+ * Times
+ *
+ *   `now` is a time in seconds since 1970-01-01T00:00:00 UTC, without leap seconds, as time(2)
+ *   returns it. It must be in the years -9999 to 9999, from -377705116800 to 253402300799. A cookie
+ *   has expired if its expiry time is `now` or earlier.
+ *
+ * Errors
+ *
+ *   A status below 10 is success. Statuses are named in these comments without their prefix
+ *   COOKIE_STORE_. A call that fails leaves the store unchanged and writes nothing to a buffer.
+ *   Each function lists its errors in the order in which they are checked: the first that applies
+ *   is returned.
+ *
+ *   Every call that may allocate memory can return NO_MEMORY. If a function says `May return
+ *   NO_MEMORY instead of X`, then errors before X are reported even if no memory is left, and X and
+ *   all that follow it, success included, may be replaced by NO_MEMORY. A function without such a
+ *   sentence never returns NO_MEMORY.
+ *
+ * Threads
+ *
+ *   A store may be used by one thread at a time, also by calls that only read it, such as
+ *   cookie_store_get and cookie_store_count. Moving it to another thread needs synchronization,
+ *   such as a lock or a join. Different stores may be used at the same time. No function may be
+ *   called from a signal handler, or in the forked child of a program that has threads.
+ *
+ * Platform
+ *
+ *   Memory is allocated with malloc, realloc and free, which must belong to one allocator. An enum
+ *   must be 32 bits wide. */
 #ifndef COOKIE_STORE_H
 #define COOKIE_STORE_H
 
@@ -45,63 +102,74 @@
 extern "C" {
 #endif
 
-/* What a call answers: below 10 that it is done. The numbers stay as they are. */
+/* Status of a call. Values below 10 are success. The numbers do not change. */
 enum cookie_store_status {
-    /* It is done. */
+    /* Success. */
     COOKIE_STORE_OK = 0,
-    /* The cookie was put as a new one. */
+    /* The cookie was inserted: none with its domain, path and name was stored. */
     COOKIE_STORE_INSERTED = 1,
-    /* The cookie took the place of the one of its domain, path and name, which may have ended. */
+    /* The cookie replaced the stored one, expired or not, with the same domain, path and name. */
     COOKIE_STORE_UPDATED = 2,
-    /* The cookie has ended, and so the stored one of its domain, path and name was ended. */
+    /* The cookie has expired, and so the stored one with the same domain, path and name was expired
+     * too: its expiry time is now 0. It is not removed. */
     COOKIE_STORE_EXPIRED_EXISTING = 3,
 
-    /* Refusals of a cookie. It or the stored one is HttpOnly, and the scheme of the URL not HTTP. */
+    /* 10 to 16: the cookie is rejected. */
+
+    /* The scheme of the URL does not begin with "http", and the cookie, or the unexpired one that
+     * it would replace or expire, is HttpOnly. */
     COOKIE_STORE_NON_HTTP_SCHEME = 10,
-    /* It names no domain, and the URL has no host. */
+    /* The cookie has no Domain attribute, or an empty one, and the URL has no host. */
     COOKIE_STORE_NON_RELATIVE_SCHEME = 11,
-    /* Its domain does not cover the host of the URL. */
+    /* The host of the URL does not domain-match the Domain attribute, RFC 6265 5.1.3, or the URL
+     * has no host. */
     COOKIE_STORE_DOMAIN_MISMATCH = 12,
-    /* It has ended, and no cookie of its domain, path and name stands that has not. */
+    /* The cookie has expired, and no unexpired one with its domain, path and name is stored. */
     COOKIE_STORE_EXPIRED = 13,
-    /* The text is no cookie, or its Domain is no domain name. Of a list: the text of one of its cookies is none. */
+    /* The header value is not a cookie (it has no `=` before the first `;`, or an empty name), or
+     * its Domain attribute is not a domain name. Of a list to load: the raw_cookie of an entry is
+     * not a cookie. */
     COOKIE_STORE_PARSE = 14,
-    /* Its domain is a public suffix on the list, and not the host of the URL. */
+    /* The domain of the cookie is a public suffix on the list of the store, and is not the host of
+     * the URL. */
     COOKIE_STORE_PUBLIC_SUFFIX = 15,
-    /* No call answers this one: it is a refusal of the crate that this store is after. */
+    /* Never returned. It stands for an error of the Rust crate cookie_store. */
     COOKIE_STORE_UNSPECIFIED_DOMAIN = 16,
 
-    /* There is not enough memory. */
+    /* 20 to 34: the call failed. */
+
+    /* Out of memory. */
     COOKIE_STORE_NO_MEMORY = 20,
-    /* The text of the URL is none. */
+    /* The URL is not valid. */
     COOKIE_STORE_BAD_URL = 21,
-    /* A text is not UTF-8. */
+    /* A string is not UTF-8. */
     COOKIE_STORE_NOT_UTF8 = 22,
-    /* The moment is not of the years -9999 to 9999. */
+    /* The time is not in the years -9999 to 9999. */
     COOKIE_STORE_BAD_MOMENT = 23,
-    /* There is no store. */
+    /* The handle is empty. */
     COOKIE_STORE_NO_STORE = 24,
-    /* There is a store already. */
+    /* The handle holds a store already. */
     COOKIE_STORE_HAS_STORE = 25,
-    /* A buffer is too short. What is needed is told. */
+    /* A buffer is too short. The length needed is reported. */
     COOKIE_STORE_NO_ROOM = 26,
-    /* There is no cookie of this domain, path and name. */
+    /* No cookie with this domain, path and name is stored. */
     COOKIE_STORE_NOT_FOUND = 27,
-    /* A limit is at least 1. */
+    /* The limit is 0. */
     COOKIE_STORE_BAD_LIMIT = 28,
 
-    /* A line of a public suffix list is no rule. Its number is told. */
+    /* A line of the public suffix list is not a rule. Its number is reported. */
     COOKIE_STORE_BAD_RULE = 30,
-    /* A list of cookies is no JSON, is JSON but no list of cookies, or is no such list in RON. */
+    /* A list to load is not JSON (BAD_JSON), is JSON but not a list of cookies (BAD_SHAPE), or is
+     * not a list of cookies in RON (BAD_RON). */
     COOKIE_STORE_BAD_JSON = 31,
     COOKIE_STORE_BAD_SHAPE = 32,
     COOKIE_STORE_BAD_RON = 33,
-    /* The text of an end in a list is no moment; or a cookie ends before the year 0, which no list can say. */
+    /* Of a list to load: an expiry is not a valid date and time. Of cookies to save: one expires
+     * before the year 0, which a list cannot represent. */
     COOKIE_STORE_BAD_END = 34
 };
 
-/* A store, or none. It begins as COOKIE_STORE_INIT, which is none, and so are all zeros. Its members are not touched. It may be moved by
- * memcpy, if the old one is not used again; else it is not copied. */
+/* The handle of a store, or an empty handle. Its members are private. */
 typedef struct cookie_store {
     bool live;
     void *at;
@@ -109,96 +177,170 @@ typedef struct cookie_store {
 
 #define COOKIE_STORE_INIT { false, NULL }
 
-/* Begins a store without cookies, without a public suffix list and without a limit, whose maps hash by a key. Only the first 16 bytes of the
- * key count, and fewer are filled up with zeros. It changes no answer. With random bytes no server can choose names that make the store slow;
- * a program that trusts its servers may give none ("", 0). HAS_STORE; NO_MEMORY. */
+/* Creates a store without cookies, without a public suffix list and without a limit, in an empty
+ * handle.
+ *
+ * `key` is the hash key of the store's hash tables. Only its first 16 bytes count, and a shorter
+ * key is filled up with zeros. The key changes no result. With a random key no server can choose
+ * names that make the store slow; a program that trusts its servers may pass an empty key ("", 0).
+ *
+ * Errors: HAS_STORE.
+ * May return NO_MEMORY instead of OK. */
 enum cookie_store_status cookie_store_new(cookie_store *store, const char *key, size_t key_len);
 
-/* Frees the store, if there is one. Then there is none. */
+/* Frees the store and leaves the handle empty. Does nothing if the handle is empty. */
 void cookie_store_free(cookie_store *store);
 
-/* Puts the store under the public suffix list of this text, in the format of publicsuffix.org: from now on no cookie enters whose Domain is
- * a public suffix by a rule of the list, but from that very host, for that host alone. A domain that no rule matches is no public suffix: the
- * list of publicsuffix.org has *.np and no rule np, and so with eight other top-level domains. Append a line with the rule * to have these
- * listed too. The cookies that it has stay. NO_STORE, NOT_UTF8; BAD_RULE. `bad_line` is set: to the number of the first bad line, counted from
- * 1, after BAD_RULE, and else to 0. */
+/* Sets the public suffix list of the store, in the format of publicsuffix.org, in place of the list
+ * that it has.
+ *
+ * From now on a cookie whose Domain attribute is a public suffix on the list is rejected, unless it
+ * comes from that very host; then it is stored as a host-only cookie. Cookies that are stored
+ * already stay.
+ *
+ * A domain that no rule matches is not a public suffix. The list of publicsuffix.org has nine
+ * top-level domains like np, with a rule *.np and no rule np. To list these too, append a line with
+ * the rule *.
+ *
+ * `*bad_line` is set to the number of the first malformed line, counted from 1, on BAD_RULE, and to
+ * 0 otherwise.
+ *
+ * Errors, in the order in which they are checked: NO_STORE, NOT_UTF8, BAD_RULE.
+ * May return NO_MEMORY instead of BAD_RULE or OK. */
 enum cookie_store_status cookie_store_use_suffixes(cookie_store *store, const char *list, size_t list_len, size_t *bad_line);
 
-/* Lets no more than so many cookies of one domain stand from now on, RFC 6265 6.1: before a cookie is inserted, cookies of its domain leave
- * until it fits, those that have ended first, then those that were inserted least recently. The cookies that it has stay till then.
- * NO_STORE, BAD_LIMIT. */
+/* Limits each domain to `limit` cookies, RFC 6265 6.1.
+ *
+ * From now on, before a cookie is inserted, cookies of its domain are evicted until it fits: first
+ * the expired ones, then the others, both in creation order. Until then the stored cookies stay.
+ * Replacing a cookie evicts none, and does not change its place in creation order.
+ *
+ * Errors, in the order in which they are checked: NO_STORE, BAD_LIMIT. */
 enum cookie_store_status cookie_store_set_domain_limit(cookie_store *store, size_t limit);
 
-/* Lets the maps of the store hash by another key from now on, as cookie_store_new takes it. The cookies are copied once. NO_STORE;
- * NO_MEMORY. */
+/* Changes the hash key of the store to `key`, as in cookie_store_new. The cookies are copied once.
+ *
+ * Errors: NO_STORE.
+ * May return NO_MEMORY instead of OK. */
 enum cookie_store_status cookie_store_set_hash_key(cookie_store *store, const char *key, size_t key_len);
 
-/* Takes the cookie of one Set-Cookie header's value that came from the URL at the moment, RFC 6265 5.3. Done: INSERTED, UPDATED,
- * EXPIRED_EXISTING. NO_STORE, NOT_UTF8, BAD_MOMENT; BAD_URL, a refusal. */
+/* Parses a Set-Cookie header value received from `url` and inserts the cookie, RFC 6265 5.3.
+ *
+ * `text` is the value of one Set-Cookie header, and `now` the time at which it was received. On
+ * success the status is INSERTED, UPDATED or EXPIRED_EXISTING.
+ *
+ * Errors, in the order in which they are checked: NO_STORE, NOT_UTF8, BAD_MOMENT, BAD_URL, PARSE
+ * (not a cookie), NON_HTTP_SCHEME (the cookie is HttpOnly), PARSE (the Domain attribute is not a
+ * domain name), NON_RELATIVE_SCHEME, DOMAIN_MISMATCH, PUBLIC_SUFFIX, NON_HTTP_SCHEME (the stored
+ * cookie is HttpOnly), EXPIRED.
+ * May return NO_MEMORY instead of BAD_URL, any error after it, or success. */
 enum cookie_store_status cookie_store_set(cookie_store *store, const char *url, size_t url_len, const char *text, size_t text_len,
                                           int64_t now);
 
-/* Writes the value of the Cookie header of a request for the URL at `now`, such as `a=1; b=2`: the cookies of RFC 6265 5.4, in its order.
- * Cookies with longer paths come first, and of equally long ones the cookie that was created first. A cookie that replaces another keeps its
- * place, also that of an expired one which was not removed; loaded cookies count as created in the order of the list.
- * `needed` is its length: 0 where no cookie is given, and then no header is to be sent. Secure cookies are given for https, and for any scheme
- * on this machine (localhost, 127.0.0.0/8, [::1]); HttpOnly ones for schemes that begin with http. Names and values are written as they
- * came: a text that was no line of a header may have put any control character among them, so look before they go into a connection.
- * NO_STORE, NOT_UTF8, BAD_MOMENT; BAD_URL, NO_ROOM. */
+/* Writes the value of the Cookie header of a request for `url` at `now`, RFC 6265 5.4.
+ *
+ * The value is a string such as `a=1; b=2`, and `*needed` is its length. If that is 0, there are no
+ * cookies for the URL, and no Cookie header is to be sent.
+ *
+ * Cookies with longer paths come first; cookies with paths of equal length are in creation order. A
+ * cookie that replaces another one, even an expired one that was not removed, keeps its place in
+ * creation order. Loaded cookies count as created in the order of the list.
+ *
+ * Secure cookies are sent if the scheme is https, and with any scheme to this machine (localhost,
+ * 127.0.0.0/8, [::1]). HttpOnly cookies are sent if the scheme begins with "http".
+ *
+ * Names and values are written as they were received. Those that did not come as a line of an HTTP
+ * header, for example in a loaded list, may hold control characters: check before you write them to
+ * a connection.
+ *
+ * Errors, in the order in which they are checked: NO_STORE, NOT_UTF8, BAD_MOMENT, BAD_URL, NO_ROOM.
+ * May return NO_MEMORY instead of BAD_URL, NO_ROOM or OK. */
 enum cookie_store_status cookie_store_get(cookie_store *store, const char *url, size_t url_len, int64_t now, char *out,
                                           size_t out_len, size_t *needed);
 
-/* Removes the cookie of this domain, path and name, whether it has ended or not. They are compared byte for byte with what
- * cookie_store_rows tells. NO_STORE, NOT_UTF8, NOT_FOUND. */
+/* Removes the cookie with this domain, path and name, expired or not.
+ *
+ * The three are compared byte for byte with those that cookie_store_rows writes.
+ *
+ * Errors, in the order in which they are checked: NO_STORE, NOT_UTF8, NOT_FOUND. */
 enum cookie_store_status cookie_store_remove(cookie_store *store, const char *domain, size_t domain_len, const char *path,
                                              size_t path_len, const char *name, size_t name_len);
 
-/* Removes all cookies. List, limit and key stay. NO_STORE. */
+/* Removes all cookies. Public suffix list, limit and hash key stay.
+ *
+ * Errors: NO_STORE. */
 enum cookie_store_status cookie_store_clear(cookie_store *store);
 
-/* Removes the cookies that have expired at `now`, and frees their memory. The others keep their order. From `now` on cookie_store_get returns
- * the same cookies as before: it never returns an expired one. `removed` is set to the number of cookies removed, and to 0 on an error. NO_STORE,
- * BAD_MOMENT. */
+/* Removes the cookies that have expired at `now` and frees their memory. The others keep their
+ * order.
+ *
+ * For `now` and later times cookie_store_get returns the same cookies as before: it never returns
+ * an expired one. `*removed` is set to the number of cookies removed, and to 0 on an error.
+ *
+ * Errors, in the order in which they are checked: NO_STORE, BAD_MOMENT. */
 enum cookie_store_status cookie_store_remove_expired(cookie_store *store, int64_t now, size_t *removed);
 
-/* How many cookies the store has, also such as have ended: they stand until they are removed. 0 where there is no store, and
- * SIZE_MAX where there are more. */
+/* Returns the number of stored cookies. Expired ones count until they are removed.
+ *
+ * Returns 0 if the handle is empty, and SIZE_MAX if there are more cookies than that. */
 size_t cookie_store_count(cookie_store *store);
 
-/* A cookie, as an editor shows it. Its texts stand elsewhere, one after the other: domain, path, name, value. */
+/* A stored cookie. Its domain, path, name and value are in a separate buffer, one after the other
+ * in this order. */
 typedef struct cookie_store_row {
     size_t domain_len;
     size_t path_len;
     size_t name_len;
     size_t value_len;
-    /* The moment at which it ends, without the fraction of a second that a list may say; 0 where it was ended by another cookie, and where it ends
-     * with the session. */
+    /* The expiry time, rounded down to a whole second: a loaded list may have fractions. 0 for a
+     * session cookie, and for a cookie that another one expired (EXPIRED_EXISTING). */
     int64_t ends_at;
-    /* It ends at a moment, and not with the session. */
+    /* The cookie has an expiry time. Otherwise it is a session cookie. */
     bool persistent;
-    /* It is for that host alone, and not for those that its domain covers. */
+    /* A host-only cookie, sent to that host alone. Otherwise it is also sent to the hosts below its
+     * domain. */
     bool host_only;
-    /* A Path attribute named its path. */
+    /* The path comes from a Path attribute. */
     bool has_path;
     bool secure;
     bool http_only;
 } cookie_store_row;
 
-/* Tells all cookies, in the store's order, also such as have ended: each in one of `rows`, and their texts one after the other in
- * `texts`. `rows_needed` is the number of rows, and `texts_needed` the length of all texts. NO_STORE, NO_ROOM, and NO_MEMORY where one of
- * these is 2^64 or more. */
+/* Writes all cookies, expired ones included, in the order of the store.
+ *
+ * Each cookie is written to one item of `rows`, and the strings of all of them one after the other
+ * to `texts`. `*rows_needed` is set to the number of cookies and `*texts_needed` to the length of
+ * all strings. If one of the two buffers is too short, neither is written to. On any other error
+ * both numbers are 0.
+ *
+ * Errors, in the order in which they are checked: NO_STORE, NO_ROOM.
+ * May return NO_MEMORY instead of NO_ROOM or OK, but only if one of the two lengths is 2^64 or
+ * more. */
 enum cookie_store_status cookie_store_rows(cookie_store *store, cookie_store_row *rows, size_t rows_len, char *texts,
                                            size_t texts_len, size_t *rows_needed, size_t *texts_needed);
 
-/* Writes the cookies as a list in JSON or RON and a line feed, in UTF-8: all of them, or else those that have not ended by the
- * moment and do not end with the session. The moment is tested in both cases. NO_STORE, BAD_MOMENT, BAD_END; NO_ROOM. */
+/* Writes the cookies as a list in JSON or RON, in UTF-8, followed by a line feed.
+ *
+ * If `all` is true, all cookies are written; otherwise the persistent ones that have not expired at
+ * `now`. `now` is checked in both cases.
+ *
+ * Errors, in the order in which they are checked: NO_STORE, BAD_MOMENT, BAD_END, NO_ROOM.
+ * May return NO_MEMORY instead of NO_ROOM or OK. */
 enum cookie_store_status cookie_store_save_json(cookie_store *store, int64_t now, bool all, char *out, size_t out_len, size_t *needed);
 enum cookie_store_status cookie_store_save_ron(cookie_store *store, int64_t now, bool all, char *out, size_t out_len, size_t *needed);
 
-/* Begins a store with the cookies of such a list: all of them, or else those that have not ended by the moment, which is tested in both
- * cases. A cookie of the list that ends with the session has not ended. A later cookie takes the place of an earlier one of its domain, path
- * and name. The store has no public suffix list and no limit, its maps hash by the key, as cookie_store_new takes it, and the domains of the
- * cookies are not tested. HAS_STORE, BAD_MOMENT, NOT_UTF8; BAD_JSON, BAD_SHAPE or BAD_RON, BAD_END, PARSE. */
+/* Creates a store, in an empty handle, with the cookies of a list in JSON or RON, as
+ * cookie_store_save_json and cookie_store_save_ron write it.
+ *
+ * If `all` is true, all cookies of the list are inserted; otherwise those that have not expired at
+ * `now`, session cookies included. `now` is checked in both cases. A cookie replaces an earlier one
+ * of the list with the same domain, path and name. `key` is the hash key, as in cookie_store_new.
+ * The store has no public suffix list and no limit, and the domains of the cookies are not checked.
+ * On an error the handle is unchanged.
+ *
+ * Errors, in the order in which they are checked: HAS_STORE, BAD_MOMENT, NOT_UTF8, then for JSON
+ * BAD_JSON, BAD_SHAPE, BAD_END, PARSE, and for RON BAD_RON, BAD_END, PARSE.
+ * May return NO_MEMORY instead of BAD_JSON, BAD_RON, any error after them, or OK. */
 enum cookie_store_status cookie_store_load_json(cookie_store *store, const char *key, size_t key_len, const char *list, size_t list_len,
                                                 int64_t now, bool all);
 enum cookie_store_status cookie_store_load_ron(cookie_store *store, const char *key, size_t key_len, const char *list, size_t list_len,

@@ -1,9 +1,10 @@
-/* Fetches the URLs of its arguments, one after the other, with one cookie store. It follows redirects itself, so that each hop is sent
-   the cookies that are for it, and sets those of its response. For each hop it prints a line: the URL, the Cookie header that was sent,
-   and what became of each cookie that came, where a refusal is told by its number in cookie_store.h.
+/* Fetches the URLs in its arguments with libcurl and one cookie store.
        cc -o fetch fetch.c $(pkg-config --cflags --libs cookie_store libcurl)
        ./fetch http://example.com/
-   It ends with status 0; 1 where a fetch failed; 2 without arguments; 3 where there was no memory. */
+   It follows redirects itself, so that each hop is sent the cookies that match it, and the store
+   takes those of its response. For each hop it prints a line: the URL, the Cookie header sent, and
+   the result for each cookie received; for a rejected cookie that is the status of cookie_store.h.
+   Exit status: 0 on success, 1 if a fetch failed, 2 without arguments, 3 if out of memory. */
 #define _DEFAULT_SOURCE
 #include <cookie_store.h>
 #include <curl/curl.h>
@@ -16,14 +17,14 @@
 
 enum { MOST_HOPS = 20, DONE = 0, FAILED = 1, BAD_ARGUMENTS = 2, NO_MEMORY = 3 };
 
-/* What curl hands to take_header. */
+/* What curl passes to take_header. */
 struct hop {
     cookie_store *store;
     const char *url;
     bool has_memory;
 };
 
-/* Sets the cookie of a header line. Curl hands over each line whole, and with its end. */
+/* Inserts the cookie of a Set-Cookie line. Curl passes one whole line with its line end. */
 static size_t take_header(char *line, size_t size, size_t count, void *handed) {
     static const char name[] = "Set-Cookie:";
     static const char *const done[] = {"done", "inserted", "updated", "expired existing"};
@@ -44,8 +45,8 @@ static size_t pass_over(char *bytes, size_t size, size_t count, void *handed) {
     return size * count;
 }
 
-/* The store's header for the URL, with a zero at its end, or NULL where there is no memory. It is the caller's to free. A URL that the
-   store does not read has no cookies. */
+/* Returns the Cookie header for the URL as a C string, or NULL if out of memory. The caller frees
+   it. It is empty if the store does not accept the URL. */
 static char *header_for(cookie_store *store, const char *url) {
     size_t room = 256, needed = 0;
     char *header = NULL;
@@ -65,7 +66,8 @@ static char *header_for(cookie_store *store, const char *url) {
     return header;
 }
 
-/* Fetches a URL, without what it redirects to. `*next` is that URL, which is the caller's to free, or NULL. */
+/* Fetches one URL without following a redirect. Sets `*next` to the URL of a redirect, which the
+   caller frees, and does not change it if there is none. */
 static int fetch_hop(CURL *curl, cookie_store *store, const char *url, char **next) {
     struct hop hop = {store, url, true};
     char *header = header_for(store, url), *redirect = NULL;
@@ -85,7 +87,7 @@ static int fetch_hop(CURL *curl, cookie_store *store, const char *url, char **ne
     return DONE;
 }
 
-/* Fetches a URL, and what it redirects to. */
+/* Fetches a URL and follows redirects. */
 static int fetch(CURL *curl, cookie_store *store, const char *begin) {
     char *url = strdup(begin);
     int status = url ? DONE : NO_MEMORY;
@@ -99,7 +101,7 @@ static int fetch(CURL *curl, cookie_store *store, const char *begin) {
     return status;
 }
 
-/* What is the same for each hop. The headers of a proxy are none of the server's. */
+/* Sets the options that all hops share. The headers of a proxy are not the server's. */
 static CURLcode prepare(CURL *curl) {
     CURLcode fault = curl_easy_setopt(curl, CURLOPT_FOLLOWLOCATION, 0L);
     if (!fault) fault = curl_easy_setopt(curl, CURLOPT_PROTOCOLS_STR, "http,https");

@@ -1,6 +1,7 @@
-/* Calls each function of cookie_store.h, with what it is handed well and badly: a table for what becomes of a cookie, each status that
-   a call can answer, each buffer one byte too short, and the layout of what is handed over. What fails is told on the standard error.
-   The last line is 'test_cookie_store: N passed, M failed'. */
+/* Calls each function of cookie_store.h with good and bad arguments: what happens to a cookie, the
+   statuses that calls return, each buffer one byte too short, and the layout of the structs.
+   Failures are reported on standard error. The last line is
+   'test_cookie_store: N passed, M failed'. */
 #include <cookie_store.h>
 #include <stddef.h>
 #include <stdio.h>
@@ -25,7 +26,7 @@ static void same_text(const char *name, const char *got, size_t length, const ch
     if (!is_well) fprintf(stderr, "wanted: %s\ngot: %.*s\n", wanted, (int)length, got);
 }
 
-/* A text as a pointer and its length. */
+/* A string as a pointer and a length. */
 #define TEXT(text) (text), strlen(text)
 #define NOT_UTF8 "a=\xff", 3
 #define NOW INT64_C(1767225600) /* 2026-01-01T00:00:00 */
@@ -48,7 +49,7 @@ static void gives(const char *name, cookie_store *store, const char *url, int64_
     equal("no zero is written", out[needed], '-');
 }
 
-/* One after the other in one store, at one moment. */
+/* Set one after the other in one store, at one time. */
 static const struct {
     const char *url, *text;
     enum cookie_store_status wanted;
@@ -104,7 +105,7 @@ static void test_suffixes(void) {
     cookie_store_free(&store);
 }
 
-/* The header is that of the moment; a moment is one of the years -9999 to 9999. */
+/* The header depends on the time; a time must be in the years -9999 to 9999. */
 static void test_get(void) {
     static const struct {
         int64_t now;
@@ -118,7 +119,7 @@ static void test_get(void) {
     set(&store, PAGE, "b=2; Path=/", NOW);
     set(&store, PAGE, "a=1; Max-Age=60", NOW);
     set(&store, PAGE, "s=3; Secure", NOW);
-    /* A text needs no zero at its end. */
+    /* A string needs no terminating zero. */
     equal("a text within another", cookie_store_set(&store, PAGE, strlen(PAGE), "c=4_", 3, NOW), COOKIE_STORE_INSERTED);
     gives("longer paths first", &store, PAGE, NOW, "a=1; c=4; b=2");
     gives("Secure", &store, "https://a.example/d/page", NOW, "a=1; s=3; c=4; b=2");
@@ -190,7 +191,7 @@ static void test_remove_expired(void) {
     cookie_store_free(&store);
 }
 
-/* The limit, and a key, which changes nothing. */
+/* The domain limit, and the hash key, which changes no result. */
 static void test_limit_and_key(void) {
     cookie_store store = COOKIE_STORE_INIT;
     cookie_store_new(&store, "", 0);
@@ -208,7 +209,7 @@ static void test_limit_and_key(void) {
     cookie_store_free(&store);
 }
 
-/* Two rows, the second with all that the first has not. */
+/* Two cookies, the second with each flag and time that the first has not. */
 static void test_rows(void) {
     cookie_store store = COOKIE_STORE_INIT;
     cookie_store_row rows[2];
@@ -245,7 +246,7 @@ static void test_rows(void) {
     cookie_store_free(&store);
 }
 
-/* The two forms of a list: what saves and loads it, and texts that are none. */
+/* The two formats of a list: the calls that save and load it, and malformed lists. */
 static const struct form {
     const char *name;
     enum cookie_store_status (*save)(cookie_store *, int64_t, bool, char *, size_t, size_t *);
@@ -306,7 +307,7 @@ static void test_list(const struct form *form) {
     loads("load at no moment", form, TEXT("[]"), LAST + 1, false, COOKIE_STORE_BAD_MOMENT, 0);
 }
 
-/* A header one byte too short, and in the very room. */
+/* Buffers that are one byte too short for a header, and just long enough. */
 static void test_room(void) {
     cookie_store store = COOKIE_STORE_INIT;
     char out[8] = "-------";
@@ -322,7 +323,7 @@ static void test_room(void) {
     cookie_store_free(&store);
 }
 
-/* Where there is no store, also after it was freed. */
+/* Calls with an empty handle, also after its store was freed. */
 static void test_no_store(void) {
     cookie_store store = COOKIE_STORE_INIT;
     cookie_store_row row;
@@ -350,7 +351,7 @@ static void test_no_store(void) {
     }
 }
 
-/* The layout of what programs share with the library, where pointers have 64 bits. */
+/* The layout of the structs that programs share with the library, on 64-bit machines. */
 static void test_layout(void) {
     equal("size of a store", (long)sizeof(cookie_store), 16);
     equal("at", (long)offsetof(cookie_store, at), 8);
@@ -373,7 +374,7 @@ static size_t used(void) { return mallinfo2().uordblks; }
 static size_t used(void) { return 0; }
 #endif
 
-/* Stores that are filled, asked, changed, saved, loaded and freed leave no memory behind, once malloc has its stock of free blocks. */
+/* Stores leak no memory. Measured only after malloc has built up its free lists. */
 static void test_memory(void) {
     char list[1024];
     size_t needed = 0, other = 0, before = 0;
@@ -399,7 +400,7 @@ static void test_memory(void) {
         cookie_store_load_json(&store, "", 0, list, needed - 3, NOW, true);
         cookie_store_free(&store);
     }
-    /* What malloc keeps for itself moves a little; a block of 32 bytes, the least, in each round would be 16,000. */
+    /* malloc's own use varies a little; 32 bytes, its smallest block, in each round are 16,000. */
     equal("memory is left behind", (long)used() - (long)before >= 16000, 0);
 }
 

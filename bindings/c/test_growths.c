@@ -1,6 +1,8 @@
-/* Refuses each growth of memory in turn, in each call that takes memory: it must answer that memory is wanting and leave the store as it
-   was, or get along. Of the calls that never allocate it refuses the first, and there must be none. The library of tools/refuse.c stands before malloc (LD_PRELOAD), and REFUSE_MARK names the file that it makes. What
-   fails is told on the standard error. The last line is 'test_growths: N passed, M failed'. */
+/* Makes each allocation fail in turn, in each call that allocates: the call must return NO_MEMORY
+   and leave the store unchanged, or succeed without that memory. Calls that never allocate must not
+   meet a failed allocation. tools/refuse.c, preloaded in front of malloc (LD_PRELOAD), makes the
+   allocations fail and then creates the file REFUSE_MARK. Failures of the test are reported on
+   standard error. The last line is 'test_growths: N passed, M failed'. */
 #define _POSIX_C_SOURCE 200809L
 #include <cookie_store.h>
 #include <stdio.h>
@@ -8,7 +10,7 @@
 #include <string.h>
 #include <unistd.h>
 
-/* Growths of these sizes start and end the count of tools/refuse.c. */
+/* Allocations of these sizes start and end the count of tools/refuse.c. */
 enum { START = 48271, END = 48281, MOST = 10000 };
 
 #define NOW INT64_C(1767225600) /* 2026-01-01T00:00:00 */
@@ -94,7 +96,7 @@ static const struct {
     {"clear", true, cookie_store_clear, COOKIE_STORE_OK, true},
 };
 
-/* Whether the store has the cookies that it began with. */
+/* Whether the store has the cookies that it started with, or still does not exist. */
 static bool is_as_it_was(cookie_store *store, bool is_begun) {
     char out[4096];
     size_t needed = 0;
@@ -103,13 +105,14 @@ static bool is_as_it_was(cookie_store *store, bool is_begun) {
     return status == COOKIE_STORE_OK && needed == json_len && memcmp(out, json, json_len) == 0;
 }
 
-/* A growth of that size, which the compiler does not leave out. */
+/* Allocates that size; volatile, so that the compiler does not remove it. */
 static void grow(size_t size) {
     void *volatile grown = malloc(size);
     free(grown);
 }
 
-/* Refuses growth after growth until a run meets no refusal. Answers how many were refused, or -1 where one was answered wrongly. */
+/* Runs the call again and again, with the next allocation failing each time, until none fails.
+   Returns how many failed, or -1 if the call then behaved wrongly. */
 static int refused_in(size_t at, const char *mark) {
     for (int growth = 1; growth < MOST; growth++) {
         char digits[16];

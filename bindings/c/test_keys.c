@@ -1,7 +1,9 @@
-/* Tests that stores hash by the keys they are passed. Reads a URL and a Set-Cookie value a line: cookies whose names, paths or domains
-   collide under the key of zeros (tools/collisions.c). Times each way to make a store of them with a key: with the key of zeros, where
-   the time grows with the square of their number, and with keys of which one byte differs. The argument names what collides, in the
-   messages on standard error and in the last line, 'test_keys, NAME: N passed, M failed'. */
+/* Tests that stores use the hash key that they are passed. Reads lines of a URL and a Set-Cookie
+   value: cookies whose names, paths or domains collide under a key of zeros (tools/collisions.c).
+   Measures each way to create a store of them with a key: with the key of zeros, where the time
+   grows with the square of their number, and with keys of which one byte differs. The argument
+   names what collides, for messages on standard error and for the last line, 'test_keys, NAME: N
+   passed, M failed'. */
 #include <cookie_store.h>
 #include <stdio.h>
 #include <stdlib.h>
@@ -20,7 +22,7 @@ static void set(cookie_store *store, int number) {
     for (int at = 0; at < number; at++) cookie_store_set(store, urls[at], strlen(urls[at]), texts[at], strlen(texts[at]), NOW);
 }
 
-/* With one more cookie of another path, the map of names is in one of paths. */
+/* Adds a cookie with another path, so that the store has a table of paths above those of names. */
 static void begin(cookie_store *store, const char *key) {
     static const char text[] = "a=1; Path=/other";
     cookie_store_new(store, key, BYTES);
@@ -30,7 +32,7 @@ static void begin(cookie_store *store, const char *key) {
 
 static void load(cookie_store *store, const char *key) { cookie_store_load_ron(store, key, BYTES, list, list_len, NOW, true); }
 
-/* Two cookies are enough for a map on the level at which they collide. */
+/* Two cookies are enough for a hash table at the level at which they collide. */
 static void change_key(cookie_store *store, const char *key) {
     cookie_store_new(store, other, BYTES);
     set(store, 2);
@@ -45,7 +47,7 @@ static void clear(cookie_store *store, const char *key) {
     set(store, count);
 }
 
-/* The seconds in which a store of all cookies is made with the key, or a negative number if it has not all. */
+/* Returns the seconds that it takes to create a store of all cookies, or -1 if any is missing. */
 static double seconds(void (*make)(cookie_store *, const char *), const char *key) {
     cookie_store store = COOKIE_STORE_INIT;
     clock_t begun = clock();
@@ -56,8 +58,8 @@ static double seconds(void (*make)(cookie_store *, const char *), const char *ke
     return took;
 }
 
-/* The least seconds by the byte of the key that is not zero, and at BYTES with the key of zeros. The keys take turns, since a machine's
-   speed varies. */
+/* Sets `least` to the best times: at each index for the key that is not zero in that byte, and at
+   BYTES for the key of zeros. The keys take turns, since the speed of a machine varies. */
 static void measure(void (*make)(cookie_store *, const char *), double least[BYTES + 1]) {
     for (int at = 0; at <= BYTES; at++) least[at] = 1e9;
     for (int round = 0; round < ROUNDS; round++) {

@@ -1,4 +1,4 @@
-"""A cookie store of RFC 6265 for HTTP clients, by the C library `cookie_store`.
+"""HTTP cookie handling for web clients, after RFC 6265, with the C library cookie_store.
 
     import cookie_store
 
@@ -6,12 +6,15 @@
         store.set('http://example.com/foo/bar', 'cookie1=value1')
         print(store.header('http://example.com/foo/x'))
 
-`CookieStore` is the store of cookie_store.h, and `StoreJar` one that urllib.request and requests take in place of a
-http.cookiejar.CookieJar. The library is the file that the variable COOKIE_STORE_LIBRARY names, or else one that stands beside this module
-or two folders above it, as an installation has it, or else the one that the system finds.
+Class CookieStore is the store of cookie_store.h. Class StoreJar is a http.cookiejar.CookieJar over
+a CookieStore, for urllib.request and requests.
 
-A text is a str, or bytes of UTF-8. A moment is a whole number of seconds since 1970-01-01T00:00:00 UTC; where none is handed over it is
-that of the clock.
+String arguments are str, or bytes in UTF-8. Times are whole seconds since 1970-01-01T00:00:00 UTC.
+An argument `now` that is None stands for the current time.
+
+The C library is loaded from the file named by the environment variable COOKIE_STORE_LIBRARY; else
+from the folder of this module or the folder two above it, where it is installed; else from where
+the system finds it.
 """
 from __future__ import annotations
 
@@ -34,18 +37,37 @@ Text = Union[str, bytes]
 
 
 class Status(enum.IntEnum):
-    """What a call answers, by the numbers of cookie_store.h: below 10 it is done.
+    """Status of a call, with the numbers of cookie_store.h. Values below 10 are success.
 
-    INSERTED: a new cookie was put. UPDATED: it took the place of the one of its domain, path and name. EXPIRED_EXISTING: it has ended, and so
-    that one was ended.
+    The cookie was accepted:
+    INSERTED -- no cookie with its domain, path and name was stored
+    UPDATED -- it replaced the stored one with the same domain, path and name
+    EXPIRED_EXISTING -- it has expired, and so the stored one was expired
 
-    Refusals of a cookie. NON_HTTP_SCHEME: it or the stored one is HttpOnly, and the scheme of the URL not HTTP. NON_RELATIVE_SCHEME: it names no
-    domain, and the URL has no host. DOMAIN_MISMATCH: its domain does not cover the host. EXPIRED: it has ended, and there is none to end.
-    PARSE: the text is no cookie, or its Domain no domain name. PUBLIC_SUFFIX: its domain is a public suffix on the list.
+    The cookie was rejected:
+    NON_HTTP_SCHEME -- it, or the unexpired stored one, is HttpOnly, and the scheme is not HTTP
+    NON_RELATIVE_SCHEME -- it has no Domain attribute or an empty one, and the URL has no host
+    DOMAIN_MISMATCH -- the host of the URL does not domain-match its Domain attribute
+    EXPIRED -- it has expired, and no unexpired one is stored
+    PARSE -- the string is not a cookie, or its Domain attribute is not a domain name
+    PUBLIC_SUFFIX -- its domain is a public suffix on the list, and not the host of the URL
 
-    What was handed over. BAD_URL, NOT_UTF8, BAD_MOMENT (not of the years -9999 to 9999), BAD_LIMIT, BAD_RULE (a line of a public suffix
-    list), BAD_JSON, BAD_SHAPE (JSON, but no list of cookies), BAD_RON, BAD_END (the text of an end is no moment, or one before the year 0 was
-    to be saved)."""
+    An argument is not valid:
+    BAD_URL -- not a URL
+    NOT_UTF8 -- not UTF-8
+    BAD_MOMENT -- a time that is not in the years -9999 to 9999
+    BAD_LIMIT -- a limit below 1
+    BAD_RULE -- a line of a public suffix list is not a rule
+    BAD_JSON, BAD_SHAPE -- not JSON; JSON, but not a list of cookies
+    BAD_RON -- not a list of cookies in RON
+    BAD_END -- an expiry is not a date and time; or a cookie to save expires before the year 0
+
+    Other errors:
+    NO_MEMORY -- out of memory
+    NO_STORE -- the store is closed
+
+    The other values are not returned or raised.
+    """
     OK = 0
     INSERTED = 1
     UPDATED = 2
@@ -78,7 +100,7 @@ _STATUSES = {int(status): status for status in Status}
 
 
 class CookieStoreError(Exception):
-    """A call was not done. `status` says why."""
+    """Raised when a call fails. The reason is in the attribute status, a Status."""
 
     def __init__(self, status: Status) -> None:
         super().__init__(status)
@@ -89,11 +111,11 @@ class CookieStoreError(Exception):
 
 
 class NoMemory(CookieStoreError, MemoryError):
-    """There is not enough memory."""
+    """Raised when memory runs out."""
 
 
 class BadRule(CookieStoreError):
-    """A line of a public suffix list is no rule: the one of the number `line`, counted from 1."""
+    """Raised for a malformed line of a public suffix list. line is its number, from 1."""
 
     def __init__(self, line: int) -> None:
         super().__init__(Status.BAD_RULE)
@@ -104,16 +126,16 @@ class BadRule(CookieStoreError):
 
 
 class Cookie(NamedTuple):
-    """A cookie, as an editor shows it."""
+    """A stored cookie."""
     domain: str
     path: str
     name: str
     value: str
-    #: The moment at which it ends, or None where it ends with the session.
+    #: Expiry time, or None for a session cookie.
     ends_at: Optional[int]
-    #: It is for that host alone, and not for those that its domain covers.
+    #: True for a host-only cookie, False if it is also sent to the hosts below its domain.
     host_only: bool
-    #: A Path attribute named its path.
+    #: True if the path comes from a Path attribute.
     has_path: bool
     secure: bool
     http_only: bool
@@ -136,7 +158,7 @@ _LENGTH = ctypes.POINTER(ctypes.c_size_t)
 _SAVE = (ctypes.c_int, [_AT, ctypes.c_int64, ctypes.c_bool, *_OUT, _LENGTH])
 _LOAD = (ctypes.c_int, [_AT, *_TEXT, *_TEXT, ctypes.c_int64, ctypes.c_bool])
 
-# What each call of the header answers and takes.
+# Result and argument types of each function in cookie_store.h.
 _SIGNATURES = {
     'cookie_store_new': (ctypes.c_int, [_AT, *_TEXT]),
     'cookie_store_free': (None, [_AT]),
@@ -158,7 +180,7 @@ _SIGNATURES = {
 
 
 def _candidates() -> Iterator[str]:
-    """The files that may be the library, the best first."""
+    """Yield the files that may be the library, preferred ones first."""
     named = os.environ.get('COOKIE_STORE_LIBRARY')
     if named:
         yield named
@@ -199,12 +221,12 @@ _rows = _LIBRARY.cookie_store_rows
 
 
 def _bytes(text: Text) -> bytes:
-    """What a call is handed of a text. A lone surrogate becomes no UTF-8, which the library refuses."""
+    """Return a string argument as bytes. A lone surrogate becomes bytes that are not UTF-8."""
     return text if isinstance(text, bytes) else text.encode('utf-8', 'surrogatepass')
 
 
 def _drawn_key() -> tuple[bytes, int]:
-    """A hash key that no server knows, and its length."""
+    """Return a random hash key and its length."""
     return os.urandom(16), 16
 
 
@@ -218,7 +240,7 @@ def _moment(now: Optional[int]) -> int:
 
 
 def _check(number: int) -> None:
-    """Raises what a call answered, where it was not done."""
+    """Raise the exception for a status, unless it is OK."""
     if number == Status.NO_MEMORY:
         raise NoMemory(Status.NO_MEMORY)
     if number != Status.OK:
@@ -226,15 +248,19 @@ def _check(number: int) -> None:
 
 
 class CookieStore:
-    """A store of cookies. Threads may share one: each call is done before the next one begins. Its maps hash by a random key of its own. As a
-    list it is false where it has no cookies.
+    """A cookie store.
 
-    Where a call cannot be done it raises CookieStoreError, whose `status` is what the call of the library answered: NOT_UTF8 at a text
-    that is none, BAD_MOMENT at one before the year -9999 or after the year 9999, NO_STORE after close(), and NoMemory. What else a call
-    raises is said there."""
+    Threads may share a store: a lock lets one call at a time in. Its hash tables use a random key.
+    A store without cookies is false, as an empty list is.
+
+    A method that fails raises CookieStoreError with the status of the library in its attribute
+    status: NOT_UTF8 for a string that is not UTF-8, BAD_MOMENT for a time that is not in the years
+    -9999 to 9999, NO_STORE after close(); or NoMemory. "Raises X" below means that the method can
+    also raise a CookieStoreError with status X. On any of these errors the store is unchanged.
+    """
 
     def __init__(self) -> None:
-        """A store without cookies and without a public suffix list."""
+        """Create a store without cookies, public suffix list and limit."""
         self._store = _Store()
         self._at = ctypes.byref(self._store)
         self._lock = threading.Lock()
@@ -247,7 +273,7 @@ class CookieStore:
         self._finalizer.atexit = False
 
     def close(self) -> None:
-        """Frees the store. Then calls raise NO_STORE, and there are no cookies to count."""
+        """Free the store. From then on len() is 0, and other calls raise NO_STORE."""
         with self._lock:
             self._finalizer()
 
@@ -258,9 +284,13 @@ class CookieStore:
         self.close()
 
     def use_suffixes(self, text: Text) -> None:
-        """Puts the store under the public suffix list of this text, in the format of publicsuffix.org. The cookies that it has stay. A domain
-        that no rule matches is no public suffix: append a line with the rule * to have top-level domains listed that have no rule of their own,
-        as np. Raises BadRule, with the number of the line."""
+        """Set the public suffix list, in the format of publicsuffix.org.
+
+        Stored cookies stay. A domain that no rule matches is not a public suffix. To list top-level
+        domains that have no rule of their own, such as np, append a line with the rule *.
+
+        Raises BadRule with the number of the first malformed line.
+        """
         rules, line = _bytes(text), ctypes.c_size_t()
         with self._lock:
             number = _use_suffixes(self._at, rules, len(rules), line)
@@ -270,8 +300,13 @@ class CookieStore:
             self._suffixes = rules
 
     def set_domain_limit(self, limit: int) -> None:
-        """Lets no more than so many cookies of one domain stand from now on, 1 at least: before a cookie is inserted, cookies of its domain
-        leave until it fits, those that have ended first, then those that were inserted least recently. Raises BAD_LIMIT."""
+        """Limit each domain to at most limit cookies.
+
+        From now on, before a cookie is inserted, cookies of its domain are evicted until it fits:
+        first the expired ones, then the others, both in creation order.
+
+        Raises BAD_LIMIT if limit is less than 1.
+        """
         limit = operator.index(limit)
         if limit < 0:
             raise CookieStoreError(Status.BAD_LIMIT)
@@ -281,8 +316,11 @@ class CookieStore:
             self._limit = limit
 
     def set(self, url: Text, text: Text, now: Optional[int] = None) -> Status:
-        """Takes the cookie of a Set-Cookie header's value that came from the URL, and answers INSERTED, UPDATED, EXPIRED_EXISTING or the
-        refusal of the cookie, as DOMAIN_MISMATCH. Raises BAD_URL."""
+        """Insert the cookie of a Set-Cookie header value received from url.
+
+        Return INSERTED, UPDATED or EXPIRED_EXISTING, or the reason why the cookie was rejected,
+        such as DOMAIN_MISMATCH. Raises BAD_URL.
+        """
         page, cookie, moment = _bytes(url), _bytes(text), _moment(now)
         with self._lock:
             number = _set(self._at, page, len(page), cookie, len(cookie), moment)
@@ -291,8 +329,13 @@ class CookieStore:
         return _STATUSES[number]
 
     def header(self, url: Text, now: Optional[int] = None) -> str:
-        """The value of the Cookie header of a request for the URL; the empty text if no header is to be sent. The cookies are in the order
-        of RFC 6265 5.4, longer paths first, as cookie_store_get of C has it. A text that was no line of a header may have put a control character into it. Raises BAD_URL."""
+        """Return the value of the Cookie header of a request for url, or '' if none is to be sent.
+
+        The cookies are in the order of RFC 6265 5.4: longer paths first, then in creation order.
+        The value may hold control characters if a cookie did not come as a line of an HTTP header.
+
+        Raises BAD_URL.
+        """
         page, moment, needed = _bytes(url), _moment(now), ctypes.c_size_t()
         with self._lock:
             number = _get(self._at, page, len(page), moment, self._buffer, len(self._buffer), needed)
@@ -303,8 +346,10 @@ class CookieStore:
             return ctypes.string_at(self._buffer, needed.value).decode('utf-8')
 
     def remove(self, domain: Text, path: Text, name: Text) -> bool:
-        """Removes the cookie of this domain (without a dot before it), path and name, whether it has ended or not. False where there is
-        none."""
+        """Remove the cookie with this domain, path and name, expired or not.
+
+        The domain is without a leading dot. Return False if there is no such cookie.
+        """
         key = [_bytes(domain), _bytes(path), _bytes(name)]
         with self._lock:
             number = _remove(self._at, key[0], len(key[0]), key[1], len(key[1]), key[2], len(key[2]))
@@ -313,20 +358,23 @@ class CookieStore:
         return number == Status.OK
 
     def clear(self) -> None:
-        """Removes all cookies. The public suffix list stays."""
+        """Remove all cookies. The public suffix list and the limit stay."""
         with self._lock:
             _check(_clear(self._at))
 
     def remove_expired(self, now: Optional[int] = None) -> int:
-        """Removes the cookies that have expired at `now`, and returns how many. The others keep their order. From then on header() has
-        the same cookies as before: it never has an expired one."""
+        """Remove the cookies that have expired at now, and return how many.
+
+        The others keep their order. For now and later times header() returns the same cookies as
+        before: it never returns an expired one.
+        """
         moment, removed = _moment(now), ctypes.c_size_t()
         with self._lock:
             _check(_remove_expired(self._at, moment, removed))
         return removed.value
 
     def __len__(self) -> int:
-        """How many cookies the store has, also such as have ended."""
+        """Return the number of stored cookies, expired ones included."""
         with self._lock:
             return _count(self._at)
 
@@ -334,7 +382,7 @@ class CookieStore:
         return iter(self.cookies())
 
     def cookies(self) -> List[Cookie]:
-        """All cookies, in the store's order, also such as have ended."""
+        """Return a list of all cookies, expired ones included, in the order of the store."""
         rows_needed, texts_needed = ctypes.c_size_t(), ctypes.c_size_t()
         with self._lock:
             count = _count(self._at)
@@ -356,12 +404,15 @@ class CookieStore:
         return cookies
 
     def save_json(self, now: Optional[int] = None, all: bool = False) -> str:
-        """The cookies as a list in JSON and a line feed: all of them, or else those that have not ended and do not end with the session.
-        Raises BAD_END where one ends before the year 0."""
+        """Return the cookies as a list in JSON, followed by a line feed.
+
+        If all is true the list has every cookie; otherwise it has the persistent ones that have not
+        expired. Raises BAD_END if one of them expires before the year 0.
+        """
         return self._save(_LIBRARY.cookie_store_save_json, now, all)
 
     def save_ron(self, now: Optional[int] = None, all: bool = False) -> str:
-        """The same list in RON."""
+        """Return the cookies as a list in RON. Arguments and errors are those of save_json()."""
         return self._save(_LIBRARY.cookie_store_save_ron, now, all)
 
     def _save(self, call: Callable[..., int], now: Optional[int], all: bool) -> str:
@@ -378,13 +429,21 @@ class CookieStore:
 
     @classmethod
     def load_json(cls, text: Text, now: Optional[int] = None, all: bool = False) -> CookieStore:
-        """A store with the cookies of such a list: all of them, or else those that have not ended. It has no public suffix list. Raises
-        BAD_JSON, BAD_SHAPE, BAD_END, and PARSE where the text of a cookie is none."""
+        """Return a new store with the cookies of a list in JSON, as save_json() writes it.
+
+        If all is true it has every cookie of the list; otherwise it has the session cookies and the
+        persistent ones that have not expired. It has no public suffix list and no limit.
+
+        Raises BAD_JSON, BAD_SHAPE, BAD_END, or PARSE if the string of a cookie is not one.
+        """
         return cls._load(_LIBRARY.cookie_store_load_json, text, now, all)
 
     @classmethod
     def load_ron(cls, text: Text, now: Optional[int] = None, all: bool = False) -> CookieStore:
-        """The same of a list in RON. Raises BAD_RON, BAD_END, PARSE."""
+        """Return a new store with the cookies of a list in RON, as save_ron() writes it.
+
+        See load_json(). Raises BAD_RON, BAD_END or PARSE.
+        """
         return cls._load(_LIBRARY.cookie_store_load_ron, text, now, all)
 
     @classmethod
@@ -395,8 +454,11 @@ class CookieStore:
         return store
 
     def copy(self) -> CookieStore:
-        """Another store with the same cookies, public suffix list and limit, whose cookies count as inserted in the store's order. Raises
-        BAD_END where a cookie ends before the year 0."""
+        """Return a copy of the store, with its cookies, public suffix list and limit.
+
+        The cookies are passed through save_ron() and load_ron(), and so count as created in the
+        order of the store. Raises BAD_END if a cookie expires before the year 0.
+        """
         other = self.load_ron(self.save_ron(all=True), all=True)
         if self._suffixes is not None:
             other.use_suffixes(self._suffixes)
@@ -405,7 +467,7 @@ class CookieStore:
         return other
 
 
-# Texts of http.client hold a byte of the header in each character.
+# Strings of http.client have one byte of the header in each character.
 
 def _from_wire(text: str) -> bytes:
     try:
@@ -419,13 +481,13 @@ def _to_wire(text: str) -> str:
 
 
 def _shown_domain(row: Cookie) -> str:
-    """The domain as Python's jar writes it: a host without a dot has `.local` after it."""
+    """Return the domain as http.cookiejar writes it: a host without a dot ends in '.local'."""
     local = '' if '.' in row.domain else '.local'
     return ('' if row.host_only else '.') + _to_wire(row.domain) + local
 
 
 def _shown(row: Cookie) -> http.cookiejar.Cookie:
-    """A cookie of the store as one of Python's."""
+    """Return a cookie of the store as a http.cookiejar.Cookie."""
     shown = http.cookiejar.Cookie(
         version=0, name=_to_wire(row.name), value=_to_wire(row.value), port=None, port_specified=False,
         domain=_shown_domain(row), domain_specified=not row.host_only, domain_initial_dot=False,
@@ -436,14 +498,17 @@ def _shown(row: Cookie) -> http.cookiejar.Cookie:
 
 
 def _standing(store: CookieStore) -> List[Cookie]:
-    """The cookies that have not ended."""
+    """Return the cookies that have not expired."""
     now = int(time.time())
     return [row for row in store if row.ends_at is None or row.ends_at > now]
 
 
 def _host(cookie: http.cookiejar.Cookie) -> str:
-    """The domain of a cookie of Python's, as a URL names it. The `.local` of a host without a dot goes, where that is known to be one:
-    of a cookie that the store has shown, of `localhost`, and of an address in brackets."""
+    """Return the domain of a http.cookiejar.Cookie as a host for a URL.
+
+    '.local' is removed if it is known to be appended: from a cookie that the store returned, from
+    localhost, and from an address in brackets.
+    """
     domain = cookie.domain[1:] if cookie.domain.startswith('.') else cookie.domain
     own = cookie.__dict__.get('store_domain')
     if own is not None and domain in (own, own + '.local'):
@@ -453,8 +518,10 @@ def _host(cookie: http.cookiejar.Cookie) -> str:
 
 
 def _set_cookie_text(cookie: http.cookiejar.Cookie, has_path: bool, now: int) -> str:
-    """The value of the Set-Cookie header that sets this cookie at the moment, with or without its path. Raises PARSE where there is
-    none."""
+    """Return a Set-Cookie header value for this cookie, with or without its path.
+
+    Raises CookieStoreError with status PARSE if no header value can express the cookie.
+    """
     domain = _host(cookie) if cookie.domain_specified or cookie.domain.startswith('.') else ''
     path = cookie.path if has_path else ''
     if '=' in cookie.name or any(';' in text for text in (cookie.name, cookie.value or '', domain, path)):
@@ -473,37 +540,42 @@ def _set_cookie_text(cookie: http.cookiejar.Cookie, has_path: bool, now: int) ->
     return '; '.join(words)
 
 
-# What stands in a URL as it is written.
+# A path that needs no escaping in a URL.
 _PLAIN_PATH = re.compile(r"/[-a-zA-Z0-9_~!$&'()*+,;=:@/]*")
 
 
 class StoreJar(http.cookiejar.CookieJar):
-    """A jar for urllib.request and requests whose cookies are those of a CookieStore, its attribute `store`. It does not close it.
+    """A http.cookiejar.CookieJar that keeps its cookies in a CookieStore, the attribute store.
 
         opener = urllib.request.build_opener(urllib.request.HTTPCookieProcessor(StoreJar()))
 
-    What a response sets, and what a request is sent, the store decides. A policy that is handed over is asked besides, and what it
-    refuses is neither taken nor sent. Cookies that have ended are not shown; they stay in the store until clear_expired_cookies().
+    The store decides which cookies of a response are stored and which are sent with a request. If a
+    policy is passed, cookies that it rejects are neither stored nor sent either. The jar does not
+    close its store.
 
-    Cookies are shown as Python's jar has them: a domain that covers other hosts has a dot before it, a host without a dot has `.local`
-    after it, and each character of a text is a byte of the header.
+    Iteration and len() leave out expired cookies; they stay in the store until
+    clear_expired_cookies(). Cookies look as in http.cookiejar: the domain of a domain cookie has a
+    leading dot, '.local' is appended to a host without a dot, and each character of a string is one
+    byte of the header.
 
-    As the cookies of a requests.Session it takes what responses set. What is sent requests chooses by its own rules: before each request
-    it copies the cookies that are shown into a jar of its own. `requests_adapter` makes it send the store's own header."""
+    As the cookies of a requests.Session, the jar stores what responses set, but requests chooses by
+    its own rules what to send: before each request it copies the cookies into a jar of its own.
+    With requests_adapter() it sends the header of the store.
+    """
 
     def __init__(self, store: Optional[CookieStore] = None, policy: Optional[http.cookiejar.CookiePolicy] = None) -> None:
-        """A jar of this store's cookies, or of a new one's."""
+        """Create a jar over this store, or over a new one."""
         super().__init__(policy)
         self.store = CookieStore() if store is None else store
         self._is_asked = policy is not None
 
     def set_policy(self, policy: http.cookiejar.CookiePolicy) -> None:
-        """From now on this policy is asked."""
+        """Set the policy that is asked besides the store from now on."""
         super().set_policy(policy)
         self._is_asked = True
 
     def add_cookie_header(self, request: urllib.request.Request) -> None:
-        """Gives a request the store's header, where there is one and the request has none."""
+        """Add the store's Cookie header to request, if there is one and request has none."""
         if request.has_header('Cookie'):
             return
         try:
@@ -518,7 +590,7 @@ class StoreJar(http.cookiejar.CookieJar):
             request.add_unredirected_header('Cookie', header)
 
     def _approved(self, header: str, request: urllib.request.Request) -> str:
-        """What the policy leaves of a header. No name and no value has a `;`."""
+        """Return the cookies of a header that the policy accepts. No name or value has a ';'."""
         self._tell_moment()
         policy = self._policy
         approved = {f'{cookie.name}={cookie.value}' for cookie in self
@@ -527,19 +599,22 @@ class StoreJar(http.cookiejar.CookieJar):
         return '; '.join(pair for pair in header.split('; ') if pair in approved)
 
     def _tell_moment(self) -> int:
-        """Python's policies have the moment from their jar."""
+        """Pass the current time to the policy, which takes it from its jar, and return it."""
         self._policy._now = self._now = now = int(time.time())  # type: ignore[attr-defined]
         return now
 
     def extract_cookies(self, response: Any, request: urllib.request.Request) -> None:
-        """Takes the cookies of a response. What the store refuses is passed over, and so is a header that is no UTF-8."""
+        """Store the cookies of response, except rejected ones and headers that are not UTF-8."""
         now = self._tell_moment()
         for text in response.info().get_all('Set-Cookie', []):
             if not self._is_asked or all(self._policy.set_ok(cookie, request) for cookie in self._made([text], request, now)):
                 self._take(self.store, text, request, now)
 
     def make_cookies(self, response: Any, request: urllib.request.Request) -> List[http.cookiejar.Cookie]:
-        """The cookies of a response that a store without a public suffix list takes. The jar's own are not changed."""
+        """Return the cookies of response that a store without a public suffix list accepts.
+
+        The jar is unchanged.
+        """
         return self._made(response.info().get_all('Set-Cookie', []), request, self._tell_moment())
 
     def _made(self, texts: List[str], request: urllib.request.Request, now: int) -> List[http.cookiejar.Cookie]:
@@ -557,8 +632,11 @@ class StoreJar(http.cookiejar.CookieJar):
                 raise
 
     def set_cookie(self, cookie: http.cookiejar.Cookie) -> None:
-        """Takes a cookie as it is. One that has ended ends the stored one. Raises CookieStoreError with the status by which the store
-        refuses it: BAD_URL where it has no domain, PARSE where its texts cannot stand in a header."""
+        """Set a cookie, without a request. A cookie that has expired expires the stored one.
+
+        Raises CookieStoreError with the reason if the store rejects it: BAD_URL if it has no
+        domain, PARSE if no header can express it.
+        """
         now = int(time.time())
         has_path = cookie.path_specified or not _PLAIN_PATH.fullmatch(cookie.path)
         path = '/' if has_path or cookie.path == '/' else cookie.path + '/'
@@ -568,7 +646,7 @@ class StoreJar(http.cookiejar.CookieJar):
             raise CookieStoreError(status)
 
     def set_cookie_if_ok(self, cookie: http.cookiejar.Cookie, request: urllib.request.Request) -> None:
-        """Takes a cookie that has not ended, if a response to this request may set it."""
+        """Set a cookie that has not expired, if a response to request may set it."""
         now = self._tell_moment()
         text = _set_cookie_text(cookie, True, now)
         if any(made.domain == cookie.domain for made in self._made([text], request, now)):
@@ -582,8 +660,11 @@ class StoreJar(http.cookiejar.CookieJar):
         return len(_standing(self.store))
 
     def clear(self, domain: Optional[str] = None, path: Optional[str] = None, name: Optional[str] = None) -> None:
-        """Removes all cookies, or those of a domain, of a domain and path, or the one of that name. Raises KeyError where there is none,
-        and ValueError where a name or a path is handed over alone."""
+        """Remove all cookies, or those of a domain, of a domain and path, or one by its name.
+
+        With arguments, expired cookies are left out. Raises KeyError if no cookie matches, and
+        ValueError if name or path is passed without the arguments before it.
+        """
         if domain is None:
             if path is not None or name is not None:
                 raise ValueError('a path or a name is of a domain')
@@ -602,27 +683,30 @@ class StoreJar(http.cookiejar.CookieJar):
             self.store.remove(row.domain, row.path, row.name)
 
     def clear_session_cookies(self) -> None:
-        """Removes the cookies that end with the session."""
+        """Remove all session cookies."""
         self._remove([row for row in self.store if row.ends_at is None])
 
     def clear_expired_cookies(self) -> None:
-        """Removes the cookies that have expired."""
+        """Remove all expired cookies."""
         self.store.remove_expired()
 
     def copy(self) -> StoreJar:
-        """Another jar, of a copy of the store, with the same policy."""
+        """Return a copy of the jar, over a copy of its store, with the same policy."""
         return type(self)(self.store.copy(), self._policy if self._is_asked else None)
 
     __copy__ = copy
 
 
 def requests_adapter(jar: StoreJar, **options: Any) -> Any:
-    """An adapter by which a requests.Session sends the store's own header, in place of any other; `options` are those of
-    requests.adapters.HTTPAdapter. A cookie that is handed to one request alone is then not sent.
+    """Return an adapter with which a requests.Session sends the Cookie header of the jar's store.
 
         session.cookies = jar = StoreJar()
         for scheme in 'http://', 'https://':
-            session.mount(scheme, requests_adapter(jar))"""
+            session.mount(scheme, requests_adapter(jar))
+
+    The header replaces any other: cookies that are passed to a single request are not sent. The
+    options are those of requests.adapters.HTTPAdapter.
+    """
     import requests.adapters
     import requests.cookies
 

@@ -1,7 +1,12 @@
-"""Tests of cookie_store.py: python3 -m unittest test_cookie_store, where COOKIE_STORE_LIBRARY names the library. Its calls and statuses
-stand in tables, and its numbers, structs and signatures are compared with cookie_store.h. A server on 127.0.0.1 redirects clients between
-its two names, and what it was sent is compared with what RFC 6265 says. COOKIE_STORE_FETCH may name the program of fetch.c, as a command,
-which is then such a client too."""
+"""Tests for cookie_store.py.
+
+    COOKIE_STORE_LIBRARY=FILE python3 -m unittest test_cookie_store
+
+Tables list the calls with their statuses. Numbers, structs and signatures are compared with
+cookie_store.h. A server on 127.0.0.1 redirects clients between its two names, and the cookies that
+it receives are compared with what RFC 6265 requires. If COOKIE_STORE_FETCH is set, it is the
+command of the program fetch.c, which is tested as another client.
+"""
 import copy
 import ctypes
 import email.message
@@ -33,9 +38,9 @@ PROVED = HEADER.parent.parent.parent / 'crates' / 'cookie_store_c' / 'src'
 PAGE = 'http://a.example/d/page'
 NOW = 1767225600  # 2026-01-01T00:00:00
 FIRST, LAST = -377705116800, 253402300799  # the years -9999 and 9999
-SECONDS = 20  # that a test waits at most for a client or a thread
+SECONDS = 20  # the longest that a test waits for a client or a thread
 
-# One after the other in one store, under a list whose one rule is `example`.
+# Set one after the other in one store, with a public suffix list of the one rule `example`.
 SETS = [
     ('http://a.example/d/page', 'a=1', Status.INSERTED),
     ('http://a.example/d/page', 'a=2', Status.UPDATED),
@@ -55,7 +60,7 @@ SETS = [
 JSON = '[{"raw_cookie":"%s","path":["/",false],"domain":{"HostOnly":"a.example"},"expires":%s}]'
 RON = '[(raw_cookie: "%s", path: ("/", false), domain: HostOnly("a.example"), expires: %s)]'
 
-# What a call raises that was handed something badly.
+# Calls with invalid arguments, and the status that they raise.
 RAISES = [
     ('set, no URL', lambda store: store.set('no url', 'a=1'), Status.BAD_URL),
     ('set, an empty URL', lambda store: store.set('', 'a=1'), Status.BAD_URL),
@@ -90,7 +95,7 @@ RAISES = [
     ('load RON with no cookie', lambda store: CookieStore.load_ron(RON % ('a', 'SessionEnd')), Status.PARSE),
 ]
 
-# What each call raises once the store is closed.
+# Calls that raise NO_STORE after close().
 CLOSED = [
     ('set', lambda store: store.set(PAGE, 'a=1')),
     ('header', lambda store: store.header(PAGE)),
@@ -107,7 +112,7 @@ CLOSED = [
 
 
 def filled(*texts, url=PAGE, now=NOW):
-    """A store that took these cookies."""
+    """Return a store with these cookies."""
     store = CookieStore()
     for text in texts:
         store.set(url, text, now)
@@ -115,7 +120,7 @@ def filled(*texts, url=PAGE, now=NOW):
 
 
 def in_threads(count, work):
-    """Does the work so often at once, and tells what was raised."""
+    """Run work in count threads at once, and return what was raised."""
     raised = []
 
     def run(number):
@@ -133,7 +138,7 @@ def in_threads(count, work):
 
 
 class StoreTests(unittest.TestCase):
-    """Each call of CookieStore."""
+    """Tests of each method of CookieStore."""
 
     def assert_raises(self, name, status, call, *handed):
         with self.subTest(name), self.assertRaises(CookieStoreError) as raised:
@@ -201,7 +206,7 @@ class StoreTests(unittest.TestCase):
         self.assertEqual(CookieStore().cookies(), [])
 
     def test_order(self):
-        """Longer paths come first, and of equally long ones the cookie that was created first."""
+        """Longer paths come first, then creation order counts."""
         store = filled('b=2; Path=/', 'a=1', 'd=4; Domain=example', 'c=3; Path=/')
         self.assertEqual(store.header(PAGE, NOW), 'a=1; d=4; b=2; c=3')
 
@@ -234,7 +239,7 @@ class StoreTests(unittest.TestCase):
         self.assertEqual((store.remove_expired(), store.header(PAGE)), (1, 's=2'))
 
     def test_long(self):
-        """What is longer than the buffers at their beginning."""
+        """Results that are longer than the initial buffers."""
         store = filled(*(f'c{number}={"v" * 200}' for number in range(100)))
         wanted = '; '.join(f'c{number}={"v" * 200}' for number in range(100))
         self.assertEqual(store.header(PAGE, NOW), wanted)
@@ -260,7 +265,7 @@ class StoreTests(unittest.TestCase):
             self.assert_raises(form, Status.BAD_END, lambda: save(early, NOW, all=True))
 
     def test_clock(self):
-        """Where no moment is handed over."""
+        """Calls without `now` use the current time."""
         store = CookieStore()
         self.assertIs(store.set(PAGE, 'a=1; Max-Age=3600'), Status.INSERTED)
         self.assertEqual(store.header(PAGE), 'a=1')
@@ -291,7 +296,7 @@ class StoreTests(unittest.TestCase):
 
 
 class HeaderTests(unittest.TestCase):
-    """The header says what the module says, and what the functions that are proved are."""
+    """cookie_store.h agrees with the module, and with the proved functions."""
 
     TYPES = {'cookie_store *': ctypes.POINTER(cookie_store._Store), 'cookie_store_row *': ctypes.POINTER(cookie_store._Row),
              'const char *': ctypes.c_char_p, 'char *': ctypes.POINTER(ctypes.c_char), 'size_t': ctypes.c_size_t,
@@ -302,7 +307,7 @@ class HeaderTests(unittest.TestCase):
         self.text = re.sub(r'/\*.*?\*/', '', HEADER.read_text(), flags=re.S)
 
     def declared(self, text):
-        """Name and type of a declaration."""
+        """Return name and type of a declaration."""
         kind, star, name = re.fullmatch(r'\s*([\w ]+?)\s*(\*?)(\w+)\s*', text).groups()
         return name, self.TYPES[f'{kind} {star}'.strip()]
 
@@ -321,7 +326,7 @@ class HeaderTests(unittest.TestCase):
         told = {name: (self.TYPES[answer], [self.declared(word)[1] for word in taken.split(',')]) for answer, name, taken in calls}
         self.assertEqual(told, cookie_store._SIGNATURES)
 
-    # What a parameter, an answer or a field of Rattle's is to C. An allocator is nothing to it.
+    # The C types of each Rattle type. C functions have no parameter for the allocator.
     IN_C = {'Global': [], '&mut StoreHandle': ['cookie_store *'], '&[u8]': ['const char *', 'size_t'], '&mut [u8]': ['char *', 'size_t'],
             '&mut [CookieRow]': ['cookie_store_row *', 'size_t'], '&mut usize': ['size_t *'], 'usize': ['size_t'], 'i64': ['int64_t'],
             'bool': ['bool'], 'u8': ['bool'], 'u32': ['enum cookie_store_status'], '': ['void']}
@@ -348,7 +353,7 @@ class HeaderTests(unittest.TestCase):
 
 
 class Response:
-    """A response that sets these cookies."""
+    """A response with these Set-Cookie headers."""
 
     def __init__(self, *texts):
         self.headers = email.message.Message()
@@ -360,7 +365,7 @@ class Response:
 
 
 def python_cookie(domain, path='/', name='a', value='1', **changes):
-    """A cookie of Python's jar."""
+    """Return a http.cookiejar.Cookie."""
     parts = dict(version=0, name=name, value=value, port=None, port_specified=False, domain=domain, domain_specified=domain.startswith('.'),
                  domain_initial_dot=False, path=path, path_specified=True, secure=False, expires=None, discard=True, comment=None,
                  comment_url=None, rest={})
@@ -374,7 +379,7 @@ def jar_of(*texts, url=PAGE):
 
 
 def sent(jar, url):
-    """The header that a request for the URL is given."""
+    """Return the Cookie header that a jar adds to a request for the URL."""
     request = urllib.request.Request(url)
     jar.add_cookie_header(request)
     return request.get_header('Cookie')
@@ -385,7 +390,7 @@ def keys(jar):
 
 
 class NoCookies(http.cookiejar.CookiePolicy):
-    """A policy that refuses all."""
+    """A policy that rejects everything."""
     netscape, rfc2965, hide_cookie2 = True, False, False
 
     def set_ok(self, cookie, request):
@@ -401,7 +406,7 @@ class NoCookies(http.cookiejar.CookiePolicy):
         return False
 
 
-# Cookies of Python's that set_cookie takes, with a URL and the header of a request for it, and one that has no header.
+# Cookies for set_cookie, a URL with the Cookie header of its request, and a URL without one.
 TAKEN = [
     (python_cookie('a.example'), 'http://a.example/', 'a=1', 'http://b.a.example/'),
     (python_cookie('.a.example'), 'http://b.a.example/', 'a=1', 'http://example/'),
@@ -428,7 +433,7 @@ NOT_TAKEN = [
 
 
 class JarTests(unittest.TestCase):
-    """Each public method of http.cookiejar.CookieJar, of a StoreJar."""
+    """Tests of each public method of http.cookiejar.CookieJar on a StoreJar."""
 
     def test_shown(self):
         jar = jar_of('a=1', 'b=2; Domain=a.example; Path=/; Secure; HttpOnly; Max-Age=3600', 'c=3; Max-Age=0')
@@ -452,7 +457,7 @@ class JarTests(unittest.TestCase):
         self.assertEqual(request.get_header('Cookie'), 'own=1')
 
     def test_bad_headers(self):
-        """They do not stop a client."""
+        """They raise nothing."""
         jar = jar_of('v=\xff', 'a=1', 'no pair')
         self.assertEqual(sent(jar, PAGE), 'a=1')
         bad = urllib.request.Request('http://a b/')
@@ -462,7 +467,7 @@ class JarTests(unittest.TestCase):
         self.assertEqual(len(jar), 1)
 
     def test_bytes(self):
-        """Texts of http.client, with a byte in each character, go out as they came."""
+        """Strings of http.client, one byte a character, are sent as they were received."""
         wire = 'n=gr\u00fcn'.encode().decode('latin-1')
         jar = jar_of(wire)
         self.assertEqual(jar.store.header(PAGE), 'n=gr\u00fcn')
@@ -489,7 +494,7 @@ class JarTests(unittest.TestCase):
             self.assertEqual(raised.exception.status, status, repr(cookie))
 
     def test_set_again(self):
-        """A jar's cookies make the same jar."""
+        """Setting the cookies of a jar in another one gives the same jar."""
         jar = jar_of('a=1', 'b=2; Domain=a.example; Path=/; Secure; HttpOnly; Max-Age=3600', 'c=3; Path=/d.e')
         jar.extract_cookies(Response('d=4'), urllib.request.Request('http://web/'))
         other = StoreJar()
@@ -551,7 +556,7 @@ class JarTests(unittest.TestCase):
         self.assertEqual(sent(jar, PAGE), 'b=2')
 
 
-# What the server answers at a host and a path: the host and path that it redirects to, if it does, and the cookies that it sets.
+# By host and path, what the server returns: where it redirects to, or None, and the cookies.
 PAGES = {
     ('localhost', '/begin/page'): (('127.0.0.1', '/middle'), [
         'a=1', 'b=2; Path=/; HttpOnly', 'c=3; Domain=localhost; Path=/', 'd=4; Domain=127.0.0.1; Path=/', 'e=5; Path=/; Max-Age=0']),
@@ -562,7 +567,7 @@ PAGES = {
     ('127.0.0.1', '/n'): (None, []),
 }
 
-# What RFC 6265 has a client send that begins at the first of them.
+# The requests of a client that starts at the first page, with the cookies that RFC 6265 requires.
 VISITS = [
     ('localhost', '/begin/page', None),
     ('127.0.0.1', '/middle', None),
@@ -572,17 +577,17 @@ VISITS = [
     ('127.0.0.1', '/n', 'a=6; n=gr\u00fcn'),
 ]
 
-# What fetch.c says became of each cookie.
+# What fetch.c prints for each cookie.
 FETCHED = ['[inserted] [inserted] [inserted] [refused: 12] [refused: 13]', '[inserted] [inserted] [refused: 12]', '[expired existing] [updated]',
            '[inserted]', '', '']
 
-# The cookies that a jar has then.
+# The cookies that a jar has afterwards.
 LEFT = [('localhost.local', '/begin', 'a'), ('.localhost.local', '/', 'c'), ('127.0.0.1', '/other', 'f'), ('127.0.0.1', '/', 'a'),
         ('127.0.0.1', '/', 'n')]
 
 
 class Page(http.server.BaseHTTPRequestHandler):
-    """Redirects and sets cookies, and writes down what it was sent. At `/own/NAME` it sets the cookie NAME."""
+    """Redirects, sets cookies and records what it receives. `/own/NAME` sets the cookie NAME."""
 
     def do_GET(self):
         host, port = self.headers['Host'].rsplit(':', 1)
@@ -603,7 +608,7 @@ class Page(http.server.BaseHTTPRequestHandler):
 
 
 class ClientTests(unittest.TestCase):
-    """Clients that follow the redirects of the server."""
+    """Tests of clients that follow the redirects of the server."""
 
     def setUp(self):
         self.server = http.server.ThreadingHTTPServer(('127.0.0.1', 0), Page)
@@ -642,14 +647,14 @@ class ClientTests(unittest.TestCase):
         self.assert_followed(jar)
 
     def test_requests(self):
-        """Python's jar chooses among the store's cookies."""
+        """requests chooses among the store's cookies by the rules of http.cookiejar."""
         jar = StoreJar()
         answer = self.session(jar).get(self.begin, timeout=SECONDS)
         self.assertEqual(answer.status_code, 200)
         self.assert_followed(jar)
 
     def test_requests_adapter(self):
-        """The store's own header is sent, where Python's jar would choose otherwise."""
+        """The store's header is sent, also if http.cookiejar would choose other cookies."""
         jar = StoreJar()
         session = self.session(jar)
         session.mount('http://', cookie_store.requests_adapter(jar, max_retries=0))
@@ -661,7 +666,7 @@ class ClientTests(unittest.TestCase):
         self.assertEqual(self.server.visits, [('localhost', '/own/x', 'c=3; s=1')])
 
     def test_requests_takes_it(self):
-        """What requests does with the cookies of a session."""
+        """Operations of requests on the cookies of a session."""
         jar = jar_of('a=1', url='http://localhost/')
         session = self.session(jar)
         self.assertEqual(requests.utils.dict_from_cookiejar(session.cookies), {'a': '1'})
@@ -673,7 +678,7 @@ class ClientTests(unittest.TestCase):
         self.assertEqual(len(jar), 2)
 
     def test_threads(self):
-        """Openers of several threads share a jar."""
+        """Openers in several threads share a jar."""
         jar, rounds = StoreJar(), 10
 
         def work(number):

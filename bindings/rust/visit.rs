@@ -1,12 +1,13 @@
-//! A store as a Rust program has it: what it needs of `cookie_store.h` is declared here, behind a type that frees it.
-//! Compile with `rustc -L PREFIX/lib -l cookie_store`.
+//! The cookie store in a Rust program: declares what it needs of `cookie_store.h`, and
+//! wraps them in a type that frees the store when it is dropped.
+//! Compile with `rustc -L PREFIX/lib -l cookie_store visit.rs`.
 
 use std::collections::hash_map::RandomState;
 use std::ffi::c_char;
 use std::hash::{BuildHasher, Hasher};
 use std::ptr;
 
-/// The numbers of the header that this program asks for.
+/// The statuses of `cookie_store.h` that this program tests for.
 const OK: u32 = 0;
 const INSERTED: u32 = 1;
 const NO_ROOM: u32 = 26;
@@ -39,20 +40,21 @@ extern "C" {
     ) -> u32;
 }
 
-/// A hash key that no server knows.
+/// Returns a random hash key.
 fn drawn_key() -> [u8; 16] {
     let half = || u128::from(RandomState::new().build_hasher().finish());
     (half() << 64 | half()).to_ne_bytes()
 }
 
-/// A cookie store. Its calls take it alone, also those that only ask.
+/// A cookie store. All methods take `&mut self`, also those that only read: the C library lets one
+/// thread at a time use a store.
 struct Store(Handle);
 
-// A store may go to another thread.
+// SAFETY: a store may be used by any thread, one at a time.
 unsafe impl Send for Store {}
 
 impl Store {
-    /// Without cookies, or the status of why there is none.
+    /// Creates a store without cookies, or returns the status of the error.
     fn new() -> Result<Store, u32> {
         let mut handle = Handle { live: false, at: ptr::null_mut() };
         let key = drawn_key();
@@ -62,12 +64,12 @@ impl Store {
         }
     }
 
-    /// Takes the cookie of a Set-Cookie header's value, and answers the status.
+    /// Inserts the cookie of a `Set-Cookie` value received from `url`, and returns the status.
     fn set(&mut self, url: &str, text: &str, now: i64) -> u32 {
         unsafe { cookie_store_set(&mut self.0, url.as_ptr().cast(), url.len(), text.as_ptr().cast(), text.len(), now) }
     }
 
-    /// The value of the Cookie header of a request, or the status of why there is none.
+    /// Returns the value of the `Cookie` header of a request for `url`, or the status of the error.
     fn header(&mut self, url: &str, now: i64) -> Result<String, u32> {
         let (mut out, mut needed) = (vec![0; 256], 0);
         loop {

@@ -1,4 +1,4 @@
-//! A store is begun, takes a cookie, and is asked.
+//! Creates a store, inserts a cookie, and prints the `Cookie` header of a request.
 #![tactic(auto)]
 
 use cookie_store::CookieStore;

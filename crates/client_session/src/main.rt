@@ -1,5 +1,6 @@
-//! A client of one site: it begins with the cookies of an older program, keeps those of the site's responses, says which ones to
-//! send, and saves them in a file from which its next run goes on.
+//! A client of one site: it starts with the cookies of an older program, stores those of the site's
+//! responses, returns the `Cookie` header of its requests, and saves its cookies in a file for its
+//! next run.
 #![tactic(auto)]
 
 use cookie_store::device::Counted;
@@ -10,10 +11,10 @@ use std::alloc::Global;
 use std::fs::{self, Files};
 use url::{ParseError, Url};
 
-/// The file that the cookies are kept in between two runs.
+/// The file that keeps the cookies between two runs.
 const FILE: &str = "cookies.json";
 
-/// The list that `cookie_jar --convert` made of the older program's lines.
+/// The RON list that `cookie_jar --convert` wrote from the older program's lines.
 const LEGACY: &str = "legacy.ron";
 
 /// The headers of a response.
@@ -24,7 +25,7 @@ const HEADERS: [(&str, &str); 4] = [
     ("Set-Cookie", "spy=1; Domain=other.example"),
 ];
 
-/// A client's cookies of one site.
+/// The cookies of a client of one site.
 #[derive(Drop)]
 struct Session {
     site: Url,
@@ -32,7 +33,7 @@ struct Session {
 }
 
 impl Session {
-    /// A session with the cookies of the older program.
+    /// Creates a session with the cookies of the older program.
     fn adopt<F: Files>(
         alloc: Global,
         files: &F,
@@ -44,7 +45,8 @@ impl Session {
         Ok(Session { site, store })
     }
 
-    /// Takes the cookies of a response's headers that came at the moment. A cookie that is refused is logged and passed over.
+    /// Stores the cookies of the headers of a response received at `now`. A cookie that is rejected
+    /// is logged and skipped.
     fn receive<L: Log>(
         &mut self,
         log: &L,
@@ -60,18 +62,18 @@ impl Session {
         Ok(())
     }
 
-    /// The value of the Cookie header of a request at the moment.
+    /// Returns the value of the `Cookie` header of a request at `now`.
     fn header(&self, now: DateTime) -> Result<String, Error> {
         Ok(self.store.cookie_header(&self.site, now)?)
     }
 
-    /// Writes the cookies that outlast the session as a list in JSON.
+    /// Saves the unexpired persistent cookies as a JSON list.
     fn save<F: Files>(&self, files: &F, now: DateTime) -> Result<(), Error> {
         let file = fs::create(files, FILE).map_err(|_| Error::Io)?;
         serde::json::save(&self.store, &mut Counted::new(file), now)
     }
 
-    /// A session with the cookies that an earlier one saved.
+    /// Creates a session with the cookies that an earlier one saved.
     fn load<F: Files>(
         alloc: Global,
         files: &F,
@@ -84,7 +86,7 @@ impl Session {
     }
 }
 
-/// The URL of a text, or what is wrong with it.
+/// Parses a URL. An error other than out of memory is returned as its text.
 fn url_of(alloc: Global, text: &str) -> Result<Url, Error> {
     match Url::parse(alloc, text) {
         Ok(url) => Ok(url),
@@ -93,7 +95,7 @@ fn url_of(alloc: Global, text: &str) -> Result<Url, Error> {
     }
 }
 
-/// Two runs of the client, one after the other.
+/// Runs the client twice, with a save in between.
 fn run(rt: &HostRuntime) -> Result<(), Error> {
     let (alloc, now) = (rt.alloc(), date(2026, 1, 1).at(0, 0, 0, 0));
     let site = url_of(alloc, "https://shop.example/")?;

@@ -1,18 +1,18 @@
--- How what went out in one call and in the next goes together.
+-- Combining the effects of successive writes.
 use Rattle.std.proofs.Common.{ℕ, List, [], ◌++◌, Option, refl, sym, ap, ◌∙◌, append_assoc, append-nil}
 use Rattle.std.specs.Io.KnownBytes.{Appends}
 use Rattle.std.proofs.KnownBytes.{Appends-trans, Appends-nil}
 use Rattle.cookie_device.specs.Device.{AppendsBeginning, Sends}
 
--- nothing went out
+-- nothing was written
 pub nothing_sent : (a : Option (List ℕ)) (text : List ℕ) → Sends a a text text
 nothing_sent a text = record { sent = []; split = refl; appended = Appends-nil a }
 
--- all of it went out
+-- everything was written
 pub all_sent : (a b : Option (List ℕ)) (text : List ℕ) → Appends a b text → Sends a b text []
 all_sent a b text whole = record { sent = text; split = sym (append-nil text); appended = whole }
 
--- a text went out whole, and of the next all but the rest
+-- one string was written, and then all of the next but the rest
 pub sent_after : (a b c : Option (List ℕ)) (text more rest : List ℕ) → Appends a b text → Sends b c more rest → Sends a c (text ++ more) rest
 sent_after a b c text more rest whole next = record {
   sent = text ++ next.sent;
@@ -20,7 +20,7 @@ sent_after a b c text more rest whole next = record {
   appended = Appends-trans a b c text next.sent whole next.appended;
 }
 
--- a beginning of a text is one of each longer text
+-- a prefix of a string is a prefix of a longer one
 pub longer_beginning : (a b : Option (List ℕ)) (text more : List ℕ) → AppendsBeginning a b text → AppendsBeginning a b (text ++ more)
 longer_beginning a b text more part = record {
   rest = part.rest ++ more;
@@ -31,11 +31,11 @@ longer_beginning a b text more part = record {
   };
 }
 
--- one text whole, and then a beginning of the next
+-- one string was written, and then a prefix of the next
 pub beginning_after : (a b c : Option (List ℕ)) (text more : List ℕ) → Appends a b text → AppendsBeginning b c more → AppendsBeginning a c (text ++ more)
 beginning_after a b c text more whole next =
     record { rest = next.rest; sends = sent_after a b c text more next.rest whole next.sends }
 
--- what was sent is a beginning
+-- what was written is a prefix
 pub sent_beginning : (a b : Option (List ℕ)) (text rest : List ℕ) → Sends a b text rest → AppendsBeginning a b text
 sent_beginning a b text rest sends = record { rest = rest; sends = sends }

@@ -1,9 +1,9 @@
--- How many known bytes are left.
+-- The number of known bytes that remain.
 use Rattle.std.proofs.Common.{◌≡◌, ◌+◌, ℕ, List, Option, Some, None, IfSome, length, refl, sym, ap, ◌∙◌, arith}
 use Rattle.std.proofs.lemmas.List.{length-append}
 use Rattle.std.specs.Io.KnownBytes.{Keeps, prepend_known}
 
--- what is more at hand is no longer left
+-- bytes added to the buffer are taken from the source
 pub kept_lengths : (at_hand more : List ℕ) (rest less : Option (List ℕ)) → Keeps (prepend_known at_hand rest) (prepend_known more less)
     → IfSome rest (λ text. (left : List ℕ) × (less ≡ Some left) × (length text + length at_hand ≡ length left + length more))
 kept_lengths at_hand more None less kept = tt

@@ -1,4 +1,4 @@
--- How what is put into an output by one call and by the next goes together.
+-- Combining the effects of successive calls that put strings into an `Output`.
 use Rattle.std.proofs.Common.{◌≡◌, ℕ, ◌+◌, ◌<◌, ◌≤◌, List, [], ◌∷◌, ◌++◌, Option, Bor, arith, drop, get_or, length, length-append, refl, suc, sym, ap, take, ◌∙◌, append_assoc, append-nil}
 use Rattle.std.proofs.Math.Seq.{take-suc}
 use Rattle.std.proofs.lemmas.List.{take-append-drop}
@@ -7,7 +7,7 @@ use Rattle.std.proofs.KnownBytes.{Appends-trans, Appends-nil}
 use Rattle.cookie_device.specs.Device.{AppendsBeginning, Sends}
 use Rattle.cookie_device.specs.Texts.{joined}
 
--- what is sent of two texts, one after the other
+-- the bytes written and those left, of two strings in a row
 rejoined : (g t u sent more g1 g2 : List ℕ) → g ++ t ≡ sent ++ g1 → g1 ++ u ≡ more ++ g2 → g ++ (t ++ u) ≡ (sent ++ more) ++ g2
 rejoined g t u sent more g1 g2 e f =
     sym (append_assoc g t u) ∙ ap (λ xs. xs ++ u) e ∙ append_assoc sent g1 u ∙ ap (λ xs. sent ++ xs) f
@@ -17,7 +17,7 @@ rejoined g t u sent more g1 g2 e f =
 pub nothing_put : (a : Option (List ℕ)) (g : List ℕ) → Sends a a (g ++ []) g
 nothing_put a g = record { sent = []; split = append-nil g; appended = Appends-nil a }
 
--- one text was put, and then another
+-- one string was put, and then another
 pub put_then : (a b c : Option (List ℕ)) (g t u g1 g2 : List ℕ) → Sends a b (g ++ t) g1 → Sends b c (g1 ++ u) g2
     → Sends a c (g ++ (t ++ u)) g2
 put_then a b c g t u g1 g2 first next = record {
@@ -26,7 +26,7 @@ put_then a b c g t u g1 g2 first next = record {
   appended = Appends-trans a b c first.sent next.sent first.appended next.appended;
 }
 
--- a beginning of a text is one of each longer text
+-- a prefix of a string is a prefix of a longer one
 pub part_longer : (a b : Option (List ℕ)) (g t u : List ℕ) → AppendsBeginning a b (g ++ t) → AppendsBeginning a b (g ++ (t ++ u))
 part_longer a b g t u part = record {
   rest = part.rest ++ u;
@@ -37,17 +37,17 @@ part_longer a b g t u part = record {
   };
 }
 
--- one text was put, and then a beginning of the next went out
+-- one string was put, and then a prefix of the next was written
 pub part_then : (a b c : Option (List ℕ)) (g t u g1 : List ℕ) → Sends a b (g ++ t) g1 → AppendsBeginning b c (g1 ++ u)
     → AppendsBeginning a c (g ++ (t ++ u))
 part_then a b c g t u g1 first part =
     record { rest = part.rest; sends = put_then a b c g t u g1 part.rest first part.sends }
 
--- nothing is a beginning of each text
+-- the empty string is a prefix of each string
 pub nothing_part : (a : Option (List ℕ)) (t : List ℕ) → AppendsBeginning a a t
 nothing_part a t = record { rest = t; sends = record { sent = []; split = refl; appended = Appends-nil a } }
 
--- of a text all but the rest went out, and then a beginning of the rest
+-- all of a string but the rest was written, and then a prefix of the rest
 pub part_of_rest : (a b c : Option (List ℕ)) (t g : List ℕ) → Sends a b t g → AppendsBeginning b c g → AppendsBeginning a c t
 part_of_rest a b c t g sends part = record {
   rest = part.rest;
@@ -58,7 +58,7 @@ part_of_rest a b c t g sends part = record {
   };
 }
 
--- the first texts and the next one
+-- the first strings and the next one
 pub joined_next : (texts : List (Bor (List ℕ))) (i : ℕ) (d : Bor (List ℕ)) (text : List ℕ) → i < length texts
     → text ≡ (get_or texts i d).now → joined (take (i + 1) texts) ≡ joined (take i texts) ++ text
 joined_next texts i d text small is =
@@ -67,12 +67,12 @@ joined_next texts i d text small is =
     ∙ flat_map-append (λ t. t.now) (take i texts) (get_or texts i d ∷ [])
     ∙ ap (λ last. joined (take i texts) ++ last) (append-nil (get_or texts i d).now ∙ sym is)
 
--- the first texts and the others
+-- the first strings and the others
 pub joined_parts : (texts : List (Bor (List ℕ))) (i : ℕ) → joined (take i texts) ++ joined (drop i texts) ≡ joined texts
 joined_parts texts i =
     sym (flat_map-append (λ t. t.now) (take i texts) (drop i texts)) ∙ ap joined (take-append-drop i texts)
 
--- where all texts fit behind what is gathered, the next one fits behind the first, and is gathered behind them
+-- if all strings fit into the buffer, the next one fits after the first ones and is appended to them
 pub next_gathered : (texts : List (Bor (List ℕ))) (i : ℕ) (d : Bor (List ℕ)) (text g h : List ℕ) (most : ℕ) → i < length texts
     → text ≡ (get_or texts i d).now → length g + length (joined texts) ≤ most → h ≡ g ++ joined (take i texts)
     → (length h + length text ≤ most) × (h ++ text ≡ g ++ joined (take (i + 1) texts))

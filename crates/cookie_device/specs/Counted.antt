@@ -1,7 +1,7 @@
--- What a device and its counts are to a clause.
+-- What contracts see of a `Counted`.
 use Rattle.std.specs.Prelude.{ℕ}
 
--- a device, how many calls of it failed, and how many more reads may succeed
+-- the reader or writer, the number of its failed calls, and the most reads that can still succeed
 pub record Tally (D : Type 0) : Type 0 where
   pub device : D
   pub failures : ℕ

@@ -1,4 +1,4 @@
-//! A reader or a writer of std, with the count of its failures.
+//! A reader or writer of `std` that counts its failed calls.
 ghost use Rattle.std.specs.Prelude.{◌≡◌, ◌-◌, ◌^◌};
 ghost use Rattle.cookie_device.specs.Counted.{Tally};
 
@@ -6,9 +6,10 @@ use crate::device::{DeviceFailed, Sink, Source};
 use std::io::{Read, Write};
 use std::marker::Model;
 
-/// A reader or a writer of std, with the count of the calls that failed.
+/// A reader or writer of `std` that counts its failed calls.
 ///
-/// Nothing is tried again, and a writer that takes no byte of some has failed.
+/// A failed call is not retried. A write fails if it takes no byte of a nonempty buffer, and a read
+/// fails after 2^64 - 1 successful ones.
 #[derive(Drop)]
 pub struct Counted<D> {
     device: D,
@@ -23,7 +24,7 @@ impl<D> Model for Counted<D> {
 }
 
 impl<D> Counted<D> {
-    /// No call has failed yet.
+    /// Wraps `device`, with no failed calls.
     pub fn new(device: D) -> Counted<D>
         ensures { result ≡ record { device = device; failures = 0; reads_left = 2 ^ 64 - 1 } }
     {
@@ -34,7 +35,7 @@ impl<D> Counted<D> {
         }
     }
 
-    /// The device alone.
+    /// Returns the wrapped reader or writer.
     pub fn into_inner(self) -> D
         ensures { result ≡ self.device }
     {

@@ -1,25 +1,26 @@
-//! What a reader and a writer are to the crates above.
+//! The reader and writer traits of the crates above.
 ghost use Rattle.std.specs.Prelude.{◌≡◌, ℕ, ◌+◌, ◌-◌, ◌^◌, ◌<◌, List, [], ◌∷◌, ◌++◌, None, Option, length, IfOk, IsOk, OnErr, OnOk};
 ghost use Rattle.std.specs.Io.{ReadsAtMost, WritesAtMost};
 ghost use Rattle.std.specs.Io.KnownBytes.{Appends, ReadConsumes, WriteAppends};
 ghost use Rattle.cookie_device.specs.Device.{AppendsBeginning, CountsFailure};
 
-/// A read or a write failed.
+/// The error of a failed read or write.
 #[derive(Clone, Copy, Debug, PartialEq, Eq)]
 pub struct DeviceFailed;
 
-/// Bytes that are read from the outside. Every call may fail, and reading ends.
+/// A reader. Each read may fail, and only finitely many can succeed.
 pub trait Source {
-    // The bytes that reads will give from here on, where they are known.
+    // The bytes still to be read, if they are known.
     ghost remaining: { Self → Option (List ℕ) } = { λ _. None };
 
-    // How many calls have failed.
+    // The number of failed calls.
     ghost failed: { Self → ℕ };
 
-    // How many calls may still succeed, at most.
+    // The most reads that can still succeed.
     ghost reads_left: { Self → ℕ };
 
-    /// Reads once. `Ok(0)` says that the source is at its end, or that `buf` has no room.
+    /// Reads once into `buf` and returns the number of bytes read. `Ok(0)` means that the source is
+    /// at its end or that `buf` is empty.
     fn read(&mut self, buf: &mut [u8]) -> Result<usize, DeviceFailed>
         requires { failed self.old < 2 ^ 64 - 1 }
         ensures bound { ReadsAtMost result buf.new }
@@ -28,20 +29,21 @@ pub trait Source {
         ensures fewer { OnOk result (reads_left self.old ≡ reads_left self.new + 1) }
         ensures as_many { OnErr result (reads_left self.new ≡ reads_left self.old) };
 
-    /// How many calls have failed.
+    /// Returns the number of failed calls.
     fn failures(&self) -> u64
         ensures { result ≡ failed self.now };
 }
 
-/// Bytes that are written to the outside. Every call may fail.
+/// A writer. Each write may fail.
 pub trait Sink {
-    // The bytes that were written, where they are known.
+    // The bytes written so far, if they are known.
     ghost contents: { Self → Option (List ℕ) } = { λ _. None };
 
-    // How many calls have failed.
+    // The number of failed calls.
     ghost failed: { Self → ℕ };
 
-    /// Writes once, and says how many bytes from the front of `buf` were taken.
+    /// Writes once and returns how many bytes from the front of `buf` were written: at least one,
+    /// unless `buf` is empty.
     fn write(&mut self, buf: &[u8]) -> Result<usize, DeviceFailed>
         requires { failed self.old < 2 ^ 64 - 1 }
         ensures bound { WritesAtMost result buf.now }
@@ -49,12 +51,14 @@ pub trait Sink {
         ensures bytes { WriteAppends (contents self.old) (contents self.new) result buf.now }
         ensures count { CountsFailure result (failed self.old) (failed self.new) };
 
-    /// How many calls have failed.
+    /// Returns the number of failed calls.
     fn failures(&self) -> u64
         ensures { result ≡ failed self.now };
 }
 
-/// Writes all of `bytes`, in as many calls as the sink takes.
+/// Writes all of `bytes`, in as many calls as the sink needs.
+///
+/// After an error, a prefix of `bytes` was written: possibly none or all of it.
 pub fn write_all<W: Sink>(sink: &mut W, bytes: &[u8]) -> Result<(), DeviceFailed>
     requires { W.failed sink.old < 2 ^ 64 - 1 }
     ensures whole { OnOk result (Appends (W.contents sink.old) (W.contents sink.new) bytes.now) }
@@ -71,6 +75,8 @@ pub fn write_all<W: Sink>(sink: &mut W, bytes: &[u8]) -> Result<(), DeviceFailed
 }
 
 /// Writes `text` and a line feed.
+///
+/// After an error, a prefix of these bytes was written: possibly none or all of it.
 #[tactic(auto, using(crate::proofs::Appending::longer_beginning, crate::proofs::Appending::beginning_after))]
 pub fn write_line<W: Sink>(sink: &mut W, text: &[u8]) -> Result<(), DeviceFailed>
     requires { W.failed sink.old < 2 ^ 64 - 1 }

@@ -1,6 +1,5 @@
-//! Readers and writers behind two small traits, whose contracts say which bytes came and went and
-//! how many calls failed; lines that are cut from a source as it is read; and text that is gathered
-//! before it goes out.
+//! Input and output that can fail: the traits [`Source`] and [`Sink`], which specify the bytes read
+//! or written and count failed calls, a buffer that reads lines, and a buffer for output.
 #![tactic(auto)]
 
 mod counted;

@@ -1,4 +1,4 @@
-//! Lines that are cut from a source as it is read.
+//! Reading lines from a source.
 ghost use Rattle.std.specs.Prelude.{◌≡◌, ◌==◌, ℕ, ◌+◌, ◌-◌, ◌^◌, ◌<◌, ◌≤◌, List, [], None, Some, false, length, take, drop, position, IsTrue, IfSome, IfOk, OnOk, OnErr, vec_len};
 ghost use Rattle.std.specs.Io.{StartsWith};
 ghost use Rattle.std.specs.Io.KnownBytes.{IsAtEnd, Keeps, prepend_known};
@@ -12,12 +12,12 @@ use memchr::memchr;
 use std::alloc::{AllocError, Global};
 use std::marker::Model;
 
-/// Why a `LineBuffer` got no bytes.
+/// The error of reading from a [`Source`] into memory.
 #[derive(Clone, Copy, Debug, PartialEq, Eq)]
 pub enum FillError {
     /// The read failed.
     Read,
-    /// There was no memory for what could be read.
+    /// Out of memory.
     Memory,
 }
 
@@ -41,16 +41,18 @@ impl From<DeviceFailed> for FillError {
     }
 }
 
-/// Bytes read ahead of a source, from which whole lines are taken.
+/// A buffer of bytes read from a source, from which whole lines are taken.
 ///
-/// At hand are at most the bytes of a line that has not ended and of one read. As the code reads, each byte is looked at and moved
-/// a constant number of times where whole lines are passed, and the memory is for the longest line and one read, or twice that.
+/// It holds at most the bytes of one unfinished line and of one read.
+///
+/// Not proved: if the caller passes whole lines, each byte is examined and moved a constant number
+/// of times, and the capacity is at most twice the longest line and one read together.
 #[derive(Drop)]
 pub struct LineBuffer {
     bytes: Vec<u8>,
-    // What stands before was passed.
+    // The bytes before this position were passed.
     start: usize,
-    // From `start` to here no line feed stands.
+    // No line feed is between `start` and this position.
     scanned: usize,
 }
 
@@ -66,10 +68,10 @@ impl Model for LineBuffer {
 }
 
 impl LineBuffer {
-    /// The most bytes that one read gives.
+    /// The most bytes of one read.
     pub const READ_LIMIT: usize = READ_LIMIT;
 
-    /// Nothing is at hand, and no memory is taken yet.
+    /// Creates an empty buffer. Allocates nothing.
     pub fn new(alloc: Global) -> LineBuffer
         ensures { result ≡ [] }
     {
@@ -80,7 +82,8 @@ impl LineBuffer {
         }
     }
 
-    /// The place of the first line feed at hand, which ends a line.
+    /// Returns the position of the first line feed in the buffer, or `None` if it holds no whole
+    /// line.
     pub fn line_end(&self) -> Option<usize>
         ensures first { result ≡ position (λ b. b == 10) self.now }
         ensures within { IfSome result (λ end. end < length self.now) }
@@ -92,7 +95,8 @@ impl LineBuffer {
         Some(self.scanned - self.start + place)
     }
 
-    /// The line that ends at `end`: the bytes at hand that stand before, without a carriage return at their end.
+    /// Returns the line that ends at `end`: the first `end` bytes of the buffer, without a carriage
+    /// return at their end.
     pub fn line(&self, end: usize) -> &[u8]
         requires { end ≤ length self.now }
         ensures { result.now ≡ strip_carriage_return (take end self.now) }
@@ -100,14 +104,14 @@ impl LineBuffer {
         without_return(&self.bytes[self.start..self.start + end])
     }
 
-    /// All bytes at hand.
+    /// Returns all bytes of the buffer.
     pub fn rest(&self) -> &[u8]
         ensures { result.now ≡ self.now }
     {
         &self.bytes[self.start..]
     }
 
-    /// Passes the first `count` bytes at hand.
+    /// Removes the first `count` bytes of the buffer.
     pub fn pass(&mut self, count: usize)
         requires { count ≤ length self.old }
         ensures { self.new ≡ drop count self.old }
@@ -116,13 +120,16 @@ impl LineBuffer {
         self.scanned = self.scanned.max(self.start);
     }
 
-    /// Reads once, and says whether a byte came. Without one, the source is at its end.
+    /// Reads once, appends the bytes to the buffer and returns whether there were any. If not, the
+    /// source is at its end.
+    ///
+    /// The buffer must hold no line feed. On an error it is unchanged.
     #[tactic(auto, using(crate::proofs::Lengths::kept_lengths))]
     pub fn fill<R: Source>(&mut self, source: &mut R) -> Result<bool, FillError>
         requires no_line { position (λ b. b == 10) self.old ≡ None }
         requires countable { R.failed source.old < 2 ^ 64 - 1 }
 
-        // No byte is lost or made, and what was at hand stays in front.
+        // No byte is lost or added, and the bytes already in the buffer stay in front.
         ensures bytes { Keeps (prepend_known self.old (R.remaining source.old))
             (prepend_known self.new (R.remaining source.new)) }
         ensures at_hand { StartsWith self.new self.old }
@@ -146,13 +153,14 @@ impl LineBuffer {
     }
 }
 
+// Returns the position of the first line feed.
 fn first_line_feed(bytes: &[u8]) -> Option<usize>
     ensures { result ≡ position (λ b. b == 10) bytes.now }
 {
     memchr(b'\n', bytes)
 }
 
-// A line without the carriage return before its line feed.
+// Strips one carriage return from the end of a line.
 fn without_return(line: &[u8]) -> &[u8]
     ensures { result.now ≡ strip_carriage_return line.now }
 {
@@ -162,7 +170,7 @@ fn without_return(line: &[u8]) -> &[u8]
     }
 }
 
-// Moves what stands from `start` on to the front.
+// Removes the bytes before `start`.
 fn remove_front(bytes: &mut Vec<u8>, start: usize)
     requires { start ≤ vec_len bytes.old }
     ensures { bytes.new.items ≡ drop start bytes.old.items }

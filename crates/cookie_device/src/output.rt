@@ -1,4 +1,4 @@
-//! Text that is gathered before it goes out.
+//! Buffered output.
 ghost use Rattle.std.specs.Prelude.{◌≡◌, ◌+◌, ◌-◌, ◌^◌, ◌<◌, ◌≤◌, [], ◌++◌, length, IfOk, IsOk, OnOk, OnErr};
 ghost use Rattle.std.specs.Io.KnownBytes.{Appends};
 ghost use Rattle.cookie_device.specs.Device.{AppendsBeginning, CountsFailure, Sends};
@@ -8,7 +8,7 @@ use crate::device::{DeviceFailed, Sink, write_all};
 use std::alloc::{AllocError, Global};
 use std::marker::Model;
 
-/// Text gathered for a sink. It takes memory once, as it is made.
+/// A buffer for output to a sink. Only [`new`](Self::new) allocates.
 #[derive(Drop)]
 pub struct Output {
     text: Vec<u8>,
@@ -25,10 +25,10 @@ impl Model for Output {
 }
 
 impl Output {
-    /// The most bytes that are gathered.
+    /// The size of the buffer in bytes.
     pub const LIMIT: usize = 65_536;
 
-    /// Nothing is gathered yet.
+    /// Creates an empty buffer. This allocates all memory that it ever needs.
     pub fn new(alloc: Global) -> Result<Output, AllocError>
         ensures { IfOk result (λ output. output ≡ []) }
     {
@@ -36,8 +36,11 @@ impl Output {
         Ok(Output { text })
     }
 
-    /// Gathers `text`. Where it doesn't fit any more, what is gathered goes out first, and a text
-    /// that is longer than the limit goes out after it.
+    /// Appends `text` to the buffer.
+    ///
+    /// If `text` does not fit, the buffer is written first; if `text` is longer than
+    /// [`LIMIT`](Self::LIMIT), it is then written too. After an error the buffer is empty, and a
+    /// prefix of its old bytes and `text` was written.
     #[tactic(auto, using(crate::proofs::Appending::nothing_sent, crate::proofs::Appending::sent_beginning, crate::proofs::Appending::beginning_after, crate::proofs::Appending::longer_beginning))]
     pub fn put<W: Sink>(&mut self, sink: &mut W, text: &[u8]) -> Result<(), DeviceFailed>
         requires { W.failed sink.old < 2 ^ 64 - 1 }
@@ -64,7 +67,7 @@ impl Output {
         Ok(())
     }
 
-    /// Gathers the texts, one after the other, each as [`put`](Self::put) does.
+    /// Appends the strings in order, each as [`put`](Self::put) does, up to the first error.
     pub fn put_all<W: Sink>(&mut self, sink: &mut W, texts: &[&str]) -> Result<(), DeviceFailed>
         requires { W.failed sink.old < 2 ^ 64 - 1 }
         ensures whole { OnOk result (Sends (W.contents sink.old) (W.contents sink.new)
@@ -82,7 +85,7 @@ impl Output {
         Ok(())
     }
 
-    /// Writes what is gathered, which is none afterwards, also where a write failed.
+    /// Writes the bytes of the buffer. The buffer is empty afterwards, also after an error.
     pub fn flush<W: Sink>(&mut self, sink: &mut W) -> Result<(), DeviceFailed>
         requires { W.failed sink.old < 2 ^ 64 - 1 }
         ensures whole { OnOk result (Appends (W.contents sink.old) (W.contents sink.new) self.old) }

@@ -1,4 +1,4 @@
-//! Reads to the end of what was read before.
+//! Reading into a vector.
 ghost use Rattle.std.specs.Prelude.{◌≡◌, ◌↔◌, ℕ, ◌+◌, ◌-◌, ◌^◌, ◌<◌, ◌≤◌, List, ◌++◌, false, length, IfOk, IsTrue, OnErr, OnOk};
 ghost use Rattle.std.specs.Io.KnownBytes.{Consumes, IsAtEnd};
 ghost use Rattle.cookie_device.specs.FillError.{CountsRead};
@@ -7,10 +7,12 @@ use crate::device::Source;
 use crate::lines::FillError;
 use std::alloc::Global;
 
-/// The most bytes that one read gives.
+/// The most bytes of one read.
 pub(crate) const READ_LIMIT: usize = 4_096;
 
-/// All bytes of the source, up to its end.
+/// Returns all bytes of `source`, up to its end.
+///
+/// On an error, the bytes read until then are lost.
 pub fn read_all<R: Source>(alloc: Global, source: &mut R) -> Result<Vec<u8>, FillError>
     requires countable { R.failed source.old < 2 ^ 64 - 1 }
     ensures all { IfOk result (λ bytes. Consumes (R.remaining source.old) (R.remaining source.new) bytes.items
@@ -25,7 +27,8 @@ pub fn read_all<R: Source>(alloc: Global, source: &mut R) -> Result<Vec<u8>, Fil
     Ok(bytes)
 }
 
-// Reads once, to the end of the bytes, and says whether one came. Without one, the source is at its end.
+// Appends the bytes of one read and returns whether there were any. If not, the source is at its
+// end. On an error, `bytes` is unchanged.
 pub(crate) fn read_more<R: Source>(bytes: &mut Vec<u8>, source: &mut R) -> Result<bool, FillError>
     requires countable { R.failed source.old < 2 ^ 64 - 1 }
     ensures more { (part : List ℕ) × (bytes.new.items ≡ bytes.old.items ++ part)

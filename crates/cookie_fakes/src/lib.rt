@@ -1,22 +1,23 @@
-//! Readers and writers for tests: they move few bytes a call, and fail at one.
+//! Readers and writers for tests: short reads and writes, and fault injection.
 #![tactic(auto)]
 
 use std::io;
 use std::io::{Read, Write};
 
-/// Moves at most `most` bytes a call, and fails at the call `fails_at`, counted from 1.
+/// A reader or writer that moves at most `most` bytes per call and fails at call number `fails_at`,
+/// counted from 1. Flushing is not counted and never fails.
 #[derive(Drop)]
 pub struct Fake<T> {
-    /// What is read, or written to.
+    /// The underlying reader or writer.
     pub inner: T,
-    /// How many calls were made, the one that failed among them.
+    /// The number of reads or writes so far, including the failed one.
     pub calls: usize,
     most: usize,
     fails_at: usize,
 }
 
 impl<T> Fake<T> {
-    /// No call was made yet. With 0 for `fails_at` none fails.
+    /// Wraps `inner`, with no calls yet. If `fails_at` is 0, no call fails.
     pub fn new(inner: T, most: usize, fails_at: usize) -> Fake<T> {
         Fake {
             inner,
@@ -26,7 +27,7 @@ impl<T> Fake<T> {
         }
     }
 
-    // Counts a call, and answers how many bytes it may move.
+    // Counts a call and returns how many bytes it may move, or fails.
     fn turn(&mut self) -> io::Result<usize> {
         self.calls = self.calls.saturating_add(1);
         if self.calls == self.fails_at {

@@ -1,4 +1,4 @@
--- What is written of a saved cookie, as compact text, holds no control character.
+-- The compact JSON of a saved cookie contains no control character.
 use Rattle.std.proofs.Common.{◌≡◌, ℕ, List, [], ◌∷◌, ◌++◌, Bool, true, false, Option, Some, None, Ok, codes, nat_le, refl, subst, arith}
 use Rattle.std.proofs.lemmas.Bool.Decides.{nat_tests}
 use Rattle.std.proofs.lemmas.List.Folds.{list_all-append}
@@ -46,7 +46,7 @@ of_flag false = refl
 of_path : (path : List ℕ) (from_attr : Bool) → has_no_control (compact_text (path_tree path from_attr)) ≡ true
 of_path path from_attr = both (quoted path) (44 ∷ (compact_text (boolean from_attr) ++ 93 ∷ [])) (in_quotes path) (of_flag from_attr)
 
--- a member, and what follows it
+-- a member and what follows it
 named : (name : List ℕ) (d : Data) (rest : List ℕ) → has_no_control (compact_text d) ≡ true → has_no_control rest ≡ true
     → has_no_control (quoted name ++ 58 ∷ (compact_text d ++ rest)) ≡ true
 named name d rest of_data of_rest = both (quoted name) (58 ∷ (compact_text d ++ rest)) (in_quotes name) (both (compact_text d) rest of_data of_rest)

@@ -1,4 +1,4 @@
--- A line feed behind a text changes nothing in what JSON reads of it.
+-- A line feed after a JSON text does not change what it is read as.
 use Rattle.std.proofs.Common.{◌≡◌, ℕ, ◌+◌, ◌-◌, Bool, true, false, cond, ◌&&◌, ◌==◌, not, nat_eq}
 use Rattle.std.proofs.Common.{List, [], ◌∷◌, ◌++◌, length, drop, Option, Some, None, option_map, option_and_then}
 use Rattle.std.proofs.Common.{refl, ap, ◌∙◌, arith, length-append}
@@ -17,23 +17,23 @@ use Rattle.json.specs.Word.{after_digits, after_exponent, after_fraction, after_
 use Rattle.json.specs.Word.{ends_word, literal, number_before, word}
 use Rattle.serde_json.specs.Read.{read}
 
--- with a line feed behind
+-- the input with a line feed after it
 abbrev fed : List ℕ → List ℕ
 fed xs = xs ++ 10 ∷ []
 
 -- ---- the content of a string
 
--- a line feed is no hex digit
+-- a line feed is not a hexadecimal digit
 no_unit : (a b c : ℕ) → code_unit a b c 10 ≡ None
 unfolding code_unit
 no_unit a b c = simp and-false
 
--- a test between one thing and itself
+-- a conditional with two equal branches
 either_way : {A : Type 0} (b : Bool) (x : A) → cond b x x ≡ x
 either_way true x = refl
 either_way false x = refl
 
--- a string that has not ended by the line feed has no content
+-- the content of a string is the same: a string still open at the line feed has none
 content_fed : (w : Within) (xs : List ℕ) → content w (fed xs) ≡ content w xs
 unfolding content short_escape
 content_fed plain [] = refl
@@ -59,32 +59,32 @@ content_fed (after_high h) (s ∷ u ∷ a ∷ b ∷ c ∷ d ∷ xs) =
 
 -- ---- a word
 
--- a word ends at a line feed as it does at the end of the text
+-- a word ends at a line feed as it does at the end of the input
 ends_fed : (t : List ℕ) → ends_word (fed t) ≡ ends_word t
 ends_fed [] = refl
 ends_fed (x ∷ xs) = refl
 
--- a line feed is no digit
+-- a line feed is not a digit
 digits_fed : (t : List ℕ) → prefix_len is_ascii_digit (fed t) ≡ prefix_len is_ascii_digit t
 digits_fed [] = refl
 digits_fed (x ∷ xs) = ap (λ n. cond (is_ascii_digit x) (1 + n) 0) (digits_fed xs)
 
--- what a part of a number leaves has the line feed behind
+-- the rest after a part of a number is the same, with the line feed after it
 abbrev Leaves : Option (List ℕ) → Option (List ℕ) → Type 0
 Leaves o p = p ≡ option_map fed o
 
--- both sides of a test
+-- the same for both branches of a conditional
 leaves_either : (b : Bool) (o p q r : Option (List ℕ)) → Leaves o q → Leaves p r → Leaves (cond b o p) (cond b q r)
 leaves_either true o p q r first second = first
 leaves_either false o p q r first second = second
 
--- one part after another
+-- the same for one part after another
 leaves_then : (f : List ℕ → Option (List ℕ)) (o : Option (List ℕ)) → ((t : List ℕ) → Leaves (f t) (f (fed t)))
     → Leaves (option_and_then f o) (option_and_then f (option_map fed o))
 leaves_then f None part = refl
 leaves_then f (Some t) part = part t
 
--- a byte may be passed, or not
+-- the same if a byte may be skipped or not
 fed_either : (b : Bool) (s t : List ℕ) → cond b (fed s) (fed t) ≡ fed (cond b s t)
 fed_either true s t = refl
 fed_either false s t = refl
@@ -95,7 +95,7 @@ leaves_digits t =
     rw (digits_fed t, drop-append-le (prefix_len is_ascii_digit t) t (10 ∷ []) (prefix_len-le-length is_ascii_digit t))
     (leaves_either (prefix_len is_ascii_digit t == 0) None (Some (drop (prefix_len is_ascii_digit t) t)) _ _ refl refl)
 
--- a minus, or none
+-- an optional minus
 minus_fed : (t : List ℕ) → after_minus (fed t) ≡ fed (after_minus t)
 minus_fed [] = refl
 minus_fed (x ∷ xs) = fed_either (x == 45) xs (x ∷ xs)
@@ -105,17 +105,17 @@ leaves_whole : (t : List ℕ) → Leaves (after_whole t) (after_whole (fed t))
 leaves_whole [] = refl
 leaves_whole (x ∷ xs) = leaves_either (x == 48) (Some xs) _ _ _ refl (leaves_digits (x ∷ xs))
 
--- a dot and digits, or neither
+-- an optional fraction: a dot and digits
 leaves_fraction : (t : List ℕ) → Leaves (after_fraction t) (after_fraction (fed t))
 leaves_fraction [] = refl
 leaves_fraction (x ∷ xs) = leaves_either (x == 46) _ (Some (x ∷ xs)) _ _ (leaves_digits xs) refl
 
--- a sign, or none
+-- an optional sign
 sign_fed : (t : List ℕ) → after_sign (fed t) ≡ fed (after_sign t)
 sign_fed [] = refl
 sign_fed (x ∷ xs) = fed_either _ xs (x ∷ xs)
 
--- an exponent, or none
+-- an optional exponent
 leaves_exponent : (t : List ℕ) → Leaves (after_exponent t) (after_exponent (fed t))
 leaves_exponent [] = refl
 leaves_exponent (x ∷ xs) = leaves_either _ _ (Some (x ∷ xs)) _ _ (ap after_digits (sign_fed xs) ∙ leaves_digits (after_sign xs)) refl
@@ -126,7 +126,7 @@ unfolding after_number
 leaves_number t = rw (minus_fed t, leaves_whole (after_minus t), leaves_then after_fraction (after_whole (after_minus t)) leaves_fraction)
     (leaves_then after_exponent (option_and_then after_fraction (after_whole (after_minus t))) leaves_exponent)
 
--- the number taken is the same
+-- the number read is the same
 number_fed : (t : List ℕ) (o : Option (List ℕ)) → number_before (fed t) (option_map fed o) ≡ number_before t o
 number_fed t None = refl
 number_fed t (Some rest) =
@@ -134,17 +134,17 @@ number_fed t (Some rest) =
     omega (arith, length-append t (10 ∷ []), length-append rest (10 ∷ [])) in
     rw (ends_fed rest, size, take-append-le (length t - length rest) t (10 ∷ []) (omega arith)) refl
 
--- a first byte that differs
+-- no match if the first bytes differ
 no_match : (same p q : Bool) → not same ≡ true → (same && p && q) ≡ false
 no_match true p q differs = absurd (false≢true differs)
 no_match false p q differs = refl
 
--- the same first byte, or not
+-- a match is the same whether the first bytes are equal or not
 match_first : (same p q r s : Bool) → (p && q) ≡ (r && s) → (same && p && q) ≡ (same && r && s)
 match_first true p q r s after = after
 match_first false p q r s after = refl
 
--- a name without a line feed stands in front of the line feed, or not at all
+-- whether an input begins with a name as a whole word is the same, if the name has no line feed
 starts_fed : (name t : List ℕ) → list_all (λ x. not (x == 10)) name ≡ true
     → (starts_with nat_eq (fed t) name && ends_word (drop (length name) (fed t)))
     ≡ (starts_with nat_eq t name && ends_word (drop (length name) t))
@@ -172,7 +172,7 @@ word_fed x xs =
 
 -- ---- the lexer
 
--- the byte x finds the same lexeme
+-- the lexeme that begins with the byte x is the same
 front : (m : Mode) (c : Class) (x : ℕ) (xs : List ℕ) (k : Mode → List Lexeme) → lex_byte m c x (fed xs) k ≡ lex_byte m c x xs k
 front between quote x xs k = rw (content_fed plain xs) refl
 front between backslash x xs k = refl

@@ -1,4 +1,4 @@
--- A list's tree is read where it has the shape, and nowhere else.
+-- A JSON value is read as a list exactly if it has the shape, apart from the validity of expiries.
 use Rattle.std.proofs.Common.{◌≡◌, ℕ, List, [], ◌∷◌, false, Option, Some, None, Ok, Err, option_map, option_and_then, refl, ap, subst, ◌∙◌}
 use Rattle.std.specs.List.{AllZip}
 use Rattle.std.specs.Option.{ok_or}
@@ -15,7 +15,7 @@ use Rattle.cookie_forms.specs.declared.error.SavedError.TheVariants as Fault
 use Rattle.cookie_forms.proofs.Shapes.{items_in, parts_read, parts_shaped, read_of, refused_by}
 use Rattle.cookie_forms.proofs.TreesPlain.{first_false, second_false}
 
--- the items one after the other
+-- the items as a list
 abbrev trees_in : Items → List Data
 trees_in no_items = []
 trees_in (item d ds) = d ∷ trees_in ds

@@ -1,4 +1,4 @@
--- The one member of an object.
+-- The only member of an object.
 use Rattle.std.proofs.Common.{◌≡◌, ◌≢◌, ℕ, List, [], ◌∷◌, length, Some, None, Option, option_map, String, Global, string_bytes, slice_get, refl, arith}
 use Rattle.serde_json.specs.View.{view, members_view}
 use Rattle.serde_json.specs.Find.{as_str}
@@ -10,7 +10,7 @@ not_one [] h = refl
 not_one (e ∷ []) h = absurd (h refl)
 not_one (e ∷ f ∷ es) h = refl
 
--- what one member gives
+-- the name and string of a member
 abbrev pub of_one : Option (String Global × Value) → Option (List ℕ × List ℕ)
 of_one None = None
 of_one (Some e) = option_map (λ text. (string_bytes e.0, text)) (as_str (view e.1))

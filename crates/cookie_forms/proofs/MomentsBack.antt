@@ -1,4 +1,4 @@
--- The text of a moment reads as the moment with its fraction cut.
+-- The string of a time is parsed as that time without its fraction of a second.
 use Rattle.std.proofs.Common.{◌≡◌, ℕ, ◌+◌, ◌*◌, ◌/◌, ◌%◌, ◌<◌, ◌≤◌, ◌==◌, true, ◌&&◌, length, Some, None, pos, ℤ, negsuc, subst, ◌≤ℤ◌, unsigned_abs, if◌then◌else◌, refl, ap, arith}
 use Rattle.std.proofs.lemmas.Bool.Decides.{nat_tests}
 use Rattle.std.specs.Char.{is_ascii_digit, digit_value}
@@ -56,15 +56,15 @@ unfolding moment_at number_in has_signs fraction_of
 fields_back year month day hour minute second nanosecond y mo d h mi s calendar clock m e =
     rw (e, four_in year y, two_in month (omega arith), two_in day (omega arith), two_in hour (omega arith), two_in minute (omega arith), two_in second (omega arith), calendar, clock) refl
 
--- the calendar has the day
+-- a date with a month and day in range exists
 is_calendar_day : (year : ℤ) (month day : ℕ) → IsInRange 1 12 month → IsInRange 1 (days_in_month year month) day → is_day year month day ≡ true
 is_calendar_day year month day m d = grind (arith, nat_tests, m, d)
 
--- a clock shows the time
+-- a time of day with fields in range exists
 is_clock_time : (hour minute second : ℕ) → hour < 24 → minute < 60 → second < 60 → is_time hour minute second ≡ true
 is_clock_time hour minute second h m s = grind (arith, nat_tests)
 
--- a number that is not negative
+-- a nonnegative integer is its absolute value
 of_size : (z : ℤ) → pos 0 ≤ℤ z → z ≡ pos (unsigned_abs z)
 of_size (pos n) h = refl
 of_size (negsuc n) h = absurd h.le

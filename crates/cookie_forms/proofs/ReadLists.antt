@@ -1,4 +1,4 @@
--- Reading the items of a list one after the other.
+-- Reading the items of a list, one after the other.
 use Rattle.std.proofs.Common.{◌≡◌, List, [], ◌∷◌, ◌++◌, ℕ, Some, None, Option, true, false, option_map, option_and_then, is_some, true≢false, refl, sym, ap, ◌∙◌}
 use Rattle.std.proofs.lemmas.List.{append_assoc}
 use Rattle.serde_json.specs.Data.{Data, Items, item}
@@ -10,11 +10,11 @@ is_some_map : {A B : Type 0} (f : A → B) (o : Option A) → is_some (option_ma
 is_some_map f None = refl
 is_some_map f (Some a) = refl
 
--- an item of the shape
+-- an item that has the shape
 pub shape_step : (d : Data) (ds : Items) (p : Parts (List ℕ)) → Some p ≡ parts_in d → is_some (all_parts_in (item d ds)) ≡ is_some (all_parts_in ds)
 shape_step d ds p e = rw (← e) (is_some_map (λ ps. p ∷ ps) (all_parts_in ds))
 
--- and one without it
+-- an item that does not
 pub shape_end : (d : Data) (ds : Items) → None ≡ parts_in d → is_some (all_parts_in (item d ds)) ≡ false
 shape_end d ds e = rw (← e) refl
 
@@ -28,20 +28,20 @@ read_none : (o : Option (List (Parts (List ℕ)))) (p : Parts (List ℕ)) → wi
 read_none None p e = refl
 read_none (Some ps) p e = rw e refl
 
--- an item that reads
+-- an item with a valid expiry
 pub read_step : (d : Data) (ds : Items) (p : Parts (List ℕ)) (q : Parts Moment) → Some p ≡ parts_in d → with_moment p ≡ Some q
     → all_in (item d ds) ≡ option_map (λ qs. q ∷ qs) (all_in ds)
 read_step d ds p q e f = rw (← e) (read_one (all_parts_in ds) p q f)
 
--- one whose text is no moment
+-- an item whose expiry is not a valid time
 pub read_end : (d : Data) (ds : Items) (p : Parts (List ℕ)) → Some p ≡ parts_in d → with_moment p ≡ None → all_in (item d ds) ≡ None
 read_end d ds p e f = rw (← e) (read_none (all_parts_in ds) p f)
 
--- and one without the shape
+-- an item that does not have the shape
 pub read_stop : (d : Data) (ds : Items) → None ≡ parts_in d → all_in (item d ds) ≡ None
 read_stop d ds e = rw (← e) refl
 
--- one more is in front
+-- one more item has been read
 pub behind : (front : List (Parts Moment)) (q : Parts Moment) (o : Option (List (Parts Moment)))
     → option_map (λ rest. front ++ rest) (option_map (λ qs. q ∷ qs) o) ≡ option_map (λ rest. (front ++ q ∷ []) ++ rest) o
 behind front q None = refl
@@ -57,12 +57,12 @@ flag_end : (d : Data) (ds : Items) (p : Parts (List ℕ)) (r : Option (Parts Mom
 flag_end d ds p None f e h = ap is_some (read_end d ds p e f)
 flag_end d ds p (Some q) f e h = absurd (true≢false h)
 
--- whether all read, where this one does
+-- whether all items are valid, if this one is
 pub all_read_step : (d : Data) (ds : Items) (p : Parts (List ℕ)) → Some p ≡ parts_in d → is_some (with_moment p) ≡ true
     → is_some (all_in (item d ds)) ≡ is_some (all_in ds)
 all_read_step d ds p e h = flag_step d ds p (with_moment p) refl e h
 
--- and where it does not
+-- and if it is not
 pub all_read_end : (d : Data) (ds : Items) (p : Parts (List ℕ)) → Some p ≡ parts_in d → is_some (with_moment p) ≡ false
     → is_some (all_in (item d ds)) ≡ false
 all_read_end d ds p e h = flag_end d ds p (with_moment p) refl e h

@@ -1,4 +1,4 @@
--- A tree is read where it has the shape, and nowhere else.
+-- A JSON value is read exactly if it has the shape, apart from the validity of its expiry.
 use Rattle.std.proofs.Common.{◌≡◌, ℕ, List, Bool, true, false, Option, Some, None, Ok, Err, option_map, if◌then◌else◌, bytes_eq, codes, refl, sym, ap, subst, ◌∙◌}
 use Rattle.std.specs.Option.{ok_or, option_or}
 use Rattle.std.proofs.lemmas.Option.{option_and_then_some, same_Some}
@@ -15,7 +15,7 @@ use Rattle.cookie_forms.specs.declared.error.SavedError.{SavedError}
 use Rattle.cookie_forms.specs.declared.error.SavedError.TheVariants as Fault
 use Rattle.cookie_forms.proofs.TreesBack.{domain_back, ends_back, path_back}
 
--- ---- what a part is read of
+-- ---- the JSON values that a part is read from
 
 text_of : (d : Data) (text : List ℕ) → as_str d ≡ Some text → d ≡ string text
 text_of null text e = cc
@@ -75,7 +75,7 @@ tagged_of no_members t e = cc
 tagged_of (member tag d no_members) t e = tag_of tag d t e
 tagged_of (member tag d (member k c ms)) t e = cc
 
--- of two names, each for one domain
+-- one of two names, each of one domain
 by_name : (first second : Bool) (d : Data) (a b domain : Domain) → (first ≡ true → d ≡ domain_tree a) → (second ≡ true → d ≡ domain_tree b)
     → (if first then Some a else (if second then Some b else None)) ≡ Some domain → d ≡ domain_tree domain
 by_name true second d a b domain is_a is_b e = is_a refl ∙ ap domain_tree (same_Some a domain e)
@@ -149,20 +149,20 @@ parts_shaped d p plain e =
       plain,
     )))))))))
 
--- ---- what is read, and what is refused
+-- ---- what is read, and what is an error
 
 answered : {B : Type 0} (r : Option B) (e : SavedError) (b : B) → ok_or r e ≡ Ok b → r ≡ Some b
 answered None e b h = cc
 answered (Some c) e b h = cc
 
--- what was read had the shape, and no float
+-- what was read has the shape and no float
 pub read_of : {A B : Type 0} (has : Bool) (read : A → Option B) (o : Option A) (b : B)
     → (if has then Err Fault.Shape else then_read read o) ≡ Ok b → (a : A) × (has ≡ false) × (o ≡ Some a) × (read a ≡ Some b)
 read_of true read o b e = cc
 read_of false read None b e = cc
 read_of false read (Some a) b e = (a, refl, refl, answered (read a) Fault.Moment b e)
 
--- where there is nothing to read, or a float, the shape is told
+-- if nothing has the shape, or there is a float, the error is `Shape`
 pub refused_by : {A B : Type 0} (has : Bool) (read : A → Option B) (o : Option A) → ((a : A) → has ≡ false → ¬ (o ≡ Some a))
     → (if has then Err Fault.Shape else then_read read o) ≡ Err Fault.Shape
 refused_by true read o none = refl

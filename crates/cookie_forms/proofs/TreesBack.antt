@@ -1,4 +1,4 @@
--- What is written is read back.
+-- Saved cookies written as JSON are read back.
 use Rattle.std.proofs.Common.{◌≡◌, ℕ, List, [], ◌∷◌, map, Bool, false, true≢false, Option, Some, None, Ok, option_map, int_lt, pos, ℤ, negsuc, ◌≤ℤ◌, refl, ap, subst, arith}
 use Rattle.std.specs.List.{list_any, All}
 use Rattle.std.specs.Prelude.{IfSome}
@@ -37,12 +37,12 @@ parts_back : (p : Parts (List ℕ)) → parts_in (cookie_tree p) ≡ Some p
 unfolding parts_in
 parts_back p = rw (path_back p.path p.from_attr, domain_back p.domain, ends_back p.ends) refl
 
--- the end of a saved cookie is a moment of the calendar
+-- the expiry of a saved cookie is a valid time
 pub end_is_moment : (e : SavedExpiry) → IfSome (expiry_view e) IsMoment
 end_is_moment (Expiry.AtUtc time) = (time, refl)
 end_is_moment Expiry.SessionEnd = tt
 
--- from the year 0 on
+-- not negative: from the year 0 on
 from_zero : (z : ℤ) → int_lt z (pos 0) ≡ false → pos 0 ≤ℤ z
 from_zero (pos n) h = omega (arith, signed_arith)
 from_zero (negsuc n) h = absurd (true≢false h)

@@ -1,4 +1,4 @@
--- What is written has no float, and nests three deep at most.
+-- The JSON of saved cookies has no float, and nests at most three deep.
 use Rattle.std.proofs.Common.{◌≡◌, ◌≤◌, ℕ, suc, max, List, [], ◌∷◌, map, Bool, true, false, true≢false, ◌||◌, Option, Some, None, Result, Ok, Err, is_ok, if◌then◌else◌, refl, sym, ap, subst, arith}
 use Rattle.std.specs.List.{list_any}
 use Rattle.serde_json.specs.Data.{Data, null, depth, items_depth}
@@ -19,7 +19,7 @@ pub second_false : (a b : Bool) → (a || b) ≡ false → b ≡ false
 second_false true b h = absurd (true≢false h)
 second_false false b h = h
 
--- the tree of a result
+-- the JSON value of a result
 abbrev tree_of : Result Data SavedError → Data
 tree_of (Ok t) = t
 tree_of (Err e) = null
@@ -32,7 +32,7 @@ pub same_tree : (b : Bool) (e : SavedError) (t tree : Data) → (if b then Err e
 same_tree true e t tree h = absurd (true≢false (sym (ap is_ok h)))
 same_tree false e t tree h = ap tree_of h
 
--- no float stands in a tree
+-- none of these JSON values contains a float
 domain_plain : (d : Domain) → has_float (domain_tree d) ≡ false
 domain_plain (host_only text) = refl
 domain_plain (suffix text) = refl
@@ -50,7 +50,7 @@ pub items_plain : (ps : List (Parts Moment)) → items_have_float (items_of (map
 items_plain [] = refl
 items_plain (p ∷ ps) = rw (cookie_plain (with_text p), items_plain ps) refl
 
--- how deep trees nest
+-- how deep these JSON values nest
 parts_nest : (domain : Domain) (ends : Option (List ℕ)) (rest : ℕ) → rest ≡ 1
     → suc (max (depth (domain_tree domain)) (max (depth (ends_tree ends)) rest)) ≡ 2
 parts_nest (host_only text) None rest e = rw e refl

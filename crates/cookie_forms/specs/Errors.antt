@@ -1,8 +1,9 @@
--- The texts of the faults of saved forms.
+-- The error messages of saved cookies.
 use Rattle.std.specs.Prelude.{ℕ, List, codes}
 use Rattle.cookie_forms.specs.declared.error.SavedError.{SavedError}
 use Rattle.cookie_forms.specs.declared.error.SavedError.TheVariants.{Json, Shape, Ron, Moment, Memory}
 
+-- the message of an error
 abbrev pub saved_error_text : SavedError → List ℕ
 saved_error_text Json = codes "a text is not JSON"
 saved_error_text Shape = codes "a value has not the shape of a saved cookie"

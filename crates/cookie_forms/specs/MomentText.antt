@@ -1,4 +1,4 @@
--- The text that a moment is saved as, `2026-01-31T23:59:59Z`, with a fraction of the second or none.
+-- The string that a time is saved as, such as `2026-01-31T23:59:59Z`, with or without a fraction of a second.
 use Rattle.std.specs.Prelude.{ℕ, ◌+◌, ◌-◌, ◌*◌, ◌^◌, ◌==◌, Bool, ◌&&◌, List, [], ◌∷◌, length, drop, slice_index, slice_range, Option, Some, None, pos, bytes_eq, codes, nat_eq, if◌then◌else◌, unsigned_abs, ◌++◌, ◌/◌, ◌%◌}
 use Rattle.std.specs.Char.{is_ascii_digit}
 use Rattle.std.specs.List.{list_all, starts_with, ends_with}
@@ -6,33 +6,33 @@ use Rattle.std.specs.Str.Parse.{digits_value}
 use Rattle.cookie_words.specs.Moments.{Moment, is_within, is_day, is_time, moment_of_fields}
 use Rattle.cookie_words.specs.Steps.{◌>>=◌}
 
--- the number that the digits at a place write, `count` of them
+-- the value of `count` digits from index `from` on
 unfoldable pub number_in : List ℕ → ℕ → ℕ → Option ℕ
 number_in text from count =
     let part = slice_range text from (from + count) in
     if (length part == count) && list_all is_ascii_digit part then Some (digits_value 10 part) else None
 
--- `-`, `-`, `T`, `:`, `:` stand between the numbers
+-- `-`, `-`, `T`, `:` and `:` are at their places between the numbers
 unfoldable pub has_signs : List ℕ → Bool
 has_signs text =
     bytes_eq
     (slice_index text 4 ∷ slice_index text 7 ∷ slice_index text 10 ∷ slice_index text 13 ∷ slice_index text 16 ∷ [])
     (codes "--T::")
 
--- the nanoseconds that one to nine digits after the point write
+-- the nanoseconds of a fraction of one to nine digits
 unfoldable pub nanoseconds_in : List ℕ → Option ℕ
 nanoseconds_in digits =
     if is_within 1 9 (length digits) && list_all is_ascii_digit digits
     then Some (digits_value 10 digits * 10 ^ (9 - length digits)) else None
 
--- the nanoseconds of what follows the seconds: `Z`, or `.`, one to nine digits and `Z`
+-- the nanoseconds given after the seconds: `Z`, or `.`, one to nine digits and `Z`
 unfoldable pub fraction_of : List ℕ → Option ℕ
 fraction_of rest =
     if bytes_eq rest (codes "Z") then Some 0
     else (if starts_with nat_eq rest (codes ".") && ends_with nat_eq rest (codes "Z")
     then nanoseconds_in (slice_range rest 1 (length rest - 1)) else None)
 
--- the moment that a text writes: RFC 3339's date-time in UTC
+-- the time of a string: RFC 3339's date-time in UTC
 unfoldable pub moment_at : List ℕ → Option Moment
 moment_at text = do
   year ← number_in text 0 4
@@ -61,12 +61,12 @@ date_text year month day = four_digits year ++ codes "-" ++ two_digits month ++ 
 abbrev pub clock_text : ℕ → ℕ → ℕ → List ℕ
 clock_text hour minute second = two_digits hour ++ codes ":" ++ two_digits minute ++ codes ":" ++ two_digits second
 
--- the text of a moment of the years 0 to 9999, its fraction cut
+-- the string of a time of the years 0 to 9999, without its fraction of a second
 abbrev pub moment_text : Moment → List ℕ
 moment_text m =
     date_text (unsigned_abs m.year) m.month m.day ++ codes "T" ++ clock_text m.hour m.minute m.second ++ codes "Z"
 
--- the moment with its fraction cut
+-- the time without its fraction of a second
 abbrev pub whole_seconds : Moment → Moment
 whole_seconds m = record {
   year = m.year;

@@ -1,4 +1,4 @@
--- The saved cookies that JSON trees are read as.
+-- The saved cookies that JSON values are read as.
 use Rattle.std.specs.Prelude.{ℕ, Bool, List, [], ◌∷◌, codes, bytes_eq, Option, Some, None, option_map, option_and_then, Result, Err, if◌then◌else◌}
 use Rattle.std.specs.Option.{ok_or, option_or}
 use Rattle.serde_json.specs.Data.{Data, Items, no_items, item, Members, no_members, member}
@@ -12,13 +12,13 @@ use Rattle.cookie_forms.specs.WrittenTrees.{with_ends}
 use Rattle.cookie_forms.specs.declared.error.SavedError.{SavedError}
 use Rattle.cookie_forms.specs.declared.error.SavedError.TheVariants as Fault
 
--- the name and the text of the one member, where it is a text
+-- the name and string of the only member
 abbrev pub only_text : Members → Option (List ℕ × List ℕ)
 only_text no_members = None
 only_text (member tag d no_members) = option_map (λ text. (tag, text)) (as_str d)
 only_text (member tag d (member k e ms)) = None
 
--- those of an object
+-- the same for an object
 abbrev pub tagged_in : Data → Option (List ℕ × List ℕ)
 tagged_in d = option_and_then only_text (as_object d)
 
@@ -29,7 +29,7 @@ pair_in (item a no_items) = None
 pair_in (item a (item b no_items)) = Some (a, b)
 pair_in (item a (item b (item c ds))) = None
 
--- a text and a flag
+-- a path, and whether a Path attribute set it
 unfoldable pub path_in : Data → Option (List ℕ × Bool)
 path_in d = do
   items ← as_array d
@@ -38,32 +38,35 @@ path_in d = do
   from_attr ← as_bool pair.1
   Some (path, from_attr)
 
--- the kinds without a text
+-- the domains without a string
 abbrev pub domain_named : List ℕ → Option Domain
 domain_named name =
     if bytes_eq name (codes "NotPresent") then Some not_present
     else (if bytes_eq name (codes "Empty") then Some empty else None)
 
--- and those with one
+-- the domains with a string
 abbrev pub domain_tagged : List ℕ × List ℕ → Option Domain
 domain_tagged t =
     if bytes_eq t.0 (codes "HostOnly") then Some (host_only t.1)
     else (if bytes_eq t.0 (codes "Suffix") then Some (suffix t.1) else None)
 
+-- the domain of a JSON value, by name or by tag
 unfoldable pub domain_in : Data → Option Domain
 domain_in d = option_or (option_and_then domain_named (as_str d)) (option_and_then domain_tagged (tagged_in d))
 
+-- `"SessionEnd"`: a session cookie
 abbrev pub ends_named : List ℕ → Option (Option (List ℕ))
 ends_named name = if bytes_eq name (codes "SessionEnd") then Some None else None
 
+-- `{"AtUtc": ".."}`: a persistent cookie, its expiry not parsed yet
 abbrev pub ends_tagged : List ℕ × List ℕ → Option (Option (List ℕ))
 ends_tagged t = if bytes_eq t.0 (codes "AtUtc") then Some (Some t.1) else None
 
--- the end's text, `Some None` for the end of the session, and `None` where there is neither
+-- the string of an expiry, `Some None` for `SessionEnd`, `None` for anything else
 unfoldable pub ends_in : Data → Option (Option (List ℕ))
 ends_in d = option_or (option_and_then ends_named (as_str d)) (option_and_then ends_tagged (tagged_in d))
 
--- the parts of an object that has the shape of a saved cookie; its further members are passed over
+-- the parts of an object that has the shape of a saved cookie; other members are ignored
 unfoldable pub parts_in : Data → Option (Parts (List ℕ))
 parts_in d = do
   raw ← get (codes "raw_cookie") d
@@ -82,40 +85,42 @@ parts_in d = do
     ends = ends;
   })
 
--- the parts of each item, where all of them have the shape
+-- the parts of each item, if all items have the shape
 abbrev pub all_parts_in : Items → Option (List (Parts (List ℕ)))
 all_parts_in no_items = Some []
 all_parts_in (item d ds) = option_and_then (λ p. option_map (λ ps. p ∷ ps) (all_parts_in ds)) (parts_in d)
 
--- the moment of an end's text, where it is one
+-- an expiry with its string parsed, if that is a valid time
 abbrev pub ends_at : Option (List ℕ) → Option (Option Moment)
 ends_at None = Some None
 ends_at (Some text) = option_map (λ m. Some m) (moment_at text)
 
--- the parts with their moment read
+-- the parts with their expiry parsed
 abbrev pub with_moment : Parts (List ℕ) → Option (Parts Moment)
 with_moment p = option_map (λ ends. with_ends p ends) (ends_at p.ends)
 
+-- the same for a list, if all expiries are valid
 abbrev pub all_with_moment : List (Parts (List ℕ)) → Option (List (Parts Moment))
 all_with_moment [] = Some []
 all_with_moment (p ∷ ps) = option_and_then (λ q. option_map (λ qs. q ∷ qs) (all_with_moment ps)) (with_moment p)
 
--- the saved cookies of the items, where all of them have the shape and read
+-- the saved cookies of the items, if all have the shape and a valid expiry
 abbrev pub all_in : Items → Option (List (Parts Moment))
 all_in ds = option_and_then all_with_moment (all_parts_in ds)
 
+-- `Shape` if there is no value of the shape, `Moment` if its expiry is not valid
 abbrev pub then_read : {A B : Type 0} → (A → Option B) → Option A → Result B SavedError
 then_read read None = Err Fault.Shape
 then_read read (Some a) = ok_or (read a) Fault.Moment
 
--- the saved cookie of a tree, or why there is none
+-- the saved cookie of a JSON value, or the error
 abbrev pub saved_at : Data → Result (Parts Moment) SavedError
 saved_at d = if has_float d then Err Fault.Shape else then_read with_moment (parts_in d)
 
--- the saved cookies of a list's tree, or why there are none
+-- the saved cookies of a JSON array, or the error
 abbrev pub list_at : Data → Result (List (Parts Moment)) SavedError
 list_at d = if has_float d then Err Fault.Shape else then_read all_with_moment (option_and_then all_parts_in (as_array d))
 
--- what is left of a saved cookie that is written and read: its end is cut to whole seconds
+-- a saved cookie with its expiry cut to whole seconds, as it is after writing and reading
 abbrev pub cut : Parts Moment → Parts Moment
 cut p = with_ends p (option_map whole_seconds p.ends)

@@ -1,4 +1,4 @@
--- The shape of saved cookies in JSON.
+-- The shape of saved cookies and lists in JSON.
 use Rattle.std.specs.Prelude.{◌≡◌, ℕ, false, List, codes, Some}
 use Rattle.std.specs.List.{AllZip}
 use Rattle.serde_json.specs.Data.{Data, string, array}
@@ -8,7 +8,7 @@ use Rattle.serde_json.specs.Written.{has_float}
 use Rattle.cookie_forms.specs.Saved.{Parts}
 use Rattle.cookie_forms.specs.WrittenTrees.{path_tree, domain_tree, ends_tree}
 
--- an object whose members of these names are the trees of the parts, whatever other members it has; no float stands in it
+-- an object with these four members, whatever others it has, and without any float
 abbrev pub HasShape : Data → Parts (List ℕ) → Type 0
 HasShape d p =
     (get (codes "raw_cookie") d ≡ Some (string p.raw_cookie))
@@ -17,6 +17,6 @@ HasShape d p =
     × (get (codes "expires") d ≡ Some (ends_tree p.ends))
     × (has_float d ≡ false)
 
--- an array of such objects, one for each
+-- an array of such objects, one for each cookie
 abbrev pub HasListShape : Data → List (Parts (List ℕ)) → Type 0
 HasListShape d ps = (ds : List Data) × (d ≡ array (items_of ds)) × AllZip HasShape ds ps

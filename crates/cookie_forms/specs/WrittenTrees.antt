@@ -1,4 +1,4 @@
--- The JSON trees that saved cookies are written as.
+-- The JSON values that saved cookies are written as.
 use Rattle.std.specs.Prelude.{ℕ, Bool, false, List, map, codes, Option, Some, None, option_map, unwrap_or, Result, Ok, Err, if◌then◌else◌, pos, int_lt}
 use Rattle.std.specs.List.{list_any}
 use Rattle.serde_json.specs.Data.{Data, boolean, string, array, object, no_items, item, no_members, member}
@@ -9,26 +9,27 @@ use Rattle.cookie_forms.specs.Saved.{Domain, host_only, suffix, not_present, emp
 use Rattle.cookie_forms.specs.declared.error.SavedError.{SavedError}
 use Rattle.cookie_forms.specs.declared.error.SavedError.TheVariants as Fault
 
--- an object of one member with a text
+-- an object with one member, a string
 abbrev pub tagged_tree : List ℕ → List ℕ → Data
 tagged_tree tag text = object (member tag (string text) no_members)
 
--- an array of a text and a flag
+-- an array of a path, and whether a Path attribute set it
 abbrev pub path_tree : List ℕ → Bool → Data
 path_tree path from_attr = array (item (string path) (item (boolean from_attr) no_items))
 
+-- the JSON value of a domain
 abbrev pub domain_tree : Domain → Data
 domain_tree (host_only text) = tagged_tree (codes "HostOnly") text
 domain_tree (suffix text) = tagged_tree (codes "Suffix") text
 domain_tree not_present = string (codes "NotPresent")
 domain_tree empty = string (codes "Empty")
 
--- of the text of the end, if there is one
+-- an expiry by its string; `None` is a session cookie
 abbrev pub ends_tree : Option (List ℕ) → Data
 ends_tree (Some text) = tagged_tree (codes "AtUtc") text
 ends_tree None = string (codes "SessionEnd")
 
--- the members in the order of their names
+-- a saved cookie: the members in the order of their names
 abbrev pub cookie_tree : Parts (List ℕ) → Data
 cookie_tree p =
     object
@@ -37,7 +38,7 @@ cookie_tree p =
     (member (codes "path") (path_tree p.path p.from_attr)
     (member (codes "raw_cookie") (string p.raw_cookie) no_members))))
 
--- the parts with another end
+-- the parts with another expiry
 abbrev pub with_ends : {S T : Type 0} → Parts S → Option T → Parts T
 with_ends p ends = record {
   raw_cookie = p.raw_cookie;
@@ -47,28 +48,30 @@ with_ends p ends = record {
   ends = ends;
 }
 
--- the parts with the moment's text in place of the moment
+-- the parts with the expiry as a string
 abbrev pub with_text : Parts Moment → Parts (List ℕ)
 with_text p = with_ends p (option_map moment_text p.ends)
 
--- the tree of a saved cookie whose moment, if it has one, is not before the year 0
+-- the JSON value of a saved cookie whose expiry is not before the year 0
 abbrev pub saved_tree : Parts Moment → Data
 saved_tree p = cookie_tree (with_text p)
 
+-- the JSON array of a list, if no expiry is before the year 0
 abbrev pub list_tree : List (Parts Moment) → Data
 list_tree ps = array (items_of (map saved_tree ps))
 
--- the moment, if there is one, is before the year 0, and has no text
+-- the expiry is before the year 0, so it has no string form
 abbrev pub ends_early : Option Moment → Bool
 ends_early ends = unwrap_or (option_map (λ m. int_lt m.year (pos 0)) ends) false
 
+-- the saved cookie expires before the year 0
 abbrev pub is_early : Parts Moment → Bool
 is_early p = ends_early p.ends
 
--- the tree of a saved cookie; an early moment is refused
+-- the JSON value of a saved cookie, or `Moment` if its expiry is before the year 0
 abbrev pub written : Parts Moment → Result Data SavedError
 written p = if is_early p then Err Fault.Moment else Ok (saved_tree p)
 
--- the tree of a list; a list with an early moment is refused
+-- the JSON value of a list, or `Moment` if an expiry is before the year 0
 abbrev pub list_written : List (Parts Moment) → Result Data SavedError
 list_written ps = if list_any is_early ps then Err Fault.Moment else Ok (list_tree ps)

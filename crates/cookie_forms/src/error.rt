@@ -1,24 +1,24 @@
-//! Why a saved form cannot be read or written.
+//! Why a saved cookie or list cannot be read or written.
 
 use std::alloc::{AllocError, AllocFailed};
 use std::fmt;
 
-/// Why a saved form cannot be read or written.
+/// Why a saved cookie or list cannot be read or written.
 #[derive(Clone, Copy, Debug, PartialEq, Eq)]
 pub enum SavedError {
-    /// A text is not JSON.
+    /// The input is not JSON.
     Json,
-    /// A value has not the shape of a saved cookie, or a float stands in it.
+    /// A JSON value does not have the shape of a saved cookie or list, or contains a float.
     Shape,
-    /// A text is not a list in RON.
+    /// The input is not a list of saved cookies in RON.
     Ron,
-    /// A text is no moment, or a moment lies before the year 0.
+    /// A string is not a valid time, or a time is before the year 0.
     Moment,
-    /// The allocator had no memory.
+    /// Out of memory.
     Memory,
 }
 
-/// As `{}` prints it, also where a width or other options are asked for.
+/// Prints the error message; a width or other format options have no effect.
 impl fmt::Display for SavedError {
     ghost use Rattle.std.specs.Prelude.{Some};
     ghost use Rattle.cookie_forms.specs.Errors.{saved_error_text};

@@ -1,4 +1,4 @@
-//! Laws of saved cookies, over their definitions alone.
+//! Laws about saved cookies, stated over definitions alone.
 ghost use Rattle.std.specs.List.{All};
 ghost use Rattle.std.specs.Option.{ok_or};
 ghost use Rattle.std.specs.Prelude.{◌≡◌, ◌≤◌, ◌≤ℤ◌, ℕ, pos, false, true, Err, List, [], ◌∷◌, ◌++◌, map, Ok, Some};
@@ -16,43 +16,46 @@ ghost use Rattle.cookie_forms.specs.declared.error.SavedError.TheVariants as Fau
 ghost use Rattle.cookie_forms.specs.declared.saved.Saved.{Saved};
 ghost use Rattle.jiff_core.specs.declared.civil.datetime.DateTime.{DateTime};
 
-/// The text of a moment from the year 0 on reads as that moment, its fraction cut.
+/// A time from the year 0 on, written and read back, is that time cut to whole seconds.
 pub fn moments_read_back()
     ensures { (moment : DateTime) → pos 0 ≤ℤ moment.date.year
         → moment_at (moment_text (moment_of moment)) ≡ Some (whole_seconds (moment_of moment)) }
 {}
 
-/// The tree that a saved cookie is written as is read as that cookie, its end cut to whole seconds.
+/// A saved cookie, written as JSON and read back, is unchanged but for its expiry, which is cut to
+/// whole seconds.
 pub fn reads_back()
     ensures { (saved : Parts Moment) (tree : Data) → EndsAtMoment saved → written saved ≡ Ok tree → saved_at tree ≡ Ok (cut saved) }
 {}
 
-/// The tree that a list is written as is read as that list, each end cut to whole seconds.
+/// A list, written as JSON and read back, is unchanged but for the expiries, which are cut to
+/// whole seconds.
 pub fn list_reads_back()
     ensures { (list : List (Parts Moment)) (tree : Data) → All EndsAtMoment list → list_written list ≡ Ok tree
         → list_at tree ≡ Ok (map cut list) }
 {}
 
-/// The end of a saved cookie is a moment of the calendar, so the two laws above hold for it.
+/// The expiry of every `Saved` is a valid time, so `reads_back` and `list_reads_back` apply to it.
 pub fn ends_are_moments()
     ensures { (saved : Saved) → EndsAtMoment (saved_view saved) }
 {}
 
-/// The tree that a saved cookie is written as has no float, so its compact text is fixed, and nests no deeper than `serde_json` reads,
-/// so each of its texts is read as that tree.
+/// The JSON of a saved cookie contains no float, so its compact form is determined, and nests no
+/// deeper than `serde_json` reads, so each of its JSON texts is read as the same value.
 pub fn trees_are_plain()
     ensures no_float { (saved : Parts Moment) (tree : Data) → written saved ≡ Ok tree → has_float tree ≡ false }
     ensures nests { (saved : Parts Moment) (tree : Data) → written saved ≡ Ok tree → depth tree ≤ max_depth }
 {}
 
-/// So does the tree that a list is written as.
+/// The JSON of a list contains no float, so its compact form is determined, and nests no deeper
+/// than `serde_json` reads, so each of its JSON texts is read as the same value.
 pub fn list_trees_are_plain()
     ensures no_float { (list : List (Parts Moment)) (tree : Data) → list_written list ≡ Ok tree → has_float tree ≡ false }
     ensures nests { (list : List (Parts Moment)) (tree : Data) → list_written list ≡ Ok tree → depth tree ≤ max_depth }
 {}
 
-/// A tree of the shape of a saved cookie is read, unless the text of its end is no moment; what is read has the shape; and what has
-/// it not is refused for that.
+/// A JSON value of the shape of a saved cookie is read, or `Moment` is returned if its expiry is
+/// not a valid time. Only values of that shape are read; any other is a `Shape` error.
 pub fn shapes_are_read()
     ensures read { (tree : Data) (parts : Parts (List ℕ)) → HasShape tree parts
         → saved_at tree ≡ ok_or (with_moment parts) Fault.Moment }
@@ -61,7 +64,8 @@ pub fn shapes_are_read()
     ensures refused { (tree : Data) → ((parts : Parts (List ℕ)) → ¬ HasShape tree parts) → saved_at tree ≡ Err Fault.Shape }
 {}
 
-/// The same of the tree of a list: it is refused for the shape of any item before the moment of any.
+/// A JSON value of the shape of a list is read, or `Moment` is returned if an expiry is not a valid
+/// time. Any other value is a `Shape` error: the shape of all items is tested before any time.
 pub fn list_shapes_are_read()
     ensures read { (tree : Data) (parts : List (Parts (List ℕ))) → HasListShape tree parts
         → list_at tree ≡ ok_or (all_with_moment parts) Fault.Moment }
@@ -71,12 +75,12 @@ pub fn list_shapes_are_read()
         → list_at tree ≡ Err Fault.Shape }
 {}
 
-/// A line feed behind a text changes nothing in what JSON reads of it.
+/// A line feed after a JSON text does not change what it is read as.
 pub fn line_feeds_are_blank()
     ensures { (text : List ℕ) → read (text ++ 10 ∷ []) ≡ read text }
 {}
 
-/// The compact text of the tree that a saved cookie is written as holds no control character, so it is one line.
+/// The compact JSON of a saved cookie contains no control character, so it is one line.
 pub fn compact_texts_are_lines()
     ensures { (saved : Parts Moment) (tree : Data) → written saved ≡ Ok tree → has_no_control (compact_text tree) ≡ true }
 {}

@@ -1,4 +1,4 @@
-//! The saved form of a cookie: trees of JSON, and the text of a moment.
+//! The saved form of a cookie, as JSON values, and the string form of its expiry time.
 #![tactic(auto)]
 
 mod error;

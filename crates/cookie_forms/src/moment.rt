@@ -1,4 +1,4 @@
-//! The text that a moment is saved as.
+//! The string that an expiry time is saved as.
 
 ghost use Rattle.std.specs.Prelude.{◌≡◌, ◌↔◌, ◌⊎◌, ◌+◌, ◌++◌, ◌^◌, ◌<◌, ◌≤◌, ◌<ℤ◌, ◌≤ℤ◌, pos, unsigned_abs, Err, IfErr, IfOk, IfSome, OnOk, drop, option_map, string_bytes};
 ghost use Rattle.cookie_words.specs.Moments.{moment_of};
@@ -9,8 +9,12 @@ use cookie_words::{calendar_date, clock_time, digits_value};
 use jiff::civil::DateTime;
 use std::alloc::{AllocError, Global};
 
-/// The text of a moment, as `2026-01-31T23:59:59Z`, its fraction cut. A moment before the year 0 is refused `Moment`, and no memory is
-/// wanted before that.
+/// Formats a time in UTC as `2026-01-31T23:59:59Z`, without its fraction of a second.
+///
+/// # Errors
+///
+/// - `Moment`: the time is before the year 0. Tested before anything is allocated.
+/// - `Memory`: out of memory.
 pub fn moment_text(alloc: Global, moment: DateTime) -> Result<String, SavedError>
     ensures text { IfOk result (λ text. string_bytes text ≡ moment_text (moment_of moment)) }
     ensures early { (moment.date.year <ℤ pos 0) ↔ (result ≡ Err SavedError.Moment) }
@@ -22,7 +26,7 @@ pub fn moment_text(alloc: Global, moment: DateTime) -> Result<String, SavedError
     Ok(written(alloc, moment)?)
 }
 
-// The text of a moment from the year 0 on.
+// Formats a time from the year 0 on.
 pub(crate) fn written(alloc: Global, moment: DateTime) -> Result<String, AllocError>
     requires { pos 0 ≤ℤ moment.date.year }
     ensures { IfOk result (λ text. string_bytes text ≡ moment_text (moment_of moment)) }
@@ -48,7 +52,7 @@ fn push_date(text: &mut String, moment: DateTime) -> Result<(), AllocError>
     push_two_digits(text, moment.day() as u8)
 }
 
-// Appends a year in four digits.
+// Appends the year in four digits.
 fn push_year(text: &mut String, year: i16) -> Result<(), AllocError>
     requires low { pos 0 ≤ℤ year }
     requires high { year ≤ℤ pos 9999 }
@@ -79,8 +83,10 @@ fn push_two_digits(text: &mut String, number: u8) -> Result<(), AllocError>
     text.push(char::from(b'0' + number % 10))
 }
 
-/// The moment that the text writes as `2026-01-31T23:59:59Z`, or with up to nine digits of the
-/// second's fraction as `2026-01-31T23:59:59.5Z`.
+/// Parses a time in UTC such as `2026-01-31T23:59:59Z`, or with one to nine digits of a fraction,
+/// such as `2026-01-31T23:59:59.5Z`.
+///
+/// Returns `None` for any other string and for a date or time that does not exist.
 #[tactic(auto, unfolding(crate::specs::MomentText::moment_at))]
 pub fn read_moment(text: &str) -> Option<DateTime>
     ensures { option_map moment_of result ≡ moment_at text.now }
@@ -101,7 +107,7 @@ pub fn read_moment(text: &str) -> Option<DateTime>
     Some(date.to_datetime(time))
 }
 
-// Whether the signs between the numbers stand where they belong.
+// Whether `-`, `-`, `T`, `:` and `:` are at their places.
 #[tactic(auto, unfolding(crate::specs::MomentText::has_signs))]
 fn has_signs(text: &[u8]) -> bool
     ensures { result ≡ has_signs text.now }
@@ -113,7 +119,7 @@ fn has_signs(text: &[u8]) -> bool
         && text.get(16) == Some(&b':')
 }
 
-// The number that the digits at a place write.
+// Parses `count` digits from index `from` on.
 #[tactic(auto, unfolding(crate::specs::MomentText::number_in))]
 fn number(text: &[u8], from: usize, count: usize) -> Option<u32>
     requires place { from + count < 2 ^ 64 }
@@ -125,7 +131,7 @@ fn number(text: &[u8], from: usize, count: usize) -> Option<u32>
     digits_value(text.get(from..from + count)?)
 }
 
-// The nanoseconds of what follows the seconds.
+// Parses what follows the seconds, as nanoseconds: `Z`, or a fraction and `Z`.
 #[tactic(auto, unfolding(crate::specs::MomentText::fraction_of))]
 fn fraction(text: &[u8]) -> Option<u32>
     ensures value { result ≡ fraction_of (drop 19 text.now) }
@@ -138,7 +144,7 @@ fn fraction(text: &[u8]) -> Option<u32>
     }
 }
 
-// The nanoseconds that the digits after the point write.
+// Converts one to nine digits of a fraction to nanoseconds.
 #[tactic(auto, unfolding(crate::specs::MomentText::nanoseconds_in))]
 fn nanoseconds(digits: &[u8]) -> Option<u32>
     ensures value { result ≡ nanoseconds_in digits.now }

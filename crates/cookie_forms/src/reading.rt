@@ -1,4 +1,4 @@
-//! Saved cookies out of trees of JSON.
+//! Reads saved cookies from JSON values.
 ghost use Rattle.std.specs.Prelude.{◌≡◌, ◌⊎◌, [], IsOk, IfOk, IfErr, Ok, Err, map, option_map, option_and_then, is_some, None, Some};
 ghost use Rattle.serde_json.specs.View.{view, items_view, members_view};
 ghost use Rattle.serde_json.specs.Written.{has_float};
@@ -13,7 +13,7 @@ use serde_json::Value;
 use serde_json::value::Map;
 use std::alloc::{AllocError, Global};
 
-// The parts of a saved cookie as they stand in its tree.
+// The parts of a saved cookie, borrowed from its JSON value.
 #[derive(Clone, Copy)]
 struct LentParts<'a> {
     raw_cookie: &'a str,
@@ -23,7 +23,7 @@ struct LentParts<'a> {
     ends: Option<&'a str>,
 }
 
-// A domain as it stands in a tree.
+// A domain, borrowed from its JSON value.
 #[derive(Clone, Copy)]
 enum LentDomain<'a> {
     HostOnly(&'a str),
@@ -32,9 +32,16 @@ enum LentDomain<'a> {
     Empty,
 }
 
-/// The saved cookie of a tree: an object of `raw_cookie`, `path`, `domain` and `expires`, whose further members are passed over.
-/// `Shape` where the tree is none, or a float stands anywhere in it, and else `Moment` where the text of its end is no moment; no
-/// memory is wanted before that.
+/// Reads a saved cookie from a JSON object with `raw_cookie`, `path`, `domain` and `expires`.
+///
+/// Other members are ignored.
+///
+/// # Errors
+///
+/// In the order in which they are checked, the first two before anything is allocated:
+/// - `Shape`: `value` does not have the shape of a saved cookie, or contains a float anywhere.
+/// - `Moment`: the expiry is not a valid time.
+/// - `Memory`: out of memory.
 pub fn from_value(alloc: Global, value: &Value) -> Result<Saved, SavedError>
     ensures saved { IfOk result (λ saved. saved_at (view value.now) ≡ Ok (saved_view saved)) }
     ensures refused { IfErr result (λ e. (e ≡ SavedError.Memory) ⊎ (saved_at (view value.now) ≡ Err e)) }
@@ -49,8 +56,14 @@ pub fn from_value(alloc: Global, value: &Value) -> Result<Saved, SavedError>
     }
 }
 
-/// The saved cookies of a list's tree: an array of theirs. `Shape` where the tree is none, or a float stands anywhere in it, and else
-/// `Moment` where the text of an end is no moment; no memory is wanted before that, nor for no cookies.
+/// Reads a list of saved cookies from a JSON array of objects as [`from_value`] reads.
+///
+/// # Errors
+///
+/// In the order in which they are checked, the first two before anything is allocated:
+/// - `Shape`: `value` is not such an array, or contains a float anywhere.
+/// - `Moment`: an expiry is not a valid time.
+/// - `Memory`: out of memory. It never happens for an empty list.
 pub fn list_from_value(alloc: Global, value: &Value) -> Result<Vec<Saved>, SavedError>
     ensures saved { IfOk result (λ list. list_at (view value.now) ≡ Ok (map saved_view list.items)) }
     ensures refused { IfErr result (λ e. (e ≡ SavedError.Memory) ⊎ (list_at (view value.now) ≡ Err e)) }
@@ -66,7 +79,7 @@ pub fn list_from_value(alloc: Global, value: &Value) -> Result<Vec<Saved>, Saved
     }
 }
 
-// The saved cookies of these trees.
+// Reads these items: `Shape` for any item comes before `Moment` for any.
 fn list_of(alloc: Global, items: &[Value]) -> Result<Vec<Saved>, SavedError>
     ensures saved { IfOk result (λ list. then_read all_with_moment (all_parts_in (items_view items.now))
         ≡ Ok (map saved_view list.items)) }
@@ -85,7 +98,7 @@ fn list_of(alloc: Global, items: &[Value]) -> Result<Vec<Saved>, SavedError>
     all_in(alloc, items)
 }
 
-// Whether each tree has the shape of a saved cookie.
+// Whether each item has the shape of a saved cookie; its expiry may be any string.
 #[tactic(auto, using(crate::proofs::ReadLists::shape_steps))]
 fn all_have_shape(items: &[Value]) -> bool
     ensures { result ≡ is_some (all_parts_in (items_view items.now)) }
@@ -98,7 +111,7 @@ fn all_have_shape(items: &[Value]) -> bool
     true
 }
 
-// Whether each tree is that of a saved cookie.
+// Whether each item is a saved cookie, with a valid expiry.
 #[tactic(auto, using(crate::proofs::ReadLists::flag_steps))]
 fn all_read(items: &[Value]) -> bool
     ensures { result ≡ is_some (all_in (items_view items.now)) }
@@ -116,14 +129,14 @@ fn all_read(items: &[Value]) -> bool
     true
 }
 
-// Whether the text of the end is a moment.
+// Whether the expiry is a valid time, or the cookie a session cookie.
 fn has_moment(parts: LentParts<'_>) -> bool
     ensures { result ≡ is_some (with_moment (lent_parts parts.entry)) }
 {
     expiry_at(parts.ends).is_some()
 }
 
-// The saved cookies of these trees, where all of them read.
+// Reads these items, all of which are known to be saved cookies.
 #[tactic(auto, using(crate::proofs::ReadLists::read_steps))]
 fn all_in(alloc: Global, items: &[Value]) -> Result<Vec<Saved>, SavedError>
     ensures saved { IfOk result (λ list. all_in (items_view items.now) ≡ Some (map saved_view list.items)) }
@@ -140,7 +153,7 @@ fn all_in(alloc: Global, items: &[Value]) -> Result<Vec<Saved>, SavedError>
     Ok(list)
 }
 
-// The saved cookie of these parts, where the text of its end is a moment.
+// Copies the parts into a saved cookie, or returns `Moment` if the expiry is not a valid time.
 fn saved_from(alloc: Global, parts: LentParts<'_>) -> Result<Saved, SavedError>
     ensures saved { IfOk result (λ saved. with_moment (lent_parts parts.entry) ≡ Some (saved_view saved)) }
     ensures refused { IfErr result (λ e. (e ≡ SavedError.Memory)
@@ -153,7 +166,7 @@ fn saved_from(alloc: Global, parts: LentParts<'_>) -> Result<Saved, SavedError>
     }
 }
 
-// The end that a text writes, or the end of the session without one.
+// Parses the expiry; `None` stands for a session cookie.
 fn expiry_at(ends: Option<&str>) -> Option<SavedExpiry>
     ensures { option_map expiry_view result ≡ ends_at (option_map (λ text. text.now) ends.entry) }
 {
@@ -163,7 +176,7 @@ fn expiry_at(ends: Option<&str>) -> Option<SavedExpiry>
     }
 }
 
-// The parts in texts of their own, with this end.
+// Copies the parts, with this expiry.
 fn copied(alloc: Global, parts: LentParts<'_>, expires: SavedExpiry) -> Result<Saved, AllocError>
     ensures { IfOk result (λ saved. saved_view saved ≡ with_ends (lent_parts parts.entry) (expiry_view expires)) }
 {
@@ -176,7 +189,7 @@ fn copied(alloc: Global, parts: LentParts<'_>, expires: SavedExpiry) -> Result<S
     })
 }
 
-// The domain in a text of its own.
+// Copies the domain.
 fn domain_copied(alloc: Global, domain: LentDomain<'_>) -> Result<SavedDomain, AllocError>
     ensures { IfOk result (λ copy. domain_view copy ≡ lent_domain domain.entry) }
 {
@@ -188,7 +201,7 @@ fn domain_copied(alloc: Global, domain: LentDomain<'_>) -> Result<SavedDomain, A
     })
 }
 
-// The parts of an object that has the shape of a saved cookie.
+// Borrows the parts of an object that has the shape of a saved cookie.
 #[tactic(auto, unfolding(crate::specs::ReadTrees::parts_in))]
 fn parts_in(value: &Value) -> Option<LentParts<'_>>
     ensures { option_map lent_parts result ≡ parts_in (view value.now) }
@@ -206,7 +219,7 @@ fn parts_in(value: &Value) -> Option<LentParts<'_>>
     })
 }
 
-// A path, and whether a Path attribute set it.
+// Reads a path, and whether a Path attribute set it: `["/", true]`.
 #[tactic(auto, unfolding(crate::specs::ReadTrees::path_in))]
 fn path_in(value: &Value) -> Option<(&str, bool)>
     ensures { option_map (λ p. (p.0.now, p.1)) result ≡ path_in (view value.now) }
@@ -215,7 +228,7 @@ fn path_in(value: &Value) -> Option<(&str, bool)>
     Some((path.as_str()?, from_attr.as_bool()?))
 }
 
-// The items where they are two.
+// The items if there are exactly two.
 fn pair_in(items: &[Value]) -> Option<(&Value, &Value)>
     ensures { option_map (λ p. (view p.0.now, view p.1.now)) result ≡ pair_in (items_view items.now) }
 {
@@ -226,7 +239,7 @@ fn pair_in(items: &[Value]) -> Option<(&Value, &Value)>
     }
 }
 
-// The domain of a name, or of an object of one member.
+// Reads a domain: `"NotPresent"`, `"Empty"`, or `{"HostOnly": ".."}` or `{"Suffix": ".."}`.
 #[tactic(auto, unfolding(crate::specs::ReadTrees::domain_in))]
 fn domain_in(value: &Value) -> Option<LentDomain<'_>>
     ensures { option_map lent_domain result ≡ domain_in (view value.now) }
@@ -237,7 +250,7 @@ fn domain_in(value: &Value) -> Option<LentDomain<'_>>
     }
 }
 
-// The domain that has no text.
+// Reads a domain without a string.
 fn domain_named(name: &str) -> Option<LentDomain<'_>>
     ensures { option_map lent_domain result ≡ domain_named name.now }
 {
@@ -248,7 +261,7 @@ fn domain_named(name: &str) -> Option<LentDomain<'_>>
     }
 }
 
-// The domain that has one.
+// Reads a domain with a string.
 fn domain_tagged(value: &Value) -> Option<LentDomain<'_>>
     ensures { option_map lent_domain result ≡ option_and_then domain_tagged (tagged_in (view value.now)) }
 {
@@ -260,7 +273,7 @@ fn domain_tagged(value: &Value) -> Option<LentDomain<'_>>
     }
 }
 
-// The text of an end, and `Some(None)` for the end of the session.
+// Reads an expiry, not parsed yet: `Some(None)` for a session cookie.
 #[tactic(auto, unfolding(crate::specs::ReadTrees::ends_in))]
 fn ends_in(value: &Value) -> Option<Option<&str>>
     ensures { option_map (λ o. option_map (λ text. text.now) o) result ≡ ends_in (view value.now) }
@@ -271,7 +284,7 @@ fn ends_in(value: &Value) -> Option<Option<&str>>
     }
 }
 
-// The end of the session.
+// Reads `SessionEnd`.
 fn ends_named(name: &str) -> Option<Option<&str>>
     ensures { option_map (λ o. option_map (λ text. text.now) o) result ≡ ends_named name.now }
 {
@@ -281,7 +294,7 @@ fn ends_named(name: &str) -> Option<Option<&str>>
     }
 }
 
-// The end at a moment.
+// Reads `{"AtUtc": ".."}`.
 fn ends_tagged(value: &Value) -> Option<Option<&str>>
     ensures { option_map (λ o. option_map (λ text. text.now) o) result
         ≡ option_and_then ends_tagged (tagged_in (view value.now)) }
@@ -293,14 +306,14 @@ fn ends_tagged(value: &Value) -> Option<Option<&str>>
     }
 }
 
-// The name and the text of an object's one member, where it is a text.
+// The name and string of an object's only member.
 fn tagged_in(value: &Value) -> Option<(&str, &str)>
     ensures { option_map (λ p. (p.0.now, p.1.now)) result ≡ tagged_in (view value.now) }
 {
     only_text(value.as_object()?)
 }
 
-// The name and the text of the one member, where it is a text.
+// The name and string of the only member.
 fn only_text(members: &Map<String, Value>) -> Option<(&str, &str)>
     ensures { option_map (λ p. (p.0.now, p.1.now)) result ≡ only_text (members_view members.now.entries) }
 {
@@ -311,7 +324,7 @@ fn only_text(members: &Map<String, Value>) -> Option<(&str, &str)>
     Some((tag.as_str(), text.as_str()?))
 }
 
-// Whether a float stands anywhere in the tree.
+// Whether the value contains a float anywhere.
 fn holds_float(value: &Value) -> bool
     ensures { result ≡ has_float (view value.now) }
 {

@@ -1,4 +1,4 @@
-//! Lists of saved cookies as texts of JSON.
+//! Formats lists of saved cookies as JSON.
 ghost use Rattle.std.specs.Prelude.{◌≡◌, ◌⊎◌, Err, IfErr, IfOk, map, Ok, Some, string_bytes};
 ghost use Rattle.serde_json.specs.Data.{Data};
 ghost use Rattle.serde_json.specs.Read.{read};
@@ -9,8 +9,14 @@ ghost use Rattle.cookie_forms.specs.WrittenTrees.{list_written};
 use crate::{Saved, SavedError, list_to_value};
 use std::alloc::Global;
 
-/// The text of a list's tree, with a line for each item and member, two spaces further in at each level, and no line feed at its end. An
-/// end before the year 0 anywhere in the list is refused `Moment`, and no memory is wanted before that.
+/// Formats a list as JSON, one line for each item and member, without a line feed at the end.
+///
+/// Each level is indented by two spaces.
+///
+/// # Errors
+///
+/// - `Moment`: an expiry is before the year 0. Tested before anything is allocated.
+/// - `Memory`: out of memory.
 pub fn list_to_text(alloc: Global, list: &[Saved]) -> Result<String, SavedError>
     ensures text { IfOk result (λ text. (tree : Data) × (list_written (map saved_view list.now) ≡ Ok tree)
         × (string_bytes text ≡ pretty_text tree) × (read (string_bytes text) ≡ Some tree)) }

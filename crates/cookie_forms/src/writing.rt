@@ -1,4 +1,4 @@
-//! Saved cookies as trees of JSON.
+//! Converts saved cookies to JSON values.
 ghost use Rattle.std.specs.Prelude.{◌≡◌, ◌≢◌, ◌⊎◌, [], OnErr, IfOk, IfErr, Ok, Err, false, map, option_map};
 ghost use Rattle.std.specs.List.{list_any};
 ghost use Rattle.serde_json.specs.View.{view};
@@ -10,8 +10,12 @@ use crate::{Saved, SavedDomain, SavedError, SavedExpiry, moment};
 use serde_json::{Value, json};
 use std::alloc::{AllocError, Global};
 
-/// The tree of a saved cookie: an object of `domain`, `expires`, `path` and `raw_cookie`. An end before the year 0 is refused
-/// `Moment`, and no memory is wanted before that.
+/// Converts a saved cookie to a JSON object with `domain`, `expires`, `path` and `raw_cookie`.
+///
+/// # Errors
+///
+/// - `Moment`: the expiry is before the year 0. Tested before anything is allocated.
+/// - `Memory`: out of memory.
 pub fn to_value(alloc: Global, saved: &Saved) -> Result<Value, SavedError>
     ensures tree { IfOk result (λ v. written (saved_view saved.now) ≡ Ok (view v)) }
     ensures refused { IfErr result (λ e. (e ≡ SavedError.Memory) ⊎ (written (saved_view saved.now) ≡ Err e)) }
@@ -23,8 +27,12 @@ pub fn to_value(alloc: Global, saved: &Saved) -> Result<Value, SavedError>
     Ok(value_of(alloc, saved)?)
 }
 
-/// The tree of a list of saved cookies: an array of theirs, in order. An end before the year 0 anywhere in it is refused `Moment`,
-/// and no memory is wanted before that, nor for no cookies.
+/// Converts a list of saved cookies to a JSON array of objects as of [`to_value`], in order.
+///
+/// # Errors
+///
+/// - `Moment`: an expiry is before the year 0. Tested before anything is allocated.
+/// - `Memory`: out of memory. It never happens for an empty list.
 pub fn list_to_value(alloc: Global, list: &[Saved]) -> Result<Value, SavedError>
     ensures tree { IfOk result (λ v. list_written (map saved_view list.now) ≡ Ok (view v)) }
     ensures refused { IfErr result (λ e. (e ≡ SavedError.Memory) ⊎ (list_written (map saved_view list.now) ≡ Err e)) }
@@ -37,7 +45,7 @@ pub fn list_to_value(alloc: Global, list: &[Saved]) -> Result<Value, SavedError>
     Ok(Value::Array(values_of(alloc, list)?))
 }
 
-// Whether a moment of the list is before the year 0.
+// Whether any expiry in the list is before the year 0.
 fn any_early(list: &[Saved]) -> bool
     ensures { result ≡ list_any is_early (map saved_view list.now) }
 {
@@ -49,7 +57,7 @@ fn any_early(list: &[Saved]) -> bool
     false
 }
 
-// The trees of saved cookies from the year 0 on.
+// Converts saved cookies whose expiry is not before the year 0.
 fn values_of(alloc: Global, list: &[Saved]) -> Result<Vec<Value>, SavedError>
     requires { list_any is_early (map saved_view list.now) ≡ false }
     ensures trees { IfOk result (λ v. map view v.items ≡ map saved_tree (map saved_view list.now)) }
@@ -63,7 +71,7 @@ fn values_of(alloc: Global, list: &[Saved]) -> Result<Vec<Value>, SavedError>
     Ok(items)
 }
 
-// Whether the moment is before the year 0.
+// Whether the expiry is before the year 0.
 fn is_early(saved: &Saved) -> bool
     ensures { result ≡ is_early (saved_view saved.now) }
 {
@@ -73,7 +81,7 @@ fn is_early(saved: &Saved) -> bool
     }
 }
 
-// The tree of a saved cookie from the year 0 on.
+// Converts a saved cookie whose expiry is not before the year 0.
 fn value_of(alloc: Global, saved: &Saved) -> Result<Value, AllocError>
     requires { is_early (saved_view saved.now) ≡ false }
     ensures { IfOk result (λ v. view v ≡ saved_tree (saved_view saved.now)) }
@@ -88,7 +96,7 @@ fn value_of(alloc: Global, saved: &Saved) -> Result<Value, AllocError>
     })
 }
 
-// The tree of a domain.
+// Converts a domain.
 fn domain_value(alloc: Global, domain: &SavedDomain) -> Result<Value, AllocError>
     ensures { IfOk result (λ v. view v ≡ domain_tree (domain_view domain.now)) }
 {
@@ -100,7 +108,7 @@ fn domain_value(alloc: Global, domain: &SavedDomain) -> Result<Value, AllocError
     }
 }
 
-// The tree of an end from the year 0 on.
+// Converts an expiry that is not before the year 0.
 fn ends_value(alloc: Global, expires: SavedExpiry) -> Result<Value, AllocError>
     requires { ends_early (expiry_view expires) ≡ false }
     ensures { IfOk result (λ v. view v ≡ ends_tree (option_map moment_text (expiry_view expires))) }

@@ -1,11 +1,14 @@
-//! The program `cookie_jar`: runs a script of cookies that come and of URLs that ask for them, or converts lines of JSON into a list
-//! in RON.
+//! The program `cookie_jar`: runs a script of cookies that are received and of URLs that are
+//! requested, or converts lines of JSON into a RON list.
 //!
-//! Each line of standard input is `now MOMENT`, `set URL TEXT`, `get URL`, `list`, `remove DOMAIN PATH NAME` or `clear`; the
-//! answers go to standard output.
-//! With `--suffixes FILE` the store obeys the public suffix list of that file, and with `--limit N` no insertion leaves more than N
-//! cookies of its domain. With `--convert` standard input is no script, but lines of JSON that older programs saved, and the list of
-//! their cookies in RON goes to standard output.
+//! Each line of standard input is `now TIME`, `set URL VALUE`, `get URL`, `list`,
+//! `remove DOMAIN PATH NAME` or `clear`, where `VALUE` is a `Set-Cookie` header value. The output
+//! goes to standard output.
+//!
+//! - `--suffixes FILE`: puts the store under the public suffix list of that file.
+//! - `--limit N`: limits each domain to N cookies. An insertion evicts the surplus.
+//! - `--convert`: reads lines of JSON, as older programs save cookies, in place of a script, and
+//!   writes a RON list of their cookies.
 #![tactic(auto)]
 
 use cookie_device::Counted;
@@ -26,7 +29,7 @@ fn main(rt: HostRuntime) -> ExitCode {
     }
 }
 
-// Does what the words of the command line ask.
+// Does what the command-line arguments say.
 fn work(rt: &HostRuntime) -> Result<(), MainFault> {
     let words: Vec<String> = env::args(rt)
         .map_err(arguments::words_fault)?
@@ -50,7 +53,7 @@ fn work(rt: &HostRuntime) -> Result<(), MainFault> {
     Ok(run::run(alloc, &mut source, &mut sink, list, options.limit)?)
 }
 
-// The public suffix list of a file.
+// Reads the public suffix list of a file.
 fn read_list(rt: &HostRuntime, file: &str) -> Result<List, MainFault> {
     let bytes = fs::read(rt, file).map_err(suffixes::file_fault)?;
     suffixes::list_of(rt.alloc(), bytes.as_slice())

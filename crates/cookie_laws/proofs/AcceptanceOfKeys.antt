@@ -1,4 +1,4 @@
--- What becomes of a store with those rows whose keys pass a test, as a cookie is accepted.
+-- Inserting a cookie into a store cut to the rows whose keys pass a test.
 use Rattle.std.proofs.Common.{◌≡◌, Bool, true, false, not, Option, Result, Ok, Err, ◌∙◌, refl, ap}
 use Rattle.std.proofs.lemmas.Bool.{cond_both}
 use Rattle.url.specs.Parts.{Parts}
@@ -39,7 +39,7 @@ by_domain-HasKey : (key : Key) (url : Parts) (cookie : Row) → key_of cookie �
 by_domain-HasKey key url cookie same =
     cond_both (domain_matches cookie.domain url) (Ok cookie) (Err DomainMismatch) (HasKey key) (λ _. same) (λ _. tt)
 
--- a cookie that may enter has the key that it came with
+-- an admitted cookie keeps its key
 pub admitted-HasKey : (suffixes : Option RuleList) (url : Parts) (cookie : Row) → HasKey (key_of cookie) (admitted suffixes url cookie)
 admitted-HasKey suffixes url cookie =
     let key = key_of cookie in
@@ -52,7 +52,7 @@ abbrev pub passing_outcome : (Key → Bool) → Outcome → Outcome
 passing_outcome test outcome = record { reply = outcome.reply; store = passing_store test outcome.store }
 
 module _ (test : Key → Bool) (by_domain : IsByDomain test) where
-  -- a cookie that may enter, whose key passes, has the same outcome among the rows that pass
+  -- an admitted cookie whose key passes has the same outcome among the rows that pass
   entered-passing : (key : Key) (made : Result Row CookieError) (url : Parts) (now : Moment) (store : Contents) → HasKey key made → test key ≡ true
       → entered made url now (passing_store test store) ≡ passing_outcome test (entered made url now store)
   entered-passing key (Err refusal) url now store same here = refl
@@ -69,7 +69,7 @@ module _ (test : Key → Bool) (by_domain : IsByDomain test) where
   entered-other key (Ok cookie) url now store same away =
       store_by-other test by_domain (reply_at (row_of (key_of cookie) store.rows) cookie url now) store cookie now (ap test same ∙ away)
 
-  -- the same of any cookie that comes
+  -- the same for any received cookie
   pub accept-passing : (store : Contents) (cookie : Row) (url : Parts) (now : Moment) → test (key_of cookie) ≡ true
       → accept (passing_store test store) cookie url now ≡ passing_outcome test (accept store cookie url now)
   unfolding accept

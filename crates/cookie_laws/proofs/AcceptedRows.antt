@@ -1,4 +1,4 @@
--- What holds of each cookie that a run puts, and of it with another end, holds of each row that the run leaves.
+-- If P holds of each cookie that a run stores, and of it once expired, P holds of each row after the run.
 use Rattle.std.proofs.Common.{◌≡◌, ℕ, zero, suc, Bool, not, ◌&&◌, List, [], ◌∷◌, Some, Result, Ok, Err, inl, inr, refl, ap, subst}
 use Rattle.std.specs.List.{list_any, All}
 use Rattle.std.proofs.lemmas.Bool.{cond_both}
@@ -46,7 +46,7 @@ module _ {T : Type 0} (P : T → Type 0) where
       (λ _. rest)
       (λ _. All-cons P x (removed test xs) (All-head P x xs old) (All-removed test xs rest))
 
--- a reply that a cookie was put says so
+-- a result that stores a cookie is reported by its reply
 says_put : (reply : Result StoreAction CookieError) → IsPut reply → SaysPut (Some (Stored reply))
 says_put reply (inl is) = inl (ap (λ r. Some (Stored r)) is)
 says_put reply (inr is) = inr (ap (λ r. Some (Stored r)) is)
@@ -78,13 +78,13 @@ step-suffixes (Insert cookie url now) store = accept-suffixes store cookie url n
 step-suffixes (Remove key) store = refl
 step-suffixes Clear store = refl
 
--- a call that puts a cookie does so one place later where another stands before
+-- a call that stores a cookie does so one position later if another call precedes it
 Accepts-later : (call : Call) (calls : List Call) (store : Contents) (place : ℕ) (from : Parts) (cookie : Row)
     → Accepts calls (step call store).store place from cookie → Accepts (call ∷ calls) store (suc place) from cookie
 Accepts-later call calls store place from cookie ((at, is, brings), says) =
     ((at, is, subst (λ suffixes. Brings suffixes at from cookie) (step-suffixes call store) brings), says)
 
--- what holds of a row, and of it once ended
+-- what holds of a row, and of it once expired
 module _ (P : Row → Type 0) (ends : (row : Row) → P row → P (ended row)) where
   -- after a new row is placed
   All-placed : (rows : List Row) (cookie : Row) → P cookie → All P rows → All P (placed rows cookie)
@@ -94,7 +94,7 @@ module _ (P : Row → Type 0) (ends : (row : Row) → P row → P (ended row)) w
       (λ _. All-after_last P (in_group key) rows cookie new old)
       (λ _. All-after_last P (in_domain key) rows cookie new old)
 
-  -- after a cookie is put
+  -- after a cookie is stored
   All-put : (rows : List Row) (cookie : Row) → P cookie → All P rows → All P (put rows cookie)
   All-put rows cookie new old =
       let key = key_of cookie in
@@ -102,7 +102,7 @@ module _ (P : Row → Type 0) (ends : (row : Row) → P row → P (ended row)) w
       (λ _. All-changed P (has_key key) (λ _. cookie) (λ _ _. new) rows old)
       (λ _. All-placed rows cookie new old)
 
-  -- after a reply to a cookie, which holds of it where it is put
+  -- after a result for a cookie; P holds of the cookie if it is stored
   All-store_by : (reply : Result StoreAction CookieError) (store : Contents) (cookie : Row) (now : Moment) → (IsPut reply → P cookie) → All P store.rows → All P (store_by reply store cookie now).rows
   All-store_by (Ok Inserted) store cookie now new old =
       let rest = without (leaving store now (key_of cookie)) store in
@@ -111,21 +111,21 @@ module _ (P : Row → Type 0) (ends : (row : Row) → P row → P (ended row)) w
   All-store_by (Ok ExpiredExisting) store cookie now new old = All-changed P (has_key (key_of cookie)) ended ends store.rows old
   All-store_by (Err refusal) store cookie now new old = old
 
-  -- after a cookie that may enter, if there is one
+  -- after an admitted cookie, or an error
   All-entered : (made : Result Row CookieError) (url : Parts) (now : Moment) (store : Contents)
       → ((cookie : Row) → made ≡ Ok cookie → IsPut (entered made url now store).reply → P cookie) → All P store.rows → All P (entered made url now store).store.rows
   All-entered (Err refusal) url now store new old = old
   All-entered (Ok cookie) url now store new old =
       All-store_by (reply_at (row_of (key_of cookie) store.rows) cookie url now) store cookie now (new cookie refl) old
 
-  -- after a cookie that comes
+  -- after a received cookie
   All-accept : (store : Contents) (given : Row) (url : Parts) (now : Moment)
       → ((cookie : Row) → admitted store.suffixes url given ≡ Ok cookie → IsPut (accept store given url now).reply → P cookie)
       → All P store.rows → All P (accept store given url now).store.rows
   unfolding accept
   All-accept store given url now new old = All-entered (admitted store.suffixes url given) url now store new old
 
-  -- after one that comes if it was made
+  -- after a received cookie, or the error from making it
   All-received : (store : Contents) (made : Result Row CookieError) (url : Parts) (now : Moment)
       → ((cookie : Row) → and_then made (admitted store.suffixes url) ≡ Ok cookie → IsPut (received store made url now).reply → P cookie)
       → All P store.rows → All P (received store made url now).store.rows

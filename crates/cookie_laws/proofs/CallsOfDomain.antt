@@ -34,7 +34,7 @@ pub same_domain_rows : (domain : List ℕ) (calls : List Call) (store : Contents
     → domain_rows domain (rows_after calls store) ≡ domain_rows domain (rows_after (domain_calls domain calls) store)
 same_domain_rows domain calls store = ap (λ after. after.rows) (same_stores (of_domain domain) calls store)
 
--- so do their keys by making
+-- so does their creation order
 pub same_domain_keys : (domain : List ℕ) (calls : List Call) (store : Contents)
     → domain_keys domain (store_after calls store).made ≡ domain_keys domain (store_after (domain_calls domain calls) store).made
 same_domain_keys domain calls store = ap (λ after. after.made) (same_stores (of_domain domain) calls store)

@@ -1,4 +1,4 @@
--- What is given after calls came from the host that it is given for, or is for all hosts that a domain covers.
+-- A cookie given after calls came from the host it is given for, or is a domain cookie that covers both hosts.
 use Rattle.std.proofs.Common.{◌≡◌, ℕ, Bool, true, false, not, List, [], Option, Some, None, Result, Ok, Err, IfOk, ◌⊎◌, ⊎_elim, inl, inr, ◌≤ℤ◌, ◌∙◌, refl, sym, ap, subst, arith}
 use Rattle.std.specs.List.{All}
 use Rattle.std.specs.Str.{bytes_eq}
@@ -22,7 +22,7 @@ use Rattle.cookie_laws.specs.Runs.{Call, Set, Insert, Remove, Clear, rows_after}
 use Rattle.cookie_laws.proofs.AcceptedRows.{All-rows_after}
 use Rattle.cookie_laws.proofs.CoveredHosts.{Covers-covers}
 
--- where the cookie is for all hosts that a domain covers, that is no public suffix on the list
+-- a domain cookie has a domain that is not listed as a public suffix
 abbrev pub SharesUnlisted : Option RuleList → Row → Type 0
 SharesUnlisted suffixes cookie = (domain : List ℕ) → cookie.domain ≡ Suffix domain → IsUnlisted suffixes domain
 
@@ -31,7 +31,7 @@ pub record MayCome (suffixes : Option RuleList) (url : Parts) (cookie : Row) : T
   pub matches : domain_matches cookie.domain url ≡ true
   pub shares : SharesUnlisted suffixes cookie
 
--- what holds of the cookie that was made, if one was
+-- what holds of the made cookie, if there is one
 pub IfOk_at : (P : Row → Type 0) (made : Result Row CookieError) (cookie : Row) → IfOk made P → made ≡ Ok cookie → P cookie
 IfOk_at P made cookie holds is = subst (λ r. IfOk r P) is holds
 
@@ -41,7 +41,7 @@ and_then-IfOk : (P : Row → Type 0) (made : Result Row CookieError) (next : Row
 and_then-IfOk P (Ok cookie) next after = after cookie refl
 and_then-IfOk P (Err refusal) next after = tt
 
--- the list lets no public suffix through that hosts share
+-- step 5 admits no domain cookie with a listed domain
 by_list-shares : (suffixes : Option RuleList) (url : Parts) (cookie : Row) → IfOk (by_list suffixes url cookie) (SharesUnlisted suffixes)
 by_list-shares suffixes url cookie =
     let own : Row = record cookie { domain = HostOnly (domain_text cookie.domain) } in
@@ -50,13 +50,13 @@ by_list-shares suffixes url cookie =
     (λ _. cond_both (host_is_identical cookie.domain url) (Ok own) (Err PublicSuffix) (λ r. IfOk r (SharesUnlisted suffixes))
     (λ _ domain is. cc) (λ _. tt))
 
--- the host lets through what is for it
+-- step 6 admits what matches the host
 by_domain-MayCome : (suffixes : Option RuleList) (url : Parts) (cookie : Row) → SharesUnlisted suffixes cookie → IfOk (by_domain url cookie) (MayCome suffixes url)
 by_domain-MayCome suffixes url cookie shares =
     cond_both (domain_matches cookie.domain url) (Ok cookie) (Err DomainMismatch) (λ r. IfOk r (MayCome suffixes url))
     (λ matches. record { matches = matches; shares = shares }) (λ _. tt)
 
--- a cookie that may enter may come from its URL
+-- an admitted cookie may come from its URL
 pub admitted-MayCome : (suffixes : Option RuleList) (url : Parts) (cookie : Row) → IfOk (admitted suffixes url cookie) (MayCome suffixes url)
 admitted-MayCome suffixes url cookie =
     let made = and_then (by_scheme url cookie) (by_list suffixes url) in
@@ -77,22 +77,22 @@ Brings-MayCome suffixes (Insert given url now) from cookie brings =
 Brings-MayCome suffixes (Remove key) from cookie brings = absurd brings
 Brings-MayCome suffixes Clear from cookie brings = absurd brings
 
--- a call of the run put the row, which may have ended since
+-- a call of the run stored the row, which may have been expired since
 abbrev WasAccepted : List Call → Contents → Row → Type 0
 WasAccepted calls store row =
     (place : ℕ) × (from : Parts) × (accepted : Row) × Accepts calls store place from accepted × IsPutOrEnded accepted row
 
--- a row that was put stays so as it ends
+-- a stored row remains so when it expires
 ends-IsPutOrEnded : (accepted row : Row) → IsPutOrEnded accepted row → IsPutOrEnded accepted (ended row)
 ends-IsPutOrEnded accepted row (inl is) = inr (ap ended is)
 ends-IsPutOrEnded accepted row (inr is) = inr (ap ended is)
 
--- and it has the domain that was put
+-- and it has the domain that was stored
 same_domain : (accepted row : Row) → IsPutOrEnded accepted row → accepted.domain ≡ row.domain
 same_domain accepted row (inl is) = sym (ap (λ c. c.domain) is)
 same_domain accepted row (inr is) = sym (ap (λ c. c.domain) is)
 
--- each row was put
+-- each row was stored
 rows-accepted : (calls : List Call) (store : Contents) → store.rows ≡ [] → All (WasAccepted calls store) (rows_after calls store)
 rows-accepted calls store empty =
     All-rows_after (WasAccepted calls store) (λ row was. (was.0, was.1, was.2, was.3, ends-IsPutOrEnded was.2 row was.4)) calls store
@@ -137,7 +137,7 @@ given-matches url now row is =
     let matches = (and_parts _ _ (and_parts _ _ (and_parts _ _ is).0).0).1 in
     (and_parts _ _ (and_parts _ _ (and_parts _ _ matches).0).0).0
 
--- a row that was put and is given is confined
+-- a row that was stored and is given is confined
 row-confined : (url : Parts) (now : Moment) (calls : List Call) (store : Contents) (row : Row)
     → WasAccepted calls store row → is_given url now row ≡ true → IsConfined calls store url row
 row-confined url now calls store row was is =
@@ -157,15 +157,15 @@ given-confined url now calls store empty k d within =
     let was = All-filter (is_given url now) (WasAccepted calls store) rows (rows-accepted calls store empty) k d within in
     row-confined url now calls store _ was (filter_passes (is_given url now) rows k d within)
 
--- a row that is given has not ended
+-- a row that is given has not expired
 given-live : (url : Parts) (now : Moment) (row : Row) → is_given url now row ≡ true → is_expired now row ≡ false
 given-live url now row is = not-true (is_expired now row) (and_parts _ _ (and_parts _ _ (and_parts _ _ is).0).0).0
 
--- from the epoch on, what has ended since has ended
+-- from the epoch on, an `ended` row has expired
 ended-expired : (now : Moment) (row : Row) → nanoseconds epoch ≤ℤ nanoseconds now → is_expired now (ended row) ≡ true
 ended-expired now row later = grind (arith, ints, later)
 
--- so what is given then is the cookie that was put
+-- so what is given then is the cookie that was stored
 confined-as_put : (url : Parts) (now : Moment) (calls : List Call) (store : Contents) (row : Row) → nanoseconds epoch ≤ℤ nanoseconds now
     → is_given url now row ≡ true → IsConfined calls store url row → IsConfinedAsPut calls store url row
 confined-as_put url now calls store row later is (place, from, accepted, accepts, same, hosts) =
@@ -175,7 +175,7 @@ confined-as_put url now calls store row later is (place, from, accepted, accepts
     absurd (both_ways (is_expired now row) (given-live url now row is) over))
     same
 
--- what is given after calls from no rows, at a moment from the epoch on, is confined as it was put
+-- the cookies given after calls on no rows, from the epoch on, are confined exactly as stored
 pub given-confined_as_put : (url : Parts) (now : Moment) (calls : List Call) (store : Contents) → store.rows ≡ [] → nanoseconds epoch ≤ℤ nanoseconds now
     → All (IsConfinedAsPut calls store url) (given url now (rows_after calls store))
 given-confined_as_put url now calls store empty later k d within =

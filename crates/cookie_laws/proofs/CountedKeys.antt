@@ -1,4 +1,4 @@
--- Each test of keys passes as many rows as keys by making, as cookies are put and rows end or go.
+-- Each test of keys passes as many rows as keys in creation order, after every change of a store.
 use Rattle.std.proofs.Common.{◌≡◌, ℕ, ◌+◌, Bool, true, cond, List, [], ◌∷◌, ◌++◌, length, ◌∙◌, refl, sym, ap, ⊎_elim, arith}
 use Rattle.std.specs.Prelude.{◌&&◌, nat_lt}
 use Rattle.std.specs.List.{filter, list_any}
@@ -13,7 +13,7 @@ use Rattle.cookie_laws.proofs.StoresOfKeys.{make-other, same_key-passes, unmade-
 
 -- how many items pass
 module _ {T : Type 0} where
-  -- one passes where they are more than none
+  -- one passes if and only if the count is more than zero
   pub any-count : (p : T → Bool) (xs : List T) → list_any p xs ≡ nat_lt 0 (length (filter p xs))
   any-count p [] = refl
   any-count p (x ∷ xs) = grind (arith, any-count p xs)
@@ -29,7 +29,7 @@ module _ {T : Type 0} where
   after_last-count p test [] y here = grind arith
   after_last-count p test (x ∷ xs) y here = grind (arith, after_last-count p test xs y here)
 
-  -- a change leaves as many
+  -- a change keeps the length
   pub changed-count : (test : T → Bool) (change : T → T) (xs : List T) → length (changed test change xs) ≡ length xs
   changed-count test change [] = refl
   changed-count test change (x ∷ xs) = grind (arith, changed-count test change xs)
@@ -50,7 +50,7 @@ pushed-count test made key here =
 abbrev pub CountAlike : List Row → List Key → Type 0
 CountAlike rows made = (test : Key → Bool) → length (passing test rows) ≡ length (filter test made)
 
--- so there is a row that passes where there is a key that does
+-- so a row passes if a key does
 pub alike-any : (rows : List Row) (made : List Key) → CountAlike rows made → (test : Key → Bool)
     → list_any (λ row. test (key_of row)) rows ≡ list_any test made
 alike-any rows made alike test =
@@ -69,7 +69,7 @@ module _ (rows : List Row) (made : List Key) (alike : CountAlike rows made) wher
       (λ _. after_last-count pass (in_group key) rows cookie here)
       (λ _. after_last-count pass (in_domain key) rows cookie here)
 
-  -- one that takes another's place is not
+  -- a replacing row is not
   replaced-count : (test : Key → Bool) (cookie : Row) → test (key_of cookie) ≡ true
       → length (passing test (replaced (has_key (key_of cookie)) rows cookie)) ≡ length (passing test rows)
   replaced-count test cookie here =
@@ -78,7 +78,7 @@ module _ (rows : List Row) (made : List Key) (alike : CountAlike rows made) wher
       let same = changed-kept pass (has_key key) (λ _. cookie) (has_key-passes test key true here) (λ _ _. here) rows in
       ap length same ∙ changed-count (has_key key) (λ _. cookie) (passing test rows)
 
-  -- a cookie is put, and its key made, where the key passes
+  -- a cookie is stored whose key passes
   put-count : (test : Key → Bool) (cookie : Row) → test (key_of cookie) ≡ true
       → length (passing test (put rows cookie)) ≡ length (filter test (make made (key_of cookie)))
   put-count test cookie here =
@@ -103,14 +103,14 @@ module _ (rows : List Row) (made : List Key) (alike : CountAlike rows made) wher
       (λ away. ap length (put-other test rows cookie away) ∙ alike test ∙ ap length (sym (make-other test made (key_of cookie) away)))
       (cases_Bool (test (key_of cookie)))
 
-  -- the row of a key ends
+  -- the row of a key is expired
   pub alike-ended : (key : Key) → CountAlike (changed (has_key key) ended rows) made
   alike-ended key test =
       ⊎_elim (λ here. ap length (ended-passing test key rows here) ∙ changed-count (has_key key) ended (passing test rows) ∙ alike test)
       (λ away. ap length (ended-other test key rows away) ∙ alike test)
       (cases_Bool (test key))
 
-  -- the rows stay whose keys pass a test
+  -- only the rows remain whose keys pass a test
   pub alike-stays : (stays : Key → Bool) → CountAlike (passing stays rows) (filter stays made)
   alike-stays stays test =
       ap length (filter-both (λ row. test (key_of row)) (λ row. stays (key_of row)) rows)

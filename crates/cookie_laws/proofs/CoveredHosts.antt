@@ -1,4 +1,4 @@
--- What a domain that covers a host is of it.
+-- A domain that passes the test `covers` covers the host as `Covers` defines it.
 use Rattle.std.proofs.Common.{◌≡◌, ℕ, ◌-◌, true, List, ◌∷◌, ◌++◌, length, take, nat_eq, ⊎_elim, inl, inr, refl}
 use Rattle.std.specs.List.{ends_with}
 use Rattle.std.specs.Str.{bytes_eq}
@@ -7,7 +7,7 @@ use Rattle.std.proofs.lemmas.Bool.Decides.{Decides-eqb}
 use Rattle.std.proofs.lemmas.Slice.Eq.{bytes_eq-Decides, ends_is}
 use Rattle.cookie_parts.specs.Hosts.{covers, Covers}
 
--- a text that ends with another is a front and that one
+-- a string that ends with another is a front and that one
 pub front-ends_with : (text end : List ℕ) → ends_with nat_eq text end ≡ true → (front : List ℕ) × (text ≡ front ++ end)
 front-ends_with text end is =
     (take (length text - length end) text, (ends_is Decides-eqb text end (ends_with nat_eq text end) refl).0 is)

@@ -1,4 +1,4 @@
--- Items that differ, as one comes last, others go, and in another order.
+-- Lists of distinct items: one item appended, others removed, another order.
 use Rattle.std.proofs.Common.{◌≡◌, Bool, true, false, not, List, [], ◌∷◌, ◌++◌, refl, ap, arith, IsPermutation}
 use Rattle.std.specs.List.{filter, list_any, IsDistinct, AllByRecursion}
 use Rattle.std.proofs.lemmas.Bool.{and_parts, and_from, or_parts, or_from, not-true}
@@ -8,7 +8,7 @@ use Rattle.cookie_laws.proofs.Filtered.{none-filter}
 
 -- items of any kind
 module _ {T : Type 0} where
-  -- where nothing passes, nothing does without one item
+  -- if nothing passes, nothing does after a removal
   none-removed : (p test : T → Bool) (xs : List T) → list_any p xs ≡ false → list_any p (removed test xs) ≡ false
   none-removed p test [] none = refl
   none-removed p test (x ∷ xs) none = grind (arith, none-removed p test xs)
@@ -18,7 +18,7 @@ module _ {T : Type 0} where
   none-pushed p [] y none away = grind arith
   none-pushed p (x ∷ xs) y none away = grind (arith, none-pushed p xs y)
 
-  -- where none passes, each fails
+  -- if none passes, each fails
   each_fails : (test : T → Bool) (xs : List T) → list_any test xs ≡ false → AllByRecursion (λ x. test x ≡ false) xs
   each_fails test [] n = tt
   each_fails test (x ∷ xs) n = let parts = or_parts (test x) (list_any test xs) n in (parts.0, each_fails test xs parts.1)
@@ -28,7 +28,7 @@ module _ {T : Type 0} where
   none_passes test [] a = refl
   none_passes test (x ∷ xs) a = or_from (test x) (list_any test xs) a.0 (none_passes test xs a.1)
 
-  -- under a test of two that says whether they are alike
+  -- for a comparison `alike`
   module _ (alike : T → T → Bool) where
     -- items that differ do so without those that do not pass
     pub differ-filter : (p : T → Bool) (xs : List T) → differ alike xs ≡ true → differ alike (filter p xs) ≡ true

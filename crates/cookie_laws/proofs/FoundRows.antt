@@ -1,4 +1,4 @@
--- The row that is found of a key, once a cookie was put, a row ended, or rows left.
+-- The row of a key after a cookie is stored, a row is expired, or rows are removed.
 use Rattle.std.proofs.Common.{◌≡◌, Bool, true, false, not, List, [], ◌∷◌, Some, None, ⊎_elim, ◌∙◌, refl, sym, ap, arith}
 use Rattle.std.specs.List.{find, list_any}
 use Rattle.std.proofs.lemmas.Bool.{both_ways, cases_Bool, cond_both, not-true}
@@ -28,7 +28,7 @@ row_of-placed rows cookie new =
     (λ _. find-after_last (has_key key) (in_group key) rows cookie new here)
     (λ _. find-after_last (has_key key) (in_domain key) rows cookie new here)
 
--- a cookie that is put is the row of its key
+-- a cookie that is stored is the row of its key
 pub row_of-put : (rows : List Row) (cookie : Row) → row_of (key_of cookie) (put rows cookie) ≡ Some cookie
 row_of-put rows cookie =
     let key = key_of cookie in
@@ -43,34 +43,34 @@ find-changed : {T : Type 0} (test : T → Bool) (change : T → T) → ((x : T) 
 find-changed test change after [] found here = grind (arith, here)
 find-changed test change after (x ∷ xs) found here = grind (arith, here, after x, find-changed test change after xs found)
 
--- the row of the key has ended, where that row was ended
+-- the row of the key is expired
 pub row_of-ended : (key : Key) (rows : List Row) (row : Row) → row_of key rows ≡ Some row → row_of key (changed (has_key key) ended rows) ≡ Some (ended row)
 row_of-ended key rows row held = find-changed (has_key key) ended (λ _ same. same) rows row held
 
--- a row of another key is found where a cookie is put as it was
+-- storing a cookie does not change the row of another key
 pub row_of-put_other : (key : Key) (rows : List Row) (cookie : Row) → same_key key (key_of cookie) ≡ false → row_of key (put rows cookie) ≡ row_of key rows
 row_of-put_other key rows cookie away =
     let test = same_key key in
     let here : test key ≡ true = same_key_equiv.refl key in
     sym (row_of-passing test key (put rows cookie) here) ∙ ap (row_of key) (put-other test rows cookie away) ∙ row_of-passing test key rows here
 
--- and where the row of another ends
+-- nor does expiring the row of another key
 pub row_of-ended_other : (key own : Key) (rows : List Row) → same_key key own ≡ false → row_of key (changed (has_key own) ended rows) ≡ row_of key rows
 row_of-ended_other key own rows away =
     let test = same_key key in
     let here : test key ≡ true = same_key_equiv.refl key in
     sym (row_of-passing test key (changed (has_key own) ended rows) here) ∙ ap (row_of key) (ended-other test own rows away) ∙ row_of-passing test key rows here
 
--- where no item passes, none is found
+-- if no item passes, none is found
 find-none : {T : Type 0} (test : T → Bool) (xs : List T) → list_any test xs ≡ false → find test xs ≡ None
 find-none test [] none = refl
 find-none test (x ∷ xs) none = grind (arith, find-none test xs)
 
--- the row of a key that stays is found among the rows that stay
+-- the row of a key that survives is found among the surviving rows
 pub row_of-stays : (keys : List Key) (key : Key) (store : Contents) → list_any (same_key key) keys ≡ false → row_of key (without keys store).rows ≡ row_of key store.rows
 row_of-stays keys key store stays = row_of-passing (is_none_of keys) key store.rows (ap not stays)
 
--- the row of a key that leaves is not
+-- the row of an evicted key is not
 pub row_of-leaves : (keys : List Key) (key : Key) (store : Contents) → list_any (same_key key) keys ≡ true → row_of key (without keys store).rows ≡ None
 row_of-leaves keys key store leaves =
     let rest = λ (row : Row). is_none_of keys (key_of row) in

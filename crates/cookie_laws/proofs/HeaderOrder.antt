@@ -37,7 +37,7 @@ module _ {T : Type 0} (before : T → T → Bool) (order : IsStrictWeakOrder bef
   all_by_index P [] h = tt
   all_by_index P (x ∷ xs) h = (h 0 x (omega arith), all_by_index P xs (λ j d l. h (suc j) d (omega arith)))
 
-  -- items ascend where none comes before one at an earlier place
+  -- items ascend if none comes before one at an earlier position
   ascends_by_index : (xs : List T) → ((i j : ℕ) (d : T) → i ≤ j → j < length xs → before (get_or xs j d) (get_or xs i d) ≡ false) → Ascends xs
   ascends_by_index [] h = tt
   ascends_by_index (x ∷ xs) h = (
@@ -73,7 +73,7 @@ module _ {T : Type 0} (before : T → T → Bool) (order : IsStrictWeakOrder bef
       is_false true h = absurd (omega arith)
       is_false false h = refl
 
-  -- ascending lists of the same items are the same, where items of which neither comes first are
+  -- ascending lists of the same items are equal, if items of which neither comes first are equal
   module _ (P : T → Type 0) (apart : (x y : T) → P x → P y → before x y ≡ false → before y x ≡ false → x ≡ y) where
     ascending_same : (xs ys : List T) → AllByRecursion P xs → AllByRecursion P ys → SameSums xs ys → Ascends xs → Ascends ys → xs ≡ ys
     ascending_same [] [] p q s a b = refl
@@ -129,7 +129,7 @@ same_creation made a b h k =
 
 -- keys
 
--- keys that stand at the same place among others are the same, where one of them is there
+-- keys at the same position among others are equal, if one of them is in the list
 same_place : (k l : Key) (made : List Key) → list_any (same_key k) made ≡ true → position_or_len (same_key k) made ≡ position_or_len (same_key l) made → k ≡ l
 same_place k l [] some same = absurd (cc)
 same_place k l (m ∷ ms) some same = elim (cases_Bool (same_key k m)) [
@@ -143,7 +143,7 @@ same_place k l (m ∷ ms) some same = elim (cases_Bool (same_key k m)) [
   ]
 ]
 
--- of keys that pass a test the same one stands first among those that pass
+-- two keys that pass a test are in the same order among the keys that pass
 place_among : (test : Key → Bool) (k l : Key) → test k ≡ true → test l ≡ true → (made : List Key)
     → nat_cmp (position_or_len (same_key k) made) (position_or_len (same_key l) made)
     ≡ nat_cmp (position_or_len (same_key k) (filter test made)) (position_or_len (same_key l) (filter test made))
@@ -206,7 +206,7 @@ all_by_two : {T : Type 0} (P Q R : T → Type 0) → ((x : T) → P x → Q x �
 all_by_two P Q R f [] p q = tt
 all_by_two P Q R f (x ∷ xs) p q = (f x p.0 q.0, all_by_two P Q R f xs p.1 q.1)
 
--- each row is the row of its key, where keys differ
+-- each row is the row of its key, if keys differ
 own_rows : (rows : List Row) → differ same_key (map key_of rows) ≡ true → AllByRecursion (λ row. row_of (key_of row) rows ≡ Some row) rows
 own_rows [] d = tt
 own_rows (row ∷ rows) d =

@@ -1,4 +1,4 @@
--- What each change of a store keeps holds after calls.
+-- What every change of a store preserves holds after calls.
 use Rattle.std.proofs.Common.{List, [], ◌∷◌, Result, Ok, Err}
 use Rattle.url.specs.Parts.{Parts}
 use Rattle.cookie_words.specs.Moments.{Moment}
@@ -9,25 +9,25 @@ use Rattle.cookie_laws.specs.Contents.{Contents}
 use Rattle.cookie_laws.specs.Rows.{Key, has_key, key_of, removed, row_of, same_key}
 use Rattle.cookie_laws.specs.Runs.{Call, Set, Insert, Remove, Clear, step, store_after}
 
--- what the answer to a cookie keeps that may enter, and a row that goes, and what holds without rows
+-- what holds without rows, and is kept by the outcome of an admitted cookie and by a removal
 module _ (P : Contents → Type 0)
     (answers : (store : Contents) (cookie : Row) (url : Parts) (now : Moment) → P store
     → P (store_by (reply_at (row_of (key_of cookie) store.rows) cookie url now) store cookie now))
     (removes : (key : Key) (store : Contents) → P store
     → P (record store { rows = removed (has_key key) store.rows; made = removed (same_key key) store.made }))
     (clears : (store : Contents) → P store → P (record store { rows = []; made = [] })) where
-  -- it holds after a cookie that may enter, if there is one
+  -- it holds after an admitted cookie, or an error
   entered-keeps : (made : Result Row CookieError) (url : Parts) (now : Moment) (store : Contents) → P store
       → P (entered made url now store).store
   entered-keeps (Err refusal) url now store held = held
   entered-keeps (Ok cookie) url now store held = answers store cookie url now held
 
-  -- after a cookie that comes
+  -- after a received cookie
   accept-keeps : (store : Contents) (cookie : Row) (url : Parts) (now : Moment) → P store → P (accept store cookie url now).store
   unfolding accept
   accept-keeps store cookie url now held = entered-keeps (admitted store.suffixes url cookie) url now store held
 
-  -- after one that comes if it was made
+  -- after a received cookie, or the error from making it
   received-keeps : (store : Contents) (made : Result Row CookieError) (url : Parts) (now : Moment) → P store
       → P (received store made url now).store
   received-keeps store (Err refusal) url now held = held

@@ -1,4 +1,4 @@
--- How many keys of a domain leave for a new one, and how many stay.
+-- How many keys of a domain are evicted for a new one, and how many survive.
 use Rattle.std.proofs.Common.{◌≡◌, ℕ, zero, suc, ◌+◌, ◌-◌, ◌≤◌, Bool, true, false, not, List, [], ◌∷◌, length, take, drop, Some, ◌∙◌, refl, sym, ap, arith, IsPermutation}
 use Rattle.std.specs.List.{filter, list_any}
 use Rattle.std.proofs.lemmas.Bool.{and_parts, not-true}
@@ -12,12 +12,12 @@ use Rattle.cookie_laws.proofs.DifferentKeys.{differ-filter, differ-permutation}
 use Rattle.cookie_laws.proofs.Filtered.{filter-swap}
 use Rattle.cookie_laws.proofs.SameCounts.{permuted-count}
 
--- a filter leaves no more of what passes
+-- a filter does not increase how many pass
 pub filter-fewer : {T : Type 0} (p test : T → Bool) (xs : List T) → length (filter p (filter test xs)) ≤ length (filter p xs)
 filter-fewer p test [] = omega arith
 filter-fewer p test (x ∷ xs) = grind (arith, filter-fewer p test xs)
 
--- nor does an item that goes
+-- nor does an item that is removed
 pub removed-fewer : {T : Type 0} (p test : T → Bool) (xs : List T) → length (filter p (removed test xs)) ≤ length (filter p xs)
 removed-fewer p test [] = omega arith
 removed-fewer p test (x ∷ xs) = grind (arith, removed-fewer p test xs)
@@ -46,13 +46,13 @@ none_of_front (suc n) (key ∷ keys) d =
         → filter (is_none_of (key ∷ others)) (key ∷ keys) ≡ filter (is_none_of (key ∷ others)) keys
     first_goes key others keys = rw (same_key_equiv.refl key) refl
 
--- in turn, by the rows at a moment
+-- in eviction order, at this time
 module _ (now : Moment) (rows : List Row) where
   -- the keys are the same
   turned : (keys : List Key) → IsPermutation keys (by_turn now rows keys)
   turned keys = IsPermutation-filter_both (has_ended now rows) (λ key. not (has_ended now rows key)) (λ _. refl) keys
 
-  -- of keys that differ, as many stay as are not the first n in turn
+  -- of distinct keys, all but the first n in eviction order survive
   stay-count : (n : ℕ) (keys : List Key) → differ same_key keys ≡ true
       → length (filter (is_none_of (take n (by_turn now rows keys))) keys) ≡ length keys - n
   stay-count n keys d =
@@ -63,7 +63,7 @@ module _ (now : Moment) (rows : List Row) where
       ∙ length-drop n turns
       ∙ ap (λ many. many - n) (length_permutation keys turns (turned keys))
 
--- the keys of a key's domain that stay, where so many leave for it that with it no more than the limit stand
+-- how many keys of a domain survive the eviction for a new one
 pub own-count : (limit : ℕ) (store : Contents) (now : Moment) (key : Key) → store.limit ≡ Some limit → differ same_key store.made ≡ true
     → length (filter (same_domain key) (without (leaving store now key) store).made)
     ≡ length (filter (same_domain key) store.made) - (length (filter (same_domain key) store.made) + 1 - limit)

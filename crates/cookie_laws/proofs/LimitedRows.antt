@@ -1,4 +1,4 @@
--- Under a limit no more rows of one domain stand after calls than the limit, or than stood before.
+-- With a limit, a domain has at most `limit` rows after calls, or at most as many as before.
 use Rattle.std.proofs.Common.{◌≡◌, ℕ, ◌+◌, ◌<◌, ◌≤◌, min, max, Bool, true, false, List, [], ◌∷◌, length, Option, Some, None, Result, Ok, Err, ◌∙◌, refl, sym, ap, subst, ⊎_elim, arith}
 use Rattle.std.specs.Prelude.{is_some}
 use Rattle.std.specs.List.{filter, find, list_any}
@@ -26,7 +26,7 @@ use Rattle.cookie_laws.proofs.LeavingKeys.{filter-fewer, own-count, removed-fewe
 use Rattle.cookie_laws.proofs.MadeKeys.{MadeOnce, once-none, once-removed, once-store_by, once_from_made}
 use Rattle.cookie_laws.proofs.StoresOfKeys.{make-other}
 
--- a reply says whether there was a row of the key
+-- a reply shows whether there was a row of the key
 
 -- a new row is inserted
 put_action-new : (row : Option Row) → put_action row ≡ Inserted → is_some row ≡ false
@@ -38,24 +38,24 @@ put_action-old : (row : Option Row) → put_action row ≡ UpdatedExisting → i
 put_action-old None is = absurd (grind (arith, is))
 put_action-old (Some row) is = refl
 
--- so where a reply says that a cookie was inserted, there was no row
+-- so if the reply is `Inserted`, there was no row
 reply_at-new : (row : Option Row) (cookie : Row) (url : Parts) (now : Moment)
     → reply_at row cookie url now ≡ Ok Inserted → is_some row ≡ false
 reply_at-new None cookie url now is = refl
 reply_at-new (Some row) cookie url now is = grind (arith, is, put_action-new (Some row))
 
--- and where it says that one was updated, there was
+-- and if it is `UpdatedExisting`, there was one
 reply_at-old : (row : Option Row) (cookie : Row) (url : Parts) (now : Moment)
     → reply_at row cookie url now ≡ Ok UpdatedExisting → is_some row ≡ true
 reply_at-old None cookie url now is = grind (arith, is, put_action-old None)
 reply_at-old (Some row) cookie url now is = refl
 
--- there is a first item that passes where there is one
+-- if an item passes, there is a first one
 found-any : {T : Type 0} (test : T → Bool) (xs : List T) → is_some (find test xs) ≡ list_any test xs
 found-any test [] = refl
 found-any test (x ∷ xs) = grind (arith, found-any test xs)
 
--- the key was made where there is a row of it
+-- the key is in the creation order if it has a row
 pub row-made : (key : Key) (store : Contents) → MadeOnce store.rows store.made
     → is_some (row_of key store.rows) ≡ list_any (same_key key) store.made
 row-made key store once = found-any (has_key key) store.rows ∙ alike-any store.rows store.made once.0 (same_key key)
@@ -66,9 +66,9 @@ row-made key store once = found-any (has_key key) store.rows ∙ alike-any store
 abbrev own_keys : Key → Contents → ℕ
 own_keys key store = length (filter (same_domain key) store.made)
 
--- under a limit that lets some stand
+-- with a limit greater than zero
 module _ (limit : ℕ) (some : 0 < limit) where
-  -- after a new key was made there is one more of its domain than before, or as many as the limit if that is fewer
+  -- after a new key there is one more of its domain than before, but at most the limit
   inserted-count : (store : Contents) (cookie : Row) (now : Moment) → store.limit ≡ Some limit → MadeOnce store.rows store.made
       → list_any (same_key (key_of cookie)) store.made ≡ false
       → own_keys (key_of cookie) (store_by (Ok Inserted) store cookie now) ≡ min limit (own_keys (key_of cookie) store + 1)
@@ -90,7 +90,7 @@ module _ (limit : ℕ) (some : 0 < limit) where
 
   -- of a domain no more than so many, which are no fewer than the limit
   module _ (domain : List ℕ) (most : ℕ) (above : limit ≤ most) where
-    -- there are no more after a new key was made
+    -- there are no more after a new key
     inserted-within : (store : Contents) (cookie : Row) (now : Moment) → Within domain most store
         → list_any (same_key (key_of cookie)) store.made ≡ false
         → length (domain_keys domain (store_by (Ok Inserted) store cookie now).made) ≤ most
@@ -110,7 +110,7 @@ module _ (limit : ℕ) (some : 0 < limit) where
         omega (arith, same, fewer, within.2))
         (cases_Bool (bytes_eq domain key.domain))
 
-    -- after a reply, which says whether the key was made
+    -- after a reply, which shows whether the key is new
     store_by-within : (reply : Result StoreAction CookieError) (store : Contents) (cookie : Row) (now : Moment)
         → (reply ≡ Ok Inserted → list_any (same_key (key_of cookie)) store.made ≡ false)
         → (reply ≡ Ok UpdatedExisting → list_any (same_key (key_of cookie)) store.made ≡ true)
@@ -127,7 +127,7 @@ module _ (limit : ℕ) (some : 0 < limit) where
         (once-store_by (Ok ExpiredExisting) store cookie now within.0, within.1, within.2)
     store_by-within (Err refusal) store cookie now new old within = within
 
-    -- after the answer to a cookie that may enter
+    -- after the outcome of an admitted cookie
     answer-within : (store : Contents) (cookie : Row) (url : Parts) (now : Moment) → Within domain most store
         → Within domain most (store_by (reply_at (row_of (key_of cookie) store.rows) cookie url now) store cookie now)
     answer-within store cookie url now within =
@@ -138,7 +138,7 @@ module _ (limit : ℕ) (some : 0 < limit) where
         (λ is. sym known ∙ reply_at-old row cookie url now is)
         within
 
-    -- after a row goes
+    -- after a row is removed
     removed-within : (key : Key) (store : Contents) → Within domain most store
         → Within domain most (record store { rows = removed (has_key key) store.rows; made = removed (same_key key) store.made })
     removed-within key store within =
@@ -176,7 +176,7 @@ limited_rows domain calls store limit has under some =
 abbrev Fills : ℕ → List ℕ → Contents → Contents → Type 0
 Fills limit domain before after = domain_count domain after ≡ min limit (domain_count domain before + 1)
 
--- a cookie of the key that may enter, if there is one
+-- an admitted cookie of the key, or an error
 entered-fills : (key : Key) (made : Result Row CookieError) (url : Parts) (now : Moment) (store : Contents) (limit : ℕ) → HasKey key made
     → MadeOnce store.rows store.made → store.limit ≡ Some limit → 0 < limit → (entered made url now store).reply ≡ Ok Inserted
     → Fills limit key.domain store (entered made url now store).store
@@ -192,7 +192,7 @@ entered-fills key (Ok cookie) url now store limit same once under some is =
     subst (λ k. Fills limit k.domain store (entered (Ok cookie) url now store).store) same
     (subst (λ reply. Fills limit own.domain store (store_by reply store cookie now)) (sym is) fills)
 
--- any cookie that comes
+-- any received cookie
 accept-fills : (store : Contents) (cookie : Row) (url : Parts) (now : Moment) (limit : ℕ)
     → HasMade store → store.limit ≡ Some limit → 0 < limit → (accept store cookie url now).reply ≡ Ok Inserted
     → Fills limit (domain_text cookie.domain) store (accept store cookie url now).store
@@ -201,7 +201,7 @@ accept-fills store cookie url now limit has under some is =
     entered-fills (key_of cookie) (admitted store.suffixes url cookie) url now store limit (admitted-HasKey store.suffixes url cookie)
     (once_from_made store has) under some is
 
--- and one that comes if it was made
+-- and a received cookie, or the error from making it
 pub inserted_rows : (store : Contents) (made : Result Row CookieError) (url : Parts) (now : Moment) (cookie : Row) (limit : ℕ)
     → HasMade store → store.limit ≡ Some limit → 0 < limit → made ≡ Ok cookie → (received store made url now).reply ≡ Ok Inserted
     → length (domain_rows (domain_text cookie.domain) (received store made url now).store.rows)

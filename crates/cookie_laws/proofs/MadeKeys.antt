@@ -1,4 +1,4 @@
--- The keys by making are those of the rows, and differ, after each call.
+-- The keys in creation order are those of the rows, and differ, after each call.
 use Rattle.std.proofs.Common.{◌≡◌, ℕ, Bool, true, List, [], ◌∷◌, ◌++◌, map, Option, Result, Ok, Err, refl}
 use Rattle.std.specs.List.{list_any}
 use Rattle.std.proofs.lemmas.Bool.{cond_both}
@@ -21,30 +21,30 @@ use Rattle.cookie_laws.proofs.SameCounts.{alike_from_permutation, permutation_fr
 abbrev pub MadeOnce : List Row → List Key → Type 0
 MadeOnce rows made = CountAlike rows made × (differ same_key made ≡ true)
 
--- keys that differ do so after one is made
+-- keys still differ after one is added
 differ-make : (made : List Key) (key : Key) → differ same_key made ≡ true → differ same_key (make made key) ≡ true
 differ-make made key d =
     cond_both (list_any (same_key key) made) made (made ++ key ∷ []) (λ keys. differ same_key keys ≡ true)
     (λ _. d)
     (λ new. differ-pushed same_key same_key_equiv.symm made key new d)
 
--- a cookie is put
+-- a cookie is stored
 once-put : (rows : List Row) (made : List Key) (cookie : Row) → MadeOnce rows made → MadeOnce (put rows cookie) (make made (key_of cookie))
 once-put rows made cookie once = (alike-put rows made once.0 cookie, differ-make made (key_of cookie) once.1)
 
--- rows leave
+-- rows are evicted
 once-without : (keys : List Key) (store : Contents) → MadeOnce store.rows store.made
     → MadeOnce (without keys store).rows (without keys store).made
 once-without keys store once =
     (alike-stays store.rows store.made once.0 (is_none_of keys), differ-filter same_key (is_none_of keys) store.made once.1)
 
--- the row of a key goes
+-- the row of a key is removed
 pub once-removed : (key : Key) (store : Contents) → MadeOnce store.rows store.made
     → MadeOnce (removed (has_key key) store.rows) (removed (same_key key) store.made)
 once-removed key store once =
     (alike-removed store.rows store.made once.0 key, differ-removed same_key (same_key key) store.made once.1)
 
--- what a reply leaves
+-- the store after a reply
 pub once-store_by : (reply : Result StoreAction CookieError) (store : Contents) (cookie : Row) (now : Moment)
     → MadeOnce store.rows store.made → MadeOnce (store_by reply store cookie now).rows (store_by reply store cookie now).made
 once-store_by (Ok Inserted) store cookie now once =
@@ -58,14 +58,14 @@ once-store_by (Err refusal) store cookie now once = once
 pub once-none : MadeOnce [] []
 once-none = (λ _. refl, refl)
 
--- cookies are put, one after the other
+-- cookies are stored, one after the other
 once-put_all : (rows : List Row) (made : List Key) (cookies : List Row) → MadeOnce rows made
     → MadeOnce (put_all rows cookies) (make_all made (map key_of cookies))
 once-put_all rows made [] once = once
 once-put_all rows made (cookie ∷ cookies) once =
     once-put_all (put rows cookie) (make made (key_of cookie)) cookies (once-put rows made cookie once)
 
--- the keys of a store are so counted where they are those of the rows
+-- the counts agree if the keys are those of the rows
 pub once_from_made : (store : Contents) → HasMade store → MadeOnce store.rows store.made
 once_from_made store has = (alike_from_permutation store.rows store.made has.0, has.1)
 
@@ -73,7 +73,7 @@ once_from_made store has = (alike_from_permutation store.rows store.made has.0, 
 made_from_once : (store : Contents) → MadeOnce store.rows store.made → HasMade store
 made_from_once store once = (permutation_from_alike store.rows store.made once.0, once.1)
 
--- calls leave the keys by making those of the rows
+-- after calls, the keys in creation order are still those of the rows
 pub made_after : (calls : List Call) (store : Contents) → HasMade store → HasMade (store_after calls store)
 made_after calls store has =
     made_from_once (store_after calls store)

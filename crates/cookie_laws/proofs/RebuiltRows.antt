@@ -1,4 +1,4 @@
--- Rows that are put one after the other, in an order that they may have.
+-- Storing the rows of a store one after the other gives them in the same order.
 use Rattle.std.proofs.Common.{◌≡◌, Bool, true, false, not, ◌&&◌, ◌||◌, List, [], ◌∷◌, ◌++◌, map, refl, sym, ap, ◌∙◌, arith, append_assoc, append-nil}
 use Rattle.std.specs.List.{list_any}
 use Rattle.std.specs.Cmp.{IsEquivalence}
@@ -14,14 +14,14 @@ module _ {R K : Type 0} (key : R → K) where
   any_at p [] y ys h = grind arith
   any_at p (x ∷ xs) y ys h = grind (arith, any_at p xs y ys h)
 
-  -- where keys differ, no row before one has a key like its own
+  -- if keys differ, no row has the key of a later one
   none_before : {alike : K → K → Bool} → IsEquivalence alike → (xs : List R) (y : R) (ys : List R)
       → differ alike (map key (xs ++ y ∷ ys)) ≡ true → list_any (λ x. alike (key y) (key x)) xs ≡ false
   none_before laws [] y ys h = refl
   none_before {alike = alike} laws (x ∷ xs) y ys h =
       grind (arith, laws.symm (key x) (key y), any_at (alike (key x)) xs y ys, none_before laws xs y ys)
 
-  -- where rows of like keys stand together, and a row comes later, no other row before it is the last that is like it
+  -- if rows with alike keys are adjacent, and a later row is like x, no row before it is the last like x
   not_last : {alike : K → K → Bool} → IsEquivalence alike → (x z : R) (zs : List R) (y : R) (ys : List R)
       → stand_together alike (map key (x ∷ z ∷ zs ++ y ∷ ys)) ≡ true
       → (alike (key y) (key x) && not (list_any (λ r. alike (key y) (key r)) (z ∷ zs))) ≡ false

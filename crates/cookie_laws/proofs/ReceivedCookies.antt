@@ -1,4 +1,4 @@
--- What one insertion does with a cookie that may have been refused as it was made.
+-- What one insertion does with a cookie, or with the error from making it.
 use Rattle.std.proofs.Common.{◌≡◌, true, false, Option, Some, Result, Ok, Err, ◌⊎◌, ⊎_elim, inl, inr, ◌∙◌, refl, sym, ap, arith}
 use Rattle.url.specs.Parts.{Parts}
 use Rattle.cookie_words.specs.Moments.{Moment}
@@ -14,7 +14,7 @@ use Rattle.cookie_laws.specs.Rows.{Key, changed, has_key, is_live, key_of, row_o
 use Rattle.cookie_laws.proofs.ConfinedRows.{IfOk_at, MayCome, admitted-MayCome, own_host}
 use Rattle.cookie_laws.proofs.SingleInsertions.{accept-ended_row, accept-ends, accept-guarded, accept-live, accept-other_row, accept-put, refused-put}
 
--- a cookie that may enter, and is for one host alone, is for its URL's
+-- an admitted host-only cookie is for its URL's host
 admitted-host : (suffixes : Option RuleList) (url : Parts) (cookie entered : Row) → admitted suffixes url cookie ≡ Ok entered → entered.domain ≡ HostOnly (domain_text entered.domain)
     → host_of url ≡ Some (domain_text entered.domain)
 admitted-host suffixes url cookie entered enters alone =
@@ -22,7 +22,7 @@ admitted-host suffixes url cookie entered enters alone =
     own_host (domain_text entered.domain) url (sym (ap (λ domain. domain_matches domain url) alone) ∙ may.matches)
 
 module _ (store : Contents) (url : Parts) (now : Moment) where
-  -- one that is put is the row of its key, and for the URL's host alone where its domain is on the list
+  -- a stored cookie is the row of its key, and a host-only cookie for the URL's host if its domain is listed
   pub received-put : (made : Result Row CookieError) → IsPut (received store made url now).reply
       → (cookie : Row) × (entered : Row) × (made ≡ Ok cookie) × (admitted store.suffixes url cookie ≡ Ok entered)
       × (row_of (key_of cookie) (received store made url now).store.rows ≡ Some entered)
@@ -38,7 +38,7 @@ module _ (store : Contents) (url : Parts) (now : Moment) where
         λ listed. (own listed, admitted-host store.suffixes url cookie entered enters (own listed)),
       )
 
-  -- one that ends a row was made, and ends a row that had not ended
+  -- if a row is expired, a cookie was made and the row had not expired
   pub received-live : (made : Result Row CookieError) → (received store made url now).reply ≡ Ok ExpiredExisting
       → (cookie : Row) × (row : Row) × (made ≡ Ok cookie) × (row_of (key_of cookie) store.rows ≡ Some row) × (is_live now row ≡ true)
   received-live (Err refusal) ends = absurd (grind (arith, ends))
@@ -49,7 +49,7 @@ module _ (store : Contents) (url : Parts) (now : Moment) where
     came : (received store (Ok cookie) url now).reply ≡ Ok ExpiredExisting
     came = sym (ap (λ m. (received store m url now).reply) is) ∙ ends
 
-    -- it ends the row of its key
+    -- the row of its key is expired
     pub received-ends : (received store made url now).store ≡ record store { rows = changed (has_key (key_of cookie)) ended store.rows }
     received-ends = ap (λ m. (received store m url now).store) is ∙ accept-ends store cookie url now came
 
@@ -59,13 +59,13 @@ module _ (store : Contents) (url : Parts) (now : Moment) where
         ap (λ m. row_of (key_of cookie) (received store m url now).store.rows) is
         ∙ accept-ended_row store cookie url now row came held
 
-    -- and leaves the rows of all others
+    -- and the rows of all other keys are unchanged
     pub received-other_row : (key : Key) → same_key key (key_of cookie) ≡ false
         → row_of key (received store made url now).store.rows ≡ row_of key store.rows
     received-other_row key away =
         ap (λ m. row_of key (received store m url now).store.rows) is ∙ accept-other_row store cookie url now key came away
 
-  -- a row out of the URL's reach that has not ended stays, or leaves for a cookie that is inserted
+  -- an unexpired HttpOnly row is unchanged for a scheme that is not HTTP, or evicted for an inserted cookie
   pub received-guarded : (made : Result Row CookieError) (key : Key) (row : Row) → row_of key store.rows ≡ Some row → is_live now row ≡ true
       → is_out_of_reach row.raw url ≡ true → (row_of key (received store made url now).store.rows ≡ Some row) ⊎ Leaves store made url now key
   received-guarded (Err refusal) key row held live out = inl held

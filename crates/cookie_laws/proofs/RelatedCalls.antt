@@ -39,7 +39,7 @@ related_calls url = record {
   clear = refl;
 }
 
--- what follows a dot of a text is among the texts that follow its dots
+-- what follows a dot of a string is among `after_dots` of it
 after_dots-has : (domain front : List ℕ) → list_any (bytes_eq domain) (after_dots (front ++ 46 ∷ domain)) ≡ true
 after_dots-has domain [] = or_left _ _ ((bytes_eq-Decides domain domain).1 refl)
 after_dots-has domain (b ∷ front) =

@@ -1,4 +1,4 @@
--- The rows whose keys pass a test, as cookies are put and rows end or are removed.
+-- The rows whose keys pass a test, as cookies are stored and rows are expired or removed.
 use Rattle.std.proofs.Common.{◌≡◌, Bool, true, false, cond, List, ◌∙◌, refl, sym, ap}
 use Rattle.std.specs.List.{filter, list_any}
 use Rattle.std.proofs.lemmas.Bool.{and_parts, cond_both}
@@ -26,7 +26,7 @@ removed-passing test key rows here = removed-kept (λ row. test (key_of row)) (h
 pub removed-other : (test : Key → Bool) (key : Key) (rows : List Row) → test key ≡ false → passing test (removed (has_key key) rows) ≡ passing test rows
 removed-other test key rows away = removed-lost (λ row. test (key_of row)) (has_key key) (has_key-passes test key false away) rows
 
--- a function of one of two values, where another of two is chosen alike
+-- a function of a choice is the choice of its values
 pub cond_alike : {A B : Type 0} (f : A → B) (b c : Bool) (x y : A) (u v : B) → c ≡ b → (b ≡ true → f x ≡ u) → (b ≡ false → f y ≡ v) → f (cond b x y) ≡ cond c u v
 cond_alike f true true x y u v same first second = first refl
 cond_alike f true false x y u v same first second = cc
@@ -51,7 +51,7 @@ placed-passing test by_domain rows cookie here =
     (λ _. after_last-kept pass (in_group key) rows cookie here group)
     (λ _. after_last-kept pass (in_domain key) rows cookie here domain)
 
--- a cookie is put whose key passes
+-- a cookie is stored whose key passes
 pub put-passing : (test : Key → Bool) → IsByDomain test → (rows : List Row) (cookie : Row) → test (key_of cookie) ≡ true → passing test (put rows cookie) ≡ put (passing test rows) cookie
 put-passing test by_domain rows cookie here =
     let key = key_of cookie in
@@ -74,7 +74,7 @@ placed-other test rows cookie away =
     (λ _. after_last-lost pass (in_group key) rows cookie away)
     (λ _. after_last-lost pass (in_domain key) rows cookie away)
 
--- a cookie is put whose key does not pass
+-- a cookie is stored whose key does not pass
 pub put-other : (test : Key → Bool) (rows : List Row) (cookie : Row) → test (key_of cookie) ≡ false → passing test (put rows cookie) ≡ passing test rows
 put-other test rows cookie away =
     let key = key_of cookie in
@@ -84,13 +84,13 @@ put-other test rows cookie away =
     (λ _. changed-lost pass (has_key key) (λ _. cookie) (has_key-passes test key false away) (λ _ _. away) rows)
     (λ _. placed-other test rows cookie away)
 
--- the row of a key ends that passes
+-- the row of a passing key is expired
 pub ended-passing : (test : Key → Bool) (key : Key) (rows : List Row) → test key ≡ true → passing test (changed (has_key key) ended rows) ≡ changed (has_key key) ended (passing test rows)
 ended-passing test key rows here =
     let kept = has_key-passes test key true here in
     changed-kept (λ row. test (key_of row)) (has_key key) ended kept kept rows
 
--- the row of a key ends that does not
+-- the row of a failing key is expired
 pub ended-other : (test : Key → Bool) (key : Key) (rows : List Row) → test key ≡ false → passing test (changed (has_key key) ended rows) ≡ passing test rows
 ended-other test key rows away =
     let lost = has_key-passes test key false away in

@@ -27,7 +27,7 @@ pub record IsOfKeys (test : Key → Bool) (keeps : Call → Bool) : Type 0 where
 abbrev passing_step : (Key → Bool) → Step → Step
 passing_step test after = record { reply = after.reply; store = passing_store test after.store }
 
--- a cookie that was made, if it was, whose key passes
+-- a made cookie whose key passes, or an error
 received-passing : (test : Key → Bool) → IsByDomain test → (store : Contents) (made : Result Row CookieError) (url : Parts) (now : Moment)
     → ((key : Key) → option_map key_of (result_ok made) ≡ Some key → test key ≡ true)
     → received (passing_store test store) made url now ≡ passing_outcome test (received store made url now)
@@ -103,7 +103,7 @@ replies_to-kept {test} {keeps} h (call ∷ calls) store =
     (λ kept. ap (λ told. after.reply ∷ told) later ∙ ap (λ next. next.reply ∷ replies kept_calls next.store) (sym (step-kept h call store kept)))
     (λ lost. later ∙ ap (replies kept_calls) (step-lost h call store lost))
 
--- where all calls are kept, each reply is
+-- if all calls are kept, so are all replies
 replies_to-all : (keeps : Call → Bool) (calls : List Call) (store : Contents)
     → replies_to keeps (filter keeps calls) store ≡ replies (filter keeps calls) store
 replies_to-all keeps [] store = refl

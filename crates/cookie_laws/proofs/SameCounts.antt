@@ -1,4 +1,4 @@
--- Lists of which each test passes as many keys are the same in another order.
+-- Lists in which each test passes equally many keys are permutations of each other.
 use Rattle.std.proofs.Common.{◌≡◌, ◌+◌, Bool, true, cond, List, [], ◌∷◌, length, map, ◌∙◌, refl, sym, subst, ⊎_elim, arith, IsPermutation}
 use Rattle.std.specs.List.{filter, list_any}
 use Rattle.std.proofs.lemmas.Bool.{cases_Bool, cond-true, cond-false}
@@ -15,7 +15,7 @@ pub permuted-count : {T : Type 0} (p : T → Bool) (xs ys : List T) → IsPermut
 permuted-count p xs ys moved =
     length-filter p ys ∙ sum_by-IsPermutation (λ x. cond (p x) 1 0) xs ys moved ∙ sym (length-filter p xs)
 
--- the key of a list may stand first
+-- a key of a list can be moved to the front
 key_first : (key : Key) (keys : List Key) → list_any (same_key key) keys ≡ true → IsPermutation keys (key ∷ removed (same_key key) keys)
 key_first key [] some = absurd (cc)
 key_first key (k ∷ ks) some =
@@ -32,7 +32,7 @@ key_first key (k ∷ ks) some =
     (IsPermutation-middle (k ∷ []) key rest)))
     (cases_Bool (same_key key k))
 
--- where each test passes as many, one list is the other in another order
+-- if each test passes as many in both, one list is a permutation of the other
 permutation_from_counts : (xs ys : List Key) → ((test : Key → Bool) → length (filter test xs) ≡ length (filter test ys))
     → IsPermutation xs ys
 permutation_from_counts [] [] alike = IsPermutation-refl []

@@ -1,4 +1,4 @@
--- What one insertion does: what is put, what it ends, and what it leaves alone.
+-- What one insertion stores and expires, and what it leaves unchanged.
 use Rattle.std.proofs.Common.{◌≡◌, true, false, not, ◌&&◌, List, Option, Some, None, Result, Ok, Err, ◌⊎◌, ⊎_elim, inl, inr, subst, ◌∙◌, refl, sym, ap, arith}
 use Rattle.std.specs.List.{list_any}
 use Rattle.std.proofs.lemmas.Bool.{cond_both, cond-true, and_from, not-true, both_ways, cases_Bool}
@@ -31,12 +31,12 @@ and_then-makes : (suffixes : Option RuleList) (made : Result Row CookieError) (n
 and_then-makes suffixes (Ok cookie) next after = after cookie
 and_then-makes suffixes (Err refusal) next after = tt
 
--- a step that leaves it so, after one that made it so
+-- a step that keeps it so, after one that made it so
 and_then-keeps : (suffixes : Option RuleList) (made : Result Row CookieError) (next : Row → Result Row CookieError) → MakesOwn suffixes made → ((cookie : Row) → IsOwnIfListed suffixes cookie → MakesOwn suffixes (next cookie)) → MakesOwn suffixes (and_then made next)
 and_then-keeps suffixes (Ok cookie) next own after = after cookie own
 and_then-keeps suffixes (Err refusal) next own after = tt
 
--- the step that asks the list makes it so
+-- step 5 makes it so
 by_list-makes : (suffixes : Option RuleList) (url : Parts) (cookie : Row) → MakesOwn suffixes (by_list suffixes url cookie)
 by_list-makes suffixes url cookie =
     let own : Row = record cookie { domain = HostOnly (domain_text cookie.domain) } in
@@ -45,19 +45,19 @@ by_list-makes suffixes url cookie =
     (λ free at. absurd (both_ways listed (not-true listed free) at))
     (λ _. cond_both (host_is_identical cookie.domain url) (Ok own) (Err PublicSuffix) (MakesOwn suffixes) (λ _ _. refl) (λ _. tt))
 
--- the step that asks the host leaves it so
+-- step 6 keeps it so
 by_domain-keeps : (suffixes : Option RuleList) (url : Parts) (cookie : Row) → IsOwnIfListed suffixes cookie → MakesOwn suffixes (by_domain url cookie)
 by_domain-keeps suffixes url cookie own =
     cond_both (domain_matches cookie.domain url) (Ok cookie) (Err DomainMismatch) (MakesOwn suffixes) (λ _. own) (λ _. tt)
 
--- a cookie that may enter is its host's own if its domain is on the list
+-- an admitted cookie is a host-only cookie if its domain is listed
 admitted-own : (suffixes : Option RuleList) (url : Parts) (cookie : Row) → MakesOwn suffixes (admitted suffixes url cookie)
 admitted-own suffixes url cookie =
     and_then-keeps suffixes (and_then (by_scheme url cookie) (by_list suffixes url)) (by_domain url)
     (and_then-makes suffixes (by_scheme url cookie) (by_list suffixes url) (by_list-makes suffixes url))
     (by_domain-keeps suffixes url)
 
--- a reply which says that the cookie was put leaves it as the row of its key
+-- after a reply that the cookie was stored, it is the row of its key
 row_of-store_by : (reply : Result StoreAction CookieError) (store : Contents) (cookie : Row) (now : Moment) → IsPut reply → row_of (key_of cookie) (store_by reply store cookie now).rows ≡ Some cookie
 row_of-store_by reply store cookie now (inl new) =
     let rest = without (leaving store now (key_of cookie)) store in
@@ -65,15 +65,15 @@ row_of-store_by reply store cookie now (inl new) =
 row_of-store_by reply store cookie now (inr again) =
     ap (λ r. row_of (key_of cookie) (store_by r store cookie now).rows) again ∙ row_of-put store.rows cookie
 
--- a refusal says no such thing
+-- an error is no such reply
 pub refused-put : (refusal : CookieError) → IsPut (Err refusal) → ⊥
 refused-put refusal h = ⊎_elim (λ new. grind (arith, new)) (λ again. grind (arith, again)) h
 
--- the cookie that may enter, and what is so of it once it was put
+-- the admitted cookie, and what holds of it once it is stored
 abbrev EntersAsOwn : Option RuleList → Key → Result Row CookieError → List Row → Type 0
 EntersAsOwn suffixes key made rows = (cookie : Row) × (made ≡ Ok cookie) × (row_of key rows ≡ Some cookie) × IsOwnIfListed suffixes cookie
 
--- a cookie of the key that is put is the row of that key
+-- a cookie of the key that is stored is the row of that key
 entered-put : (key : Key) (made : Result Row CookieError) (url : Parts) (now : Moment) (store : Contents) → HasKey key made → MakesOwn store.suffixes made → IsPut (entered made url now store).reply
     → EntersAsOwn store.suffixes key made (entered made url now store).store.rows
 entered-put key (Err refusal) url now store same own was_put = absurd (refused-put refusal was_put)
@@ -83,7 +83,7 @@ entered-put key (Ok cookie) url now store same own was_put =
     ap (λ k. row_of k (store_by reply store cookie now).rows) (sym same) ∙ row_of-store_by reply store cookie now was_put in
     (cookie, refl, found, own)
 
--- the same of any cookie that comes
+-- the same for any received cookie
 pub accept-put : (store : Contents) (cookie : Row) (url : Parts) (now : Moment) → IsPut (accept store cookie url now).reply
     → EntersAsOwn store.suffixes (key_of cookie) (admitted store.suffixes url cookie) (accept store cookie url now).store.rows
 unfolding accept
@@ -91,35 +91,35 @@ accept-put store cookie url now was_put =
     entered-put (key_of cookie) (admitted store.suffixes url cookie) url now store
     (admitted-HasKey store.suffixes url cookie) (admitted-own store.suffixes url cookie) was_put
 
--- a cookie of the key that ends a row ends the row of that key, and leaves all else
+-- if a cookie of the key expires a row, that is the row of the key, and everything else is unchanged
 entered-ends : (key : Key) (made : Result Row CookieError) (url : Parts) (now : Moment) (store : Contents) → HasKey key made → (entered made url now store).reply ≡ Ok ExpiredExisting
     → (entered made url now store).store ≡ record store { rows = changed (has_key key) ended store.rows }
 entered-ends key (Err refusal) url now store same ends = absurd (grind (arith, ends))
 entered-ends key (Ok cookie) url now store same ends =
     ap (λ reply. store_by reply store cookie now) ends ∙ ap {B = Contents} (λ k. record store { rows = changed (has_key k) ended store.rows }) same
 
--- the same of any cookie that comes
+-- the same for any received cookie
 pub accept-ends : (store : Contents) (cookie : Row) (url : Parts) (now : Moment) → (accept store cookie url now).reply ≡ Ok ExpiredExisting
     → (accept store cookie url now).store ≡ record store { rows = changed (has_key (key_of cookie)) ended store.rows }
 unfolding accept
 accept-ends store cookie url now ends =
     entered-ends (key_of cookie) (admitted store.suffixes url cookie) url now store (admitted-HasKey store.suffixes url cookie) ends
 
--- no other reply than to a live row says that a row was ended
+-- only the reply to a live row can be `ExpiredExisting`
 put_action-not_ended : (row : Option Row) → put_action row ≡ ExpiredExisting → ⊥
 put_action-not_ended None ends = grind (arith, ends)
 put_action-not_ended (Some row) ends = grind (arith, ends)
 
--- the row, if there is one, that has not ended
+-- there is a row, and it has not expired
 abbrev HasLive : Moment → Option Row → Type 0
 HasLive now held = (row : Row) × (held ≡ Some row) × (is_live now row ≡ true)
 
--- a reply that says so is to such a row
+-- `ExpiredExisting` is the reply to such a row
 reply_at-live : (held : Option Row) (cookie : Row) (url : Parts) (now : Moment) → reply_at held cookie url now ≡ Ok ExpiredExisting → HasLive now held
 reply_at-live None cookie url now ends = absurd (grind (arith, ends, put_action-not_ended None))
 reply_at-live (Some row) cookie url now ends = (row, refl, grind (arith, ends, put_action-not_ended (Some row)))
 
--- so the row of the cookie's key had not ended
+-- so the row of the cookie's key had not expired
 entered-live : (key : Key) (made : Result Row CookieError) (url : Parts) (now : Moment) (store : Contents) → HasKey key made → (entered made url now store).reply ≡ Ok ExpiredExisting
     → HasLive now (row_of key store.rows)
 entered-live key (Err refusal) url now store same ends = absurd (grind (arith, ends))
@@ -127,31 +127,31 @@ entered-live key (Ok cookie) url now store same ends =
     let live : HasLive now (row_of (key_of cookie) store.rows) = reply_at-live (row_of (key_of cookie) store.rows) cookie url now ends in
     (live.0, ap (λ k. row_of k store.rows) (sym same) ∙ live.1, live.2)
 
--- the same of any cookie that comes
+-- the same for any received cookie
 pub accept-live : (store : Contents) (cookie : Row) (url : Parts) (now : Moment) → (accept store cookie url now).reply ≡ Ok ExpiredExisting
     → HasLive now (row_of (key_of cookie) store.rows)
 unfolding accept
 accept-live store cookie url now ends =
     entered-live (key_of cookie) (admitted store.suffixes url cookie) url now store (admitted-HasKey store.suffixes url cookie) ends
 
--- the row that it ended
+-- the row that was expired
 pub accept-ended_row : (store : Contents) (cookie : Row) (url : Parts) (now : Moment) (row : Row) → (accept store cookie url now).reply ≡ Ok ExpiredExisting
     → row_of (key_of cookie) store.rows ≡ Some row → row_of (key_of cookie) (accept store cookie url now).store.rows ≡ Some (ended row)
 accept-ended_row store cookie url now row ends held =
     ap (λ after. row_of (key_of cookie) after.rows) (accept-ends store cookie url now ends) ∙ row_of-ended (key_of cookie) store.rows row held
 
--- the row of another key stays
+-- the row of another key is unchanged
 pub accept-other_row : (store : Contents) (cookie : Row) (url : Parts) (now : Moment) (key : Key) → (accept store cookie url now).reply ≡ Ok ExpiredExisting
     → same_key key (key_of cookie) ≡ false → row_of key (accept store cookie url now).store.rows ≡ row_of key store.rows
 accept-other_row store cookie url now key ends away =
     ap (λ after. row_of key after.rows) (accept-ends store cookie url now ends) ∙ row_of-ended_other key (key_of cookie) store.rows away
 
--- a row out of the URL's reach that has not ended refuses every cookie
+-- an unexpired HttpOnly row rejects every cookie of a scheme that is not HTTP
 reply_at-guarded : (row cookie : Row) (url : Parts) (now : Moment) → is_live now row ≡ true → is_out_of_reach row.raw url ≡ true → reply_at (Some row) cookie url now ≡ Err NonHttpScheme
 reply_at-guarded row cookie url now live out =
     cond-true (is_live now row && is_out_of_reach row.raw url) _ _ (and_from (is_live now row) (is_out_of_reach row.raw url) live out)
 
--- so a cookie of its key leaves the store
+-- so a cookie of its key leaves the store unchanged
 entered-guarded_same : (key : Key) (made : Result Row CookieError) (url : Parts) (now : Moment) (store : Contents) (row : Row) → HasKey key made
     → row_of key store.rows ≡ Some row → is_live now row ≡ true → is_out_of_reach row.raw url ≡ true → (entered made url now store).store ≡ store
 entered-guarded_same key (Err refusal) url now store row same held live out = refl
@@ -160,19 +160,19 @@ entered-guarded_same key (Ok cookie) url now store row same held live out =
     ap (λ reply. store_by reply store cookie now)
     (ap (λ r. reply_at r cookie url now) found ∙ reply_at-guarded row cookie url now live out)
 
--- the same of any cookie of that key that comes
+-- the same for any received cookie of that key
 accept-guarded_same : (store : Contents) (cookie : Row) (url : Parts) (now : Moment) (row : Row)
     → row_of (key_of cookie) store.rows ≡ Some row → is_live now row ≡ true → is_out_of_reach row.raw url ≡ true → (accept store cookie url now).store ≡ store
 unfolding accept
 accept-guarded_same store cookie url now row held live out =
     entered-guarded_same (key_of cookie) (admitted store.suffixes url cookie) url now store row (admitted-HasKey store.suffixes url cookie) held live out
 
--- the row of the key leaves for a cookie of this key that is inserted, and is not among the rows after it
+-- the row of the key is evicted for a cookie of the other key that is inserted, and is no longer stored
 abbrev LeavesFor : Contents → Moment → Key → Key → Outcome → Type 0
 LeavesFor store now key own outcome =
     (outcome.reply ≡ Ok Inserted) × (list_any (same_key key) (leaving store now own) ≡ true) × (row_of key outcome.store.rows ≡ None)
 
--- the row of the key stays as it was, or leaves so
+-- the row of the key is unchanged or evicted
 abbrev StaysOrLeaves : Contents → Moment → Key → Key → Outcome → Type 0
 StaysOrLeaves store now key own outcome = (row_of key outcome.store.rows ≡ row_of key store.rows) ⊎ LeavesFor store now key own outcome
 
@@ -190,7 +190,7 @@ outcome_by-other (Ok UpdatedExisting) store cookie now key away = inl (row_of-pu
 outcome_by-other (Ok ExpiredExisting) store cookie now key away = inl (row_of-ended_other key (key_of cookie) store.rows away)
 outcome_by-other (Err refusal) store cookie now key away = inl refl
 
--- so it does with a cookie that may enter, if there is one
+-- the same for an admitted cookie, or an error
 entered-other_key : (own : Key) (made : Result Row CookieError) (url : Parts) (now : Moment) (store : Contents) (key : Key) → HasKey own made → same_key key own ≡ false
     → StaysOrLeaves store now key own (entered made url now store)
 entered-other_key own (Err refusal) url now store key same away = inl refl
@@ -199,14 +199,14 @@ entered-other_key own (Ok cookie) url now store key same away =
     subst (λ k. StaysOrLeaves store now key k (outcome_by reply store cookie now)) same
     (outcome_by-other reply store cookie now key (ap (same_key key) same ∙ away))
 
--- and with any that comes
+-- and for any received cookie
 accept-other_key : (store : Contents) (cookie : Row) (url : Parts) (now : Moment) (key : Key) → same_key key (key_of cookie) ≡ false
     → StaysOrLeaves store now key (key_of cookie) (accept store cookie url now)
 unfolding accept
 accept-other_key store cookie url now key away =
     entered-other_key (key_of cookie) (admitted store.suffixes url cookie) url now store key (admitted-HasKey store.suffixes url cookie) away
 
--- so no cookie from that URL touches that row, but that it may leave for one that is inserted
+-- so no cookie from that URL changes that row, except that it may be evicted for an inserted cookie
 pub accept-guarded : (store : Contents) (cookie : Row) (url : Parts) (now : Moment) (key : Key) (row : Row)
     → row_of key store.rows ≡ Some row → is_live now row ≡ true → is_out_of_reach row.raw url ≡ true
     → (row_of key (accept store cookie url now).store.rows ≡ Some row) ⊎ LeavesFor store now key (key_of cookie) (accept store cookie url now)

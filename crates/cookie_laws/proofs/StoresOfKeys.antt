@@ -1,4 +1,4 @@
--- A store with those rows whose keys pass a test, as cookies enter and rows leave.
+-- A store cut to the rows whose keys pass a test, as cookies are stored and rows evicted.
 use Rattle.std.proofs.Common.{◌≡◌, ℕ, ◌+◌, ◌-◌, Bool, true, false, not, List, [], ◌∷◌, ◌++◌, length, take, append-nil, Option, Some, None, Result, Ok, Err, ◌∙◌, refl, sym, ap, ⊎_elim, if◌then◌else◌}
 use Rattle.std.specs.List.{filter, list_any}
 use Rattle.std.proofs.lemmas.Bool.{both_ways, cases_Bool, cond_both}
@@ -31,7 +31,7 @@ unmade-passing test key made here = removed-kept test (same_key key) (same_key-p
 pub unmade-other : (test : Key → Bool) (key : Key) (made : List Key) → test key ≡ false → filter test (removed (same_key key) made) ≡ filter test made
 unmade-other test key made away = removed-lost test (same_key key) (same_key-passes test key false away) made
 
--- a key is made that passes
+-- a passing key is added
 make-passing : (test : Key → Bool) (made : List Key) (key : Key) → test key ≡ true → filter test (make made key) ≡ make (filter test made) key
 make-passing test made key here =
     cond_alike (filter test) (list_any (same_key key) made) (list_any (same_key key) (filter test made))
@@ -40,7 +40,7 @@ make-passing test made key here =
     (λ _. refl)
     (λ _. filter-append test made (key ∷ []) ∙ ap (λ b. filter test made ++ (if b then key ∷ [] else [])) here)
 
--- a key is made that does not
+-- a failing key is added
 pub make-other : (test : Key → Bool) (made : List Key) (key : Key) → test key ≡ false → filter test (make made key) ≡ filter test made
 make-other test made key away =
     cond_both (list_any (same_key key) made) made (made ++ key ∷ []) (λ keys. filter test keys ≡ filter test made)
@@ -61,21 +61,21 @@ keep-other test store cookie away =
     let made = make-other test store.made (key_of cookie) away in
     λ i. record store { rows = rows i; made = made i }
 
--- rows leave among those that pass as among all
+-- evicting rows commutes with cutting to those that pass
 without-passing : (test : Key → Bool) (keys : List Key) (store : Contents) → passing_store test (without keys store) ≡ without keys (passing_store test store)
 without-passing test keys store =
     let rows = filter-swap (λ (row : Row). test (key_of row)) (λ row. is_none_of keys (key_of row)) store.rows in
     let made = filter-swap test (is_none_of keys) store.made in
     λ i. record store { rows = rows i; made = made i }
 
--- where no key that passes is among those that leave, nothing of what passes does
+-- if no passing key is evicted, what passes is unchanged
 without-other : (test : Key → Bool) (keys : List Key) → ((key : Key) → test key ≡ true → is_none_of keys key ≡ true) → (store : Contents) → passing_store test (without keys store) ≡ passing_store test store
 without-other test keys stays store =
     let rows = filter-within (λ (row : Row). is_none_of keys (key_of row)) (λ row. test (key_of row)) (λ row. stays (key_of row)) store.rows in
     let made = filter-within (is_none_of keys) test stays store.made in
     λ i. record store { rows = rows i; made = made i }
 
--- the turn of keys that pass is that among the rows that pass
+-- the eviction order of passing keys is that among the passing rows
 by_turn-passing : (test : Key → Bool) (now : Moment) (rows : List Row) (domain : Key → Bool) → ((key : Key) → domain key ≡ true → test key ≡ true) → (made : List Key)
     → by_turn now (passing test rows) (filter domain made) ≡ by_turn now rows (filter domain made)
 by_turn-passing test now rows domain here made =
@@ -84,21 +84,21 @@ by_turn-passing test now rows domain here made =
     let live = filter-alike (λ key. not (has_ended now (passing test rows) key)) (λ key. not (has_ended now rows key)) domain (λ key within. ap not (same key within)) made in
     λ i. over i ++ live i
 
--- so are those of them that leave
+-- so are the evicted ones among them
 beyond-passing : (limit : Option ℕ) (test : Key → Bool) (now : Moment) (rows : List Row) (domain : Key → Bool) → ((key : Key) → domain key ≡ true → test key ≡ true) → (made : List Key)
     → beyond limit now (passing test rows) (filter domain made) ≡ beyond limit now rows (filter domain made)
 beyond-passing None test now rows domain here made = refl
 beyond-passing (Some limit) test now rows domain here made =
     ap (take (length (filter domain made) + 1 - limit)) (by_turn-passing test now rows domain here made)
 
--- for a key that passes, the same keys leave among the rows that pass as among all
+-- for a passing key, the same keys are evicted among the passing rows as among all
 leaving-passing : (test : Key → Bool) → IsByDomain test → (store : Contents) (now : Moment) (key : Key) → test key ≡ true → leaving (passing_store test store) now key ≡ leaving store now key
 leaving-passing test by_domain store now key here =
     let domain = λ (other : Key) (same : same_domain key other ≡ true). sym (by_domain key other same) ∙ here in
     ap (beyond store.limit now (passing test store.rows)) (filter-within test (same_domain key) domain store.made)
     ∙ beyond-passing store.limit test now store.rows (same_domain key) domain store.made
 
--- a key that is not among those of a domain does not leave with them
+-- a key outside a domain is not evicted with its keys
 pub beyond-apart : (limit : Option ℕ) (now : Moment) (rows : List Row) (keys : List Key) (p : Key → Bool) → list_any p keys ≡ false → list_any p (beyond limit now rows keys) ≡ false
 beyond-apart None now rows keys p apart = refl
 beyond-apart (Some limit) now rows keys p apart =
@@ -106,7 +106,7 @@ beyond-apart (Some limit) now rows keys p apart =
     none-take p (length keys + 1 - limit) (by_turn now rows keys)
     (none-append p (filter over keys) (filter (λ key. not (over key)) keys) (none-filter p over keys apart) (none-filter p (λ key. not (over key)) keys apart))
 
--- for a key that does not pass, no key leaves that passes
+-- for a failing key, no passing key is evicted
 leaving-other : (test : Key → Bool) → IsByDomain test → (store : Contents) (now : Moment) (key : Key) → test key ≡ false → (other : Key) → test other ≡ true → is_none_of (leaving store now key) other ≡ true
 leaving-other test by_domain store now key away other here =
     let apart : (k : Key) → same_domain key k ≡ true → same_key other k ≡ false = λ k near.
@@ -116,7 +116,7 @@ leaving-other test by_domain store now key away other here =
     ap not (beyond-apart store.limit now store.rows (filter (same_domain key) store.made) (same_key other)
     (none-apart (same_key other) (same_domain key) apart store.made))
 
--- what a reply leaves, for a cookie whose key passes
+-- the store after a reply, for a cookie whose key passes
 pub store_by-passing : (test : Key → Bool) → IsByDomain test → (reply : Result StoreAction CookieError) (store : Contents) (cookie : Row) (now : Moment) → test (key_of cookie) ≡ true
     → store_by reply (passing_store test store) cookie now ≡ passing_store test (store_by reply store cookie now)
 store_by-passing test by_domain (Ok Inserted) store cookie now here =

@@ -1,4 +1,4 @@
--- In which turn rows leave a domain under a limit.
+-- The order in which rows of a domain are evicted with a limit.
 use Rattle.std.proofs.Common.{◌≡◌, ℕ, zero, suc, ◌+◌, ◌-◌, Bool, true, false, not, ◌&&◌, ◌||◌, List, [], ◌∷◌, ◌++◌, length, take, Option, Some, None, ◌∙◌, refl, sym, ap, ⊎_elim, append_assoc, arith}
 use Rattle.std.specs.Prelude.{is_some}
 use Rattle.std.specs.List.{filter, list_any}
@@ -23,14 +23,14 @@ module _ {T : Type 0} where
 
   -- an item comes first that passes a test, before those that pass another
   module _ (p q : T → Bool) where
-    -- where one of the first n passes the other, one of them passes it
+    -- if one of the first n passes the second test, one of them passes the first
     first-taken : (n : ℕ) (xs : List T) → comes_first p q xs ≡ true → list_any q (take n xs) ≡ true → list_any p (take n xs) ≡ true
     unfolding comes_first
     first-taken zero xs comes some = absurd (cc)
     first-taken (suc n) [] comes some = absurd (cc)
     first-taken (suc n) (x ∷ xs) comes some = grind (arith, first-taken n xs)
 
-    -- it does so where one passes it, and none the other
+    -- it does so if one passes the first, and none the second
     first-alone : (xs : List T) → list_any p xs ≡ true → list_any q xs ≡ false → comes_first p q xs ≡ true
     unfolding comes_first
     first-alone [] some none = absurd (cc)
@@ -55,7 +55,7 @@ module _ {T : Type 0} where
     first-behind [] ys none comes = comes
     first-behind (x ∷ xs) ys none comes = grind (arith, first-behind xs ys)
 
--- of keys that differ, one that stands behind does not stand in front
+-- of keys that differ, one further back is not in front
 none-in_front : (key : Key) (front back : List Key) → differ same_key (front ++ key ∷ back) ≡ true → list_any (same_key key) front ≡ false
 none-in_front key [] back d = refl
 none-in_front key (k ∷ ks) back d =
@@ -64,7 +64,7 @@ none-in_front key (k ∷ ks) back d =
     let apart : same_key k key ≡ false = grind (arith, list_any-append (same_key k) ks (key ∷ back), behind) in
     grind (arith, same_key_equiv.symm key k, apart, none-in_front key ks back rest)
 
--- so of two of them the one that stands before the other comes first
+-- so of two of them the one in front comes first
 made_before : (first later : Key) (front between back made : List Key) → made ≡ front ++ first ∷ (between ++ later ∷ back)
     → differ same_key made ≡ true → comes_first (same_key first) (same_key later) made ≡ true
 unfolding comes_first
@@ -85,7 +85,7 @@ passes-some : {T : Type 0} (test : T → Bool) (found : Option T) → passes tes
 passes-some test None passed = absurd (cc)
 passes-some test (Some x) passed = refl
 
--- where the other key leaves, that which comes first in turn does
+-- if the later key is evicted, so is the one that comes first in eviction order
 beyond-first : (limit : Option ℕ) (now : Moment) (rows : List Row) (keys : List Key) (first later : Key)
     → comes_first (same_key first) (same_key later) (by_turn now rows keys) ≡ true
     → list_any (same_key later) (beyond limit now rows keys) ≡ true → list_any (same_key first) (beyond limit now rows keys) ≡ true
@@ -102,7 +102,7 @@ none-passing test key keys away =
     (cases_Bool (same_key key k)) in
     none-apart (same_key key) test apart keys
 
--- a key that leaves is of the domain of the new one
+-- an evicted key has the domain of the new one
 leaves-near : (store : Contents) (now : Moment) (new key : Key) → list_any (same_key key) (leaving store now new) ≡ true
     → same_domain new key ≡ true
 leaves-near store now new key leaves =
@@ -114,7 +114,7 @@ leaves-near store now new key leaves =
     absurd (both_ways (list_any (same_key key) (leaving store now new)) stays leaves))
     (cases_Bool (same_domain new key))
 
--- the other key leaves, which is of the domain of the first
+-- the later key is evicted, and has the domain of the first
 module _ (store : Contents) (now : Moment) (new first later : Key) (has : HasMade store) (near : same_domain first later ≡ true)
     (leaves : list_any (same_key later) (leaving store now new) ≡ true) where
   -- the first is of that domain too
@@ -123,7 +123,7 @@ module _ (store : Contents) (now : Moment) (new first later : Key) (has : HasMad
       same_domain_equiv.symm new first ∙ same_domain_equiv.congr first later new near ∙ same_domain_equiv.symm later new
       ∙ leaves-near store now new later leaves
 
-  -- where its row has ended, and that of the other has not, it leaves
+  -- if its row has expired, and that of the other has not, it is evicted
   pub ended_first : has_ended now store.rows first ≡ true → has_ended now store.rows later ≡ false
       → list_any (same_key first) (leaving store now new) ≡ true
   ended_first over live =
@@ -140,7 +140,7 @@ module _ (store : Contents) (now : Moment) (new first later : Key) (has : HasMad
       (first-before (same_key first) (same_key later) (filter ended keys) (filter (λ key. not (ended key)) keys) comes)
       leaves
 
-  -- where both have ended, or neither has, and it was made before the other, it leaves
+  -- if both have expired, or neither has, and it was created first, it is evicted
   pub made_first : has_ended now store.rows first ≡ has_ended now store.rows later
       → (front between back : List Key) → store.made ≡ front ++ first ∷ (between ++ later ∷ back)
       → list_any (same_key first) (leaving store now new) ≡ true

@@ -18,7 +18,7 @@ use Rattle.cookie_laws.proofs.SameCounts.{alike_from_permutation, permutation_fr
 
 -- the cookies for a URL
 
--- what has expired stays so
+-- what has expired remains so
 expired-later : (now later : Moment) (row : Row) → nanoseconds now ≤ℤ nanoseconds later → is_live later row ≡ true → is_live now row ≡ true
 expired-later now later row after live = grind (arith, ints, after, live)
 
@@ -53,7 +53,7 @@ any-key : (row : Row) (rows : List Row) → list_any (λ r. same_key (key_of row
 any-key row [] = refl
 any-key row (r ∷ rs) = grind (arith, any-key row rs)
 
--- where keys differ, each row is found by its key
+-- if keys differ, each row is found by its key
 found-own : (rows : List Row) → differ same_key (map key_of rows) ≡ true → AllByRecursion (λ r. row_of (key_of r) rows ≡ Some r) rows
 found-own [] d = tt
 found-own (row ∷ rows) d =
@@ -61,13 +61,13 @@ found-own (row ∷ rows) d =
     let here : has_key (key_of row) row ≡ true = same_key_equiv.refl (key_of row) in
     (rw here refl, found-past row rows rows (any-key row rows ∙ not-true _ parts.0) (found-own rows parts.1))
 
--- so a row has expired where that of its key has
+-- so a row has expired if and only if that of its key has
 live-own : (now : Moment) (all rows : List Row) → AllByRecursion (λ r. row_of (key_of r) all ≡ Some r) rows
     → AllByRecursion (λ r. is_live now r ≡ not (has_ended now all (key_of r))) rows
 live-own now all [] found = tt
 live-own now all (row ∷ rows) found = (ap (λ r. not (passes (is_expired now) r)) (sym found.0), live-own now all rows found.1)
 
--- the keys stay those of the rows
+-- the keys are still those of the rows
 pub made-unexpired : (store : Contents) (now : Moment) → HasMade store → HasMade (unexpired now store)
 made-unexpired store now has =
     let rows = store.rows in

@@ -1,4 +1,4 @@
--- Where the cookies of a run came from, and which hosts they are for, after RFC 6265 5.3.
+-- Which host each cookie of a run came from, and which hosts it matches, RFC 6265 5.3.
 use Rattle.std.specs.Prelude.{◌≡◌, ℕ, false, List, slice_get, Option, Some, Ok, ◌⊎◌}
 use Rattle.url.specs.Parts.{Parts}
 use Rattle.cookie_psl.specs.Rules.{RuleList, listed}
@@ -10,7 +10,7 @@ use Rattle.cookie_laws.specs.Acceptance.{admitted}
 use Rattle.cookie_laws.specs.Contents.{Contents}
 use Rattle.cookie_laws.specs.Runs.{Call, Set, Insert, Remove, Clear, Reply, Stored, replies}
 
--- the call came from this URL, and its cookie may enter as this one
+-- the call has this URL, and its cookie is admitted as this cookie
 abbrev pub Brings : Option RuleList → Call → Parts → Row → Type 0
 Brings suffixes (Set text url now) from cookie =
     (from ≡ url) × (and_then (cookie_at text url now) (admitted suffixes url) ≡ Ok cookie)
@@ -18,21 +18,22 @@ Brings suffixes (Insert given url now) from cookie = (from ≡ url) × (admitted
 Brings suffixes (Remove key) from cookie = ⊥
 Brings suffixes Clear from cookie = ⊥
 
--- the reply says that the cookie of a call was put
+-- the reply reports that the call stored a cookie: `Inserted` or `UpdatedExisting`
 abbrev pub SaysPut : Option Reply → Type 0
 SaysPut reply = (reply ≡ Some (Stored (Ok Inserted))) ⊎ (reply ≡ Some (Stored (Ok UpdatedExisting)))
 
--- in the run of these calls from this store, the call at this place came from this URL, and put this cookie
+-- accepted: in the run of these calls from this store, the call at this position has this URL and
+-- stored this cookie
 abbrev pub Accepts : List Call → Contents → ℕ → Parts → Row → Type 0
 Accepts calls store place from cookie =
     ((call : Call) × (slice_get calls place ≡ Some call) × Brings store.suffixes call from cookie)
     × SaysPut (slice_get (replies calls store) place)
 
--- the cookie as it was put, or ended since
+-- the cookie is as it was stored, or was expired since
 abbrev pub IsPutOrEnded : Row → Row → Type 0
 IsPutOrEnded accepted cookie = (cookie ≡ accepted) ⊎ (cookie ≡ ended accepted)
 
--- both URLs have a host, and it is the same
+-- both URLs have a host, and the hosts are equal
 abbrev pub HaveOneHost : Parts → Parts → Type 0
 HaveOneHost a b = (host : List ℕ) × (host_of a ≡ Some host) × (host_of b ≡ Some host)
 
@@ -40,24 +41,25 @@ HaveOneHost a b = (host : List ℕ) × (host_of a ≡ Some host) × (host_of b �
 abbrev pub CoversHostOf : List ℕ → Parts → Type 0
 CoversHostOf domain url = (host : List ℕ) × (host_of url ≡ Some host) × Covers domain host
 
--- no rule of the list, if there is one, makes this text a public suffix
+-- there is no public suffix list, or the domain is not listed as a public suffix
 abbrev pub IsUnlisted : Option RuleList → List ℕ → Type 0
 IsUnlisted suffixes text = passes (λ rules. listed rules text) suffixes ≡ false
 
--- the cookie is for all hosts that a domain covers which is no listed public suffix, and it covers the hosts of both URLs
+-- a domain cookie whose domain is not a listed public suffix and covers the hosts of both URLs
 abbrev pub IsShared : Option RuleList → Row → Parts → Parts → Type 0
 IsShared suffixes cookie a b =
     (domain : List ℕ) × (cookie.domain ≡ Suffix domain) × IsUnlisted suffixes domain
     × CoversHostOf domain a × CoversHostOf domain b
 
--- a call of the run from this store put this cookie, which may have ended since, and came from the host of the URL, or shares the
--- cookie with it
+-- a call of the run from this store accepted this cookie, which may have been expired since; its
+-- URL and this one have the same host, or share the cookie
 abbrev pub IsConfined : List Call → Contents → Parts → Row → Type 0
 IsConfined calls store url cookie =
     (place : ℕ) × (from : Parts) × (accepted : Row) × Accepts calls store place from accepted
     × IsPutOrEnded accepted cookie × (HaveOneHost from url ⊎ IsShared store.suffixes cookie from url)
 
--- the same of the very cookie that the call put, end and all
+-- a call of the run accepted exactly this cookie, its expiry included; its URL and this one have
+-- the same host, or share the cookie
 abbrev pub IsConfinedAsPut : List Call → Contents → Parts → Row → Type 0
 IsConfinedAsPut calls store url cookie =
     (place : ℕ) × (from : Parts) × Accepts calls store place from cookie

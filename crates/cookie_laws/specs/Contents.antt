@@ -1,4 +1,4 @@
--- What a store holds, and which rows leave it for a new one.
+-- What a store holds, and which rows are evicted for a new one.
 use Rattle.std.specs.Prelude.{◌≡◌, ℕ, ◌+◌, ◌-◌, Bool, true, not, List, [], ◌++◌, filter, length, map, take, Option, Some, None}
 use Rattle.std.specs.List.{list_any}
 use Rattle.std.specs.List.Sorted.{IsPermutation}
@@ -8,45 +8,48 @@ use Rattle.cookie_parts.specs.Cookie.{Row, is_expired}
 use Rattle.cookie_parts.specs.Hosts.{passes}
 use Rattle.cookie_laws.specs.Rows.{Key, Kept, differ, key_of, live_rows, make, put, row_of, same_domain, same_key}
 
--- its rows, and their keys by making, the one that was made least recently first; the public suffix list that it obeys, if there
--- is one; and how many rows of one domain it lets stand, if there is a limit
+-- The contents of a store:
+-- - `rows`: the stored cookies
+-- - `made`: their keys in creation order, oldest first
+-- - `suffixes`: the public suffix list, if any
+-- - `limit`: how many rows a domain may have, if limited
 pub record Contents : Type 0 where
   pub rows : List Row
   pub made : List Key
   pub suffixes : Option RuleList
   pub limit : Option ℕ
 
--- its keys by making are the keys of its rows in an order of their own, and differ
+-- `made` is a permutation of the keys of the rows, and no key is in it twice
 abbrev pub HasMade : Contents → Type 0
 HasMade store = IsPermutation (map key_of store.rows) store.made × (differ same_key store.made ≡ true)
 
--- its rows and their keys
+-- the rows and their keys in creation order
 abbrev pub kept_of : Contents → Kept
 kept_of store = record { rows = store.rows; made = store.made }
 
--- a store of these, under a list and a limit, if there are any
+-- a store with these rows, a public suffix list and a limit, both optional
 abbrev pub contents_of : Kept → Option RuleList → Option ℕ → Contents
 contents_of kept suffixes limit = record { rows = kept.rows; made = kept.made; suffixes = suffixes; limit = limit }
 
--- the row of the key has ended
+-- the row of the key exists and has expired
 abbrev pub has_ended : Moment → List Row → Key → Bool
 has_ended now rows key = passes (is_expired now) (row_of key rows)
 
--- keys in the turn in which their rows leave: first those of rows that have ended, and each part as it is
+-- keys in eviction order: those of expired rows first, then the others, both in the given order
 abbrev pub by_turn : Moment → List Row → List Key → List Key
 by_turn now rows keys = filter (has_ended now rows) keys ++ filter (λ key. not (has_ended now rows key)) keys
 
--- of the keys of a domain by making, those whose rows leave for a new one: so many that with it no more than the limit stand, and
--- all where that is 0
+-- the keys to evict from a domain so that a new row fits the limit, or all if the limit is 0;
+-- `keys` are those of the domain in creation order
 abbrev pub beyond : Option ℕ → Moment → List Row → List Key → List Key
 beyond None now rows keys = []
 beyond (Some limit) now rows keys = take (length keys + 1 - limit) (by_turn now rows keys)
 
--- the keys whose rows leave for a new row of this key
+-- the keys whose rows are evicted for a new row of this key
 abbrev pub leaving : Contents → Moment → Key → List Key
 leaving store now key = beyond store.limit now store.rows (filter (same_domain key) store.made)
 
--- the key is none of these
+-- the key is not one of these keys
 abbrev pub is_none_of : List Key → Key → Bool
 is_none_of keys key = not (list_any (same_key key) keys)
 
@@ -64,6 +67,7 @@ unexpired now store = record store {
   made = filter (λ key. not (has_ended now store.rows key)) store.made;
 }
 
--- the store with the cookie in the place of the row of its key, or as a new row, which is made last
+-- the store with the cookie stored: it replaces the row of its key, which keeps its place in the
+-- creation order, or it is a new row, created last
 abbrev pub keep : Contents → Row → Contents
 keep store cookie = record store { rows = put store.rows cookie; made = make store.made (key_of cookie) }

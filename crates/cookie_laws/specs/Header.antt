@@ -15,16 +15,16 @@ use Rattle.cookie_laws.specs.Rows.{Key, key_of, same_key}
 abbrev pub pair_text : Row → List ℕ
 pair_text cookie = cookie.raw.name ++ codes "=" ++ cookie.raw.value
 
--- a cookie-pair after another one
+-- "; " and a cookie-pair
 abbrev pub later_pair : Row → List ℕ
 later_pair cookie = codes "; " ++ pair_text cookie
 
--- 4.2.1: the cookie-string of cookies, in their order
+-- 4.2.1: the cookie-string of these cookies, in their order
 abbrev pub cookie_string : List Row → List ℕ
 cookie_string [] = []
 cookie_string (cookie ∷ cookies) = pair_text cookie ++ flat_map later_pair cookies
 
--- how many cookies were created before this one, by the keys in creation order
+-- how many cookies were created before this one; `made` holds the keys in creation order
 abbrev pub creation : List Key → Row → ℕ
 creation made cookie = position_or_len (same_key (key_of cookie)) made
 

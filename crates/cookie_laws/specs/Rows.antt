@@ -9,7 +9,7 @@ use Rattle.cookie_words.specs.Moments.{Moment}
 use Rattle.cookie_parts.specs.Cookie.{Row, is_expired}
 use Rattle.cookie_parts.specs.Domain.{domain_text}
 
--- RFC 6265 5.3 step 11: what no two cookies of a store share
+-- RFC 6265 5.3 step 11: no two stored cookies have the same domain, path and name
 pub record Key : Type 0 where
   pub domain : List ℕ
   pub path : List ℕ
@@ -19,33 +19,35 @@ pub record Key : Type 0 where
 abbrev pub key_at : List ℕ → List ℕ → List ℕ → Key
 key_at domain path name = record { domain = domain; path = path; name = name }
 
--- the key of a row
+-- the key of a cookie
 abbrev pub key_of : Row → Key
 key_of cookie = record { domain = domain_text cookie.domain; path = cookie.path.text; name = cookie.raw.name }
 
--- the keys are of one domain
+-- the keys have the same domain
 abbrev pub same_domain : Key → Key → Bool
 same_domain a b = bytes_eq a.domain b.domain
 
--- of one domain and path
+-- the keys have the same domain and path
 abbrev pub same_group : Key → Key → Bool
 same_group a b = same_domain a b && bytes_eq a.path b.path
 
--- the same
+-- the keys have the same domain, path and name
 abbrev pub same_key : Key → Key → Bool
 same_key a b = same_group a b && bytes_eq a.name b.name
 
--- each of the three is an equivalence
+-- `same_domain` is an equivalence
 pub same_domain_equiv : IsEquivalence same_domain
 same_domain_equiv = on_equiv (λ (k : Key). k.domain) nat_list_eq_equiv
 
+-- `same_group` is an equivalence
 pub same_group_equiv : IsEquivalence same_group
 same_group_equiv = and_equiv same_domain_equiv (on_equiv (λ (k : Key). k.path) nat_list_eq_equiv)
 
+-- `same_key` is an equivalence
 pub same_key_equiv : IsEquivalence same_key
 same_key_equiv = and_equiv same_group_equiv (on_equiv (λ (k : Key). k.name) nat_list_eq_equiv)
 
--- keys that pass as the same are equal
+-- keys that `same_key` accepts are equal
 pub same_key-true : (a b : Key) → same_key a b ≡ true → a ≡ b
 same_key-true a b h =
     let named : (same_group a b ≡ true) × (bytes_eq a.name b.name ≡ true) = and_parts _ _ h in
@@ -55,15 +57,15 @@ same_key-true a b h =
     let name : a.name ≡ b.name = (bytes_eq-Decides a.name b.name).0 named.1 in
     λ i. record { domain = domain i; path = path i; name = name i }
 
--- a row of this key's domain
+-- the row has the key's domain
 abbrev pub in_domain : Key → Row → Bool
 in_domain key row = same_domain key (key_of row)
 
--- a row of its domain and path
+-- the row has the key's domain and path
 abbrev pub in_group : Key → Row → Bool
 in_group key row = same_group key (key_of row)
 
--- the row of the key
+-- the row has this key
 abbrev pub has_key : Key → Row → Bool
 has_key key row = same_key key (key_of row)
 
@@ -71,20 +73,21 @@ has_key key row = same_key key (key_of row)
 abbrev pub row_of : Key → List Row → Option Row
 row_of key rows = find (has_key key) rows
 
--- the row has not ended
+-- the row has not expired
 abbrev pub is_live : Moment → Row → Bool
 is_live now row = not (is_expired now row)
 
--- the row, if there is one and it has not ended
+-- the row, if there is one and it has not expired
 abbrev pub if_live : Moment → Option Row → Option Row
 if_live now None = None
 if_live now (Some row) = if is_live now row then Some row else None
 
--- the rows that have not ended
+-- the rows that have not expired
 abbrev pub live_rows : Moment → List Row → List Row
 live_rows now rows = filter (is_live now) rows
 
--- the list with y right after the last item that passes the test, or at the end where none does
+-- the list with y inserted right after the last item that passes the test, or at the end if none
+-- does
 abbrev pub after_last : {T : Type 0} → (T → Bool) → List T → T → List T
 after_last test [] y = y ∷ []
 after_last test (x ∷ xs) y =
@@ -95,7 +98,7 @@ abbrev pub changed : {T : Type 0} → (T → Bool) → (T → T) → List T → 
 changed test change [] = []
 changed test change (x ∷ xs) = if test x then change x ∷ xs else x ∷ changed test change xs
 
--- the list with y in the place of the first item that passes the test
+-- the list with its first item that passes the test replaced by y
 abbrev pub replaced : {T : Type 0} → (T → Bool) → List T → T → List T
 replaced test xs y = changed test (λ _. y) xs
 
@@ -104,42 +107,44 @@ abbrev pub removed : {T : Type 0} → (T → Bool) → List T → List T
 removed test [] = []
 removed test (x ∷ xs) = if test x then xs else x ∷ removed test xs
 
--- a new row goes after the last row of its domain and path, else after the last of its domain, else last
+-- the rows with a new row: after the last row of its domain and path, else after the last row of
+-- its domain, else at the end
 abbrev pub placed : List Row → Row → List Row
 placed rows cookie =
     if list_any (in_group (key_of cookie)) rows then after_last (in_group (key_of cookie)) rows cookie
     else after_last (in_domain (key_of cookie)) rows cookie
 
--- the cookie takes the place of the row of its key, or is a new row
+-- the rows with the cookie stored: it replaces the row of its key, or is a new row
 abbrev pub put : List Row → Row → List Row
 put rows cookie =
     if list_any (has_key (key_of cookie)) rows then replaced (has_key (key_of cookie)) rows cookie
     else placed rows cookie
 
--- the rows after these cookies were put, one after the other
+-- the rows after these cookies are stored, one after the other
 abbrev pub put_all : List Row → List Row → List Row
 put_all rows [] = rows
 put_all rows (cookie ∷ cookies) = put_all (put rows cookie) cookies
 
--- a key that is put is made last, unless it was made before
+-- the creation order after a key is stored: a new key comes last, a known one keeps its place
 abbrev pub make : List Key → Key → List Key
 make made key = if list_any (same_key key) made then made else made ++ key ∷ []
 
--- the keys by making after these were put, one after the other
+-- the creation order after these keys are stored, one after the other
 abbrev pub make_all : List Key → List Key → List Key
 make_all made [] = made
 make_all made (key ∷ keys) = make_all (make made key) keys
 
--- of cookies, all or those that have not ended
+-- all of the cookies, or only those that have not expired
 abbrev pub included : Bool → Moment → List Row → List Row
 included include_expired now cookies = if include_expired then cookies else live_rows now cookies
 
--- rows, and their keys by making, the one that was made least recently first
+-- rows, and their keys in creation order, oldest first
 pub record Kept : Type 0 where
   pub rows : List Row
   pub made : List Key
 
--- the rows that are built from cookies, of which those that have ended may be passed over; they are made as they come
+-- the rows built from cookies, with or without the expired ones; their creation order is that of
+-- the list
 abbrev pub built : Bool → Moment → List Row → Kept
 built include_expired now cookies =
     let taken = included include_expired now cookies in
@@ -150,14 +155,14 @@ abbrev pub differ : {T : Type 0} → (T → T → Bool) → List T → Bool
 differ alike [] = true
 differ alike (x ∷ xs) = not (list_any (alike x) xs) && differ alike xs
 
--- items that are alike stand together: where the next item is not like this one, no later item is
+-- items that are alike are adjacent: if the next item is not like this one, no later item is
 abbrev pub stand_together : {T : Type 0} → (T → T → Bool) → List T → Bool
 stand_together alike [] = true
 stand_together alike (x ∷ []) = true
 stand_together alike (x ∷ y ∷ ys) =
     (alike x y || not (list_any (alike x) ys)) && stand_together alike (y ∷ ys)
 
--- keys differ, rows of one domain stand together, and in them rows of one path
+-- keys differ, the rows of a domain are adjacent, and in them those of a path
 abbrev pub are_rows : List Row → Bool
 are_rows rows =
     let keys = map key_of rows in

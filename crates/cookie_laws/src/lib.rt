@@ -1,8 +1,10 @@
 //! The definitions of a cookie store, and the laws that follow from them.
 //!
-//! What stands here is about lists of rows and of calls alone: `specs/` says what rows are, what becomes of a cookie that comes, what
-//! a run of calls leaves and what is given of it, and each function below is a law over all of them, `confined` over all runs
-//! from no rows. A store meets these definitions by its contracts, so the laws hold of each.
+//! All of this is about lists of rows (stored cookies) and lists of calls. `specs/` defines rows,
+//! what the store does with a received cookie (RFC 6265 5.3), what a run of calls leaves in the
+//! store, and which cookies are given for a URL (5.4). Each function below is a law about these
+//! definitions; `confined` is about all runs that begin without rows. A store fulfils the
+//! definitions by its contracts, so the laws hold for every store.
 #![tactic(auto)]
 
 ghost use Rattle.cookie_parts.specs.Cookie.{Row, ended, is_out_of_reach};
@@ -24,8 +26,8 @@ ghost use Rattle.std.specs.List.{list_any, All};
 ghost use Rattle.std.specs.Prelude.{◌+◌, ◌++◌, ◌<◌, ◌≡◌, ◌≤ℤ◌, ◌≤◌, ◌∷◌, ◌⊎◌, ℕ, [], false, length, max, min, true, Bool, List, Ok, Option, Result, Some};
 ghost use Rattle.url.specs.Parts.{Parts};
 
-/// Calls for domains that are not related to a URL change nothing in what is given for it, nor in its order in the header, nor in the
-/// replies to the others.
+/// Calls for domains that are not related to a URL change nothing for it: neither the cookies
+/// given, nor their order in the Cookie header, nor the replies to the other calls.
 pub fn isolated()
     ensures given { (url : Parts) (now : Moment) (calls : List Call) (store : Contents)
         → given url now (rows_after calls store) ≡ given url now (rows_after (left url calls) store) }
@@ -35,8 +37,8 @@ pub fn isolated()
         → replies_to (concerns url) calls store ≡ replies (left url calls) store }
 {}
 
-/// The rows of a domain, their order, their keys by making, and the replies to the calls for it depend on the begun store, the calls
-/// for that domain and `Clear` alone.
+/// The rows of a domain, their order, their creation order and the replies to the calls for the
+/// domain depend only on the begun store, the calls for that domain, and `Clear`.
 pub fn per_domain()
     ensures rows { (domain : List ℕ) (calls : List Call) (store : Contents)
         → domain_rows domain (rows_after calls store) ≡ domain_rows domain (rows_after (domain_calls domain calls) store) }
@@ -46,9 +48,10 @@ pub fn per_domain()
         → replies_to (is_of_domain domain) calls store ≡ replies (domain_calls domain calls) store }
 {}
 
-/// Under a limit no more rows of one domain stand after calls than the limit, or than stood before if those were more. A cookie that
-/// is inserted leaves one row of its domain more than there were, or as many as the limit if that is fewer. The keys by making are
-/// those of the rows in a store that is built, and stay so.
+/// With a domain limit, a domain has at most `limit` rows after any calls, or at most as many as
+/// before if those were more. After a cookie is inserted, its domain has one row more than before,
+/// but at most `limit`. In a store that is built from cookies the creation order (`made`) holds the
+/// keys of the rows, each once, and calls keep it so.
 pub fn limited()
     ensures rows { (domain : List ℕ) (calls : List Call) (store : Contents) (limit : ℕ) → HasMade store → store.limit ≡ Some limit
         → 0 < limit → length (domain_rows domain (rows_after calls store)) ≤ max limit (length (domain_rows domain store.rows)) }
@@ -62,8 +65,10 @@ pub fn limited()
         → HasMade (contents_of (built include_expired now cookies) suffixes limit) }
 {}
 
-/// Under a limit rows leave a domain in turn. Where the row of a key leaves that has not ended, each that has ended does, and where
-/// both have ended, or neither has, each whose key was made before.
+/// With a domain limit, rows of a domain are evicted in order: expired ones first, then the others,
+/// in each case those that were created first. So if an unexpired row is evicted, every expired row
+/// of its domain is; and of two rows that have both expired, or both not, the later is evicted only
+/// if the earlier is.
 pub fn leave_in_turn()
     ensures ended { (store : Contents) (now : Moment) (new first later : Key) → HasMade store → same_domain first later ≡ true
         → list_any (same_key later) (leaving store now new) ≡ true
@@ -76,9 +81,10 @@ pub fn leave_in_turn()
         → list_any (same_key first) (leaving store now new) ≡ true }
 {}
 
-/// What is given after calls from a store without rows was put by one of them, from the same host, or for all hosts that a domain
-/// covers which is no public suffix on the list, if there is one, and that covers both hosts. It is the cookie as it was put, or
-/// ended since; at a moment from the epoch on it is the cookie as it was put, end and all.
+/// Every cookie given after calls on a store without rows was accepted by one of these calls. That
+/// call's URL has the same host as this one, or the cookie is a domain cookie whose domain is not
+/// listed as a public suffix and covers both hosts. The cookie is as it was stored or was expired
+/// since; at times from the epoch on it is exactly as it was stored, its expiry included.
 pub fn confined()
     ensures given { (url : Parts) (now : Moment) (calls : List Call) (store : Contents) → store.rows ≡ []
         → All (IsConfined calls store url) (given url now (rows_after calls store)) }
@@ -87,8 +93,9 @@ pub fn confined()
         → All (IsConfinedAsPut calls store url) (given url now (rows_after calls store)) }
 {}
 
-/// A cookie that is put is the row of its key, and where its domain is a public suffix on the list, it is for that host alone from
-/// which it came. This law and the next two are about what was made of what came, a cookie or a refusal: `insert` takes the cookie.
+/// A cookie that is stored is the row of its key. If its domain is a listed public suffix, it is a
+/// host-only cookie for the host it came from. In this law and the next two `made` is the result of
+/// making the cookie, a cookie or an error; `insert` takes the cookie.
 pub fn listed_is_for_its_host()
     ensures { (store : Contents) (made : Result Row CookieError) (url : Parts) (now : Moment)
         → IsPut (received store made url now).reply → (cookie : Row) × (entered : Row)
@@ -98,8 +105,8 @@ pub fn listed_is_for_its_host()
         × (host_of url ≡ Some (domain_text entered.domain))) }
 {}
 
-/// An insertion is answered by `ExpiredExisting` only where a cookie was made, and there is a row of its key that has not ended.
-/// That row ends, and all else stays.
+/// An insertion returns `ExpiredExisting` only if a cookie was made and the row of its key exists
+/// and has not expired. That row is expired, and everything else is unchanged.
 pub fn ends_one_row()
     ensures live { (store : Contents) (made : Result Row CookieError) (url : Parts) (now : Moment)
         → (received store made url now).reply ≡ Ok ExpiredExisting → (cookie : Row) × (row : Row)
@@ -117,33 +124,35 @@ pub fn ends_one_row()
         → row_of key (received store made url now).store.rows ≡ row_of key store.rows }
 {}
 
-/// No insertion from a scheme that is not HTTP replaces or ends a row that is HttpOnly and has not ended. It may leave, under a
-/// limit, for a cookie that is inserted.
+/// No insertion from a scheme that is not HTTP replaces or expires an HttpOnly row that has not
+/// expired. With a domain limit, such a row may be evicted for a cookie that is inserted.
 pub fn guarded()
     ensures { (store : Contents) (made : Result Row CookieError) (url : Parts) (now : Moment)
         (key : Key) (row : Row) → row_of key store.rows ≡ Some row → is_live now row ≡ true → is_out_of_reach row.raw url ≡ true
         → (row_of key (received store made url now).store.rows ≡ Some row) ⊎ Leaves store made url now key }
 {}
 
-/// Rows that are built from the rows of a store, one after the other and all of them, are the same rows in the same order.
+/// Building a store from all the rows of a store, in their order, gives the same rows in the same
+/// order.
 pub fn rebuilt()
     ensures { (rows : List Row) (now : Moment) → are_rows rows ≡ true → (built true now rows).rows ≡ rows }
 {}
 
-/// A cookie that is given for a URL is of a domain that is related to the URL.
+/// The domain of a cookie that is given for a URL is related to the URL.
 pub fn given_is_related()
     ensures { (url : Parts) (now : Moment) (row : Row)
         → is_given url now row ≡ true → is_related url (domain_text row.domain) ≡ true }
 {}
 
-/// The cookies of a request have one order in the header: two lists of them in that order are the same list.
+/// The cookies of a request have exactly one order in the Cookie header: two lists of them in
+/// header order are equal.
 pub fn one_header_order()
     ensures { (url : Parts) (now : Moment) (store : Contents) (cookies others : List Row) → are_rows store.rows ≡ true → HasMade store
         → InHeaderOrder url now store cookies → InHeaderOrder url now store others → cookies ≡ others }
 {}
 
-/// Removing the cookies that have expired changes no request: at any time from then on the same cookies are given. The keys in
-/// creation order stay those of the rows.
+/// Removing the expired cookies changes no request: from then on the same cookies are given at any
+/// time. The creation order still holds the keys of the rows, each once.
 pub fn given_without_expired()
     ensures given { (store : Contents) (url : Parts) (now later : Moment) → nanoseconds now ≤ℤ nanoseconds later
         → given url later (unexpired now store).rows ≡ given url later store.rows }

@@ -1,4 +1,4 @@
--- The look-ups of the texts that a URL is looked up by give what a walk of all groups gives, in another order.
+-- The lookups of the candidates of a URL find what a walk over all groups finds, in another order.
 use Rattle.std.proofs.Common.{◌≡◌, ℕ, suc, ◌+◌, Bool, true, false, cond, List, [], ◌∷◌, map, Option, Some, None, refl, sym, ◌∙◌, ap, subst, inl, inr, bytes_eq, arith}
 use Rattle.std.specs.Prelude.{option_map}
 use Rattle.std.specs.List.{AllByRecursion, sum_by, list_any, flat_map}
@@ -12,7 +12,7 @@ use Rattle.cookie_lookup.specs.Seen.{Spot, place_of, under, row_spots, path_spot
 use Rattle.cookie_lookup.proofs.Cuts.{bool_cases}
 
 module _ {X : Type 0} (F : ℕ → List X → ℕ) where
-  -- what F says of the group under a text, where the first group is at n, and of all groups
+  -- the value of F for the group of a name, if the first group is at n, and for all groups
   abbrev pub value : ℕ → List ℕ → List (List ℕ × List X) → ℕ
   value n text [] = 0
   value n text (g ∷ gs) = cond (bytes_eq text g.0) (F n g.1) (value (n + 1) text gs)
@@ -44,7 +44,7 @@ module _ {X : Type 0} (F : ℕ → List X → ℕ) where
   zeros h z [] = refl
   zeros h z (t ∷ ts) = omega (arith, sum_by-cons h t ts, z t, zeros h z ts)
 
-  -- the first group is found once, if a text asks for it
+  -- the first group is found once, if a candidate is its name
   split_first : (n : ℕ) (ts : List (List ℕ)) (g : List ℕ × List X) (gs : List (List ℕ × List X)) → differ bytes_eq ts ≡ true → value (n + 1) g.0 gs ≡ 0
       → sum_by (λ t. value n t (g ∷ gs)) ts ≡ cond (list_any (bytes_eq g.0) ts) (F n g.1) 0 + sum_by (λ t. value (n + 1) t gs) ts
   split_first n [] g gs d z = refl
@@ -71,7 +71,7 @@ module _ {X : Type 0} (F : ℕ → List X → ℕ) where
             rw any (omega (arith, all, rest, it, next))
       ]
 
-  -- a group that no text asks for has nothing
+  -- a group that is no candidate adds nothing
   abbrev pub Missed : List (List ℕ) → List (List ℕ × List X) → Type 0
   Missed ts gs = AllByRecursion (λ g. list_any (bytes_eq g.0) ts ≡ false → (k : ℕ) → F k g.1 ≡ 0) gs
 
@@ -88,7 +88,7 @@ module _ {X : Type 0} (F : ℕ → List X → ℕ) where
         | inr e ↦ let first' = rw e at first in omega (arith, first', next, m.0 e n)
       ]
 
--- sums of look-ups
+-- sums over lookups
 
 pub sum_flat : {T A : Type 0} (f : A → ℕ) (h : T → List A) (ts : List T) → sum_by f (flat_map h ts) ≡ sum_by (λ t. sum_by f (h t)) ts
 sum_flat f h [] = refl
@@ -131,7 +131,7 @@ module _ (test : Row → Bool) (f : Spot → ℕ) where
       go texts groups text None e = rw (at_domain, e) refl
       go texts groups text (Some p) e = let z : 0 + p ≡ p = omega arith in rw (at_domain, e) (sym (ap (λ m. paths_sum texts m (under p groups)) z))
 
-  -- in each domain's group the look-ups of paths add what all its paths do
+  -- in each domain the lookups of paths add what all its paths do
   abbrev pub Agree : List (List ℕ) → DomainGroups → Type 0
   Agree texts groups = AllByRecursion (λ g. (d : ℕ) → paths_sum texts d g.1 ≡ sum_by f (path_spots test d 0 g.1)) groups
 

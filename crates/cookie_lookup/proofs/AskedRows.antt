@@ -1,4 +1,4 @@
--- What is left to ask of a row under texts that a URL is looked up by says whether it is given.
+-- The tests left for a row under candidates of the URL decide whether it is given.
 use Rattle.std.proofs.Common.{◌≡◌, ℕ, ◌<◌, ◌⊎◌, Bool, true, false, not, ◌&&◌, ◌||◌, List, [], ◌∷◌, ◌++◌, length, refl, ap, inl, inr, eqb, bytes_eq, nat_eq, arith, length-append, Some}
 use Rattle.std.specs.Prelude.{slice_index, IsTrue}
 use Rattle.std.specs.List.{ends_with, starts_with}
@@ -18,7 +18,7 @@ use Rattle.cookie_lookup.specs.Texts.{IsPathText, IsRelated}
 use Rattle.cookie_lookup.proofs.CoveringTexts.{covers_it}
 use Rattle.cookie_lookup.proofs.Cuts.{bool_cases}
 
--- a text that the host is looked up by is the host where it is as long
+-- a candidate domain is the host if and only if it is as long
 same_length : (host text : List ℕ) → IsRelated host text → bytes_eq text host ≡ eqb (length text) (length host)
 same_length host text related = elim related [
   | inl same ↦ rw (same, (bytes_eq-Decides host host).1 refl) (grind (arith, nat_tests))
@@ -30,7 +30,7 @@ same_length host text related = elim related [
       ]
 ]
 
--- 5.1.3: and it covers the host where it is the host, or the host is a name
+-- 5.1.3: and it covers the host if it is the host, or the host is a name
 covers_host : (host text : List ℕ) → IsRelated host text → covers text host ≡ (eqb (length text) (length host) || is_host_name host)
 covers_host host text related = rw (← same_length host text related) (either (bytes_eq text host) (ends_with nat_eq host (46 ∷ text)) (is_host_name host) (where_not related))
   where
@@ -75,7 +75,7 @@ module _ (ended secure http : Bool) where
       turned true true true = refl
       turned true true false = grind (arith, nat_tests)
 
--- so what is left to ask says whether it is given
+-- so the tests left decide whether the row is given
 pub asked_given : (url : Parts) (now : Moment) (host text : List ℕ) → Some host ≡ host_of url → IsRelated host text
     → ((path request : List ℕ) → CoversPath path request → IsTrue (covers_path path request))
     → AgreesUnder text (is_asked_for (is_host text host) (is_of_host text host) url now) (is_given url now) url.path

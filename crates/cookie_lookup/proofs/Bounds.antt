@@ -1,4 +1,4 @@
--- How many domains are found, and how often they are looked up.
+-- How many domains are found, and how many lookups of them there are.
 use Rattle.std.proofs.Common.{◌≡◌, ℕ, suc, ◌+◌, ◌*◌, ◌^◌, ◌<◌, ◌≤◌, Bool, true, false, cond, List, [], ◌∷◌, length, Option, Some, None, refl, sym, ◌∙◌, ap, inl, inr, eqb, bytes_eq, arith}
 use Rattle.std.specs.Prelude.{is_some, option_map, count_by}
 use Rattle.std.specs.List.{AllByRecursion, list_any}
@@ -13,7 +13,7 @@ use Rattle.cookie_lookup.specs.Texts.{domain_texts, dots, slashes, most_domains}
 use Rattle.cookie_lookup.proofs.Cuts.{bool_cases}
 use Rattle.cookie_lookup.proofs.PathTexts.{any_append}
 
--- no more than half of what can be addressed are counted in a text
+-- a count in a string is at most its length, so the numbers of lookups stay below 2 ^ 128
 pub counted : {T : Type 0} (p : T → Bool) (text : List T) → count_by p text ≤ length text
 counted p [] = omega arith
 counted p (b ∷ bs) = omega (arith, sum_by-cons (λ x. cond (p x) 1 0) b bs, below (p b), counted p bs)
@@ -34,7 +34,7 @@ paths_fit host path paths none h p =
 pub domains_most : (url : Parts) (host : List ℕ) (old new : ℕ) → Some host ≡ host_of url → old ≡ 0 → new ≤ old + (1 + dots host) → new ≤ most_domains url
 domains_most url host old new e o h = rw (most_domains, ← e) (omega (arith, o, h))
 
--- rows of one path, of the domain text, are of a text as it is
+-- rows of one domain have this one if and only if it is theirs
 of_rows : (text domain path : List ℕ) (rows : List Row) → AllByRecursion (Of domain path) rows → list_any (is_of_domain text) rows ≡ cond (bytes_eq text domain) (list_any (λ _. true) rows) false
 of_rows text domain path [] a = elim (bool_cases (bytes_eq text domain)) [ inl e ↦ rw e refl | inr e ↦ rw e refl ]
 of_rows text domain path (row ∷ rows) a =
@@ -67,7 +67,7 @@ pub some_later : (o : Option ℕ) → is_some (option_map suc o) ≡ is_some o
 some_later None = refl
 some_later (Some n) = refl
 
--- a text has a group where a row is of it
+-- a domain has a group if and only if a row has that domain
 pub found_where : (text : List ℕ) (gs : DomainGroups) → AllByRecursion (λ g. (0 < length g.1) × ArePaths g.0 g.1) gs → is_some (place_of text gs) ≡ list_any (is_of_domain text) (flat gs)
 found_where text [] a = refl
 found_where text (g ∷ gs) a =

@@ -1,4 +1,4 @@
--- How many of the texts are found, and how often paths are looked up under them.
+-- How many candidates are found, and how many lookups of paths there are in them.
 use Rattle.std.proofs.Common.{◌≡◌, ℕ, ◌+◌, ◌*◌, ◌≤◌, Bool, true, false, cond, List, [], ◌∷◌, Some, sym, ◌∙◌, ap, arith, rules}
 use Rattle.std.specs.Prelude.{is_some}
 use Rattle.std.proofs.lemmas.List.Sums.{sum_by-cons}
@@ -10,7 +10,7 @@ found_cons groups text texts =
     let p : List ℕ → ℕ = λ t. cond (is_some (place_of t groups)) 1 0 in
     omega (arith, sum_by-cons p text texts, sum_by-cons p text [])
 
--- a text that has a group is one
+-- a candidate that has a group counts one
 pub one_found : (groups : DomainGroups) (text : List ℕ) (d : ℕ) → Some d ≡ place_of text groups → how_many_found groups (text ∷ []) ≡ 1
 one_found groups text d e = sum_by-cons (λ t. cond (is_some (place_of t groups)) 1 0) text [] ∙ ap (λ o. cond (is_some o) 1 0 + 0) (sym e) ∙ omega arith
 
@@ -29,7 +29,7 @@ times_sum a b m = grind arith
 times_one : (a m : ℕ) → a ≤ 1 → a * m ≤ m
 times_one a m h = search (rules, arith)
 
--- the paths under one text more
+-- the paths of one more domain
 pub paths_next : (groups : DomainGroups) (text : List ℕ) (texts : List (List ℕ)) (m before now : ℕ) → now ≤ before + how_many_found groups (text ∷ []) * m
     → now + how_many_found groups texts * m ≤ before + how_many_found groups (text ∷ texts) * m
 paths_next groups text texts m before now h =

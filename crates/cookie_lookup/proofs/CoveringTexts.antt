@@ -1,4 +1,4 @@
--- The texts that a path is looked up by are those of the definition, and a path that path-matches is among them.
+-- The candidate paths are those of the definition, and a path that path-matches is among them.
 use Rattle.std.proofs.Common.{◌≡◌, ℕ, zero, suc, ◌+◌, ◌-◌, ◌<◌, ◌⊎◌, Bool, true, false, ◌&&◌, ◌||◌, List, [], ◌∷◌, ◌++◌, length, take, drop, get_or, refl, sym, ◌∙◌, ap, subst, inl, inr, eqb, bytes_eq, arith, length-append, append_assoc, append-nil}
 use Rattle.std.specs.Prelude.{nat_eq, nat_le}
 use Rattle.std.specs.Str.{IsUtf8, IsCharBoundary}
@@ -51,7 +51,7 @@ take_front : (p rest : List ℕ) → take (length p) (p ++ rest) ≡ p
 take_front [] rest = refl
 take_front (b ∷ p) rest = ap (λ t. b ∷ t) (take_front p rest)
 
--- a path that path-matches is among the texts
+-- a path that path-matches is a candidate
 pub covering_among : (p r : List ℕ) → CoversPath p r → starts_with eqb p (47 ∷ []) ≡ true → list_any (bytes_eq p) (path_texts r) ≡ true
 covering_among [] r o s = absurd (cc)
 covering_among (b ∷ p) r o s =
@@ -111,7 +111,7 @@ front_begins : (r : List ℕ) (at : ℕ) → starts_with nat_eq r (47 ∷ []) �
 front_begins [] at h = absurd (cc)
 front_begins (b ∷ r) at h = grind (arith, nat_tests, h)
 
--- a path text is one that begins with a slash and covers the path
+-- a candidate path begins with a slash and covers the path
 pub covers_it : (path text : List ℕ) → IsPathText path text → CoversPath text path
 covers_it path text w = elim w.1 [
   | inl s ↦ ([], sym s ∙ sym (append-nil text), inl refl)
@@ -121,7 +121,7 @@ covers_it path text w = elim w.1 [
   ]
 ]
 
--- the texts are those of the definition
+-- the candidates are those of the definition
 pub path_texts_are : (path text : List ℕ) → Decides (list_any (bytes_eq text) (path_texts path)) (IsPathText path text)
 path_texts_are path text = (there path text, λ w. covering_among text path (covers_it path text w) w.0)
   where
@@ -136,7 +136,7 @@ path_texts_are path text = (there path text, λ w. covering_among text path (cov
       | inr e ↦ let h' = rw e at h in absurd (cc)
     ]
 
--- a front that begins with a slash and ends where a text does is among the texts
+-- a front that begins with a slash and ends where `ends_text` holds is a candidate
 front_among : (b : ℕ) (p r rest : List ℕ) → starts_with nat_eq (b ∷ p) (47 ∷ []) ≡ true → ends_text r (length p) ≡ true → r ≡ (b ∷ p) ++ rest → list_any (bytes_eq (b ∷ p)) (path_texts r) ≡ true
 front_among b p r rest s ends split =
     let begins : starts_with eqb r (47 ∷ []) ≡ true = subst (λ t. starts_with eqb t (47 ∷ []) ≡ true) (sym split) (grind (arith, nat_tests, s)) in
@@ -154,7 +154,7 @@ each_holds true true false d h = absurd (cc)
 each_holds true true true false h = absurd (cc)
 each_holds true true true true h = (refl, refl, refl, refl)
 
--- the test says whether a text is among the texts
+-- the test decides whether a path is a candidate
 pub path_text_is : (path text : List ℕ) → is_path_text path text ≡ list_any (bytes_eq text) (path_texts path)
 path_text_is path text = elim (bool_cases (list_any (bytes_eq text) (path_texts path))) [
   | inl e ↦ rw e (holds text ((path_texts_are path text).0 e))

@@ -1,4 +1,4 @@
--- Where a host and a path are cut, and what that gives.
+-- Where a host and a path are cut, and the resulting parts.
 use Rattle.std.proofs.Common.{◌≡◌, ℕ, suc, ◌+◌, ◌<◌, ◌≤◌, ◌⊎◌, Bool, true, false, ◌||◌, List, [], ◌∷◌, ◌++◌, length, take, drop, get_or, refl, sym, ◌∙◌, ap, subst, inl, inr, eqb, arith, lit<, add-one, append-nil, append_assoc, zero}
 use Rattle.std.specs.Prelude.{if◌then◌else◌}
 use Rattle.std.specs.Str.{IsUtf8, IsCharBoundary}
@@ -12,7 +12,7 @@ pub bool_cases : (b : Bool) → (b ≡ true) ⊎ (b ≡ false)
 bool_cases true = inl refl
 bool_cases false = inr refl
 
--- a text is cut behind a byte of ASCII
+-- a string may be cut after an ASCII byte
 pub after_byte : (bs : List ℕ) (i b : ℕ) → IsUtf8 bs → i < length bs → get_or bs i 0 ≡ b → b < 128 → IsCharBoundary bs (i + 1)
 after_byte bs i b u l e s = IsCharBoundary-after_ascii bs i u l (omega (arith, e, s))
 
@@ -21,7 +21,7 @@ three true b c h = inl (inl refl)
 three false true c h = inl (inr refl)
 three false false c h = inr h
 
--- a path is cut where a text ends
+-- a path may be cut where a candidate ends
 pub cut_boundary : (bs : List ℕ) (i : ℕ) → IsUtf8 bs → i < length bs → ends_text bs i ≡ true → IsCharBoundary bs (i + 1)
 cut_boundary bs i u l h = elim (three (eqb (i + 1) (length bs)) (eqb (get_or bs i 0) 47) (eqb (get_or bs (i + 1) 0) 47) h) [
   | inl o ↦ elim o [
@@ -34,14 +34,14 @@ cut_boundary bs i u l h = elim (three (eqb (i + 1) (length bs)) (eqb (get_or bs 
     before_byte : (bs : List ℕ) (j : ℕ) → IsUtf8 bs → j ≤ length bs → get_or bs j 0 ≡ 47 → IsCharBoundary bs j
     before_byte bs j u l e = (l, λ k h. absurd (omega (arith, e, h)))
 
--- where a text ends there is one front more
+-- where a candidate ends there is one front more
 pub front_more : (bs : List ℕ) (i : ℕ) → ends_text bs i ≡ true → front_texts bs (i + 1) ≡ front_texts bs i ++ take (i + 1) bs ∷ []
 front_more bs i h = rw (add-one, h) refl
 
 pub front_same : (bs : List ℕ) (i : ℕ) → ends_text bs i ≡ false → front_texts bs (i + 1) ≡ front_texts bs i
 front_same bs i h = rw (add-one, h) (append-nil (front_texts bs i))
 
--- the texts of the first bytes are the first texts
+-- the candidates of the first bytes are the first candidates
 pub front_prefix : (bs : List ℕ) (i m : ℕ) → i ≤ m → (more : List (List ℕ)) × (front_texts bs m ≡ front_texts bs i ++ more)
 front_prefix bs i zero h = let same : zero ≡ i = omega (arith, h) in ([], ap (front_texts bs) same ∙ sym (append-nil (front_texts bs i)))
 front_prefix bs i (suc m) h = elim (bool_cases (eqb i (suc m))) [
@@ -53,14 +53,14 @@ front_prefix bs i (suc m) h = elim (bool_cases (eqb i (suc m))) [
       (w.0 ++ next, ap (λ ts. ts ++ next) w.1 ∙ append_assoc (front_texts bs i) w.0 next)
 ]
 
--- at a dot the texts behind it begin with what follows it
+-- at a dot, the remaining candidates begin with what follows it
 pub at_dot : (bs : List ℕ) (i : ℕ) → i < length bs → get_or bs i 0 ≡ 46 → after_dots (drop i bs) ≡ drop (i + 1) bs ∷ after_dots (drop (i + 1) bs)
 at_dot bs i l e = ap after_dots (drop_more bs i 0 l) ∙ rw e refl
 
 pub at_no_dot : (bs : List ℕ) (i : ℕ) → i < length bs → eqb (get_or bs i 0) 46 ≡ false → after_dots (drop i bs) ≡ after_dots (drop (i + 1) bs)
 at_no_dot bs i l e = ap after_dots (drop_more bs i 0 l) ∙ rw e refl
 
--- the texts behind a place are the last texts
+-- the candidates after a position are the last ones
 pub dots_suffix : (bs : List ℕ) (i : ℕ) → (done : List (List ℕ)) × (after_dots bs ≡ done ++ after_dots (drop i bs))
 dots_suffix bs zero = ([], refl)
 dots_suffix [] (suc i) = ([], refl)

@@ -23,7 +23,7 @@ use Rattle.cookie_lookup.proofs.PathTexts.{any_append}
 pub found_counted : (groups : DomainGroups) (texts : List (List ℕ)) → how_many_found groups texts ≤ length texts
 found_counted groups texts = counted (λ t. is_some (place_of t groups)) texts
 
--- the texts of the host that are found are those of the URL
+-- the candidates of the host that are found are those of the URL
 pub found_of_host : (groups : DomainGroups) (url : Parts) → of_host (λ host. how_many_found groups (related_texts host)) url ≡ how_many_found groups (domain_texts url)
 found_of_host groups url = go (host_of url) refl
   where
@@ -37,7 +37,7 @@ paths_counted paths texts = counted (λ t. is_some (place_of t paths)) texts
 pub at_least : (old few many new : ℕ) → new ≡ old + many → few ≤ many → old + few ≤ new
 at_least old few many new e h = omega (arith, e, h)
 
--- where no domain is found there is no path
+-- if no domain is found, no path is
 pub none_at_domain : (groups : DomainGroups) (texts : List (List ℕ)) (text : List ℕ) → None ≡ place_of text groups → paths_at_domain groups texts text ≡ 0
 none_at_domain groups texts text e = rw (paths_at_domain, ← e) refl
 
@@ -51,7 +51,7 @@ pub domain_looked_up : (groups now : DomainGroups) (texts given : List (List ℕ
 domain_looked_up groups now texts given text d old before after g t o e h =
     omega (arith, h, o, some_at_domain groups texts text d e, ap (λ gs. how_many_paths (under d gs) texts) g, ap (how_many_paths (under d now)) t)
 
--- those of one text more
+-- the paths of one more domain
 pub pairs_next : (groups : DomainGroups) (texts : List (List ℕ)) (text : List ℕ) (more : List (List ℕ)) (all before after : ℕ)
     → all ≤ before + how_many_pairs_found groups texts (text ∷ more) → before + paths_at_domain groups texts text ≤ after
     → all ≤ after + how_many_pairs_found groups texts more
@@ -63,7 +63,7 @@ pub pairs_first : (groups : DomainGroups) (texts : List (List ℕ)) (text : List
     → old + how_many_pairs_found groups texts (text ∷ more) ≤ after + how_many_pairs_found groups texts more
 pairs_first groups texts text more old after e = omega (arith, e, sum_by-cons (paths_at_domain groups texts) text more)
 
--- texts that are listed
+-- candidates that are stored
 
 module _ (cs : List (List ℕ)) (c : differ bytes_eq cs ≡ true) where
   pub listed_paths : (paths : PathGroups) → differ bytes_eq (map (λ p. p.0) paths) ≡ true
@@ -79,9 +79,9 @@ module _ (cs : List (List ℕ)) (c : differ bytes_eq cs ≡ true) where
   listed_pairs groups texts k =
       shared_all (paths_at_domain groups texts) cs (map (λ g. g.0) groups) c k (λ t none. none_at_domain groups texts t (sym (no_place t groups none)))
 
--- a pair has a group where a row is of its texts
+-- a pair has a group if and only if a row has that domain and path
 
--- rows of one domain and path are of both texts, or none is
+-- the rows of one domain and path all have both, or none does
 no_pair : (text path domain p : List ℕ) (rows : List Row) → AllByRecursion (Of domain p) rows → (bytes_eq text domain && bytes_eq path p) ≡ false → list_any (is_of_texts text path) rows ≡ false
 no_pair text path domain p [] a e = refl
 no_pair text path domain p (row ∷ rows) a e =
@@ -94,7 +94,7 @@ some_pair text path domain p (row ∷ rows) h a e =
     let same : is_of_texts text path row ≡ true = ap (λ d. bytes_eq text d && bytes_eq path row.path.text) a.0.0 ∙ ap (λ q. bytes_eq text domain && bytes_eq path q) a.0.1 ∙ e in
     rw same refl
 
--- a text of a path has a group in its domain where a row is of both
+-- a path has a group in its domain if and only if a row has both
 in_domain : (text domain path : List ℕ) (paths : PathGroups) → Filled domain paths → bytes_eq text domain ≡ true → is_some (place_of path paths) ≡ list_any (is_of_texts text path) (flat_paths paths)
 in_domain text domain path [] a e = refl
 in_domain text domain path (p ∷ ps) a e =
@@ -108,7 +108,7 @@ in_domain text domain path (p ∷ ps) a e =
           rw i (some_later (place_of path ps) ∙ in_domain text domain path ps a.1 e ∙ sym (split ∙ rw (no_pair text path domain p.0 p.1 a.0.1 other) refl))
     ]
 
--- no row of another domain is of the text
+-- no row of another domain has this one
 not_in_domain : (text domain path : List ℕ) (paths : PathGroups) → Filled domain paths → bytes_eq text domain ≡ false → list_any (is_of_texts text path) (flat_paths paths) ≡ false
 not_in_domain text domain path [] a e = refl
 not_in_domain text domain path (p ∷ ps) a e =
@@ -134,7 +134,7 @@ or_none true b e = refl
 or_none false b e = e
 
 module _ (texts : List (List ℕ)) where
-  -- what the group of a domain has of the texts
+  -- which of the candidates the group of a domain has
   abbrev texts_in : ℕ → PathGroups → ℕ
   texts_in n paths = how_many_paths paths texts
 

@@ -1,4 +1,4 @@
--- The texts that a host is looked up by: which they are, that each is there once, and how many there are.
+-- The candidate domains: which they are, that they differ, and how many there are.
 use Rattle.std.proofs.Common.{◌≡◌, ℕ, ◌+◌, ◌<◌, ◌≤◌, Bool, true, false, ◌||◌, List, [], ◌∷◌, ◌++◌, length, refl, sym, ◌∙◌, ap, subst, inl, inr, eqb, bytes_eq, arith, cond}
 use Rattle.std.specs.Prelude.{count_by}
 use Rattle.std.specs.Bool.{Decides}
@@ -12,7 +12,7 @@ use Rattle.cookie_laws.specs.Rows.{differ}
 use Rattle.cookie_lookup.specs.Texts.{IsRelated, related_texts, dots}
 use Rattle.cookie_lookup.proofs.Cuts.{bool_cases}
 
--- a longer text is another
+-- a longer string is another
 pub longer : (s t : List ℕ) → length s < length t → bytes_eq t s ≡ false
 longer s t h = elim (bool_cases (bytes_eq t s)) [
   | inl e ↦ let same : t ≡ s = (bytes_eq-Decides t s).0 e in let m : length t ≡ length s = ap length same in absurd (omega arith)
@@ -28,7 +28,7 @@ dots_differ : (bs : List ℕ) → differ bytes_eq (after_dots bs) ≡ true
 dots_differ [] = refl
 dots_differ (b ∷ bs) = grind (arith, nat_tests, dots_differ bs, dots_shorter bs bs (omega arith))
 
--- so the texts differ
+-- so the candidates differ
 pub related_differ : (host : List ℕ) → differ bytes_eq (related_texts host) ≡ true
 related_differ host = grind (arith, nat_tests, dots_differ host, dots_shorter host host (omega arith))
 
@@ -43,7 +43,7 @@ length_dots (b ∷ bs) = grind (arith, nat_tests, length_dots bs, count_cons (λ
 pub length_related : (host : List ℕ) → length (related_texts host) ≡ 1 + dots host
 length_related host = grind (arith, length_dots host)
 
--- what follows a dot of a text is among the texts that follow its dots
+-- what follows a dot of a string is among `after_dots` of it
 after_dots-has : (domain front : List ℕ) → list_any (bytes_eq domain) (after_dots (front ++ 46 ∷ domain)) ≡ true
 after_dots-has domain [] = or_left _ _ ((bytes_eq-Decides domain domain).1 refl)
 after_dots-has domain (b ∷ front) =
@@ -68,7 +68,7 @@ after_dots_are text (b ∷ bs) h = elim (bool_cases (eqb b 46)) [
       let w = after_dots_are text bs h' in (b ∷ w.0, ap (λ t. b ∷ t) w.1)
 ]
 
--- the texts are those of the definition
+-- the candidates are those of the definition
 pub related_texts_are : (host text : List ℕ) → Decides (list_any (bytes_eq text) (related_texts host)) (IsRelated host text)
 related_texts_are host text = (there host text, back host text)
   where

@@ -1,4 +1,4 @@
--- Tests that agree on the rows that stand under known texts give the same spots.
+-- Tests that agree on the rows of candidates find the same positions.
 use Rattle.std.proofs.Common.{◌≡◌, ℕ, suc, ◌+◌, ◌<◌, length, Bool, true, List, [], ◌∷◌, Option, Some, None, refl, sym, ◌∙◌, ap, subst, inl, inr, bytes_eq}
 use Rattle.std.specs.Prelude.{option_map}
 use Rattle.std.specs.List.{flat_map, list_any, AllByRecursion}
@@ -30,7 +30,7 @@ module _ (test other : Row → Bool) where
       ]
 
   module _ (domain path : List ℕ) (agrees : AgreesUnder domain test other path) (d : ℕ) where
-    -- under one text of a path
+    -- for one path
     same_group : (text : List ℕ) → IsPathText path text → (paths : PathGroups) → Filled domain paths → (p : ℕ) → Some p ≡ place_of text paths → (m : ℕ)
         → row_spots test d m 0 (under p paths) ≡ row_spots other d m 0 (under p paths)
     same_group text is [] all p e m = absurd (cc)
@@ -65,7 +65,7 @@ module _ (test other : Row → Bool) where
         let next = same_paths paths all texts (λ t in_texts. are t (or_right _ _ in_texts)) in
         rw (here, next) refl
 
-  -- under the text of a domain
+  -- for one domain
   pub same_under : (domain path : List ℕ) → AgreesUnder domain test other path → (groups : DomainGroups) → AreGroups groups → (d : ℕ) → Some d ≡ place_of domain groups
       → flat_map (at_path test d (under d groups)) (path_texts path) ≡ flat_map (at_path other d (under d groups)) (path_texts path)
   same_under domain path agrees groups are d found =
@@ -87,13 +87,13 @@ module _ (test other : Row → Bool) where
           later g gs None d h k = absurd (cc)
           later g gs (Some q) d h k = let e : d ≡ suc q = cc in rw e (k q refl)
 
-  -- what a look-up of the text of a domain gives
+  -- what a lookup of a domain finds
   pub known_domain : (domain path : List ℕ) → AgreesUnder domain test other path → (groups : DomainGroups) → AreGroups groups → (d : ℕ) → Some d ≡ place_of domain groups
       → flat_map (at_path test d (under d groups)) (path_texts path) ≡ at_domain other groups (path_texts path) domain
   known_domain domain path agrees groups are d found =
       same_under domain path agrees groups are d found ∙ sym (domain_some other groups (path_texts path) domain d found)
 
--- what is asked under the text of a domain finds the rows there that are given
+-- the tests left under a candidate domain find the given rows there
 pub known_look_up : (host_only suffix : Bool) (text : List ℕ) (url asked_url : Parts) (now asked_now : DateTime) → asked_url ≡ url → asked_now ≡ now
     → AgreesUnder text (is_asked_for host_only suffix url (moment_of now)) (is_given url (moment_of now)) url.path
     → (groups asked_groups : DomainGroups) → AreGroups groups → asked_groups ≡ groups → (d : ℕ) → Some d ≡ place_of text groups

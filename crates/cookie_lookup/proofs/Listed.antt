@@ -1,4 +1,4 @@
--- Texts of a list that are among candidates, looked up one after the other, give what lookups of all the candidates do.
+-- Looking up the stored domains or paths that are candidates finds what lookups of all the candidates find.
 use Rattle.std.proofs.Common.{◌≡◌, ℕ, zero, suc, ◌+◌, ◌*◌, ◌<◌, ◌≤◌, Bool, true, false, cond, List, [], ◌∷◌, ◌++◌, length, drop, map, Some, None, refl, sym, ◌∙◌, ap, subst, inl, inr, bytes_eq, arith, append_assoc}
 use Rattle.std.specs.Prelude.{◌≢◌, filter, is_some, slice_get}
 use Rattle.std.specs.List.{AllByRecursion, sum_by, list_any, flat_map}
@@ -27,7 +27,7 @@ module _ (h : List ℕ → ℕ) where
   sum_both f g both e (t ∷ ts) =
       omega (arith, sum_by-cons both t ts, sum_by-cons f t ts, sum_by-cons g t ts, e t, sum_both f g both e ts)
 
-  -- of candidates that differ one is the text, or none
+  -- of distinct candidates at most one is the name
   one_is : (k : List ℕ) (cs : List (List ℕ)) → differ bytes_eq cs ≡ true → sum_by (λ t. cond (bytes_eq t k) (h t) 0) cs ≡ cond (list_any (bytes_eq k) cs) (h k) 0
   one_is k [] d = refl
   one_is k (c ∷ cs) d =
@@ -51,7 +51,7 @@ module _ (h : List ℕ → ℕ) where
             rw any (omega (arith, all, it, next))
       ]
 
-  -- a text that is not among others is one of them at most once
+  -- a name that is not among others is one of them at most once
   one_more : (k : List ℕ) (ks : List (List ℕ)) → list_any (bytes_eq k) ks ≡ false → (t : List ℕ)
       → cond (list_any (bytes_eq t) (k ∷ ks)) (h t) 0 ≡ cond (bytes_eq t k) (h t) 0 + cond (list_any (bytes_eq t) ks) (h t) 0
   one_more k ks apart t = elim (bool_cases (bytes_eq t k)) [
@@ -62,7 +62,7 @@ module _ (h : List ℕ → ℕ) where
     | inr e ↦ rw e (omega arith)
   ]
 
-  -- what candidates among texts add is what texts among candidates do
+  -- candidates among the stored names add what stored names among the candidates do
   pub shared : (cs ks : List (List ℕ)) → differ bytes_eq cs ≡ true → differ bytes_eq ks ≡ true
       → sum_by (λ t. cond (list_any (bytes_eq t) ks) (h t) 0) cs ≡ sum_by h (filter (λ k. list_any (bytes_eq k) cs) ks)
   shared cs [] c d = no_sum cs
@@ -91,7 +91,7 @@ module _ (h : List ℕ → ℕ) where
         | inr e ↦ none t e ∙ rw e refl
       ]
 
--- there are no more texts among candidates than candidates
+-- there are at most as many stored names among the candidates as candidates
 pub shared_most : (cs ks : List (List ℕ)) → differ bytes_eq cs ≡ true → differ bytes_eq ks ≡ true → length (filter (λ k. list_any (bytes_eq k) cs) ks) ≤ length cs
 shared_most cs ks c d =
     omega (arith, shared (λ _. 1) cs ks c d, ones (filter (λ k. list_any (bytes_eq k) cs) ks), at_most (λ t. list_any (bytes_eq t) ks) cs)
@@ -108,7 +108,7 @@ shared_most cs ks c d =
     at_most p [] = omega arith
     at_most p (t ∷ ts) = omega (arith, sum_by-cons (λ t. cond (p t) 1 0) t ts, below (p t), at_most p ts)
 
--- a text that no group stands under has no place
+-- a name without a group has no position
 pub no_place : {X : Type 0} (text : List ℕ) (gs : List (List ℕ × X)) → list_any (bytes_eq text) (map (λ g. g.0) gs) ≡ false → place_of text gs ≡ None
 no_place text [] h = refl
 no_place text (g ∷ gs) h =
@@ -116,7 +116,7 @@ no_place text (g ∷ gs) h =
     let later : list_any (bytes_eq text) (map (λ g. g.0) gs) ≡ false = grind (arith, nat_tests, h) in
     rw (other, no_place text gs later) refl
 
--- the texts of the paths of a domain differ
+-- the paths of a domain differ
 pub paths_differ : (groups : DomainGroups) → AreGroups groups → (d : ℕ) → differ bytes_eq (map (λ p. p.0) (under d groups)) ≡ true
 paths_differ groups are d = walk groups are.1 d
   where
@@ -126,7 +126,7 @@ paths_differ groups are d = walk groups are.1 d
     walk (g ∷ gs) all (suc d) = walk gs all.1 d
 
 module _ (test : Row → Bool) (d : ℕ) (paths : PathGroups) (cs : List (List ℕ)) (c : differ bytes_eq cs ≡ true) (k : differ bytes_eq (map (λ p. p.0) paths) ≡ true) where
-  -- lookups of the texts that are listed give what lookups of all the candidates do
+  -- lookups of the stored candidates find what lookups of all the candidates do
   pub listed_spots : SameSpots (flat_map (at_path test d paths) (filter (λ t. list_any (bytes_eq t) cs) (map (λ p. p.0) paths))) (flat_map (at_path test d paths) cs)
   listed_spots f =
       sum_flat f (at_path test d paths) (filter (λ t. list_any (bytes_eq t) cs) (map (λ p. p.0) paths))
@@ -153,7 +153,7 @@ pub listed_found : (groups : DomainGroups) (cs : List (List ℕ)) → differ byt
 listed_found groups cs c k =
     shared_all (λ t. cond (is_some (place_of t groups)) 1 0) cs (map (λ g. g.0) groups) c k (λ t none. ap (λ o. cond (is_some o) 1 0) (no_place t groups none))
 
--- the steps of a walk over texts that passes by those that fail a test
+-- the steps of a walk over names that skips those that fail a test
 
 module _ (p : List ℕ → Bool) (ks : List (List ℕ)) where
   filter_suffix : (n : ℕ) → (done : List (List ℕ)) × (filter p ks ≡ done ++ filter p (drop n ks))
@@ -214,11 +214,11 @@ pub length_texts : {X : Type 0} (gs : List (List ℕ × X)) → length (map (λ 
 length_texts [] = refl
 length_texts (g ∷ gs) = omega (arith, length_texts gs)
 
--- no more of them are looked up than the bound says
+-- at most as many of them are looked up as the bound says
 pub listed_most : (path : List ℕ) (ks : List (List ℕ)) → differ bytes_eq ks ≡ true → length (filter (λ t. list_any (bytes_eq t) (path_texts path)) ks) ≤ 1 + 2 * slashes path
 listed_most path ks k = omega (arith, shared_most (path_texts path) ks (path_differ path) k, length_paths path)
 
--- spots in any order
+-- positions in any order
 
 pub same_spots : (xs ys : List Spot) → xs ≡ ys → SameSpots xs ys
 same_spots xs ys e = λ f. ap (sum_by f) e
@@ -226,7 +226,7 @@ same_spots xs ys e = λ f. ap (sum_by f) e
 pub same_after : (new old xs ys : List Spot) → new ≡ old ++ xs → SameSpots xs ys → SameSpots new (old ++ ys)
 same_after new old xs ys e same = λ f. ap (sum_by f) e ∙ sum_by-append f old xs ∙ ap (λ n. sum_by f old + n) (same f) ∙ sym (sum_by-append f old ys)
 
--- where the one has a spot, the other has
+-- if one has a position, so has the other
 pub some_same : (xs ys : List Spot) → SameSpots xs ys → xs ≢ [] → ys ≢ []
 some_same xs ys same some none = some (nothing xs (same (λ _. 1) ∙ ap (sum_by (λ _. 1)) none))
   where

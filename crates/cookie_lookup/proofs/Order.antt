@@ -73,7 +73,7 @@ ascends_sorted xs up = ascends_by_index xs (λ i j d l m. sorted_far stands_befo
 abbrev pub SameSums : List Spot → List Spot → Type 0
 SameSums xs ys = (f : Spot → ℕ) → sum_by f xs ≡ sum_by f ys
 
--- the elements that stand before x are none
+-- the elements before x are none
 none_before : (x : Spot) (xs : List Spot) → AllByRecursion (λ y. stands_before y x ≡ false) xs → sum_by (λ y. cond (stands_before y x) 1 0) xs ≡ 0
 none_before x [] h = refl
 none_before x (y ∷ ys) h = sum_by-cons (λ y. cond (stands_before y x) 1 0) y ys ∙ rw (h.0, none_before x ys h.1) (omega arith)

@@ -1,4 +1,4 @@
--- The texts that a path is looked up by: each is there once, and how many there are.
+-- The candidate paths: they differ, and how many there are.
 use Rattle.std.proofs.Common.{◌≡◌, ℕ, zero, suc, ◌+◌, ◌*◌, ◌<◌, ◌≤◌, Bool, true, false, ◌||◌, List, [], ◌∷◌, ◌++◌, length, take, get_or, refl, sym, ◌∙◌, ap, subst, inl, inr, eqb, bytes_eq, arith, cond, length-append, append-nil}
 use Rattle.std.specs.Prelude.{if◌then◌else◌}
 use Rattle.std.specs.List.{list_any, starts_with}

@@ -1,4 +1,4 @@
--- A row that is given for a URL is of a domain and of a path that the URL is looked up by.
+-- The domain and the path of a row that is given for a URL are candidates of the URL.
 use Rattle.std.proofs.Common.{◌≡◌, ℕ, true, List, ◌∷◌, [], bytes_eq, Option, Some, None, nat_eq, refl}
 use Rattle.std.specs.List.{list_any, starts_with}
 use Rattle.std.proofs.lemmas.Bool.{and_parts}
@@ -11,7 +11,7 @@ use Rattle.cookie_laws.specs.Given.{is_given}
 use Rattle.cookie_laws.specs.Related.{is_related}
 use Rattle.cookie_lookup.specs.Texts.{related_texts, domain_texts}
 
--- a related domain is among the texts of the URL
+-- a related domain is a candidate of the URL
 pub related_among : (url : Parts) (domain : List ℕ) → is_related url domain ≡ true → list_any (bytes_eq domain) (domain_texts url) ≡ true
 related_among url domain is = go (host_of url) refl is
   where

@@ -1,4 +1,4 @@
--- What one look-up gives, and what it adds.
+-- What one lookup finds, and what it adds.
 use Rattle.std.proofs.Common.{◌≡◌, ℕ, zero, suc, ◌+◌, ◌<◌, ◌≤◌, Bool, true, false, List, [], ◌∷◌, ◌++◌, length, drop, Option, Some, None, refl, sym, ◌∙◌, ap, subst, inl, inr, bytes_eq, arith, append_assoc, append-nil}
 use Rattle.std.specs.Prelude.{◌≢◌, option_map, slice_get}
 use Rattle.std.specs.List.{flat_map}
@@ -41,7 +41,7 @@ module _ (test : Row → Bool) (d p n : ℕ) (rows : List Row) (row : Row) (here
 pub rows_done : (test : Row → Bool) (d p n : ℕ) (rows : List Row) (spots all : List Spot) → None ≡ slice_get rows n → spots ++ row_spots test d p n (drop n rows) ≡ all → spots ≡ all
 rows_done test d p n rows spots all e h = sym (append-nil spots) ∙ ap (λ r. spots ++ row_spots test d p n r) (sym (drop_end rows n e)) ∙ h
 
--- where a row passes there is a spot
+-- if a row passes there is a position
 pub some_pass : (test : Row → Bool) (d p k : ℕ) (rows : List Row) (n : ℕ) (row : Row) → Some row ≡ slice_get rows n → test row ≡ true → row_spots test d p k rows ≢ []
 some_pass test d p k [] n row here t none = let w = slice_get_within [] n row (sym here) in absurd (omega (arith, w))
 some_pass test d p k (r ∷ rows) zero row here t none = let same : row ≡ r = cc in let t' : test r ≡ true = subst (λ x. test x ≡ true) same t in let none' = rw t' at none in absurd (cc)
@@ -50,7 +50,7 @@ some_pass test d p k (r ∷ rows) (suc n) row here t none = elim (bool_cases (te
   | inr e ↦ let none' = rw e at none in some_pass test d p (k + 1) rows n row here t none'
 ]
 
--- the group of a text
+-- the group of a name
 
 pub place_below : {X : Type 0} (text : List ℕ) (gs : List (List ℕ × X)) (n : ℕ) → Some n ≡ place_of text gs → n < length gs
 place_below text [] n h = absurd (cc)
@@ -75,9 +75,9 @@ domain_some test groups texts text d e = rw (at_domain, ← e) refl
 pub domain_none : (test : Row → Bool) (groups : DomainGroups) (texts : List (List ℕ)) (text : List ℕ) → None ≡ place_of text groups → at_domain test groups texts text ≡ []
 domain_none test groups texts text e = rw (at_domain, ← e) refl
 
--- what look-ups of texts give, one after another
+-- what several lookups find, one after another
 
--- where one of them gives something, all do
+-- if one of them finds something, all do
 pub some_given : {X A : Type 0} (f : X → List A) (front : List X) (x : X) (more : List X) → f x ≢ [] → flat_map f (front ++ x ∷ more) ≢ []
 some_given f front x more some none =
     let parts : flat_map f front ++ (f x ++ flat_map f more) ≡ [] = sym (flat_map-append f front (x ∷ more)) ∙ none in

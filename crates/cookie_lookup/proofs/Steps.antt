@@ -1,4 +1,4 @@
--- The steps of the loops over the texts that a URL is looked up by.
+-- The steps of the loops over the candidates of the URL.
 use Rattle.std.proofs.Common.{◌≡◌, ℕ, ◌+◌, ◌*◌, ◌<◌, ◌≤◌, true, false, List, [], ◌∷◌, ◌++◌, length, take, drop, get_or, refl, sym, ◌∙◌, ap, eqb, nat_eq, arith, append_assoc, append-nil, length-append}
 use Rattle.std.specs.Prelude.{◌≢◌}
 use Rattle.std.specs.List.{flat_map, starts_with, sum_by}
@@ -17,7 +17,7 @@ use Rattle.cookie_lookup.proofs.Spots.{some_given}
 pub one_front : (r : List ℕ) (at : ℕ) → ends_text r at ≡ true → length (front_texts r (at + 1)) ≡ length (front_texts r at) + 1
 one_front r at ends = ap length (front_more r at ends) ∙ length-append (front_texts r at) (take (at + 1) r ∷ [])
 
--- the texts up to the next, that one, and those behind it are all texts
+-- the candidates before, this one, and those after it are all candidates
 texts_split : (r : List ℕ) (at : ℕ) → starts_with nat_eq r (47 ∷ []) ≡ true → at < length r → ends_text r at ≡ true
     → (more : List (List ℕ)) × (path_texts r ≡ front_texts r at ++ take (at + 1) r ∷ more)
 texts_split r at begins below ends =
@@ -76,7 +76,7 @@ module _ (f : List ℕ → List Spot) (h : List ℕ) (at : ℕ) (below : at < le
       let split : related_texts h ≡ (h ∷ w.0) ++ drop (at + 1) h ∷ after_dots (drop (at + 1) h) = ap (λ ts. h ∷ ts) (w.1 ∙ ap (λ ts. w.0 ++ ts) (at_dot h at below dot)) in
       some_given f (h ∷ w.0) (drop (at + 1) h) (after_dots (drop (at + 1) h)) some (ap (flat_map f) (sym split) ∙ none)
 
--- the end of a text has no dots
+-- the end of a host has no dots
 pub no_dots_left : (h : List ℕ) → after_dots (drop (length h) h) ≡ []
 no_dots_left [] = refl
 no_dots_left (b ∷ h) = no_dots_left h

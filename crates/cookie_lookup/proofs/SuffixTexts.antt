@@ -1,4 +1,4 @@
--- The test of a text that a host is looked up by, and where the host is cut before it.
+-- The test of a candidate domain, and where the host is cut for it.
 use Rattle.std.proofs.Common.{◌≡◌, ℕ, suc, ◌+◌, ◌-◌, ◌<◌, ◌≤◌, ◌⊎◌, Bool, true, false, ◌&&◌, ◌||◌, List, [], ◌∷◌, ◌++◌, length, take, drop, get_or, refl, sym, ◌∙◌, ap, subst, inl, inr, eqb, bytes_eq, arith, lit<, length-append, append_assoc}
 use Rattle.std.specs.Prelude.{nat_eq, nat_lt}
 use Rattle.std.specs.Str.{IsUtf8, IsCharBoundary}
@@ -57,7 +57,7 @@ related host text t =
           inr (take m host, split ∙ ap (λ f. f ++ text) front ∙ append_assoc (take m host) (46 ∷ []) text)
     ]
 
--- the test says whether a text is among the texts
+-- the test decides whether a domain is a candidate
 pub domain_text_is : (host text : List ℕ) → is_domain_text host text ≡ list_any (bytes_eq text) (related_texts host)
 domain_text_is host text = elim (bool_cases (list_any (bytes_eq text) (related_texts host))) [
   | inl e ↦ rw e (holds host text ((related_texts_are host text).0 e))

@@ -1,4 +1,4 @@
--- What is found, in order, is what a walk of all groups gives.
+-- The positions found, once sorted, are those that a walk over all groups finds.
 use Rattle.std.proofs.Common.{◌≡◌, ℕ, ◌+◌, ◌*◌, ◌<◌, ◌≤◌, Bool, true, false, List, [], ◌∷◌, ◌++◌, length, Some, None, refl, sym, ◌∙◌, ap, subst, inl, inr, bytes_eq, arith, IsPermutation}
 use Rattle.std.specs.Prelude.{◌≢◌}
 use Rattle.std.specs.List.{AllByRecursion, sum_by, list_any, flat_map}
@@ -82,7 +82,7 @@ module _ (test : Row → Bool) where
       ascends_append (FromPath d 0) (FromDomain (d + 1)) (domain_later d) (path_spots test d 0 g.1) (domain_spots test (d + 1) gs)
       (paths_from d 0 g.1) (domains_from (d + 1) gs) (paths_ascend d 0 g.1) (domains_ascend (d + 1) gs)
 
-  -- groups that no text asks for
+  -- groups that are no candidates
 
   none_pass : (d p n : ℕ) (rows : List Row) → AllByRecursion (λ row. test row ≡ false) rows → row_spots test d p n rows ≡ []
   none_pass d p n [] a = refl
@@ -100,7 +100,7 @@ fails : (b c : Bool) → (b ≡ true → c ≡ true) → c ≡ false → b ≡ f
 fails true c h k = absurd (cc (h refl))
 fails false c h k = refl
 
--- a row that is given is of a domain and of a path that the URL is looked up by
+-- the domain and the path of a given row are candidates of the URL
 abbrev pub AreAsked : Parts → Moment → Type 0
 AreAsked url now = (row : Row) → is_given url now row ≡ true
     → (list_any (bytes_eq (domain_text row.domain)) (domain_texts url) ≡ true) × (list_any (bytes_eq row.path.text) (path_texts url.path) ≡ true)
@@ -171,7 +171,7 @@ module _ (url : Parts) (now : Moment) (asked : AreAsked url now) where
       walk d [] = refl
       walk d (g ∷ gs) = rw (no_paths_pass (is_given url now) d 0 g.1 (paths g.1), walk (d + 1) gs) refl
 
-  -- where the look-ups give something, a walk does
+  -- if the lookups find something, a walk does
   pub some_found : (host : List ℕ) → Some host ≡ host_of url → (groups : DomainGroups) → AreGroups groups
       → flat_map (at_domain (is_given url now) groups (path_texts url.path)) (related_texts host) ≢ [] → given_spots url now groups ≢ []
   some_found host e groups a some none =

@@ -1,4 +1,4 @@
--- The texts that a URL is looked up by, after RFC 6265 5.1.3 and 5.1.4.
+-- The candidate domains and paths of a URL: those that can match it, RFC 6265 5.1.3 and 5.1.4.
 use Rattle.std.specs.Prelude.{◌≡◌, true, ◌⊎◌, ℕ, zero, suc, ◌+◌, ◌-◌, ◌*◌, Bool, ◌&&◌, ◌||◌, ◌==◌, List, [], ◌∷◌, ◌++◌, length, take, slice_index, nat_eq, nat_le, nat_lt, count_by, None, Some, if◌then◌else◌}
 use Rattle.std.specs.List.{ends_with, starts_with}
 use Rattle.url.specs.Parts.{Parts}
@@ -9,56 +9,58 @@ use Rattle.cookie_laws.specs.Related.{after_dots}
 abbrev pub IsRelated : List ℕ → List ℕ → Type 0
 IsRelated host text = (text ≡ host) ⊎ ((front : List ℕ) × (host ≡ front ++ 46 ∷ text))
 
--- these texts, from the longest to the shortest
+-- the candidate domains of a host, longest first
 abbrev pub related_texts : List ℕ → List (List ℕ)
 related_texts host = host ∷ after_dots host
 
--- those of a URL; without a host there are none
+-- the candidate domains of a URL; none without a host
 abbrev pub domain_texts : Parts → List (List ℕ)
 domain_texts url = elim (host_of url) [ None ↦ [] | Some host ↦ related_texts host ]
 
--- a text is one of them, tested without making them
+-- the domain is a candidate of the host, tested without listing the candidates
 abbrev pub is_domain_text : List ℕ → List ℕ → Bool
 is_domain_text host text =
     ((length text == length host) || nat_lt (length text) (length host) && (slice_index host (length host - length text - 1) == 46))
     && ends_with nat_eq host text
 
--- 5.1.4: a path that path-matches begins with `/`, and is the request path, or stands before one of its slashes, or ends with one
+-- 5.1.4: a path that path-matches begins with `/`, and is the request path, or the part before one
+-- of its slashes, or the part that ends with one
 abbrev pub IsPathText : List ℕ → List ℕ → Type 0
 IsPathText path text = (starts_with nat_eq text (47 ∷ []) ≡ true)
     × ((text ≡ path) ⊎ ((front : List ℕ) × (rest : List ℕ) × (path ≡ front ++ 47 ∷ rest) × ((text ≡ front) ⊎ (text ≡ front ++ 47 ∷ []))))
 
--- the byte is the last, or a slash, or one follows
+-- the byte at this position is the last one, or a slash, or followed by a slash
 abbrev pub ends_text : List ℕ → ℕ → Bool
 ends_text path at = at + 1 == length path || slice_index path at == 47 || slice_index path (at + 1) == 47
 
--- the texts that end at one of the first bytes of a path, from the shortest to the longest
+-- the starts of a path that end, by `ends_text`, at one of its first bytes, shortest first
 abbrev pub front_texts : List ℕ → ℕ → List (List ℕ)
 front_texts path zero = []
 front_texts path (suc at) = front_texts path at ++ (if ends_text path at then take (suc at) path ∷ [] else [])
 
--- those of a path that begins with a slash
+-- the candidate paths of a request path, shortest first; none if it does not begin with a slash
 abbrev pub path_texts : List ℕ → List (List ℕ)
 path_texts path = if starts_with nat_eq path (47 ∷ []) then front_texts path (length path) else []
 
--- a text is one of them, tested without making them
+-- the path is a candidate of the request path, tested without listing the candidates
 abbrev pub is_path_text : List ℕ → List ℕ → Bool
 is_path_text path text =
     starts_with nat_eq text (47 ∷ []) && nat_le (length text) (length path) && ends_text path (length text - 1)
     && starts_with nat_eq path text
 
--- how many there are
-
+-- how many dots there are
 abbrev pub dots : List ℕ → ℕ
 dots text = count_by (λ b. b == 46) text
 
+-- how many slashes there are
 abbrev pub slashes : List ℕ → ℕ
 slashes text = count_by (λ b. b == 47) text
 
--- the most look-ups of domains for a URL: one more than the dots of its host
+-- the most lookups of domains for a URL: one more than the dots of its host, none without a host
 abbrev pub most_domains : Parts → ℕ
 most_domains url = elim (host_of url) [ None ↦ 0 | Some host ↦ 1 + dots host ]
 
--- the most look-ups of paths in each domain that is found: one more than twice the slashes of the URL's path
+-- the most lookups of paths in each domain that is found: one more than twice the slashes of the
+-- URL's path
 abbrev pub most_paths : Parts → ℕ
 most_paths url = 1 + 2 * slashes url.path

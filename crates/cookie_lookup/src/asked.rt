@@ -1,4 +1,5 @@
-//! What is left to ask of a row that stands under texts that a URL is looked up by, RFC 6265 5.4.
+//! The tests left for a row that was found under a candidate domain and a candidate path, RFC 6265
+//! 5.4.
 ghost use Rattle.std.specs.Prelude.{◌≡◌, false, unwrap_or, Some};
 ghost use Rattle.cookie_words.specs.Moments.{moment_of};
 ghost use Rattle.cookie_laws.specs.Given.{is_given};
@@ -14,8 +15,10 @@ use cookie_parts::{Cookie, CookieDomain};
 use jiff::civil::DateTime;
 use url::Url;
 
-/// The URL and the moment, and which kinds of domain with the text that was looked up are for the URL's host. So the texts of a
-/// row are not compared again, and not touched.
+/// The tests left for a row found under a candidate domain and a candidate path: its kind of
+/// domain, its expiry, Secure and HttpOnly. `host_only` and `suffix` are whether a host-only cookie
+/// and a domain cookie of that domain match the host, so a row's domain and path are not compared
+/// again.
 #[derive(Drop)]
 pub(crate) struct Asked<'a> {
     pub(crate) url: &'a Url,
@@ -25,7 +28,8 @@ pub(crate) struct Asked<'a> {
 }
 
 impl<'a> Asked<'a> {
-    // What is left to ask under a text that the host of the URL is looked up by, where it is known whether the host is a name.
+    // Returns the tests for rows under the candidate domain `text`. `host_is_name` is whether the
+    // host is a name, not an IP address.
     pub(crate) fn under(
         text: &str,
         host: &str,
@@ -41,6 +45,7 @@ impl<'a> Asked<'a> {
         ensures agrees { AgreesUnder text.now (is_asked_for result.host_only result.suffix url.now (moment_of moment))
             (is_given url.now (moment_of moment)) url.now.path }
     {
+        // for the checker: a candidate path matches the URL, so it need not be tested
         path_match_is_tested();
         Asked {
             url,
@@ -50,7 +55,7 @@ impl<'a> Asked<'a> {
         }
     }
 
-    // Whether the row is given.
+    // Whether the row passes the tests, and so is given for the URL.
     pub(crate) fn gives(&self, cookie: &Cookie<'static>) -> bool
         ensures { result ≡ is_asked_for self.now.host_only self.now.suffix self.now.url.now (moment_of self.now.moment) cookie.now }
     {
@@ -60,7 +65,7 @@ impl<'a> Asked<'a> {
             && (!is_set(cookie.raw().http_only()) || is_http_scheme(self.url))
     }
 
-    // Whether a cookie of this kind of domain is for the host.
+    // Whether a domain of this kind matches the host.
     fn is_for(&self, domain: &CookieDomain) -> bool
         ensures { result ≡ kind_is_for self.now.host_only self.now.suffix (domain_value domain.now) }
     {
@@ -72,14 +77,14 @@ impl<'a> Asked<'a> {
     }
 }
 
-// Whether a cookie for this host alone is for the host, where that is looked up by the text.
+// Whether a host-only cookie of the candidate domain matches the host.
 fn is_host(text: &str, host: &str) -> bool
     ensures { result ≡ is_host text.now host.now }
 {
     is_name(text) && text.len() == host.len()
 }
 
-// Whether one for all that the text covers is.
+// Whether a domain cookie of the candidate domain matches the host.
 fn is_of_host(text: &str, host: &str, host_is_name: bool) -> bool
     requires { host_is_name ≡ is_host_name host.now }
     ensures { result ≡ is_of_host text.now host.now }
@@ -87,14 +92,14 @@ fn is_of_host(text: &str, host: &str, host_is_name: bool) -> bool
     is_name(text) && (text.len() == host.len() || host_is_name)
 }
 
-// Whether the text is the name of a domain: neither nothing nor a dot.
+// Whether the domain is neither empty nor `.`.
 fn is_name(text: &str) -> bool
     ensures { result ≡ is_name text.now }
 {
     !text.is_empty() && text != "."
 }
 
-// Whether a flag is set.
+// Whether the flag is present and true.
 fn is_set(flag: Option<bool>) -> bool
     ensures { result ≡ unwrap_or flag false }
 {

@@ -1,4 +1,4 @@
-//! The search.
+//! Finds the rows of a URL.
 ghost use Rattle.std.specs.List.{flat_map};
 ghost use Rattle.std.specs.Prelude.{◌≡◌, ◌≢◌, ◌≤◌, ◌<◌, ◌+◌, ◌*◌, ◌^◌, [], ◌++◌, ◌∷◌, length, IfOk, OnErr, OnOk, Some};
 ghost use Rattle.cookie_words.specs.Moments.{moment_of};
@@ -18,10 +18,18 @@ use jiff::civil::DateTime;
 use std::alloc::{AllocError, Global};
 use url::Url;
 
-/// Where the rows stand that are given for the URL at the moment, RFC 6265 5.4, in their order: the position of the domain's group,
-/// in it that of the path's, and in it that of the row. Each text that the URL is looked up by is looked up at most once in a
-/// group. On success there were as many lookups of domains as the URL has texts for them, and no fewer of paths than have a group in
-/// the domains that are found. Memory is wanted only where there is such a row.
+/// Returns the positions of the rows given for `url` at `now`, RFC 6265 5.4, in the order of the
+/// rows.
+///
+/// A position has three parts: that of the domain's group, that of the path's group in it, and that
+/// of the row in that. Each candidate domain of the URL is looked up at most once, and each
+/// candidate path at most once in each domain that is found. On success the lookups of domains are
+/// as many as the candidate domains, and those of paths at least as many as the paths that are
+/// found.
+///
+/// # Errors
+///
+/// `AllocError`: out of memory, only if at least one row is given.
 pub fn found<S: Search>(
     alloc: Global,
     search: &mut S,
@@ -43,8 +51,17 @@ pub fn found<S: Search>(
     found_by::<S, ByLookup>(alloc, search, url, now)
 }
 
-/// Finds what `found` does, in time proportional to the length of the URL, the number of stored domains and their lengths, and what is
-/// stored under the domains that are found. On success there were no fewer lookups of domains, and of paths in them, than have a group.
+/// Returns the positions of the rows given for `url` at `now`, RFC 6265 5.4, in the order of the
+/// rows, as [`found`] does.
+///
+/// Takes time proportional to the length of the URL, the number of stored domains and their
+/// lengths, and what is stored under the domains that are found. To that end it walks over the
+/// stored domains, or the paths of a domain, if they are few, and looks up the candidates if not.
+/// On success the lookups of domains, and of paths, are at least as many as are found.
+///
+/// # Errors
+///
+/// `AllocError`: out of memory, only if at least one row is given.
 pub fn found_listed<S: ListedSearch>(
     alloc: Global,
     search: &mut S,
@@ -66,7 +83,7 @@ pub fn found_listed<S: ListedSearch>(
     found_by::<S, ByListing>(alloc, search, url, now)
 }
 
-// Finds the spots, where domains are searched in this way.
+// Finds the positions; `D` is how the domains are searched.
 fn found_by<S: Search, D: DomainSearch<S>>(
     alloc: Global,
     search: &mut S,
@@ -85,10 +102,12 @@ fn found_by<S: Search, D: DomainSearch<S>>(
         (how_many_pairs_found (S.seen search.old).groups (path_texts url.now.path) (domain_texts url.now) ≤ (S.seen search.new).paths) }
     ensures memory { OnErr result (given_spots url.now (moment_of now) (S.seen search.old).groups ≢ []) }
 {
+    // for the checker: rows outside the candidate domains and paths are never given
     laws::looked_up();
     let mut spots = Vec::new(alloc);
     if let Some(host) = url.host_str() {
-        // No text is longer than half of what can be addressed, so that the counts stay in their range.
+        // for the checker: naming these strings bounds their lengths, so that the counts cannot
+        // overflow
         let _ = host.as_bytes();
         let _ = url.path().as_bytes();
         D::push_domains(search, host, url, now, &mut spots)?;
@@ -97,7 +116,7 @@ fn found_by<S: Search, D: DomainSearch<S>>(
     Ok(spots)
 }
 
-// Adds the spots under the texts that the host is looked up by, from the longest text to the shortest.
+// Adds the positions under the candidate domains, longest first, each by a lookup.
 pub(crate) fn push_domains<S: Search, P: PathSearch<S>>(
     search: &mut S,
     host: &str,
@@ -131,7 +150,7 @@ pub(crate) fn push_domains<S: Search, P: PathSearch<S>>(
     Ok(())
 }
 
-// Adds the spots under a text that the host is looked up by, where it is known whether the host is a name.
+// Adds the positions under one candidate domain. `host_is_name` is whether the host is a name.
 pub(crate) fn push_domain<S: Search, P: PathSearch<S>>(
     search: &mut S,
     text: &str,
@@ -166,7 +185,7 @@ pub(crate) fn push_domain<S: Search, P: PathSearch<S>>(
     }
 }
 
-// Adds the spots in the domain at a position under the texts that the URL's path is looked up by, from the shortest to the longest.
+// Adds the positions under the candidate paths of a domain, shortest first, each by a lookup.
 pub(crate) fn push_paths<S: Search>(
     search: &mut S,
     domain: usize,
@@ -196,7 +215,7 @@ pub(crate) fn push_paths<S: Search>(
     Ok(())
 }
 
-// Whether the byte is the last, or a slash, or one follows.
+// Whether the byte at `at` is the last one, or a slash, or followed by a slash.
 pub(crate) fn ends_text(path: &[u8], at: usize) -> bool
     requires { at < length path.now }
     ensures { result ≡ ends_text path.now at }
@@ -204,7 +223,7 @@ pub(crate) fn ends_text(path: &[u8], at: usize) -> bool
     at + 1 == path.len() || path[at] == b'/' || path[at + 1] == b'/'
 }
 
-// Adds the spots under the text of a path in the domain at a position.
+// Adds the positions under one path of a domain.
 pub(crate) fn push_path<S: Search>(
     search: &mut S,
     domain: usize,
@@ -228,7 +247,7 @@ pub(crate) fn push_path<S: Search>(
     }
 }
 
-// Adds the spots of the rows of the current group that are given.
+// Adds the positions of the rows of the current group that are given.
 fn push_rows<S: Search>(
     search: &S,
     domain: usize,
@@ -251,7 +270,7 @@ fn push_rows<S: Search>(
     Ok(())
 }
 
-// Adds a spot. The first takes room for 32 at once.
+// Adds a position. The first allocates room for 32 at once.
 fn push_spot(
     spots: &mut Vec<(usize, usize, usize)>,
     spot: (usize, usize, usize),

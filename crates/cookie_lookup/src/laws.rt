@@ -1,4 +1,5 @@
-//! What the texts are that a URL is looked up by, and what stands at the spots of the rows that are given.
+//! Laws about the candidate domains and paths of a URL, and about the positions of the rows given
+//! for it.
 ghost use Rattle.std.specs.Bool.{Decides};
 ghost use Rattle.std.specs.List.{flat_map, list_any};
 ghost use Rattle.std.specs.Prelude.{◌≡◌, ◌≤◌, ◌+◌, ◌*◌, ℕ, bytes_eq, length, true, List};
@@ -12,8 +13,9 @@ ghost use Rattle.cookie_lookup.specs.Seen.{domains_found, given_spots, how_many_
 ghost use Rattle.cookie_lookup.specs.Texts.{domain_texts, dots, path_texts, related_texts, slashes, IsPathText, IsRelated};
 ghost use Rattle.url.specs.Parts.{Parts};
 
-/// The texts that a host and a path are looked up by are those that the definitions name, each once, and no more than the bounds
-/// say; and a cookie that is given for a URL is of a domain and of a path among them.
+/// The candidate domains and paths are exactly those that the definitions `IsRelated` and
+/// `IsPathText` describe. They differ, and there are at most as many as the bounds state. The
+/// domain and the path of a cookie given for a URL are among them.
 pub fn looked_up()
     ensures domains { (host text : List ℕ) → Decides (list_any (bytes_eq text) (related_texts host)) (IsRelated host text) }
     ensures paths { (path text : List ℕ) → Decides (list_any (bytes_eq text) (path_texts path)) (IsPathText path text) }
@@ -29,9 +31,10 @@ pub fn looked_up()
     cookie_laws::given_is_related();
 }
 
-/// The rows at the spots of those that are given are the rows that are given of all groups, in their order, one at each spot; and of
-/// the texts that a host is looked up by, those have a group that are the domain of a row, and of the pairs of such a text and one
-/// that the path is looked up by those that are the domain and the path of a row.
+/// The rows at the positions of the given rows are the given rows of all groups in their order, one
+/// row for each position. As many candidate domains have a group as are the domain of a row; as
+/// many pairs of a candidate domain and a candidate path have a group as are the domain and path of
+/// a row.
 pub fn rows_at_spots()
     ensures rows { (url : Parts) (now : Moment) (groups : DomainGroups)
         → flat_map (rows_at groups) (given_spots url now groups) ≡ given url now (flat groups) }

@@ -1,8 +1,11 @@
-//! How the cookies of a URL are found by look-ups, RFC 6265 5.4, in whatever rows are kept in.
+//! Finds the cookies of a URL by lookups, RFC 6265 5.4, in any store that groups its rows by domain
+//! and path.
 //!
-//! Rows stand in groups by the text of their domain, and in those by the text of their path. The cookies that may be given for a
-//! URL are of few domains, the host and what follows each of its dots, and of few paths, those that end at a slash of the URL's
-//! path or before one. `found` looks these texts up, each once, and nothing else.
+//! Rows are grouped by domain, and within a domain by path. Only a few domains can match a URL: its
+//! host, and what follows each dot of the host. So can only a few paths: the parts of the URL's
+//! path that end with a slash or right before one, and the path itself. These are the candidate
+//! domains and candidate paths of the URL. `found` looks up each of them once and nothing else;
+//! `found_listed` may walk over the stored domains or paths instead if they are few.
 #![tactic(auto)]
 
 mod asked;

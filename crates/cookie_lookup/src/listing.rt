@@ -1,4 +1,5 @@
-//! How the texts that a URL is looked up by are searched for: each by a lookup, or in a walk over those that are stored.
+//! Two ways to search for the candidates of a URL: look up each, or walk over the stored domains
+//! and paths.
 ghost use Rattle.std.specs.List.{flat_map, list_any};
 ghost use Rattle.std.specs.Prelude.{◌≡◌, ◌≢◌, ◌≤◌, ◌<◌, ◌+◌, ◌*◌, ◌^◌, ℕ, [], ◌++◌, bytes_eq, false, filter, length, map, slice_get, true, IfNone, IfSome, List, OnErr, OnOk, Some};
 ghost use Rattle.cookie_words.specs.Moments.{moment_of};
@@ -18,12 +19,12 @@ use jiff::civil::DateTime;
 use std::alloc::AllocError;
 use url::Url;
 
-// How the domains are searched.
+// How domains are searched.
 pub(crate) trait DomainSearch<S: Search> {
     // The fewest lookups of domains that it makes for a host.
     ghost fewest: { DomainGroups → List ℕ → ℕ };
 
-    // Adds the spots under the texts that the host is looked up by, in any order.
+    // Adds the positions under the candidate domains of the host, in any order.
     fn push_domains(
         search: &mut S,
         host: &str,
@@ -50,7 +51,7 @@ pub(crate) trait DomainSearch<S: Search> {
 
 // How the paths of a domain are searched.
 pub(crate) trait PathSearch<S: Search> {
-    // Adds the spots in the domain at a position under the texts that the URL's path is looked up by, in any order.
+    // Adds the positions under the candidate paths of the domain, in any order.
     fn push_paths(
         search: &mut S,
         domain: usize,
@@ -70,7 +71,7 @@ pub(crate) trait PathSearch<S: Search> {
             (flat_map (at_path (is_asked_for asked.now.host_only asked.now.suffix asked.now.url.now (moment_of asked.now.moment)) domain (under domain (S.seen search.old).groups)) (path_texts asked.now.url.now.path) ≢ []) };
 }
 
-// By a lookup of each text.
+// Looks up each candidate.
 pub(crate) struct ByLookup;
 
 impl<S: Search> PathSearch<S> for ByLookup {
@@ -98,9 +99,11 @@ impl<S: Search> DomainSearch<S> for ByLookup {
     }
 }
 
-// In a walk over the stored texts where they are few, else by a lookup of each text. A walk compares at most what is stored, and a
-// text only where its length allows it. Lookups of all the texts that a text of n bytes is looked up by hash at most n * n bytes,
-// and that is no more than 128 for each stored text where no walk is taken. So either is proportional to what is stored.
+// Walks over the stored strings if they are few, and looks up each candidate if not.
+//
+// A walk compares each stored string at most once, and only if its length allows a match. The
+// candidates of a string of n bytes have at most n * n bytes to hash; without a walk that is at
+// most 128 for each stored string. So both take time proportional to what is stored.
 pub(crate) struct ByListing;
 
 impl<S: ListedSearch> PathSearch<S> for ByListing {
@@ -138,17 +141,17 @@ impl<S: ListedSearch> DomainSearch<S> for ByListing {
     }
 }
 
-// Whether the paths of a domain are few for a URL's path of so many bytes.
+// Whether `count` paths of a domain are few for a URL's path of `len` bytes.
 fn are_few_paths(count: usize, len: usize) -> bool {
     count <= len || count <= len.saturating_mul(len) / 128
 }
 
-// Whether the domains are few for a host of so many bytes. An ordinary host is short and looked up.
+// Whether `count` domains are few for a host of `len` bytes. Common hosts are short and looked up.
 fn are_few_domains(count: usize, len: usize) -> bool {
     count <= len.saturating_mul(len) / 128
 }
 
-// Adds the spots under the domains that the host is looked up by, in the order of the domains.
+// Adds the positions under the stored domains that are candidates, in the order of the domains.
 fn push_listed_domains<S: ListedSearch>(
     search: &mut S,
     count: usize,
@@ -183,7 +186,7 @@ fn push_listed_domains<S: ListedSearch>(
     Ok(())
 }
 
-// The end of the host that is the text of a domain, if the host is looked up by it.
+// Returns the end of the host that is the domain at `place`, if that is a candidate.
 fn suffix_at<'a, S: ListedSearch>(search: &S, place: usize, host: &'a str) -> Option<&'a str>
     ensures suffix { IfSome result (λ suffix. Some suffix.now ≡ slice_get (map (λ g. g.0) (S.seen search.now).groups) place) }
     ensures is { IfSome result (λ suffix. list_any (bytes_eq suffix.now) (related_texts host.now) ≡ true) }
@@ -203,7 +206,8 @@ fn suffix_at<'a, S: ListedSearch>(search: &S, place: usize, host: &'a str) -> Op
     }
 }
 
-// Whether the host is looked up by the text. The bytes are compared last, and so only where the length allows it.
+// Whether the domain is a candidate. Bytes are compared last, and so only if the length allows a
+// match.
 fn is_domain_text(text: &[u8], host: &[u8]) -> bool
     ensures { result ≡ is_domain_text host.now text.now }
 {
@@ -212,8 +216,7 @@ fn is_domain_text(text: &[u8], host: &[u8]) -> bool
         && host.ends_with(text)
 }
 
-// Adds the spots in the domain at a position under the texts of its paths that the URL's path is looked up by, in the order of the
-// paths.
+// Adds the positions under those paths of a domain that are candidates, in the order of the paths.
 fn push_listed<S: ListedSearch>(
     search: &mut S,
     domain: usize,
@@ -245,7 +248,7 @@ fn push_listed<S: ListedSearch>(
     Ok(())
 }
 
-// The front of the path that is the text of a path of the domain, if the path is looked up by it.
+// Returns the start of the path that is the domain's path at `place`, if that is a candidate.
 fn front_at<'a, S: ListedSearch>(
     search: &S,
     domain: usize,
@@ -270,7 +273,8 @@ fn front_at<'a, S: ListedSearch>(
     }
 }
 
-// Whether the path is looked up by the text. The bytes are compared last, and so only where the length allows it.
+// Whether the path is a candidate. Bytes are compared last, and so only if the length allows a
+// match.
 fn is_path_text(text: &[u8], path: &[u8]) -> bool
     ensures { result ≡ is_path_text path.now text.now }
 {

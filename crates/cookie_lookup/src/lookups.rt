@@ -1,10 +1,10 @@
-//! How often groups were looked up.
+//! Counts of lookups.
 
-/// How often groups were looked up. A look-up is one search of a map for one text.
+/// How many lookups were made. A lookup is one search of a map for one string.
 #[derive(Clone, Copy, Debug, PartialEq, Eq)]
 pub struct Lookups {
-    /// By the text of a domain.
+    /// Lookups of a domain.
     pub domains: u128,
-    /// By the text of a path.
+    /// Lookups of a path.
     pub paths: u128,
 }

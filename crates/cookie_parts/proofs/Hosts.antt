@@ -1,4 +1,4 @@
--- Which domains cover a host.
+-- Domain-match of a domain and a host.
 use Rattle.std.proofs.Common.{◌≡◌, ◌≢◌, ℕ, Bool, false, ◌&&◌, List, [], ◌∷◌, ◌++◌, Option, Some, nat_eq, Decides, sym, ap, ◌∙◌, append_assoc}
 use Rattle.std.specs.List.{ends_with}
 use Rattle.std.specs.Str.{bytes_eq}
@@ -10,7 +10,7 @@ use Rattle.cookie_parts.specs.Domain.{DomainValue, Suffix, IsForHost}
 use Rattle.cookie_parts.specs.Hosts.{covers, is_host_name, Covers}
 use Rattle.cookie_parts.proofs.Affixes.{Decides-ends_with}
 
--- the test of a domain that covers a host
+-- the test `covers` decides `Covers`
 pub covers-Decides : (domain host : List ℕ) → Decides (covers domain host) (Covers domain host)
 covers-Decides domain host =
     let below = ends_with nat_eq host (46 ∷ domain) in
@@ -19,7 +19,7 @@ covers-Decides domain host =
     (Decides-like (below && named) (λ w. (w.1, w.0)) (λ w. (w.1, w.0))
     (Decides-and below named (Decides-ends_with host (46 ∷ domain)) (λ e. e, λ e. e)))
 
--- a host that ends in a domain ends in a dot and the domain where the rest ends in a dot
+-- a host that ends in a domain ends in a dot and the domain exactly if what precedes the domain ends in a dot
 pub ends_in_dot : (host domain front : List ℕ) (r : Bool) → host ≡ front ++ domain
     → Decides r ((rest : List ℕ) × (front ≡ rest ++ 46 ∷ []))
     → r ≡ ends_with nat_eq host (46 ∷ domain)
@@ -38,7 +38,7 @@ ends_otherwise host domain other =
     (λ e. absurd (false≢true e), λ w. absurd (other (w.0 ++ 46 ∷ []) (w.1 ∙ sym (append_assoc w.0 (46 ∷ []) domain))))
     (Decides-ends_with host (46 ∷ domain))
 
--- whether a domain that covers hosts is for the host of a URL
+-- `covers` decides whether a `Suffix` matches the host of a URL
 pub for_host-Decides : (domain : DomainValue) (host : Option (List ℕ)) (text name : List ℕ) (r : Bool)
     → domain ≡ Suffix text → host ≡ Some name → r ≡ covers text name → Decides r (IsForHost domain host)
 for_host-Decides domain host text name r is_suffix is_name told =

@@ -1,4 +1,4 @@
--- The texts that std reads as an IPv4 address are those of four octets between dots.
+-- The strings that std parses as an IPv4 address are four octets joined by dots.
 use Rattle.std.proofs.Common.{◌≡◌, ℕ, ◌<◌, ◌==◌, Bool, true, false, List, [], ◌∷◌, ◌++◌, length, map, decimal, Result, Ok, Err, refl, append_assoc, sym, arith, ne_eqb, eqb-true}
 use Rattle.std.specs.List.{All, list_all, join_with_byte}
 use Rattle.std.specs.Result.{is_ok}
@@ -26,11 +26,11 @@ decimal_without_dot n small k d inside =
     let digit = digit_at (decimal n) k (decimal_is_IsNumeral n (omega arith)).0.1 inside in
     rw (get_or_default (decimal n) k d 0 inside) (ne_eqb _ 46 (λ e. omega arith))
 
--- a dotted text, with its first dot after its first number
+-- a dotted string, split after its first number
 dotted_text_is : (a b c d : ℕ) → dotted_text a b c d ≡ decimal a ++ 46 ∷ (decimal b ++ 46 ∷ (decimal c ++ 46 ∷ decimal d))
 dotted_text_is a b c d = simp append_assoc
 
--- the pieces of a dotted text are its four numbers
+-- the pieces of a dotted string are its four numbers
 pieces-dotted_text : (a b c d : ℕ) → a < 256 → b < 256 → c < 256 → d < 256
     → pieces 46 (dotted_text a b c d) ≡ decimal a ∷ decimal b ∷ decimal c ∷ decimal d ∷ []
 pieces-dotted_text a b c d fit_a fit_b fit_c fit_d =
@@ -48,7 +48,7 @@ is_octet-decimal n small =
     rw (decimal_is_IsNumeral n (omega arith)).1
     (and_from _ _ ((bytes_eq-Decides (decimal n) (decimal n)).1 refl) (le-leb n 255 (omega arith)))
 
--- a dotted text has four octets
+-- a dotted string has four octets
 is_ipv4-dotted_text : (text octets : List ℕ) → IsDotted text octets → is_ipv4 text ≡ true
 unfolding is_ipv4
 is_ipv4-dotted_text text octets h =
@@ -68,7 +68,7 @@ octet_is_decimal text is =
     let (same, small) = and_parts _ _ is in
     (omega (arith, leb-true _ _ small), (bytes_eq-Decides _ _).0 same)
 
--- four octets, joined by dots, are a dotted text
+-- four octets, joined by dots, are a dotted string
 IsDotted-join_with_byte : (parts : List (List ℕ)) → length parts ≡ 4 → list_all is_octet parts ≡ true
     → IsDotted (join_with_byte 46 parts) (map (digits_value 10) parts)
 IsDotted-join_with_byte [] four octets = absurd (omega arith)
@@ -95,7 +95,7 @@ IsDotted-join_with_byte (a ∷ b ∷ c ∷ d ∷ []) four octets =
     }
 IsDotted-join_with_byte (a ∷ b ∷ c ∷ d ∷ e ∷ more) four octets = absurd (omega arith)
 
--- a text of four octets is a dotted text
+-- a string of four octets is a dotted string
 IsDotted-is_ipv4 : (text : List ℕ) → is_ipv4 text ≡ true → IsDotted text (map (digits_value 10) (pieces 46 text))
 unfolding is_ipv4
 IsDotted-is_ipv4 text is =
@@ -103,7 +103,7 @@ IsDotted-is_ipv4 text is =
     let dotted = IsDotted-join_with_byte (pieces 46 text) (eqb-true _ _ four) octets in
     rw join_with_byte-slice_split at dotted
 
--- what `parse` gives is an address just where the text is one
+-- `parse` returns an address exactly if the string is one
 pub is_ok-parse : {E : Type 0} (text : List ℕ) (r : Result Ipv4Addr E) → Parses IsIpv4Text text r → is_ok r ≡ is_ipv4 text
 is_ok-parse text (Ok a) h = sym (is_ipv4-dotted_text text (ipv4_octets a) h)
 is_ok-parse text (Err e) none =

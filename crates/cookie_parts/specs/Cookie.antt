@@ -1,4 +1,4 @@
--- Cookies, after RFC 6265 5.3 and 5.4.
+-- Cookies, RFC 6265 5.3 and 5.4.
 use Rattle.std.specs.Prelude.{ℕ, Bool, true, false, not, ◌&&◌, ◌||◌, List, Option, Some, None, is_none, unwrap_or, Result, Ok, Err, if◌then◌else◌}
 use Rattle.std.specs.Cmp.{IsEquivalence, and_equiv, on_equiv}
 use Rattle.std.specs.Result.{result_map_both}
@@ -17,23 +17,23 @@ use Rattle.cookie_parts.specs.Path.{PathValue, path_matches, path_or_default, sa
 use Rattle.cookie_parts.specs.declared.cookie_error.CookieError.{CookieError}
 use Rattle.cookie_parts.specs.declared.cookie_error.CookieError.TheVariants.{NonHttpScheme, NonRelativeScheme, DomainMismatch, Parse}
 
--- what contracts see of a cookie
+-- a cookie as contracts see it
 pub record Row : Type 0 where
   pub raw : Raw
   pub domain : DomainValue
   pub path : PathValue
   pub expires : Expiry
 
--- 5.3 step 6, without a Domain attribute: the cookie is for the host that it comes from, alone
+-- 5.3 step 6, empty domain-attribute: a host-only cookie for the canonicalized request-host
 abbrev pub host_alone : Option (List ℕ) → Result DomainValue CookieError
 host_alone None = Err NonRelativeScheme
 host_alone (Some host) = Ok (Domain.HostOnly host)
 
--- the domain, if a cookie from the URL may have it
+-- 5.3 step 6: the domain, if the request-host domain-matches it
 abbrev pub if_matching : DomainValue → Parts → Result DomainValue CookieError
 if_matching domain url = if domain_matches domain url then Ok domain else Err DomainMismatch
 
--- 5.3 step 6: the domain of a cookie from the URL, by what its Domain attribute names, and `Parse` where that is refused
+-- 5.3 step 6: the domain of a cookie received from the URL, by its Domain attribute; `Parse` if that is not a valid domain
 abbrev pub domain_at : Option DomainValue → Parts → Result DomainValue CookieError
 domain_at None url = Err Parse
 domain_at (Some (Domain.HostOnly d)) url = if_matching (Domain.HostOnly d) url
@@ -41,7 +41,7 @@ domain_at (Some (Domain.Suffix d)) url = if_matching (Domain.Suffix d) url
 domain_at (Some Domain.NotPresent) url = host_alone (host_of url)
 domain_at (Some Domain.Empty) url = host_alone (host_of url)
 
--- what comes of the value of a first step, or the first step's refusal
+-- the next step applied to the value of the first, or the error of the first
 abbrev pub and_then : {S T E : Type 0} → Result S E → (S → Result T E) → Result T E
 and_then (Ok value) next = next value
 and_then (Err refusal) next = Err refusal
@@ -54,11 +54,11 @@ is_http_only raw = unwrap_or raw.http_only false
 abbrev pub is_secure_only : Raw → Bool
 is_secure_only raw = unwrap_or raw.secure false
 
--- an HttpOnly cookie and a URL whose scheme is not HTTP
+-- the cookie is HttpOnly and the scheme of the URL is not HTTP
 abbrev pub is_out_of_reach : Raw → Parts → Bool
 is_out_of_reach raw url = is_http_only raw && not (is_http_scheme url)
 
--- 5.3: the cookie of a raw cookie that came from the URL at the moment, or why there is none
+-- 5.3: the cookie of a raw cookie received from the URL at `now`, or the error
 unfoldable pub cookie_of : Raw → Parts → Moment → Result Row CookieError
 cookie_of raw url now =
     if is_out_of_reach raw url then Err NonHttpScheme
@@ -69,71 +69,71 @@ cookie_of raw url now =
       expires = expiry_of raw now;
     }))
 
--- 5.2: the raw cookie of a text, and `Parse` where it says none
+-- 5.2: the raw cookie of a Set-Cookie header value, or `Parse`
 abbrev pub raw_cookie : List ℕ → Result Raw CookieError
 raw_cookie text = result_map_both (λ raw. raw) (λ _. Parse) (reading text)
 
--- the refusal of a raw cookie that takes neither a domain in ASCII nor a path, if there is one
+-- the error of a raw cookie, if one is known before the domain is converted to ASCII and the path is copied
 abbrev pub early_refusal : Raw → Parts → Option CookieError
 early_refusal raw url =
     if is_out_of_reach raw url then Some NonHttpScheme
     else (if is_none raw.domain && is_none (host_of url) then Some NonRelativeScheme else None)
 
--- the same of the reading of a Set-Cookie text
+-- the same for the parse result of a Set-Cookie header value
 abbrev pub early : Result Raw RawCookieParseError → Parts → Option CookieError
 early (Ok raw) url = early_refusal raw url
 early (Err refusal) url = Some Parse
 
--- the cookie of a Set-Cookie text that came from the URL at the moment, or why there is none
+-- 5.2 and 5.3: the cookie of a Set-Cookie header value received from the URL at `now`, or the error
 abbrev pub cookie_at : List ℕ → Parts → Moment → Result Row CookieError
 cookie_at text url now = and_then (raw_cookie text) (λ raw. cookie_of raw url now)
 
--- the cookie has ended
+-- the cookie has expired at `now`
 abbrev pub is_expired : Moment → Row → Bool
 is_expired now cookie = is_by now cookie.expires
 
--- 5.4: the cookie is for the URL
+-- 5.4: the cookie matches the URL: domain-match, path-match, secure-only-flag, http-only-flag
 abbrev pub cookie_matches : Row → Parts → Bool
 cookie_matches cookie url =
     domain_matches cookie.domain url && path_matches cookie.path.text url
     && (not (is_secure_only cookie.raw) || is_secure url) && (not (is_http_only cookie.raw) || is_http_scheme url)
 
--- the persistent-flag: the cookie ends at a moment
+-- the persistent-flag: the cookie has an expiry-time
 abbrev pub is_persistent : Expiry → Bool
 is_persistent (AtUtc end) = true
 is_persistent SessionEnd = false
 
--- the cookie, ended at the epoch
+-- the cookie, expired at the epoch
 abbrev pub ended : Row → Row
 ended cookie = record cookie { expires = AtUtc epoch }
 
--- the same raw cookie, domain, path and end
+-- the same raw cookie, domain, path and expiry
 abbrev pub same_cookie : Row → Row → Bool
 same_cookie a b =
     (same_parts a.raw b.raw && same_path a.path b.path)
     && (same_domain a.domain b.domain && same_expiry a.expires b.expires)
 
--- it is an equivalence
+-- `same_cookie` is an equivalence
 pub same_cookie_equiv : IsEquivalence same_cookie
 same_cookie_equiv =
     and_equiv (and_equiv (on_equiv (λ c. c.raw) same_parts_equiv) (on_equiv (λ c. c.path) same_path_equiv))
     (and_equiv (on_equiv (λ c. c.domain) same_domain_equiv) (on_equiv (λ c. c.expires) same_expiry_equiv))
 
--- the moment of an end, if it is at one
+-- the Expires attribute of a persistent cookie
 abbrev pub said_end : Expiry → Option Ending
 said_end (AtUtc end) = Some (At end)
 said_end SessionEnd = None
 
--- the domain that a cookie has for others than its own host
+-- the Domain attribute of a domain cookie
 abbrev pub said_domain : DomainValue → Option (List ℕ)
 said_domain (Domain.Suffix d) = Some (without_dot d)
 said_domain other = None
 
--- the path, if a Path attribute set it
+-- the Path attribute, if one set the path
 abbrev pub said_path : PathValue → Option (List ℕ)
 said_path path = if path.is_from_attribute then Some path.text else None
 
--- what a cookie says of itself as a raw cookie: name, value, and where it says so domain, path and end
+-- a cookie as a raw cookie: name, value, and Domain, Path and Expires where it has them
 abbrev pub said : Row → Raw
 said cookie = record (pair cookie.raw.name cookie.raw.value) {
   domain = said_domain cookie.domain;

@@ -1,4 +1,4 @@
--- The hosts that a cookie is for, after RFC 6265 5.1.3 and 5.3 step 6.
+-- The domain of a cookie, RFC 6265 5.1.3 and 5.3 step 6.
 use Rattle.std.specs.Prelude.{◌≡◌, ℕ, ◌==◌, Bool, false, ◌||◌, List, [], bytes_eq, codes, length, nat_eq, Option, Some, None, option_map, if◌then◌else◌}
 use Rattle.std.specs.Cmp.{IsEquivalence, and_equiv, on_equiv, nat_eq_equiv}
 use Rattle.std.specs.Cmp.Lexicographic.{on_texts_equal, pointwise, slice_cmp}
@@ -12,96 +12,96 @@ use Rattle.cookie_words.specs.Texts.{without_dot}
 use Rattle.cookie_psl.specs.Rules.{RuleList, listed}
 use Rattle.cookie_parts.specs.Hosts.{host_of, covers, passes, Covers}
 
--- for that one host, for every host that the domain covers, and for none: without a Domain attribute, and with an empty one
+-- a host-only cookie, a domain cookie, no Domain attribute, an empty Domain attribute
 pub data DomainValue : Type 0 where
   HostOnly : List ℕ → DomainValue
   Suffix : List ℕ → DomainValue
   NotPresent : DomainValue
   Empty : DomainValue
 
--- the text, empty for the kinds without one
+-- the domain as a string, empty for `NotPresent` and `Empty`
 abbrev pub domain_text : DomainValue → List ℕ
 domain_text (HostOnly d) = d
 domain_text (Suffix d) = d
 domain_text NotPresent = []
 domain_text Empty = []
 
--- the place of the kind among the kinds
+-- the number of the kind, by which domains are ordered
 abbrev pub kind_of : DomainValue → ℕ
 kind_of (HostOnly d) = 0
 kind_of (Suffix d) = 1
 kind_of NotPresent = 2
 kind_of Empty = 3
 
--- the same kind and text
+-- the same kind and string
 abbrev pub same_domain : DomainValue → DomainValue → Bool
 same_domain = eq_of_both (on kind_of nat_eq) (on domain_text (pointwise nat_eq))
 
--- it is an equivalence
+-- `same_domain` is an equivalence
 pub same_domain_equiv : IsEquivalence same_domain
 same_domain_equiv = and_equiv (on_equiv kind_of nat_eq_equiv) (on_texts_equal domain_text)
 
--- ordered by the place of the kind, and then by the text
+-- ordered by kind, then by string
 abbrev pub compare_domains : DomainValue → DomainValue → Ordering
 compare_domains = then_cmp (on kind_of nat_cmp) (on domain_text (slice_cmp nat_cmp))
 
--- the cookie is for this host
+-- the domain matches this host
 abbrev pub is_for_host : DomainValue → List ℕ → Bool
 is_for_host (HostOnly d) host = bytes_eq d host
 is_for_host (Suffix d) host = covers d host
 is_for_host NotPresent host = false
 is_for_host Empty host = false
 
--- the URL has a host, and the cookie is for it
+-- the URL has a host, and the domain matches it
 abbrev pub domain_matches : DomainValue → Parts → Bool
 domain_matches domain url = passes (is_for_host domain) (host_of url)
 
--- the text, for the kinds that have one
+-- the domain as a string, `None` for `NotPresent` and `Empty`
 abbrev pub text_if_any : DomainValue → Option (List ℕ)
 text_if_any (HostOnly d) = Some d
 text_if_any (Suffix d) = Some d
 text_if_any NotPresent = None
 text_if_any Empty = None
 
--- the domain names this host
+-- the domain equals this host
 abbrev pub names_host : DomainValue → List ℕ → Bool
 names_host domain host = passes (λ text. bytes_eq text host) (text_if_any domain)
 
--- the URL has a host, and the domain names it
+-- the URL has a host, and the domain equals it
 abbrev pub host_is_identical : DomainValue → Parts → Bool
 host_is_identical domain url = passes (names_host domain) (host_of url)
 
--- a text without white space at its ends, as a domain in ASCII by UTS #46, unless it is refused
+-- the domain, trimmed of white space and converted to ASCII by UTS #46; `None` if it is not valid
 unfoldable pub ascii_of : List ℕ → Option (List ℕ)
 ascii_of text = domain_to_ascii EMPTY (trim text)
 
--- `Empty` for the empty text and a dot alone, else `Suffix` without one leading dot
+-- `Empty` for the empty string and a single dot, else `Suffix` without one leading dot
 abbrev pub suffix_from : List ℕ → DomainValue
 suffix_from ascii =
     if (length ascii == 0) || bytes_eq ascii (codes ".") then Empty else Suffix (without_dot ascii)
 
--- the domain that a text names, unless it is refused
+-- the domain of a string; `None` if it is not valid
 abbrev pub domain_from_text : List ℕ → Option DomainValue
 domain_from_text text = option_map suffix_from (ascii_of text)
 
--- the text names a domain, and a cookie for that is for the URL
+-- the string is a valid domain, and that matches the URL
 abbrev pub text_matches : List ℕ → Parts → Bool
 text_matches text url = passes (λ domain. domain_matches domain url) (domain_from_text text)
 
--- `Empty` for the empty text, else `Suffix`: the leading dot of an attribute was dropped already
+-- `Empty` for the empty string, else `Suffix`; the leading dot was dropped when the attribute was parsed
 abbrev pub suffix_of : List ℕ → DomainValue
 suffix_of ascii = if length ascii == 0 then Empty else Suffix ascii
 
--- the domain that a Domain attribute names, unless it is refused, and `NotPresent` without one
+-- the domain of a Domain attribute, `NotPresent` without one; `None` if it is not valid
 abbrev pub domain_from_attribute : Option (List ℕ) → Option DomainValue
 domain_from_attribute None = Some NotPresent
 domain_from_attribute (Some text) = option_map suffix_of (ascii_of text)
 
--- the domain has a text, and that is a public suffix by the rules
+-- the domain is a public suffix by the rules
 abbrev pub is_public_suffix : RuleList → DomainValue → Bool
 is_public_suffix rules domain = passes (listed rules) (text_if_any domain)
 
--- 5.1.3: the cookie is for the host, if there is one
+-- 5.1.3: the domain matches the host, if there is one
 abbrev pub IsForHost : DomainValue → Option (List ℕ) → Type 0
 IsForHost domain None = ⊥
 IsForHost (HostOnly d) (Some host) = d ≡ host

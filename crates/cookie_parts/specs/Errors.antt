@@ -1,4 +1,4 @@
--- The texts of the refusals and faults, and the faults that stand for others.
+-- The error messages, and the conversions between error types.
 use Rattle.std.specs.Prelude.{ℕ, List, codes, Option, Some, None, string_bytes}
 use Rattle.idna.specs.Errors.{errors_text}
 use Rattle.idna.specs.declared.Errors.{Errors}
@@ -11,7 +11,7 @@ use Rattle.cookie_parts.specs.declared.cookie_error.CookieError.TheVariants.{Non
 use Rattle.cookie_parts.specs.declared.error.Error.{Error}
 use Rattle.cookie_parts.specs.declared.error.Error.TheVariants as Fault
 
--- why a cookie was refused
+-- the message of an error about one cookie
 abbrev pub error_text : CookieError → List ℕ
 error_text NonHttpScheme = codes "request-uri is not an http scheme but HttpOnly attribute set"
 error_text NonRelativeScheme = codes "request-uri is not a relative scheme; cannot determine host"
@@ -22,7 +22,7 @@ error_text PublicSuffix = codes "domain-attribute value is a public suffix"
 error_text UnspecifiedDomain = codes "domain-attribute is not specified"
 error_text Memory = codes "out of memory"
 
--- why a call that is not about one cookie failed: `idna`, saved forms, and the caller, have words of their own
+-- the message of an error of other calls; those of `idna`, saved forms and the caller have their own
 abbrev pub fault_text : Error → List ℕ
 fault_text (Fault.Cookie refusal) = error_text refusal
 fault_text (Fault.Idna errors) = errors_text errors.fault
@@ -32,22 +32,22 @@ fault_text (Fault.Other text) = string_bytes text
 fault_text Fault.Memory = codes "out of memory"
 fault_text Fault.NotUtf8 = codes "a text is not UTF-8"
 
--- the same in a hole with a width or other options, which count for none of these; of `idna` nothing is known there
+-- the same if printed with a width or other options, which have no effect; not specified for `Idna`
 abbrev pub styled_fault_text : Error → Option (List ℕ)
 styled_fault_text (Fault.Idna errors) = None
 styled_fault_text other = Some (fault_text other)
 
--- the fault that a refusal is: want of memory is no refusal
+-- the conversion from `CookieError`: out of memory is `Memory`, not `Cookie`
 abbrev pub fault_of_refusal : CookieError → Error
 fault_of_refusal Memory = Fault.Memory
 fault_of_refusal refusal = Fault.Cookie refusal
 
--- the fault that an error of `idna` is: want of memory is no fault of a domain
+-- the conversion from `idna::Errors`: out of memory is `Memory`, not `Idna`
 abbrev pub fault_of_idna : Errors → Error
 fault_of_idna Idna.Invalid = Fault.Idna (record { fault = Idna.Invalid })
 fault_of_idna Idna.OutOfMemory = Fault.Memory
 
--- the fault that an error of a saved form is: want of memory is no fault of the form
+-- the conversion from `SavedError`: out of memory is `Memory`, not `Saved`
 abbrev pub fault_of_saved : SavedError → Error
 fault_of_saved Saved.Memory = Fault.Memory
 fault_of_saved fault = Fault.Saved fault

@@ -1,4 +1,4 @@
--- What a result says of the answer that a definition gives.
+-- How a function's result relates to the answer of a definition: equal to it, unless out of memory.
 use Rattle.std.specs.Prelude.{◌≡◌, ℕ, List, Option, Some, None, Result, Ok, Err, ⊤}
 use Rattle.std.specs.Cow.{cow_str_bytes}
 use Rattle.std.specs.declared.alloc.Global.{Global}
@@ -11,20 +11,20 @@ use Rattle.cookie_parts.specs.declared.cookie_error.CookieError.TheVariants.{Mem
 use Rattle.cookie_parts.specs.declared.error.Error.{Error}
 use Rattle.cookie_parts.specs.declared.error.Error.TheVariants as Fault
 
--- unless memory ran out, the result, seen by `view`, is the answer, refusal and all
+-- the result, with its value seen by `view`, is the answer, error included, unless it is `Memory`
 abbrev pub Gives : {T U : Type 0} → (T → U) → Result T CookieError → Result U CookieError → Type 0
 Gives view (Ok value) answer = answer ≡ Ok (view value)
 Gives view (Err Memory) answer = ⊤
 Gives view (Err refusal) answer = answer ≡ Err refusal
 
--- unless memory ran out, the result is the domain, and `Idna` where there is none
+-- the result is the domain, or `Idna` if there is none, unless it is `Memory`
 abbrev pub GivesDomain : Result CookieDomain Error → Option DomainValue → Type 0
 GivesDomain (Ok domain) answer = answer ≡ Some (domain_value domain)
 GivesDomain (Err (Fault.Idna fault)) answer = answer ≡ None
 GivesDomain (Err Fault.Memory) answer = ⊤
 GivesDomain (Err other) answer = ⊥
 
--- the same of a domain name in ASCII
+-- the same for a domain name in ASCII
 abbrev pub GivesAscii : Result (CowStr Global) Error → Option (List ℕ) → Type 0
 GivesAscii (Ok text) answer = answer ≡ Some (cow_str_bytes text)
 GivesAscii (Err (Fault.Idna fault)) answer = answer ≡ None

@@ -1,4 +1,4 @@
--- The passage between a cookie and its saved form.
+-- Conversion between a cookie and its saved form.
 use Rattle.std.specs.Prelude.{Option, Some, None, Result, Ok}
 use Rattle.cookie_words.specs.Moments.{Moment}
 use Rattle.cookie_raw.specs.CookieText.{cookie_text}
@@ -9,31 +9,31 @@ use Rattle.cookie_parts.specs.Domain as Domain
 use Rattle.cookie_parts.specs.Expiry.{Expiry, AtUtc, SessionEnd}
 use Rattle.cookie_parts.specs.declared.cookie_error.CookieError.{CookieError}
 
--- the kind and the text of a domain, to be saved
+-- the saved form of a domain
 abbrev pub saved_domain : DomainValue → Saved.Domain
 saved_domain (Domain.HostOnly d) = Saved.host_only d
 saved_domain (Domain.Suffix d) = Saved.suffix d
 saved_domain Domain.NotPresent = Saved.not_present
 saved_domain Domain.Empty = Saved.empty
 
--- the same, as it was saved
+-- the domain of its saved form
 abbrev pub domain_of_saved : Saved.Domain → DomainValue
 domain_of_saved (Saved.host_only d) = Domain.HostOnly d
 domain_of_saved (Saved.suffix d) = Domain.Suffix d
 domain_of_saved Saved.not_present = Domain.NotPresent
 domain_of_saved Saved.empty = Domain.Empty
 
--- the moment of an end, if it is at one, to be saved
+-- the saved form of an expiry: its time, `None` for a session cookie
 abbrev pub saved_end : Expiry → Option Moment
 saved_end (AtUtc end) = Some end
 saved_end SessionEnd = None
 
--- the same, as it was saved
+-- the expiry of its saved form
 abbrev pub end_of_saved : Option Moment → Expiry
 end_of_saved (Some end) = AtUtc end
 end_of_saved None = SessionEnd
 
--- a cookie in its saved form: the text of the raw cookie, and all else as it is
+-- the saved form of a cookie: the raw cookie as a Set-Cookie header value, all else unchanged
 abbrev pub saved_of : Row → Saved.Parts Moment
 saved_of cookie = record {
   raw_cookie = cookie_text cookie.raw;
@@ -43,7 +43,7 @@ saved_of cookie = record {
   ends = saved_end cookie.expires;
 }
 
--- the cookie of a saved form: what its text reads as, or `Parse`, and all else as it was saved
+-- the cookie of a saved form: its header value parsed, or `Parse`, and all else as saved
 abbrev pub cookie_of_saved : Saved.Parts Moment → Result Row CookieError
 cookie_of_saved saved = and_then (raw_cookie saved.raw_cookie) (λ raw. Ok (record {
   raw = raw;

@@ -1,4 +1,4 @@
-//! A cookie with its hosts, its paths and its end, RFC 6265 5.3 and 5.4.
+//! Cookies with their domain, path and expiry, RFC 6265 5.3 and 5.4.
 ghost use Rattle.std.specs.Prelude.{◌≡◌, ◌&&◌, false, is_none, true, unwrap_or, Err, IfOk, MatchResult, Some};
 ghost use Rattle.std.specs.Option.{option_or};
 ghost use Rattle.cookie_words.specs.Moments.{moment_of};
@@ -20,19 +20,19 @@ use std::alloc::{AllocError, Global};
 use std::marker::Model;
 use url::Url;
 
-/// A cookie, or why it was refused.
+/// A cookie, or the error for which it was rejected.
 pub type CookieResult<'a> = Result<Cookie<'a>, CookieError>;
 
-/// A cookie of a user agent: a raw cookie, the hosts and paths that it is for, and its end.
+/// A cookie of a user agent: a raw cookie with its domain, path and expiry.
 #[derive(Debug, Drop)]
 pub struct Cookie<'a> {
-    // What a request looks at stands first, so that it lies together: fields lie in the order of the source.
-    /// The hosts that it is for.
+    // Fields are laid out in source order: those that every lookup reads come first, side by side.
+    /// The domain: the hosts that receive the cookie.
     pub domain: CookieDomain,
-    /// When it ends.
+    /// When the cookie expires.
     pub expires: CookieExpiration,
     pub(crate) raw: RawCookie<'a>,
-    /// The paths that it is for.
+    /// The path that the cookie is limited to.
     pub path: CookiePath,
 }
 
@@ -52,9 +52,18 @@ impl<'a> Model for Cookie<'a> {
 }
 
 impl<'a> Cookie<'a> {
-    /// The cookie of a Set-Cookie text that came from the URL at the moment. `Parse` where the text is no cookie, else as
-    /// [`try_from_raw_cookie`](Self::try_from_raw_cookie). `Parse` of such a text wants no memory, nor do `NonHttpScheme` and
-    /// `NonRelativeScheme`, the latter where no domain is named.
+    /// Parses a `Set-Cookie` header value received from `url` at `now`, RFC 6265 5.2 and 5.3.
+    ///
+    /// # Errors
+    ///
+    /// In the order in which they are checked:
+    /// - `Parse`: `text` has no name-value pair, or the name is empty.
+    /// - `NonHttpScheme`: the cookie is HttpOnly and `url`'s scheme does not begin with `http`.
+    /// - `Parse`: the Domain attribute is not a valid domain name.
+    /// - `DomainMismatch`: the Domain attribute does not domain-match the host of `url`.
+    /// - `NonRelativeScheme`: there is no Domain attribute, or an empty one, and `url` has no host.
+    /// - `Memory`: out of memory. Never returned in place of the first `Parse`, `NonHttpScheme`, or
+    ///   `NonRelativeScheme` without a Domain attribute.
     pub fn parse(alloc: Global, text: &'a str, url: &Url, now: DateTime) -> CookieResult<'a>
         ensures value { Gives (λ cookie. cookie) result (cookie_at text.now url.now (moment_of now)) }
         ensures early { (refusal : CookieError) → early (reading text.now) url.now ≡ Some refusal → result ≡ Err refusal }
@@ -65,10 +74,17 @@ impl<'a> Cookie<'a> {
         }
     }
 
-    /// The cookie of a raw cookie that came from the URL at the moment. In this order: `NonHttpScheme` where it is
-    /// HttpOnly and the URL's scheme not HTTP, `Parse` where its domain is no domain name, `DomainMismatch` where its
-    /// domain does not cover the URL's host, `NonRelativeScheme` where it has no domain and the URL no host.
-    /// `NonHttpScheme` wants no memory, nor does `NonRelativeScheme` where no domain is named.
+    /// Makes a cookie from a raw cookie received from `url` at `now`, RFC 6265 5.3.
+    ///
+    /// # Errors
+    ///
+    /// In the order in which they are checked:
+    /// - `NonHttpScheme`: the cookie is HttpOnly and `url`'s scheme does not begin with `http`.
+    /// - `Parse`: the Domain attribute is not a valid domain name.
+    /// - `DomainMismatch`: the Domain attribute does not domain-match the host of `url`.
+    /// - `NonRelativeScheme`: there is no Domain attribute, or an empty one, and `url` has no host.
+    /// - `Memory`: out of memory. Never returned in place of `NonHttpScheme`, or of
+    ///   `NonRelativeScheme` without a Domain attribute.
     #[tactic(auto, unfolding(crate::specs::Cookie::cookie_of))]
     pub fn try_from_raw_cookie(
         alloc: Global,
@@ -88,6 +104,7 @@ impl<'a> Cookie<'a> {
         }
     }
 
+    // As `try_from_raw_cookie`, but takes ownership of the raw cookie.
     #[tactic(auto, unfolding(crate::specs::Cookie::cookie_of))]
     fn from_raw_cookie(
         alloc: Global,
@@ -112,28 +129,30 @@ impl<'a> Cookie<'a> {
         })
     }
 
-    /// The raw cookie.
+    /// Returns the raw cookie.
     pub fn raw(&self) -> &RawCookie<'a>
         ensures { result.now ≡ self.now.raw }
     {
         &self.raw
     }
 
-    /// The name.
+    /// Returns the name.
     pub fn name(&self) -> &str
         ensures { result.now ≡ self.now.raw.name }
     {
         self.raw.name()
     }
 
-    /// The value.
+    /// Returns the value.
     pub fn value(&self) -> &str
         ensures { result.now ≡ self.now.raw.value }
     {
         self.raw.value()
     }
 
-    /// Whether the cookie is for the URL, RFC 6265 5.4.
+    /// Returns whether the cookie matches `url`, RFC 6265 5.4: domain, path, Secure and HttpOnly.
+    ///
+    /// The expiry is not tested; see [`is_expired`](Self::is_expired).
     pub fn matches(&self, url: &Url) -> bool
         ensures { result ≡ cookie_matches self.now url.now }
     {
@@ -143,14 +162,14 @@ impl<'a> Cookie<'a> {
             && (!is_set(self.raw.http_only()) || is_http_scheme(url))
     }
 
-    /// Whether the cookie is HttpOnly, and the scheme of the URL not HTTP.
+    /// Returns whether the cookie is HttpOnly and the scheme of `url` does not begin with `http`.
     pub fn is_out_of_reach(&self, url: &Url) -> bool
         ensures { result ≡ is_out_of_reach self.now.raw url.now }
     {
         is_out_of_reach(&self.raw, url)
     }
 
-    /// Whether the cookie ends at a moment, and not with the session.
+    /// Returns whether this is a persistent cookie, not a session cookie, RFC 6265 5.3.
     pub fn is_persistent(&self) -> bool
         ensures { result ≡ is_persistent self.now.expires }
     {
@@ -160,28 +179,28 @@ impl<'a> Cookie<'a> {
         }
     }
 
-    /// Ends the cookie, at 1970-01-01T00:00:00.
+    /// Expires the cookie: sets its expiry to 1970-01-01T00:00:00.
     pub fn expire(&mut self)
         ensures { self.new ≡ ended self.old }
     {
         self.expires = CookieExpiration::AtUtc(epoch());
     }
 
-    /// Whether the cookie has ended at the moment.
+    /// Returns whether the cookie has expired: its expiry is `now` or earlier.
     pub fn is_expired(&self, now: DateTime) -> bool
         ensures { result ≡ is_expired (moment_of now) self.now }
     {
         self.expires.is_expired(now)
     }
 
-    /// Whether the cookie ends at the moment or before it.
+    /// Returns whether the cookie's expiry is `moment` or earlier.
     pub fn expires_by(&self, moment: &DateTime) -> bool
         ensures { result ≡ is_expired (moment_of moment.now) self.now }
     {
         self.expires.expires_by(moment)
     }
 
-    /// An equal cookie that lends nothing.
+    /// Returns an equal cookie that borrows nothing.
     pub fn into_owned(self, alloc: Global) -> Result<Cookie<'static>, AllocError>
         ensures { IfOk result (λ owned. owned ≡ self.entry) }
     {
@@ -199,8 +218,10 @@ impl<'a> Cookie<'a> {
         })
     }
 
-    /// What the cookie says of itself as a raw cookie: its name and value, Expires where it ends at a moment, Path where
-    /// a Path attribute set it, and Domain where it is for more than one host. All else is dropped.
+    /// Converts the cookie back to a raw cookie.
+    ///
+    /// The result has the name and value, Expires for a persistent cookie, Path if a Path attribute
+    /// set it, and Domain for a domain cookie. All other attributes are dropped.
     pub fn into_raw(self, alloc: Global) -> Result<RawCookie<'static>, AllocError>
         ensures { IfOk result (λ raw. raw ≡ said self.entry) }
     {
@@ -239,6 +260,7 @@ impl<'a> PartialEq for Cookie<'a> {
     }
 }
 
+// The raw cookie of `Cookie::into_raw`.
 fn said(alloc: Global, cookie: Cookie<'_>) -> Result<RawCookie<'static>, AllocError>
     ensures { IfOk result (λ raw. raw ≡ said cookie.entry) }
 {
@@ -254,6 +276,7 @@ fn said(alloc: Global, cookie: Cookie<'_>) -> Result<RawCookie<'static>, AllocEr
     Ok(with_domain(with_path(builder, path), domain).build())
 }
 
+// Adds Expires for a persistent cookie.
 fn with_end(builder: RawCookieBuilder, expires: CookieExpiration) -> RawCookieBuilder
     ensures { result ≡ record builder { expires = option_or (said_end (expiry_value expires)) builder.expires } }
 {
@@ -263,6 +286,7 @@ fn with_end(builder: RawCookieBuilder, expires: CookieExpiration) -> RawCookieBu
     }
 }
 
+// Adds Path if a Path attribute set it.
 fn with_path(builder: RawCookieBuilder, path: CookiePath) -> RawCookieBuilder
     ensures { result ≡ record builder { path = option_or (said_path path) builder.path } }
 {
@@ -273,6 +297,7 @@ fn with_path(builder: RawCookieBuilder, path: CookiePath) -> RawCookieBuilder
     }
 }
 
+// Adds Domain for a domain cookie.
 fn with_domain(builder: RawCookieBuilder, domain: CookieDomain) -> RawCookieBuilder
     ensures { result ≡ record builder { domain = option_or (said_domain (domain_value domain)) builder.domain } }
 {
@@ -282,21 +307,21 @@ fn with_domain(builder: RawCookieBuilder, domain: CookieDomain) -> RawCookieBuil
     }
 }
 
-// Whether a flag is set.
+// Whether the flag is present and set.
 fn is_set(flag: Option<bool>) -> bool
     ensures { result ≡ unwrap_or flag false }
 {
     flag.unwrap_or(false)
 }
 
-// Whether the cookie is HttpOnly, and the scheme of the URL not HTTP.
+// Whether the cookie is HttpOnly and the URL's scheme does not begin with `http`.
 fn is_out_of_reach(raw: &RawCookie<'_>, url: &Url) -> bool
     ensures { result ≡ is_out_of_reach raw.now url.now }
 {
     is_set(raw.http_only()) && !is_http_scheme(url)
 }
 
-// Why there is no cookie, where neither a domain in ASCII nor a path is asked for.
+// The error, if one can be found without allocating.
 fn early_refusal(raw: &RawCookie<'_>, url: &Url) -> Option<CookieError>
     ensures { result ≡ early_refusal raw.now url.now }
 {
@@ -309,7 +334,7 @@ fn early_refusal(raw: &RawCookie<'_>, url: &Url) -> Option<CookieError>
     }
 }
 
-// When the cookie ends.
+// The expiry, RFC 6265 5.3 step 3: by Max-Age, else by Expires, else a session cookie.
 fn expiry_at(raw: &RawCookie<'_>, now: DateTime) -> CookieExpiration
     ensures { expiry_value result ≡ expiry_of raw.now (moment_of now) }
 {
@@ -320,7 +345,7 @@ fn expiry_at(raw: &RawCookie<'_>, now: DateTime) -> CookieExpiration
     }
 }
 
-// The domain that the cookie names, if it may, or else the host of the URL alone.
+// The Domain attribute if it matches the URL, or a host-only domain, RFC 6265 5.3 step 6.
 fn domain_at(alloc: Global, raw: &RawCookie<'_>, url: &Url) -> Result<CookieDomain, CookieError>
     ensures value { Gives domain_value result (domain_at (domain_from_attribute raw.now.domain) url.now) }
     ensures early { is_none raw.now.domain && is_none (host_of url.now) ≡ true → result ≡ Err CookieError.NonRelativeScheme }
@@ -339,7 +364,7 @@ fn domain_at(alloc: Global, raw: &RawCookie<'_>, url: &Url) -> Result<CookieDoma
     }
 }
 
-// The path that the cookie names, if it begins with `/`, or else the default-path of the URL.
+// The Path attribute if it begins with `/`, else the default-path, RFC 6265 5.2.4.
 fn path_at(alloc: Global, raw: &RawCookie<'_>, url: &Url) -> Result<CookiePath, CookieError>
     ensures { MatchResult result (λ path. path ≡ path_or_default raw.now.path url.now) (λ refusal. refusal ≡ CookieError.Memory) }
 {

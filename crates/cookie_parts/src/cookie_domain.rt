@@ -1,4 +1,4 @@
-//! The hosts that a cookie is for, RFC 6265 5.1.3 and 5.2.3.
+//! The domain of a cookie and domain-match, RFC 6265 5.1.3 and 5.2.3.
 ghost use Rattle.std.specs.Prelude.{◌≡◌, ◌↔◌, ◌∷◌, Err, IfOk, IsOk, IsSomeAnd, IsTrue, None, Some, nat_eq, string_bytes};
 ghost use Rattle.std.specs.List.{ends_with};
 ghost use Rattle.std.specs.Option.{option_copied};
@@ -21,16 +21,18 @@ use std::borrow::CowStr;
 use std::cmp::Ordering;
 use url::Url;
 
-/// The hosts that a cookie is for. Domains are ordered by their kinds, as they stand here, and then by their texts.
+/// The domain of a cookie: the hosts that receive it.
+///
+/// Domains are ordered by kind, in the order of the variants, and then by their strings.
 #[derive(Debug, PartialEq, Eq, PartialOrd, Ord, Hash, Drop)]
 pub enum CookieDomain {
-    /// The host that the cookie came from, and no other.
+    /// A host-only cookie: this host and no other.
     HostOnly(String),
-    /// This host and every host below it.
+    /// A domain cookie: this host and every host name below it.
     Suffix(String),
-    /// There was no Domain attribute.
+    /// No Domain attribute; matches no host.
     NotPresent,
-    /// The Domain attribute was empty.
+    /// An empty Domain attribute; matches no host.
     Empty,
 }
 
@@ -51,7 +53,12 @@ impl Clone for CookieDomain {
 }
 
 impl CookieDomain {
-    /// For the host of the URL alone. A URL without a host is refused `NonRelativeScheme`.
+    /// Returns the host of `url` as a host-only domain.
+    ///
+    /// # Errors
+    ///
+    /// - `NonRelativeScheme`: `url` has no host.
+    /// - `Memory`: out of memory.
     pub fn host_only(alloc: Global, url: &Url) -> Result<CookieDomain, CookieError>
         ensures value { Gives domain_value result (host_alone (host_of url.now)) }
         ensures without_host { host_of url.now ≡ None → result ≡ Err CookieError.NonRelativeScheme }
@@ -66,8 +73,14 @@ impl CookieDomain {
         }
     }
 
-    /// The domain that a text names: put to ASCII, and one leading dot dropped. Nothing, and a dot alone, is `Empty`.
-    /// `Idna` where the text is no domain name.
+    /// Parses a domain: trims white space, converts to ASCII by UTS #46, drops one leading dot.
+    ///
+    /// Returns `Empty` if nothing is left, else `Suffix`.
+    ///
+    /// # Errors
+    ///
+    /// - `Idna`: `domain` is not a valid domain name.
+    /// - `Memory`: out of memory.
     pub fn try_from_str(alloc: Global, domain: &str) -> Result<CookieDomain, Error>
         ensures { GivesDomain result (domain_from_text domain.now) }
     {
@@ -79,8 +92,16 @@ impl CookieDomain {
         suffix(alloc, without_dot(ascii))
     }
 
-    /// The domain that the Domain attribute names. Without one it is `NotPresent`, and an empty one is `Empty`.
-    /// `Idna` where it is no domain name.
+    /// Parses the Domain attribute: trims white space and converts to ASCII by UTS #46.
+    ///
+    /// Returns `NotPresent` without a Domain attribute, `Empty` if nothing is left, else `Suffix`.
+    ///
+    /// # Errors
+    ///
+    /// - `Idna`: the Domain attribute is not a valid domain name.
+    /// - `Memory`: out of memory.
+    ///
+    /// Without a Domain attribute there is no error.
     pub fn try_from_raw(alloc: Global, cookie: &RawCookie<'_>) -> Result<CookieDomain, Error>
         ensures value { GivesDomain result (domain_from_attribute cookie.now.domain) }
         ensures without_domain { cookie.now.domain ≡ None → IsOk result }
@@ -95,7 +116,11 @@ impl CookieDomain {
         suffix(alloc, ascii.as_str())
     }
 
-    /// Whether the cookie is for the host of the URL.
+    /// Returns whether the domain matches the host of `url`, RFC 6265 5.1.3.
+    ///
+    /// `HostOnly` matches only an equal host. `Suffix` also matches host names below it; an IP
+    /// address must be equal. `NotPresent` and `Empty` match no host. Nothing matches a URL without
+    /// a host.
     pub fn matches(&self, url: &Url) -> bool
         ensures value { result ≡ domain_matches (domain_value self.now) url.now }
         ensures meaning { IsTrue result ↔ IsForHost (domain_value self.now) (host_of url.now) }
@@ -110,7 +135,7 @@ impl CookieDomain {
         }
     }
 
-    /// Whether the domain is the host of the URL; then it matches the URL.
+    /// Returns whether the domain equals the host of `url`. If so, it matches `url`.
     pub fn host_is_identical(&self, url: &Url) -> bool
         ensures value { result ≡ host_is_identical (domain_value self.now) url.now }
         ensures matches { IsTrue result → IsTrue (domain_matches (domain_value self.now) url.now) }
@@ -121,7 +146,7 @@ impl CookieDomain {
         }
     }
 
-    /// Whether the domain is a public suffix on the list: a listed rule says that the whole of its text is one.
+    /// Returns whether the whole domain is a public suffix by a rule of `list`.
     pub fn is_public_suffix(&self, list: &List) -> bool
         ensures { result ≡ is_public_suffix list.now (domain_value self.now) }
     {
@@ -131,21 +156,21 @@ impl CookieDomain {
         }
     }
 
-    /// A copy of the text, empty for the kinds without one.
+    /// Copies the domain into a new string, empty for `NotPresent` and `Empty`.
     pub fn to_string_in(&self, alloc: Global) -> Result<String, AllocError>
         ensures { IfOk result (λ text. string_bytes text ≡ domain_text (domain_value self.now)) }
     {
         String::from_str(alloc, self.as_str())
     }
 
-    /// The text of the domain, empty for the kinds without one.
+    /// Returns the domain as a string, empty for `NotPresent` and `Empty`.
     pub fn as_str(&self) -> &str
         ensures { result.now ≡ domain_text (domain_value self.now) }
     {
         self.as_cow().unwrap_or("")
     }
 
-    /// The text of the domain, for the kinds that have one.
+    /// Returns the domain as a string, `None` for `NotPresent` and `Empty`.
     pub fn as_cow(&self) -> Option<&str>
         ensures { option_copied result ≡ text_if_any (domain_value self.now) }
     {
@@ -156,15 +181,16 @@ impl CookieDomain {
     }
 }
 
-/// The order of domains: by their kinds, as they stand in [`CookieDomain`], and then by their texts.
+/// Compares domains by kind, in the order of [`CookieDomain`]'s variants, and then by string.
 pub fn compare(first: &CookieDomain, second: &CookieDomain) -> Ordering
     ensures { result ≡ compare_domains (domain_value first.now) (domain_value second.now) }
 {
     first.cmp(second)
 }
 
-/// Whether a cookie for the domain that the text names is for the host of the URL. It is not where the text is no domain
-/// name.
+/// Returns whether `domain`, parsed by [`CookieDomain::try_from_str`], matches the host of `url`.
+///
+/// Returns false if `domain` is not a valid domain name.
 pub fn is_match(alloc: Global, domain: &str, url: &Url) -> Result<bool, AllocError>
     ensures value { IfOk result (λ is_for. is_for ≡ text_matches domain.now url.now) }
     ensures meaning { IfOk result (λ is_for. IsTrue is_for
@@ -177,7 +203,7 @@ pub fn is_match(alloc: Global, domain: &str, url: &Url) -> Result<bool, AllocErr
     }
 }
 
-// In ASCII by UTS #46, without white space at its ends.
+// Trims white space and converts to ASCII by UTS #46.
 #[tactic(auto, unfolding(crate::specs::Domain::ascii_of))]
 fn to_ascii(alloc: Global, domain: &str) -> Result<CowStr<'_>, Error>
     ensures { GivesAscii result (ascii_of domain.now) }
@@ -186,13 +212,14 @@ fn to_ascii(alloc: Global, domain: &str) -> Result<CowStr<'_>, Error>
     Ok(domain_to_ascii_cow(alloc, domain, AsciiDenyList::EMPTY)?)
 }
 
+// The domain of a domain cookie, copied.
 fn suffix(alloc: Global, domain: &str) -> Result<CookieDomain, Error>
     ensures { GivesDomain result (Some (Domain.Suffix domain.now)) }
 {
     Ok(CookieDomain::Suffix(String::from_str(alloc, domain)?))
 }
 
-// Whether the domain is its own public suffix, by a listed rule.
+// Whether the whole domain is a public suffix by a rule of the list.
 #[tactic(auto, unfolding(cookie_psl::specs::Rules::listed))]
 fn is_listed(list: &List, domain: &str) -> bool
     ensures { result ≡ listed list.now domain.now }
@@ -203,7 +230,7 @@ fn is_listed(list: &List, domain: &str) -> bool
     }
 }
 
-// RFC 6265 5.1.3: the host is the domain, or a name that ends in a dot and the domain.
+// RFC 6265 5.1.3: the host is the domain, or a host name that ends in a dot and the domain.
 fn covers(domain: &str, host: &str) -> bool
     ensures { result ≡ covers domain.now host.now }
 {

@@ -1,33 +1,35 @@
-//! Why a cookie was refused.
+//! Why a cookie was rejected.
 ghost use Rattle.std.specs.Prelude.{◌≡◌};
 ghost use Rattle.cookie_parts.specs.Errors.{error_text};
 
 use cookie_raw::RawCookieParseError;
 use std::fmt;
 
-/// Why a cookie was refused.
+/// Why a cookie was rejected.
 #[derive(Clone, Copy, Debug, PartialEq, Eq)]
 pub enum CookieError {
-    /// The cookie is HttpOnly, and the scheme of the URL does not begin with `http`.
+    /// The cookie, or the unexpired stored cookie of the same domain, path and name, is HttpOnly,
+    /// and the scheme of the URL does not begin with `http`.
     NonHttpScheme,
-    /// The URL has no host that the cookie could be for.
+    /// The cookie names no domain, and the URL has no host to use instead.
     NonRelativeScheme,
-    /// The cookie's domain does not cover the host of the URL.
+    /// The cookie's domain does not domain-match the host of the URL.
     DomainMismatch,
-    /// The cookie has ended already, and there is none that it could end.
+    /// The cookie has already expired, and no unexpired cookie of the same domain, path and name is
+    /// stored that it could expire.
     Expired,
-    /// The text is no cookie, or its domain is no domain name.
+    /// The header value is not a cookie, or its Domain attribute is not a valid domain name.
     Parse,
     /// The cookie's domain is a public suffix other than the host of the URL.
     PublicSuffix,
-    /// The cookie is for no domain.
+    /// The cookie has no domain. A store's insertions never return this.
     UnspecifiedDomain,
-    /// The allocator had no memory.
+    /// Out of memory.
     Memory,
 }
 
 impl CookieError {
-    /// The refusal in words.
+    /// Returns the error message.
     pub fn text(&self) -> &'static str
         ensures { result.now ≡ error_text self.now }
     {

@@ -1,4 +1,4 @@
-//! When a cookie ends, RFC 6265 5.3 step 3.
+//! When a cookie expires, RFC 6265 5.3 step 3.
 ghost use Rattle.std.specs.Prelude.{◌≡◌, min, pos, ◌+ℤ◌, ◌≤ℤ◌, ◌<ℤ◌, IsTrue};
 ghost use Rattle.jiff.specs.Words.{signed_nanos};
 ghost use Rattle.cookie_words.specs.Moments.{epoch, moment_of, nanoseconds, Moment};
@@ -12,17 +12,19 @@ use cookie_words::moments_are_on_the_scale;
 use jiff::SignedDuration;
 use jiff::civil::{DateTime, date};
 
-/// When a cookie ends, RFC 6265 5.3 step 3.
+/// When a cookie expires, RFC 6265 5.3 step 3.
 #[derive(Clone, Copy, Debug)]
 pub enum CookieExpiration {
-    /// At this moment, read as UTC.
+    /// A persistent cookie: it expires at this time, in UTC.
     AtUtc(DateTime),
-    /// With the session, so at no moment.
+    /// A session cookie: it has no expiry time.
     SessionEnd,
 }
 
 impl CookieExpiration {
-    /// So many seconds from the moment on, as [`from_duration`](Self::from_duration) counts them.
+    /// Returns the expiry `secs` seconds after `now`, at most 9999-12-31T23:59:59.
+    ///
+    /// For 0 seconds it is 1970-01-01T00:00:00.
     pub fn from_secs(secs: u64, now: DateTime) -> CookieExpiration
         ensures { expiry_value result ≡ of_age (of_seconds (min secs 9_223_372_036_854_775_807)) (moment_of now) }
     {
@@ -30,8 +32,9 @@ impl CookieExpiration {
         CookieExpiration::from_duration(SignedDuration::from_secs(secs), now)
     }
 
-    /// After the duration from the moment on, but not after 9999-12-31T23:59:59. For a duration of zero or less it is
-    /// 1970-01-01T00:00:00.
+    /// Returns the expiry `duration` after `now`, at most 9999-12-31T23:59:59, RFC 6265 5.2.2.
+    ///
+    /// For a duration of zero or less it is 1970-01-01T00:00:00.
     pub fn from_duration(duration: SignedDuration, now: DateTime) -> CookieExpiration
         ensures { expiry_value result ≡ of_age (signed_nanos duration) (moment_of now) }
     {
@@ -41,14 +44,14 @@ impl CookieExpiration {
         CookieExpiration::AtUtc(after(now, duration))
     }
 
-    /// At the moment, but not after 9999-12-31T23:59:59.
+    /// Returns the expiry at `moment`, at most 9999-12-31T23:59:59.
     pub fn from_moment(moment: DateTime) -> CookieExpiration
         ensures { expiry_value result ≡ at_moment (moment_of moment) }
     {
         CookieExpiration::AtUtc(no_later(moment))
     }
 
-    /// What an Expires attribute says.
+    /// Converts the value of an Expires attribute; its time is taken unchanged.
     pub fn from_expiration(expiration: Expiration) -> CookieExpiration
         ensures { expiry_value result ≡ of_ending (ending expiration) }
     {
@@ -58,14 +61,14 @@ impl CookieExpiration {
         }
     }
 
-    /// Whether the cookie has ended at the moment.
+    /// Returns whether the expiry is `now` or earlier. A session cookie has never expired.
     pub fn is_expired(&self, now: DateTime) -> bool
         ensures { result ≡ is_by (moment_of now) (expiry_value self.now) }
     {
         self.expires_by(&now)
     }
 
-    /// Whether the cookie ends at the moment or before it. Then it does so by every later moment.
+    /// Returns whether the expiry is `moment` or earlier. If so, it is for every later time too.
     pub fn expires_by(&self, moment: &DateTime) -> bool
         ensures value { result ≡ is_by (moment_of moment.now) (expiry_value self.now) }
         ensures later { (later : Moment) → nanoseconds (moment_of moment.now) ≤ℤ nanoseconds later
@@ -88,7 +91,7 @@ impl PartialEq for CookieExpiration {
 
     ghost laws = { partial_equiv_from_equiv (on_equiv expiry_value same_expiry_equiv) };
 
-    // Fractions of a second do not count.
+    // Ignores fractions of a second.
     fn eq(&self, other: &CookieExpiration) -> bool {
         match (self, other) {
             (CookieExpiration::AtUtc(end), CookieExpiration::AtUtc(other)) => {
@@ -108,7 +111,7 @@ impl Eq for CookieExpiration {
     ghost laws = { on_equiv expiry_value same_expiry_equiv };
 }
 
-// The moment without a fraction of a second.
+// The time without its fraction of a second.
 fn whole_seconds(moment: DateTime) -> DateTime
     ensures { moment_of result ≡ record (moment_of moment) { nanosecond = 0 } }
 {
@@ -124,25 +127,28 @@ pub(crate) fn epoch() -> DateTime
     date(1970, 1, 1).at(0, 0, 0, 0)
 }
 
+// The latest expiry that is computed.
 fn latest() -> DateTime
     ensures { moment_of result ≡ latest }
 {
     date(9999, 12, 31).at(23, 59, 59, 0)
 }
 
-// The moment, or the latest one where that is later.
+// The time, at most `latest`.
 fn no_later(moment: DateTime) -> DateTime
     ensures { moment_of result ≡ by_latest (nanoseconds (moment_of moment)) }
 {
+    // for the checker: the nanoseconds since the epoch determine a `DateTime`
     moments_are_on_the_scale();
     moment.min(latest())
 }
 
-// The moment after a duration, or the latest one where that is later.
+// The time `duration` after `now`, at most `latest`.
 fn after(now: DateTime, duration: SignedDuration) -> DateTime
     requires { pos 0 <ℤ signed_nanos duration }
     ensures { moment_of result ≡ by_latest (nanoseconds (moment_of now) +ℤ signed_nanos duration) }
 {
+    // for the checker: the nanoseconds since the epoch determine a `DateTime`
     moments_are_on_the_scale();
     match now.checked_add(duration) {
         Ok(end) => end.min(latest()),

@@ -1,4 +1,4 @@
-//! The paths that a cookie is for, RFC 6265 5.1.4 and 5.2.4.
+//! The path of a cookie and path-match, RFC 6265 5.1.4 and 5.2.4.
 ghost use Rattle.std.specs.Prelude.{◌≡◌, ◌↔◌, ◌&&◌, false, None, Ok, Some, string_bytes, IfOk, IsTrue};
 ghost use Rattle.url.specs.Parts.{cannot_be_a_base};
 ghost use Rattle.cookie_parts.specs.Path.{absolute_path, covers_path, default_path, from_url, is_absolute, path_matches, path_or_default, CoversPath, IsAbsolute};
@@ -9,7 +9,7 @@ use std::hash::{Hash, Hasher};
 use std::marker::Model;
 use url::Url;
 
-/// The paths that a cookie is for: this path and every path below it.
+/// The path of a cookie. It matches this path and every path below it.
 #[derive(Debug, Drop)]
 pub struct CookiePath {
     path: String,
@@ -26,7 +26,9 @@ impl Model for CookiePath {
 }
 
 impl CookiePath {
-    /// Whether the cookie is for the URL's path. No path is for a URL that cannot be a base.
+    /// Returns whether the path matches the path of `url`, RFC 6265 5.1.4.
+    ///
+    /// Returns false if `url` cannot be a base.
     pub fn matches(&self, url: &Url) -> bool
         ensures value { result ≡ path_matches self.now.text url.now }
         ensures meaning { IsTrue result
@@ -35,14 +37,16 @@ impl CookiePath {
         covers_url(self.as_str(), url)
     }
 
-    /// Whether a Path attribute set the path.
+    /// Returns whether a Path attribute set the path.
     pub fn is_from_path_attr(&self) -> bool
         ensures { result ≡ self.now.is_from_attribute }
     {
         self.from_attr
     }
 
-    /// The default-path of the URL: its path up to the last `/`.
+    /// Returns the default-path of `url`, RFC 6265 5.1.4: its path up to the last `/`, without it.
+    ///
+    /// Returns `/` if nothing precedes that `/`, there is none, or `url` cannot be a base.
     pub fn default_path(alloc: Global, url: &Url) -> Result<CookiePath, AllocError>
         ensures { IfOk result (λ path. path ≡ from_url url.now) }
     {
@@ -52,7 +56,7 @@ impl CookiePath {
         })
     }
 
-    /// The path where it begins with `/`, and else the default-path of the URL.
+    /// Returns `path` if it begins with `/`, else the default-path of `url`, RFC 6265 5.2.4.
     pub fn new(alloc: Global, path: &str, url: &Url) -> Result<CookiePath, AllocError>
         ensures { IfOk result (λ chosen. chosen ≡ path_or_default (Some path.now) url.now) }
     {
@@ -62,7 +66,9 @@ impl CookiePath {
         }
     }
 
-    /// The path where it begins with `/`. One that does not wants no memory.
+    /// Returns `path` as a cookie path, or `None` if it does not begin with `/`.
+    ///
+    /// Allocates only if `path` begins with `/`.
     pub fn parse(alloc: Global, path: &str) -> Result<Option<CookiePath>, AllocError>
         ensures value { IfOk result (λ absolute. absolute ≡ absolute_path path.now) }
         ensures relative { absolute_path path.now ≡ None → result ≡ Ok None }
@@ -76,14 +82,14 @@ impl CookiePath {
         }))
     }
 
-    /// The path as it was saved, also where its text does not begin with `/`.
+    /// Makes a path from its saved form, even if it does not begin with `/`.
     pub(crate) fn of_saved(path: String, from_attr: bool) -> CookiePath
         ensures { result ≡ record { text = string_bytes path; is_from_attribute = from_attr } }
     {
         CookiePath { path, from_attr }
     }
 
-    /// The text of the path, which is given up.
+    /// Returns the path as a `String`, consuming `self`.
     pub fn into_string(self) -> String
         ensures { string_bytes result ≡ self.text }
     {
@@ -91,14 +97,14 @@ impl CookiePath {
         path
     }
 
-    /// A copy of the text of the path.
+    /// Copies the path into a new string.
     pub fn to_string_in(&self, alloc: Global) -> Result<String, AllocError>
         ensures { IfOk result (λ text. string_bytes text ≡ self.now.text) }
     {
         String::from_str(alloc, self.as_str())
     }
 
-    /// The text of the path.
+    /// Returns the path as a string.
     pub fn as_str(&self) -> &str
         ensures { result.now ≡ self.now.text }
     {
@@ -192,8 +198,9 @@ impl Hash for CookiePath {
     }
 }
 
-/// Whether a cookie of this path is for the URL's path. No path is that does not begin with `/`, and none is for a URL
-/// that cannot be a base.
+/// Returns whether a cookie of this path matches the path of `request_url`, RFC 6265 5.1.4.
+///
+/// Returns false if `cookie_path` does not begin with `/` or `request_url` cannot be a base.
 pub fn is_match(cookie_path: &str, request_url: &Url) -> bool
     ensures value { result ≡ is_absolute cookie_path.now && path_matches cookie_path.now request_url.now }
     ensures meaning { IsTrue result
@@ -211,7 +218,7 @@ fn is_absolute(path: &str) -> bool
     path.as_bytes().starts_with(b"/")
 }
 
-// Whether the URL can be a base, and the path covers its path.
+// Whether the path matches the path of a URL that can be a base.
 fn covers_url(path: &str, url: &Url) -> bool
     ensures value { result ≡ path_matches path.now url.now }
     ensures meaning { IsTrue result ↔ (cannot_be_a_base url.now ≡ false) × CoversPath path.now url.now.path }
@@ -219,8 +226,8 @@ fn covers_url(path: &str, url: &Url) -> bool
     !url.cannot_be_a_base() && covers(path.as_bytes(), url.path().as_bytes())
 }
 
-// RFC 6265 5.1.4: the request path is the path and a rest, where the rest is empty, or the path ends with `/`, or the
-// rest begins with `/`.
+// RFC 6265 5.1.4, path-match: the request path begins with the path, and either they are equal,
+// or the path ends with `/`, or the next byte of the request path is `/`.
 fn covers(path: &[u8], request: &[u8]) -> bool
     ensures value { result ≡ covers_path path.now request.now }
     ensures meaning { IsTrue result ↔ CoversPath path.now request.now }
@@ -231,7 +238,7 @@ fn covers(path: &[u8], request: &[u8]) -> bool
             || request[path.len()..].starts_with(b"/"))
 }
 
-// The default-path as a part of the URL.
+// The default-path, borrowed from the URL.
 fn default_path_of(url: &Url) -> &str
     ensures { result.now ≡ default_path url.now }
 {

@@ -1,10 +1,10 @@
-//! Why a call that is not about one cookie failed.
+//! The error of calls that are not about a single cookie.
 use crate::CookieError;
 use cookie_forms::SavedError;
 use std::alloc::{AllocError, AllocFailed};
 use std::fmt;
 
-/// The fault that `idna` found in a domain.
+/// The error of `idna` for an invalid domain name.
 #[derive(Clone, Copy, Debug, PartialEq, Eq)]
 pub struct IdnaErrors {
     fault: idna::Errors,
@@ -33,22 +33,22 @@ impl fmt::Display for IdnaErrors {
 
 impl std::error::Error for IdnaErrors {}
 
-/// Why a call that is not about one cookie failed.
+/// The error of calls that are not about a single cookie.
 #[derive(Debug, PartialEq, Eq, Drop)]
 pub enum Error {
-    /// A cookie was refused.
+    /// A cookie was rejected.
     Cookie(CookieError),
-    /// `idna` refused a domain.
+    /// A domain is not a valid domain name.
     Idna(IdnaErrors),
     /// A reader or a writer failed.
     Io,
-    /// A saved form was refused.
+    /// A saved cookie could not be read or written.
     Saved(SavedError),
-    /// What a caller's own function says.
+    /// An error of the caller's own function.
     Other(String),
-    /// The allocator had no memory.
+    /// Out of memory.
     Memory,
-    /// A text is no UTF-8.
+    /// The input is not UTF-8.
     NotUtf8,
 }
 
@@ -75,7 +75,7 @@ impl fmt::Display for Error {
 
 impl std::error::Error for Error {}
 
-/// A refusal is `Cookie`, but want of memory is `Memory`.
+/// Converts to `Memory` if out of memory, else to `Cookie`.
 impl From<CookieError> for Error {
     ghost use Rattle.std.specs.Prelude.{◌≡◌};
     ghost use Rattle.cookie_parts.specs.Errors.{fault_of_refusal};
@@ -90,7 +90,7 @@ impl From<CookieError> for Error {
     }
 }
 
-/// What `idna` refused is `Idna`, but want of memory is `Memory`.
+/// Converts to `Memory` if out of memory, else to `Idna`.
 impl From<idna::Errors> for Error {
     ghost use Rattle.std.specs.Prelude.{◌≡◌};
     ghost use Rattle.cookie_parts.specs.Errors.{fault_of_idna};
@@ -105,7 +105,7 @@ impl From<idna::Errors> for Error {
     }
 }
 
-/// What a saved form was refused for is `Saved`, but want of memory is `Memory`.
+/// Converts to `Memory` if out of memory, else to `Saved`.
 impl From<SavedError> for Error {
     ghost use Rattle.std.specs.Prelude.{◌≡◌};
     ghost use Rattle.cookie_parts.specs.Errors.{fault_of_saved};
@@ -142,5 +142,5 @@ impl<T: Drop> From<AllocFailed<T>> for Error {
     }
 }
 
-/// What a call answers that is not about one cookie.
+/// The result of calls that are not about a single cookie.
 pub type StoreResult<T> = Result<T, Error>;

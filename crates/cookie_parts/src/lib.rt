@@ -1,5 +1,6 @@
-//! The parts of a cookie, after RFC 6265 5.1.3, 5.1.4, 5.3 and 5.4: the domain, the path and the expiry, the cookie that a
-//! Set-Cookie text makes when it comes from a URL, and the passage between a cookie and its saved form.
+//! Cookies and their parts, after RFC 6265 5.1.3, 5.1.4, 5.3 and 5.4: domain, path and expiry, the
+//! cookie that a `Set-Cookie` header value from a URL sets, and the conversion between a cookie and
+//! its saved form.
 #![tactic(auto)]
 
 mod cookie;

@@ -1,4 +1,4 @@
-//! The passage between a cookie and its saved form.
+//! Conversion between a cookie and its saved form.
 ghost use Rattle.std.specs.Prelude.{◌≡◌, ◌⊎◌, Err, IfErr, IfOk, IsSome, Ok, OnErr};
 ghost use Rattle.cookie_parts.specs.Domain.{text_if_any};
 ghost use Rattle.cookie_parts.specs.Passage.{cookie_of_saved, domain_of_saved, end_of_saved, saved_domain, saved_end, saved_of};
@@ -11,7 +11,8 @@ use cookie_raw::RawCookie;
 use std::alloc::{AllocError, Global};
 
 impl<'a> Cookie<'a> {
-    /// The saved form: the text of the raw cookie, and the path, the domain and the end as they are.
+    /// Returns the saved form: the raw cookie as a `Set-Cookie` header value, and the path, domain
+    /// and expiry unchanged.
     pub fn to_saved(&self, alloc: Global) -> Result<Saved, AllocError>
         ensures saved { IfOk result (λ saved. saved_view saved ≡ saved_of self.now) }
     {
@@ -26,8 +27,14 @@ impl<'a> Cookie<'a> {
 }
 
 impl Cookie<'static> {
-    /// The cookie of a saved form. `Cookie(Parse)` where its text is no cookie; then no memory is wanted. The path, the
-    /// domain and the end are taken as they were saved, without a test.
+    /// Makes a cookie from its saved form.
+    ///
+    /// The path, domain and expiry are taken as saved, without validation.
+    ///
+    /// # Errors
+    ///
+    /// - `Cookie(Parse)`: `raw_cookie` is not a valid `Set-Cookie` header value.
+    /// - `Memory`: out of memory. Never returned in place of `Cookie(Parse)`.
     pub fn from_saved(alloc: Global, saved: Saved) -> Result<Cookie<'static>, Error>
         ensures cookie { IfOk result (λ cookie. cookie_of_saved (saved_view saved) ≡ Ok cookie) }
         ensures refused { IfErr result (λ e. (e ≡ Error.Memory)
@@ -55,6 +62,7 @@ impl Cookie<'static> {
     }
 }
 
+// The saved form of the domain.
 fn saved_domain(domain: &CookieDomain) -> Result<SavedDomain, AllocError>
     ensures saved { IfOk result (λ saved. domain_view saved ≡ saved_domain (domain_value domain.now)) }
     ensures memory { OnErr result (IsSome (text_if_any (domain_value domain.now))) }
@@ -67,6 +75,7 @@ fn saved_domain(domain: &CookieDomain) -> Result<SavedDomain, AllocError>
     })
 }
 
+// The domain of its saved form.
 fn domain_of_saved(saved: SavedDomain) -> CookieDomain
     ensures { domain_value result ≡ domain_of_saved (domain_view saved) }
 {
@@ -78,6 +87,7 @@ fn domain_of_saved(saved: SavedDomain) -> CookieDomain
     }
 }
 
+// The saved form of the expiry.
 fn saved_expiry(expires: CookieExpiration) -> SavedExpiry
     ensures { expiry_view result ≡ saved_end (expiry_value expires) }
 {
@@ -87,6 +97,7 @@ fn saved_expiry(expires: CookieExpiration) -> SavedExpiry
     }
 }
 
+// The expiry of its saved form.
 fn expiry_of_saved(saved: SavedExpiry) -> CookieExpiration
     ensures { expiry_value result ≡ end_of_saved (expiry_view saved) }
 {

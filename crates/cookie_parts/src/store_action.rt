@@ -1,10 +1,11 @@
 /// What a store did with a cookie that it accepted.
 #[derive(Clone, Copy, Debug, PartialEq, Eq)]
 pub enum StoreAction {
-    /// The cookie is new.
+    /// The cookie was inserted; none of the same domain, path and name was stored.
     Inserted,
-    /// The cookie has ended already, and so has the stored cookie of its domain, path and name now.
+    /// The cookie has already expired, and so the stored cookie of the same domain, path and name
+    /// was expired.
     ExpiredExisting,
-    /// The cookie took the place of the stored cookie of its domain, path and name.
+    /// The cookie replaced the stored cookie of the same domain, path and name.
     UpdatedExisting,
 }

@@ -6,7 +6,7 @@ ghost use Rattle.cookie_parts.specs.Hosts.{is_host_name, is_http_scheme, is_ipv4
 use std::net::Ipv4Addr;
 use url::{Host, Url};
 
-/// Whether the scheme of the URL begins with `http`, so that HttpOnly cookies are for it.
+/// Returns whether the scheme of `url` begins with `http`, as HttpOnly cookies require.
 #[tactic(auto, unfolding(crate::specs::Hosts::is_http_scheme))]
 pub fn is_http_scheme(url: &Url) -> bool
     ensures { result ≡ is_http_scheme url.now }
@@ -14,7 +14,7 @@ pub fn is_http_scheme(url: &Url) -> bool
     url.scheme().as_bytes().starts_with(b"http")
 }
 
-/// Whether the text of a host is a name, and not an IP address.
+/// Returns whether `host` is a host name: not an IPv4 address, and without a `:`.
 #[tactic(auto, unfolding(crate::specs::Hosts::is_host_name))]
 pub fn is_host_name(host: &str) -> bool
     ensures { result ≡ is_host_name host.now }
@@ -22,8 +22,8 @@ pub fn is_host_name(host: &str) -> bool
     !host.as_bytes().contains(&b':') && !is_ipv4(host)
 }
 
-/// Whether Secure cookies are for the URL: its scheme is `https`, or its host is this machine (`localhost`, an IPv4
-/// address of 127.0.0.0/8 or the IPv6 address ::1).
+/// Returns whether `url` may receive Secure cookies: its scheme is `https`, or its host is the
+/// local machine (`localhost`, 127.0.0.0/8 or ::1).
 #[tactic(auto, unfolding(crate::specs::Hosts::is_secure))]
 pub fn is_secure(url: &Url) -> bool
     ensures { result ≡ is_secure url.now }
@@ -37,6 +37,7 @@ pub fn is_secure(url: &Url) -> bool
     }
 }
 
+// Whether the host is `localhost`, in 127.0.0.0/8, or ::1.
 fn is_loopback(host: Host<&str>) -> bool
     ensures { result ≡ is_loopback (borrowed_host host.entry) }
 {
@@ -47,6 +48,7 @@ fn is_loopback(host: Host<&str>) -> bool
     }
 }
 
+// Whether the host is an IPv4 address.
 fn is_ipv4(host: &str) -> bool
     ensures { result ≡ is_ipv4 host.now }
 {

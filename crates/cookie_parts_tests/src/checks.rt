@@ -1,11 +1,11 @@
-//! What all tests assert, at each row of their tables.
+//! Assertions that all tests use; each names the row of the table that failed.
 use std::alloc::Global;
 use std::cmp::Ordering;
 use std::fmt::{Debug, Display};
 use std::hash::{DefaultHasher, Hash, Hasher};
 use std::process::Abort;
 
-// The answer is the wanted one.
+// Asserts that the answer is the expected one.
 pub(crate) fn is_equal<T: PartialEq + Debug + Drop>(
     rt: &impl Abort,
     answer: T,
@@ -15,12 +15,12 @@ pub(crate) fn is_equal<T: PartialEq + Debug + Drop>(
     assert_eq!(rt; answer, wanted, "at {row:?}");
 }
 
-// What is said of the row holds.
+// Asserts a condition of the row.
 pub(crate) fn holds(rt: &impl Abort, is_so: bool, row: &impl Debug) {
     assert!(rt; is_so, "at {row:?}");
 }
 
-// The answer is the wanted text, or the wanted fault.
+// Asserts that the answer is the expected string or error.
 pub(crate) fn is_text<E: Copy + PartialEq + Debug + Drop>(
     rt: &impl Abort,
     answer: &Result<String, E>,
@@ -33,7 +33,7 @@ pub(crate) fn is_text<E: Copy + PartialEq + Debug + Drop>(
     }
 }
 
-// The value is written so, also where a greater width and a side are asked for.
+// Asserts what the value prints, alone and with a width and an alignment.
 pub(crate) fn is_written_at_any_width(
     rt: &impl Abort,
     alloc: Global,
@@ -51,7 +51,7 @@ fn hash_of<T: Hash>(value: &T) -> u64 {
     state.finish()
 }
 
-// The first stands to the second as is wanted, and equal values have one hash.
+// Asserts how the first compares with the second, and that equal values have equal hashes.
 pub(crate) fn are_ordered<T: Ord + Hash + Debug>(
     rt: &impl Abort,
     first: &T,
@@ -74,7 +74,7 @@ pub(crate) fn are_ordered<T: Ord + Hash + Debug>(
     );
 }
 
-// An own copy of the text.
+// Copies the string.
 pub(crate) fn owned(rt: &impl Abort, alloc: Global, text: &str) -> String {
     String::from_str(alloc, text).expect(rt, "memory")
 }

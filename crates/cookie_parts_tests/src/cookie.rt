@@ -7,10 +7,10 @@ use std::alloc::Global;
 use std::process::Abort;
 use url::Url;
 
-// What a Set-Cookie text is wanted to make: the hosts and the path of its cookie, or the refusal.
+// What is expected of a header value: the domain and path of its cookie, or the error.
 type Made = Result<(Hosts, &'static str), CookieError>;
 
-// A text, the URL that it comes from, and what it makes.
+// A header value, the URL that it is received from, and the expected result.
 const COOKIES: &[(&str, &str, Made)] = &[
     (
         "a=1; Domain=example.com",
@@ -111,7 +111,7 @@ const COOKIES: &[(&str, &str, Made)] = &[
     ),
 ];
 
-// What was made is what the row wants.
+// Asserts that the result is what the row expects.
 fn is_wanted(rt: &impl Abort, made: &Result<Cookie<'_>, CookieError>, row: &(&str, &str, Made)) {
     match (made, &row.2) {
         (Ok(cookie), Ok((hosts, path))) => {
@@ -122,7 +122,7 @@ fn is_wanted(rt: &impl Abort, made: &Result<Cookie<'_>, CookieError>, row: &(&st
     }
 }
 
-// The text of the row makes what is wanted at the moment.
+// Asserts that the row's header value gives the expected result at `now`.
 fn makes(rt: &impl Abort, alloc: Global, row: &(&str, &str, Made), now: DateTime) {
     let url = Url::parse(alloc, row.1).expect(rt, "a URL");
     is_wanted(rt, &Cookie::parse(alloc, row.0, &url, now), row);
@@ -136,7 +136,8 @@ fn a_text_makes_a_cookie(rt: HostRuntime) {
     }
 }
 
-// A text, the URL that it comes from, another URL, and whether its cookie is for that.
+// A header value, the URL that it is received from, another URL, and whether the cookie matches
+// that.
 const FLAGS: &[(&str, &str, &str, bool)] = &[
     (
         "a=1; Secure",
@@ -175,7 +176,7 @@ const FLAGS: &[(&str, &str, &str, bool)] = &[
         false,
     ),
     ("a=1; HttpOnly", "http://example.com", "data:x", false),
-    // This machine is secure.
+    // The local machine counts as secure.
     ("a=1; Secure", "http://localhost", "http://localhost", true),
     (
         "a=1; Secure",
@@ -213,12 +214,12 @@ const TEXT: &str = "a=1; Path=/x; Domain=a.com; Secure; HttpOnly; Max-Age=5";
 
 const NOW: &str = "2026-01-01T00:00:00";
 
-// The cookie of a text that came from http://a.com/ at `NOW`.
+// The cookie of a header value received from http://a.com/ at `NOW`.
 fn cookie<'a>(rt: &impl Abort, alloc: Global, text: &'a str) -> Cookie<'a> {
     cookie_from(rt, alloc, text, "http://a.com/", moment(rt, NOW))
 }
 
-// The cookie of the text says that it is the wanted one.
+// Asserts what the cookie of the header value is as a raw cookie.
 fn says(rt: &impl Abort, alloc: Global, text: &str, wanted: &str) {
     let raw = cookie(rt, alloc, text).into_raw(alloc).expect(rt, "memory");
     is_text(rt, &raw.to_text(alloc), Ok(wanted), &text);
@@ -230,7 +231,7 @@ fn a_cookie_says_what_it_is(rt: HostRuntime) {
     says(&rt, rt.alloc(), TEXT, wanted)
 }
 
-// A text, and whether its cookie outlives the session. Some parts are empty.
+// A header value, and whether its cookie is persistent. Some parts are empty.
 const TEXTS: &[(&str, bool)] = &[
     (TEXT, true),
     ("a=1", false),
@@ -239,7 +240,7 @@ const TEXTS: &[(&str, bool)] = &[
     ("a=; Path=; Domain=", false),
 ];
 
-// Whether it ends as it is told to, and not before.
+// Whether the cookie is expired once `expire` is called, and not before.
 fn has_ended(cookie: &mut Cookie<'_>, now: DateTime, early: DateTime) -> bool {
     let is_early = cookie.is_expired(now);
     cookie.expire();
@@ -247,7 +248,7 @@ fn has_ended(cookie: &mut Cookie<'_>, now: DateTime, early: DateTime) -> bool {
     !is_early && is_late && cookie.expires_by(&early)
 }
 
-// The cookie outlives the session or not, and ends.
+// Asserts that the cookie is persistent or not, and can be expired.
 fn ends(rt: &impl Abort, alloc: Global, row: &(&str, bool)) {
     let early = moment(rt, "1970-01-02T00:00:00");
     let mut cookie = cookie(rt, alloc, row.0);
@@ -260,32 +261,32 @@ fn is_equal_to_copy(rt: &impl Abort, cookie: &Cookie<'_>) -> bool {
     copy == *cookie
 }
 
-// Whether it is equal to the cookie of the text.
+// Whether the cookie equals the one of the header value.
 fn is_of_text(rt: &impl Abort, alloc: Global, made: &Cookie<'_>, text: &str) -> bool {
     let cookie = cookie(rt, alloc, text);
     cookie == *made
 }
 
-// The cookie is equal to its copy and to the one of the text, and not to that of `a=2`.
+// Asserts that the cookie equals its copy and the cookie of `text`, but not that of `a=2`.
 fn is_same(rt: &impl Abort, alloc: Global, made: &Cookie<'_>, text: &str) {
     holds(rt, is_equal_to_copy(rt, made), &text);
     holds(rt, is_of_text(rt, alloc, made, text), &text);
     holds(rt, !is_of_text(rt, alloc, made, "a=2"), &text);
 }
 
-// The cookie that lends nothing is the same.
+// Asserts that the owned cookie is the same.
 fn is_owned(rt: &impl Abort, alloc: Global, text: &str) {
     let owned = cookie(rt, alloc, text).into_owned(alloc);
     is_same(rt, alloc, &owned.expect(rt, "memory"), text);
 }
 
-// The cookie of a raw one that came from http://a.com/ at `NOW`.
+// The cookie of a raw cookie received from http://a.com/ at `NOW`.
 fn raw_cookie<'a>(rt: &impl Abort, alloc: Global, raw: &RawCookie<'a>) -> Cookie<'a> {
     let url = Url::parse(alloc, "http://a.com/").expect(rt, "a URL");
     Cookie::try_from_raw_cookie(alloc, raw, &url, moment(rt, NOW)).expect(rt, "memory")
 }
 
-// The cookie of a raw cookie is the same.
+// Asserts that the cookie of the raw cookie is the same.
 fn comes_from_raw(rt: &impl Abort, alloc: Global, text: &str) {
     let raw = RawCookie::parse(text).expect(rt, "a cookie");
     is_same(rt, alloc, &raw_cookie(rt, alloc, &raw), text);

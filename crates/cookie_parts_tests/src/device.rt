@@ -8,7 +8,7 @@ use std::alloc::Global;
 use std::fmt::Debug;
 use std::process::Abort;
 
-// Takes the next line and a '|', if a line is at hand.
+// Appends the next line and a '|' to `lines`, if a whole line is buffered.
 fn take_line(rt: &impl Abort, buffer: &mut LineBuffer, lines: &mut Vec<u8>) -> bool {
     let Some(end) = buffer.line_end() else {
         return false;
@@ -20,7 +20,7 @@ fn take_line(rt: &impl Abort, buffer: &mut LineBuffer, lines: &mut Vec<u8>) -> b
     true
 }
 
-// Reads once, unless a line is at hand or too many reads have failed.
+// Reads once, unless a whole line is buffered or the failure count is at its maximum.
 pub(crate) fn fill(
     buffer: &mut LineBuffer,
     source: &mut Counted<Fake<&[u8]>>,
@@ -31,7 +31,7 @@ pub(crate) fn fill(
     Some(buffer.fill(source))
 }
 
-// Takes all lines, and then the last bytes. A read that failed is tried again.
+// Takes all lines, and then the last bytes. Reads again after a failed read.
 fn take_all(
     rt: &impl Abort,
     buffer: &mut LineBuffer,
@@ -46,7 +46,8 @@ fn take_all(
     lines.extend_from_slice(buffer.rest()).expect(rt, "memory");
 }
 
-// The lines that a line feed ends, each with '|' behind it, and the last bytes come so by reads of at most `most` bytes.
+// Asserts the lines, each followed by '|', and the last bytes, read by at most `most` bytes at a
+// time.
 fn comes_as(
     rt: &impl Abort,
     alloc: Global,
@@ -86,7 +87,7 @@ fn lines_come_whole(rt: HostRuntime) {
     }
 }
 
-// A line of 20,000 bytes, and what stands behind it.
+// A line of 20,000 bytes, and what follows it.
 fn long_line(rt: &impl Abort, alloc: Global, behind: &[u8]) -> Vec<u8> {
     let mut text = vec![in alloc; b'x'; 20_000].expect(rt, "memory");
     text.extend_from_slice(behind).expect(rt, "memory");
@@ -106,7 +107,7 @@ fn a_long_line_comes_whole(rt: HostRuntime) {
     long_lines_come_as(&rt, rt.alloc(), &input, &wanted)
 }
 
-// The answer is the wanted bytes, or the wanted fault.
+// Asserts that the answer is the expected bytes or error.
 fn is_read(
     rt: &impl Abort,
     answer: &Result<Vec<u8>, FillError>,
@@ -119,7 +120,7 @@ fn is_read(
     }
 }
 
-// All bytes come by reads of at most `most` bytes, unless one fails.
+// Asserts that all bytes are read, at most `most` at a time, unless a read fails.
 fn all_come(rt: &impl Abort, alloc: Global, input: &[u8], most: usize, fails_at: usize) {
     let mut source = Counted::new(Fake::new(input, most, fails_at));
     let answer = read_all(alloc, &mut source);
@@ -148,7 +149,7 @@ fn all_bytes_come(rt: HostRuntime) {
     all_come(&rt, rt.alloc(), b"", 1, 0)
 }
 
-// How a source is read: a byte at a time, all that is left, or once, so that more is at hand.
+// How a source is read: one byte, all that is left, or one read into the buffer.
 #[derive(Clone, Copy)]
 enum Reading {
     Byte,
@@ -160,7 +161,8 @@ fn copied(rt: &impl Abort, alloc: Global, bytes: &[u8]) -> Vec<u8> {
     Vec::from_slice(alloc, bytes).expect(rt, "memory")
 }
 
-// The byte that comes, the rest, or what is at hand after the read, unless too many reads have failed.
+// The byte, the rest, or what is buffered after the read, unless the failure count is at its
+// maximum.
 fn read(
     rt: &impl Abort,
     alloc: Global,
@@ -188,7 +190,8 @@ fn read(
     }
 }
 
-// A way to read, an input, how many bytes a read gives, the read that fails, the answers, and all reads.
+// How to read, the input, the bytes per read, the read that fails, the answers, and the number of
+// reads.
 type Readings = (
     Reading,
     &'static [u8],
@@ -253,7 +256,7 @@ const READINGS: &[Readings] = &[
     ),
 ];
 
-// Each read answers as the row says, and the one that failed is counted, and not tried again.
+// Asserts what each read returns, and that the failed one is counted and not repeated.
 fn reads_as(rt: &impl Abort, alloc: Global, row: &Readings) {
     let (reading, input, most, fails_at, answers, calls) = *row;
     let mut buffer = LineBuffer::new(alloc);
@@ -273,19 +276,19 @@ fn a_failed_read_is_not_tried_again(rt: HostRuntime) {
     }
 }
 
-// What is done with a sink, and with an output before it.
+// What is done with a sink, or with an output in front of it.
 enum Step {
-    // One call, which takes all of the text.
+    // One call of the sink with the whole string.
     Once(&'static str),
     Write(&'static str),
     Line(&'static str),
-    // The text so many times.
+    // The string, repeated n times.
     Put(&'static str, usize),
     PutAll(&'static [&'static str]),
     Flush,
 }
 
-// Takes the step, unless too many writes have failed.
+// Takes the step, unless the failure count is at its maximum.
 fn take(
     rt: &impl Abort,
     alloc: Global,
@@ -309,8 +312,8 @@ fn take(
     }
 }
 
-// How many bytes a call takes, the call that fails, the steps with whether each is done, all calls, and what is out then: each text so
-// many times.
+// The bytes that a call takes, the call that fails, the steps with whether each succeeds, the
+// number of calls, and what is written in the end: strings, each repeated n times.
 type Steps = (
     usize,
     usize,
@@ -342,7 +345,7 @@ const LINES_WRITTEN: &[(Step, bool)] = &[(Step::Line("abc"), true), (Step::Line(
 
 const FIRST_LINE_CUT: &[(Step, bool)] = &[(Step::Line("abc"), false), (Step::Line("d"), true)];
 
-// A call that takes no byte of some has failed.
+// A call that takes none of the bytes passed to it has failed.
 const NONE_TAKEN: &[(Step, bool)] = &[
     (Step::Write(""), true),
     (Step::Once(""), true),
@@ -357,7 +360,7 @@ const OUTPUT_STUCK: &[(Step, bool)] = &[
     (Step::Flush, true),
 ];
 
-// What is gathered goes out once the limit is passed, and a text that is longer than the limit after it.
+// The buffer is written once it would pass its limit, and a string longer than the limit after it.
 const LONG: &[(Step, bool)] = &[
     (Step::Flush, true),
     (Step::Put("a", 1), true),
@@ -468,7 +471,7 @@ const FULL_FAILED: &[(Step, bool)] = &[
 ];
 
 const ROWS: &[Steps] = &[
-    // Texts and lines.
+    // Strings and lines.
     (1, 0, WRITTEN, 10, &[("Set-Cookie", 1)]),
     (3, 0, WRITTEN, 4, &[("Set-Cookie", 1)]),
     (100, 0, WRITTEN, 1, &[("Set-Cookie", 1)]),
@@ -496,7 +499,7 @@ const ROWS: &[Steps] = &[
     (100, 2, FIRST_LINE_CUT, 4, &[("abcd\n", 1)]),
     (0, 0, NONE_TAKEN, 3, &[]),
     (0, 0, OUTPUT_STUCK, 2, &[]),
-    // Texts that are gathered, with one put, or two at once.
+    // Strings that are buffered, put one or two at a time.
     (
         usize::MAX,
         0,
@@ -548,7 +551,7 @@ const ROWS: &[Steps] = &[
     (usize::MAX, 1, FULL_FAILED, 2, &[("x", 4)]),
 ];
 
-// All texts, each so many times.
+// Joins all strings, each repeated n times.
 fn joined(rt: &impl Abort, alloc: Global, texts: &[(&str, usize)]) -> String {
     let mut whole = String::new(alloc);
     for (text, times) in texts {
@@ -558,7 +561,7 @@ fn joined(rt: &impl Abort, alloc: Global, texts: &[(&str, usize)]) -> String {
     whole
 }
 
-// Each step ends as the row says. Answers how many are not done.
+// Asserts whether each step succeeds, and returns how many failed.
 fn end_so(rt: &impl Abort, alloc: Global, sink: &mut Counted<Fake<Vec<u8>>>, row: &Steps) -> u64 {
     let (most, fails_at, steps, calls, out) = *row;
     let mut output = Output::new(alloc).expect(rt, "memory");
@@ -571,7 +574,7 @@ fn end_so(rt: &impl Abort, alloc: Global, sink: &mut Counted<Fake<Vec<u8>>>, row
     failures
 }
 
-// Nothing is tried again, and what is out are the bytes that the row says.
+// Asserts that no call is repeated, and that exactly the row's bytes are written.
 fn go_out(rt: &impl Abort, alloc: Global, row: &Steps) {
     let (most, fails_at, _, calls, out) = *row;
     let mut sink = Counted::new(Fake::new(Vec::new(alloc), most, fails_at));

@@ -11,7 +11,8 @@ use std::cmp::Ordering;
 use std::process::Abort;
 use url::Url;
 
-// What a domain is made of: a text, the text of a raw cookie, a URL whose host alone it is for, or its parts.
+// What a domain is made from: a string, a raw cookie's header value, a URL (host-only), or its
+// variant.
 #[derive(Debug)]
 enum Origin {
     Text(&'static str),
@@ -39,7 +40,7 @@ fn made(rt: &impl Abort, alloc: Global, origin: &Origin) -> Result<CookieDomain,
     }
 }
 
-// The hosts that a domain is for, and its text.
+// An origin, the expected domain, and its string.
 const DOMAINS: &[(Origin, Hosts, &str)] = &[
     (Text(""), Hosts::Empty, ""),
     (Text("."), Hosts::Empty, ""),
@@ -86,7 +87,7 @@ const DOMAINS: &[(Origin, Hosts, &str)] = &[
     (Parts(Hosts::Empty), Hosts::Empty, ""),
 ];
 
-// A copy of the domain is for the hosts, and has the text.
+// Asserts that the domain and its copy are the expected one, and its string.
 fn names(rt: &impl Abort, alloc: Global, row: &(Origin, Hosts, &str)) {
     let (origin, hosts, wanted) = row;
     let domain = made(rt, alloc, origin).expect(rt, "memory");
@@ -103,7 +104,7 @@ fn a_domain_is_for_hosts(rt: HostRuntime) {
     }
 }
 
-// What makes no domain, and why.
+// Origins that are not valid, and the error; `None` is an error of `idna`.
 const NO_DOMAINS: &[(Origin, Option<CookieError>)] = &[
     (Text("xn--a"), None),
     (Text("xn--a.example"), None),
@@ -111,7 +112,7 @@ const NO_DOMAINS: &[(Origin, Option<CookieError>)] = &[
     (Host("data:x"), Some(CookieError::NonRelativeScheme)),
 ];
 
-// The refusal, or else the fault that `idna` found.
+// The error about a cookie, or that of `idna`.
 fn fault_of(refusal: Option<CookieError>) -> Error {
     match refusal {
         Some(refusal) => Error::Cookie(refusal),
@@ -127,7 +128,7 @@ fn a_text_that_is_no_domain_name_is_refused(rt: HostRuntime) {
     }
 }
 
-// A domain, a URL, and whether the domain is for its host.
+// A domain, a URL, and whether the domain matches the URL's host.
 const COVERS: &[(Origin, &str, bool)] = &[
     (Text("0.0.1"), "http://127.0.0.1", false),
     (Text("127.0.0.1"), "http://127.0.0.1", true),
@@ -208,7 +209,7 @@ fn covers(rt: &impl Abort, alloc: Global, row: &(Origin, &str, bool)) {
     is_equal(rt, domain.matches(&url), *wanted, row);
 }
 
-// A text, a URL, and whether a cookie for the domain that the text names is for its host.
+// A domain as a string, a URL, and whether the domain matches the URL's host.
 const NAMED: &[(&str, &str, bool)] = &[
     ("0.0.1", "http://127.0.0.1", false),
     ("127.0.0.1", "http://127.0.0.1", true),
@@ -240,7 +241,7 @@ fn a_domain_covers_hosts(rt: HostRuntime) {
     }
 }
 
-// Two domains, and how the first stands to the second.
+// Two domains, and how the first compares with the second.
 const ORDERS: &[(Hosts, Hosts, Ordering)] = &[
     (Hosts::HostOnly("b"), Hosts::Suffix("a"), Ordering::Less),
     (Hosts::Suffix("b"), Hosts::NotPresent, Ordering::Less),
@@ -312,7 +313,7 @@ fn a_listed_domain_is_a_public_suffix(rt: HostRuntime) {
     }
 }
 
-// A host, and whether it is a name.
+// A host, and whether it is a host name.
 const NAMES: &[(&str, bool)] = &[
     ("example.com", true),
     ("1.2.3", true),

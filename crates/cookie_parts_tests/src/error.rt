@@ -37,7 +37,7 @@ const REFUSALS: &[(CookieError, &str)] = &[
     (CookieError::Memory, "out of memory"),
 ];
 
-// The fault that a refusal is: want of memory is no refusal.
+// The expected conversion: out of memory is `Memory`, not `Cookie`.
 fn fault_of(refusal: &CookieError) -> Error {
     match refusal {
         CookieError::Memory => Error::Memory,
@@ -54,7 +54,7 @@ fn a_refusal_says_why(rt: HostRuntime) {
     }
 }
 
-// The faults of saved forms, and their texts.
+// The errors of saved cookies, and their messages.
 const SAVED: &[(SavedError, &str)] = &[
     (SavedError::Json, "a text is not JSON"),
     (
@@ -69,7 +69,7 @@ const SAVED: &[(SavedError, &str)] = &[
     (SavedError::Memory, "out of memory"),
 ];
 
-// The fault of a call that a fault of a saved form is.
+// The expected conversion: out of memory is `Memory`, not `Saved`.
 fn fault_of_saved(fault: &SavedError) -> Error {
     match fault {
         SavedError::Memory => Error::Memory,
@@ -85,7 +85,7 @@ fn a_fault_of_a_saved_form_is_a_fault(rt: HostRuntime) {
     }
 }
 
-// What a caller's own function says.
+// An error of a caller's own function.
 fn other(rt: &impl Abort, alloc: Global, text: &str) -> Error {
     Error::Other(owned(rt, alloc, text))
 }
@@ -123,7 +123,7 @@ fn other_faults_are_faults(rt: HostRuntime) {
     is_equal(&rt, refusal, CookieError::Parse, &"an empty name");
 }
 
-// What a caller's own function says, twice, and whether both are equal.
+// Asserts whether two errors of a caller's own function are equal.
 fn are_equal(rt: &impl Abort, alloc: Global, first: &str, second: &str, wanted: bool) {
     let is_so = other(rt, alloc, first) == other(rt, alloc, second);
     is_equal(rt, is_so, wanted, &(first, second));
@@ -137,7 +137,7 @@ fn equal_faults_say_the_same(rt: HostRuntime) {
     are_equal(&rt, rt.alloc(), "out of memory", "", false);
 }
 
-// Whether it is one of these faults.
+// Asserts whether the error is one of these.
 fn is_among(rt: &impl Abort, fault: &Error, wanted: bool) {
     let faults = [
         Error::Cookie(CookieError::Memory),

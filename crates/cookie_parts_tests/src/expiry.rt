@@ -7,18 +7,18 @@ use jiff::civil::DateTime;
 use std::alloc::Global;
 use std::process::Abort;
 
-// What says when a cookie ends.
+// What gives a cookie's expiry.
 #[derive(Debug)]
 enum Saying {
-    // The moment itself, or none.
+    // The expiry itself; `None` is a session cookie.
     End(Option<&'static str>),
     Moment(&'static str),
-    // Seconds from a moment on.
+    // Seconds after a time.
     Seconds(u64, &'static str),
     Duration(i64, &'static str),
     // An Expires attribute.
     Attribute(Option<&'static str>),
-    // A Set-Cookie text that comes at `NOW`.
+    // A `Set-Cookie` header value received at `NOW`.
     Text(&'static str),
 }
 
@@ -32,7 +32,7 @@ const FIRST: &str = "-009999-01-01T00:00:00";
 
 const LAST: &str = "9999-12-31T23:59:59.999999999";
 
-// The end that an Expires attribute of the moment says.
+// The expiry of an Expires attribute with this time.
 fn attribute(rt: &impl Abort, text: Option<&str>) -> CookieExpiration {
     CookieExpiration::from_expiration(match text {
         Some(text) => Expiration::DateTime(moment(rt, text)),
@@ -57,7 +57,7 @@ fn end_of(rt: &impl Abort, alloc: Global, saying: &Saying) -> CookieExpiration {
     }
 }
 
-// A moment, and whether the end has come by then.
+// An expiry, a time, and whether it has expired then.
 const MOMENTS: &[(Saying, &str, bool)] = &[
     (
         Saying::End(Some("2015-10-21T07:28:00")),
@@ -92,7 +92,7 @@ const MOMENTS: &[(Saying, &str, bool)] = &[
         "2025-12-30T00:00:00",
         false,
     ),
-    // An age is before an end.
+    // Max-Age takes precedence over Expires.
     (
         Saying::Text("a=1; Max-Age=60; Expires=Wed, 31 Dec 2025 00:00:00 GMT"),
         NOW,
@@ -120,7 +120,7 @@ fn a_cookie_ends_at_its_moment(rt: HostRuntime) {
     }
 }
 
-// The moment of the end, to the nanosecond, or None where it is that of the session.
+// An expiry, and its time to the nanosecond; `None` is a session cookie.
 const ENDS: &[(Saying, Option<&str>)] = &[
     (Saying::Seconds(u64::MAX, NOW), Some(LATEST)),
     (Saying::Seconds(1, FIRST), Some("-009999-01-01T00:00:01")),
@@ -131,7 +131,7 @@ const ENDS: &[(Saying, Option<&str>)] = &[
     (Saying::Duration(1, "9999-12-31T23:59:58.5"), Some(LATEST)),
     (Saying::Duration(1, "9999-12-31T23:59:59.5"), Some(LATEST)),
     (Saying::Duration(1, LAST), Some(LATEST)),
-    // An attribute alone ends after the latest moment.
+    // Only the time of an Expires attribute may be after the latest expiry that is computed.
     (Saying::Moment(LAST), Some(LATEST)),
     (Saying::Attribute(None), None),
     (Saying::Attribute(Some(LAST)), Some(LAST)),
@@ -166,7 +166,7 @@ fn the_moments_are_the_first_and_the_last(rt: HostRuntime) {
     is_equal(&rt, moments, (DateTime::MIN, DateTime::MAX), &(FIRST, LAST));
 }
 
-// Two ends, and whether they are one.
+// Two expiries, and whether they are equal.
 const EQUAL: &[(Option<&str>, Option<&str>, bool)] = &[
     (
         Some("2026-01-01T00:00:05.9"),

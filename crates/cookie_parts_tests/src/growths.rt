@@ -1,4 +1,4 @@
-//! What is read and gathered where memory is wanting.
+//! Reading and buffering when out of memory.
 use crate::checks::{holds, is_equal};
 use crate::device;
 use cookie_device::{Counted, FillError, LineBuffer, Output};
@@ -6,7 +6,7 @@ use cookie_fakes::Fake;
 use std::alloc::{AllocError, Global};
 use std::process::Abort;
 
-// A growth of so many bytes: those after it are the ones to refuse.
+// An allocation of this size marks where a test begins: those after it are made to fail.
 const START: usize = 48_271;
 
 fn start(rt: &impl Abort, alloc: Global) {
@@ -56,7 +56,7 @@ fn read_all(rt: HostRuntime) {
     holds(&rt, is_whole, &"all bytes");
 }
 
-// Whether a byte that is put stays in the output.
+// Whether a byte that is put stays in the output's buffer.
 fn gathers(rt: &impl Abort, alloc: Global, output: &mut Output) -> bool {
     let mut sink = Counted::new(Vec::new(alloc));
     output.put(&mut sink, b"a").expect(rt, "memory");

@@ -1,5 +1,5 @@
-//! Tests of a cookie's parts and of the crates below them: at outside examples, and with each growth of memory refused
-//! in turn.
+//! Tests of a cookie's parts and of the crates below them, on examples from outside the project and
+//! with each allocation failing in turn.
 #![tactic(auto)]
 
 #[cfg(test)]

@@ -1,4 +1,4 @@
-//! What tables say that the parts of a cookie are.
+//! The parts of a cookie as tables of expected values give them.
 use crate::checks::owned;
 use cookie_parts::{Cookie, CookieDomain, CookieExpiration, CookiePath};
 use cookie_saved::{Saved, SavedDomain, SavedExpiry};
@@ -7,7 +7,7 @@ use std::alloc::Global;
 use std::process::Abort;
 use url::Url;
 
-// What a domain is wanted to be.
+// An expected domain.
 #[derive(Clone, Copy, Debug)]
 pub(crate) enum Hosts {
     HostOnly(&'static str),
@@ -16,6 +16,7 @@ pub(crate) enum Hosts {
     Empty,
 }
 
+// Whether the domain is the expected one.
 pub(crate) fn is_for(domain: &CookieDomain, hosts: &Hosts) -> bool {
     match (domain, hosts) {
         (CookieDomain::HostOnly(text), Hosts::HostOnly(wanted)) => text.as_str() == *wanted,
@@ -26,7 +27,7 @@ pub(crate) fn is_for(domain: &CookieDomain, hosts: &Hosts) -> bool {
     }
 }
 
-// The domain itself.
+// Makes the domain.
 pub(crate) fn domain_of(rt: &impl Abort, alloc: Global, hosts: &Hosts) -> CookieDomain {
     match hosts {
         Hosts::HostOnly(text) => CookieDomain::HostOnly(owned(rt, alloc, text)),
@@ -36,15 +37,15 @@ pub(crate) fn domain_of(rt: &impl Abort, alloc: Global, hosts: &Hosts) -> Cookie
     }
 }
 
-// Whether it is the path of the text, from an attribute or not.
+// Whether the path is this string, set by a Path attribute or not.
 pub(crate) fn is_path(path: &CookiePath, text: &str, is_from_attribute: bool) -> bool {
     path.as_str() == text && path.is_from_path_attr() == is_from_attribute
 }
 
-// The year, the month, the day, the hour, the minute, the second and the nanoseconds.
+// Year, month, day, hour, minute, second and nanosecond.
 pub(crate) type Fields = (i16, i8, i8, i8, i8, i8, i32);
 
-// The moment of the fields, if there is one.
+// The time of these fields.
 pub(crate) fn moment_of(rt: &impl Abort, fields: Option<Fields>) -> Option<DateTime> {
     let Some((year, month, day, hour, minute, second, nanoseconds)) = fields else {
         return None;
@@ -55,12 +56,12 @@ pub(crate) fn moment_of(rt: &impl Abort, fields: Option<Fields>) -> Option<DateT
     Some(moment)
 }
 
-// The moment that a text such as `2026-01-01T00:00:00` writes.
+// Parses a time such as `2026-01-01T00:00:00`.
 pub(crate) fn moment(rt: &impl Abort, text: &str) -> DateTime {
     text.parse::<DateTime>().expect(rt, "a moment")
 }
 
-// The end at the moment that the text writes, or with the session.
+// The expiry at this time; `None` is a session cookie.
 pub(crate) fn end_at(rt: &impl Abort, text: Option<&str>) -> CookieExpiration {
     match text {
         Some(text) => CookieExpiration::AtUtc(moment(rt, text)),
@@ -68,7 +69,7 @@ pub(crate) fn end_at(rt: &impl Abort, text: Option<&str>) -> CookieExpiration {
     }
 }
 
-// Whether it is the moment that the text writes, to the nanosecond, or the end of the session where there is no text.
+// Whether the expiry is at this time, to the nanosecond; `None` is a session cookie.
 pub(crate) fn ends_at(rt: &impl Abort, expires: &CookieExpiration, wanted: Option<&str>) -> bool {
     match (expires, wanted) {
         (CookieExpiration::AtUtc(end), Some(text)) => *end == moment(rt, text),
@@ -77,7 +78,7 @@ pub(crate) fn ends_at(rt: &impl Abort, expires: &CookieExpiration, wanted: Optio
     }
 }
 
-// The cookie of a text that came from the URL at the moment.
+// The cookie of a `Set-Cookie` header value received from the URL at `now`.
 pub(crate) fn cookie_from<'a>(
     rt: &impl Abort,
     alloc: Global,
@@ -89,7 +90,7 @@ pub(crate) fn cookie_from<'a>(
     Cookie::parse(alloc, text, &url, now).expect(rt, "a cookie")
 }
 
-// A saved form of a text and of a path with its mark, which ends so.
+// A saved cookie; `path` is its path, and whether a Path attribute set it.
 pub(crate) fn saved(
     rt: &impl Abort,
     alloc: Global,

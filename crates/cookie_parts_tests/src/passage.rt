@@ -7,7 +7,7 @@ use serde_json::Value;
 use std::alloc::Global;
 use std::process::Abort;
 
-// A text, the URL that it comes from, and the tree that its cookie is saved as.
+// A header value, the URL that it is received from, and the JSON that its cookie is saved as.
 const TREES: &[(&str, &str, &str)] = &[
     (
         "cookie2=value2; Domain=example.com",
@@ -35,7 +35,7 @@ const TREES: &[(&str, &str, &str)] = &[
     ),
 ];
 
-// The cookie is saved as the tree, and comes back from it.
+// Asserts that the cookie is saved as this JSON value, and read back from it.
 fn is_saved_as(rt: &impl Abort, alloc: Global, cookie: &Cookie<'_>, tree: &Value) {
     let saved = cookie.to_saved(alloc).expect(rt, "memory");
     let written = to_value(alloc, &saved).expect(rt, "memory");
@@ -44,7 +44,7 @@ fn is_saved_as(rt: &impl Abort, alloc: Global, cookie: &Cookie<'_>, tree: &Value
     holds(rt, back.expect(rt, "a cookie") == *cookie, tree);
 }
 
-// So is the cookie of the text that comes from the URL.
+// Asserts the same for the row's header value and URL.
 fn is_saved(rt: &impl Abort, alloc: Global, row: &(&str, &str, &str)) {
     let (text, from, tree) = *row;
     let tree = Value::from_str(alloc, tree).expect(rt, "a tree");
@@ -59,7 +59,7 @@ fn a_cookie_is_saved_as_a_tree(rt: HostRuntime) {
     }
 }
 
-// The hosts that a cookie is for, and when it ends, or None where that is with the session.
+// A domain, and an expiry; `None` is a session cookie.
 const KINDS: &[(Hosts, Option<&str>)] = &[
     (Hosts::HostOnly("example.com"), None),
     (
@@ -74,7 +74,7 @@ const KINDS: &[(Hosts, Option<&str>)] = &[
     (Hosts::Empty, None),
 ];
 
-// A cookie that is for these hosts, and ends so.
+// A cookie with this domain and expiry.
 fn cookie_of(rt: &impl Abort, alloc: Global, row: &(Hosts, Option<&str>)) -> Cookie<'static> {
     let mut cookie = cookie_from(rt, alloc, "a=1; Path=/p", "http://a.org/", DateTime::ZERO);
     cookie.domain = domain_of(rt, alloc, &row.0);
@@ -82,7 +82,7 @@ fn cookie_of(rt: &impl Abort, alloc: Global, row: &(Hosts, Option<&str>)) -> Coo
     cookie
 }
 
-// A cookie comes back with the same hosts, the same path and the same end.
+// Asserts that the cookie is saved and loaded with the same domain, path and expiry.
 fn comes_back(rt: &impl Abort, alloc: Global, cookie: &Cookie<'_>, row: &(Hosts, Option<&str>)) {
     let saved = cookie.to_saved(alloc).expect(rt, "memory");
     let back = Cookie::from_saved(alloc, saved).expect(rt, "a cookie");
@@ -106,7 +106,8 @@ fn a_cookie_comes_back_from_its_saved_form(rt: HostRuntime) {
     }
 }
 
-// A saved text, a path with its mark, which the Path attribute of the text says nothing of, and whether they make a cookie.
+// A saved header value, a saved path (whatever the Path attribute of the header value is) and
+// whether a Path attribute set it, and whether that is a cookie.
 const SAVED: &[(&str, (&str, bool), bool)] = &[
     ("", ("/", true), false),
     ("nopair", ("/", true), false),
@@ -118,7 +119,7 @@ const SAVED: &[(&str, (&str, bool), bool)] = &[
     ("a=1; Path=/p", ("", false), true),
 ];
 
-// The cookie has the path as it was saved, or the text is none.
+// Asserts that the cookie has the path as saved, or that there is no cookie.
 fn has_path(
     rt: &impl Abort,
     made: &Result<Cookie<'static>, Error>,

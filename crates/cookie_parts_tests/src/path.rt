@@ -6,10 +6,10 @@ use std::cmp::Ordering;
 use std::process::Abort;
 use url::Url;
 
-// A URL that a path comes from, and the text of a Path attribute, if there is one.
+// A URL, and the Path attribute of a cookie received from it, if there is one.
 type Source = (&'static str, Option<&'static str>);
 
-// The path as the attribute sets it, or else the default-path of the URL.
+// The path that the attribute sets, or the default-path of the URL.
 fn path(rt: &impl Abort, alloc: Global, source: &Source) -> CookiePath {
     let url = Url::parse(alloc, source.0).expect(rt, "a URL");
     let path = match source.1 {
@@ -19,7 +19,7 @@ fn path(rt: &impl Abort, alloc: Global, source: &Source) -> CookiePath {
     path.expect(rt, "memory")
 }
 
-// The text of the path, and whether it is from the attribute.
+// A source, its path, and whether the attribute set it.
 const SOURCES: &[(Source, &str, bool)] = &[
     (("http://example.com", None), "/", false),
     (("http://example.com/", None), "/", false),
@@ -47,7 +47,7 @@ const SOURCES: &[(Source, &str, bool)] = &[
     (("http://example.com/foo/bar/", Some("/a")), "/a", true),
 ];
 
-// Also of a copy.
+// Asserts what the path is, on a copy of it.
 fn has_path(rt: &impl Abort, alloc: Global, row: &(Source, &str, bool)) {
     let (source, wanted, is_from_attribute) = row;
     let path = path(rt, alloc, source).clone().expect(rt, "memory");
@@ -63,7 +63,7 @@ fn a_path_is_of_an_attribute_or_a_url(rt: HostRuntime) {
     }
 }
 
-// A cookie's path, a URL, and whether the cookie is for its path.
+// A cookie's path, a URL, and whether they match.
 const PATHS: &[(&str, &str, bool)] = &[
     ("/foo/bus", "http://example.com/foo/buss", false),
     ("/foo", "http://example.com/foo/bus", true),
@@ -76,7 +76,7 @@ const PATHS: &[(&str, &str, bool)] = &[
     ("/foo/bus", "http://example.com/zoo/bus", false),
     ("/foo/bus", "http://example.com/zfoo/bus", false),
     ("/", "data:foobusbar", false),
-    // Not even the empty path is for a URL, nor is one that does not begin with `/`.
+    // An empty path matches no URL, nor does one that does not begin with `/`.
     ("", "http://example.com/", false),
     ("", "http://example.com/foo", false),
     ("", "foo://example", false),
@@ -86,7 +86,7 @@ const PATHS: &[(&str, &str, bool)] = &[
     ("a/foo", "http://example.com/a/foo", false),
 ];
 
-// By the path, if it is one, and by its text.
+// Asserts whether they match, by the string and, if it is a valid path, by the `CookiePath`.
 fn covers(rt: &impl Abort, alloc: Global, row: &(&str, &str, bool)) {
     let (text, at, wanted) = *row;
     let url = Url::parse(alloc, at).expect(rt, "a URL");
@@ -104,7 +104,7 @@ fn a_path_covers_paths(rt: HostRuntime) {
     }
 }
 
-// Two paths, and how the first stands to the second.
+// Two paths, and how the first compares with the second.
 const ORDERS: &[(Source, Source, Ordering)] = &[
     (A, B_OF_URL, Ordering::Less),
     (A_OF_URL, B, Ordering::Less),

@@ -3,7 +3,7 @@ use cookie_psl::{List, ListError, laws};
 use std::alloc::Global;
 use std::process::Abort;
 
-// A suffix, with whether a listed rule says so, or why there is no list.
+// A suffix, and whether a listed rule matches, or the error of the list.
 type Found<'d> = Result<Option<(&'d str, bool)>, ListError>;
 
 // A list, a domain, and its suffix.
@@ -61,7 +61,7 @@ fn suffix_of<'d>(list: &List, domain: &'d str) -> Option<(&'d str, bool)> {
     suffix.map(|suffix| (suffix.as_str(), suffix.is_known()))
 }
 
-// What a copy of the list of the text says.
+// The suffix by a copy of the list.
 fn found<'d>(rt: &impl Abort, alloc: Global, text: &str, domain: &'d str) -> Found<'d> {
     match List::from_text(alloc, text) {
         Ok(list) => Ok(suffix_of(&list.clone().expect(rt, "memory"), domain)),
@@ -78,7 +78,7 @@ fn finds_suffixes(rt: HostRuntime) {
     }
 }
 
-// A list, a domain, and its suffix where the list has the rule `*` too.
+// A list, a domain, and its suffix if the list also has the rule `*`.
 static WITH_DEFAULT_RULE: [(&str, &str, (&str, bool)); 4] = [
     ("com\n*.np", "np", ("np", true)),
     ("com\n*.np", "a.com.np", ("com.np", true)),
@@ -86,7 +86,7 @@ static WITH_DEFAULT_RULE: [(&str, &str, (&str, bool)); 4] = [
     ("co.uk\nuk", "a.co.uk", ("co.uk", true)),
 ];
 
-// What the list of the text says with the rule `*`.
+// The suffix by the list with the rule `*`.
 fn found_by_default<'d>(
     rt: &impl Abort,
     alloc: Global,
@@ -110,7 +110,7 @@ fn the_default_rule_is_for_top_level_domains(rt: HostRuntime) {
     }
 }
 
-// So many labels `a`.
+// A domain of `count` labels `a`.
 fn labels(rt: &impl Abort, alloc: Global, count: usize) -> String {
     let mut text = String::from_str(alloc, "a").expect(rt, "memory");
     for _ in 1..count {
@@ -119,7 +119,7 @@ fn labels(rt: &impl Abort, alloc: Global, count: usize) -> String {
     text
 }
 
-// What stands before a rule, how many labels the rule has, how many a domain, and the bad line, if there is one.
+// What precedes a rule, the number of labels of the rule and of a domain, and the bad line, if any.
 const LABELS: &[(&str, usize, usize, Option<usize>)] = &[
     ("", 127, 127, None),
     ("", 127, 10_000, None),
@@ -127,7 +127,7 @@ const LABELS: &[(&str, usize, usize, Option<usize>)] = &[
     ("com\r\n net\n", 128, 128, Some(3)),
 ];
 
-// The rule is the suffix, or is the bad line.
+// Asserts that the rule is the suffix, or the bad line.
 fn is_last_labels(rt: &impl Abort, alloc: Global, row: &(&str, usize, usize, Option<usize>)) {
     let rule = labels(rt, alloc, row.1);
     let text = format!(in alloc; "{}{rule}", row.0).expect(rt, "memory");

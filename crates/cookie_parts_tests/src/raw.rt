@@ -9,7 +9,7 @@ use jiff::civil::DateTime;
 use std::alloc::Global;
 use std::process::Abort;
 
-// What an accepted text says, Max-Age in seconds.
+// The expected parts of a header value, Max-Age in seconds.
 #[derive(Clone, Copy)]
 struct Parts {
     name: &'static str,
@@ -83,7 +83,7 @@ const ROWS: &[(&str, Result<Parts, RawCookieParseError>)] = &[
             ..PAIR
         }),
     ),
-    // Empty parts are kept, and empty attributes say nothing.
+    // Empty values are kept; attributes without a name, and a `Domain` without `=`, are ignored.
     (
         "a=1; Path=",
         Ok(Parts {
@@ -110,7 +110,7 @@ const ROWS: &[(&str, Result<Parts, RawCookieParseError>)] = &[
             ..PAIR
         }),
     ),
-    // The seconds of Max-Age.
+    // Max-Age.
     (
         "a=1; Max-Age=-",
         Ok(Parts {
@@ -152,7 +152,7 @@ const ROWS: &[(&str, Result<Parts, RawCookieParseError>)] = &[
     ),
 ];
 
-// The cookie says what is wanted.
+// Asserts the parts of the cookie.
 fn says(rt: &impl Abort, cookie: &RawCookie<'_>, wanted: &Parts, text: &str) {
     let pair = (wanted.name, wanted.value);
     let pairs = (cookie.name_value(), (cookie.name(), cookie.value()));
@@ -167,7 +167,7 @@ fn says(rt: &impl Abort, cookie: &RawCookie<'_>, wanted: &Parts, text: &str) {
     is_equal(rt, (cookie.max_age(), cookie.expires()), (age, end), &text);
 }
 
-// The cookie says what is wanted, as its copy does, which is equal to it.
+// Asserts the parts of the cookie and of its copy, and that both are equal.
 fn is_copied(rt: &impl Abort, cookie: &RawCookie<'_>, wanted: &Parts, text: &str) {
     says(rt, cookie, wanted, text);
     let copy = cookie.clone().expect(rt, "memory");
@@ -183,7 +183,7 @@ fn kept(rt: &impl Abort, alloc: Global, text: &str) -> RawCookie<'static> {
     parsed(rt, text).into_owned(alloc).expect(rt, "memory")
 }
 
-// The cookie of the text says what is wanted, lent and owned, or the text is refused.
+// Asserts the parts of the header value, borrowed and owned, or the error.
 fn is_read_as(rt: &impl Abort, alloc: Global, row: &(&str, Result<Parts, RawCookieParseError>)) {
     let text = row.0;
     match &row.1 {
@@ -220,7 +220,7 @@ fn is_aged(rt: &impl Abort, text: &str, seconds: i64) {
     is_equal(rt, parsed(rt, text).max_age(), Some(age), &text);
 }
 
-// A digit stands a thousand times, and what is last behind it: the seconds of the Max-Age of both.
+// Asserts the Max-Age of a digit, repeated a thousand times, followed by `last`.
 fn has_long_age(rt: &impl Abort, alloc: Global, digit: &str, last: &str, seconds: i64) {
     let digits = digit.repeat(alloc, 1_000).expect(rt, "memory");
     let text = format!(in alloc; "a=1; Max-Age={digits}{last}").expect(rt, "memory");
@@ -233,7 +233,7 @@ fn reads_ages_of_many_digits(rt: HostRuntime) {
     has_long_age(&rt, rt.alloc(), "9", "", 9223372036854775807)
 }
 
-// A text, and the moment that it writes as a cookie's date.
+// A cookie-date, and its time.
 const DATES: &[(&str, Option<Fields>)] = &[
     (
         "Sunday, 06-Nov-94 08:49:37 GMT",
@@ -306,7 +306,8 @@ fn reads_dates(rt: HostRuntime) {
     }
 }
 
-// What a cookie is made of: a text, few parts or all, the last day of a year, or a text with the value `new` in place of its own.
+// What a cookie is made from: a header value, few parts or all, the last day of a year as Expires,
+// or a header value whose value is replaced by `new`.
 enum Origin {
     Text(&'static str),
     Open,
@@ -354,7 +355,7 @@ fn made(rt: &impl Abort, alloc: Global, origin: &Origin) -> RawCookie<'static> {
     }
 }
 
-// The text of the cookie, and whether that is plain.
+// A cookie, what it prints, and whether it is plain.
 const COOKIES: &[(Origin, &str, bool)] = &[
     (
         Origin::Text("a=1; Expires=Tue, 11 Aug 2015 16:41:42 GMT; Max-Age=10; HttpOnly"),
@@ -399,7 +400,7 @@ const COOKIES: &[(Origin, &str, bool)] = &[
         "c=3; HttpOnly; Secure; Path=/p; Domain=d.org; Max-Age=-1",
         false,
     ),
-    // No year below 0 is printed.
+    // A year before 0 is not printed.
     (
         Origin::Until(9999),
         "a=1; Expires=Fri, 31 Dec 9999 00:00:00 GMT",
@@ -412,7 +413,7 @@ const COOKIES: &[(Origin, &str, bool)] = &[
     ),
     (Origin::Until(-1), "a=1", false),
     (Origin::Until(-9999), "a=1", false),
-    // A value is changed alone.
+    // Replacing the value changes nothing else.
     (Origin::Renewed("a=1"), "a=new", true),
     (Origin::Renewed("a="), "a=new", true),
     (
@@ -424,7 +425,7 @@ const COOKIES: &[(Origin, &str, bool)] = &[
     ),
 ];
 
-// The cookie has this text, also as it is displayed, which is that of an equal cookie where it is plain.
+// Asserts what the cookie prints, and that this parses as an equal cookie exactly if it is plain.
 fn prints(rt: &impl Abort, alloc: Global, cookie: &RawCookie<'_>, printed: &str, is_plain: bool) {
     is_text(rt, &cookie.to_text(alloc), Ok(printed), &printed);
     is_written_at_any_width(rt, alloc, cookie, printed);
@@ -442,7 +443,7 @@ fn prints_the_table(rt: HostRuntime) {
     }
 }
 
-// The cookie has the Max-Age that its builder was given, as its copy does.
+// Asserts that the cookie and its copy have the Max-Age that its builder was given.
 fn has_built_age(rt: &impl Abort, alloc: Global, age: SignedDuration) {
     let cookie = builder(rt, alloc, "a", "1").max_age(age).build();
     let copy = cookie.clone().expect(rt, "memory");

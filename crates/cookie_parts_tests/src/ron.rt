@@ -5,7 +5,7 @@ use jiff::civil::date;
 use std::alloc::Global;
 use std::process::Abort;
 
-// How the list of a text is printed again, or why the text says none.
+// Reads a list and prints it again, or returns the error.
 fn printed_again(alloc: Global, text: &str) -> Result<String, SavedError> {
     match from_ron(alloc, text) {
         Ok(list) => to_ron(alloc, &list),
@@ -61,7 +61,7 @@ const COMPACT: &str = r#"[
     ),
 ]"#;
 
-// A text, and how its list is printed.
+// An input, and how its list is printed.
 const TEXTS: [(&str, Result<&str, SavedError>); 16] = [
     (ONE, Ok(ONE)),
     (THREE, Ok(THREE)),
@@ -120,7 +120,7 @@ fn lists_in_ron_are_read_and_printed(rt: HostRuntime) {
     }
 }
 
-// What stands in quotes, and what is printed for the text that it is.
+// The inside of a quoted string, and how it is printed again.
 const QUOTED: [(&str, Result<&str, SavedError>); 18] = [
     ("a\tb", Ok(r"a\tb")),
     (r#"a\t\"\u{7}é"#, Ok(r#"a\t\"\u{7}é"#)),
@@ -145,7 +145,7 @@ const QUOTED: [(&str, Result<&str, SavedError>); 18] = [
     (r"\N", Err(SavedError::Ron)),
 ];
 
-// The list of one cookie with this in the quotes of its text, in the layout that is printed.
+// The printed list of one cookie, with this inside the quotes of `raw_cookie`.
 fn list_with(rt: &impl Abort, alloc: Global, quoted: &str) -> String {
     let text = format!(in alloc;
         "[\n    (\n        raw_cookie: \"{quoted}\",\n        path: (\"/\", true),\n        domain: Empty,\n        expires: SessionEnd,\n    ),\n]"
@@ -168,7 +168,7 @@ fn texts_in_ron_are_read_and_printed(rt: HostRuntime) {
     }
 }
 
-// How the list of one cookie with this text is printed, which ends so.
+// Prints the list of one cookie with this header value and expiry.
 fn printed(
     rt: &impl Abort,
     alloc: Global,
@@ -196,8 +196,8 @@ const FOUR: &str = r#"[
     (raw_cookie: "d=4", path: ("/", false), domain: Empty, expires: SessionEnd),
 ]"#;
 
-// Of a saved cookie its text, its path, whether an attribute set that, its domain's kind and text, and of an end the year and the
-// nanoseconds of its second.
+// A saved cookie: header value, path, whether a Path attribute set that, kind and string of the
+// domain, and year and nanosecond of the expiry.
 type Read<'a> = (
     &'a str,
     &'a str,

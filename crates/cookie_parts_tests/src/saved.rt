@@ -9,7 +9,7 @@ use serde_json::Value;
 use std::alloc::Global;
 use std::process::Abort;
 
-// A text, and the moment that it writes.
+// A string, and its time.
 const MOMENTS: &[(&str, Option<Fields>)] = &[
     ("2026-01-01T00:00:00Z", Some((2026, 1, 1, 0, 0, 0, 0))),
     (
@@ -45,7 +45,7 @@ fn reads_moments(rt: HostRuntime) {
     }
 }
 
-// A moment, and its text.
+// A time, and its string.
 const TEXTS: &[(Fields, Result<&str, SavedError>)] = &[
     ((2026, 1, 1, 0, 0, 0, 0), Ok("2026-01-01T00:00:00Z")),
     (
@@ -70,7 +70,7 @@ fn writes_moments(rt: HostRuntime) {
     }
 }
 
-// A saved cookie as a tree, and one of each kind that is refused.
+// A saved cookie as JSON, and one of each kind that is an error.
 const WHOLE: &str = r#"{"raw_cookie": "a=1", "path": ["/", true],
     "domain": {"HostOnly": "a.com"}, "expires": {"AtUtc": "2100-01-01T00:00:00Z"}}"#;
 
@@ -80,7 +80,7 @@ const NO_MOMENT: &str = r#"{"raw_cookie": "a=1", "path": ["/", true],
 const NO_SHAPE: &str = r#"{"raw_cookie": "a=1", "path": ["/"],
     "domain": "Empty", "expires": "SessionEnd"}"#;
 
-// The tree of a cookie, the trees of a list, or a tree in the place of a list.
+// The JSON of a cookie, of the cookies of a list, or of a value that is not a list.
 #[derive(Debug)]
 enum Given {
     Cookie(&'static str),
@@ -88,7 +88,7 @@ enum Given {
     NoList(&'static str),
 }
 
-// Trees, and why they are refused, if they are.
+// JSON values, and the error, if there is one.
 const TREES: &[(Given, Option<SavedError>)] = &[
     (Given::Cookie(WHOLE), None),
     (
@@ -156,7 +156,7 @@ fn tree(rt: &impl Abort, alloc: Global, text: &str) -> Value {
     Value::from_str(alloc, text).expect(rt, "a tree")
 }
 
-// The list of the trees.
+// The JSON array of these values.
 fn list_of(rt: &impl Abort, alloc: Global, trees: &[&str]) -> Value {
     let mut list = Vec::new(alloc);
     for text in trees {
@@ -189,7 +189,7 @@ fn reads_trees(rt: HostRuntime) {
     }
 }
 
-// The list is the tree, and its text says that tree.
+// Asserts that the list is written as this JSON value, and its string is parsed as the same.
 fn is_written(rt: &impl Abort, alloc: Global, saved: &[Saved], list: &Value) {
     let written = list_to_value(alloc, saved).expect(rt, "memory");
     holds(rt, written == *list, &"a tree");
@@ -204,7 +204,7 @@ fn a_list_is_written_as_it_was_read(rt: HostRuntime) {
     is_written(&rt, rt.alloc(), &saved, &list);
 }
 
-// A saved cookie that ends before the year 0.
+// A saved cookie whose expiry is before the year 0.
 fn early(rt: &impl Abort, alloc: Global) -> Saved {
     let mut saved = from_value(alloc, &tree(rt, alloc, WHOLE)).expect(rt, "memory");
     saved.expires = SavedExpiry::AtUtc(DateTime::MIN);

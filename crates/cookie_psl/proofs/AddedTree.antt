@@ -1,4 +1,4 @@
--- The rules of a tree to which a rule is added.
+-- The rules of a tree after a rule was added.
 use Rattle.std.proofs.Common.{◌≡◌, ℕ, ◌||◌, List, [], ◌∷◌, ◌++◌, refl, ap, sym, ◌∙◌, true, false, Bool, cond, Option, Some, None, String, Box, box_value, option_map, string_bytes, string_cmp}
 use Rattle.std.specs.BTreeMap.{BTreeMap, is_at, insert_entry}
 use Rattle.std.specs.List.{list_any}
@@ -18,7 +18,7 @@ use Rattle.cookie_psl.specs.declared.tree.Node.TheViews.{out-Node, roll-Node}
 use Rattle.cookie_psl.proofs.AddedRules.{or_swap, or_assoc, added_first, added_last, added_with_label}
 use Rattle.cookie_psl.proofs.TreeRules.{any_rules, rules_out, rules_roll}
 
--- the first tree is taken out, or another
+-- the tree removed is the first one, or another
 take_out : (test : Rule → Bool) (is_first : Bool) (label : List ℕ) (kid : String Global × Node) (kids removed : List (String Global × Node)) (found : Option Node) →
     (is_first ≡ true → string_bytes kid.0 ≡ label) →
     list_any test (label_rules kids) ≡ (list_any test (with_label (Some label) (rules_in found)) || list_any test (label_rules removed)) →
@@ -33,7 +33,7 @@ take_out test false label kid kids removed found same rest =
     ∙ or_swap (list_any test (with_label (Some (string_bytes kid.0)) (tree_rules kid.1))) (list_any test (with_label (Some label) (rules_in found))) (list_any test (label_rules removed))
     ∙ ap (λ others. list_any test (with_label (Some label) (rules_in found)) || others) (sym (list_any-append test (with_label (Some (string_bytes kid.0)) (tree_rules kid.1)) (label_rules removed)))
 
--- the rules under labels are those under one that is taken out, and the others
+-- the rules under labels are those under a removed label and the others
 any_removed : (test : Rule → Bool) (label : List ℕ) (kids : List (String Global × Node)) →
     list_any test (label_rules kids)
     ≡ (list_any test (with_label (Some label) (rules_in (lookup (is_at (text_cmp label)) kids))) || list_any test (label_rules (remove_entry (is_at (text_cmp label)) kids)))
@@ -43,7 +43,7 @@ any_removed test label (kid ∷ kids) =
     (λ is. sym ((bytes_eq-Decides label (string_bytes kid.0)).0 (sym (is_eq-slice_cmp label (string_bytes kid.0)) ∙ is)))
     (any_removed test label kids)
 
--- a tree goes before the first one, or past it
+-- a tree is inserted before the first one, or after it
 put_in : (test : Rule → Bool) (order : Ordering) (key : String Global) (kid : Node) (first : String Global × Node) (kids inserted : List (String Global × Node)) (found : Option Node) →
     cond (is_eq order) (Some first.1) found ≡ None →
     (found ≡ None → list_any test (label_rules inserted) ≡ (list_any test (with_label (Some (string_bytes key)) (tree_rules kid)) || list_any test (label_rules kids))) →
@@ -58,14 +58,14 @@ put_in test Greater key kid first kids inserted found none rest =
     ∙ ap (λ others. list_any test (with_label (Some (string_bytes key)) (tree_rules kid)) || others)
     (sym (list_any-append test (with_label (Some (string_bytes first.0)) (tree_rules first.1)) (label_rules kids)))
 
--- a tree under a new label brings its rules
+-- a tree inserted under a new label adds its rules
 any_inserted : (test : Rule → Bool) (key : String Global) (kid : Node) (kids : List (String Global × Node)) → lookup (is_at (string_cmp key)) kids ≡ None →
     list_any test (label_rules (insert_entry string_cmp kids key kid)) ≡ (list_any test (with_label (Some (string_bytes key)) (tree_rules kid)) || list_any test (label_rules kids))
 any_inserted test key kid [] none = list_any-append test (with_label (Some (string_bytes key)) (tree_rules kid)) []
 any_inserted test key kid (first ∷ kids) none =
     put_in test (string_cmp key first.0) key kid first kids (insert_entry string_cmp kids key kid) (lookup (is_at (string_cmp key)) kids) none (any_inserted test key kid kids)
 
--- a rule is added under a label
+-- a rule was added under a label
 pub added_label : (test : Rule → Bool) (label : List ℕ) (key : String Global) (kids removed inserted : List (String Global × Node)) (kid : Node) (rule : Rule) →
     label ≡ string_bytes key → removed ≡ remove_entry (is_at (text_cmp label)) kids → lookup (is_at (text_cmp label)) removed ≡ None → inserted ≡ insert_entry string_cmp removed key kid →
     SameRules (tree_rules kid) (rule ∷ rules_in (lookup (is_at (text_cmp label)) kids)) →
@@ -80,7 +80,7 @@ added_label test label key kids removed inserted kid rule is_key is_removed none
     ∙ ap (λ entries. list_any test (with_label (Some label) (rules_in (lookup (is_at (text_cmp label)) kids))) || list_any test (label_rules entries)) is_removed
     ∙ sym (any_removed test label kids))
 
--- so is one to the tree, whose level is changed twice
+-- and so to the tree, whose node is changed twice
 pub added_kids : (test : Rule → Bool) (node : Node) (removed inserted : BTreeMap (String Global) Node) (rule : Rule) →
     list_any test (label_rules inserted.entries) ≡ (test rule || list_any test (label_rules (out-Node node).kids.entries)) →
     (middle : Node-F Node) → middle ≡ record { kids = removed; any = (out-Node node).any; is_rule = (out-Node node).is_rule; is_exception = (out-Node node).is_exception } →
@@ -94,12 +94,12 @@ added_kids test node removed inserted rule same middle is =
     (added_first test rule (label_rules inserted.entries) (label_rules (out-Node node).kids.entries) (any_rules (out-Node node).any) same)
     ∙ ap (λ rules. test rule || list_any test rules) (sym (rules_out node))
 
--- the rules under a tree for `*` that may be there
+-- the rules under an optional tree for `*`
 any_rules_in : (any : Option (Box Node Global)) → any_rules any ≡ with_label None (rules_in (option_map box_value any))
 any_rules_in None = refl
 any_rules_in (Some any) = refl
 
--- a rule is added under `*`
+-- a rule was added under `*`
 pub added_any : (test : Rule → Bool) (node : Node) (any : Box Node Global) (rule : Rule) →
     SameRules (tree_rules any.value) (rule ∷ rules_in (option_map box_value (out-Node node).any)) →
     (taken : Option (Box Node Global)) (middle : Node-F Node) →
@@ -116,7 +116,7 @@ added_any test node any rule same taken middle is =
     ∙ ap (λ rules. test (with_last None rule) || list_any test rules) (sym (any_rules_in (out-Node node).any))))
     ∙ ap (λ rules. test (with_last None rule) || list_any test rules) (sym (rules_out node))
 
--- a rule ends at the level of a tree
+-- a rule that ends at a node was added
 pub added_ends : (test : Rule → Bool) (node : Node) (rule : Rule) (is_rule is_exception : Bool) →
     list_any test (ends_here is_rule is_exception) ≡ (test rule || list_any test (ends_here (out-Node node).is_rule (out-Node node).is_exception)) →
     list_any test (tree_rules (roll-Node (record { kids = (out-Node node).kids; any = (out-Node node).any; is_rule = is_rule; is_exception = is_exception })))

@@ -1,4 +1,4 @@
--- The rules of a tree that is copied.
+-- The rules of a copied tree.
 use Rattle.std.proofs.Common.{◌≡◌, ℕ, List, [], ◌∷◌, ◌++◌, refl, ap, sym, ◌∙◌, Some, String, Global, string_bytes, string_cmp, Ordering, Less, Equal, Greater, nat_cmp}
 use Rattle.std.specs.BTreeMap.{insert_entry}
 use Rattle.std.specs.Cmp.Lexicographic.{slice_cmp}
@@ -16,17 +16,17 @@ abbrev pub kids_view : List (String Global × Node) → List (List ℕ × RuleLi
 kids_view [] = []
 kids_view (kid ∷ kids) = (string_bytes kid.0, tree_rules kid.1) ∷ kids_view kids
 
--- the rules under such labels
+-- the rules under these labels
 abbrev viewed_rules : List (List ℕ × RuleList) → RuleList
 viewed_rules [] = []
 viewed_rules (kid ∷ kids) = with_label (Some kid.0) kid.1 ++ viewed_rules kids
 
--- the rules under labels are seen there
+-- they are the rules under the labels
 rules_viewed : (kids : List (String Global × Node)) → label_rules kids ≡ viewed_rules (kids_view kids)
 rules_viewed [] = refl
 rules_viewed (kid ∷ kids) = ap (λ rules. with_label (Some (string_bytes kid.0)) (tree_rules kid.1) ++ rules) (rules_viewed kids)
 
--- trees that are seen the same have the same rules
+-- trees with the same view have the same rules
 pub same_view : (copies kids : List (String Global × Node)) → kids_view copies ≡ kids_view kids → label_rules copies ≡ label_rules kids
 same_view copies kids same = rules_viewed copies ∙ ap viewed_rules same ∙ sym (rules_viewed kids)
 
@@ -35,25 +35,25 @@ abbrev put : List ℕ → RuleList → List (List ℕ × RuleList) → List (Lis
 put label rules [] = (label, rules) ∷ []
 put label rules (kid ∷ kids) = match_ordering (slice_cmp nat_cmp label kid.0) ((label, rules) ∷ kid ∷ kids) ((kid.0, rules) ∷ kids) (kid ∷ put label rules kids)
 
--- what is seen of one of three lists
+-- the view of one of three lists
 view_match : (order : Ordering) (a b c : List (String Global × Node)) → kids_view (match_ordering order a b c) ≡ match_ordering order (kids_view a) (kids_view b) (kids_view c)
 view_match Less a b c = refl
 view_match Equal a b c = refl
 view_match Greater a b c = refl
 
--- what is seen of trees with one more
+-- the view after inserting a tree
 pub view_insert : (kids : List (String Global × Node)) (key : String Global) (kid : Node) →
     kids_view (insert_entry string_cmp kids key kid) ≡ put (string_bytes key) (tree_rules kid) (kids_view kids)
 view_insert [] key kid = refl
 view_insert (first ∷ kids) key kid = view_match (string_cmp key first.0) _ _ _ ∙ rw (view_insert kids key kid)
 
--- a key is below one in the middle
+-- a key is below one later in the order
 below_middle : (first : String Global × Node) (kids : List (String Global × Node)) (kid : String Global × Node) (more : List (String Global × Node)) →
     AllByRecursion (λ key. string_cmp first.0 key ≡ Less) (keys_of (kids ++ kid ∷ more)) → string_cmp first.0 kid.0 ≡ Less
 below_middle first [] kid more above = above.0
 below_middle first (other ∷ kids) kid more above = below_middle first kids kid more above.1
 
--- a label above those before it goes last
+-- a label above all others is inserted last
 pub put_last : (done : List (String Global × Node)) (kid : String Global × Node) (more : List (String Global × Node)) → IsStrictlySortedBy string_cmp (keys_of (done ++ kid ∷ more)) →
     put (string_bytes kid.0) (tree_rules kid.1) (kids_view done) ≡ kids_view (done ++ kid ∷ [])
 unfolding IsStrictlySortedBy

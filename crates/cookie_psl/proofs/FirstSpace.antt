@@ -1,4 +1,4 @@
--- A text up to its first white space, as `split_once` cuts it.
+-- A line up to its first white space, as `split_once` splits it.
 use Rattle.std.proofs.Common.{◌≡◌, ℕ, Bool, true, false, not, List, [], ◌∷◌, ◌++◌, take, drop, refl, ap, sym, ◌∙◌, Some, None}
 use Rattle.std.specs.Char.{encode_utf8, is_whitespace}
 use Rattle.std.specs.List.{before_first}
@@ -9,15 +9,15 @@ use Rattle.std.proofs.lemmas.List.Sums.{take_while-cons}
 use Rattle.std.proofs.lemmas.Str.{chars_from_encodes, cons_from_encodes, encodes-chars}
 use Rattle.cookie_psl.specs.Reading.{read_part}
 
--- nothing stands before a first element that passes
+-- nothing precedes a first element that passes
 before_first-cons_yes : (p : ℕ → Bool) (c : ℕ) (cs : List ℕ) → p c ≡ true → before_first p (c ∷ cs) ≡ []
 before_first-cons_yes p c cs passes = take_while-cons (λ d. not (p d)) c cs ∙ rw passes
 
--- a first element that does not pass stands before the first that does
+-- a first element that does not pass precedes the first that does
 before_first-cons_no : (p : ℕ → Bool) (c : ℕ) (cs : List ℕ) → p c ≡ false → before_first p (c ∷ cs) ≡ c ∷ before_first p cs
 before_first-cons_no p c cs fails = take_while-cons (λ d. not (p d)) c cs ∙ rw fails
 
--- where no character passes, all stand before the first that does
+-- if no character passes, all precede the first that does
 before_first-none : (p : ℕ → Bool) (cs : List ℕ) → NonePass p cs → before_first p cs ≡ cs
 before_first-none p [] none = refl
 before_first-none p (c ∷ cs) none = before_first-cons_no p c cs none.0 ∙ ap (λ l. c ∷ l) (before_first-none p cs none.1)
@@ -34,13 +34,13 @@ before_first-encoded p (d ∷ front) c rest cs none passes same =
     ap (before_first p) found.1 ∙ before_first-cons_no p d found.0 none.0
     ∙ ap (λ l. d ∷ l) (before_first-encoded p front c rest found.0 none.1 passes found.2)
 
--- a text without white space is read to its end
+-- a line without white space is read to its end
 pub read_part-none : (line : List ℕ) → IsUtf8 line → FindsBy is_whitespace line None → line ≡ read_part line
 read_part-none line text found =
     sym found.1 ∙ ap encode_utf8_all (sym (before_first-none is_whitespace found.0 found.2)
     ∙ ap (before_first is_whitespace) (chars_from_encodes found.0 line text found.1))
 
--- a text is read up to the first white space that it has
+-- a line is read up to its first white space
 pub read_part-some : (line : List ℕ) (i j : ℕ) → IsUtf8 line → FindsBy is_whitespace line (Some (i, j)) → take i line ≡ read_part line
 read_part-some line i j text found =
     let same : encode_utf8_all (chars line) ≡ encode_utf8_all found.0.0 ++ (encode_utf8 found.1.0 ++ drop j line) =

@@ -10,42 +10,42 @@ use Rattle.std.proofs.lemmas.List.Sums.{count_by-le-length}
 use Rattle.std.proofs.lemmas.Str.Pattern.{NoCharPasses-char, drop_at_char}
 use Rattle.cookie_psl.specs.Rules.{labels_of}
 
--- a text without dots has no byte that passes the test for one
+-- a string without dots has no byte that is a dot
 no_dots : (text : List ℕ) → NoCharPasses (λ b. b == 46) text → All (λ b. (b == 46) ≡ false) text
 no_dots text lacks k d below =
     ne_eqb (get_or text k d) 46 (λ same. NoCharPasses-char 46 text k lacks (omega arith) below (get_or_default text k 0 d below ∙ same))
 
--- pieces before others, one byte on
+-- one more byte in front of joined pieces
 step_join : (is_dot : Bool) (b : ℕ) (parts others : List (List ℕ)) → 0 < length parts →
     cond is_dot ([] ∷ (parts ++ others)) (onto_first b (parts ++ others)) ≡ cond is_dot ([] ∷ parts) (onto_first b parts) ++ others
 step_join true b parts others some = refl
 step_join false b [] others some = absurd (omega arith)
 step_join false b (part ∷ parts) others some = refl
 
--- a text is cut on both sides of a dot
+-- a string is split at each of its dots
 split_join : (front label : List ℕ) → slice_split (λ b. b == 46) (front ++ 46 ∷ label) ≡ slice_split (λ b. b == 46) front ++ slice_split (λ b. b == 46) label
 split_join [] label = refl
 split_join (b ∷ front) label =
     ap (λ parts. cond (b == 46) ([] ∷ parts) (onto_first b parts)) (split_join front label)
     ∙ step_join (b == 46) b (slice_split (λ x. x == 46) front) (slice_split (λ x. x == 46) label) (omega (arith, length-slice_split (λ x. x == 46) front))
 
--- a text without dots is its one label
+-- a string without dots is its only label
 pub one_label : (text : List ℕ) → NoCharPasses (λ b. b == 46) text → labels_of text ≡ text ∷ []
 one_label text lacks = ap reverse (slice_split_none (λ b. b == 46) text (no_dots text lacks))
 
--- what stands behind the last dot is the last label
+-- what follows the last dot is the last label
 labels_join : (front label : List ℕ) → NoCharPasses (λ b. b == 46) label → labels_of (front ++ 46 ∷ label) ≡ label ∷ labels_of front
 labels_join front label lacks =
     ap reverse (split_join front label ∙ ap (λ parts. slice_split (λ b. b == 46) front ++ parts) (slice_split_none (λ b. b == 46) label (no_dots label lacks)))
     ∙ reverse-append (slice_split (λ b. b == 46) front) (label ∷ [])
 
--- the same where the dot is at a place of the text
+-- the same, with the position of the dot
 pub last_label : (domain front label : List ℕ) (i j : ℕ) → NoCharPasses (λ b. b == 46) (drop j domain) → HasCharAt 46 domain i j → front ≡ take i domain → label ≡ drop j domain →
     labels_of domain ≡ label ∷ labels_of front
 last_label domain front label i j lacks at is_front is_label =
     ap labels_of (sym (take-append-drop i domain) ∙ ap (λ rest. take i domain ++ rest) (drop_at_char 46 domain i j at (omega arith)))
     ∙ labels_join (take i domain) (drop j domain) lacks ∙ cc
 
--- a text has at most one label more than it has bytes
+-- a string has at most one label more than bytes
 pub labels-le : (text : List ℕ) → length (labels_of text) ≤ length text + 1
 labels-le text = omega (arith, length-reverse (slice_split (λ b. b == 46) text), length-slice_split (λ b. b == 46) text, count_by-le-length (λ b. b == 46) text)

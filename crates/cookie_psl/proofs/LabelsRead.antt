@@ -1,4 +1,4 @@
--- The labels of a rule, read one by one.
+-- Parsing the labels of a rule one by one.
 use Rattle.std.proofs.Common.{◌≡◌, ℕ, ◌<◌, zero, suc, List, [], ◌∷◌, ◌++◌, length, get_or, Option, Some, None, Err, refl, ap, sym, ◌∙◌, arith}
 use Rattle.cookie_words.specs.Steps.{◌>>=◌}
 use Rattle.cookie_psl.specs.ReadRules.{Gives}
@@ -6,19 +6,19 @@ use Rattle.cookie_psl.specs.Reading.{label_from, labels_from}
 use Rattle.cookie_psl.specs.declared.reading.LineFault.{LineFault}
 use Rattle.cookie_psl.specs.declared.reading.LineFault.TheVariants.{Bad, Memory}
 
--- a label that is read after others
+-- one more parsed label after the others
 abbrev and_label : Option (List (Option (List ℕ))) → Option (Option (List ℕ)) → Option (List (Option (List ℕ)))
 and_label before own = do
   labels ← before
   label ← own
   Some (labels ++ label ∷ [])
 
--- the first label alone
+-- the first label
 first_label : (own : Option (Option (List ℕ))) → (own >>= λ label. Some (label ∷ [])) ≡ and_label (Some []) own
 first_label None = refl
 first_label (Some label) = refl
 
--- a label before the others and one after them, in either order
+-- a label before and one after the others, in either order
 between : (first : Option (Option (List ℕ))) (labels : Option (List (Option (List ℕ)))) (own : Option (Option (List ℕ)))
     → (first >>= λ label. and_label labels own >>= λ others. Some (label ∷ others))
     ≡ and_label (first >>= λ label. labels >>= λ others. Some (label ∷ others)) own
@@ -27,27 +27,27 @@ between (Some label) None own = refl
 between (Some label) (Some others) None = refl
 between (Some label) (Some others) (Some own) = refl
 
--- the labels of one more text
+-- the labels of one more string
 labels_from-append : (texts : List (List ℕ)) (text : List ℕ) → labels_from (texts ++ text ∷ []) ≡ and_label (labels_from texts) (label_from text)
 labels_from-append [] text = first_label (label_from text)
 labels_from-append (first ∷ texts) text =
     rw (labels_from-append texts text) (between (label_from first) (labels_from texts) (label_from text))
 
--- one more label after those that were read
+-- one more label after those parsed
 pub labels_from-push : (texts : List (List ℕ)) (text : List ℕ) (labels : List (Option (List ℕ))) (label : Option (List ℕ))
     → labels_from texts ≡ Some labels → label_from text ≡ Some label → labels_from (texts ++ text ∷ []) ≡ Some (labels ++ label ∷ [])
 labels_from-push texts text labels label before own = labels_from-append texts text ∙ rw (before, own)
 
--- no labels
+-- malformed labels
 abbrev none : Option (List (Option (List ℕ)))
 none = None
 
--- bad labels stay bad after one more
+-- malformed labels stay malformed after one more
 before_bad : (first : Option (Option (List ℕ))) → (first >>= λ label. none >>= λ others. Some (label ∷ others)) ≡ None
 before_bad None = refl
 before_bad (Some label) = refl
 
--- a bad label among the labels makes them bad
+-- a malformed label makes all labels malformed
 pub labels_from-bad : (texts : List (List ℕ)) (k : ℕ) (text : List ℕ) → k < length texts → text ≡ get_or texts k text
     → label_from text ≡ None → labels_from texts ≡ None
 labels_from-bad [] k text within at bad = absurd (omega arith)
@@ -56,7 +56,7 @@ labels_from-bad (first ∷ texts) (suc k) text within at bad =
     let later : labels_from texts ≡ None = labels_from-bad texts k text (omega arith) at bad in
     rw later (before_bad (label_from first))
 
--- what makes a part bad makes the whole bad
+-- what makes a part malformed makes the whole malformed
 pub Gives-err : {T U V W : Type 0} (seen : T → U) (view : V → W) (fault : LineFault) (part : Option U) (whole : Option W)
     → Gives seen (Err fault) part → (part ≡ None → whole ≡ None) → Gives view (Err fault) whole
 Gives-err seen view Bad part whole given bad = bad given

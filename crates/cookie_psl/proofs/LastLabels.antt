@@ -1,4 +1,4 @@
--- The last labels of a domain, label by label from the right.
+-- The last labels of a domain, from right to left.
 use Rattle.std.proofs.Common.{◌≡◌, ℕ, ◌+◌, ◌-◌, ◌<◌, Bool, true, false, cond, List, [], ◌∷◌, ◌++◌, length, take, drop, Option, Some, None, MatchOption, Bor, get_or, refl, sym, ap, ◌∙◌, subst, zero-add, arith, lit<}
 use Rattle.std.specs.Prelude.{◌==◌}
 use Rattle.std.specs.List.{All, onto_first, join_with_byte}
@@ -14,37 +14,37 @@ use Rattle.std.proofs.lemmas.Str.Pattern.{NoCharPasses-char, drop_at_char}
 use Rattle.cookie_words.specs.Texts.{pieces}
 use Rattle.cookie_psl.specs.Rules.{last_labels}
 
--- no dot stands in the text
+-- the string has no dot
 abbrev pub LacksDot : List ℕ → Type 0
 LacksDot text = All (λ b. (b == 46) ≡ false) text
 
--- the first of the pieces grows, and the others stay
+-- the first piece grows, and the others are unchanged
 grown_first : (x : ℕ) (ps qs : List (List ℕ)) (is_cut : Bool) → 0 < length ps
     → cond is_cut ([] ∷ (ps ++ qs)) (onto_first x (ps ++ qs)) ≡ cond is_cut ([] ∷ ps) (onto_first x ps) ++ qs
 grown_first x [] qs is_cut h = absurd (omega arith)
 grown_first x (p ∷ ps) qs true h = refl
 grown_first x (p ∷ ps) qs false h = refl
 
--- there is a piece
+-- there is at least one piece
 has_piece : (text : List ℕ) → 0 < length (pieces 46 text)
 has_piece text = omega (arith, length-slice_split (λ b. b == 46) text)
 
--- a text is cut at each of its dots
+-- a string is split at each of its dots
 pieces-cut : (before after : List ℕ) → pieces 46 (before ++ 46 ∷ after) ≡ pieces 46 before ++ pieces 46 after
 pieces-cut [] after = slice_split-cons_yes (λ b. b == 46) 46 after refl
 pieces-cut (x ∷ before) after =
     ap (λ ps. cond (x == 46) ([] ∷ ps) (onto_first x ps)) (pieces-cut before after)
     ∙ grown_first x (pieces 46 before) (pieces 46 after) (x == 46) (has_piece before)
 
--- a text without a dot is one piece
+-- a string without a dot is one piece
 pieces-one : (text : List ℕ) → LacksDot text → pieces 46 text ≡ text ∷ []
 pieces-one text h = slice_split_none (λ b. b == 46) text h
 
--- one label more
+-- one more label
 pieces-more : (before label : List ℕ) → LacksDot label → pieces 46 (before ++ 46 ∷ label) ≡ pieces 46 before ++ label ∷ []
 pieces-more before label h = pieces-cut before label ∙ ap (λ ps. pieces 46 before ++ ps) (pieces-one label h)
 
--- a last label stands behind a dot
+-- a last label follows a dot
 joined_more : (first : List ℕ) (ps : List (List ℕ)) (label : List ℕ)
     → join_with_byte 46 ((first ∷ ps) ++ label ∷ []) ≡ join_with_byte 46 (first ∷ ps) ++ 46 ∷ label
 joined_more first [] label = refl
@@ -52,13 +52,13 @@ joined_more first (p ∷ ps) label =
     ap (λ more. first ++ (46 ∷ more)) (joined_more p ps label)
     ∙ sym (append_assoc first (46 ∷ join_with_byte 46 (p ∷ ps)) (46 ∷ label))
 
--- the same of labels, of which there is one
+-- the same for a nonempty list of labels
 joined_behind : (ps : List (List ℕ)) (label : List ℕ) → 0 < length ps
     → join_with_byte 46 (ps ++ label ∷ []) ≡ join_with_byte 46 ps ++ 46 ∷ label
 joined_behind [] label h = absurd (omega arith)
 joined_behind (p ∷ ps) label h = joined_more p ps label
 
--- the last labels of some that end in one more
+-- the last labels of a list with one more label
 lasts_more : (n : ℕ) (ps : List (List ℕ)) (label : List ℕ) → 0 < length ps
     → join_with_byte 46 (drop (length (ps ++ label ∷ []) - (n + 2)) (ps ++ label ∷ []))
     ≡ join_with_byte 46 (drop (length ps - (n + 1)) ps) ++ 46 ∷ label
@@ -68,7 +68,7 @@ lasts_more n ps label h =
     ∙ ap (join_with_byte 46) (drop-append-le (length ps - (n + 1)) ps (label ∷ []) (omega arith))
     ∙ joined_behind (drop (length ps - (n + 1)) ps) label (omega (arith, length-drop (length ps - (n + 1)) ps))
 
--- no labels
+-- zero labels
 pub last_labels-none : (text : List ℕ) → last_labels 0 text ≡ []
 last_labels-none text = ap (join_with_byte 46) (drop_all (length (pieces 46 text) - 0) (pieces 46 text) (omega arith))
 
@@ -81,26 +81,26 @@ last_labels-one before label h =
     ∙ ap (λ k. join_with_byte 46 (drop k (ps ++ label ∷ []))) same
     ∙ ap (join_with_byte 46) (drop-append_seam ps (label ∷ []))
 
--- more labels than the last
+-- one label more than the last n + 1
 pub last_labels-more : (n : ℕ) (before label : List ℕ) → LacksDot label
     → last_labels (n + 2) (before ++ 46 ∷ label) ≡ last_labels (n + 1) before ++ 46 ∷ label
 last_labels-more n before label h =
     ap (λ qs. join_with_byte 46 (drop (length qs - (n + 2)) qs)) (pieces-more before label h)
     ∙ lasts_more n (pieces 46 before) label (has_piece before)
 
--- the one label of a text without a dot
+-- all labels of a string without a dot
 pub last_labels-all : (n : ℕ) (text : List ℕ) → LacksDot text → last_labels (n + 1) text ≡ text
 last_labels-all n text h =
     let none : 1 - (n + 1) ≡ 0 = omega arith in
     ap (λ qs. join_with_byte 46 (drop (length qs - (n + 1)) qs)) (pieces-one text h)
     ∙ ap (λ k. join_with_byte 46 (drop k (text ∷ []))) none
 
--- a text in which the search finds no dot
+-- a string in which the search finds no dot
 LacksDot-searched : (text : List ℕ) → NoCharPasses (λ d. d == 46) text → LacksDot text
 LacksDot-searched text h =
     All-from_get_or (λ b. (b == 46) ≡ false) text 0 (λ i l. ne_eqb (get_or text i 0) 46 (NoCharPasses-char 46 text i h (lit< tt) l))
 
--- what stands before the last dot and what stands behind it, if there is one
+-- what precedes the last dot and what follows it, if there is one
 pub rsplit_parts : (text : List ℕ) (parts : Option (Bor (List ℕ) × Bor (List ℕ)))
     → MatchOption parts (RFindsChar 46 text None) (λ p. SplitsAroundMatch (RFindsChar 46) text p.0.now p.1.now)
     → MatchOption parts (LacksDot text) (λ p. (text ≡ p.0.now ++ 46 ∷ p.1.now) × LacksDot p.1.now)
@@ -113,21 +113,21 @@ rsplit_parts text (Some p) h = (
   subst LacksDot (sym h.4) (LacksDot-searched (drop h.1 text) h.2.0),
 )
 
--- what stands before a dot of a text is a text
+-- what precedes a dot in a UTF-8 string is UTF-8
 pub before_is_utf8 : (before label : List ℕ) → IsUtf8 (before ++ 46 ∷ label) → IsUtf8 before
 before_is_utf8 before label utf8 =
     let dot : get_or (before ++ 46 ∷ label) (length before) 0 ≡ 46 = get_or-append_seam before 46 label 0 in
     let ends = IsCharBoundary-before_ascii (before ++ 46 ∷ label) (length before) (omega (arith, length-append before (46 ∷ label))) (omega arith) in
     subst IsUtf8 (take-append_seam before (46 ∷ label)) (IsUtf8-take (before ++ 46 ∷ label) (length before) utf8 ends)
 
--- how far a walk from the right has come: so many labels begin at the start, and the front stands before them
+-- the last `count` labels begin at `start`, and `front` precedes them
 pub record HasPassed (domain front : List ℕ) (count start : ℕ) : Type 0 where
   pub split : domain ≡ front ++ drop (length front) domain
   pub more : (n : ℕ) → last_labels (count + (n + 1)) domain ≡ last_labels (n + 1) front ++ drop (length front) domain
   pub labels : drop start domain ≡ last_labels count domain
   pub cut : IsCharBoundary domain start
 
--- a walk begins behind the domain
+-- the walk begins at the end of the domain
 pub HasPassed-none : (domain : List ℕ) → HasPassed domain domain 0 (length domain)
 HasPassed-none domain =
     let none = drop-length domain in
@@ -141,7 +141,7 @@ HasPassed-none domain =
       cut = IsCharBoundary-end domain;
     }
 
--- it passes one label more
+-- the walk passes one more label
 pub HasPassed-more : (domain front before label : List ℕ) (count start : ℕ) → IsUtf8 domain → LacksDot label
     → front ≡ before ++ 46 ∷ label → HasPassed domain front count start
     → HasPassed domain before (count + 1) (length before + 1)
@@ -176,7 +176,7 @@ HasPassed-more domain front before label count start utf8 lacks e h =
       cut = IsCharBoundary-after_ascii domain (length before) utf8 within (omega arith);
     }
 
--- where the front is one label, more labels than were passed are all
+-- if the front is a single label, more labels than were passed are all
 pub HasPassed-all : (domain front : List ℕ) (passed count start : ℕ) → LacksDot front → passed < count
     → HasPassed domain front passed start → domain ≡ last_labels count domain
 HasPassed-all domain front passed count start lacks less h =

@@ -1,4 +1,4 @@
--- The most labels of a matching rule of a tree, from the trees that the last label leads to.
+-- The longest matching rule of a tree, from the subtrees for the domain's last label.
 use Rattle.std.proofs.Common.{◌≡◌, ℕ, ◌+◌, ◌≤◌, List, [], ◌∷◌, ◌++◌, length, refl, ap, sym, ◌∙◌, true, false, Bool, cond, Option, Some, None, is_some, String, Box, box_value, arith, option_map, string_bytes, string_cmp, bytes_eq}
 use Rattle.std.specs.Bool.{then_some}
 use Rattle.std.specs.BTreeMap.{is_at}
@@ -22,18 +22,18 @@ use Rattle.cookie_psl.proofs.Counts.{greater-none, greater-more}
 use Rattle.cookie_psl.proofs.LongestRules.{longest-append, longest-with_label, longest-with_label-none, longest-ends_here, longest-le, greater-le}
 use Rattle.cookie_psl.proofs.TreeRules.{any_rules, level_rules, rules_out}
 
--- the most labels in a tree that may be there
+-- the longest matching rule of an optional tree
 abbrev pub longest_in : Bool → Option Node → List (List ℕ) → Option ℕ
 longest_in is_exception None labels = None
 longest_in is_exception (Some node) labels = longest is_exception (tree_rules node) labels
 
--- tests that follow from one another are the same
+-- tests that imply each other are equal
 same_test : (a b : Bool) → (a ≡ true → b ≡ true) → (b ≡ true → a ≡ true) → a ≡ b
 same_test true b there back = sym (there refl)
 same_test false true there back = back refl
 same_test false false there back = refl
 
--- a label is a key as a look-up tells it
+-- comparing labels for equality and in a lookup gives the same result
 own_test : (own label : List ℕ) → bytes_eq own label ≡ is_eq (slice_cmp nat_cmp label own)
 own_test own label =
     same_test (bytes_eq own label) (bytes_eq label own)
@@ -41,7 +41,7 @@ own_test own label =
     (λ is. (bytes_eq-Decides own label).1 (sym ((bytes_eq-Decides label own).0 is)))
     ∙ sym (is_eq-slice_cmp label own)
 
--- past its own key a label leads to no tree
+-- if all keys are greater than the label, no rule under them matches
 none_past : (is_exception : Bool) (own : String Global) (kids : List (String Global × Node)) (label : List ℕ) (labels : List (List ℕ)) →
     AllByRecursion (λ key. string_cmp own key ≡ Less) (keys_of kids) → label ≡ string_bytes own → longest is_exception (label_rules kids) (label ∷ labels) ≡ None
 none_past is_exception own [] label labels above same = refl
@@ -53,7 +53,7 @@ none_past is_exception own (kid ∷ kids) label labels above same =
     (own_test (string_bytes kid.0) label ∙ ap (λ bytes. is_eq (slice_cmp nat_cmp bytes (string_bytes kid.0))) same ∙ ap is_eq above.0))
     ∙ none_past is_exception own kids label labels above.1 same
 
--- the first tree is the one, or another
+-- the tree found is the first one, or another
 pick : (is_first is_exception : Bool) (kid : Node) (found : Option Node) (labels : List (List ℕ)) (others : Option ℕ) →
     (is_first ≡ true → others ≡ None) → others ≡ option_map (λ n. n + 1) (longest_in is_exception found labels) →
     greater (cond is_first (option_map (λ n. n + 1) (longest is_exception (tree_rules kid) labels)) None) others
@@ -63,7 +63,7 @@ pick true is_exception kid found labels others none is =
     ∙ greater-none (option_map (λ n. n + 1) (longest is_exception (tree_rules kid) labels))
 pick false is_exception kid found labels others none is = is
 
--- under labels in order it is one more than in the tree of the last label
+-- under sorted labels it is one more than in the tree of the last label
 longest-labels : (is_exception : Bool) (kids : List (String Global × Node)) (label : List ℕ) (labels : List (List ℕ)) → IsStrictlySortedBy string_cmp (keys_of kids) →
     longest is_exception (label_rules kids) (label ∷ labels) ≡ option_map (λ n. n + 1) (longest_in is_exception (lookup (is_at (text_cmp label)) kids) labels)
 longest-labels is_exception [] label labels sorted = refl
@@ -85,7 +85,7 @@ longest-labels-none is_exception (kid ∷ kids) =
     ∙ ap (λ first. greater first (longest is_exception (label_rules kids) [])) (longest-with_label-none is_exception (Some (string_bytes kid.0)) (tree_rules kid.1))
     ∙ longest-labels-none is_exception kids
 
--- under `*` it is one more than in the tree there
+-- under `*` it is one more than in the tree for `*`
 longest-any : (is_exception : Bool) (any : Option (Box Node Global)) (label : List ℕ) (labels : List (List ℕ)) →
     longest is_exception (any_rules any) (label ∷ labels) ≡ option_map (λ n. n + 1) (longest_in is_exception (option_map box_value any) labels)
 longest-any is_exception None label labels = refl
@@ -96,7 +96,7 @@ longest-any-none : (is_exception : Bool) (any : Option (Box Node Global)) → lo
 longest-any-none is_exception None = refl
 longest-any-none is_exception (Some any) = longest-with_label-none is_exception None (tree_rules any.value)
 
--- at a level it is the greatest of those under labels, under `*` and at the level
+-- of a node it is the greatest of those under labels, under `*` and at the node
 longest-parts : (is_exception : Bool) (node : Node-F Node) (domain : List (List ℕ)) →
     longest is_exception (level_rules node) domain
     ≡ greater (greater (longest is_exception (label_rules node.kids.entries) domain) (longest is_exception (any_rules node.any) domain))
@@ -108,7 +108,7 @@ longest-parts is_exception node domain =
     ∙ ap (greater (greater (longest is_exception (label_rules node.kids.entries) domain) (longest is_exception (any_rules node.any) domain)))
     (longest-ends_here is_exception node.is_rule node.is_exception domain)
 
--- where there are no trees below, it is what ends at the level
+-- if there are no trees below, it is that of the node
 nothing_below : (is_exception : Bool) (kids : List (String Global × Node)) (any : Option (Box Node Global)) (here : Option ℕ) (domain : List (List ℕ)) →
     length kids ≡ 0 → is_some any ≡ false →
     greater (greater (longest is_exception (label_rules kids) domain) (longest is_exception (any_rules any) domain)) here ≡ here
@@ -116,7 +116,7 @@ nothing_below is_exception [] None here domain no_kids no_any = refl
 nothing_below is_exception (kid ∷ kids) any here domain no_kids no_any = absurd (omega arith)
 nothing_below is_exception [] (Some any) here domain no_kids no_any = absurd (false≢true (sym no_any))
 
--- for a domain without labels it is what ends at the level
+-- for a domain without labels it is that of the node
 pub longest-level-none : (is_exception : Bool) (node : Node-F Node) →
     longest is_exception (level_rules node) [] ≡ cond (cond is_exception node.is_exception node.is_rule) (Some 0) None
 longest-level-none is_exception node =
@@ -124,7 +124,7 @@ longest-level-none is_exception node =
     ∙ ap (λ below. greater below (cond (cond is_exception node.is_exception node.is_rule) (Some 0) None))
     (ap (λ first. greater first (longest is_exception (any_rules node.any) [])) (longest-labels-none is_exception node.kids.entries) ∙ longest-any-none is_exception node.any)
 
--- for a domain with labels it is one more than in the trees that the last one leads to, or what ends at the level
+-- otherwise it is one more than in the subtrees for the last label, or that of the node
 pub longest-level : (is_exception : Bool) (node : Node-F Node) (label : List ℕ) (labels : List (List ℕ)) → IsStrictlySortedBy string_cmp (keys_of node.kids.entries) →
     longest is_exception (level_rules node) (label ∷ labels)
     ≡ greater (option_map (λ n. n + 1) (greater (longest_in is_exception (lookup (is_at (text_cmp label)) node.kids.entries) labels) (longest_in is_exception (option_map box_value node.any) labels)))
@@ -136,12 +136,12 @@ longest-level is_exception node label labels sorted =
     ∙ ap (greater (option_map (λ n. n + 1) (longest_in is_exception (lookup (is_at (text_cmp label)) node.kids.entries) labels))) (longest-any is_exception node.any label labels)
     ∙ greater-more (longest_in is_exception (lookup (is_at (text_cmp label)) node.kids.entries) labels) (longest_in is_exception (option_map box_value node.any) labels))
 
--- no labels, where a rule ends
+-- 0 if a rule ends at the node
 pub ends_count : (ends own : Bool) → ends ≡ own → then_some {T = ℕ} ends 0 ≡ cond own (Some 0) None
 ends_count true own same = ap (λ test. cond test (Some 0) None) same
 ends_count false own same = ap (λ test. cond test (Some 0) None) same
 
--- of a leaf it is what ends there
+-- of a leaf it is that of the node
 pub longest-leaf : (is_exception : Bool) (node : Node) (domain : List (List ℕ)) →
     length (out-Node node).kids.entries ≡ 0 → is_some (out-Node node).any ≡ false →
     longest is_exception (tree_rules node) domain ≡ cond (cond is_exception (out-Node node).is_exception (out-Node node).is_rule) (Some 0) None
@@ -150,7 +150,7 @@ longest-leaf is_exception node domain no_kids no_any =
     ∙ longest-parts is_exception (out-Node node) domain
     ∙ nothing_below is_exception (out-Node node).kids.entries (out-Node node).any (cond (cond is_exception (out-Node node).is_exception (out-Node node).is_rule) (Some 0) None) domain no_kids no_any
 
--- the same of a tree, by the counts of the trees below it
+-- the same for a tree, from the counts of its subtrees
 pub longest-found : (is_exception : Bool) (node : Node) (label : List ℕ) (labels : List (List ℕ)) (by_label by_any : Option ℕ) →
     IsStrictlySortedBy string_cmp (keys_of (out-Node node).kids.entries) →
     by_label ≡ longest_in is_exception (lookup (is_at (text_cmp label)) (out-Node node).kids.entries) labels →
@@ -165,12 +165,12 @@ longest-found is_exception node label labels by_label by_any sorted is_label is_
     ∙ ap (λ found. greater (option_map (λ n. n + 1) (greater by_label found))
     (cond (cond is_exception (out-Node node).is_exception (out-Node node).is_rule) (Some 0) None)) (sym is_any)
 
--- a tree that may be there has no more labels to offer than the domain
+-- the longest matching rule of an optional tree has at most as many labels as the domain
 longest_in-le : (is_exception : Bool) (node : Option Node) (labels : List (List ℕ)) (n : ℕ) → longest_in is_exception node labels ≡ Some n → n ≤ length labels
 longest_in-le is_exception None labels n is = cc
 longest_in-le is_exception (Some node) labels n is = longest-le is_exception (tree_rules node) labels n is
 
--- nor have two
+-- so has the longer of two
 pub found-le : (is_exception : Bool) (node any : Option Node) (labels : List (List ℕ)) (by_label by_any : Option ℕ) (n : ℕ) →
     by_label ≡ longest_in is_exception node labels → by_any ≡ longest_in is_exception any labels → greater by_label by_any ≡ Some n → n ≤ length labels
 found-le is_exception node any labels by_label by_any n is_label is_any is =

@@ -1,4 +1,4 @@
--- The rules of a tree, from its top level and the trees below it.
+-- The rules of a tree, from its root and the trees below it.
 use Rattle.std.proofs.Common.{◌≡◌, [], ◌++◌, refl, ◌∙◌, false, Bool, Option, Some, None, String, Box}
 use Rattle.std.specs.BTreeMap.{BTreeMap}
 use Rattle.std.specs.declared.alloc.Global.{Global}
@@ -14,28 +14,28 @@ abbrev pub any_rules : Option (Box Node Global) → RuleList
 any_rules None = []
 any_rules (Some any) = with_label None (tree_rules any.value)
 
--- the rules of a level
+-- the rules of a node
 abbrev pub level_rules : Node-F Node → RuleList
 level_rules node = label_rules node.kids.entries ++ any_rules node.any ++ ends_here node.is_rule node.is_exception
 
--- the rules of a level, where the trees below are seen as their rules
+-- the rules of a node, given those of the trees below it
 level_step : (kids : BTreeMap (String Global) Node) (any : Option (Box Node Global)) (is_rule is_exception : Bool) →
     tree_step (map-Node Node RuleList tree_rules (record { kids = kids; any = any; is_rule = is_rule; is_exception = is_exception }))
     ≡ level_rules (record { kids = kids; any = any; is_rule = is_rule; is_exception = is_exception })
 level_step kids None is_rule is_exception = refl
 level_step kids (Some any) is_rule is_exception = refl
 
--- a tree's rules are those of its top level
+-- the rules of a tree are those of its root
 pub rules_out : (node : Node) → tree_rules node ≡ level_rules (out-Node node)
 rules_out node =
     fold_out-Node RuleList tree_step node
     ∙ level_step (out-Node node).kids (out-Node node).any (out-Node node).is_rule (out-Node node).is_exception
 
--- the same of a tree made of a level
+-- the same for a tree built from a node
 pub rules_roll : (node : Node-F Node) → tree_rules (roll-Node node) ≡ level_rules node
 rules_roll node = fold-roll-Node RuleList tree_step node ∙ level_step node.kids node.any node.is_rule node.is_exception
 
--- a tree of nothing has no rules
+-- an empty tree has no rules
 pub rules_of_empty : (kids : BTreeMap (String Global) Node) → kids.entries ≡ [] →
     tree_rules (roll-Node (record { kids = kids; any = None; is_rule = false; is_exception = false })) ≡ []
 rules_of_empty kids empty = rules_roll (record { kids = kids; any = None; is_rule = false; is_exception = false }) ∙ rw empty

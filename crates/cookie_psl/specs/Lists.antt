@@ -5,18 +5,18 @@ use Rattle.cookie_psl.specs.declared.error.ListError.{ListError}
 use Rattle.cookie_psl.specs.declared.error.ListError.TheVariants.{BadRule, Memory}
 use Rattle.cookie_psl.specs.declared.list.List.{List}
 
--- unless memory ran out, a list with the rules of the text, or the number of its first bad line
+-- unless out of memory: a list with the rules of the string, or the number of its first malformed line
 abbrev pub GivesList : Result List ListError → Result RuleList ℕ → Type 0
 GivesList (Ok list) answer = (rules : RuleList) × (answer ≡ Ok rules) × SameRules list rules
 GivesList (Err (BadRule line)) answer = answer ≡ Err line
 GivesList (Err Memory) answer = ⊤
 
--- the rules with one more, if there is one
+-- the rules and one more, if there is one
 abbrev pub with_rule : Option Rule → RuleList → RuleList
 with_rule None rules = rules
 with_rule (Some rule) rules = rule ∷ rules
 
--- unless memory ran out, the rules with what the line says, or its number where it is bad
+-- unless out of memory: the rules and that of the line, or the line's number if it is malformed
 abbrev pub TakesLine : {T : Type 0} → Result T ListError → Option (Option Rule) → ℕ → RuleList → RuleList → Type 0
 TakesLine (Ok _) answer number old new = (read : Option Rule) × (answer ≡ Some read) × SameRules new (with_rule read old)
 TakesLine (Err (BadRule line)) answer number old new = (answer ≡ None) × (line ≡ number)

@@ -1,4 +1,4 @@
--- What the code gives that reads the lines of a list.
+-- The results of the functions that parse the lines of a list.
 use Rattle.std.specs.Prelude.{◌≡◌, ℕ, true, false, List, drop, map, reverse, codes, nat_eq, Option, Some, None, option_map, Result, Ok, Err, string_bytes, if◌then◌else◌, ⊤}
 use Rattle.std.specs.declared.alloc.Global.{Global}
 use Rattle.std.specs.declared.string.String.{String}
@@ -12,33 +12,33 @@ use Rattle.cookie_psl.specs.declared.reading.LineFault.{LineFault}
 use Rattle.cookie_psl.specs.declared.reading.LineFault.TheVariants.{Bad, Memory}
 use Rattle.cookie_psl.specs.declared.reading.ReadRule.{ReadRule}
 
--- a label that is refused makes the line bad
+-- an invalid label makes the line malformed
 abbrev pub label_fault : Errors → LineFault
 label_fault Invalid = Bad
 label_fault OutOfMemory = Memory
 
--- a label that was read
+-- a parsed label
 abbrev pub label_text : Option (String Global) → Option (List ℕ)
 label_text label = option_map string_bytes label
 
--- the labels that were read
+-- the parsed labels
 abbrev pub label_texts : Vec (Option (String Global)) Global → List (Option (List ℕ))
 label_texts labels = map label_text labels.items
 
--- a rule that was read, its labels from the last to the first
+-- a parsed rule, its labels from last to first
 abbrev pub rule_view : ReadRule → Rule
 rule_view rule = record { is_exception = rule.is_exception; labels = reverse (label_texts rule.labels) }
 
--- what a part of a line says: a rule, with a leading `!` an exception, unless it is bad
+-- the rule of a line's part, an exception if it begins with `!`; None if it is malformed
 abbrev pub marked_rule : List ℕ → Option Rule
 marked_rule part = if starts_with nat_eq part (codes "!") then rule_from true (drop 1 part) else rule_from false part
 
--- unless memory ran out, the result, seen by `view`, is the answer, and `Bad` where there is none
+-- unless out of memory: the view of the result is the expected one, and it is `Bad` if none is expected
 abbrev pub Gives : {T U : Type 0} → (T → U) → Result T LineFault → Option U → Type 0
 Gives view (Ok value) answer = answer ≡ Some (view value)
 Gives view (Err Bad) answer = answer ≡ None
 Gives view (Err Memory) answer = ⊤
 
--- the same of a line
+-- the same for the result of a line
 abbrev pub GivesLine : Result (Option ReadRule) LineFault → Option (Option Rule) → Type 0
 GivesLine result answer = Gives (option_map rule_view) result answer

@@ -1,20 +1,20 @@
-//! Why a text is no public suffix list.
+//! Errors of parsing a public suffix list.
 use std::fmt;
 
-/// Why a text is no public suffix list.
+/// The error of parsing a public suffix list.
 #[derive(Clone, Copy, Debug, PartialEq, Eq)]
 pub enum ListError {
-    /// A line is no rule: a label of it is empty or no domain name, it has more than 127 labels, or it is an exception
-    /// of one label.
+    /// A line is not a valid rule: it has more than 127 labels, it is an exception with only one
+    /// label, or UTS #46 does not map a label other than `*` to one nonempty ASCII label.
     BadRule {
-        /// The number of the first bad line, counted from 1.
+        /// The number of the first malformed line, counted from 1.
         line: usize,
     },
-    /// The allocator had no memory.
+    /// Out of memory.
     Memory,
 }
 
-/// As `{}` prints it, also where a width is asked for.
+/// Prints a description. A width has no effect.
 impl fmt::Display for ListError {
     ghost use Rattle.std.specs.Prelude.{Some};
     ghost use Rattle.cookie_psl.specs.Errors.{list_error_text};

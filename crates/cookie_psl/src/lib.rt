@@ -1,4 +1,4 @@
-//! Public suffixes, by the list and the algorithm of publicsuffix.org.
+//! Public suffixes, by the list format and the algorithm of publicsuffix.org.
 #![tactic(auto)]
 
 mod error;

@@ -1,4 +1,4 @@
-//! A public suffix list, after publicsuffix.org.
+//! A public suffix list in the format of publicsuffix.org.
 ghost use Rattle.std.specs.Prelude.{◌≡◌, ◌∷◌, [], option_map, IfOk, IfSome};
 ghost use Rattle.std.specs.Str.Iter.{HasSubslice};
 ghost use Rattle.cookie_psl.specs.Lists.{GivesList, TakesLine};
@@ -13,9 +13,10 @@ use crate::{ListError, Suffix, tree};
 use std::alloc::{AllocError, Global};
 use std::marker::Model;
 
-/// A public suffix list: the rules of publicsuffix.org, or of one's own.
+/// A public suffix list: the one of publicsuffix.org, or any other in its format.
 ///
-/// A line of its text is a rule up to its first white space, or nothing where that is empty or begins with `//`.
+/// Each line is read up to its first white space. The part read is a rule, or is skipped if it is
+/// empty or begins with `//`.
 #[derive(Drop)]
 pub struct List {
     alloc: Global,
@@ -45,7 +46,7 @@ impl Clone for List {
 }
 
 impl List {
-    /// A list without rules.
+    /// Creates a list without rules.
     pub fn new(alloc: Global) -> List
         ensures { result ≡ [] }
     {
@@ -55,7 +56,13 @@ impl List {
         }
     }
 
-    /// The list that a text says. `BadRule` with the number of the first line that is no rule, `Memory` where there is none.
+    /// Parses a public suffix list.
+    ///
+    /// # Errors
+    ///
+    /// Lines are parsed in order, and the first error is returned:
+    /// - `BadRule`: a line is malformed; the error has its number.
+    /// - `Memory`: out of memory.
     pub fn from_text(alloc: Global, text: &str) -> Result<List, ListError>
         ensures { GivesList result (rules_from text.now) }
     {
@@ -66,8 +73,9 @@ impl List {
         Ok(list)
     }
 
-    /// The same list with the rule `*`, by which the algorithm of publicsuffix.org takes each top-level domain that no rule names for a
-    /// public suffix. A list without that rule takes it for none.
+    /// Adds the rule `*`, by which each top-level domain without a rule of its own is a public
+    /// suffix, as in the algorithm of publicsuffix.org. Without this rule, [`Suffix::is_known`] is
+    /// false for such a domain. Fails only if out of memory.
     pub fn with_default_rule(self) -> Result<List, AllocError>
         ensures { IfOk result (λ list. SameRules list (default_rule ∷ self)) }
     {
@@ -77,8 +85,11 @@ impl List {
         Ok(List { alloc, root })
     }
 
-    /// The public suffix of a domain, a part of it, and whether a listed rule says so; nothing and a dot alone have none.
-    /// Labels are compared by bytes: put the domain to ASCII and lower case first.
+    /// Returns the public suffix of `domain` as a slice of it, or `None` if `domain` is empty or a
+    /// single dot.
+    ///
+    /// If no rule of the list matches, the suffix is the last label, and [`Suffix::is_known`] is
+    /// false. Labels are compared byte by byte: convert `domain` to ASCII and lower case first.
     pub fn suffix<'d>(&self, domain: &'d str) -> Option<Suffix<'d>>
         ensures value { option_map suffix_value result ≡ suffix_of self.now domain.now }
         ensures slice { IfSome result (λ suffix. HasSubslice domain.now (suffix_value suffix).text) }
@@ -88,7 +99,7 @@ impl List {
         suffix_by(domain, exception, rule)
     }
 
-    // One more line.
+    // Adds the rule of line `number`, if it has one.
     fn take(&mut self, alloc: Global, line: &str, number: usize) -> Result<(), ListError>
         ensures { TakesLine result (line_rule line.now) number self.old self.new }
     {

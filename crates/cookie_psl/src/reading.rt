@@ -1,4 +1,4 @@
-//! What a line of a public suffix list says.
+//! Parsing the lines of a public suffix list.
 ghost use Rattle.std.specs.Prelude.{◌≡◌};
 ghost use Rattle.cookie_words.specs.Texts.{pieces};
 ghost use Rattle.cookie_psl.specs.ReadRules.{label_text, label_texts, marked_rule, rule_view, Gives, GivesLine};
@@ -7,24 +7,24 @@ ghost use Rattle.cookie_psl.specs.Reading.{label_from, labels_from, line_rule, r
 use idna::{Errors, domain_to_ascii};
 use std::alloc::{AllocFailed, Global};
 
-/// The most labels that a rule may have.
+/// The most labels of a rule.
 const MOST_LABELS: usize = 127;
 
-/// A rule as a line says it.
+/// The rule of a line.
 #[derive(Drop)]
 pub(crate) struct ReadRule {
-    /// Its labels from the first to the last, where `None` is the label `*`.
+    /// Its labels from first to last; `None` is the label `*`.
     pub(crate) labels: Vec<Option<String>>,
-    /// Whether it is an exception.
+    /// Whether it is an exception rule.
     pub(crate) is_exception: bool,
 }
 
-/// Why a line was not read.
+/// The error of parsing a line.
 #[derive(Clone, Copy, Debug)]
 pub(crate) enum LineFault {
-    /// The line is no rule.
+    /// The line is malformed.
     Bad,
-    /// The allocator had no memory.
+    /// Out of memory.
     Memory,
 }
 
@@ -51,7 +51,7 @@ impl<T: Drop> From<AllocFailed<T>> for LineFault {
     }
 }
 
-/// The rule that the line says, or nothing where it is empty or a comment.
+/// Parses a line and returns its rule, or `None` if it is empty or a comment.
 #[tactic(auto, unfolding(crate::specs::Reading::line_rule))]
 pub(crate) fn read_line(alloc: Global, line: &str) -> Result<Option<ReadRule>, LineFault>
     ensures { GivesLine result (line_rule line.now) }
@@ -63,7 +63,7 @@ pub(crate) fn read_line(alloc: Global, line: &str) -> Result<Option<ReadRule>, L
     Ok(Some(read_marked(alloc, part)?))
 }
 
-// A line is read up to its first white space.
+// Returns what precedes the first white space of a line.
 fn read_part(line: &str) -> &str
     ensures { result.now ≡ read_part line.now }
 {
@@ -73,7 +73,7 @@ fn read_part(line: &str) -> &str
     }
 }
 
-// A leading `!` marks an exception.
+// Parses a rule; a leading `!` marks an exception.
 fn read_marked(alloc: Global, part: &str) -> Result<ReadRule, LineFault>
     ensures { Gives rule_view result (marked_rule part.now) }
 {
@@ -83,6 +83,7 @@ fn read_marked(alloc: Global, part: &str) -> Result<ReadRule, LineFault>
     }
 }
 
+// Parses a rule without its mark `!`.
 #[tactic(auto, unfolding(crate::specs::Reading::rule_from))]
 fn read_rule(alloc: Global, text: &str, is_exception: bool) -> Result<ReadRule, LineFault>
     ensures { Gives rule_view result (rule_from is_exception text.now) }
@@ -97,6 +98,7 @@ fn read_rule(alloc: Global, text: &str, is_exception: bool) -> Result<ReadRule, 
     })
 }
 
+// Parses all labels of a rule.
 fn read_labels(alloc: Global, text: &str) -> Result<Vec<Option<String>>, LineFault>
     ensures { Gives label_texts result (labels_from (pieces 46 text.now)) }
 {
@@ -107,7 +109,7 @@ fn read_labels(alloc: Global, text: &str) -> Result<Vec<Option<String>>, LineFau
     Ok(labels)
 }
 
-// `None` is the label `*`.
+// Converts a label to ASCII. `None` is the label `*`.
 #[tactic(auto, unfolding(crate::specs::Reading::label_from))]
 fn read_label(alloc: Global, label: &str) -> Result<Option<String>, LineFault>
     ensures { Gives label_text result (label_from label.now) }

@@ -1,11 +1,11 @@
-//! The public suffix of a domain, which is a part of it.
+//! The public suffix of a domain.
 ghost use Rattle.std.specs.Prelude.{◌≡◌, ◌++◌, true, false, length, drop, IfSome, option_map};
 ghost use Rattle.std.specs.Str.{IsCharBoundary};
 ghost use Rattle.std.specs.Str.Iter.{HasSubslice};
 ghost use Rattle.cookie_psl.specs.Rules.{by_exception, by_rule, labels_of, last_labels, longest, suffix_of, without_final_dot, RuleList};
 ghost use Rattle.cookie_psl.specs.Views.{suffix_value};
 
-/// The public suffix of a domain: a part of it.
+/// The public suffix of a domain, a slice of it.
 #[derive(Clone, Copy, Debug)]
 pub struct Suffix<'d> {
     text: &'d str,
@@ -13,14 +13,15 @@ pub struct Suffix<'d> {
 }
 
 impl<'d> Suffix<'d> {
-    /// The text of the suffix, with the trailing dot of the domain if it has one.
+    /// Returns the suffix, with the trailing dot of the domain if there is one.
     pub fn as_str(&self) -> &'d str
         ensures { result.now ≡ (suffix_value self.now).text }
     {
         self.text
     }
 
-    /// Whether a listed rule says so. Without one the suffix is the last label.
+    /// Returns whether a rule of the list matched the domain. If none did, the suffix is its last
+    /// label.
     pub fn is_known(&self) -> bool
         ensures { result ≡ (suffix_value self.now).is_known }
     {
@@ -28,7 +29,8 @@ impl<'d> Suffix<'d> {
     }
 }
 
-/// The public suffix of a domain, by the most labels of the exceptions and of the other rules that match it.
+/// Returns the public suffix of `domain`. `exception` and `rule` are the numbers of labels of the
+/// longest matching exception and of the longest other matching rule.
 pub(crate) fn suffix_by(
     domain: &str,
     exception: Option<usize>,
@@ -47,14 +49,14 @@ pub(crate) fn suffix_by(
     })
 }
 
-/// The domain without one trailing dot.
+/// Returns the domain without one trailing dot.
 pub(crate) fn bare(domain: &str) -> &str
     ensures { result.now ≡ without_final_dot domain.now }
 {
     domain.strip_suffix('.').unwrap_or(domain)
 }
 
-// How many labels the suffix has, and whether a listed rule says so.
+// Returns the number of labels of the suffix, and whether a rule of the list matched.
 fn chosen(exception: Option<usize>, rule: Option<usize>) -> (usize, bool)
     ensures count { result.0 ≡ (by_exception exception (by_rule rule)).count }
     ensures is_known { result.1 ≡ (by_exception exception (by_rule rule)).is_known }
@@ -66,7 +68,7 @@ fn chosen(exception: Option<usize>, rule: Option<usize>) -> (usize, bool)
     }
 }
 
-// The last labels of a domain, so many, with its trailing dot.
+// Returns the last `count` labels of a domain, with its trailing dot.
 fn from_labels(domain: &str, count: usize) -> &str
     ensures value { result.now ≡ last_labels count (without_final_dot domain.now) ++ drop (length (without_final_dot domain.now)) domain.now }
     ensures slice { HasSubslice domain.now result.now }
@@ -75,7 +77,7 @@ fn from_labels(domain: &str, count: usize) -> &str
     &domain[start..]
 }
 
-// Where the last labels of a domain begin, so many.
+// Returns the position at which the last `count` labels begin.
 fn labels_start(domain: &str, count: usize) -> usize
     ensures labels { drop result domain.now ≡ last_labels count domain.now }
     ensures cut { IsCharBoundary domain.now result }

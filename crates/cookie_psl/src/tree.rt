@@ -1,4 +1,4 @@
-//! The rules of a list as a tree of labels, from the last label of a rule to its first.
+//! The rules of a list as a tree of labels, from the last label of each rule to its first.
 ghost use Rattle.std.specs.Prelude.{◌≡◌, ◌^◌, ◌<◌, ◌∷◌, [], box_value, length, option_map, IfOk, OnOk, if◌then◌else◌};
 ghost use Rattle.cookie_psl.specs.Rules as rules;
 ghost use Rattle.cookie_psl.specs.Rules.{SameRules, labels_of};
@@ -8,7 +8,7 @@ ghost use Rattle.cookie_psl.specs.declared.tree.Node.{out-Node};
 use std::alloc::{AllocError, Global};
 use std::collections::BTreeMap;
 
-/// The rules that end in the same labels, by the label before those.
+/// A node of the tree: the rules that end in the same labels, by the label before these.
 #[derive(Drop)]
 pub(crate) struct Node {
     kids: BTreeMap<String, Node>,
@@ -17,7 +17,7 @@ pub(crate) struct Node {
     is_exception: bool,
 }
 
-/// A tree of no rules.
+/// Creates a tree without rules.
 pub(crate) fn new(alloc: Global) -> Node
     ensures { tree_rules result ≡ [] }
 {
@@ -29,7 +29,7 @@ pub(crate) fn new(alloc: Global) -> Node
     }
 }
 
-/// Adds a rule, whose labels stand from the first to the last. On a failure rules may be lost.
+/// Adds a rule, with its labels from first to last. On an error, other rules may be lost.
 pub(crate) fn add(
     alloc: Global,
     node: &mut Node,
@@ -54,7 +54,7 @@ pub(crate) fn add(
     Ok(())
 }
 
-// Ends a rule at a node.
+// Records that a rule ends at `node`.
 fn end_rule(node: &mut Node, is_exception: bool)
     ensures { SameRules (tree_rules node.new) (rule_of is_exception [] ∷ tree_rules node.old) }
 {
@@ -65,7 +65,7 @@ fn end_rule(node: &mut Node, is_exception: bool)
     }
 }
 
-// The node, or else one of no rules.
+// Returns the node, or a new one without rules.
 fn or_new(alloc: Global, node: Option<Node>) -> Node
     ensures { tree_rules result ≡ rules_in node }
 {
@@ -75,14 +75,14 @@ fn or_new(alloc: Global, node: Option<Node>) -> Node
     }
 }
 
-// The node in a box, if there is one.
+// Moves the node out of its box, if there is one.
 fn unboxed(any: Option<Box<Node>>) -> Option<Node>
     ensures { result ≡ option_map box_value any }
 {
     any.map(Box::into_inner)
 }
 
-/// A tree of the same rules.
+/// Returns a copy of the tree.
 #[cycle(copy)]
 pub(crate) fn copy(alloc: Global, node: &Node) -> Result<Node, AllocError>
     ensures { IfOk result (λ copy. tree_rules copy ≡ tree_rules node.now) }
@@ -100,7 +100,7 @@ pub(crate) fn copy(alloc: Global, node: &Node) -> Result<Node, AllocError>
     })
 }
 
-// The trees below a node, of the same rules.
+// Copies the trees below a node.
 #[cycle(copy)]
 fn copy_kids(
     alloc: Global,
@@ -116,7 +116,8 @@ fn copy_kids(
     Ok(copies)
 }
 
-/// The most labels of a matching rule of the kind.
+/// Returns the number of labels of the longest rule that matches `domain`, among the exceptions or
+/// among the other rules.
 pub(crate) fn longest(node: &Node, is_exception: bool, domain: &str) -> Option<usize>
     requires { length (labels_of domain.now) < 2 ^ 64 }
     ensures { result ≡ rules.longest is_exception (tree_rules node.now) (labels_of domain.now) }
@@ -124,7 +125,7 @@ pub(crate) fn longest(node: &Node, is_exception: bool, domain: &str) -> Option<u
     longest_within(node, is_exception, Some(domain))
 }
 
-// The same of what is left of a domain.
+// As `longest`, for a subtree and the labels of a domain that are left, if there are any.
 fn longest_within(node: &Node, is_exception: bool, domain: Option<&str>) -> Option<usize>
     requires { length (labels_left domain) < 2 ^ 64 }
     ensures { result ≡ rules.longest is_exception (tree_rules node.now) (labels_left domain.entry) }
@@ -151,7 +152,7 @@ fn longest_within(node: &Node, is_exception: bool, domain: Option<&str>) -> Opti
     }
 }
 
-// Whether a rule of the kind ends at a node.
+// Whether an exception, or another rule, ends at `node`.
 fn ends_rule(node: &Node, is_exception: bool) -> bool
     ensures { result ≡ (if is_exception then (out-Node node.now).is_exception else (out-Node node.now).is_rule) }
 {
@@ -162,7 +163,7 @@ fn ends_rule(node: &Node, is_exception: bool) -> bool
     }
 }
 
-// A domain's last label, and what stands before its dot.
+// Splits a domain at its last dot into what precedes it, if there is one, and the last label.
 fn cut_last(domain: &str) -> (Option<&str>, &str)
     ensures { labels_of domain.now ≡ result.1.now ∷ labels_left result.0 }
 {
@@ -172,7 +173,7 @@ fn cut_last(domain: &str) -> (Option<&str>, &str)
     }
 }
 
-// The greater of two counts, where they are there.
+// Returns the greater of two optional counts.
 fn greater(count: Option<usize>, other: Option<usize>) -> Option<usize>
     ensures { result ≡ rules.greater count other }
 {

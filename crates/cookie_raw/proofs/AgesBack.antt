@@ -1,4 +1,4 @@
--- The age that a cookie prints reads as the age.
+-- A printed Max-Age parses as the same Max-Age.
 use Rattle.std.proofs.Common.{◌≡◌, ℕ, ◌*◌, ◌/◌, ◌%◌, ◌^◌, ◌<◌, ◌≤◌, min, Bool, true, false, not, ◌&&◌, cond, nat_eq, nat_le, ℤ, pos, negsuc, List, [], ◌∷◌, length, drop, Option, Some, codes, decimal, refl, ap, ◌∙◌, arith, rules}
 use Rattle.std.specs.Prelude.{◌==◌}
 use Rattle.std.specs.Char.{is_ascii_digit}
@@ -12,11 +12,11 @@ use Rattle.cookie_raw.specs.PlainCookie.{is_plain_age, is_plain_text}
 use Rattle.cookie_raw.specs.Reading.{age_of, of_seconds}
 use Rattle.cookie_raw.proofs.AsciiTexts.{digits_are_printing, digits_start_visibly, digits_end_visibly, printing_is_plain}
 
--- a text of digits, in the words of the reading
+-- `digits_value` gives the value of a string of digits
 is_numeral : IsNumeralModel (λ ds. list_all is_ascii_digit ds ≡ true) (digits_value 10)
 is_numeral = numerals_by_value (λ ds. list_all is_ascii_digit ds ≡ true) (search rules)
 
--- digits are no `-`
+-- a string of digits does not begin with a `-`
 no_minus : (value : List ℕ) → list_all is_ascii_digit value ≡ true → starts_with nat_eq value (codes "-") ≡ false
 no_minus [] h = refl
 no_minus (c ∷ cs) h =
@@ -24,11 +24,11 @@ no_minus (c ∷ cs) h =
     let low : 48 ≤ c = omega (arith, leb-true 48 c (and_parts (nat_le 48 c) (nat_le c 57) first.0).0) in
     and_left (45 == c) true (ne_eqb 45 c (λ e. absurd (omega arith)))
 
--- of three choices the second
+-- the second of three choices
 second_chosen : (first second : Bool) (x y z : Option ℤ) → first ≡ false → second ≡ true → cond first x (cond second y z) ≡ y
 second_chosen first second x y z h k = cond-false first x (cond second y z) h ∙ cond-true second y z k
 
--- what digits say as an age
+-- the value of Max-Age of a string of digits
 digits_age : (value : List ℕ) → list_all is_ascii_digit value ≡ true → 0 < length value → digits_value 10 value ≤ 9_223_372_036_854_775_807
     → age_of value ≡ Some (of_seconds (digits_value 10 value))
 unfolding age_of
@@ -39,7 +39,7 @@ digits_age value digits there small =
     (and_from (not (length value == 0)) (list_all is_ascii_digit value) (not_from_false (length value == 0) (ne_eqb (length value) 0 (λ e. absurd (omega arith)))) digits)
     ∙ ap (λ v. Some (of_seconds v)) shortened
 
--- the age that a plain cookie prints reads as the age
+-- the printed Max-Age of a plain cookie parses as the same Max-Age
 pub age_back : (age : ℤ) → is_plain_age age ≡ true → age_of (age_text age) ≡ Some age
 age_back (negsuc n) h = absurd (false≢true h)
 age_back (pos n) h =
@@ -51,7 +51,7 @@ age_back (pos n) h =
     digits_age (decimal (n / 1_000_000_000)) (digits_decimal is_numeral (n / 1_000_000_000) fits) (decimal_nonempty (n / 1_000_000_000) fits) (omega arith)
     ∙ ap (λ v. Some (of_seconds v)) value ∙ ap (λ nanoseconds. Some (pos nanoseconds)) whole
 
--- the text of such an age is plain
+-- a printed Max-Age is a plain string
 pub age_is_plain : (age : ℤ) → is_plain_age age ≡ true → is_plain_text (age_text age) ≡ true
 age_is_plain (negsuc n) h = absurd (false≢true h)
 age_is_plain (pos n) h =

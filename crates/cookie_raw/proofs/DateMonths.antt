@@ -6,7 +6,7 @@ use Rattle.std.specs.Str.{str_eq_ignore_ascii_case}
 use Rattle.std.proofs.lemmas.Bool.Decides.{Decides-eqb, same_from_decides}
 use Rattle.std.proofs.lemmas.Slice.Eq.{slice_eq-Decides}
 
--- a test of whether two texts are one in small letters
+-- comparing strings in lower case ignores case
 pub same_letters : (r : Bool) (xs ys : List ℕ) → (IsTrue r ↔ (map to_ascii_lowercase xs ≡ map to_ascii_lowercase ys))
     → r ≡ str_eq_ignore_ascii_case xs ys
 same_letters r xs ys told =

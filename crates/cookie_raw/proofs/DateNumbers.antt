@@ -1,4 +1,4 @@
--- The numbers of a date, of a few digits each.
+-- The numbers of a date.
 use Rattle.std.proofs.Common.{◌≡◌, ℕ, ◌+◌, ◌^◌, ◌<◌, ◌≤◌, Bool, true, List, take, arith, get_or-take}
 use Rattle.std.specs.Char.{is_ascii_digit, digit_value}
 use Rattle.std.specs.Int.{IsInRange}
@@ -10,13 +10,13 @@ use Rattle.std.proofs.lemmas.List.Folds.{length-prefix_len}
 use Rattle.std.proofs.lemmas.List.Sums.{list_all-from_AllPass, prefix_len_passes}
 use Rattle.std.proofs.lemmas.Str.{digit_value_digit}
 
--- a number below a power is below each larger one
+-- a number below a power of ten is below each greater power
 pub below_larger_power : (value few many : ℕ) → value < 10 ^ few → few ≤ many → value < 10 ^ many
 below_larger_power value few many small more =
     let grows : 10 ^ few ≤ 10 ^ many = pow-le-pow_right (omega arith) more in
     omega arith
 
--- the elements up to the first that fails all pass
+-- all elements before the first that fails pass
 pub prefix_passes : (test : ℕ → Bool) (xs : List ℕ) → list_all test (take (prefix_len test xs) xs) ≡ true
 prefix_passes test xs =
     list_all-from_AllPass test (take (prefix_len test xs) xs)

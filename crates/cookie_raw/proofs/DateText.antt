@@ -1,4 +1,4 @@
--- The text of a date, in the parts that are written one after the other.
+-- A date in the parts in which it is written.
 use Rattle.std.proofs.Common.{◌≡◌, ◌-◌, [], ◌++◌, codes, get_or, unsigned_abs, append_assoc}
 use Rattle.jiff_core.specs.Calendar.{days_from_civil, weekday_number}
 use Rattle.cookie_words.specs.Moments.{Moment}

@@ -1,4 +1,4 @@
--- One more token of a date: what it says is what `with_token` adds to what the tokens before it say.
+-- One more token of a date adds what `with_token` adds.
 use Rattle.std.proofs.Common.{◌≡◌, ℕ, Bool, true, false, ◌&&◌, ◌||◌, List, [], ◌∷◌, ◌++◌, Option, Some, None, map, refl, sym, ap, ◌∙◌}
 use Rattle.std.specs.Prelude.{filter_map, is_some, is_none, if◌then◌else◌}
 use Rattle.std.specs.Borrow.{Bor}
@@ -14,30 +14,30 @@ use Rattle.cookie_raw.proofs.DateForms.{month_is_no_other}
 abbrev is_taken : {A B : Type 0} → Option A → Option B → Bool
 is_taken so_far given = is_none so_far && is_some given
 
--- the token, where it is not taken
+-- the token, unless it is taken
 abbrev unless_taken : Bool → List ℕ → List (List ℕ)
 unless_taken taken token = if taken then [] else token ∷ []
 
--- the first of a list that one item may go onto
+-- the first element after at most one more is appended
 first-cons_option : {T : Type 0} (xs : List T) (o : Option T) → first (xs ++ cons_option o []) ≡ (if is_taken (first xs) o then o else first xs)
 first-cons_option [] None = refl
 first-cons_option [] (Some x) = refl
 first-cons_option (x ∷ xs) o = refl
 
--- what the first token of a form says, with one token more
+-- the value of the first token of a form, with one more token
 first_of-push : {T : Type 0} (form : List ℕ → Option T) (before : List (List ℕ)) (token : List ℕ)
     → first_of form (before ++ token ∷ []) ≡ (if is_taken (first_of form before) (form token) then form token else first_of form before)
 first_of-push form before token =
     ap first (filter_map-append form before (token ∷ [])) ∙ first-cons_option (filter_map form before) (form token)
 
--- the same, with one token more that may be taken
+-- the same, with one more token unless it is taken
 first_of-unless_taken : {T : Type 0} (form : List ℕ → Option T) (taken : Bool) (before : List (List ℕ)) (token : List ℕ)
     → first_of form (before ++ unless_taken taken token)
     ≡ (if taken then first_of form before else (if is_taken (first_of form before) (form token) then form token else first_of form before))
 first_of-unless_taken form true before token = ap (first_of form) (append-nil before)
 first_of-unless_taken form false before token = first_of-push form before token
 
--- one token in front, which is the first of the form or not
+-- one more token in front, which is the first of the form or not
 without_first-cons : {T : Type 0} (form : List ℕ → Option T) (front : List ℕ) (given : Option T) (before : List (List ℕ)) (token : List ℕ)
     → without_first form (before ++ token ∷ []) ≡ without_first form before ++ unless_taken (is_taken (first_of form before) (form token)) token
     → (if is_some given then before ++ token ∷ [] else front ∷ without_first form (before ++ token ∷ []))
@@ -46,14 +46,14 @@ without_first-cons : {T : Type 0} (form : List ℕ → Option T) (front : List �
 without_first-cons form front None before token e = ap (λ rest. front ∷ rest) e
 without_first-cons form front (Some x) before token e = refl
 
--- the tokens but the first of a form, with one token more
+-- the tokens except the first of a form, with one more token
 without_first-push : {T : Type 0} (form : List ℕ → Option T) (before : List (List ℕ)) (token : List ℕ)
     → without_first form (before ++ token ∷ []) ≡ without_first form before ++ unless_taken (is_taken (first_of form before) (form token)) token
 without_first-push form [] token = refl
 without_first-push form (front ∷ before) token =
     without_first-cons form front (form front) before token (without_first-push form before token)
 
--- the same, with one token more that may be taken
+-- the same, with one more token unless it is taken
 without_first-unless_taken : {T : Type 0} (form : List ℕ → Option T) (taken : Bool) (before : List (List ℕ)) (token : List ℕ)
     → without_first form (before ++ unless_taken taken token)
     ≡ without_first form before ++ unless_taken (taken || is_taken (first_of form before) (form token)) token
@@ -65,12 +65,12 @@ without_first-unless_taken form false before token = without_first-push form bef
 abbrev parts : Option Clock → Option ℕ → Option ℕ → Option ℕ → DateParts
 parts time day month year = record { time = time; day = day; month = month; year = year }
 
--- parts that are the same one by one
+-- parts that are equal one by one
 same_parts : {time time_too : Option Clock} {day day_too month month_too year year_too : Option ℕ}
     → time ≡ time_too → day ≡ day_too → month ≡ month_too → year ≡ year_too → parts time day month year ≡ parts time_too day_too month_too year_too
 same_parts e f g h = cc
 
--- one part at most is new, since a month is no other part
+-- at most one part is set, since a month has no other form
 one_part_is_new : (time time_new : Option Clock) (day day_new month month_new year year_new : Option ℕ) (is_time is_day is_month is_year : Bool)
     → (is_month ≡ true → (is_time ≡ false) × (is_day ≡ false) × (is_year ≡ false))
     → parts (if is_time then time_new else time) (if is_time then day else (if is_day then day_new else day))
@@ -89,12 +89,12 @@ one_part_is_new time time_new day day_new month month_new year year_new false fa
 one_part_is_new time time_new day day_new month month_new year year_new false false false true alone = refl
 one_part_is_new time time_new day day_new month month_new year year_new false false false false alone = refl
 
--- what is not given is not taken
+-- a token without the form is not taken
 not_taken : {A B : Type 0} (so_far : Option A) (given : Option B) → is_some given ≡ false → is_taken so_far given ≡ false
 not_taken None given h = h
 not_taken (Some x) given h = refl
 
--- a month that is taken is taken alone
+-- a token taken as the month is not taken as another part
 month_is_taken_alone : (before : DateParts) (token : List ℕ) → is_taken before.month (month_of token) ≡ true
     → (is_taken before.time (time_of token) ≡ false) × (is_taken before.day (day_of token) ≡ false) × (is_taken before.year (year_of token) ≡ false)
 month_is_taken_alone before token h =
@@ -104,7 +104,7 @@ month_is_taken_alone before token h =
       not_taken before.year (year_of token) others.2,
     )
 
--- the parts that the tokens say, with one token more
+-- the parts of a date, with one more token
 parts_of-push : (before : List (List ℕ)) (token : List ℕ) → parts_of (before ++ token ∷ []) ≡ with_token (parts_of before) token
 parts_of-push before token =
     let so_far = parts_of before in
@@ -119,7 +119,7 @@ parts_of-push before token =
     ∙ one_part_is_new so_far.time (time_of token) so_far.day (day_of token) so_far.month (month_of token) so_far.year (year_of token)
     is_time is_day (is_taken so_far.month (month_of token)) (is_taken so_far.year (year_of token)) (month_is_taken_alone so_far token)
 
--- the same of tokens that stand in a text
+-- the same for borrowed tokens
 pub with_next_token : (found : DateParts) (before : List (Bor (List ℕ))) (token : Bor (List ℕ)) → found ≡ parts_of (map (λ x. x.now) before)
     → with_token found token.now ≡ parts_of (map (λ x. x.now) (before ++ token ∷ []))
 with_next_token found before token e =

@@ -1,4 +1,4 @@
--- The date that a cookie prints reads as the moment.
+-- A printed date parses as the same time.
 use Rattle.std.proofs.Common.{◌≡◌, ℕ, suc, ◌-◌, ◌≤◌, true, ◌&&◌, nat_le, ℤ, pos, negsuc, List, [], ◌∷◌, get_or, Some, None, codes, sym, ap, ◌∙◌, subst, arith}
 use Rattle.std.specs.Prelude.{◌==◌}
 use Rattle.std.proofs.lemmas.Bool.{false≢true, cond-true, and_parts, and_from, eqb-true, leb-true, le-leb}
@@ -12,7 +12,7 @@ use Rattle.cookie_raw.proofs.PlainDates.{words_are_plain}
 use Rattle.cookie_raw.proofs.PrintedWords.{date_of_words, as_words, date_tokens, day_name_is_word, month_name_is_word, two_digits_are_word, four_digits_are_word, clock_is_word}
 use Rattle.cookie_raw.proofs.PrintedTokens.{IsUnread, IsDay, IsMonth, IsYear, clock_text, day_name_unread, two_digits_are_day, month_name_is_month, four_digits_are_year, clock_back}
 
--- what the tokens of a printed date say
+-- the parts that the tokens of a printed date give
 token_parts : (weekday day_token month_token year_token clock_token rest : List ℕ) (day month year : ℕ) (clock : Clock)
     → IsUnread weekday → IsDay day_token day → IsMonth month_token month → IsYear year_token year → time_of clock_token ≡ Some clock
     → parts_of (weekday ∷ day_token ∷ month_token ∷ year_token ∷ clock_token ∷ rest ∷ [])
@@ -20,13 +20,13 @@ token_parts : (weekday day_token month_token year_token clock_token rest : List 
 token_parts weekday day_token month_token year_token clock_token rest day month year clock a b c d e =
     simp (a.time, a.day, a.month, a.year, b.time, b.day, b.month, c.time, c.month, c.year, d.time, d.year, e)
 
--- what holds of each moment in whole seconds, if a cookie-date may have its year, the calendar its day and a clock its time
+-- P holds of each time in whole seconds in the years 1601 to 9999
 abbrev HoldsInSeconds : (Moment → Type 0) → Type 0
 HoldsInSeconds P =
     (year month day hour minute second : ℕ) → is_within 1601 9999 year ≡ true → is_day (pos year) month day ≡ true → is_time hour minute second ≡ true
     → P (moment_of_fields year month day hour minute second 0)
 
--- holds of the fields of each plain moment
+-- such a P holds of the fields of each plain time
 of_fields : (P : Moment → Type 0) → HoldsInSeconds P → (year : ℤ) (month day hour minute second nanosecond : ℕ)
     → is_plain_moment (record { year = year; month = month; day = day; hour = hour; minute = minute; second = second; nanosecond = nanosecond }) ≡ true
     → P (record { year = year; month = month; day = day; hour = hour; minute = minute; second = second; nanosecond = nanosecond })
@@ -38,7 +38,7 @@ of_fields P each (pos year) month day hour minute second nanosecond h =
     subst (λ (n : ℕ). P (record { year = pos year; month = month; day = day; hour = hour; minute = minute; second = second; nanosecond = n }))
     (sym (eqb-true nanosecond 0 whole.1)) (each year month day hour minute second dates.0 dates.1 times.1)
 
--- and so of each plain moment
+-- and so of each plain time
 of_plain : (P : Moment → Type 0) → HoldsInSeconds P → (moment : Moment) → is_plain_moment moment ≡ true → P moment
 of_plain P each moment h = of_fields P each moment.year moment.month moment.day moment.hour moment.minute moment.second moment.nanosecond h
 
@@ -46,7 +46,7 @@ of_plain P each moment h = of_fields P each moment.year moment.month moment.day 
 abbrev weekday_of : ℕ → ℕ → ℕ → List ℕ
 weekday_of year month day = get_or day_names (weekday_number (days_from_civil (pos year) month day)) []
 
--- the parts of a plain moment are small
+-- the parts of a plain time are within their ranges
 record HasSmallParts (year month day hour minute second : ℕ) : Type 0 where
   first_year : 1601 ≤ year
   last_year : year ≤ 9999
@@ -57,7 +57,7 @@ record HasSmallParts (year month day hour minute second : ℕ) : Type 0 where
   minutes : minute ≤ 59
   seconds : second ≤ 59
 
--- where the year may be printed, the day is on the calendar and the time on a clock
+-- so are those of a time in the years 1601 to 9999
 small_parts : (year month day hour minute second : ℕ) → is_within 1601 9999 year ≡ true → is_day (pos year) month day ≡ true → is_time hour minute second ≡ true
     → HasSmallParts year month day hour minute second
 small_parts year month day hour minute second h k l =
@@ -78,14 +78,14 @@ small_parts year month day hour minute second h k l =
       seconds = leb-true second 59 time.1;
     }
 
--- the words of the date of a moment
+-- the words of a printed date
 printed_words : (year month day hour minute second : ℕ) → date_text (moment_of_fields year month day hour minute second 0)
     ≡ date_of_words (weekday_of year month day) (two_digits day) (get_or month_names (month - 1) []) (four_digits year) (clock_text hour minute second)
 unfolding date_text
 printed_words year month day hour minute second =
     as_words (weekday_of year month day) (two_digits day) (get_or month_names (month - 1) []) (four_digits year) (two_digits hour) (two_digits minute) (two_digits second)
 
--- the parts that the tokens of such a date say
+-- the parts that the tokens of a printed date give
 printed_parts : (year month day hour minute second : ℕ) → HasSmallParts year month day hour minute second
     → parts_of (tokens (date_text (moment_of_fields year month day hour minute second 0)))
     ≡ record { time = Some (record { hour = hour; minute = minute; second = second }); day = Some day; month = Some month; year = Some year }
@@ -102,7 +102,7 @@ printed_parts year month day hour minute second small =
     (day_name_unread _ weekday) (two_digits_are_day day (omega arith)) named (four_digits_are_year year (omega arith) (omega arith))
     (clock_back hour minute second (omega arith) (omega arith) (omega arith))
 
--- parts that are on the calendar and on a clock make their moment
+-- parts of an existing date and time give that time
 moment_from_parts : (year month day hour minute second : ℕ) → 1601 ≤ year → is_day (pos year) month day ≡ true → is_time hour minute second ≡ true
     → moment_of_parts (record { time = Some (record { hour = hour; minute = minute; second = second }); day = Some day; month = Some month; year = Some year })
     ≡ Some (moment_of_fields year month day hour minute second 0)
@@ -112,14 +112,14 @@ moment_from_parts year month day hour minute second h k l =
     (and_from (nat_le 1601 year && is_day (pos year) month day) (is_time hour minute second)
     (and_from (nat_le 1601 year) (is_day (pos year) month day) (le-leb 1601 year h) k) l)
 
--- the date of a moment in whole seconds reads as the moment
+-- the printed date of a time in whole seconds parses as that time
 seconds_back : HoldsInSeconds (λ moment. cookie_date (date_text moment) ≡ Some moment)
 seconds_back year month day hour minute second h k l =
     let small = small_parts year month day hour minute second h k l in
     ap moment_of_parts (printed_parts year month day hour minute second small)
     ∙ moment_from_parts year month day hour minute second small.first_year k l
 
--- and is plain
+-- and is a plain string
 seconds_are_plain : HoldsInSeconds (λ moment. is_plain_text (date_text moment) ≡ true)
 seconds_are_plain year month day hour minute second h k l =
     let small = small_parts year month day hour minute second h k l in
@@ -127,10 +127,10 @@ seconds_are_plain year month day hour minute second h k l =
     (words_are_plain (weekday_number (days_from_civil (pos year) month day)) (month - 1) day year hour minute second (weekday_number_bound (days_from_civil (pos year) month day))
     (omega arith) (omega arith) (omega arith) (omega arith) (omega arith) (omega arith))
 
--- the date that a moment of a plain cookie prints reads as the moment
+-- the printed date of a plain time parses as that time
 pub date_back : (moment : Moment) → is_plain_moment moment ≡ true → cookie_date (date_text moment) ≡ Some moment
 date_back moment h = of_plain (λ m. cookie_date (date_text m) ≡ Some m) seconds_back moment h
 
--- no printed date has a `;`, and trimming leaves it as it is
+-- and is a plain string
 pub date_is_plain : (moment : Moment) → is_plain_moment moment ≡ true → is_plain_text (date_text moment) ≡ true
 date_is_plain moment h = of_plain (λ m. is_plain_text (date_text m) ≡ true) seconds_are_plain moment h

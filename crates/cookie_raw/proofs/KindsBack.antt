@@ -1,4 +1,4 @@
--- Each kind of attribute takes back what was printed of it.
+-- Each kind of attribute parses as it was printed.
 use Rattle.std.proofs.Common.{◌≡◌, ℕ, ℤ, pos, negsuc, Bool, true, false, not, ◌||◌, ◌==◌, List, [], ◌∷◌, ◌++◌, codes, nat_le, Option, Some, None, IfSome, if◌then◌else◌, option_map, option_and_then, unwrap_or, filter_map, refl, ap, ◌∙◌}
 use Rattle.std.specs.List.{AllByRecursion, cons_option}
 use Rattle.std.specs.Str.{trim_start, trim_end, chars}
@@ -18,7 +18,7 @@ use Rattle.cookie_raw.proofs.JoinedPieces.{Attribute, IsPiece, IsWellPrinted, pr
 use Rattle.cookie_raw.proofs.PlainParts.{IsPlainText, IsPlainDomain, plain_text}
 use Rattle.cookie_raw.proofs.PrintedAttributes.{flag_attribute, value_attribute, IsLabel, flag_is_piece, value_is_piece, value_of_piece, label-http_only, label-same_site, label-secure, label-path, label-domain, label-max_age, label-expires}
 
--- the kind takes nothing from other names
+-- the kind accepts no other name
 abbrev pub TakesOnly : {T : Type 0} → List ℕ → (List ℕ → List ℕ → Option T) → Type 0
 TakesOnly kind from = (name value : List ℕ) → is_named kind name ≡ false → from name value ≡ None
 
@@ -28,12 +28,12 @@ pieces_named kind [] = []
 pieces_named kind (attribute ∷ more) =
     if is_named kind attribute.name then attribute.piece ∷ pieces_named kind more else pieces_named kind more
 
--- what a piece gives goes by its name
+-- the value of a piece depends on its name
 said_by_name : {T : Type 0} (from : List ℕ → List ℕ → Option T) (name piece : List ℕ) → IsPiece name piece
     → piece_gives from piece ≡ from name (value_of piece)
 said_by_name from name piece h = ap (λ n. from n (value_of piece)) h.named
 
--- one attribute more, of the kind or of another
+-- one more attribute, of this kind or another
 one_more : {T : Type 0} (kind : List ℕ) (from : List ℕ → List ℕ → Option T) → TakesOnly kind from
     → (name : List ℕ) (piece : Option (List ℕ)) (rest : List (List ℕ)) (of_kind : List (Option (List ℕ))) (is_kind : Bool)
     → is_named kind name ≡ is_kind → IfSome piece (IsPiece name)
@@ -48,7 +48,7 @@ one_more kind from only name (Some piece) rest of_kind false e h same =
     (said_by_name from name piece h ∙ only name (value_of piece) e)
     ∙ same
 
--- what the attributes give for a kind is what those of its name give
+-- only the attributes of its name give a kind its value
 given_by_name : {T : Type 0} (kind : List ℕ) (from : List ℕ → List ℕ → Option T) → TakesOnly kind from
     → (attributes : List Attribute) → AllByRecursion IsWellPrinted attributes
     → filter_map (piece_gives from) (present attributes)
@@ -59,12 +59,12 @@ given_by_name kind from only (attribute ∷ more) h =
     (is_named kind attribute.name) refl h.0
     (given_by_name kind from only more h.1)
 
--- the last of one, if it is there
+-- the last of at most one element
 last_of_one : {T : Type 0} (given : Option T) → last (cons_option given []) ≡ given
 last_of_one None = refl
 last_of_one (Some x) = refl
 
--- the one attribute of a name decides for its kind
+-- the only attribute of a name gives the kind its value
 pub one_decides : {T : Type 0} (kind : List ℕ) (from : List ℕ → List ℕ → Option T) → TakesOnly kind from
     → (attributes : List Attribute) → AllByRecursion IsWellPrinted attributes
     → (piece : Option (List ℕ)) → pieces_named kind attributes ≡ piece ∷ []
@@ -73,7 +73,7 @@ one_decides kind from only attributes h piece e =
     ap last (given_by_name kind from only attributes h ∙ ap (filter_map (option_and_then (piece_gives from))) e)
     ∙ last_of_one (option_and_then (piece_gives from) piece)
 
--- what a kind is given of a value that is printed
+-- the value of a printed attribute
 value_given : {T : Type 0} (from : List ℕ → List ℕ → Option T) (name : List ℕ) (value : Option (List ℕ)) → IsLabel name
     → IfSome value IsPlainText
     → option_and_then (piece_gives from) (value_attribute name value).piece ≡ option_and_then (from name) value
@@ -82,7 +82,7 @@ value_given from name (Some v) label plain =
     said_by_name from name (32 ∷ (name ++ 61 ∷ v)) (value_is_piece name v label plain)
     ∙ ap (from name) (value_of_piece name v label plain)
 
--- HttpOnly, which is set or left open
+-- HttpOnly, true or absent
 pub http_only_back : (http_only : Option Bool) → unwrap_or http_only true ≡ true
     → option_and_then (piece_gives http_only_from) (flag_attribute (codes "HttpOnly") (unwrap_or http_only false)).piece ≡ http_only
 http_only_back None h = refl
@@ -90,7 +90,7 @@ http_only_back (Some true) h =
     said_by_name http_only_from (codes "HttpOnly") (32 ∷ codes "HttpOnly") (flag_is_piece (codes "HttpOnly") label-http_only)
 http_only_back (Some false) h = absurd (false≢true h)
 
--- Secure, which is set where the cookie is for all sites
+-- Secure, true if SameSite is `None`
 pub secure_back : (secure : Option Bool) (for_all : Bool) → unwrap_or secure true ≡ true
     → (not for_all || unwrap_or secure false) ≡ true
     → option_and_then (piece_gives secure_from) (flag_attribute (codes "Secure") (unwrap_or secure for_all)).piece ≡ secure
@@ -100,7 +100,7 @@ secure_back (Some true) for_all h k =
     said_by_name secure_from (codes "Secure") (32 ∷ codes "Secure") (flag_is_piece (codes "Secure") label-secure)
 secure_back (Some false) for_all h k = absurd (false≢true h)
 
--- the text of each kind of SameSite is plain
+-- each printed value of SameSite is plain
 pub site_is_plain : (site : Option SameSite) → IfSome (option_map site_text site) IsPlainText
 unfolding trim_start trim_end chars encode
 site_is_plain None = tt
@@ -108,7 +108,7 @@ site_is_plain (Some same_site.Strict) = record { has_no_semicolon = refl; trimme
 site_is_plain (Some same_site.Lax) = record { has_no_semicolon = refl; trimmed = refl }
 site_is_plain (Some same_site.None) = record { has_no_semicolon = refl; trimmed = refl }
 
--- and is read as that kind
+-- and parses as that value
 site_read : (site : Option SameSite) → option_and_then (same_site_from (codes "SameSite")) (option_map site_text site) ≡ site
 unfolding site_of
 site_read None = refl
@@ -123,7 +123,7 @@ same_site_back site =
     value_given same_site_from (codes "SameSite") (option_map site_text site) label-same_site (site_is_plain site)
     ∙ site_read site
 
--- a path is read as it is
+-- a path is parsed as it is
 path_read : (path : Option (List ℕ)) → option_and_then (path_from (codes "Path")) path ≡ path
 path_read None = refl
 path_read (Some p) = refl
@@ -133,12 +133,12 @@ pub path_back : (path : Option (List ℕ)) → IfSome path IsPlainText
     → option_and_then (piece_gives path_from) (value_attribute (codes "Path") path).piece ≡ path
 path_back path plain = value_given path_from (codes "Path") path label-path plain ∙ path_read path
 
--- a domain that is plain is a plain text
+-- a plain domain is a plain string
 pub domain_is_plain : (domain : Option (List ℕ)) → IfSome domain IsPlainDomain → IfSome domain IsPlainText
 domain_is_plain None plain = tt
 domain_is_plain (Some d) plain = plain.text
 
--- and is read as it is
+-- and is parsed as it is
 domain_read : (domain : Option (List ℕ)) → IfSome domain IsPlainDomain
     → option_map without_dot (option_and_then (domain_from (codes "Domain")) domain) ≡ domain
 domain_read None plain = refl
@@ -152,13 +152,13 @@ domain_back domain plain =
     ap (option_map without_dot) (value_given domain_from (codes "Domain") domain label-domain (domain_is_plain domain plain))
     ∙ domain_read domain plain
 
--- an age in whole seconds is printed as a plain text
+-- a plain Max-Age is printed as a plain string
 pub age_text_is_plain : (age : Option ℤ) → IfSome age (λ a. is_plain_age a ≡ true)
     → IfSome (option_map age_text age) IsPlainText
 age_text_is_plain None plain = tt
 age_text_is_plain (Some a) plain = plain_text (age_text a) (age_is_plain a plain)
 
--- and read as that age
+-- and parses as that Max-Age
 age_read : (age : Option ℤ) → IfSome age (λ a. is_plain_age a ≡ true)
     → option_and_then (max_age_from (codes "Max-Age")) (option_map age_text age) ≡ age
 age_read None plain = refl
@@ -176,7 +176,7 @@ year_is_written : (year : ℤ) → is_plain_year year ≡ true → has_four_digi
 year_is_written (pos year) h = (and_parts (nat_le 1601 year) (nat_le year 9999) h).1
 year_is_written (negsuc year) h = h
 
--- so the date of a plain moment is printed
+-- so a plain time is printed
 moment_is_written : (moment : Moment) → is_plain_moment moment ≡ true → ending_text (At moment) ≡ Some (date_text moment)
 moment_is_written moment h =
     let on_clock = and_parts _ (moment.nanosecond == 0) h in
@@ -184,7 +184,7 @@ moment_is_written moment h =
     let year = and_parts (is_plain_year moment.year) (is_day moment.year moment.month moment.day) on_calendar.0 in
     rw (year_is_written moment.year year.0)
 
--- the date is printed as a plain text
+-- a plain Expires is printed as a plain string
 pub ending_is_plain : (ending : Option Ending) → IfSome ending (λ e. is_plain_ending e ≡ true)
     → IfSome (option_and_then ending_text ending) IsPlainText
 ending_is_plain None plain = tt
@@ -192,7 +192,7 @@ ending_is_plain (Some (At moment)) plain =
     rw (moment_is_written moment plain) (plain_text (date_text moment) (date_is_plain moment plain))
 ending_is_plain (Some Session) plain = absurd (false≢true plain)
 
--- and read as that moment
+-- and parses as that Expires
 ending_read : (ending : Option Ending) → IfSome ending (λ e. is_plain_ending e ≡ true)
     → option_and_then (expires_from (codes "Expires")) (option_and_then ending_text ending) ≡ ending
 ending_read None plain = refl

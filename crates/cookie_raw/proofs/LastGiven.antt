@@ -1,4 +1,4 @@
--- One more attribute: it decides where it is accepted, else what the earlier ones gave stays.
+-- One more attribute: it counts if it is accepted, otherwise the earlier ones do.
 use Rattle.std.proofs.Common.{◌≡◌, ℕ, List, [], ◌∷◌, ◌++◌, map, Option, Some, None, refl, ap, ◌∙◌}
 use Rattle.std.specs.Borrow.{Bor}
 use Rattle.std.specs.List.{filter_map, cons_option}
@@ -12,12 +12,12 @@ last-push [] x = refl
 last-push (y ∷ []) x = refl
 last-push (y ∷ z ∷ zs) x = last-push (z ∷ zs) x
 
--- the last of a list that one item may go onto
+-- the last element after at most one more is appended
 last-cons_option : {T : Type 0} (xs : List T) (o : Option T) → last (xs ++ cons_option o []) ≡ option_or o (last xs)
 last-cons_option xs None = ap last (append-nil xs)
 last-cons_option xs (Some x) = last-push xs x
 
--- the attribute after these
+-- the last accepted attribute, with one more
 pub last_given-push : {T : Type 0} (from : List ℕ → List ℕ → Option T) (before : List (Bor (List ℕ))) (piece : Bor (List ℕ))
     → last_given from (map (λ x. x.now) (before ++ piece ∷ []))
     ≡ option_or (piece_gives from piece.now) (last_given from (map (λ x. x.now) before))

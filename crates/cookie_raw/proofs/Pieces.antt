@@ -1,4 +1,4 @@
--- The attributes of a text are the pieces of what follows its first `;`, which a loop goes over.
+-- The attributes are the pieces of what follows the first `;`.
 use Rattle.std.proofs.Common.{◌≡◌, ℕ, ◌<◌, List, [], true, length, drop, sym, ap, arith, lit<}
 use Rattle.std.specs.List.{after_first, position_or_len}
 use Rattle.std.specs.Str.Iter.{split_text, split_has_more, split_pattern, split_steps}
@@ -11,17 +11,17 @@ use Rattle.std.proofs.lemmas.List.Sums.{fails_before_first}
 use Rattle.cookie_words.specs.Texts.{pieces}
 use Rattle.cookie_raw.specs.Reading.{attributes, is_semicolon}
 
--- the attributes of a text that has a `;`
+-- the attributes of a string with a `;`
 pub attributes-after_first : (text : List ℕ) → position_or_len is_semicolon text < length text
     → pieces 59 (after_first is_semicolon text) ≡ attributes text
 attributes-after_first text has = sym (ap (drop 1) (slice_split_first is_semicolon text 0 has))
 
--- a text that has none has no attributes
+-- a string without `;` has no attributes
 pub attributes-none : (text : List ℕ) → position_or_len is_semicolon text ≡ length text → [] ≡ attributes text
 attributes-none text none =
     sym (ap (drop 1) (slice_split_none is_semicolon text (λ k d within. fails_before_first is_semicolon text k d (omega arith))))
 
--- the pieces that a loop over `text.split(';')` goes over
+-- the pieces that the loop over `text.split(';')` visits
 pub yields_pieces : {s : _} {i : _} (text : List ℕ)
     → split_text s ≡ text → split_has_more s ≡ true → split_pattern {P = ℕ} s ≡ 59 → i ≡ s
     → YieldsList (split_steps FindsChar (λ a b. b ≡ a)) (λ x. x.now) i (pieces 59 text)

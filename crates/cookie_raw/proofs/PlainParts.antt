@@ -1,4 +1,4 @@
--- What is known of the parts of a plain cookie.
+-- The properties of a plain cookie and its parts.
 use Rattle.std.proofs.Common.{◌≡◌, ℕ, Bool, true, false, not, ◌||◌, ◌==◌, List, [], ◌∷◌, length, codes, bytes_eq, nat_eq, eqb, cond, Option, Some, None, IfSome, IsTrue, refl, subst}
 use Rattle.std.specs.List.{list_any, starts_with}
 use Rattle.std.specs.Option.{unwrap_or}
@@ -11,12 +11,12 @@ use Rattle.cookie_raw.specs.PlainCookie.{if_there, is_plain_text, is_plain_name,
 use Rattle.cookie_raw.specs.Raw.{Raw}
 use Rattle.cookie_raw.specs.Reading.{is_equals, is_semicolon}
 
--- a text without `;` that is its own trim
+-- a string without `;` that trimming does not change
 pub record IsPlainText (text : List ℕ) : Type 0 where
   pub has_no_semicolon : list_any is_semicolon text ≡ false
   pub trimmed : trim text ≡ text
 
--- what the test of a text says
+-- `is_plain_text` implies it
 pub plain_text : (text : List ℕ) → is_plain_text text ≡ true → IsPlainText text
 unfolding is_plain_text
 plain_text text h =
@@ -26,13 +26,13 @@ plain_text text h =
       trimmed = (bytes_eq-Decides (trim text) text).0 parts.1;
     }
 
--- such a text that is not empty and has no `=`
+-- a plain string that is not empty and has no `=`
 pub record IsPlainName (name : List ℕ) : Type 0 where
   pub is_there : (length name == 0) ≡ false
   pub has_no_equals : list_any is_equals name ≡ false
   pub text : IsPlainText name
 
--- what the test of a name says
+-- `is_plain_name` implies it
 plain_name : (name : List ℕ) → is_plain_name name ≡ true → IsPlainName name
 unfolding is_plain_name
 plain_name name h =
@@ -44,25 +44,25 @@ plain_name name h =
       text = plain_text name parts.1;
     }
 
--- such a text that is not empty and has no leading dot
+-- a plain string that is not empty and has no leading dot
 pub record IsPlainDomain (domain : List ℕ) : Type 0 where
   pub is_there : (length domain == 0) ≡ false
   pub without_dot : without_dot domain ≡ domain
   pub text : IsPlainText domain
 
--- a first byte that is no dot stays
+-- a first byte other than a dot is kept
 first_stays : (b : ℕ) (bs : List ℕ) (is_dot : Bool) → eqb b 46 ≡ is_dot → starts_with nat_eq (b ∷ bs) (codes ".") ≡ false
     → cond is_dot bs (b ∷ bs) ≡ b ∷ bs
 first_stays b bs true e h =
     absurd (true≢false (subst (λ x. starts_with nat_eq (x ∷ bs) (codes ".") ≡ false) (eqb-true b 46 e) h))
 first_stays b bs false e h = refl
 
--- a text that does not start with a dot has none to lose
+-- a string without a leading dot is unchanged
 no_dot_lost : (domain : List ℕ) → starts_with nat_eq domain (codes ".") ≡ false → without_dot domain ≡ domain
 no_dot_lost [] h = refl
 no_dot_lost (b ∷ bs) h = first_stays b bs (eqb b 46) refl h
 
--- what the test of a domain says
+-- `is_plain_domain` implies it
 plain_domain : (domain : List ℕ) → is_plain_domain domain ≡ true → IsPlainDomain domain
 unfolding is_plain_domain
 plain_domain domain h =
@@ -74,13 +74,13 @@ plain_domain domain h =
       text = plain_text domain parts.1;
     }
 
--- what passes a test, if it is there, is known by what the test says
+-- a test of an optional part implies its property
 where_there : {T : Type 0} (test : T → Bool) (P : T → Type 0) (part : Option T) → ((x : T) → test x ≡ true → P x)
     → if_there test part ≡ true → IfSome part P
 where_there test P None says h = tt
 where_there test P (Some x) says h = says x h
 
--- what is known of a plain cookie
+-- the properties of a plain cookie
 pub record IsPlain (cookie : Raw) : Type 0 where
   pub name : IsPlainName cookie.name
   pub value : IsPlainText cookie.value
@@ -92,7 +92,7 @@ pub record IsPlain (cookie : Raw) : Type 0 where
   pub max_age : IfSome cookie.max_age (λ age. is_plain_age age ≡ true)
   pub expires : IfSome cookie.expires (λ ending. is_plain_ending ending ≡ true)
 
--- what the test of a cookie says
+-- `is_plain` implies them
 pub plain_cookie : (cookie : Raw) → IsTrue (is_plain cookie) → IsPlain cookie
 unfolding is_plain
 plain_cookie cookie h =

@@ -1,4 +1,4 @@
--- The attributes that the text of a cookie prints.
+-- The attributes that printing a cookie writes.
 use Rattle.std.proofs.Common.{◌≡◌, ℕ, Bool, true, false, List, [], ◌∷◌, ◌++◌, codes, Option, Some, None, IfSome, if◌then◌else◌, option_map, option_and_then, unwrap_or, refl, ap, ◌∙◌, append_assoc, append-nil}
 use Rattle.std.specs.List.{list_any}
 use Rattle.std.specs.Str.{trim, trim_start, trim_end, chars}
@@ -10,11 +10,11 @@ use Rattle.cookie_raw.specs.Reading.{is_equals, is_semicolon, value_of}
 use Rattle.cookie_raw.proofs.JoinedPieces.{Attribute, IsPiece, IsWellPrinted, behind_semicolon, joined, before_at, after_at, before_none}
 use Rattle.cookie_raw.proofs.PlainParts.{IsPlainText}
 
--- an attribute that has no value, where it is set
+-- an attribute without a value, if it is set
 abbrev pub flag_attribute : List ℕ → Bool → Attribute
 flag_attribute name is_set = record { name = name; piece = if is_set then Some (32 ∷ name) else None }
 
--- an attribute with its value, where it has one
+-- an attribute with its value, if there is one
 abbrev pub value_attribute : List ℕ → Option (List ℕ) → Attribute
 value_attribute name value = record { name = name; piece = option_map (λ v. 32 ∷ (name ++ 61 ∷ v)) value }
 
@@ -22,7 +22,7 @@ value_attribute name value = record { name = name; piece = option_map (λ v. 32 
 abbrev pub pair_text : Raw → List ℕ
 pair_text cookie = cookie.name ++ 61 ∷ cookie.value
 
--- the attributes of a cookie, in the order of its text
+-- the attributes of a cookie, in the order in which they are printed
 abbrev pub printed : Raw → List Attribute
 printed cookie =
     flag_attribute (codes "HttpOnly") (unwrap_or cookie.http_only false)
@@ -34,7 +34,7 @@ printed cookie =
     ∷ value_attribute (codes "Expires") (option_and_then ending_text cookie.expires)
     ∷ []
 
--- a flag is printed behind a `;`
+-- a flag is printed after a `;`
 flag_text : (name : List ℕ) (is_set : Bool) → flag (59 ∷ 32 ∷ name) is_set ≡ behind_semicolon (flag_attribute name is_set).piece
 flag_text name true = refl
 flag_text name false = refl
@@ -45,13 +45,13 @@ value_text : (name : List ℕ) (value : Option (List ℕ))
 value_text name None = refl
 value_text name (Some v) = ap (λ l. 59 ∷ 32 ∷ l) (append_assoc name (61 ∷ []) v)
 
--- seven texts behind a pair
+-- seven strings after a pair, regrouped
 regrouped : (name value a b c d e f g : List ℕ)
     → ((((((((name ++ 61 ∷ []) ++ value) ++ a) ++ b) ++ c) ++ d) ++ e) ++ f) ++ g
     ≡ (name ++ 61 ∷ value) ++ (a ++ (b ++ (c ++ (d ++ (e ++ (f ++ (g ++ [])))))))
 regrouped name value a b c d e f g = simp (append_assoc, append-nil)
 
--- the text of a cookie is its pair and these attributes
+-- a printed cookie is its pair and these attributes
 pub text_is_joined : (cookie : Raw) → cookie_text cookie ≡ pair_text cookie ++ joined (printed cookie)
 unfolding cookie_text
 text_is_joined cookie =
@@ -73,7 +73,7 @@ text_is_joined cookie =
       value_text (codes "Expires"),
     )
 
--- a name that is printed as it is read
+-- a name that is parsed as it is printed
 pub record IsLabel (name : List ℕ) : Type 0 where
   pub trimmed : trim (32 ∷ name) ≡ name
   pub has_no_equals : list_any is_equals name ≡ false
@@ -114,14 +114,14 @@ pub label-expires : IsLabel (codes "Expires")
 unfolding trim_start trim_end chars encode
 label-expires = record { trimmed = refl; has_no_equals = refl; has_no_semicolon = refl }
 
--- a flag says its name
+-- a printed flag has its name
 pub flag_is_piece : (name : List ℕ) → IsLabel name → IsPiece name (32 ∷ name)
 flag_is_piece name label = record {
   named = ap trim (before_none is_equals (32 ∷ name) label.has_no_equals) ∙ label.trimmed;
   has_no_semicolon = label.has_no_semicolon;
 }
 
--- an attribute with its value says its name
+-- a printed attribute with a value has its name
 pub value_is_piece : (name value : List ℕ) → IsLabel name → IsPlainText value → IsPiece name (32 ∷ (name ++ 61 ∷ value))
 value_is_piece name value label plain = record {
   named = ap trim (before_at is_equals (32 ∷ name) 61 value label.has_no_equals refl) ∙ label.trimmed;
@@ -133,7 +133,7 @@ pub value_of_piece : (name value : List ℕ) → IsLabel name → IsPlainText va
 value_of_piece name value label plain =
     ap trim (after_at is_equals (32 ∷ name) 61 value label.has_no_equals refl) ∙ plain.trimmed
 
--- a flag is well printed
+-- a flag is printed well
 pub flag_is_well_printed : (name : List ℕ) (is_set : Bool) → IsLabel name → IsWellPrinted (flag_attribute name is_set)
 flag_is_well_printed name true label = flag_is_piece name label
 flag_is_well_printed name false label = tt

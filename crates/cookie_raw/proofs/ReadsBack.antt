@@ -1,4 +1,4 @@
--- The text of a plain cookie reads as that cookie.
+-- A printed plain cookie parses as that cookie.
 use Rattle.std.proofs.Common.{◌≡◌, ℕ, true, false, ◌==◌, List, [], ◌∷◌, ◌++◌, length, codes, Option, Ok, IsTrue, option_map, option_and_then, unwrap_or, refl, sym, ap, subst, ◌∙◌}
 use Rattle.std.specs.List.{AllByRecursion, list_any}
 use Rattle.std.specs.Str.{trim}
@@ -13,7 +13,7 @@ use Rattle.cookie_raw.proofs.KindsBack.{TakesOnly, pieces_named, one_decides, ht
 use Rattle.cookie_raw.proofs.PlainParts.{IsPlain, plain_cookie}
 use Rattle.cookie_raw.proofs.PrintedAttributes.{pair_text, printed, text_is_joined, flag_is_well_printed, value_is_well_printed, label-http_only, label-same_site, label-secure, label-path, label-domain, label-max_age, label-expires}
 
--- the attributes of a plain cookie are well printed
+-- the attributes of a plain cookie are printed well
 well_printed : (cookie : Raw) → IsPlain cookie → AllByRecursion IsWellPrinted (printed cookie)
 well_printed cookie plain =
     let http_only = flag_is_well_printed (codes "HttpOnly") (unwrap_or cookie.http_only false) label-http_only in
@@ -30,14 +30,14 @@ well_printed cookie plain =
     let expires = value_is_well_printed (codes "Expires") date label-expires (ending_is_plain cookie.expires plain.expires) in
     (http_only, (same_site, (secure, (path, (domain, (max_age, (expires, tt)))))))
 
--- of the attributes of a plain cookie the one of a name decides for its kind
+-- of a plain cookie's attributes, the one of a name gives its kind the value
 decided : {T : Type 0} (cookie : Raw) → IsPlain cookie → (kind : List ℕ) (from : List ℕ → List ℕ → Option T) → TakesOnly kind from
     → (piece : Option (List ℕ)) → pieces_named kind (printed cookie) ≡ piece ∷ []
     → last_given from (present (printed cookie)) ≡ option_and_then (piece_gives from) piece
 decided cookie plain kind from only piece e =
     one_decides kind from only (printed cookie) (well_printed cookie plain) piece e
 
--- the parts of a cookie that attributes give
+-- the attributes give the parts of the cookie
 record GiveParts (cookie : Raw) (attributes : List (List ℕ)) : Type 0 where
   domain : option_map without_dot (last_given domain_from attributes) ≡ cookie.domain
   path : last_given path_from attributes ≡ cookie.path
@@ -47,7 +47,7 @@ record GiveParts (cookie : Raw) (attributes : List (List ℕ)) : Type 0 where
   max_age : last_given max_age_from attributes ≡ cookie.max_age
   expires : last_given expires_from attributes ≡ cookie.expires
 
--- the attributes that a plain cookie prints give its parts
+-- the printed attributes of a plain cookie give its parts
 parts_back : (cookie : Raw) → IsPlain cookie → GiveParts cookie (present (printed cookie))
 parts_back cookie plain = record {
   domain =
@@ -83,17 +83,17 @@ pair_has_equals : (cookie : Raw) → IsPlain cookie → has_equals (pair_text co
 pair_has_equals cookie plain =
     rw (list_any-append is_equals cookie.name (61 ∷ cookie.value), plain.name.has_no_equals)
 
--- the name stands before it
+-- the name precedes it
 name_of_pair : (cookie : Raw) → IsPlain cookie → name_of (pair_text cookie) ≡ cookie.name
 name_of_pair cookie plain =
     ap trim (before_at is_equals cookie.name 61 cookie.value plain.name.has_no_equals refl) ∙ plain.name.text.trimmed
 
--- the value stands after it
+-- the value follows it
 value_of_pair : (cookie : Raw) → IsPlain cookie → value_of (pair_text cookie) ≡ cookie.value
 value_of_pair cookie plain =
     ap trim (after_at is_equals cookie.name 61 cookie.value plain.name.has_no_equals refl) ∙ plain.value.trimmed
 
--- a text with the pair and the parts of a cookie reads as that cookie
+-- a string with the pair and the attributes of a cookie parses as that cookie
 assembled : (text : List ℕ) (cookie : Raw) → has_equals (pair_of text) ≡ true → (length cookie.name == 0) ≡ false
     → name_of (pair_of text) ≡ cookie.name → value_of (pair_of text) ≡ cookie.value → GiveParts cookie (attributes text)
     → reading text ≡ Ok cookie
@@ -111,7 +111,7 @@ assembled text cookie pair there name value parts = rw (
   parts.expires,
 )
 
--- the pair and the printed attributes of a plain cookie, joined, read as that cookie
+-- the joined pair and attributes of a plain cookie parse as that cookie
 joined_reads : (cookie : Raw) (text : List ℕ) → IsPlain cookie → text ≡ pair_text cookie ++ joined (printed cookie)
     → reading text ≡ Ok cookie
 joined_reads cookie text plain e =
@@ -123,6 +123,6 @@ joined_reads cookie text plain e =
     (ap value_of pair ∙ value_of_pair cookie plain)
     (subst (GiveParts cookie) (sym (ap attributes e ∙ pieces_are)) (parts_back cookie plain))
 
--- the text of a plain cookie reads as that cookie
+-- a printed plain cookie parses as that cookie
 pub plain_reads_back : (cookie : Raw) → IsTrue (is_plain cookie) → reading (cookie_text cookie) ≡ Ok cookie
 plain_reads_back cookie h = joined_reads cookie (cookie_text cookie) (plain_cookie cookie h) (text_is_joined cookie)

@@ -1,15 +1,15 @@
--- The name and the value of a piece without `=`.
+-- The name and the value of an attribute without `=`.
 use Rattle.std.proofs.Common.{◌≡◌, ℕ, ◌+◌, false, List, [], drop, length, refl, ap, ◌∙◌, arith}
 use Rattle.std.specs.Str.{trim, trim_start, trim_end, chars}
 use Rattle.std.proofs.lemmas.List.{drop_all}
 use Rattle.cookie_raw.specs.Reading.{is_equals, has_equals, name_of, value_of}
 use Rattle.cookie_raw.proofs.JoinedPieces.{before_none, no_place}
 
--- the name is all of it
+-- the name is all of it, trimmed
 pub whole_name : (piece : List ℕ) → has_equals piece ≡ false → name_of piece ≡ trim piece
 whole_name piece e = ap trim (before_none is_equals piece e)
 
--- nothing is its own trim
+-- trimming an empty string gives an empty string
 trim-nil : trim [] ≡ []
 unfolding trim_start trim_end chars
 trim-nil = refl

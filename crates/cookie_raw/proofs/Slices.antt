@@ -1,4 +1,4 @@
--- What is read from a text stands in it as it is.
+-- The parts of a parsed cookie are slices of the header value.
 use Rattle.std.proofs.Common.{◌≡◌, ℕ, Bool, true, false, List, [], ◌∷◌, length, Option, Some, None, refl, sym, ap, subst, arith, lit<}
 use Rattle.std.specs.Prelude.{◌==◌, if◌then◌else◌}
 use Rattle.std.specs.List.{AllByRecursion, before_first, after_first, filter_map, cons_option}
@@ -12,14 +12,14 @@ use Rattle.cookie_words.specs.Texts.{without_dot}
 use Rattle.cookie_raw.specs.Reading.{is_equals, pair_of, attributes, name_of, value_of, last, last_given, piece_gives, domain_from, path_from}
 use Rattle.cookie_raw.proofs.Parts.{IsPart, itself_is_slice, slice_of_slice, before_is_part, after_is_part, pieces_are_parts, trim_is_part}
 
--- the name that a part of a text gives
+-- the name of a part of a string
 name_is_slice : (text part : List ℕ) → IsPart text part → HasSubslice text (name_of part)
 name_is_slice text part h =
     let before = before_is_part 61 part (lit< tt) h.utf8 in
     let trimmed = trim_is_part (before_first is_equals part) before.utf8 in
     slice_of_slice text part (name_of part) h.slice (slice_of_slice part (before_first is_equals part) (name_of part) before.slice trimmed.slice)
 
--- the value that it gives
+-- its value
 value_is_slice : (text part : List ℕ) → IsPart text part → HasSubslice text (value_of part)
 value_is_slice text part h =
     let after = after_is_part 61 part (lit< tt) h.utf8 in
@@ -34,27 +34,27 @@ pair_name_is_slice text utf8 = name_is_slice text (pair_of text) (before_is_part
 pub pair_value_is_slice : (text : List ℕ) → IsUtf8 text → HasSubslice text (value_of (pair_of text))
 pair_value_is_slice text utf8 = value_is_slice text (pair_of text) (before_is_part 59 text (lit< tt) utf8)
 
--- where an attribute is accepted, it gives its value
+-- an accepted attribute gives its value
 abbrev GivesValue : (List ℕ → List ℕ → Option (List ℕ)) → Type 0
 GivesValue from = (name value : List ℕ) → IfSome (from name value) (λ given. given ≡ value)
 
--- a value that is given under a test
+-- the value given if a test holds
 given_under : (is_accepted : Bool) (value : List ℕ) → IfSome (if is_accepted then Some value else None) (λ given. given ≡ value)
 given_under true value = refl
 given_under false value = tt
 
--- what is given, if it is that slice
+-- the value given, if it is that slice
 slice_where_given : (text value : List ℕ) (given : Option (List ℕ)) → HasSubslice text value → IfSome given (λ v. v ≡ value) → IfSome given (HasSubslice text)
 slice_where_given text value None h e = tt
 slice_where_given text value (Some v) h e = subst (HasSubslice text) (sym e) h
 
--- one slice more, if there is one
+-- one more slice, if there is one
 onto_slices : (text : List ℕ) (given : Option (List ℕ)) (more : List (List ℕ)) → IfSome given (HasSubslice text)
     → AllByRecursion (HasSubslice text) more → AllByRecursion (HasSubslice text) (cons_option given more)
 onto_slices text None more h rest = rest
 onto_slices text (Some v) more h rest = (h, rest)
 
--- what the parts of a text give
+-- the values that the parts of a string give
 given_are_slices : (text : List ℕ) (from : List ℕ → List ℕ → Option (List ℕ)) (parts : List (List ℕ)) → GivesValue from
     → AllByRecursion (IsPart text) parts → AllByRecursion (HasSubslice text) (filter_map (piece_gives from) parts)
 given_are_slices text from [] gives h = tt
@@ -63,13 +63,13 @@ given_are_slices text from (part ∷ parts) gives h =
     (slice_where_given text (value_of part) (piece_gives from part) (value_is_slice text part h.0) (gives (name_of part) (value_of part)))
     (given_are_slices text from parts gives h.1)
 
--- the last of the slices
+-- the last of a list of slices
 last_is_slice : (text : List ℕ) (xs : List (List ℕ)) → AllByRecursion (HasSubslice text) xs → IfSome (last xs) (HasSubslice text)
 last_is_slice text [] h = tt
 last_is_slice text (x ∷ []) h = h.0
 last_is_slice text (x ∷ y ∷ ys) h = last_is_slice text (y ∷ ys) h.1
 
--- what the last accepted attribute gives
+-- the value of the last accepted attribute
 last_given_is_slice : (text : List ℕ) (from : List ℕ → List ℕ → Option (List ℕ)) → GivesValue from → IsUtf8 text
     → IfSome (last_given from (attributes text)) (HasSubslice text)
 last_given_is_slice text from gives utf8 =
@@ -77,29 +77,29 @@ last_given_is_slice text from gives utf8 =
     last_is_slice text (filter_map (piece_gives from) (attributes text))
     (given_are_slices text from (attributes text) gives (recursion_from_All (IsPart text) (attributes text) parts))
 
--- a text with its first byte left out or not
+-- a string with or without its first byte
 dropped_under : (b : ℕ) (bs : List ℕ) (is_dot : Bool) → HasSubslice (b ∷ bs) (if is_dot then bs else b ∷ bs)
 dropped_under b bs true = (b ∷ [], [], ap (λ l. b ∷ l) (sym (append-nil bs)))
 dropped_under b bs false = itself_is_slice (b ∷ bs)
 
--- a text without one leading dot
+-- a string without one leading dot
 without_dot_is_slice : (xs : List ℕ) → HasSubslice xs (without_dot xs)
 without_dot_is_slice [] = itself_is_slice []
 without_dot_is_slice (b ∷ bs) = dropped_under b bs (b == 46)
 
--- the same of a slice, if there is one
+-- the same for an optional slice
 slice_without_dot : (text : List ℕ) (domain : Option (List ℕ)) → IfSome domain (HasSubslice text)
     → IfSome (option_map without_dot domain) (HasSubslice text)
 slice_without_dot text None h = tt
 slice_without_dot text (Some d) h = slice_of_slice text d (without_dot d) h (without_dot_is_slice d)
 
--- its Domain
+-- the Domain attribute
 pub domain_is_slice : (text : List ℕ) → IsUtf8 text
     → IfSome (option_map without_dot (last_given domain_from (attributes text))) (HasSubslice text)
 domain_is_slice text utf8 =
     slice_without_dot text (last_given domain_from (attributes text))
     (last_given_is_slice text domain_from (λ name value. given_under _ value) utf8)
 
--- its Path
+-- the Path attribute
 pub path_is_slice : (text : List ℕ) → IsUtf8 text → IfSome (last_given path_from (attributes text)) (HasSubslice text)
 path_is_slice text utf8 = last_given_is_slice text path_from (λ name value. given_under _ value) utf8

@@ -1,4 +1,4 @@
--- Writes to a formatter with options, one after the other.
+-- Successive writes to a formatter with options.
 use Rattle.std.proofs.Common.{◌≡◌, ℕ, List, [], ◌∷◌, ◌++◌, Result, ◌∙◌, refl, sym, ap, subst}
 use Rattle.std.proofs.lemmas.List.{append_assoc}
 use Rattle.std.specs.List.{concat, FoldsTo}
@@ -29,7 +29,7 @@ module _ {W : Type 0} (took : W → List ℕ → W → Type 0) where
   of_eq : (f : Formatter W) (a b : List ℕ) (g : Formatter W) → a ≡ b → HasWrittenStyled took f a g → HasWrittenStyled took f b g
   of_eq f a b g e = subst (λ (l : List ℕ). HasWrittenStyled took f l g) e
 
-  -- two to six writes are one
+  -- two to six writes in a row
   pub styled_two : (f g h : Formatter W) (a b all : List ℕ) → HasWrittenStyled took f a g → HasWrittenStyled took g b h → a ++ b ≡ all → HasWrittenStyled took f all h
   styled_two f g h a b all p1 p2 is = of_eq _ _ all _ is (both_written _ _ _ _ _ p1 p2)
 
@@ -42,7 +42,7 @@ module _ {W : Type 0} (took : W → List ℕ → W → Type 0) where
   pub styled_six : (f g h i j k l : Formatter W) (a b c d e x all : List ℕ) → HasWrittenStyled took f a g → HasWrittenStyled took g b h → HasWrittenStyled took h c i → HasWrittenStyled took i d j → HasWrittenStyled took j e k → HasWrittenStyled took k x l → a ++ (b ++ (c ++ (d ++ (e ++ x)))) ≡ all → HasWrittenStyled took f all l
   styled_six f g h i j k l a b c d e x all p1 p2 p3 p4 p5 p6 is = of_eq _ _ all _ is (both_written _ _ _ _ _ p1 (both_written _ _ _ _ _ p2 (both_written _ _ _ _ _ p3 (both_written _ _ _ _ _ p4 (both_written _ _ _ _ _ p5 p6)))))
 
--- what is written under any options is written under none
+-- what is written under any options is written without options
 pub plain_from_styled : {W : Type 0} (took : W → List ℕ → W → Type 0) (f : Formatter W) (r : Result (Unit {0}) Error) (bs : List ℕ) (g : Formatter W) → WritesStyledOnOk took f r bs g → WritesOnOk took f r bs g
 plain_from_styled took f r bs g styled plain ok =
     let written : HasWrittenStyled took f bs g = styled plain.flush ok in

@@ -1,4 +1,4 @@
--- The text of a raw cookie: the value of a Set-Cookie header, RFC 6265 4.1.1.
+-- A raw cookie as a Set-Cookie header value, RFC 6265 4.1.1.
 use Rattle.std.specs.Prelude.{◌≡◌, ℕ, ◌+◌, ◌/◌, ◌%◌, ◌-◌, Bool, true, false, List, [], ◌∷◌, ◌++◌, codes, get_or, nat_le, ℤ, pos, negsuc, int_div, unsigned_abs, Option, Some, None, option_map, option_and_then, unwrap_or, Result, IsOk, if◌then◌else◌}
 use Rattle.std.specs.Fmt.{signed_decimal}
 use Rattle.jiff_core.specs.Calendar.{days_from_civil, weekday_number}
@@ -8,12 +8,13 @@ use Rattle.cookie_raw.specs.Raw.{Raw, Ending, At, Session}
 use Rattle.cookie_raw.specs.declared.same_site.SameSite.{SameSite}
 use Rattle.cookie_raw.specs.declared.same_site.SameSite.TheVariants as same_site
 
+-- the value of a SameSite attribute
 abbrev pub site_text : SameSite → List ℕ
 site_text same_site.Strict = codes "Strict"
 site_text same_site.Lax = codes "Lax"
 site_text same_site.None = codes "None"
 
--- the cookie says that it is for other sites too
+-- SameSite is `None`
 abbrev pub is_for_all_sites : Option SameSite → Bool
 is_for_all_sites (Some same_site.None) = true
 is_for_all_sites other = false
@@ -31,7 +32,7 @@ abbrev pub day_names : List (List ℕ)
 day_names =
     codes "Mon" ∷ codes "Tue" ∷ codes "Wed" ∷ codes "Thu" ∷ codes "Fri" ∷ codes "Sat" ∷ codes "Sun" ∷ []
 
--- `Tue, 03 Aug 2100 00:38:37 GMT`, RFC 1123's form of a date
+-- `Tue, 03 Aug 2100 00:38:37 GMT`, the date format of RFC 1123
 unfoldable pub date_text : Moment → List ℕ
 date_text moment =
     get_or day_names (weekday_number (days_from_civil moment.year moment.month moment.day)) []
@@ -43,34 +44,34 @@ date_text moment =
     ++ codes ":" ++ two_digits moment.second
     ++ codes " GMT"
 
--- a year that four digits can write
+-- the year has at most four digits and is not negative
 abbrev pub has_four_digits : ℤ → Bool
 has_four_digits (pos year) = nat_le year 9999
 has_four_digits (negsuc year) = false
 
--- the date of an end, if it is at a moment whose year can be written
+-- the value of Expires, if it is a time whose year has four digits
 abbrev pub ending_text : Ending → Option (List ℕ)
 ending_text (At moment) = if has_four_digits moment.year then Some (date_text moment) else None
 ending_text Session = None
 
--- an age in whole seconds, the fraction cut off
+-- a Max-Age in whole seconds, the fraction cut off
 abbrev pub age_text : ℤ → List ℕ
 age_text nanoseconds = signed_decimal (int_div nanoseconds (pos 1_000_000_000))
 
--- an attribute that has no value, where it is set
+-- an attribute without a value, if it is set
 abbrev pub flag : List ℕ → Bool → List ℕ
 flag label is_set = if is_set then label else []
 
--- an attribute with its value, where it has one
+-- an attribute with its value, if there is one
 abbrev pub optional : List ℕ → Option (List ℕ) → List ℕ
 optional label None = []
 optional label (Some value) = label ++ value
 
--- a call that has nothing to write is Ok, and leaves the formatter
+-- if there is nothing to write, the result is Ok and the formatter unchanged
 abbrev pub WritesNothing : {F E : Type 0} → F → Result (Unit {0}) E → F → Type 0
 WritesNothing f result g = IsOk result × (g ≡ f)
 
--- the name and the value, then each attribute that there is; a cookie for all sites is Secure, unless it says that it is not
+-- name and value, then the attributes; with `SameSite=None` Secure is printed unless it is set to false
 unfoldable pub cookie_text : Raw → List ℕ
 cookie_text cookie =
     cookie.name ++ codes "=" ++ cookie.value

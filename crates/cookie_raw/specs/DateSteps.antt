@@ -2,7 +2,7 @@
 use Rattle.std.specs.Prelude.{ℕ, ◌&&◌, List, is_none, is_some, if◌then◌else◌}
 use Rattle.cookie_raw.specs.CookieDate.{DateParts, time_of, day_of, month_of, year_of}
 
--- the parts with what one more token says, which gives the first part that is not there yet and whose form it has
+-- one more token sets the first part that is still missing and whose form it has, if there is one
 abbrev pub with_token : DateParts → List ℕ → DateParts
 with_token parts token =
     if is_none parts.time && is_some (time_of token) then record parts { time = time_of token }

@@ -1,4 +1,4 @@
--- Raw cookies that their own text says again.
+-- Raw cookies that survive printing and parsing.
 use Rattle.std.specs.Prelude.{ℕ, ◌/◌, ◌%◌, ◌==◌, Bool, true, false, not, ◌&&◌, ◌||◌, List, length, codes, nat_eq, nat_le, bytes_eq, ℤ, pos, negsuc, Option, Some, None, unwrap_or}
 use Rattle.std.specs.List.{list_any, starts_with}
 use Rattle.std.specs.Str.{trim}
@@ -7,46 +7,47 @@ use Rattle.cookie_raw.specs.CookieText.{is_for_all_sites}
 use Rattle.cookie_raw.specs.Raw.{Raw, Ending, At, Session}
 use Rattle.cookie_raw.specs.Reading.{is_equals, is_semicolon}
 
--- the part is not there, or passes the test
+-- the part is absent or passes the test
 abbrev pub if_there : {T : Type 0} → (T → Bool) → Option T → Bool
 if_there test None = true
 if_there test (Some part) = test part
 
--- no `;`, and no white space at its ends
+-- has no `;`, and no white space at either end
 unfoldable pub is_plain_text : List ℕ → Bool
 is_plain_text text = not (list_any is_semicolon text) && bytes_eq (trim text) text
 
--- and neither empty nor with a `=`
+-- besides, is not empty and has no `=`
 unfoldable pub is_plain_name : List ℕ → Bool
 is_plain_name name = not (length name == 0) && not (list_any is_equals name) && is_plain_text name
 
--- and neither empty nor with a leading dot
+-- besides, is not empty and has no leading dot
 unfoldable pub is_plain_domain : List ℕ → Bool
 is_plain_domain domain =
     not (length domain == 0) && not (starts_with nat_eq domain (codes ".")) && is_plain_text domain
 
--- whole seconds from 0 on, as many as 63 bits hold
+-- whole seconds from 0 to 2^63 - 1
 abbrev pub is_plain_age : ℤ → Bool
 is_plain_age (pos nanoseconds) =
     (nanoseconds % 1_000_000_000 == 0) && nat_le (nanoseconds / 1_000_000_000) 9_223_372_036_854_775_807
 is_plain_age (negsuc _) = false
 
--- a year that a cookie-date may have
+-- 1601 to 9999
 abbrev pub is_plain_year : ℤ → Bool
 is_plain_year (pos year) = is_within 1601 9999 year
 is_plain_year (negsuc _) = false
 
--- a moment of such a year, on the calendar, in whole seconds
+-- an existing time in whole seconds, in such a year
 abbrev pub is_plain_moment : Moment → Bool
 is_plain_moment moment =
     is_plain_year moment.year && is_day moment.year moment.month moment.day
     && is_time moment.hour moment.minute moment.second && (moment.nanosecond == 0)
 
+-- an Expires attribute that prints as a time and parses as the same time
 abbrev pub is_plain_ending : Ending → Bool
 is_plain_ending (At moment) = is_plain_moment moment
 is_plain_ending Session = false
 
--- flags that are set or left open, parts that their text keeps, and Secure where the cookie is for all sites
+-- all parts are plain, no flag is set to false, and Secure is set if SameSite is `None`
 unfoldable pub is_plain : Raw → Bool
 is_plain cookie =
     is_plain_name cookie.name && is_plain_text cookie.value

@@ -1,20 +1,20 @@
--- What contracts see of a raw cookie: the answers of its accessors.
+-- What contracts see of a raw cookie: what its accessors return.
 use Rattle.std.specs.Prelude.{ℕ, ℤ, Bool, List, Option, None}
 use Rattle.cookie_words.specs.Moments.{Moment}
 use Rattle.cookie_raw.specs.declared.same_site.SameSite.{SameSite}
 
--- when a cookie says that it ends: at a moment, or with the session
+-- the Expires attribute: a time, or the end of the session
 pub data Ending : Type 0 where
   At : Moment → Ending
   Session : Ending
 
--- None where no attribute gave the part
+-- None if the attribute is absent
 pub record Raw : Type 0 where
   pub name : List ℕ
   pub value : List ℕ
   -- without one leading dot
   pub domain : Option (List ℕ)
-  -- as written, also where it does not begin with `/`
+  -- as written, even if it does not begin with `/`
   pub path : Option (List ℕ)
   pub secure : Option Bool
   pub http_only : Option Bool
@@ -23,7 +23,7 @@ pub record Raw : Type 0 where
   pub max_age : Option ℤ
   pub expires : Option Ending
 
--- a cookie of a name and a value alone
+-- a cookie with a name and a value, and no attributes
 abbrev pub pair : List ℕ → List ℕ → Raw
 pair name value = record {
   name = name;

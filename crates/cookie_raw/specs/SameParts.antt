@@ -1,4 +1,4 @@
--- Equality of raw cookies: that of the answers of all their accessors.
+-- Equality of raw cookies: all their accessors return equal values.
 use Rattle.std.specs.Prelude.{ℕ, Bool, ◌&&◌, List, nat_eq, ℤ, Option, Some, None}
 use Rattle.std.specs.Bool.{beq}
 use Rattle.std.specs.Cmp.{IsEquivalence, IsPartialEquivalence, and_equiv, on_equiv, int_eq_equiv, bool_eq_equiv, partial_equiv_from_equiv}
@@ -13,26 +13,26 @@ use Rattle.cookie_raw.specs.declared.same_site.SameSite.{SameSite}
 abbrev same_text : List ℕ → List ℕ → Bool
 same_text = pointwise nat_eq
 
--- the same kind
+-- the same value of SameSite
 abbrev pub same_site : SameSite → SameSite → Bool
 same_site = on site_text same_text
 
--- the moment of an end on the scale of nanoseconds, if it is at one
+-- the time of Expires in nanoseconds, if it is one
 abbrev pub end_on_scale : Ending → Option ℤ
 end_on_scale (At moment) = Some (nanoseconds moment)
 end_on_scale Session = None
 
--- both at the same moment, or both with the session
+-- both the same time, or both the end of the session
 abbrev pub same_ending : Ending → Ending → Bool
 same_ending = on end_on_scale (option_eq int_eq)
 
--- the same texts
+-- the same name, value, domain and path
 abbrev pub same_texts : Raw → Raw → Bool
 same_texts a b =
     same_text a.name b.name && (same_text a.value b.value
     && (option_eq same_text a.domain b.domain && option_eq same_text a.path b.path))
 
--- the same attributes of other kinds
+-- the same other attributes
 abbrev pub same_attributes : Raw → Raw → Bool
 same_attributes a b =
     option_eq beq a.secure b.secure && (option_eq beq a.http_only b.http_only
@@ -61,5 +61,6 @@ same_attributes_equiv =
 pub same_parts_equiv : IsEquivalence same_parts
 same_parts_equiv = and_equiv same_texts_equiv same_attributes_equiv
 
+-- it is a partial equivalence, as the trait of `==` asks
 pub same_parts_per : IsPartialEquivalence same_parts
 same_parts_per = partial_equiv_from_equiv same_parts_equiv

@@ -1,4 +1,4 @@
--- What contracts see of an `Expiration`, which holds a moment of `jiff`, and of a stored Max-Age.
+-- What contracts see of an `Expiration`, which holds a `DateTime` of `jiff`, and of a stored Max-Age.
 use Rattle.std.specs.Prelude.{ℤ, pos, ◌+ℤ◌, ◌*ℤ◌, Option, option_map}
 use Rattle.cookie_words.specs.Moments.{moment_of}
 use Rattle.cookie_raw.specs.Raw.{Ending, At, Session}
@@ -6,6 +6,7 @@ use Rattle.cookie_raw.specs.declared.expiration.Expiration.{Expiration}
 use Rattle.cookie_raw.specs.declared.expiration.Expiration.TheVariants as expiration
 use Rattle.cookie_raw.specs.declared.max_age.MaxAge.{MaxAge}
 
+-- an `Expiration` as contracts see it
 abbrev pub ending : Expiration → Ending
 ending (expiration.DateTime moment) = At (moment_of moment)
 ending expiration.Session = Session

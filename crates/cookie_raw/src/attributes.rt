@@ -1,4 +1,4 @@
-//! The attributes of a Set-Cookie text, RFC 6265 5.2.
+//! The attributes of a Set-Cookie header value, RFC 6265 5.2.
 ghost use Rattle.std.specs.Prelude.{◌≡◌, ◌<◌, min, length, pos, Some, None, true, option_map, IsTrue, if◌then◌else◌};
 ghost use Rattle.std.specs.Char.{is_ascii_digit};
 ghost use Rattle.std.specs.List.{list_all};
@@ -12,7 +12,7 @@ use crate::raw_cookie::name_and_value;
 use crate::{Expiration, SameSite, read_date};
 use jiff::SignedDuration;
 
-/// What the attributes of a text have given so far, the texts each a part of that text.
+/// The attributes parsed so far. Strings are borrowed from the header value.
 #[derive(Clone, Copy, Default)]
 pub(crate) struct Attributes<'a> {
     pub(crate) domain: Option<&'a str>,
@@ -24,7 +24,7 @@ pub(crate) struct Attributes<'a> {
     pub(crate) expires: Option<Expiration>,
 }
 
-// The name and the value of an attribute, where without a `=` the value is empty.
+// Splits an attribute at its first `=` and trims both sides. Without a `=` the value is empty.
 #[tactic(auto, using(crate::proofs::Sides::whole_name, crate::proofs::Sides::no_value))]
 fn attribute_name_and_value(piece: &str) -> (&str, &str)
     ensures name { result.0.now ≡ name_of piece.now }
@@ -36,6 +36,7 @@ fn attribute_name_and_value(piece: &str) -> (&str, &str)
     }
 }
 
+// Returns the value of a Domain attribute, unless it is empty.
 fn read_domain<'a>(name: &str, value: &'a str) -> Option<&'a str>
     ensures { option_copied result ≡ domain_from name.now value.now }
 {
@@ -46,6 +47,7 @@ fn read_domain<'a>(name: &str, value: &'a str) -> Option<&'a str>
     }
 }
 
+// Returns the value of a Path attribute.
 fn read_path<'a>(name: &str, value: &'a str) -> Option<&'a str>
     ensures { option_copied result ≡ path_from name.now value.now }
 {
@@ -56,7 +58,7 @@ fn read_path<'a>(name: &str, value: &'a str) -> Option<&'a str>
     }
 }
 
-// A flag, which an attribute of that name sets, whatever its value.
+// Returns `Some(true)` if the attribute is named `flag`, whatever its value.
 fn read_flag(flag: &str, name: &str) -> Option<bool>
     ensures { result ≡ (if is_named flag.now name.now then Some true else None) }
 {
@@ -67,6 +69,7 @@ fn read_flag(flag: &str, name: &str) -> Option<bool>
     }
 }
 
+// Parses the value of SameSite, ignoring case.
 #[tactic(auto, unfolding(crate::specs::Reading::site_of))]
 fn site(value: &str) -> Option<SameSite>
     ensures { result ≡ site_of value.now }
@@ -82,6 +85,7 @@ fn site(value: &str) -> Option<SameSite>
     }
 }
 
+// Returns the value of a SameSite attribute, if it is known.
 fn read_same_site(name: &str, value: &str) -> Option<SameSite>
     ensures { result ≡ same_site_from name.now value.now }
 {
@@ -92,14 +96,14 @@ fn read_same_site(name: &str, value: &str) -> Option<SameSite>
     }
 }
 
-// Whether the text is digits alone, or empty.
+// Whether all bytes are ASCII digits.
 fn is_digits(text: &str) -> bool
     ensures { result ≡ list_all is_ascii_digit text.now }
 {
     text.as_bytes().iter().all(|byte| byte.is_ascii_digit())
 }
 
-// The seconds that digits say, or as many as there are.
+// Parses a number of seconds, at most `i64::MAX`.
 fn seconds(digits: &str) -> i64
     requires several { 0 < length digits.now }
     requires digits { IsTrue (list_all is_ascii_digit digits.now) }
@@ -108,6 +112,7 @@ fn seconds(digits: &str) -> i64
     digits.parse().unwrap_or(i64::MAX)
 }
 
+// Parses the value of Max-Age. A negative one is 0.
 fn age(value: &str) -> Option<SignedDuration>
     ensures { option_map signed_nanos result ≡ age_of value.now }
 {
@@ -129,6 +134,7 @@ fn age(value: &str) -> Option<SignedDuration>
     }
 }
 
+// Returns the value of a Max-Age attribute, if it is well formed.
 fn read_max_age(name: &str, value: &str) -> Option<SignedDuration>
     ensures { option_map signed_nanos result ≡ max_age_from name.now value.now }
 {
@@ -139,6 +145,7 @@ fn read_max_age(name: &str, value: &str) -> Option<SignedDuration>
     }
 }
 
+// Returns the value of an Expires attribute, if it is a cookie-date.
 fn read_expires(name: &str, value: &str) -> Option<Expiration>
     ensures { option_map ending result ≡ expires_from name.now value.now }
 {
@@ -150,7 +157,9 @@ fn read_expires(name: &str, value: &str) -> Option<Expiration>
 }
 
 impl<'a> Attributes<'a> {
-    /// The attributes of what follows the first `;` of a Set-Cookie text, if there is one.
+    /// Parses the attributes in `rest`, which follows the first `;` of a Set-Cookie header value.
+    ///
+    /// If attributes of one name are repeated, the last one with an accepted value counts.
     pub(crate) fn of(rest: Option<&'a str>) -> Attributes<'a>
         ensures domain { option_copied result.domain ≡ last_given domain_from (attributes_after (option_copied rest.entry)) }
         ensures path { option_copied result.path ≡ last_given path_from (attributes_after (option_copied rest.entry)) }
@@ -170,6 +179,7 @@ impl<'a> Attributes<'a> {
         found
     }
 
+    // Adds one attribute, if it is known and its value accepted.
     fn take(&mut self, piece: &'a str)
         ensures domain { option_copied self.new.domain
             ≡ option_or (piece_gives domain_from piece.now) (option_copied self.old.domain) }

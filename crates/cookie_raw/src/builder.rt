@@ -1,4 +1,4 @@
-//! Raw cookies made part by part.
+//! Building raw cookies.
 ghost use Rattle.std.specs.Prelude.{◌≡◌, Some, string_bytes};
 ghost use Rattle.cookie_words.specs.Texts.{without_dot};
 ghost use Rattle.jiff.specs.Words.{signed_nanos};
@@ -11,7 +11,10 @@ use jiff::SignedDuration;
 use std::borrow::CowStr;
 use std::marker::Model;
 
-/// Makes a raw cookie of its parts, as given and untested: [`RawCookie::is_plain`] says whether its text reads back.
+/// A builder of raw cookies.
+///
+/// The parts are not validated. If [`RawCookie::is_plain`] returns true for the cookie, printing it
+/// and parsing the result gives an equal cookie.
 #[derive(Drop)]
 pub struct RawCookieBuilder {
     cookie: RawCookie<'static>,
@@ -26,7 +29,7 @@ impl Model for RawCookieBuilder {
 }
 
 impl RawCookieBuilder {
-    /// A name and a value, and nothing else yet.
+    /// Begins a cookie with a name and a value, and no attributes.
     pub fn new(name: String, value: String) -> RawCookieBuilder
         ensures { result ≡ pair (string_bytes name) (string_bytes value) }
     {
@@ -45,7 +48,7 @@ impl RawCookieBuilder {
         }
     }
 
-    /// All parts of a cookie that is there, of which those that are set next change.
+    /// Begins with all parts of `cookie`.
     pub fn from_cookie(cookie: RawCookie<'static>) -> RawCookieBuilder
         ensures { result ≡ cookie.entry }
     {
@@ -64,7 +67,7 @@ impl RawCookieBuilder {
         RawCookieBuilder { cookie }
     }
 
-    /// Sets Expires.
+    /// Sets the Expires attribute.
     pub fn expires(self, expires: Expiration) -> RawCookieBuilder
         ensures { result ≡ record self { expires = Some (ending expires) } }
     {
@@ -75,7 +78,7 @@ impl RawCookieBuilder {
         RawCookieBuilder { cookie }
     }
 
-    /// Sets Max-Age.
+    /// Sets the Max-Age attribute.
     pub fn max_age(self, max_age: SignedDuration) -> RawCookieBuilder
         ensures { result ≡ record self { max_age = Some (signed_nanos max_age) } }
     {
@@ -86,7 +89,7 @@ impl RawCookieBuilder {
         RawCookieBuilder { cookie }
     }
 
-    /// Sets Path.
+    /// Sets the Path attribute.
     pub fn path(self, path: String) -> RawCookieBuilder
         ensures { result ≡ record self { path = Some (string_bytes path) } }
     {
@@ -97,7 +100,7 @@ impl RawCookieBuilder {
         RawCookieBuilder { cookie }
     }
 
-    /// Sets Domain, of which one leading dot does not count.
+    /// Sets the Domain attribute. One leading dot is ignored.
     pub fn domain(self, domain: String) -> RawCookieBuilder
         ensures { result ≡ record self { domain = Some (without_dot (string_bytes domain)) } }
     {
@@ -108,7 +111,9 @@ impl RawCookieBuilder {
         RawCookieBuilder { cookie }
     }
 
-    /// Sets Secure, or says that it is not set.
+    /// Sets whether the cookie is Secure.
+    ///
+    /// A cookie whose SameSite is `None` is printed with Secure unless this is set to false.
     pub fn secure(self, secure: bool) -> RawCookieBuilder
         ensures { result ≡ record self { secure = Some secure } }
     {
@@ -119,7 +124,7 @@ impl RawCookieBuilder {
         RawCookieBuilder { cookie }
     }
 
-    /// Sets HttpOnly, or says that it is not set.
+    /// Sets whether the cookie is HttpOnly.
     pub fn http_only(self, http_only: bool) -> RawCookieBuilder
         ensures { result ≡ record self { http_only = Some http_only } }
     {
@@ -130,7 +135,7 @@ impl RawCookieBuilder {
         RawCookieBuilder { cookie }
     }
 
-    /// Sets SameSite.
+    /// Sets the SameSite attribute.
     pub fn same_site(self, same_site: SameSite) -> RawCookieBuilder
         ensures { result ≡ record self { same_site = Some same_site } }
     {
@@ -141,7 +146,7 @@ impl RawCookieBuilder {
         RawCookieBuilder { cookie }
     }
 
-    /// The cookie.
+    /// Returns the cookie.
     pub fn build(self) -> RawCookie<'static>
         ensures { result ≡ self }
     {

@@ -1,4 +1,4 @@
-//! Copies of raw cookies, and their equality.
+//! Cloning and comparing raw cookies.
 ghost use Rattle.std.specs.Prelude.{◌≡◌, option_map};
 ghost use Rattle.std.specs.Option.{option_eq};
 ghost use Rattle.cookie_raw.specs.SameParts.{same_attributes, same_ending, same_texts};
@@ -45,6 +45,7 @@ impl<'a> Eq for RawCookie<'a> {
     ghost laws = { same_parts_equiv };
 }
 
+// Compares name, value, domain and path.
 fn has_same_texts(cookie: &RawCookie<'_>, other: &RawCookie<'_>) -> bool
     ensures { result ≡ same_texts cookie.now other.now }
 {
@@ -54,6 +55,7 @@ fn has_same_texts(cookie: &RawCookie<'_>, other: &RawCookie<'_>) -> bool
         && cookie.path() == other.path()
 }
 
+// Compares the other attributes.
 fn has_same_attributes(cookie: &RawCookie<'_>, other: &RawCookie<'_>) -> bool
     ensures { result ≡ same_attributes cookie.now other.now }
 {

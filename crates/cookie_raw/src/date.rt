@@ -1,4 +1,4 @@
-//! The dates of cookies, RFC 6265 5.1.1.
+//! Cookie-dates, RFC 6265 5.1.1.
 ghost use Rattle.std.specs.Prelude.{◌≡◌, ◌^◌, ◌<◌, ◌≤◌, take, option_map, IfSome};
 ghost use Rattle.std.specs.Char.{is_ascii_digit};
 ghost use Rattle.std.specs.List.{position, prefix_len};
@@ -17,10 +17,14 @@ const MONTH_NAMES: [[u8; 3]; 12] = [
     *b"Nov", *b"Dec",
 ];
 
-/// The moment that a cookie-date says, read as UTC whatever zone it names; None where the text is none.
+/// Parses a cookie-date, RFC 6265 5.1.1. A time zone in it is ignored: the result is in UTC.
 ///
-/// In any order the text has a time as `08:49:37`, a day of the month, a month, of which the first three letters count,
-/// and a year, from 1601 on: of two digits, those from 70 are of the 1900s and the others of the 2000s.
+/// The date has, in any order, a time such as `08:49:37`, a day of the month, a month and a year.
+/// Of the month only the first three letters count, in any case. A year of 70 to 99 means 1970 to
+/// 1999, and one of 0 to 69 means 2000 to 2069.
+///
+/// Returns `None` if one of these is missing, if the year is before 1601, or if there is no such
+/// day or time.
 pub fn read_date(text: &str) -> Option<DateTime>
     ensures { option_map moment_of result ≡ cookie_date text.now }
 {
@@ -40,7 +44,7 @@ pub fn read_date(text: &str) -> Option<DateTime>
     found.moment()
 }
 
-// What the tokens of a date have said so far.
+// The parts of a date found so far.
 #[derive(Drop)]
 struct Found {
     time: Option<TimeOfDay>,
@@ -69,7 +73,7 @@ impl Model for Found {
 }
 
 impl Found {
-    // A token gives one part at most, and the first token of a form decides.
+    // Sets the first part that is still missing and whose form the token has, if there is one.
     fn take(&mut self, token: &[u8])
         ensures { self.new ≡ with_token self.old token.now }
     {
@@ -92,7 +96,7 @@ impl Found {
         }
     }
 
-    // The moment, where all parts were found and make one.
+    // Returns the date and time, or `None` if a part is missing or out of range.
     #[tactic(auto, unfolding(crate::specs::CookieDate::moment_of_parts))]
     fn moment(self) -> Option<DateTime>
         ensures { option_map moment_of result ≡ moment_of_parts self }
@@ -110,7 +114,7 @@ impl Found {
     }
 }
 
-// What the time of a date says, on a clock or not.
+// The time of a date, which may be out of range.
 #[derive(Drop)]
 struct TimeOfDay {
     hour: u32,
@@ -135,14 +139,14 @@ fn is_delimiter(byte: u8) -> bool
     matches!(byte, b'\t' | b' '..=b'/' | b';'..=b'@' | b'['..=b'`' | b'{'..=b'~')
 }
 
-// How many digits a text starts with.
+// Counts the digits at the start.
 fn digits_at_start(text: &[u8]) -> usize
     ensures { result ≡ prefix_len is_ascii_digit text.now }
 {
     text.iter().take_while(|byte| byte.is_ascii_digit()).count()
 }
 
-// The number of `least` to `most` digits at the start of a text, and what follows it.
+// Parses all digits at the start, if there are `least` to `most`, and returns the rest as well.
 #[tactic(auto, unfolding(crate::specs::CookieDate::number_at))]
 fn number(text: &[u8], least: usize, most: usize) -> Option<(u32, &[u8])>
     requires { most ≤ 4 }
@@ -164,6 +168,7 @@ fn after_colon(text: &[u8]) -> Option<&[u8]>
     text.strip_prefix(b":")
 }
 
+// Parses the `time` of RFC 6265 5.1.1: three numbers separated by `:`.
 #[tactic(auto, unfolding(crate::specs::CookieDate::time_of))]
 fn time(token: &[u8]) -> Option<TimeOfDay>
     ensures { result ≡ time_of token.now }
@@ -178,6 +183,7 @@ fn time(token: &[u8]) -> Option<TimeOfDay>
     })
 }
 
+// Parses the `day-of-month`: one or two digits at the start.
 #[tactic(auto, unfolding(crate::specs::CookieDate::day_of))]
 fn day(token: &[u8]) -> Option<u32>
     ensures value { result ≡ day_of token.now }
@@ -187,14 +193,14 @@ fn day(token: &[u8]) -> Option<u32>
     Some(day)
 }
 
-// Whether the first three letters of a token are this name, in capitals or not.
+// Whether the first three bytes of `token` are `name`, ignoring ASCII case.
 fn is_named(token: &[u8], name: &[u8]) -> bool
     ensures { result ≡ str_eq_ignore_ascii_case (take 3 token.now) name.now }
 {
     token[..token.len().min(3)].eq_ignore_ascii_case(name)
 }
 
-// The place among the names of the first that a token begins with.
+// Returns the index of the month whose name `token` begins with.
 fn month_index(token: &[u8]) -> Option<usize>
     ensures value { result ≡ position (str_eq_ignore_ascii_case (take 3 token.now)) month_names }
     ensures bound { IfSome result (λ index. index < 12) }
@@ -202,6 +208,7 @@ fn month_index(token: &[u8]) -> Option<usize>
     MONTH_NAMES.iter().position(|name| is_named(token, name))
 }
 
+// Parses the `month`: 1 is January.
 #[tactic(auto, unfolding(crate::specs::CookieDate::month_of))]
 fn month(token: &[u8]) -> Option<u32>
     ensures value { result ≡ month_of token.now }
@@ -211,6 +218,7 @@ fn month(token: &[u8]) -> Option<u32>
     Some(index as u32 + 1)
 }
 
+// Parses the `year`: two to four digits at the start.
 #[tactic(auto, unfolding(crate::specs::CookieDate::year_of))]
 fn year(token: &[u8]) -> Option<u32>
     ensures value { result ≡ year_of token.now }
@@ -220,7 +228,7 @@ fn year(token: &[u8]) -> Option<u32>
     Some(full_year(year))
 }
 
-// The year that a number of at most four digits means.
+// Expands a two-digit year, RFC 6265 5.1.1 steps 3 and 4.
 fn full_year(year: u32) -> u32
     requires { year < 10_000 }
     ensures { result ≡ full_year year }

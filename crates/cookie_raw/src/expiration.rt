@@ -1,11 +1,11 @@
-//! When a cookie says that it ends.
+//! The Expires attribute.
 use jiff::civil::DateTime;
 
-/// When a cookie says that it ends: the Expires attribute, RFC 6265 5.2.1.
+/// The value of an Expires attribute, RFC 6265 5.2.1.
 #[derive(Clone, Copy, Debug, PartialEq, Eq)]
 pub enum Expiration {
-    /// At this moment, read as UTC.
+    /// The cookie expires at this time, in UTC.
     DateTime(DateTime),
-    /// With the session.
+    /// The cookie expires with the session.
     Session,
 }

@@ -1,4 +1,4 @@
-//! Set-Cookie texts and their dates, read and written by RFC 6265, without copying as they are read.
+//! Parsing and printing Set-Cookie header values and cookie-dates, RFC 6265. Parsing does not copy.
 #![tactic(auto)]
 
 mod attributes;

@@ -1,4 +1,4 @@
-//! How a raw cookie stores its Max-Age.
+//! The Max-Age of a raw cookie, stored compactly.
 ghost use Rattle.std.specs.Prelude.{◌≡◌, IfSome, option_map};
 ghost use Rattle.std.proofs.Props.{props};
 ghost use Rattle.jiff.specs.Words.{IsWithin, signed_nanos};
@@ -6,12 +6,14 @@ ghost use Rattle.jiff.specs.Words.{IsWithin, signed_nanos};
 use jiff::SignedDuration;
 use std::fmt;
 
-/// A Max-Age or none, in 16 bytes aligned to 8: an `Option<SignedDuration>` takes 32 bytes aligned to 16, and with it a
-/// `RawCookie` would take 224 bytes, not 192.
+/// An optional Max-Age in 16 bytes aligned to 8.
+///
+/// An `Option<SignedDuration>` takes 32 bytes aligned to 16; with it a `RawCookie` would take 224
+/// bytes instead of 192.
 #[derive(Clone, Copy)]
 pub(crate) struct MaxAge {
     secs: i64,
-    // The fraction of a second, with the sign of the duration, or `None` if there is no Max-Age.
+    // The fraction of a second, with the duration's sign; `None` if there is no Max-Age.
     nanos: Option<i32>,
     ghost in_range: { IfSome nanos (IsWithin 999_999_999) } by { Prim.hlevel props },
 }
@@ -44,7 +46,7 @@ impl MaxAge {
     }
 }
 
-/// Prints the `Option<SignedDuration>`.
+/// Prints it as an `Option<SignedDuration>`.
 impl fmt::Debug for MaxAge {
     fn fmt<W: fmt::Write>(&self, f: &mut fmt::Formatter<W>) -> fmt::Result {
         fmt::Debug::fmt(&self.duration(), f)

@@ -1,16 +1,16 @@
-//! Why a Set-Cookie text is no cookie.
+//! Errors of parsing a Set-Cookie header value.
 use std::fmt;
 
-/// Why a Set-Cookie text is no cookie.
+/// The error of parsing a Set-Cookie header value.
 #[derive(Clone, Copy, Debug, PartialEq, Eq)]
 pub enum RawCookieParseError {
-    /// The part before the first `;` has no `=`.
+    /// There is no `=` before the first `;`.
     MissingPair,
     /// The name is empty.
     EmptyName,
 }
 
-/// As `{}` prints it, also where a width or other options are asked for.
+/// Prints a description. A width and other format options have no effect.
 impl fmt::Display for RawCookieParseError {
     ghost use Rattle.std.specs.Prelude.{Some};
     ghost use Rattle.cookie_raw.specs.Errors.{parse_error_text};

@@ -1,4 +1,4 @@
-//! Raw cookies that their own text says again.
+//! Raw cookies that survive printing and parsing.
 ghost use Rattle.std.specs.Prelude.{◌≡◌, ◌==◌, option_map};
 ghost use Rattle.std.specs.List.{list_any};
 ghost use Rattle.std.specs.Option.{option_copied};
@@ -12,13 +12,14 @@ use crate::{Expiration, RawCookie};
 use jiff::SignedDuration;
 use jiff::civil::DateTime;
 
-// Whether the byte stands in the text.
+// Whether `text` contains `byte`.
 fn holds(text: &str, byte: u8) -> bool
     ensures { result ≡ list_any (λ b. b == byte) text.now }
 {
     text.as_bytes().contains(&byte)
 }
 
+// Whether there is no `;`, and no white space at either end.
 #[tactic(auto, unfolding(crate::specs::PlainCookie::is_plain_text))]
 fn is_plain_text(text: &str) -> bool
     ensures { result ≡ is_plain_text text.now }
@@ -86,10 +87,16 @@ fn has_plain_ending(expires: Option<Expiration>) -> bool
 }
 
 impl<'a> RawCookie<'a> {
-    /// Whether the cookie's text reads as an equal cookie, by [`laws::reads_back`](crate::laws::reads_back): no part has a `;` or
-    /// white space at its ends, the name neither is empty nor has a `=`, the domain neither is empty nor begins with a dot,
-    /// Secure and HttpOnly are set or left open, Secure is set where SameSite is `None`, Max-Age is whole seconds from 0 on,
-    /// and Expires is at a moment in whole seconds of the years 1601 to 9999.
+    /// Returns whether all of the following holds. If so, printing the cookie and parsing the
+    /// result gives an equal cookie, by [`laws::reads_back`](crate::laws::reads_back).
+    ///
+    /// - Name, value, domain and path have no `;`, and no white space at either end.
+    /// - The name is not empty and has no `=`.
+    /// - The domain, if there is one, is not empty and does not begin with a dot.
+    /// - Secure and HttpOnly are not set to false.
+    /// - Secure is set to true if SameSite is `None`.
+    /// - Max-Age, if there is one, is a whole number of seconds, not negative.
+    /// - Expires, if there is one, is a time in whole seconds in the years 1601 to 9999.
     #[tactic(auto, unfolding(crate::specs::PlainCookie::is_plain))]
     pub fn is_plain(&self) -> bool
         ensures { result ≡ is_plain self.now }

@@ -1,4 +1,4 @@
-//! The text of a raw cookie, RFC 6265 4.1.1.
+//! Printing a raw cookie as a Set-Cookie header value, RFC 6265 4.1.1.
 ghost use Rattle.std.specs.Prelude.{◌≡◌, ◌-◌, ◌<◌, ◌++◌, false, [], codes, get_or, pos, ◌≤ℤ◌, unsigned_abs, option_map, option_and_then, unwrap_or, None, IfOk, string_bytes};
 ghost use Rattle.std.specs.Fmt.{WritesOnOk, WritesStyledOnOk};
 ghost use Rattle.std.specs.Option.{option_copied};
@@ -16,7 +16,7 @@ use jiff::civil::{DateTime, Weekday};
 use std::alloc::{AllocError, Global};
 use std::fmt;
 
-/// Whether the cookie says that it is for other sites too.
+/// Whether SameSite is `None`.
 pub(crate) fn is_for_all_sites(same_site: Option<SameSite>) -> bool
     ensures { result ≡ is_for_all_sites same_site }
 {
@@ -85,7 +85,7 @@ fn write_year<W: fmt::Write>(f: &mut fmt::Formatter<W>, year: i16) -> fmt::Resul
     write_two_digits(f, (year % 100) as u8)
 }
 
-// The day of the week and of the month as `Tue, 03`.
+// Writes the day of the week and of the month, as `Tue, 03`.
 #[tactic(auto, using(crate::proofs::StyledWrites::styled_three))]
 fn write_day<W: fmt::Write>(f: &mut fmt::Formatter<W>, date: DateTime) -> fmt::Result
     ensures writes { WritesOnOk W.write_str_gives f.old result
@@ -98,7 +98,7 @@ fn write_day<W: fmt::Write>(f: &mut fmt::Formatter<W>, date: DateTime) -> fmt::R
     write_two_digits(f, date.day() as u8)
 }
 
-// The month and the year as `Aug 2100`.
+// Writes the month and the year, as `Aug 2100`.
 fn write_month<W: fmt::Write>(f: &mut fmt::Formatter<W>, date: DateTime) -> fmt::Result
     requires { pos 0 ≤ℤ date.date.year }
     ensures writes { WritesOnOk W.write_str_gives f.old result
@@ -111,7 +111,7 @@ fn write_month<W: fmt::Write>(f: &mut fmt::Formatter<W>, date: DateTime) -> fmt:
     write_year(f, date.year())
 }
 
-// The time as `00:38:37`.
+// Writes the time, as `00:38:37`.
 fn write_clock<W: fmt::Write>(f: &mut fmt::Formatter<W>, date: DateTime) -> fmt::Result
     ensures writes { WritesOnOk W.write_str_gives f.old result
         (two_digits date.time.hour ++ codes ":" ++ two_digits date.time.minute
@@ -127,7 +127,7 @@ fn write_clock<W: fmt::Write>(f: &mut fmt::Formatter<W>, date: DateTime) -> fmt:
     write_two_digits(f, date.second() as u8)
 }
 
-// The day and the time as `Tue, 03 Aug 2100 00:38:37 GMT`.
+// Writes the date and time, as `Tue, 03 Aug 2100 00:38:37 GMT`.
 fn write_date<W: fmt::Write>(f: &mut fmt::Formatter<W>, date: DateTime) -> fmt::Result
     requires { pos 0 ≤ℤ date.date.year }
     ensures writes { WritesOnOk W.write_str_gives f.old result (date_text (moment_of date)) f.new }
@@ -141,7 +141,7 @@ fn write_date<W: fmt::Write>(f: &mut fmt::Formatter<W>, date: DateTime) -> fmt::
     f.write_str(" GMT")
 }
 
-// An attribute that has no value, where it is set.
+// Writes an attribute without a value, if it is set.
 fn write_flag<W: fmt::Write>(f: &mut fmt::Formatter<W>, label: &str, is_set: bool) -> fmt::Result
     ensures writes { WritesOnOk W.write_str_gives f.old result (flag label.now is_set) f.new }
     ensures styled { WritesStyledOnOk W.write_str_gives f.old result (flag label.now is_set) f.new }
@@ -150,7 +150,7 @@ fn write_flag<W: fmt::Write>(f: &mut fmt::Formatter<W>, label: &str, is_set: boo
     if is_set { f.write_str(label) } else { Ok(()) }
 }
 
-// An attribute with its value, where it has one.
+// Writes an attribute and its value, if there is one.
 #[tactic(auto, using(crate::proofs::StyledWrites::styled_two))]
 fn write_part<W: fmt::Write>(
     f: &mut fmt::Formatter<W>,
@@ -204,7 +204,7 @@ fn write_age<W: fmt::Write>(f: &mut fmt::Formatter<W>, age: Option<SignedDuratio
     }
 }
 
-// Expires at a moment, where four digits can write its year.
+// Writes Expires, unless its year is before 0, which four digits cannot write.
 #[tactic(auto, using(crate::proofs::StyledWrites::styled_two))]
 fn write_moment<W: fmt::Write>(f: &mut fmt::Formatter<W>, date: DateTime) -> fmt::Result
     ensures writes { WritesOnOk W.write_str_gives f.old result
@@ -249,7 +249,7 @@ fn write_expires<W: fmt::Write>(
     }
 }
 
-// The name and the value, then HttpOnly, SameSite and Secure.
+// Writes the name and the value, then HttpOnly, SameSite and Secure.
 fn write_pair<W: fmt::Write>(f: &mut fmt::Formatter<W>, cookie: &RawCookie<'_>) -> fmt::Result
     ensures writes { WritesOnOk W.write_str_gives f.old result
         (cookie.now.name ++ codes "=" ++ cookie.now.value
@@ -273,10 +273,15 @@ fn write_pair<W: fmt::Write>(f: &mut fmt::Formatter<W>, cookie: &RawCookie<'_>) 
 }
 
 impl<'a> RawCookie<'a> {
-    /// The cookie as the value of a Set-Cookie header: name and value, then each attribute that there is, as
-    /// `a=1; HttpOnly; SameSite=Lax; Secure; Path=/; Domain=a.com; Max-Age=5; Expires=Tue, 03 Aug 2100 00:38:37 GMT`.
+    /// Returns the cookie as a Set-Cookie header value, RFC 6265 4.1.1, such as
+    /// `a=1; HttpOnly; Path=/; Max-Age=5; Expires=Tue, 03 Aug 2100 00:38:37 GMT`.
     ///
-    /// Expires stands there at a moment of the years 0 to 9999.
+    /// The name and the value come first, then the attributes that are set, in the order HttpOnly,
+    /// SameSite, Secure, Path, Domain, Max-Age, Expires. Fails only if out of memory.
+    ///
+    /// - HttpOnly and Secure are printed if true, Secure also if unset while SameSite is `None`.
+    /// - Max-Age is printed in whole seconds; a fraction is cut off.
+    /// - Expires is left out for `Expiration::Session` and for years before 0.
     pub fn to_text(&self, alloc: Global) -> Result<String, AllocError>
         ensures { IfOk result (λ text. string_bytes text ≡ cookie_text self.now) }
     {
@@ -284,7 +289,8 @@ impl<'a> RawCookie<'a> {
     }
 }
 
-/// The text that [`to_text`](RawCookie::to_text) gives, as `{}` prints it, also where a width or other options are asked for.
+/// Prints what [`to_text`](RawCookie::to_text) returns. A width and other format options have no
+/// effect.
 impl<'a> fmt::Display for RawCookie<'a> {
     ghost use Rattle.std.specs.Prelude.{Some};
     ghost use Rattle.cookie_raw.specs.CookieText.{cookie_text};

@@ -1,4 +1,4 @@
-//! What a Set-Cookie text says, RFC 6265 5.2.
+//! The parts of a Set-Cookie header value, RFC 6265 5.2.
 ghost use Rattle.std.specs.Prelude.{◌≡◌, true, false, option_map, MatchOption, IfOk};
 ghost use Rattle.std.specs.Cow.{cow_str_bytes};
 ghost use Rattle.std.specs.Option.{option_copied};
@@ -16,9 +16,11 @@ use std::alloc::{AllocError, Global};
 use std::borrow::CowStr;
 use std::marker::Model;
 
-/// A cookie as a Set-Cookie text says it, before any rule on domains, paths or dates.
+/// A cookie as written in a Set-Cookie header value, RFC 6265 5.2, before the rules of 5.3 on
+/// domains, paths and expiry.
 ///
-/// A cookie that was parsed lends its parts from the text; [`into_owned`](Self::into_owned) copies them.
+/// A parsed cookie borrows its parts from the header value; [`into_owned`](Self::into_owned) copies
+/// them.
 #[derive(Debug, Drop)]
 pub struct RawCookie<'a> {
     pub(crate) name: CowStr<'a>,
@@ -54,7 +56,7 @@ impl<'a> Model for RawCookie<'a> {
     } };
 }
 
-// The part of a Set-Cookie text before its first `;`, and the part after it, if there is one.
+// Splits a header value at its first `;`.
 fn pair_and_rest(text: &str) -> (&str, Option<&str>)
     ensures pair { result.0.now ≡ pair_of text.now }
     ensures rest { attributes_after (option_copied result.1) ≡ attributes text.now }
@@ -65,7 +67,7 @@ fn pair_and_rest(text: &str) -> (&str, Option<&str>)
     }
 }
 
-/// The two sides of the first `=`, without white space at their ends.
+/// Splits at the first `=` and trims both sides, or returns `None` if there is no `=`.
 pub(crate) fn name_and_value(pair: &str) -> Option<(&str, &str)>
     ensures { MatchOption result (has_equals pair.now ≡ false)
         (λ sides. (has_equals pair.now ≡ true) × (sides.0.now ≡ name_of pair.now) × (sides.1.now ≡ value_of pair.now)) }
@@ -76,6 +78,7 @@ pub(crate) fn name_and_value(pair: &str) -> Option<(&str, &str)>
     }
 }
 
+// Wraps an optional borrowed part.
 fn lent<'a>(part: Option<&'a str>) -> Option<CowStr<'a>>
     ensures { option_map cow_str_bytes result ≡ option_copied part.entry }
 {
@@ -85,12 +88,14 @@ fn lent<'a>(part: Option<&'a str>) -> Option<CowStr<'a>>
     }
 }
 
+// Makes a part owned.
 fn owned(alloc: Global, part: CowStr<'_>) -> Result<CowStr<'static>, AllocError>
     ensures { IfOk result (λ text. cow_str_bytes text ≡ cow_str_bytes part.entry) }
 {
     Ok(CowStr::Owned(part.into_owned(alloc)?))
 }
 
+// Makes an optional part owned.
 fn owned_part(
     alloc: Global,
     part: Option<CowStr<'_>>,
@@ -104,9 +109,17 @@ fn owned_part(
 }
 
 impl<'a> RawCookie<'a> {
-    /// Reads a Set-Cookie text, without taking memory: the parts are lent from the text.
+    /// Parses a Set-Cookie header value, RFC 6265 5.2.
     ///
-    /// Quotation marks stay, and nothing is percent-decoded.
+    /// Allocates nothing: the parts are borrowed from `text`. Quotation marks are kept, and nothing
+    /// is percent-decoded. If attributes of one name are repeated, the last one with an accepted
+    /// value counts.
+    ///
+    /// # Errors
+    ///
+    /// In the order in which they are checked:
+    /// - `MissingPair`: there is no `=` before the first `;`.
+    /// - `EmptyName`: the name is empty.
     pub fn parse(text: &'a str) -> Result<RawCookie<'a>, RawCookieParseError>
         ensures reading { result ≡ reading text.now }
         ensures slices { IfOk result (HasSlices text.now) }
@@ -132,21 +145,21 @@ impl<'a> RawCookie<'a> {
         })
     }
 
-    /// The name.
+    /// Returns the name.
     pub fn name(&self) -> &str
         ensures { result.now ≡ self.now.name }
     {
         self.name.as_str()
     }
 
-    /// The value, with the quotation marks that it may have.
+    /// Returns the value, including any quotation marks.
     pub fn value(&self) -> &str
         ensures { result.now ≡ self.now.value }
     {
         self.value.as_str()
     }
 
-    /// The name and the value.
+    /// Returns the name and the value.
     pub fn name_value(&self) -> (&str, &str)
         ensures name { result.0.now ≡ self.now.name }
         ensures value { result.1.now ≡ self.now.value }
@@ -154,7 +167,7 @@ impl<'a> RawCookie<'a> {
         (self.name.as_str(), self.value.as_str())
     }
 
-    /// The Domain attribute, without one leading dot.
+    /// Returns the Domain attribute, without one leading dot.
     pub fn domain(&self) -> Option<&str>
         ensures { option_copied result ≡ self.now.domain }
     {
@@ -164,7 +177,7 @@ impl<'a> RawCookie<'a> {
         }
     }
 
-    /// The Path attribute as written, also where it does not begin with `/`.
+    /// Returns the Path attribute as written, even if it does not begin with `/`.
     pub fn path(&self) -> Option<&str>
         ensures { option_copied result ≡ self.now.path }
     {
@@ -174,42 +187,44 @@ impl<'a> RawCookie<'a> {
         }
     }
 
-    /// Whether the cookie is for secure connections alone, where that was said.
+    /// Returns whether the cookie is Secure, or `None` if that was not set. For a parsed cookie
+    /// this is `Some(true)` or `None`.
     pub fn secure(&self) -> Option<bool>
         ensures { result ≡ self.now.secure }
     {
         self.secure
     }
 
-    /// Whether the cookie is for HTTP alone, where that was said.
+    /// Returns whether the cookie is HttpOnly, or `None` if that was not set. For a parsed cookie
+    /// this is `Some(true)` or `None`.
     pub fn http_only(&self) -> Option<bool>
         ensures { result ≡ self.now.http_only }
     {
         self.http_only
     }
 
-    /// The SameSite attribute.
+    /// Returns the SameSite attribute.
     pub fn same_site(&self) -> Option<SameSite>
         ensures { result ≡ self.now.same_site }
     {
         self.same_site
     }
 
-    /// The Max-Age attribute.
+    /// Returns the Max-Age attribute. A negative one is parsed as 0.
     pub fn max_age(&self) -> Option<SignedDuration>
         ensures { option_map signed_nanos result ≡ self.now.max_age }
     {
         self.max_age.duration()
     }
 
-    /// The Expires attribute.
+    /// Returns the Expires attribute.
     pub fn expires(&self) -> Option<Expiration>
         ensures { option_map ending result ≡ self.now.expires }
     {
         self.expires
     }
 
-    /// An equal cookie that lends nothing.
+    /// Returns an equal cookie that owns its strings. Fails only if out of memory.
     pub fn into_owned(self, alloc: Global) -> Result<RawCookie<'static>, AllocError>
         ensures { IfOk result (λ owned. owned ≡ self.entry) }
     {

@@ -1,12 +1,12 @@
-//! To which requests a cookie goes, across sites.
+//! The SameSite attribute.
 
-/// To which requests a cookie goes, across sites: the SameSite attribute, which came after RFC 6265.
+/// The SameSite attribute, which is newer than RFC 6265: which requests should carry the cookie.
 #[derive(Clone, Copy, Debug, PartialEq, Eq)]
 pub enum SameSite {
-    /// To requests of the cookie's own site alone.
+    /// Only requests from the cookie's own site.
     Strict,
-    /// Also where a link of another site leads to the cookie's.
+    /// Also requests that follow a link from another site to the cookie's site.
     Lax,
-    /// To all requests, which asks that the cookie is Secure.
+    /// All requests. The cookie should be Secure too.
     None,
 }

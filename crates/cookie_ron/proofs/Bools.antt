@@ -1,4 +1,4 @@
--- Tests that are joined.
+-- Conjunctions of tests.
 use Rattle.std.proofs.Common.{◌≡◌, Bool, true, false, ◌&&◌, ◌||◌, true≢false, refl, sym}
 
 pub both_true : (a b : Bool) → (a && b) ≡ true → (a ≡ true) × (b ≡ true)

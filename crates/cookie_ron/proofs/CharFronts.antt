@@ -1,4 +1,4 @@
--- Characters of texts: escapes are read where they stand, and nowhere else.
+-- Characters of strings: an escape is read exactly if the grammar has one there.
 use Rattle.std.proofs.Common.{◌≡◌, ◌≢◌, ℕ, suc, ◌+◌, ◌<◌, ◌≤◌, List, [], ◌∷◌, ◌++◌, length, take, drop, Bool, true, false, not, Option, Some, None, option_map, option_and_then, ◌==◌, ◌&&◌, if◌then◌else◌, nat_le, get_or, cond, ltb, length-append, add-one, refl, sym, ap, subst, ◌∙◌, inl, inr, arith}
 use lib.Utf8.{scalar}
 use Rattle.std.specs.Char.{is_ascii_hexdigit, IsScalar}
@@ -35,7 +35,7 @@ hex_sound digits value e =
 hex_complete : (digits : List ℕ) (value : ℕ) → Numbers value digits → hex_value digits ≡ Some value
 hex_complete digits value (all, is) = rw all (ap Some is)
 
--- ---- two of them
+-- ---- two hexadecimal digits
 
 byte_sound : (s rest : List ℕ) (c : ℕ) → byte_at s ≡ Some (c, rest)
     → (digits : List ℕ) × (s ≡ digits ++ rest) × (length digits ≡ 2) × Numbers c digits
@@ -89,7 +89,7 @@ brace_complete digits rest all =
     ap (λ i. cond (ltb i (length s)) (Some i) None) at
     ∙ ap (λ b. cond b (Some (length digits)) None) (lt-ltb (length digits) (length s) fits)
 
--- ---- one to six of them in braces
+-- ---- one to six hexadecimal digits in braces
 
 code_of_sound : (digits : List ℕ) (c : ℕ) → code_of digits ≡ Some c
     → (1 ≤ length digits) × (length digits ≤ 6) × Numbers c digits × IsScalar c
@@ -152,7 +152,7 @@ not_same c d h = grind (arith, nat_tests)
 differ : (c d : ℕ) → (c == d) ≡ false → c ≢ d
 differ c d h = grind (arith, nat_tests)
 
--- behind a backslash
+-- after a backslash
 escape_sound : (s rest : List ℕ) (c : ℕ) → escape_at s ≡ Some (c, rest) → Front (StandsFor c) (92 ∷ s) rest
 escape_sound [] rest c e = cc
 escape_sound (h ∷ s) rest c e =

@@ -1,4 +1,4 @@
--- Hexadecimal digits one after the other.
+-- Hexadecimal digits, one after the other.
 use Rattle.std.proofs.Common.{◌≡◌, ℕ, ◌+◌, ◌<◌, List, [], ◌∷◌, take, get_or, length, Bool, true, false, ◌&&◌, refl, ap, ◌∙◌}
 use Rattle.std.specs.List.{list_all}
 use Rattle.std.proofs.lemmas.List.{take_more}
@@ -9,7 +9,7 @@ both true true e f = refl
 both true false e f = f
 both false b e f = e
 
--- one more of them
+-- one more digit
 pub all_more : (p : ℕ → Bool) (ds : List ℕ) (i : ℕ) → i < length ds → list_all p (take i ds) ≡ true → p (get_or ds i 0) ≡ true
     → list_all p (take (i + 1) ds) ≡ true
 all_more p ds i lt so_far this =

@@ -1,4 +1,4 @@
--- The ends of cookies, read one after the other.
+-- The expiries of cookies, parsed one after the other.
 use Rattle.std.proofs.Common.{◌≡◌, List, [], ◌∷◌, ◌++◌, ℕ, Option, Some, None, option_map, refl, sym, ap}
 use Rattle.std.proofs.lemmas.List.{append_assoc}
 use Rattle.cookie_words.specs.Moments.{Moment}
@@ -10,12 +10,12 @@ moved : (front : List (Parts Moment)) (q : Parts Moment) (o : Option (List (Part
 moved front q None = refl
 moved front q (Some qs) = ap Some (sym (append_assoc front (q ∷ []) qs))
 
--- one more is in front
+-- one more expiry is valid
 pub end_read : (front : List (Parts Moment)) (p : Parts (List ℕ)) (ps : List (Parts (List ℕ))) (q : Parts Moment) → with_moment p ≡ Some q
     → option_map (λ rest. front ++ rest) (all_with_moment (p ∷ ps)) ≡ option_map (λ rest. (front ++ q ∷ []) ++ rest) (all_with_moment ps)
 end_read front p ps q e = rw e (moved front q (all_with_moment ps))
 
--- one that does not read
+-- an expiry that is not valid
 pub end_refused : (front : List (Parts Moment)) (p : Parts (List ℕ)) (ps : List (Parts (List ℕ))) → with_moment p ≡ None
     → option_map (λ rest. front ++ rest) (all_with_moment (p ∷ ps)) ≡ None
 end_refused front p ps e = rw e refl

@@ -1,4 +1,4 @@
--- Fields of a cookie and their values.
+-- The fields of a cookie and their values.
 use Rattle.std.proofs.Common.{◌≡◌, ℕ, List, Bool, true, false, Option, Some, None, option_map, codes, refl, ap, subst}
 use Rattle.std.proofs.lemmas.Option.{option_and_then_some, same_Some}
 use Rattle.cookie_forms.specs.Saved.{Domain, host_only, suffix, not_present, empty, Parts}
@@ -9,7 +9,7 @@ use Rattle.cookie_ron.proofs.SignFronts.{sign_front, sign_takes, sign_misses, cl
 use Rattle.cookie_ron.proofs.CharFronts.{map_some}
 use Rattle.cookie_ron.proofs.TextFronts.{text_front, text_takes}
 
--- what was read came from behind the sign, or from in its place
+-- `either` read after the token, or in place of it
 pub either_cases : {A P : Type 0} (o : Option (List ℕ)) (h : List ℕ → Option A) (other : Option A) (r : A) → either o h other ≡ Some r
     → ((t : List ℕ) → o ≡ Some t → h t ≡ Some r → P) → (other ≡ Some r → P) → P
 either_cases None h other r e behind in_place = in_place e
@@ -79,7 +79,7 @@ path_takes path from_attr =
     (chain _ (sign_takes (codes ",") refl)
     (chain _ (flag_takes from_attr) (last _ (close_takes (codes ")") refl refl) (λ r. refl)))))
 
--- a kind with a text
+-- a kind with a string
 tagged_front : {s t rest : List ℕ} {A : Type 0} (P : A → List ℕ → Type 0) (sign : List ℕ) (make : List ℕ → A) (a : A)
     → ((text x : List ℕ) → (Sign sign ▸ Argument text) x → P (make text) x)
     → sign_at sign s ≡ Some t → option_map {U = A × List ℕ} (λ text. (make text.0, text.1)) (argument_at t) ≡ Some (a, rest) → Front (P a) s rest
@@ -195,7 +195,7 @@ last_takes p =
     (chain _ (sign_takes (codes ",") refl)
     (last _ (field_takes (codes "expires") end_at refl (end_takes p.1)) (λ r. refl)))
 
--- the same parts in the other order of brackets
+-- a sequence of four rules, grouped
 in_groups : {P Q R S : List ℕ → Type 0} (s : List ℕ) → (P ▸ Q ▸ R ▸ S) s → ((P ▸ Q ▸ R) ▸ S) s
 in_groups s (x, y, e, p, more) = grouped s (x, y, e, p, grouped y more)
 

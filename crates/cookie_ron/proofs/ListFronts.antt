@@ -1,4 +1,4 @@
--- Cookies of a list, and the list.
+-- The cookies of a list, and the list, as the grammar has them.
 use Rattle.std.proofs.Common.{◌≡◌, ℕ, zero, suc, ◌<◌, ◌≤◌, List, [], ◌∷◌, ◌++◌, length, Option, Some, None, option_and_then, codes, length-append, inl, inr, refl, sym, ap, subst, ◌∙◌, arith}
 use Rattle.std.proofs.lemmas.Option.{option_and_then_some, same_Some}
 use Rattle.std.proofs.lemmas.List.{append_assoc, append-nil}
@@ -11,7 +11,7 @@ use Rattle.cookie_ron.proofs.SignFronts.{blanks_front, blanks_over, sign_front, 
 use Rattle.cookie_ron.proofs.CharFronts.{map_some}
 use Rattle.cookie_ron.proofs.FieldFronts.{either_cases, cookie_front, cookie_takes, cookie_misses}
 
--- a sign takes some of the input
+-- a token is not empty
 sign_fits : (c : ℕ) (s : List ℕ) → Sign (c ∷ []) s → 0 < length s
 sign_fits c s (x, y, e, blanks, is) = omega (arith, ap length e, length-append x y, ap length is)
 
@@ -21,11 +21,11 @@ sign_shorter c s rest e = let f = sign_front {s = s} {rest = rest} (c ∷ []) e 
 cookie_no_longer : (s rest : List ℕ) (p : Parts (List ℕ)) → cookie_at s ≡ Some (p, rest) → length rest ≤ length s
 cookie_no_longer s rest p e = front_no_longer (cookie_front {s = s} {rest = rest} {p = p} e)
 
--- a cookie and a comma take some of it
+-- the rest after a cookie and a comma is shorter
 pub turn_shorter : (s r t : List ℕ) (p : Parts (List ℕ)) → cookie_at s ≡ Some (p, r) → sign_at (codes ",") r ≡ Some t → length t < length s
 turn_shorter s r t p cookie_is comma_is = omega (arith, sign_shorter 44 r t comma_is, cookie_no_longer s r p cookie_is)
 
--- ---- the characters that are left are enough
+-- ---- the bound on the characters left is large enough
 
 abbrev Read : Type 0
 Read = Option (List (Parts (List ℕ)) × List ℕ)
@@ -51,13 +51,13 @@ cookies_fuel (suc n) (suc m) s below above =
     (same_cookies (λ t. cookies_at n t) (λ t. cookies_at m t) s (cookie_at s) refl
     (λ t shorter. cookies_fuel n m t (omega (arith, shorter, below)) (omega (arith, shorter, above))))
 
--- what a cookie and a comma are read as, with what is behind them
+-- what is read from a cookie, a comma and what follows
 one_more : (s r t : List ℕ) (p : Parts (List ℕ)) (more : List ℕ → Read) → sign_at (codes "]") s ≡ None → cookie_at s ≡ Some (p, r) → sign_at (codes ",") r ≡ Some t
     → either (sign_at (codes "]") s) (λ rest. Some ([], rest)) (option_and_then (λ first. onto (first.0 ∷ []) (behind_cookie more first.1)) (cookie_at s))
     ≡ onto (p ∷ []) (more t)
 one_more s r t p more no_bracket cookie_is comma_is = rw (no_bracket, cookie_is, comma_is) refl
 
--- one more cookie is in front
+-- one more cookie has been read
 pub cookies_turn : (front entries : List (Parts (List ℕ))) (s r t : List ℕ) (p : Parts (List ℕ))
     → sign_at (codes "]") s ≡ None → cookie_at s ≡ Some (p, r) → sign_at (codes ",") r ≡ Some t → entries ≡ front ++ p ∷ []
     → onto front (cookies_at (suc (length s)) s) ≡ onto entries (cookies_at (suc (length t)) t)
@@ -72,7 +72,7 @@ with_one front p None rest e = cc
 with_one [] p (Some read) rest e = let none : p ∷ read.0 ≡ [] = ap (λ q. q.0) (same_Some _ _ e) in cc
 with_one (q ∷ front) p (Some read) rest e = let none : q ∷ (front ++ p ∷ read.0) ≡ [] = ap (λ q. q.0) (same_Some _ _ e) in cc
 
--- without a closing bracket it is no list of none
+-- without a closing bracket, the list is not empty
 pub some_cookie : (front : List (Parts (List ℕ))) (closing : Option (List ℕ)) (first : Option (Parts (List ℕ) × List ℕ))
     (more : Parts (List ℕ) × List ℕ → Read) (rest : List ℕ) → closing ≡ None
     → onto front (either closing (λ t. Some ([], t)) (option_and_then (λ p. onto (p.0 ∷ []) (more p)) first)) ≡ Some ([], rest) → ⊥
@@ -103,7 +103,7 @@ cookies_front (suc n) s rest ps e =
     subst (λ q. Front (Cookies (first.0 ∷ q.0)) s q.1) end.2
     (joined (cookie_front cookie_is) (front_of (λ x h. inl h) (sign_front (codes "]") end.1)))))))
 
--- a cookie, and the closing bracket with no comma
+-- a cookie and the closing bracket, without a comma
 alone_over : (p : Parts (List ℕ)) (n : ℕ) (x y rest : List ℕ) → Cookie p x → Sign (codes "]") y
     → cookies_at (suc n) (x ++ (y ++ rest)) ≡ Some (p ∷ [], rest)
 alone_over p n x y rest cookie bracket =
@@ -114,7 +114,7 @@ alone_over p n x y rest cookie bracket =
       (sign_takes (codes "]") refl).at y rest bracket,
     ) refl
 
--- a cookie and a comma, and what is behind them
+-- a cookie, a comma and what follows
 comma_over : (p : Parts (List ℕ)) (ps : List (Parts (List ℕ))) (n : ℕ) (x y behind rest : List ℕ) → Cookie p x → Sign (codes ",") y
     → cookies_at n behind ≡ Some (ps, rest) → cookies_at (suc n) (x ++ (y ++ behind)) ≡ Some (p ∷ ps, rest)
 comma_over p ps n x y behind rest cookie comma more =
@@ -122,7 +122,7 @@ comma_over p ps n x y behind rest cookie comma more =
     ((cookie_misses p).at x (y ++ behind) cookie) ((cookie_takes p).at x (y ++ behind) cookie) ((sign_takes (codes ",") refl).at y behind comma)
     ∙ ap (onto (p ∷ [])) more
 
--- three parts in front of the rest
+-- three parts before the rest
 three : (x y z front tail rest : List ℕ) → front ≡ x ++ tail → tail ≡ y ++ z → front ++ rest ≡ x ++ (y ++ (z ++ rest))
 three x y z front tail rest e e' =
     ap (λ f. f ++ rest) e ∙ append_assoc x tail rest ∙ ap (λ t. x ++ (t ++ rest)) e' ∙ ap (λ t. x ++ t) (append_assoc y z rest)
@@ -182,6 +182,6 @@ list_read s ps (x, y, e, opening, (x', y', e', inside, blanks)) =
     let nothing : drop_blanks y' ≡ [] = ap drop_blanks (sym (append-nil y')) ∙ blanks_over y' [] blanks refl in
     rw (bracket, cookies, nothing) refl
 
--- a text is of one list at most
+-- an input is the RON of at most one list
 pub one_list : (ps qs : List (Parts (List ℕ))) (s : List ℕ) → IsList ps s → IsList qs s → ps ≡ qs
 one_list ps qs s p q = same_Some ps qs (sym (list_read s ps p) ∙ list_read s qs q)

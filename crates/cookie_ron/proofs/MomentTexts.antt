@@ -1,4 +1,4 @@
--- The text of a moment is UTF-8.
+-- The string of a time is UTF-8.
 use Rattle.std.proofs.Common.{◌≡◌, ◌<◌, ◌≤◌, ◌+◌, ◌/◌, ◌%◌, ℕ, ℤ, pos, negsuc, List, ◌++◌, true, unsigned_abs, codes, refl, arith}
 use Rattle.std.proofs.lemmas.Bool.Decides.{nat_tests}
 use Rattle.std.proofs.lemmas.Str.{IsUtf8-append}
@@ -28,7 +28,7 @@ two n small = ascii_utf8 (two_digits n) (two_ascii n small)
 four : (n : ℕ) → n < 10_000 → IsUtf8 (four_digits n)
 four n small = IsUtf8-append (two_digits (n / 100)) (two_digits (n % 100)) (two (n / 100) (omega arith)) (two (n % 100) (omega arith))
 
--- three texts with a sign between them
+-- three strings with a separator between them
 three : (a b c sign : List ℕ) → IsUtf8 a → IsUtf8 b → IsUtf8 c → IsUtf8 sign → IsUtf8 (a ++ sign ++ b ++ sign ++ c)
 three a b c sign is_a is_b is_c is_sign =
     IsUtf8-append (a ++ sign ++ b ++ sign) c

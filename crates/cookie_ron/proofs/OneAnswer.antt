@@ -1,4 +1,4 @@
--- A text says one thing, since it is of the grammar of one list at most.
+-- An input has one result, since by the grammar it is at most one list.
 use Rattle.std.proofs.Common.{◌≡◌, ℕ, List, Option, Some, None, Result, Ok, Err, inl, inr, sym, ap, ◌∙◌}
 use Rattle.std.specs.Str.{chars}
 use Rattle.cookie_words.specs.Moments.{Moment}
@@ -9,7 +9,7 @@ use Rattle.cookie_ron.specs.Grammar.{IsList}
 use Rattle.cookie_ron.specs.RonLists.{SaysRon}
 
 module _ (one : (parts others : List (Parts (List ℕ))) (text : List ℕ) → IsList parts text → IsList others text → parts ≡ others) where
-  -- of two lists that a text has the moments are the same
+  -- if an input is two lists, their expiries are parsed alike
   same_moments : (text : List ℕ) (parts others : List (Parts (List ℕ))) (a b : Option (List (Parts Moment)))
       → IsList parts (chars text) → all_with_moment parts ≡ a → IsList others (chars text) → all_with_moment others ≡ b → a ≡ b
   same_moments text parts others a b is reads are read =

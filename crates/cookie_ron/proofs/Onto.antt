@@ -1,4 +1,4 @@
--- What was read before, and what is read behind it.
+-- What was read before, followed by what is read next.
 use Rattle.std.proofs.Common.{◌≡◌, ℕ, List, [], ◌++◌, Option, Some, None, refl, sym, ap}
 use Rattle.std.proofs.lemmas.List.{append_assoc}
 use Rattle.cookie_ron.specs.Reading.{onto}

@@ -1,4 +1,4 @@
--- What is printed of a list says that list, its ends cut to whole seconds.
+-- A printed list is read back as that list, its expiries cut to whole seconds.
 use Rattle.std.proofs.Common.{◌≡◌, ℕ, ℤ, pos, negsuc, ◌≤ℤ◌, int_lt, List, [], ◌∷◌, ◌++◌, map, Bool, true, false, true≢false, Some, Ok, Err, is_ok, option_map, if◌then◌else◌, refl, sym, ap, subst, arith}
 use Rattle.std.specs.List.{list_any}
 use Rattle.jiff_core.proofs.SignedLemmas.{signed_arith}
@@ -18,7 +18,7 @@ use Rattle.cookie_ron.specs.RonLists.{SaysRon}
 use Rattle.cookie_ron.proofs.Bools.{both_false}
 use Rattle.cookie_ron.proofs.PrintedLists.{line_is_list, printed_is_list}
 
--- the text of a moment reads as that moment
+-- the string of a time is parsed as that time, cut to whole seconds
 abbrev ReadsBack : Type 0
 ReadsBack = (moment : DateTime) → pos 0 ≤ℤ moment.date.year → moment_at (moment_text (moment_of moment)) ≡ Some (whole_seconds (moment_of moment))
 
@@ -41,7 +41,7 @@ all_kept back (s ∷ list) h =
     let none = both_false (is_early (saved_view s)) (list_any is_early (map saved_view list)) h in
     rw (kept back s none.0, all_kept back list none.1) refl
 
--- what is printed where nothing is refused
+-- what is printed if there is no error
 printed_of : (early : Bool) (fault : SavedError) (printed text : List ℕ) → (if early then Err fault else Ok printed) ≡ Ok text
     → (early ≡ false) × (printed ≡ text)
 printed_of true fault printed text h = absurd (true≢false (sym (ap is_ok h)))
@@ -54,7 +54,7 @@ read_back back list text h =
     subst (λ t. SaysRon t (Ok (map cut (map saved_view list)))) is.1
     (map with_text (map saved_view list), printed_is_list list, all_kept back list is.0)
 
--- also as a line
+-- the same with a line feed after it
 pub line_back : ReadsBack → (list : List Saved) (text : List ℕ) → ron_written (map saved_view list) ≡ Ok text
     → SaysRon (text ++ 10 ∷ []) (Ok (map cut (map saved_view list)))
 line_back back list text h =

@@ -1,4 +1,4 @@
--- What is printed of a character stands for it, and so for the characters of a text.
+-- A printed character is read as that character, and so are the characters of a string.
 use Rattle.std.proofs.Common.{◌≡◌, ◌≤◌, ◌<◌, ◌==◌, ◌||◌, ◌⊎◌, ℕ, List, [], ◌∷◌, ◌++◌, length, Bool, true, false, flat_map, if◌then◌else◌, Some, codes, inl, inr, append-nil, append_assoc, refl, sym, ap, subst, ◌∙◌, arith}
 use Rattle.std.proofs.lemmas.Bool.{eqb-true}
 use Rattle.std.proofs.lemmas.Bool.Decides.{Decides-eqb, nat_tests, not_from_Decides}
@@ -15,12 +15,12 @@ use Rattle.cookie_ron.specs.Printed.{printed_char, quoted}
 use Rattle.cookie_ron.proofs.Bools.{both_false, both_true}
 use Rattle.cookie_ron.proofs.Says.{Says, both, ascii_chars, ascii_utf8, just, sign}
 
--- one of two texts
+-- one of two strings, by a test
 choose : (P : List ℕ → Type 0) (test : Bool) (a b : List ℕ) → (test ≡ true → P a) → (test ≡ false → P b) → P (if test then a else b)
 choose P true a b here there = here refl
 choose P false a b here there = there refl
 
--- a backslash and a letter
+-- a one-letter escape
 short : (c letter : ℕ) → is_ascii letter ≡ true → escaped_by letter ≡ Some c → Says (StandsFor c) (codes "\\" ++ letter ∷ [])
 short c letter low is =
     let all_low : list_all is_ascii (codes "\\" ++ letter ∷ []) ≡ true = rw low refl in
@@ -37,7 +37,7 @@ escaped c (inr slash) = subst (λ x. Says (StandsFor x) (codes "\\" ++ x ∷ [])
 is_escaped : (c : ℕ) → ((c == 34) || (c == 92)) ≡ true → (c ≡ 34) ⊎ (c ≡ 92)
 is_escaped c h = grind (arith, nat_tests)
 
--- another that has a letter
+-- another character with a one-letter escape
 lettered : (c d letter : ℕ) → (c == d) ≡ true → is_ascii letter ≡ true → escaped_by letter ≡ Some d → Says (StandsFor c) (codes "\\" ++ letter ∷ [])
 lettered c d letter h low is = subst (λ x. Says (StandsFor x) (codes "\\" ++ letter ∷ [])) (sym (eqb-true c d h)) (short d letter low is)
 
@@ -68,7 +68,7 @@ low_digits (x ∷ ds) h =
     let each = both_true (is_ascii_hexdigit x) (list_all is_ascii_hexdigit ds) h in
     rw (low_digit x each.0, low_digits ds each.1) refl
 
--- its number in digits
+-- a character by its number, in hexadecimal digits
 numbered : (c : ℕ) (ds : List ℕ) → IsScalar c → AllDigits 16 ds → 1 ≤ length ds → length ds ≤ 6 → digits_value 16 ds ≡ c
     → Says (StandsFor c) (codes "\\u{" ++ ds ++ codes "}")
 numbered c ds s all some few is =
@@ -117,7 +117,7 @@ stand_for (c ∷ cs) h =
       );
     }
 
--- a text in quotes
+-- a quoted string
 pub text_in_quotes : (blanks text : List ℕ) → list_all is_blank blanks ≡ true → list_all is_ascii (blanks ++ codes "\"") ≡ true → IsUtf8 text
     → Says (Text text) (blanks ++ quoted text)
 text_in_quotes blanks text b low u =

@@ -1,4 +1,4 @@
--- What is printed of a list of saved cookies is a text of the grammar.
+-- A printed list of saved cookies is of the grammar.
 use Rattle.std.proofs.Common.{◌≡◌, ℕ, List, [], ◌∷◌, ◌++◌, Bool, true, false, map, flat_map, codes, option_map, string_bytes, append-nil, append_assoc, refl, sym, ap, subst, ◌∙◌}
 use Rattle.std.proofs.lemmas.Str.{IsUtf8-string_bytes, IsUtf8-nil, chars-nil}
 use Rattle.std.specs.Str.{IsUtf8, chars}
@@ -16,7 +16,7 @@ use Rattle.cookie_ron.proofs.MomentTexts.{moment_utf8}
 use Rattle.cookie_ron.proofs.PrintedChars.{text_in_quotes}
 use Rattle.cookie_ron.proofs.Says.{Says, ascii_chars, ascii_utf8, both, close, close_comma, sign}
 
--- a text in brackets
+-- a string in parentheses
 argument : (text : List ℕ) → IsUtf8 text → Says (Argument text) (codes "(" ++ (quoted text ++ codes ")"))
 argument text u = both (sign [] (codes "(") refl refl) (both (text_in_quotes [] text refl refl u) (close (sign [] (codes ")") refl refl)))
 
@@ -43,7 +43,7 @@ end : (e : SavedExpiry) → Says (Ends (option_map moment_text (expiry_view e)))
 end (Expiry.AtUtc time) = both (sign (codes " ") (codes "AtUtc") refl refl) (argument _ (moment_utf8 time))
 end Expiry.SessionEnd = sign (codes " ") (codes "SessionEnd") refl refl
 
--- a cookie, from the line feed before its bracket to the bracket behind it
+-- a cookie, from the line feed before its parentheses to their end
 abbrev body : Parts (List ℕ) → List ℕ
 body p =
     codes "\n    (\n"
@@ -76,7 +76,7 @@ cookie s =
     (both (both (sign (codes "\n        ") (codes "expires") refl refl) (both (sign [] (codes ":") refl refl) (end s.expires)))
     (close_comma (both (sign [] (codes ",") refl refl) (sign (codes "\n    ") (codes ")") refl refl))))))))))
 
--- a cookie, and what is behind it
+-- a cookie and what follows it
 step : (p : Parts (List ℕ)) (rest : List ℕ)
     → codes "\n" ++ ((printed_cookie p ++ rest) ++ codes "]") ≡ body p ++ (codes "," ++ (codes "\n" ++ (rest ++ codes "]")))
 step p rest =
@@ -101,7 +101,7 @@ no_blanks = record { utf8 = IsUtf8-nil; says = rw chars-nil refl }
 line_feed : Says Blanks (10 ∷ [])
 line_feed = record { utf8 = ascii_utf8 (10 ∷ []) refl; says = rw (ascii_chars (10 ∷ []) refl) refl }
 
--- the texts of the parts are of saved cookies, so they are UTF-8; blanks may follow
+-- a printed list, blanks after it allowed; the strings of saved cookies are UTF-8
 said : (list : List Saved) {blanks : List ℕ} → Says Blanks blanks → Says (IsList (parts list)) (printed_list (parts list) ++ blanks)
 said [] blanks = both (sign [] (codes "[") refl refl) (both (sign [] (codes "]") refl refl) blanks)
 said (s ∷ list) blanks = both (sign [] (codes "[") refl refl) (both (cookies s list) blanks)
@@ -109,7 +109,7 @@ said (s ∷ list) blanks = both (sign [] (codes "[") refl refl) (both (cookies s
 pub printed_is_list : (list : List Saved) → IsList (map with_text (map saved_view list)) (chars (printed_list (map with_text (map saved_view list))))
 printed_is_list list = subst (λ text. IsList (parts list) (chars text)) (append-nil _) (said list no_blanks).says
 
--- also as a line
+-- the same with a line feed after it
 pub line_is_list : (list : List Saved)
     → IsList (map with_text (map saved_view list)) (chars (printed_list (map with_text (map saved_view list)) ++ 10 ∷ []))
 line_is_list list = (said list line_feed).says

@@ -1,4 +1,4 @@
--- Bytes whose characters are a text of the grammar, put together as the grammar is.
+-- UTF-8 whose characters are of a grammar rule, combined as the rules are.
 use Rattle.std.proofs.Common.{◌≡◌, ◌<◌, ℕ, List, [], ◌∷◌, ◌++◌, true, codes, inl, inr, refl, arith}
 use Rattle.std.proofs.lemmas.Bool.Decides.{nat_tests}
 use Rattle.std.proofs.lemmas.Str.{IsUtf8-append, IsUtf8-from_ascii, chars-append, chars-IsAscii}
@@ -9,12 +9,12 @@ use Rattle.std.specs.Str.{IsAscii, IsUtf8, chars}
 use Rattle.cookie_ron.proofs.Bools.{both_true}
 use Rattle.cookie_ron.specs.Grammar.{◌▸◌, Just, Sign, Close, is_blank}
 
--- the bytes are UTF-8, and their characters are a text of the rule
+-- the bytes are UTF-8, and their characters are of the rule
 pub record Says (P : List ℕ → Type 0) (bs : List ℕ) : Type 0 where
   pub utf8 : IsUtf8 bs
   pub says : P (chars bs)
 
--- of one rule, and behind it of another
+-- a sequence of two rules
 pub both : {P Q : List ℕ → Type 0} {xs ys : List ℕ} → Says P xs → Says Q ys → Says (P ▸ Q) (xs ++ ys)
 both {xs = xs} {ys = ys} p q = record {
   utf8 = IsUtf8-append xs ys p.utf8 q.utf8;
@@ -30,7 +30,7 @@ all_below (x ∷ bs) h =
     let each = both_true (is_ascii x) (list_all is_ascii bs) h in
     IsAscii-cons x bs (below x each.0) (all_below bs each.1)
 
--- bytes of ASCII are UTF-8, and the characters themselves
+-- ASCII bytes are UTF-8, and are their characters
 pub ascii_utf8 : (bs : List ℕ) → list_all is_ascii bs ≡ true → IsUtf8 bs
 ascii_utf8 bs h = IsUtf8-from_ascii bs (all_below bs h)
 
@@ -50,6 +50,6 @@ sign blanks text b h = record {
 pub close : {text bs : List ℕ} → Says (Sign text) bs → Says (Close text) bs
 close s = record { utf8 = s.utf8; says = inl s.says }
 
--- with a comma
+-- a closing token with a comma before it
 pub close_comma : {text bs : List ℕ} → Says (Sign (codes ",") ▸ Sign text) bs → Says (Close text) bs
 close_comma s = record { utf8 = s.utf8; says = inr s.says }

@@ -1,4 +1,4 @@
--- Signs with blanks before them.
+-- Tokens with blanks before them.
 use Rattle.std.proofs.Math.Seq.{drop-cons}
 use Rattle.std.proofs.Common.{◌≡◌, ℕ, ◌<◌, length, drop, arith, List, [], ◌∷◌, ◌++◌, Bool, true, false, not, Option, Some, None, codes, ◌==◌, ◌&&◌, if◌then◌else◌, refl, sym, ap, ◌∙◌, inl, inr, true≢false}
 use Rattle.std.specs.List.{list_all}
@@ -8,12 +8,12 @@ use Rattle.cookie_ron.specs.Grammar.{is_blank, Blanks, Sign, Close}
 use Rattle.cookie_ron.specs.Reading.{drop_blanks, behind, sign_at, either, close_at}
 use Rattle.cookie_ron.proofs.Fronts.{Front, Takes, Misses, joined, front_here, here, there}
 
--- the sign does not begin with a blank
+-- the token is not empty and does not begin with a blank
 abbrev pub is_solid : List ℕ → Bool
 is_solid [] = false
 is_solid (c ∷ cs) = not (is_blank c)
 
--- two signs differ at some place
+-- two tokens differ at some position
 abbrev pub is_apart : List ℕ → List ℕ → Bool
 is_apart [] bs = false
 is_apart (a ∷ cs) [] = false
@@ -41,7 +41,7 @@ pub blanks_over : (x s : List ℕ) → Blanks x → drop_blanks s ≡ s → drop
 blanks_over [] s h e = e
 blanks_over (c ∷ cs) s h e = over_one (is_blank c) (list_all is_blank cs) _ _ s h (λ hs. blanks_over cs s hs e)
 
--- ---- the characters of a sign
+-- ---- the characters of a token
 
 same_if : {A : Type 0} (b : Bool) (o : Option A) (r : A) → (if b then o else None) ≡ Some r → (b ≡ true) × (o ≡ Some r)
 same_if true o r e = (refl, e)
@@ -70,7 +70,7 @@ behind_apart [] b rest h = cc
 behind_apart (a ∷ cs) [] rest h = cc
 behind_apart (a ∷ cs) (b ∷ bs) rest h = apart_one (b == a) (is_apart cs bs) (behind cs (bs ++ rest)) h (λ h. behind_apart cs bs rest h)
 
--- ---- a sign
+-- ---- a token
 
 pub sign_front : {s rest : List ℕ} (sign : List ℕ) → sign_at sign s ≡ Some rest → Front (Sign sign) s rest
 sign_front {s} {rest} sign e = joined (blanks_front s) (front_here sign rest (behind_front sign (drop_blanks s) rest e) refl refl)
@@ -95,14 +95,14 @@ sign_takes sign solid = record {
       ap (behind sign) (sign_over sign x y front rest solid e blanks is) ∙ behind_over sign rest;
 }
 
--- another sign stands there
+-- another token is there
 pub sign_misses : (a b : List ℕ) → is_solid b ≡ true → is_apart a b ≡ true → Misses (Sign b) (λ s. sign_at a s)
 sign_misses a b solid apart = record {
   at = λ front rest (x, y, e, blanks, is).
       ap (behind a) (sign_over b x y front rest solid e blanks is) ∙ behind_apart a b rest apart;
 }
 
--- ---- a closing sign
+-- ---- a closing token
 
 close_cases : {s rest : List ℕ} (sign : List ℕ) (o : Option (List ℕ)) → sign_at (codes ",") s ≡ o
     → either o (λ r. sign_at sign r) (sign_at sign s) ≡ Some rest → Front (Close sign) s rest
@@ -123,7 +123,7 @@ close_takes sign solid apart = record {
       ];
 }
 
--- a sign that goes on behind the end
+-- a token that goes on after the end of the input
 pub behind_end : (sign s : List ℕ) (i : ℕ) → i < length sign → length s ≡ 0 → behind (drop i sign) s ≡ None
 behind_end sign [] i lt none = ap (λ t. behind t []) (drop-cons sign i 0 lt)
 behind_end sign (c ∷ s) i lt none = absurd (omega (arith, none))

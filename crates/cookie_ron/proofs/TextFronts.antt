@@ -1,4 +1,4 @@
--- Texts in quotes.
+-- Quoted strings.
 use Rattle.std.proofs.Common.{◌≡◌, ℕ, zero, suc, ◌<◌, List, [], ◌∷◌, ◌++◌, length, flat_map, Option, Some, None, codes, length-append, refl, sym, ap, subst, ◌∙◌, arith}
 use Rattle.std.specs.Char.{encode_utf8}
 use Rattle.std.specs.List.{AllZip}
@@ -12,16 +12,16 @@ use Rattle.cookie_ron.proofs.Fronts.{Front, Takes, joined, front_of, front_short
 use Rattle.cookie_ron.proofs.SignFronts.{behind_front, sign_front, sign_takes}
 use Rattle.cookie_ron.proofs.CharFronts.{map_some, char_front, char_takes}
 
--- what stands for a character is not empty
+-- a character of a string, escaped or not, is not empty
 part_fits : (c : ℕ) (part : List ℕ) → StandsFor c part → 0 < length part
 part_fits c [] h = let none = (char_takes c).at [] [] h in cc
 part_fits c (x ∷ xs) h = omega arith
 
--- a character takes some of the input
+-- the rest after a character is shorter
 pub char_shorter : (s rest : List ℕ) (c : ℕ) → char_at s ≡ Some (c, rest) → length rest < length s
 char_shorter s rest c e = let f = char_front s rest c e in front_shorter f (part_fits c f.front f.holds)
 
--- ---- the characters that are left are enough
+-- ---- the bound on the characters left is large enough
 
 same_chars : (f g : List ℕ → Option (List ℕ × List ℕ)) (s : List ℕ) (o : Option (ℕ × List ℕ)) → char_at s ≡ o
     → ((t : List ℕ) → length t < length s → f t ≡ g t) → chars_behind f s o ≡ chars_behind g s o
@@ -36,7 +36,7 @@ chars_fuel (suc n) (suc m) s below above =
     same_chars (λ t. chars_at n t) (λ t. chars_at m t) s (char_at s) refl
     (λ t shorter. chars_fuel n m t (omega (arith, shorter, below)) (omega (arith, shorter, above)))
 
--- one more character is in front
+-- one more character has been read
 pub chars_turn : (front text s rest : List ℕ) (c : ℕ) → char_at s ≡ Some (c, rest) → text ≡ front ++ encode_utf8 c
     → onto front (chars_at (suc (length s)) s) ≡ onto text (chars_at (suc (length rest)) rest)
 chars_turn front text s rest c e is =
@@ -103,7 +103,7 @@ chars_takes cs = record {
       ap (λ s. chars_at (suc (length s)) s) same ∙ chars_over cs parts (suc (length (flat_map (λ part. part) parts ++ 34 ∷ rest))) rest all (omega arith);
 }
 
--- ---- a text
+-- ---- a quoted string
 
 pub text_front : {s text rest : List ℕ} → text_at s ≡ Some (text, rest) → Front (Text text) s rest
 unfolding text_at

@@ -1,4 +1,4 @@
--- What a text says, by the list that it is read as.
+-- The result of an input, by the list that it is read as.
 use Rattle.std.proofs.Common.{◌≡◌, ℕ, List, [], Option, Some, None, Result, Ok, Err, ◌⊎◌, inl, inr, refl, sym, subst}
 use Rattle.std.specs.Str.{chars}
 use Rattle.cookie_words.specs.Moments.{Moment}
@@ -14,7 +14,7 @@ use Rattle.cookie_ron.proofs.ListFronts.{list_front, list_read}
 none_read : (s : List ℕ) (parts : List (Parts (List ℕ))) → list_at s ≡ None → ¬ IsList parts s
 none_read s parts none is = let some = list_read s parts is in cc
 
--- a text that is of no list
+-- an input that is not a list
 pub says_none : (text s : List ℕ) (e : SavedError) → s ≡ chars text → (e ≡ Fault.Memory) ⊎ ((e ≡ Fault.Ron) × (list_at s ≡ None))
     → (e ≡ Fault.Memory) ⊎ SaysRon text (Err e)
 says_none text s e same told = elim told [
@@ -22,12 +22,12 @@ says_none text s e same told = elim told [
   | inr (ron, none) ↦ inr (inl (ron, λ parts is. none_read s parts none (subst (λ t. IsList parts t) (sym same) is)))
 ]
 
--- one of a list whose ends are moments
+-- a list whose expiries are valid times
 pub says_list : (text s : List ℕ) (parts : List (Parts (List ℕ))) (list : List (Parts Moment)) → s ≡ chars text → list_at s ≡ Some parts
     → all_with_moment parts ≡ Some list → SaysRon text (Ok list)
 says_list text s parts list same read moments = (parts, subst (λ t. IsList parts t) same (list_front s parts read), moments)
 
--- and one of a list with an end that is none
+-- a list with an expiry that is not a valid time
 pub says_no_moment : (text s : List ℕ) (parts : List (Parts (List ℕ))) (e : SavedError) → s ≡ chars text → list_at s ≡ Some parts
     → (e ≡ Fault.Memory) ⊎ ((e ≡ Fault.Moment) × (all_with_moment parts ≡ None)) → (e ≡ Fault.Memory) ⊎ SaysRon text (Err e)
 says_no_moment text s parts e same read told = elim told [
@@ -35,14 +35,14 @@ says_no_moment text s parts e same read told = elim told [
   | inr (moment, none) ↦ inr (inr (moment, parts, subst (λ t. IsList parts t) same (list_front s parts read), none))
 ]
 
--- the empty text is of no list
+-- the empty input is not a list
 pub empty_says_none : (text : List ℕ) → text ≡ [] → (Fault.Ron ≡ Fault.Memory) ⊎ SaysRon text (Err Fault.Ron)
 unfolding list_at chars
 empty_says_none text none =
     let unread : list_at (chars text) ≡ None = rw none refl in
     says_none text (chars text) Fault.Ron refl (inr (refl, unread))
 
--- each text says something
+-- every input has a result
 pub says : (text : List ℕ) → (answer : Result (List (Parts Moment)) SavedError) × SaysRon text answer
 says text = by_list (list_at (chars text)) refl
   where

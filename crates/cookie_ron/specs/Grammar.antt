@@ -1,4 +1,4 @@
--- The grammar of a list of saved cookies in RON: which texts a list has. The texts are lists of characters.
+-- The grammar of a list of saved cookies in RON. Inputs are lists of characters, strings in a cookie lists of bytes.
 use Rattle.std.specs.Prelude.{◌≡◌, ◌≢◌, ◌⊎◌, ◌≤◌, ◌==◌, ◌||◌, ℕ, Bool, true, List, [], ◌∷◌, ◌++◌, length, codes, flat_map, Option, Some, None, if◌then◌else◌}
 use Rattle.std.specs.Char.{is_ascii_hexdigit, IsScalar}
 use Rattle.std.specs.List.{list_all, AllZip}
@@ -7,11 +7,11 @@ use Rattle.std.specs.Str.Parse.{digits_value}
 use Rattle.cookie_forms.specs.Saved.{Domain, host_only, suffix, not_present, empty, Parts}
 
 infixr 5 ◌▸◌
--- a text of one rule, and behind it one of another
+-- sequence: an input of the rule P, then one of the rule Q
 abbrev pub ◌▸◌ : (List ℕ → Type 0) → (List ℕ → Type 0) → List ℕ → Type 0
 (P ▸ Q) s = (x y : List ℕ) × (s ≡ x ++ y) × P x × Q y
 
--- the text itself
+-- exactly these characters
 abbrev pub Just : List ℕ → List ℕ → Type 0
 Just text s = s ≡ text
 
@@ -19,19 +19,19 @@ Just text s = s ≡ text
 abbrev pub is_blank : ℕ → Bool
 is_blank c = (c == 32) || (c == 9) || (c == 10) || (c == 13)
 
--- any number of them
+-- any number of blanks
 abbrev pub Blanks : List ℕ → Type 0
 Blanks s = list_all is_blank s ≡ true
 
--- a sign of the grammar, with any blanks before it
+-- a token, with any blanks before it
 abbrev pub Sign : List ℕ → List ℕ → Type 0
 Sign sign = Blanks ▸ Just sign
 
--- a closing sign, before which one comma may stand
+-- a closing token, with an optional comma before it
 abbrev pub Close : List ℕ → List ℕ → Type 0
 Close sign s = Sign sign s ⊎ (Sign (codes ",") ▸ Sign sign) s
 
--- the character that a letter behind a backslash stands for
+-- the character of a one-letter escape
 abbrev pub escaped_by : ℕ → Option ℕ
 escaped_by letter =
     if (letter == byte "\"") || (letter == byte "\\") || (letter == byte "'") then Some letter
@@ -40,60 +40,60 @@ escaped_by letter =
     else (if letter == byte "t" then Some 9
     else (if letter == byte "0" then Some 0 else None))))
 
--- it stands for itself, unless it is a quote or a backslash
+-- the character itself, if it is neither a quote nor a backslash
 abbrev pub IsPlain : ℕ → List ℕ → Type 0
 IsPlain c s = (s ≡ c ∷ []) × (c ≢ byte "\"") × (c ≢ byte "\\")
 
--- a backslash and a letter
+-- the character as a one-letter escape: a backslash and a letter
 abbrev pub IsShort : ℕ → List ℕ → Type 0
 IsShort c s = (letter : ℕ) × (s ≡ codes "\\" ++ letter ∷ []) × (escaped_by letter ≡ Some c)
 
--- hexadecimal digits of either case that number it
+-- hexadecimal digits, of either case, whose value is c
 abbrev pub Numbers : ℕ → List ℕ → Type 0
 Numbers c digits = (list_all is_ascii_hexdigit digits ≡ true) × (digits_value 16 digits ≡ c)
 
--- `\x` and two of them
+-- the character as `\x` and two hexadecimal digits
 abbrev pub IsByte : ℕ → List ℕ → Type 0
 IsByte c s = (digits : List ℕ) × (s ≡ codes "\\x" ++ digits) × (length digits ≡ 2) × Numbers c digits
 
--- `\u{`, one to six of them and `}`; the number is that of a character
+-- the character as `\u{`, one to six hexadecimal digits and `}`, whose value is a Unicode scalar value
 abbrev pub IsCode : ℕ → List ℕ → Type 0
 IsCode c s =
     (digits : List ℕ) × (s ≡ codes "\\u{" ++ digits ++ codes "}")
     × (1 ≤ length digits) × (length digits ≤ 6) × Numbers c digits × IsScalar c
 
--- what stands for a character in a text
+-- a character of a string, as itself or as an escape
 abbrev pub StandsFor : ℕ → List ℕ → Type 0
 StandsFor c s = IsPlain c s ⊎ IsShort c s ⊎ IsByte c s ⊎ IsCode c s
 
--- what stands for these characters, one after the other
+-- the characters of a string, one after the other
 abbrev pub StandFor : List ℕ → List ℕ → Type 0
 StandFor cs s = (parts : List (List ℕ)) × (s ≡ flat_map (λ part. part) parts) × AllZip StandsFor cs parts
 
--- a text in quotes
+-- a quoted string
 abbrev pub Text : List ℕ → List ℕ → Type 0
 Text text s = (cs : List ℕ) × (text ≡ encode_utf8_all cs) × (Sign (codes "\"") ▸ StandFor cs ▸ Just (codes "\"")) s
 
--- true or false
+-- `true` or `false`
 abbrev pub Flag : Bool → List ℕ → Type 0
 Flag flag = Sign (if flag then codes "true" else codes "false")
 
--- a text in brackets
+-- a string in parentheses
 abbrev pub Argument : List ℕ → List ℕ → Type 0
 Argument text = Sign (codes "(") ▸ Text text ▸ Close (codes ")")
 
--- a path's text, and whether a Path attribute set it
+-- a path, and whether a Path attribute set it, in parentheses
 abbrev pub PathPair : List ℕ → Bool → List ℕ → Type 0
 PathPair path from_attr = Sign (codes "(") ▸ Text path ▸ Sign (codes ",") ▸ Flag from_attr ▸ Close (codes ")")
 
--- a domain's kind, with its text where it has one
+-- a domain: its kind, with its string if it has one
 abbrev pub DomainValue : Domain → List ℕ → Type 0
 DomainValue (host_only text) = Sign (codes "HostOnly") ▸ Argument text
 DomainValue (suffix text) = Sign (codes "Suffix") ▸ Argument text
 DomainValue not_present = Sign (codes "NotPresent")
 DomainValue empty = Sign (codes "Empty")
 
--- the text of an end, or the end of the session
+-- an expiry: the string of its time, or `SessionEnd`
 abbrev pub Ends : Option (List ℕ) → List ℕ → Type 0
 Ends (Some text) = Sign (codes "AtUtc") ▸ Argument text
 Ends None = Sign (codes "SessionEnd")
@@ -112,12 +112,12 @@ Cookie p =
     ▸ Field (codes "expires") (Ends p.ends)
     ▸ Close (codes ")")
 
--- cookies with commas between them, and the closing bracket
+-- cookies, separated by commas, and the closing bracket
 abbrev pub Cookies : List (Parts (List ℕ)) → List ℕ → Type 0
 Cookies [] = Sign (codes "]")
 Cookies (p ∷ []) = Cookie p ▸ Close (codes "]")
 Cookies (p ∷ q ∷ ps) = Cookie p ▸ Sign (codes ",") ▸ Cookies (q ∷ ps)
 
--- a list in brackets, with any blanks at its end
+-- a list in brackets, with any blanks after it
 abbrev pub IsList : List (Parts (List ℕ)) → List ℕ → Type 0
 IsList ps = Sign (codes "[") ▸ Cookies ps ▸ Blanks

@@ -1,4 +1,4 @@
--- The text that is printed of a list of saved cookies, as bytes in UTF-8.
+-- What is printed for a list of saved cookies, as UTF-8.
 use Rattle.std.specs.Prelude.{◌==◌, ◌||◌, ℕ, Bool, false, List, [], ◌∷◌, ◌++◌, codes, flat_map, map, Option, Some, None, Result, Ok, Err, if◌then◌else◌}
 use Rattle.std.specs.Char.{encode_utf8, is_control}
 use Rattle.std.specs.Fmt.{digits}
@@ -10,7 +10,7 @@ use Rattle.cookie_forms.specs.WrittenTrees.{is_early, with_text}
 use Rattle.cookie_forms.specs.declared.error.SavedError.{SavedError}
 use Rattle.cookie_forms.specs.declared.error.SavedError.TheVariants as Fault
 
--- a character: a quote, a backslash and a control character as an escape, each other as itself
+-- a character: a quote, a backslash or a control character as an escape, any other as itself
 abbrev pub printed_char : ℕ → List ℕ
 printed_char c =
     if (c == byte "\"") || (c == byte "\\") then codes "\\" ++ c ∷ []
@@ -19,22 +19,26 @@ printed_char c =
     else (if c == 9 then codes "\\t"
     else (if is_control c then codes "\\u{" ++ digits 16 false c ++ codes "}" else encode_utf8 c))))
 
--- a text in quotes
+-- a quoted string
 abbrev pub quoted : List ℕ → List ℕ
 quoted text = codes "\"" ++ flat_map printed_char (chars text) ++ codes "\""
 
+-- `true` or `false`
 abbrev pub printed_flag : Bool → List ℕ
 printed_flag flag = if flag then codes "true" else codes "false"
 
+-- a path, and whether a Path attribute set it
 abbrev pub printed_path : List ℕ → Bool → List ℕ
 printed_path path from_attr = codes "(" ++ quoted path ++ codes ", " ++ printed_flag from_attr ++ codes ")"
 
+-- a domain
 abbrev pub printed_domain : Domain → List ℕ
 printed_domain (host_only text) = codes "HostOnly(" ++ quoted text ++ codes ")"
 printed_domain (suffix text) = codes "Suffix(" ++ quoted text ++ codes ")"
 printed_domain not_present = codes "NotPresent"
 printed_domain empty = codes "Empty"
 
+-- an expiry, `SessionEnd` for a session cookie
 abbrev pub printed_end : Option (List ℕ) → List ℕ
 printed_end (Some text) = codes "AtUtc(" ++ quoted text ++ codes ")"
 printed_end None = codes "SessionEnd"
@@ -53,11 +57,11 @@ printed_cookie p =
     ++ printed_field (codes "expires") (printed_end p.ends)
     ++ codes "    ),\n"
 
--- a list: `[]` without cookies, and else a bracket on a line, the cookies, and a bracket
+-- a list: `[]` if empty, else a bracket on a line of its own, the cookies, and a bracket
 abbrev pub printed_list : List (Parts (List ℕ)) → List ℕ
 printed_list [] = codes "[]"
 printed_list (p ∷ ps) = codes "[\n" ++ flat_map printed_cookie (p ∷ ps) ++ codes "]"
 
--- the text of a list; a list with an end before the year 0 is refused
+-- what is printed for a list, or `Moment` if an expiry is before the year 0
 abbrev pub ron_written : List (Parts Moment) → Result (List ℕ) SavedError
 ron_written ps = if list_any is_early ps then Err Fault.Moment else Ok (printed_list (map with_text ps))

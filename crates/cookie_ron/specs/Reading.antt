@@ -1,4 +1,4 @@
--- What a text in RON is read as: each function takes the characters that are left, and gives what it read and the rest.
+-- What an input in RON is read as: each function takes the characters that are left, and returns what it read and the rest.
 use lib.Utf8.{scalar}
 use Rattle.std.specs.Prelude.{◌==◌, ℕ, ◌+◌, zero, suc, Bool, true, false, ◌&&◌, List, [], ◌∷◌, ◌++◌, length, take, drop, codes, nat_le, Option, Some, None, option_map, option_and_then, if◌then◌else◌}
 use Rattle.std.specs.Char.{encode_utf8, is_ascii_hexdigit}
@@ -9,101 +9,101 @@ use Rattle.cookie_words.specs.Steps.{◌>>=◌}
 use Rattle.cookie_forms.specs.Saved.{Domain, host_only, suffix, not_present, empty, Parts}
 use Rattle.cookie_ron.specs.Grammar.{is_blank, escaped_by}
 
--- what is behind any blanks
+-- the rest after any blanks
 abbrev pub drop_blanks : List ℕ → List ℕ
 drop_blanks [] = []
 drop_blanks (c ∷ cs) = if is_blank c then drop_blanks cs else c ∷ cs
 
--- what is behind these characters
+-- the rest after exactly these characters
 abbrev pub behind : List ℕ → List ℕ → Option (List ℕ)
 behind [] s = Some s
 behind (c ∷ cs) [] = None
 behind (c ∷ cs) (d ∷ s) = if d == c then behind cs s else None
 
--- what is behind a sign
+-- the rest after a token, with any blanks before it
 abbrev pub sign_at : List ℕ → List ℕ → Option (List ℕ)
 sign_at sign s = behind sign (drop_blanks s)
 
--- what is read behind a sign, or in its place where it is not there
+-- `read` applied to the rest if there is one, else `other`
 abbrev pub either : {A : Type 0} → Option (List ℕ) → (List ℕ → Option A) → Option A → Option A
 either None read other = other
 either (Some rest) read other = read rest
 
--- what is behind a closing sign
+-- the rest after a closing token, with an optional comma before it
 abbrev pub close_at : List ℕ → List ℕ → Option (List ℕ)
 close_at sign s = either (sign_at (codes ",") s) (λ rest. sign_at sign rest) (sign_at sign s)
 
--- the number that hexadecimal digits write
+-- the value of hexadecimal digits
 abbrev pub hex_value : List ℕ → Option ℕ
 hex_value digits = if list_all is_ascii_hexdigit digits then Some (digits_value 16 digits) else None
 
--- behind `\x`
+-- the character after `\x`
 abbrev pub byte_at : List ℕ → Option (ℕ × List ℕ)
 byte_at [] = None
 byte_at (c ∷ []) = None
 byte_at (c ∷ d ∷ s) = option_map (λ value. (value, s)) (hex_value (c ∷ d ∷ []))
 
--- the character that one to six digits number
+-- the character with the number that one to six hexadecimal digits give
 abbrev pub code_of : List ℕ → Option ℕ
 code_of digits =
     if nat_le 1 (length digits) && nat_le (length digits) 6
     then option_and_then (λ value. if scalar value then Some value else None) (hex_value digits) else None
 
--- the place of the first closing brace
+-- the index of the first closing brace
 unfoldable pub brace_in : List ℕ → Option ℕ
 brace_in s = position (λ c. c == byte "}") s
 
--- what is in front of a closing brace, and what is behind it
+-- the input before and after the first closing brace
 unfoldable pub in_braces : List ℕ → Option (List ℕ × List ℕ)
 in_braces s = option_map (λ end. (take end s, drop (end + 1) s)) (brace_in s)
 
--- behind `\u`
+-- the character after `\u`
 abbrev pub code_at : List ℕ → Option (ℕ × List ℕ)
 code_at [] = None
 code_at (c ∷ s) =
     if c == byte "{"
     then option_and_then (λ braced. option_map (λ code. (code, braced.1)) (code_of braced.0)) (in_braces s) else None
 
--- behind a backslash
+-- the character of an escape, after its backslash
 abbrev pub escape_at : List ℕ → Option (ℕ × List ℕ)
 escape_at [] = None
 escape_at (c ∷ s) =
     if c == byte "x" then byte_at s
     else (if c == byte "u" then code_at s else option_map (λ value. (value, s)) (escaped_by c))
 
--- a character of a text
+-- a character of a string
 abbrev pub char_at : List ℕ → Option (ℕ × List ℕ)
 char_at [] = None
 char_at (c ∷ s) =
     if c == byte "\\" then escape_at s else (if c == byte "\"" then None else Some (c, s))
 
--- what was read before, and then this
+-- prepends what was read before
 abbrev pub onto : {A : Type 0} → List A → Option (List A × List ℕ) → Option (List A × List ℕ)
 onto before o = option_map (λ read. (before ++ read.0, read.1)) o
 
--- a character was read, and more of them follow; or there was none, and the closing quote stands there
+-- after a character, more of them; if there was none, the closing quote
 abbrev pub chars_behind : (List ℕ → Option (List ℕ × List ℕ)) → List ℕ → Option (ℕ × List ℕ) → Option (List ℕ × List ℕ)
 chars_behind more s None = option_map (λ rest. ([], rest)) (behind (codes "\"") s)
 chars_behind more s (Some first) = onto (encode_utf8 first.0) (more first.1)
 
--- the characters of a text up to its closing quote, in UTF-8; `n` is more than the characters that are left
+-- the characters of a string up to its closing quote, in UTF-8; `n` is larger than the number of characters left
 abbrev pub chars_at : ℕ → List ℕ → Option (List ℕ × List ℕ)
 chars_at zero s = None
 chars_at (suc n) s = chars_behind (λ rest. chars_at n rest) s (char_at s)
 
--- a text in quotes
+-- a quoted string
 unfoldable pub text_at : List ℕ → Option (List ℕ × List ℕ)
 text_at s = do
   rest ← sign_at (codes "\"") s
   chars_at (suc (length rest)) rest
 
--- true or false
+-- `true` or `false`
 unfoldable pub flag_at : List ℕ → Option (Bool × List ℕ)
 flag_at s =
     either (sign_at (codes "true") s) (λ rest. Some (true, rest))
     (option_map (λ rest. (false, rest)) (sign_at (codes "false") s))
 
--- a text in brackets
+-- a string in parentheses
 unfoldable pub argument_at : List ℕ → Option (List ℕ × List ℕ)
 argument_at s = do
   in_brackets ← sign_at (codes "(") s
@@ -111,7 +111,7 @@ argument_at s = do
   rest ← close_at (codes ")") text.1
   Some (text.0, rest)
 
--- a path's text, and whether a Path attribute set it
+-- a path, and whether a Path attribute set it
 unfoldable pub path_at : List ℕ → Option ((List ℕ × Bool) × List ℕ)
 path_at s = do
   in_brackets ← sign_at (codes "(") s
@@ -129,13 +129,13 @@ domain_at s =
     (either (sign_at (codes "NotPresent") s) (λ rest. Some (not_present, rest))
     (option_map (λ rest. (empty, rest)) (sign_at (codes "Empty") s))))
 
--- the text of an end, or `None` for the end of the session
+-- the string of an expiry, or `None` for `SessionEnd`
 unfoldable pub end_at : List ℕ → Option (Option (List ℕ) × List ℕ)
 end_at s =
     either (sign_at (codes "AtUtc") s) (λ rest. option_map (λ text. (Some text.0, text.1)) (argument_at rest))
     (option_map (λ rest. (None, rest)) (sign_at (codes "SessionEnd") s))
 
--- what is behind a field's name and its colon
+-- the rest after a field's name and colon
 unfoldable pub name_at : List ℕ → List ℕ → Option (List ℕ)
 name_at name s = do
   colon ← sign_at name s
@@ -145,7 +145,7 @@ name_at name s = do
 abbrev pub field_at : {A : Type 0} → List ℕ → (List ℕ → Option A) → List ℕ → Option A
 field_at name value s = option_and_then value (name_at name s)
 
--- the Set-Cookie text, and the path
+-- the fields `raw_cookie` and `path`
 unfoldable pub first_fields_at : List ℕ → Option ((List ℕ × (List ℕ × Bool)) × List ℕ)
 first_fields_at s = do
   raw_cookie ← field_at (codes "raw_cookie") text_at s
@@ -153,7 +153,7 @@ first_fields_at s = do
   path ← field_at (codes "path") path_at second
   Some ((raw_cookie.0, path.0), path.1)
 
--- the domain, and the end
+-- the fields `domain` and `expires`
 unfoldable pub last_fields_at : List ℕ → Option ((Domain × Option (List ℕ)) × List ℕ)
 last_fields_at s = do
   domain ← field_at (codes "domain") domain_at s
@@ -180,12 +180,12 @@ cookie_at s = do
     rest,
   )
 
--- behind a cookie: more of them behind a comma, or the closing bracket
+-- after a cookie: a comma and more cookies, or the closing bracket
 abbrev pub behind_cookie : (List ℕ → Option (List (Parts (List ℕ)) × List ℕ)) → List ℕ → Option (List (Parts (List ℕ)) × List ℕ)
 behind_cookie more s =
     either (sign_at (codes ",") s) more (option_map (λ rest. ([], rest)) (sign_at (codes "]") s))
 
--- the cookies of a list up to its closing bracket; `n` is more than the characters that are left
+-- the cookies of a list up to its closing bracket; `n` is larger than the number of characters left
 abbrev pub cookies_at : ℕ → List ℕ → Option (List (Parts (List ℕ)) × List ℕ)
 cookies_at zero s = None
 cookies_at (suc n) s =
@@ -194,12 +194,12 @@ cookies_at (suc n) s =
     (λ first. onto (first.0 ∷ []) (behind_cookie (λ rest. cookies_at n rest) first.1))
     (cookie_at s))
 
--- where nothing is left
+-- the value, if nothing is left of the input
 abbrev pub if_empty : {A : Type 0} → A → List ℕ → Option A
 if_empty a [] = Some a
 if_empty a (c ∷ cs) = None
 
--- the list of a text's characters
+-- the list of a whole input
 unfoldable pub list_at : List ℕ → Option (List (Parts (List ℕ)))
 list_at s = do
   cookies ← sign_at (codes "[") s

@@ -1,4 +1,4 @@
--- The list that a text in RON says, or why it says none.
+-- The result of reading an input in RON: a list or an error.
 use Rattle.std.specs.Prelude.{◌≡◌, ◌⊎◌, ℕ, List, Some, None, Result, Ok, Err}
 use Rattle.std.specs.Str.{chars}
 use Rattle.cookie_words.specs.Moments.{Moment}
@@ -8,8 +8,8 @@ use Rattle.cookie_forms.specs.declared.error.SavedError.{SavedError}
 use Rattle.cookie_forms.specs.declared.error.SavedError.TheVariants as Fault
 use Rattle.cookie_ron.specs.Grammar.{IsList}
 
--- The text is of the grammar, of a list whose texts of ends are moments; or it is of none, `Ron`; or of one of whose ends some text
--- is no moment, `Moment`.
+-- A list: the input is that list by the grammar, and each expiry is a valid time. `Ron`: the input is no list by the grammar.
+-- `Moment`: the input is a list by the grammar, and some expiry is not a valid time.
 abbrev pub SaysRon : List ℕ → Result (List (Parts Moment)) SavedError → Type 0
 SaysRon text (Ok list) = (parts : List (Parts (List ℕ))) × IsList parts (chars text) × (all_with_moment parts ≡ Some list)
 SaysRon text (Err fault) =

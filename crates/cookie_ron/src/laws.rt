@@ -1,4 +1,4 @@
-//! Laws of lists in RON, over their definitions alone.
+//! Laws about lists in RON, stated over definitions alone.
 ghost use Rattle.std.specs.Prelude.{◌≡◌, ◌++◌, ℕ, List, [], ◌∷◌, map, Ok, Result};
 ghost use Rattle.cookie_words.specs.Moments.{Moment};
 ghost use Rattle.cookie_forms.specs.ReadTrees.{cut};
@@ -11,12 +11,12 @@ ghost use Rattle.cookie_ron.specs.RonLists.{SaysRon};
 
 use cookie_forms::laws::moments_read_back;
 
-/// A text, as its characters, is of the grammar of one list at most.
+/// The grammar is unambiguous: a sequence of characters is the RON of at most one list.
 pub fn texts_say_one_list()
     ensures { (parts others : List (Parts (List ℕ))) (text : List ℕ) → IsList parts text → IsList others text → parts ≡ others }
 {}
 
-/// So a text, as its bytes, says at most one thing: one list, or one refusal.
+/// An input, as bytes, has at most one result: one list or one error.
 pub fn answers_are_one()
     ensures { (text : List ℕ) (answer other : Result (List (Parts Moment)) SavedError) → SaysRon text answer → SaysRon text other
         → answer ≡ other }
@@ -24,12 +24,13 @@ pub fn answers_are_one()
     texts_say_one_list();
 }
 
-/// And each says something.
+/// Every input has a result: a list or an error.
 pub fn all_texts_say()
     ensures { (text : List ℕ) → (answer : Result (List (Parts Moment)) SavedError) × SaysRon text answer }
 {}
 
-/// What is printed of a list says that list, each end cut to whole seconds, also with a line feed behind it.
+/// A list, printed and read back, is unchanged but for the expiries, which are cut to whole
+/// seconds. The same holds with a line feed after the printed list.
 pub fn printed_reads_back()
     ensures text { (list : List Saved) (text : List ℕ) → ron_written (map saved_view list) ≡ Ok text
         → SaysRon text (Ok (map cut (map saved_view list))) }

@@ -1,4 +1,4 @@
-//! Lists of saved cookies in RON.
+//! Reads and prints lists of saved cookies in RON.
 #![tactic(auto)]
 
 pub mod laws;

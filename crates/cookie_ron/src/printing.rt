@@ -1,4 +1,4 @@
-//! Lists of saved cookies as texts of RON.
+//! Prints lists of saved cookies in RON.
 ghost use Rattle.std.specs.Prelude.{◌≡◌, ◌⊎◌, ◌++◌, codes, false, flat_map, Err, IfErr, IfOk, map, Ok, OnOk, option_map, string_bytes};
 ghost use Rattle.std.specs.Str.{chars};
 ghost use Rattle.std.specs.List.{list_any};
@@ -10,7 +10,7 @@ ghost use Rattle.cookie_ron.specs.Printed.{printed_char, quoted, printed_path, p
 use cookie_forms::{Saved, SavedDomain, SavedError, SavedExpiry, moment_text};
 use std::alloc::{AllocError, Global};
 
-/// The text of a list: `[]` of no cookies, and else a bracket, each cookie, and a bracket, without a line feed at its end:
+/// Prints a list of saved cookies in RON, without a line feed at the end:
 ///
 /// ```text
 /// [
@@ -23,8 +23,13 @@ use std::alloc::{AllocError, Global};
 /// ]
 /// ```
 ///
-/// In texts a quote, a backslash and each control character is an escape. Ends are cut to whole seconds. An end before the year 0
-/// anywhere in the list is refused `Moment`, and no memory is wanted before that; `Memory` where there was no room.
+/// An empty list is printed as `[]`. In strings, quotes, backslashes and control characters are
+/// escaped. Expiries are cut to whole seconds.
+///
+/// # Errors
+///
+/// - `Moment`: an expiry is before the year 0. Tested before anything is allocated.
+/// - `Memory`: out of memory.
 pub fn to_ron(alloc: Global, list: &[Saved]) -> Result<String, SavedError>
     ensures text { IfOk result (λ text. ron_written (map saved_view list.now) ≡ Ok (string_bytes text)) }
     ensures early { ron_written (map saved_view list.now) ≡ Err SavedError.Moment → result ≡ Err SavedError.Moment }
@@ -38,7 +43,7 @@ pub fn to_ron(alloc: Global, list: &[Saved]) -> Result<String, SavedError>
     Ok(text)
 }
 
-// Whether a moment of the list is before the year 0.
+// Whether any expiry in the list is before the year 0.
 fn any_early(list: &[Saved]) -> bool
     ensures { result ≡ list_any is_early (map saved_view list.now) }
 {
@@ -50,7 +55,7 @@ fn any_early(list: &[Saved]) -> bool
     false
 }
 
-// Whether the moment, if there is one, is before the year 0.
+// Whether the expiry is before the year 0.
 fn is_early(expires: SavedExpiry) -> bool
     ensures { result ≡ ends_early (expiry_view expires) }
 {
@@ -60,7 +65,7 @@ fn is_early(expires: SavedExpiry) -> bool
     }
 }
 
-// Appends a list of cookies that end from the year 0 on.
+// Appends a list in which no expiry is before the year 0.
 fn push_list(alloc: Global, text: &mut String, list: &[Saved]) -> Result<(), SavedError>
     requires { list_any is_early (map saved_view list.now) ≡ false }
     ensures text { OnOk result (string_bytes text.new ≡ string_bytes text.old ++ printed_list (map with_text (map saved_view list.now))) }
@@ -74,7 +79,7 @@ fn push_list(alloc: Global, text: &mut String, list: &[Saved]) -> Result<(), Sav
     Ok(text.push(']')?)
 }
 
-// Appends the cookies one after the other.
+// Appends the cookies, one after the other.
 fn push_cookies(alloc: Global, text: &mut String, list: &[Saved]) -> Result<(), SavedError>
     requires { list_any is_early (map saved_view list.now) ≡ false }
     ensures text { OnOk result (string_bytes text.new ≡ string_bytes text.old
@@ -87,7 +92,7 @@ fn push_cookies(alloc: Global, text: &mut String, list: &[Saved]) -> Result<(), 
     Ok(())
 }
 
-// Appends a cookie that ends from the year 0 on.
+// Appends a cookie whose expiry is not before the year 0.
 fn push_cookie(alloc: Global, text: &mut String, saved: &Saved) -> Result<(), SavedError>
     requires { is_early (saved_view saved.now) ≡ false }
     ensures text { OnOk result (string_bytes text.new ≡ string_bytes text.old ++ printed_cookie (with_text (saved_view saved.now))) }
@@ -109,7 +114,7 @@ fn push_cookie(alloc: Global, text: &mut String, saved: &Saved) -> Result<(), Sa
     Ok(text.push_str("    ),\n")?)
 }
 
-// Appends a field's indent and name, and the colon.
+// Appends a field's indent, name and colon.
 fn push_name(text: &mut String, name: &str) -> Result<(), AllocError>
     ensures { OnOk result (string_bytes text.new ≡ string_bytes text.old ++ (codes "        " ++ name.now ++ codes ": ")) }
 {
@@ -118,7 +123,7 @@ fn push_name(text: &mut String, name: &str) -> Result<(), AllocError>
     text.push_str(": ")
 }
 
-// Appends a path's text and whether a Path attribute set it.
+// Appends a path, and whether a Path attribute set it.
 fn push_path(text: &mut String, path: &str, from_attr: bool) -> Result<(), AllocError>
     ensures { OnOk result (string_bytes text.new ≡ string_bytes text.old ++ printed_path path.now from_attr) }
 {
@@ -141,7 +146,7 @@ fn push_domain(text: &mut String, domain: &SavedDomain) -> Result<(), AllocError
     }
 }
 
-// Appends an end from the year 0 on.
+// Appends an expiry that is not before the year 0.
 fn push_end(alloc: Global, text: &mut String, expires: SavedExpiry) -> Result<(), SavedError>
     requires { ends_early (expiry_view expires) ≡ false }
     ensures text { OnOk result (string_bytes text.new ≡ string_bytes text.old ++ printed_end (option_map moment_text (expiry_view expires))) }
@@ -156,7 +161,7 @@ fn push_end(alloc: Global, text: &mut String, expires: SavedExpiry) -> Result<()
     }
 }
 
-// Appends a tag, and a text in quotes and brackets.
+// Appends a tag, and a quoted string in parentheses.
 fn push_tagged(text: &mut String, tag: &str, argument: &str) -> Result<(), AllocError>
     ensures { OnOk result (string_bytes text.new ≡ string_bytes text.old ++ (tag.now ++ codes "(" ++ quoted argument.now ++ codes ")")) }
 {
@@ -166,7 +171,7 @@ fn push_tagged(text: &mut String, tag: &str, argument: &str) -> Result<(), Alloc
     text.push(')')
 }
 
-// Appends a text in quotes.
+// Appends a quoted string.
 fn push_quoted(text: &mut String, content: &str) -> Result<(), AllocError>
     ensures { OnOk result (string_bytes text.new ≡ string_bytes text.old ++ quoted content.now) }
 {
@@ -175,7 +180,7 @@ fn push_quoted(text: &mut String, content: &str) -> Result<(), AllocError>
     text.push('"')
 }
 
-// Appends what stands for the characters of a text.
+// Appends the characters of a string, escaped where necessary.
 fn push_chars(text: &mut String, content: &str) -> Result<(), AllocError>
     ensures { OnOk result (string_bytes text.new ≡ string_bytes text.old ++ flat_map printed_char (chars content.now)) }
 {
@@ -185,7 +190,7 @@ fn push_chars(text: &mut String, content: &str) -> Result<(), AllocError>
     Ok(())
 }
 
-// Appends what stands for a character.
+// Appends a character, escaped if necessary.
 fn push_char(text: &mut String, c: char) -> Result<(), AllocError>
     ensures { OnOk result (string_bytes text.new ≡ string_bytes text.old ++ printed_char c) }
 {

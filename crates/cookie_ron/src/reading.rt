@@ -1,4 +1,6 @@
-//! Saved cookies out of a list in RON.
+//! Reads lists of saved cookies in RON.
+//!
+//! A parser takes the characters that are left, and returns what it read with the rest of them.
 ghost use Rattle.std.specs.Prelude.{◌≡◌, ◌≢◌, ◌⊎◌, ℕ, List, [], None, Some, Ok, Err, IfOk, IfErr, IsOk, length, map, option_map, suc, string_bytes};
 ghost use Rattle.std.specs.Str.{chars};
 ghost use Rattle.cookie_forms.specs.Saved.{saved_view, domain_view, expiry_view};
@@ -12,7 +14,7 @@ use crate::texts::text_at;
 use cookie_forms::{Saved, SavedDomain, SavedError, SavedExpiry, read_moment};
 use std::alloc::{AllocError, Global};
 
-// A saved cookie whose end is not read yet.
+// A saved cookie whose expiry is not parsed yet.
 #[derive(Drop)]
 struct Entry {
     raw_cookie: String,
@@ -22,11 +24,25 @@ struct Entry {
     ends: Option<String>,
 }
 
-/// The saved cookies of a list in RON: of what [`to_ron`](crate::to_ron) prints, of the same with other blanks, with or without the commas
-/// before closing signs, and with any of Rust's escapes in its texts, as in
-/// `[(raw_cookie:"\x61=1",path:("/",true),domain:Suffix("a.com"),expires:AtUtc("2100-08-03T00:38:37.5Z"))]`. An end keeps the fraction
-/// of its second. `Ron` where the text is of no list, and else `Moment` where the text of an end is no moment. `Memory` where there was
-/// no room, which may be found before either, but for the empty text.
+/// Reads a list of saved cookies in RON.
+///
+/// Accepts what [`to_ron`](crate::to_ron) prints, also with other spaces, tabs and line ends, with
+/// or without a comma after the last item in parentheses or brackets, and with the escapes `\"`,
+/// `\\`, `\'`, `\n`, `\r`, `\t`, `\0`, `\x61` and `\u{61}` in strings:
+///
+/// ```text
+/// [(raw_cookie:"\x61=1",path:("/",true),domain:Suffix("a.com"),
+/// expires:AtUtc("2100-08-03T00:38:37.5Z"))]
+/// ```
+///
+/// An expiry keeps its fraction of a second.
+///
+/// # Errors
+///
+/// - `Ron`: `text` is not such a list.
+/// - `Moment`: it is, but an expiry is not a valid time.
+/// - `Memory`: out of memory. May be returned in place of either of the others; only an empty
+///   `text` is always `Ron`.
 pub fn from_ron(alloc: Global, text: &str) -> Result<Vec<Saved>, SavedError>
     ensures list { IfOk result (λ list. SaysRon text.now (Ok (map saved_view list.items))) }
     ensures refused { IfErr result (λ e. (e ≡ SavedError.Memory) ⊎ SaysRon text.now (Err e)) }
@@ -39,14 +55,14 @@ pub fn from_ron(alloc: Global, text: &str) -> Result<Vec<Saved>, SavedError>
     with_moments(alloc, list_at(alloc, &input)?)
 }
 
-// The characters of a text.
+// Collects the characters of a string.
 fn chars_of(alloc: Global, text: &str) -> Result<Vec<char>, AllocError>
     ensures { IfOk result (λ list. list.items ≡ chars text.now) }
 {
     text.chars().collect(alloc)
 }
 
-// The saved cookies with their ends read.
+// Parses the expiry of each cookie.
 #[tactic(auto, using(crate::proofs::EndsRead::end_steps))]
 fn with_moments(alloc: Global, entries: Vec<Entry>) -> Result<Vec<Saved>, SavedError>
     ensures read { IfOk result (λ list. all_with_moment (map entry_view entries.items) ≡ Some (map saved_view list.items)) }
@@ -61,7 +77,7 @@ fn with_moments(alloc: Global, entries: Vec<Entry>) -> Result<Vec<Saved>, SavedE
     Ok(list)
 }
 
-// The saved cookie with its end read.
+// Parses the expiry of a cookie.
 fn saved_from(entry: Entry) -> Result<Saved, SavedError>
     ensures read { IfOk result (λ saved. with_moment (entry_view entry) ≡ Some (saved_view saved)) }
     ensures refused { IfErr result (λ e. (e ≡ SavedError.Moment) × (with_moment (entry_view entry) ≡ None)) }
@@ -76,7 +92,7 @@ fn saved_from(entry: Entry) -> Result<Saved, SavedError>
     })
 }
 
-// The end that a text writes, or the end of the session without one.
+// Parses an expiry; `None` stands for a session cookie.
 fn expiry_at(ends: &Option<String>) -> Result<SavedExpiry, SavedError>
     ensures read { IfOk result (λ expires. ends_at (option_map string_bytes ends.now) ≡ Some (expiry_view expires)) }
     ensures refused { IfErr result (λ e. (e ≡ SavedError.Moment) × (ends_at (option_map string_bytes ends.now) ≡ None)) }
@@ -87,7 +103,7 @@ fn expiry_at(ends: &Option<String>) -> Result<SavedExpiry, SavedError>
     }
 }
 
-// The cookies of a list.
+// Reads a whole list, up to the end of the input.
 #[tactic(auto, unfolding(crate::specs::Reading::list_at))]
 fn list_at(alloc: Global, input: &[char]) -> Result<Vec<Entry>, SavedError>
     ensures read { IfOk result (λ list. list_at input.now ≡ Some (map entry_view list.items)) }
@@ -102,7 +118,7 @@ fn list_at(alloc: Global, input: &[char]) -> Result<Vec<Entry>, SavedError>
     }
 }
 
-// The cookies up to the closing bracket of a list.
+// Reads the cookies of a list, up to its closing bracket.
 fn cookies_at(alloc: Global, input: &[char]) -> Result<(Vec<Entry>, &[char]), SavedError>
     ensures read { IfOk result (λ p. cookies_at (suc (length input.now)) input.now ≡ Some (map entry_view p.0.items, p.1.now)) }
     ensures refused { IfErr result (λ e. (e ≡ SavedError.Memory)
@@ -124,7 +140,7 @@ fn cookies_at(alloc: Global, input: &[char]) -> Result<(Vec<Entry>, &[char]), Sa
     }
 }
 
-// A saved cookie.
+// Reads a saved cookie.
 #[tactic(auto, unfolding(crate::specs::Reading::cookie_at))]
 fn cookie_at(alloc: Global, input: &[char]) -> Result<(Entry, &[char]), SavedError>
     ensures read { IfOk result (λ p. cookie_at input.now ≡ Some (entry_view p.0, p.1.now)) }
@@ -144,7 +160,7 @@ fn cookie_at(alloc: Global, input: &[char]) -> Result<(Entry, &[char]), SavedErr
     Ok((entry, rest))
 }
 
-// The Set-Cookie text, and the path.
+// Reads the fields `raw_cookie` and `path`.
 #[tactic(auto, unfolding(crate::specs::Reading::first_fields_at))]
 fn first_fields_at(
     alloc: Global,
@@ -160,7 +176,7 @@ fn first_fields_at(
     Ok((raw_cookie, path, from_attr, rest))
 }
 
-// The domain, and the end.
+// Reads the fields `domain` and `expires`.
 #[tactic(auto, unfolding(crate::specs::Reading::last_fields_at))]
 fn last_fields_at(
     alloc: Global,
@@ -176,7 +192,7 @@ fn last_fields_at(
     Ok((domain, ends, rest))
 }
 
-// A path's text, and whether a Path attribute set it.
+// Reads a path, and whether a Path attribute set it.
 #[tactic(auto, unfolding(crate::specs::Reading::path_at))]
 fn path_at(alloc: Global, input: &[char]) -> Result<(String, bool, &[char]), SavedError>
     ensures read { IfOk result (λ p. path_at input.now ≡ Some ((string_bytes p.0, p.1), p.2.now)) }
@@ -188,7 +204,7 @@ fn path_at(alloc: Global, input: &[char]) -> Result<(String, bool, &[char]), Sav
     Ok((path, from_attr, close_at(b")", rest)?))
 }
 
-// True or false.
+// Reads `true` or `false`.
 #[tactic(auto, unfolding(crate::specs::Reading::flag_at))]
 fn flag_at(input: &[char]) -> Result<(bool, &[char]), SavedError>
     ensures read { IfOk result (λ p. flag_at input.now ≡ Some (p.0, p.1.now)) }
@@ -200,7 +216,7 @@ fn flag_at(input: &[char]) -> Result<(bool, &[char]), SavedError>
     }
 }
 
-// A domain.
+// Reads a domain.
 #[tactic(auto, unfolding(crate::specs::Reading::domain_at))]
 fn domain_at(alloc: Global, input: &[char]) -> Result<(SavedDomain, &[char]), SavedError>
     ensures read { IfOk result (λ p. domain_at input.now ≡ Some (domain_view p.0, p.1.now)) }
@@ -221,7 +237,7 @@ fn domain_at(alloc: Global, input: &[char]) -> Result<(SavedDomain, &[char]), Sa
     }
 }
 
-// The text of an end, or `None` for the end of the session.
+// Reads an expiry as a string, not parsed yet; `None` for `SessionEnd`.
 #[tactic(auto, unfolding(crate::specs::Reading::end_at))]
 fn end_at(alloc: Global, input: &[char]) -> Result<(Option<String>, &[char]), SavedError>
     ensures read { IfOk result (λ p. end_at input.now ≡ Some (option_map string_bytes p.0, p.1.now)) }
@@ -237,7 +253,7 @@ fn end_at(alloc: Global, input: &[char]) -> Result<(Option<String>, &[char]), Sa
     }
 }
 
-// A text in brackets.
+// Reads a string in parentheses.
 #[tactic(auto, unfolding(crate::specs::Reading::argument_at))]
 fn argument_at(alloc: Global, input: &[char]) -> Result<(String, &[char]), SavedError>
     ensures read { IfOk result (λ p. argument_at input.now ≡ Some (string_bytes p.0, p.1.now)) }

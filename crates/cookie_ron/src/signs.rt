@@ -1,18 +1,18 @@
-//! Blanks and signs of RON.
+//! Blanks and tokens of RON.
 ghost use Rattle.std.specs.Prelude.{◌≡◌, None, Some, IfOk, IfErr};
 ghost use Rattle.cookie_ron.specs.Grammar.{is_blank};
 ghost use Rattle.cookie_ron.specs.Reading.{drop_blanks, behind, sign_at, close_at, name_at};
 
 use cookie_forms::SavedError;
 
-// Whether it is a space, a tab, a line feed or a carriage return.
+// Whether the character is a space, a tab, a line feed or a carriage return.
 fn is_blank(c: char) -> bool
     ensures { result ≡ is_blank c }
 {
     c == ' ' || c == '\t' || c == '\n' || c == '\r'
 }
 
-// What is behind any blanks.
+// The rest of the input after any blanks.
 pub(crate) fn drop_blanks(input: &[char]) -> &[char]
     ensures { result.now ≡ drop_blanks input.now }
 {
@@ -26,7 +26,7 @@ pub(crate) fn drop_blanks(input: &[char]) -> &[char]
     rest
 }
 
-// What is behind these characters.
+// The rest of the input after exactly these characters.
 pub(crate) fn behind<'a>(sign: &[u8], input: &'a [char]) -> Result<&'a [char], SavedError>
     ensures read { IfOk result (λ rest. behind sign.now input.now ≡ Some rest.now) }
     ensures refused { IfErr result (λ e. (e ≡ SavedError.Ron) × (behind sign.now input.now ≡ None)) }
@@ -46,7 +46,7 @@ pub(crate) fn behind<'a>(sign: &[u8], input: &'a [char]) -> Result<&'a [char], S
     Ok(rest)
 }
 
-// What is behind a sign.
+// The rest of the input after a token, with any blanks before it.
 pub(crate) fn sign_at<'a>(sign: &[u8], input: &'a [char]) -> Result<&'a [char], SavedError>
     ensures read { IfOk result (λ rest. sign_at sign.now input.now ≡ Some rest.now) }
     ensures refused { IfErr result (λ e. (e ≡ SavedError.Ron) × (sign_at sign.now input.now ≡ None)) }
@@ -54,7 +54,7 @@ pub(crate) fn sign_at<'a>(sign: &[u8], input: &'a [char]) -> Result<&'a [char], 
     behind(sign, drop_blanks(input))
 }
 
-// What is behind a closing sign, before which a comma may stand.
+// The rest of the input after a closing bracket or parenthesis, with an optional comma before it.
 pub(crate) fn close_at<'a>(sign: &[u8], input: &'a [char]) -> Result<&'a [char], SavedError>
     ensures read { IfOk result (λ rest. close_at sign.now input.now ≡ Some rest.now) }
     ensures refused { IfErr result (λ e. (e ≡ SavedError.Ron) × (close_at sign.now input.now ≡ None)) }
@@ -65,7 +65,7 @@ pub(crate) fn close_at<'a>(sign: &[u8], input: &'a [char]) -> Result<&'a [char],
     }
 }
 
-// What is behind a field's name and its colon.
+// The rest of the input after a field's name and colon.
 #[tactic(auto, unfolding(crate::specs::Reading::name_at))]
 pub(crate) fn name_at<'a>(name: &[u8], input: &'a [char]) -> Result<&'a [char], SavedError>
     ensures read { IfOk result (λ rest. name_at name.now input.now ≡ Some rest.now) }

@@ -1,4 +1,6 @@
-//! Texts of RON and their escapes.
+//! Strings of RON and their escapes.
+//!
+//! A parser takes the characters that are left, and returns what it read with the rest of them.
 ghost use Rattle.std.specs.Prelude.{◌≡◌, ◌⊎◌, ◌<◌, ◌≤◌, ◌^◌, length, None, Some, IfOk, IfErr, IfSome, option_map, string_bytes};
 ghost use Rattle.cookie_ron.specs.Grammar.{escaped_by};
 ghost use Rattle.cookie_ron.specs.Reading.{hex_value, byte_at, code_of, brace_in, in_braces, code_at, escape_at, char_at, text_at};
@@ -7,7 +9,7 @@ use crate::signs::{behind, sign_at};
 use cookie_forms::SavedError;
 use std::alloc::Global;
 
-// The number that hexadecimal digits write.
+// Converts hexadecimal digits to a number.
 fn hex_value(digits: &[char]) -> Option<u32>
     requires { length digits.now ≤ 6 }
     ensures value { result ≡ hex_value digits.now }
@@ -20,7 +22,7 @@ fn hex_value(digits: &[char]) -> Option<u32>
     Some(value)
 }
 
-// The character of two hexadecimal digits.
+// Reads the two hexadecimal digits of `\x61`.
 fn byte_at(input: &[char]) -> Option<(char, &[char])>
     ensures { option_map (λ p. (p.0, p.1.now)) result ≡ byte_at input.now }
 {
@@ -33,7 +35,7 @@ fn byte_at(input: &[char]) -> Option<(char, &[char])>
     }
 }
 
-// The character that one to six hexadecimal digits number.
+// Converts one to six hexadecimal digits to a character.
 fn code_of(digits: &[char]) -> Option<char>
     ensures { result ≡ code_of digits.now }
 {
@@ -43,7 +45,7 @@ fn code_of(digits: &[char]) -> Option<char>
     char::from_u32(hex_value(digits)?)
 }
 
-// The place of the first closing brace.
+// The index of the first closing brace.
 #[tactic(auto, unfolding(crate::specs::Reading::brace_in))]
 fn brace_in(input: &[char]) -> Option<usize>
     ensures place { result ≡ brace_in input.now }
@@ -52,7 +54,7 @@ fn brace_in(input: &[char]) -> Option<usize>
     input.iter().position(|c| *c == '}')
 }
 
-// What is in front of a closing brace, and what is behind it.
+// Splits the input at the first closing brace.
 #[tactic(auto, unfolding(crate::specs::Reading::in_braces))]
 fn in_braces(input: &[char]) -> Option<(&[char], &[char])>
     ensures { option_map (λ p. (p.0.now, p.1.now)) result ≡ in_braces input.now }
@@ -61,7 +63,7 @@ fn in_braces(input: &[char]) -> Option<(&[char], &[char])>
     Some((&input[..end], &input[end + 1..]))
 }
 
-// The character of hexadecimal digits in braces.
+// Reads the braces and digits of `\u{61}`.
 fn code_at(input: &[char]) -> Option<(char, &[char])>
     ensures { option_map (λ p. (p.0, p.1.now)) result ≡ code_at input.now }
 {
@@ -74,7 +76,7 @@ fn code_at(input: &[char]) -> Option<(char, &[char])>
     }
 }
 
-// The character that a letter behind a backslash stands for.
+// The character of a one-letter escape.
 fn escaped_by(letter: char) -> Option<char>
     ensures { result ≡ escaped_by letter }
 {
@@ -88,7 +90,7 @@ fn escaped_by(letter: char) -> Option<char>
     }
 }
 
-// The character that an escape stands for, behind its backslash.
+// Reads an escape, after its backslash.
 fn escape_at(input: &[char]) -> Option<(char, &[char])>
     ensures { option_map (λ p. (p.0, p.1.now)) result ≡ escape_at input.now }
 {
@@ -100,7 +102,7 @@ fn escape_at(input: &[char]) -> Option<(char, &[char])>
     }
 }
 
-// A character of a text, as itself or as an escape.
+// Reads a character of a string; `None` at a quote, a malformed escape or the end of the input.
 fn char_at(input: &[char]) -> Option<(char, &[char])>
     ensures { option_map (λ p. (p.0, p.1.now)) result ≡ char_at input.now }
 {
@@ -112,7 +114,7 @@ fn char_at(input: &[char]) -> Option<(char, &[char])>
     }
 }
 
-// A text in quotes.
+// Reads a quoted string.
 #[tactic(auto, unfolding(crate::specs::Reading::text_at))]
 pub(crate) fn text_at(alloc: Global, input: &[char]) -> Result<(String, &[char]), SavedError>
     ensures read { IfOk result (λ p. text_at input.now ≡ Some (string_bytes p.0, p.1.now)) }

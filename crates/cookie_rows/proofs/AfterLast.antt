@@ -1,4 +1,4 @@
--- What `after_last`, `replaced` and `changed` leave of a list.
+-- What remains of a list after `after_last`, `replaced` and `changed`.
 use Rattle.std.proofs.Common.{◌≡◌, Bool, true, false, ◌||◌, List, [], ◌∷◌, map, refl, arith}
 use Rattle.std.specs.List.{list_any}
 use Rattle.cookie_laws.specs.Rows.{after_last, changed, replaced}
@@ -13,7 +13,7 @@ pub list_any-after_last : {T : Type 0} (p test : T → Bool) (xs : List T) (y : 
 list_any-after_last p test [] y = refl
 list_any-after_last p test (x ∷ xs) y = grind (arith, list_any-after_last p test xs y)
 
--- the first item stays the first
+-- the first item is still the first
 pub starts-after_last : {T : Type 0} (p test : T → Bool) (x : T) (xs : List T) (y : T) → starts p (after_last test (x ∷ xs) y) ≡ p x
 starts-after_last p test x xs y = grind arith
 

@@ -1,4 +1,4 @@
--- What each change keeps of numbered groups, and what rows and keys it leaves.
+-- What each change keeps of numbered groups, and the rows and keys after it.
 use Rattle.std.proofs.Common.{◌≡◌, ℕ, suc, ◌+◌, ◌<◌, ◌⊎◌, List, [], ◌∷◌, ◌++◌, length, map, refl, sym, ◌∙◌, ap, subst, inl, inr, None, arith}
 use Rattle.std.specs.Prelude.{◌≢◌, IsTrue, nat_eq}
 use Rattle.std.specs.List.{AllByRecursion}
@@ -19,7 +19,7 @@ module _ (n : ℕ) (gs : ItemGroups) (a : AreItems n gs) where
   pub found_items : (key : Key) → find_items key gs ≡ row_of key (flat (bare gs))
   found_items key = bare_found key gs ∙ sym (found_in_groups key (bare gs) a.0)
 
-  -- a row is put
+  -- a row is stored
 
   module _ (row : Row) where
     -- the rows
@@ -49,7 +49,7 @@ module _ (n : ℕ) (gs : ItemGroups) (a : AreItems n gs) where
     )
 
   module _ (key : Key) where
-    -- a row ends
+    -- a row is expired
 
     -- the rows
     rows_ended : flat (bare (end_items key gs)) ≡ changed (has_key key) ended (flat (bare gs))
@@ -68,7 +68,7 @@ module _ (n : ℕ) (gs : ItemGroups) (a : AreItems n gs) where
       ap (λ xs. differ nat_eq (map (λ x. x.1) xs)) (numbered_end key gs) ∙ a.3,
     )
 
-    -- a row goes
+    -- a row is removed
 
     -- the rows
     rows_removed : flat (bare (remove_items key gs)) ≡ removed (has_key key) (flat (bare gs))
@@ -87,7 +87,7 @@ module _ (n : ℕ) (gs : ItemGroups) (a : AreItems n gs) where
       differ_remove key gs a.3,
     )
 
--- where there is a group there are rows
+-- each group has rows
 
 -- a list with something in front
 some_front : (xs ys : List Row) → xs ≢ [] → xs ++ ys ≢ []

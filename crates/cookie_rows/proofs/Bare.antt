@@ -9,19 +9,19 @@ use Rattle.cookie_rows.specs.Groups.{is_named, row_named, found, put_at, changed
 use Rattle.cookie_rows.proofs.BareGroups.{put_name, end_name, remove_name, find_paths, find_groups, put_paths, put_groups, end_paths, end_groups, remove_paths, remove_groups}
 use Rattle.cookie_rows.specs.Items.{Item, ItemPaths, ItemGroups, rows_of, bare_paths, bare, put_item, end_item, remove_item, find_item_paths, find_items, put_item_paths, put_items, end_item_paths, end_items, remove_item_paths, remove_items}
 
--- groups under texts, with what is in them seen through a function
+-- groups under names, with a function applied to what is in them
 
 module _ {A B : Type 0} (see : A → B) where
   -- each group seen through it
   abbrev pub seen : List (List ℕ × List A) → List (List ℕ × List B)
   seen gs = map (λ g. (g.0, map see g.1)) gs
 
-  -- the texts stay
+  -- the names are unchanged
   pub seen_texts : (gs : List (List ℕ × List A)) → map (λ g. g.0) (seen gs) ≡ map (λ g. g.0) gs
   seen_texts [] = refl
   seen_texts (g ∷ gs) = ap (λ ks. g.0 ∷ ks) (seen_texts gs)
 
-  -- a group that is put is seen as one that is put
+  -- putting a group commutes with the function
   seen_put : (f : List A → List A) (h : List B → List B) → ((xs : List A) → map see (f xs) ≡ h (map see xs)) → (text : List ℕ) (gs : List (List ℕ × List A)) → seen (put_at f text gs) ≡ put_at h text (seen gs)
   seen_put f h same text [] = ap (λ v. (text, v) ∷ []) (same [])
   seen_put f h same text (g ∷ gs) = elim (cases_Bool (bytes_eq text g.0)) [
@@ -58,7 +58,7 @@ module _ {A B : Type 0} (see : A → B) where
     | inr e ↦ rw e (seen_found f h same text gs)
   ]
 
--- a row is put
+-- a row is stored
 
 module _ (row : Row) (n : ℕ) where
   -- among items
@@ -79,7 +79,7 @@ module _ (row : Row) (n : ℕ) where
 
 -- the row of a key
 
--- it ends among items
+-- expiring a row among items
 bare_end_item : (name : List ℕ) (xs : List Item) → rows_of (end_item name xs) ≡ end_name name (rows_of xs)
 bare_end_item name [] = refl
 bare_end_item name (x ∷ xs) = elim (cases_Bool (is_named name x.row)) [
@@ -96,7 +96,7 @@ bare_remove_item name (x ∷ xs) = elim (cases_Bool (is_named name x.row)) [
 ]
 
 module _ (key : Key) where
-  -- it ends under a path
+  -- expiring a row under a path
   bare_end_paths : (ps : ItemPaths) → bare_paths (end_item_paths key.path key.name ps) ≡ end_paths key.path key.name (bare_paths ps)
   bare_end_paths ps = seen_changed (λ (i : Item). i.row) (end_item key.name) (end_name key.name) (bare_end_item key.name) key.path ps
 

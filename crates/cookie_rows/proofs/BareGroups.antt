@@ -13,7 +13,7 @@ abbrev pub put_name : Row → List Row → List Row
 put_name row [] = row ∷ []
 put_name row (x ∷ xs) = if is_named row.raw.name x then row ∷ xs else x ∷ put_name row xs
 
--- the rows with that one ended
+-- the rows with that one expired
 abbrev pub end_name : List ℕ → List Row → List Row
 end_name name rows = changed (is_named name) ended rows
 
@@ -39,11 +39,11 @@ put_paths row paths = put_at (put_name row) row.path.text paths
 abbrev pub put_groups : Row → DomainGroups → DomainGroups
 put_groups row groups = put_at (put_paths row) (domain_text row.domain) groups
 
--- the row of a path and a name ended
+-- the row of a path and a name expired
 abbrev pub end_paths : List ℕ → List ℕ → PathGroups → PathGroups
 end_paths path name paths = changed_at (end_name name) path paths
 
--- the row of a key ended
+-- the row of a key expired
 abbrev pub end_groups : Key → DomainGroups → DomainGroups
 end_groups key groups = changed_at (end_paths key.path key.name) key.domain groups
 

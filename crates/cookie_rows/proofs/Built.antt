@@ -43,7 +43,7 @@ built_more include_expired now cookies cookie =
     sym (taken_append none (included include_expired now cookies) (included include_expired now (cookie ∷ [])))
     ∙ ap (taken none) (sym (included_append include_expired now cookies (cookie ∷ [])))
 
--- a cookie that counts, where it is put
+-- storing a cookie that is included
 pub takes_put : (include_expired : Bool) (now : Moment) (cookie : Row) (old new : Kept)
     → included include_expired now (cookie ∷ []) ≡ cookie ∷ []
     → new ≡ record { rows = put old.rows cookie; made = make old.made (key_of cookie) }

@@ -1,4 +1,4 @@
--- Keys in the order of their numbers, as items come and go.
+-- Keys in the order of their numbers, as items are added and removed.
 use Rattle.std.proofs.Common.{◌≡◌, ℕ, ◌<◌, Bool, true, false, ◌||◌, List, [], ◌∷◌, ◌++◌, map, refl, sym, ◌∙◌, ap, subst, inl, inr, arith, append_assoc}
 use Rattle.std.specs.Prelude.{nat_le, nat_eq}
 use Rattle.std.specs.List.{AllByRecursion, list_any}
@@ -83,7 +83,7 @@ differ_with y (x ∷ front) back a d =
     let other : nat_eq x.1 y.1 ≡ false = grind (arith, nat_tests, a.0) in
     grind (arith, nat_tests, none_with (nat_eq x.1) front back none other, differ_with y front back a.1 after)
   where
-    -- none passes where y does not
+    -- none passes if y does not
     none_with : (test : ℕ → Bool) (front back : List (Key × ℕ)) → list_any test (map (λ x. x.1) (front ++ back)) ≡ false → test y.1 ≡ false → list_any test (map (λ x. x.1) (front ++ y ∷ back)) ≡ false
     none_with test [] back n e = grind (arith, n, e)
     none_with test (x ∷ front) back n e = grind (arith, n, none_with test front back)
@@ -129,12 +129,12 @@ pub all_ordered : (P : Key × ℕ → Type 0) (xs : List (Key × ℕ)) → AllBy
 all_ordered P [] a = tt
 all_ordered P (x ∷ xs) a = all_place P x (by_number xs) a.0 (all_ordered P xs a.1)
 
--- a key passes where it is in its place, or one of the others
+-- a key passes after `place` if it does, or one of the others
 any_place : (test : Key × ℕ → Bool) (x : Key × ℕ) (zs : List (Key × ℕ)) → list_any test (place x zs) ≡ (test x || list_any test zs)
 any_place test x [] = refl
 any_place test x (z ∷ zs) = grind (arith, any_place test x zs)
 
--- some key passes where one does in order
+-- some key passes if one does in order
 pub any_ordered : (test : Key × ℕ → Bool) (xs : List (Key × ℕ)) → list_any test (by_number xs) ≡ list_any test xs
 any_ordered test [] = refl
 any_ordered test (x ∷ xs) = grind (arith, any_place test x (by_number xs), any_ordered test xs)

@@ -1,4 +1,4 @@
--- A new row enters groups, after others of its domain left.
+-- A new row is inserted into groups after others of its domain were evicted.
 use Rattle.std.proofs.Common.{◌≡◌, ℕ, suc, ◌+◌, ◌-◌, ◌<◌, Bool, true, false, not, List, [], ◌∷◌, ◌++◌, filter, length, map, take, refl, sym, ◌∙◌, ap, ap₂, subst, inl, inr, arith, max, take_all, zero, Ok, Some, None, IsPermutation}
 use Rattle.std.specs.Prelude.{slice_get, nat_eq}
 use Rattle.std.specs.List.{AllByRecursion, list_any}
@@ -25,7 +25,7 @@ use Rattle.cookie_rows.proofs.Made.{keys_differ, texts_differ}
 use Rattle.cookie_rows.proofs.TurnOrder.{not_before_itself, turn_at_place, turns_order}
 use Rattle.cookie_rows.proofs.Turns.{entry_turn, in_turn, leaving_entries, ordered_filtered, ordered_moved, sorted_turns, turns_before}
 
--- what is not refused twice
+-- double negation
 not_not : (b : Bool) → not (not b) ≡ b
 not_not true = refl
 not_not false = refl
@@ -34,7 +34,7 @@ not_not false = refl
 no_more : (k limit : ℕ) → k < limit → k + 1 - limit ≡ 0
 no_more k limit room = omega (arith, room)
 
--- as many stand in order
+-- sorting keeps the number of items
 length_ordered : (xs : List (Key × ℕ)) → length (by_number xs) ≡ length xs
 length_ordered xs = length_permutation xs (by_number xs) (ordered_moved xs)
 
@@ -80,7 +80,7 @@ module _ (n limit : ℕ) (gs : ItemGroups) (a : AreItems n gs) (row : Row) (now 
   abbrev entries : List (Key × ℕ)
   entries = numbered_paths domain (paths_of domain gs)
 
-  -- the row of the entry has ended
+  -- the row of the entry has expired
   abbrev ended : Key × ℕ → Bool
   ended e = has_ended now (flat (bare gs)) e.0
 
@@ -88,7 +88,7 @@ module _ (n limit : ℕ) (gs : ItemGroups) (a : AreItems n gs) (row : Row) (now 
   abbrev store : Contents
   store = contents_of (kept_of gs) None (Some limit)
 
-  -- the keys whose rows leave
+  -- the keys whose rows are evicted
   abbrev leave : List Key
   leave = leaving store now (key_of row)
 
@@ -110,11 +110,11 @@ module _ (n limit : ℕ) (gs : ItemGroups) (a : AreItems n gs) (row : Row) (now 
       ap (λ xs. differ same_key (map (λ (x : Key × ℕ). x.0) xs)) (sym entries_are)
       ∙ differ-filter (λ (x : Key × ℕ). x.0) (λ x. same_domain (key_of row) x.0) same_key (numbered gs) (keys_differ gs a.0 a.1)
 
-  -- its keys by making are those of the entries in the order of their numbers
+  -- its keys in creation order are those of the entries in the order of their numbers
   made_are : filter (same_domain (key_of row)) (made_of gs) ≡ map (λ x. x.0) (by_number entries)
   made_are = made_near (key_of row) ordered_filtered gs a.0
 
-  -- and in their turns those in theirs
+  -- and the keys in eviction order those of the entries in eviction order
   turned_are : (xs : List (Key × ℕ)) → by_turn now (flat (bare gs)) (map (λ x. x.0) xs)
       ≡ map (λ x. x.0) (filter ended xs ++ filter (λ e. not (ended e)) xs)
   turned_are xs =
@@ -122,7 +122,7 @@ module _ (n limit : ℕ) (gs : ItemGroups) (a : AreItems n gs) (row : Row) (now 
       ap₂ (λ ks ls. ks ++ ls) (sym (map-filter (λ (x : Key × ℕ). x.0) now_ended xs)) (sym (map-filter (λ (x : Key × ℕ). x.0) (λ key. not (now_ended key)) xs))
       ∙ sym (map-append (λ (x : Key × ℕ). x.0) (filter ended xs) (filter (λ e. not (ended e)) xs))
 
-  -- so many leave of them
+  -- how many of them are evicted
   count : length (filter (same_domain (key_of row)) (made_of gs)) ≡ length entries
   count = ap length made_are ∙ length-map (by_number entries) (λ x. x.0) ∙ length_ordered entries
 
@@ -139,7 +139,7 @@ module _ (n limit : ℕ) (gs : ItemGroups) (a : AreItems n gs) (row : Row) (now 
       all_take near (length mine + 1 - limit) (by_turn now (flat (bare gs)) mine)
       (all_append near (filter past mine) (filter (λ key. not (past key)) mine) (all_filter near past mine all) (all_filter near (λ key. not (past key)) mine all))
 
-  -- the row of each entry has ended as its item's has
+  -- the row of each entry has expired as its item's has
   ended_are : EachIn (λ p x. ended (key_at domain p x.row.raw.name, x.number) ≡ is_expired now x.row) (paths_of domain gs)
   ended_are = each_of_domain (λ d p x. has_ended now (flat (bare gs)) (key_at d p x.row.raw.name) ≡ is_expired now x.row) domain gs (has_ended_item n gs a now)
 
@@ -149,7 +149,7 @@ module _ (n limit : ℕ) (gs : ItemGroups) (a : AreItems n gs) (row : Row) (now 
 
   -- what the groups keep when it is put into them
 
-  -- where none leave
+  -- if none are evicted
   enters_room : (new : ItemGroups) → length (turns_of now (paths_of domain gs)) < limit → new ≡ put_items row n gs
       → kept_of new ≡ Store.kept_of (store_by (Ok Inserted) store row now)
   enters_room new room is =
@@ -158,7 +158,7 @@ module _ (n limit : ℕ) (gs : ItemGroups) (a : AreItems n gs) (row : Row) (now 
       ap kept_of is ∙ kept_put n gs a row ∙ ap (λ (s : Contents). Store.kept_of (keep s row)) (sym (ap (λ ks. without ks store) none ∙ without_none store))
 
   module _ (first : Turn) (is : IsFirst limit now n (paths_of domain gs) first) where
-    -- those that stay
+    -- the surviving ones
     abbrev test : Item → Bool
     test = stays now first
 
@@ -166,7 +166,7 @@ module _ (n limit : ℕ) (gs : ItemGroups) (a : AreItems n gs) (row : Row) (now 
     moved : IsPermutation (map (entry_turn ended) entries ++ (true, n) ∷ []) is.turns
     moved = subst (λ ts. IsPermutation (ts ++ (true, n) ∷ []) is.turns) (sym turns_are) is.moved
 
-    -- the new row stays
+    -- the new row survives
     new_stays : test (record { row = row; number = n }) ≡ true
     new_stays =
         let ts = in_turn ended entries in
@@ -179,7 +179,7 @@ module _ (n limit : ℕ) (gs : ItemGroups) (a : AreItems n gs) (row : Row) (now 
         (not_before_itself (true, n)) place in
         ap (λ b. not (comes_before (not b, n) first)) live ∙ ap not last
 
-    -- a key leaves where its item does not stay
+    -- a key is evicted if its item does not survive
     own : EachIn (λ p x. list_any (same_key (key_at domain p x.row.raw.name)) leave ≡ not (test x)) (paths_of domain gs)
     own =
         let all = leaving_entries ended entries n numbers below is.turns moved keys is.sorted limit first is.is in
@@ -191,7 +191,7 @@ module _ (n limit : ℕ) (gs : ItemGroups) (a : AreItems n gs) (row : Row) (now 
         (λ p x h k. h ∙ ap (λ b. comes_before (not b, x.number) first) k ∙ sym (not_not _)) (paths_of domain gs)
         (each_numbered (λ e. list_any (same_key e.0) leave ≡ comes_before (entry_turn ended e) first) domain (paths_of domain gs) all') ended_are
 
-    -- keys leave as items do
+    -- keys are evicted as items are
     agree : Agrees domain test (λ key. list_any (same_key key) leave) gs
     agree = agrees domain test (λ key. list_any (same_key key) leave) (λ key e. none_elsewhere domain leave leave_near key e) gs (texts_differ gs a.0).0 own
 
@@ -216,14 +216,14 @@ module _ (n limit : ℕ) (gs : ItemGroups) (a : AreItems n gs) (row : Row) (now 
     items_enter : (new : ItemGroups) → new ≡ entered_items test row n gs → AreItems (n + 1) new
     items_enter new e = subst (AreItems (n + 1)) (sym (e ∙ entered)) (items_put n (lessened_at (passing test) domain gs) left_items row (n + 1) (inl refl))
 
-  -- a new row is put as the store puts it
+  -- a new row is stored as `put` does
   pub kept_entered : (new : ItemGroups) → EntersItems limit now row n gs new → kept_of new ≡ Store.kept_of (store_by (Ok Inserted) store row now)
   kept_entered new enters = elim enters [
     | inl e ↦ enters_room new e.0 e.1
     | inr e ↦ enters_left e.0 e.1 new e.3
   ]
 
-  -- and leaves the groups in order
+  -- and keeps the order of the groups
   pub items_entered : (new : ItemGroups) → EntersItems limit now row n gs new → AreItems (n + 1) new
   items_entered new enters = elim enters [
     | inl e ↦ subst (AreItems (n + 1)) (sym e.1) (items_put n gs a row (n + 1) (inl refl))
@@ -239,12 +239,12 @@ kept_unlimited kept row now = ap (λ (s : Contents). Store.kept_of (keep s row))
 
 -- under a limit of 0
 
--- in their turns there are as many keys
+-- eviction order has as many keys
 length_turned : (test : Key → Bool) (ks : List Key) → length (filter test ks ++ filter (λ k. not (test k)) ks) ≡ length ks
 length_turned test ks =
     length_permutation ks (filter test ks ++ filter (λ k. not (test k)) ks) (IsPermutation-filter_both test (λ k. not (test k)) (λ k. refl) ks)
 
--- all leave, as under one of 1
+-- all are evicted, as with a limit of 1
 all_leave : (kept : Kept) (row : Row) (now : Moment)
     → leaving (contents_of kept None (Some 1)) now (key_of row) ≡ leaving (contents_of kept None (Some 0)) now (key_of row)
 all_leave kept row now =

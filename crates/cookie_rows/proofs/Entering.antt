@@ -1,4 +1,5 @@
--- A row enters groups that others leave. It is put before they leave, so its groups are moved last where it is alone in them.
+-- A row is inserted into groups from which others are evicted. It is stored before the others are evicted, so its
+-- groups are moved to the end if it is alone in them.
 use Rattle.std.proofs.Common.{◌≡◌, ℕ, zero, suc, ◌+◌, ◌-◌, ◌<◌, ◌==◌, Bool, true, false, not, cond, List, [], ◌∷◌, ◌++◌, length, map, filter, remove, insert, refl, sym, ◌∙◌, ap, subst, inl, inr, bytes_eq, slice_get, position, string_bytes, String, Option, Some, None, option_map, arith}
 use Rattle.std.specs.List.{AllByRecursion, list_any}
 use Rattle.std.specs.Map.{keys_of, lookup, values_of}
@@ -32,10 +33,10 @@ some_is x xs = grind (arith, nat_tests)
 filled_is : {T : Type 0} (xs : List T) → 0 < length xs → (length xs == 0) ≡ false
 filled_is xs l = grind (arith, nat_tests)
 
--- groups under texts
+-- groups under names
 
 module _ {X : Type 0} where
-  -- a single group stays
+  -- a single group is unchanged
   settled_one : (alone : List X → Bool) (text t : List ℕ) (xs : List X) → settled alone text ((t, xs) ∷ []) ≡ (t, xs) ∷ []
   settled_one alone text t xs = elim (cases_Bool (bytes_eq text t)) [
     | inl e ↦ elim (cases_Bool (alone xs)) [
@@ -45,7 +46,7 @@ module _ {X : Type 0} where
     | inr e ↦ rw e refl
   ]
 
-  -- where none stands under the text, a group is put last
+  -- if no group has the name, one is added at the end
   put_new : (f : List X → List X) (text : List ℕ) (gs : List (List ℕ × List X)) → list_any (bytes_eq text) (map (λ g. g.0) gs) ≡ false → put_at f text gs ≡ gs ++ (text, f []) ∷ []
   put_new f text [] none = refl
   put_new f text (g ∷ gs) none =
@@ -54,18 +55,18 @@ module _ {X : Type 0} where
       rw other (ap (λ hs. g ∷ hs) (put_new f text gs rest))
 
   module _ (put : List X → List X) (alone : List X → Bool) (text t : List ℕ) where
-    -- a group that was kept or dropped is put last where it is new
+    -- if a group that was kept or dropped is new, it goes to the end
     put_kept : (xs : List X) (gs : List (List ℕ × List X)) → bytes_eq text t ≡ true → list_any (bytes_eq text) (map (λ g. g.0) gs) ≡ false → alone (put xs) ≡ (length xs == 0)
         → put_at put text (kept t xs gs) ≡ settled alone text ((t, put xs) ∷ gs)
     put_kept [] gs e none is = put_new put text gs none ∙ rw (e, is) (ap (λ s. gs ++ (s, put []) ∷ []) ((bytes_eq-Decides text t).0 e))
     put_kept (x ∷ xs) gs e none is = let more : alone (put (x ∷ xs)) ≡ false = is ∙ some_is x xs in rw (e, more) refl
 
-    -- one under another text stays where it was kept
+    -- a group of another name keeps its position
     put_past : (xs : List X) (gs hs : List (List ℕ × List X)) → bytes_eq text t ≡ false → put_at put text gs ≡ settled alone text hs → put_at put text (kept t xs gs) ≡ settled alone text (kept t xs hs)
     put_past [] gs hs e same = same
     put_past (x ∷ xs) gs hs e same = rw e (ap (λ ks. (t, x ∷ xs) ∷ ks) same)
 
-  -- what holds of the group under the text, if there is one
+  -- what holds of the group of the name, if there is one
   abbrev pub AtText : (List X → Type 0) → List ℕ → List (List ℕ × List X) → Type 0
   AtText P text [] = Unit
   AtText P text (g ∷ gs) = (bytes_eq text g.0 ≡ true → P g.1) × (bytes_eq text g.0 ≡ false → AtText P text gs)
@@ -76,7 +77,8 @@ module _ {X : Type 0} where
   at_any P all text (g ∷ gs) = (λ e. all g.1, λ e. at_any P all text gs)
 
   module _ (leave put : List X → List X) (alone : List X → Bool) (nothing : leave [] ≡ []) (text : List ℕ) where
-    -- some leave the group under the text, and then one is put there: the same as both at once, and the group then last where the one stands alone
+    -- some items are removed from the group of the name, and then one is added: the same as both at once, with the
+    -- group then moved to the end if the new item is alone
     pub put_where_left_at : (gs : List (List ℕ × List X)) → differ bytes_eq (map (λ g. g.0) gs) ≡ true → AtText (λ xs. alone (put (leave xs)) ≡ (length (leave xs) == 0)) text gs
         → put_at put text (lessened_at leave text gs) ≡ settled alone text (put_at (λ xs. put (leave xs)) text gs)
     put_where_left_at [] d is = ap (λ xs. (text, put xs) ∷ []) (sym nothing) ∙ sym (settled_one alone text text (put (leave [])))
@@ -85,12 +87,12 @@ module _ {X : Type 0} where
       | inr e ↦ let after : differ bytes_eq (map (λ g. g.0) gs) ≡ true = grind (arith, d) in rw (e, e) (ap (λ hs. g ∷ hs) (put_where_left_at gs after (is.1 e)))
     ]
 
-    -- where one that is put stands alone in any group that all left, and in no other
+    -- if an added item is alone in any group that was emptied, and in no other
     pub put_where_left : ((xs : List X) → alone (put (leave xs)) ≡ (length (leave xs) == 0)) → (gs : List (List ℕ × List X)) → differ bytes_eq (map (λ g. g.0) gs) ≡ true
         → put_at put text (lessened_at leave text gs) ≡ settled alone text (put_at (λ xs. put (leave xs)) text gs)
     put_where_left is gs d = put_where_left_at gs d (at_any (λ xs. alone (put (leave xs)) ≡ (length (leave xs) == 0)) is text gs)
 
-  -- a group that was put and then changed was put as it is then
+  -- putting a group and then changing it is one `put_at`
   changed_put : (f put both : List X → List X) (text : List ℕ) (gs : List (List ℕ × List X)) → both [] ≡ f (put []) → AtText (λ xs. both xs ≡ f (put xs)) text gs → put_at both text gs ≡ changed_at f text (put_at put text gs)
   changed_put f put both text [] is holds = let same : bytes_eq text text ≡ true = (bytes_eq-Decides text text).1 refl in rw same (ap (λ xs. (text, xs) ∷ []) is)
   changed_put f put both text (g ∷ gs) is holds = elim (cases_Bool (bytes_eq text g.0)) [
@@ -98,7 +100,7 @@ module _ {X : Type 0} where
     | inr e ↦ rw (e, e) (ap (λ hs. g ∷ hs) (changed_put f put both text gs is (holds.1 e)))
   ]
 
-  -- nothing is found under a text that none has
+  -- nothing is found under a name that no group has
   found_absent : (f : List X → Option Row) (text : List ℕ) (gs : List (List ℕ × List X)) → list_any (bytes_eq text) (map (λ g. g.0) gs) ≡ false → found f text gs ≡ None
   found_absent f text [] none = refl
   found_absent f text (g ∷ gs) none =
@@ -106,7 +108,7 @@ module _ {X : Type 0} where
       let rest : list_any (bytes_eq text) (map (λ g. g.0) gs) ≡ false = grind (arith, none) in
       rw other (found_absent f text gs rest)
 
-  -- a text that is not among texts is not among them with one more that may be dropped
+  -- a name that is not among others is not among them with one more that may be dropped
   absent_kept : (text t : List ℕ) (xs : List X) (gs : List (List ℕ × List X)) → bytes_eq text t ≡ false → list_any (bytes_eq text) (map (λ g. g.0) gs) ≡ false → list_any (bytes_eq text) (map (λ g. g.0) (kept t xs gs)) ≡ false
   absent_kept text t [] gs e none = none
   absent_kept text t (x ∷ xs) gs e none = rw e none
@@ -114,7 +116,7 @@ module _ {X : Type 0} where
 -- items that pass a test
 
 module _ (test : Item → Bool) where
-  -- a group is kept where something in it passes
+  -- a group is kept if something in it passes
   passing_kept : (p : List ℕ × List Item) (ps : ItemPaths) → passing test (p ∷ ps) ≡ kept p.0 (filter test p.1) (passing test ps)
   passing_kept p ps = filled_kept p.0 (filter test p.1) (passing test ps)
     where
@@ -133,7 +135,7 @@ module _ (test : Item → Bool) where
       filled_all t [] qs a = a
       filled_all t (x ∷ xs) qs a = (omega arith, a)
 
-  -- a text is not there that was not
+  -- a name that was not there is still not there
   absent_passing : (text : List ℕ) (ps : ItemPaths) → list_any (bytes_eq text) (map (λ p. p.0) ps) ≡ false → list_any (bytes_eq text) (map (λ p. p.0) (passing test ps)) ≡ false
   absent_passing text [] none = refl
   absent_passing text (p ∷ ps) none =
@@ -178,10 +180,10 @@ module _ (test : Item → Bool) where
       past_kept [] e others = others
       past_kept (x ∷ xs) e others = rw e others
 
--- a row is put
+-- a row is stored
 
 module _ (row : Row) (n : ℕ) where
-  -- last, where none has its name
+  -- at the end, if none has its name
   put_last : (xs : List Item) → row_named row.raw.name (rows_of xs) ≡ None → put_item row n xs ≡ xs ++ record { row = row; number = n } ∷ []
   put_last [] none = refl
   put_last (x ∷ xs) none = elim (cases_Bool (is_named row.raw.name x.row)) [
@@ -189,13 +191,13 @@ module _ (row : Row) (n : ℕ) where
     | inr e ↦ let none' = rw e at none in rw e (ap (λ ys. x ∷ ys) (put_last xs none'))
   ]
 
-  -- so it is alone where there were none
+  -- so it is alone if there were none
   pub put_item_alone : (xs : List Item) → row_named row.raw.name (rows_of xs) ≡ None → is_single (put_item row n xs) ≡ (length xs == 0)
   put_item_alone xs none =
       let long : length (put_item row n xs) ≡ length xs + 1 = ap length (put_last xs none) ∙ length_push xs (record { row = row; number = n }) in
       grind (arith, nat_tests, long)
 
-  -- and alone in its domain where there were none
+  -- and alone in its domain if there were none
   pub put_paths_alone : (ps : ItemPaths) → AllByRecursion (λ p. 0 < length p.1) ps → find_item_paths row.path.text row.raw.name ps ≡ None → is_single_paths (put_item_paths row n ps) ≡ (length ps == 0)
   put_paths_alone [] a none = refl
   put_paths_alone (p ∷ []) a none = elim (cases_Bool (bytes_eq row.path.text p.0)) [
@@ -210,7 +212,7 @@ module _ (row : Row) (n : ℕ) where
     ]
   ]
 
-  -- a group into which it was put is kept
+  -- a group is kept once the row is stored in it
   kept_put : (t : List ℕ) (xs : List Item) (ps : ItemPaths) → kept t (put_item row n xs) ps ≡ (t, put_item row n xs) ∷ ps
   kept_put t [] ps = refl
   kept_put t (x ∷ xs) ps = elim (cases_Bool (is_named row.raw.name x.row)) [
@@ -219,7 +221,7 @@ module _ (row : Row) (n : ℕ) where
   ]
 
   module _ (test : Item → Bool) (stays : test (record { row = row; number = n }) ≡ true) where
-    -- others leave a group before or after it is put
+    -- others are evicted from a group before or after it is stored
     filter_put : (xs : List Item) → row_named row.raw.name (rows_of xs) ≡ None → filter test (put_item row n xs) ≡ put_item row n (filter test xs)
     filter_put [] none = rw stays refl
     filter_put (x ∷ xs) none = elim (cases_Bool (is_named row.raw.name x.row)) [
@@ -230,7 +232,7 @@ module _ (row : Row) (n : ℕ) where
       ]
     ]
 
-    -- and a domain, where its group is moved last if it is alone
+    -- and from a domain, where its group is moved to the end if it is alone
     pub put_passing : (ps : ItemPaths) → differ bytes_eq (map (λ p. p.0) ps) ≡ true → find_item_paths row.path.text row.raw.name ps ≡ None
         → put_item_paths row n (passing test ps) ≡ settled is_single row.path.text (passing test (put_item_paths row n ps))
     put_passing [] d none = rw stays (sym (settled_one is_single row.path.text row.path.text (record { row = row; number = n } ∷ [])))
@@ -257,7 +259,7 @@ module _ (row : Row) (n : ℕ) where
         behind : bytes_eq row.path.text p.0 ≡ false → passing test (put_item_paths row n (p ∷ ps)) ≡ kept p.0 (filter test p.1) (passing test (put_item_paths row n ps))
         behind e = rw e (passing_kept test p (put_item_paths row n ps))
 
-    -- in its domain it stands alone where all left
+    -- in its domain it is alone if all others are evicted
     left_alone : (gs : ItemGroups) → AllByRecursion (λ g. PathsDiffer g.1) gs → find_items (key_of row) gs ≡ None
         → AtText (λ ps. is_single_paths (put_item_paths row n (passing test ps)) ≡ (length (passing test ps) == 0)) (domain_text row.domain) gs
     left_alone [] d none = tt
@@ -266,13 +268,14 @@ module _ (row : Row) (n : ℕ) where
       λ e. left_alone gs d.1 (rw e at none),
     )
 
-    -- and others leave that before or after it is put
+    -- and others are evicted from that before or after it is stored
     left_later : (gs : ItemGroups) → AllByRecursion (λ g. PathsDiffer g.1) gs → find_items (key_of row) gs ≡ None
         → AtText (λ ps. put_item_paths row n (passing test ps) ≡ settled is_single row.path.text (passing test (put_item_paths row n ps))) (domain_text row.domain) gs
     left_later [] d none = tt
     left_later (g ∷ gs) d none = (λ e. put_passing g.1 d.0 (rw e at none), λ e. left_later gs d.1 (rw e at none))
 
-    -- so others leave its domain before it is put, or after, where the groups of its path and of its domain are then moved last if it is alone in them
+    -- so others are evicted from its domain before it is stored, or after, and then the groups of its path and of its
+    -- domain are moved to the end if it is alone in them
     pub put_items_left : (gs : ItemGroups) → TextsDiffer gs → find_items (key_of row) gs ≡ None
         → put_items row n (lessened_at (passing test) (domain_text row.domain) gs) ≡ settled is_single_paths (domain_text row.domain) (changed_at (λ ps. settled is_single row.path.text (passing test ps)) (domain_text row.domain) (put_items row n gs))
     put_items_left gs d none =
@@ -325,13 +328,13 @@ one_before None n e = absurd (cc)
 one_before (Some m) n e = let same : m ≡ n = cc in ap Some same
 
 module _ {A X : Type 0} (alone : List X → Bool) (text : List ℕ) where
-  -- the first entry, where it is of the text and stands alone
+  -- the first entry, if it has the name and is alone
   settled_first : (e f : String A × List X) (es : List (String A × List X)) → e ≡ f → bytes_eq text (string_bytes f.0) ≡ true → alone e.1 ≡ true → texts_of (es ++ e ∷ []) ≡ settled alone text (texts_of (f ∷ es))
   settled_first e f es same t a =
       let a' : alone f.1 ≡ true = subst (λ (p : String A × List X). alone p.1 ≡ true) same a in
       rw (t, a') (map-append (λ (p : String A × List X). (string_bytes p.0, p.1)) es (e ∷ []) ∙ ap (λ (p : String A × List X). texts_of es ++ (string_bytes p.0, p.1) ∷ []) same)
 
-  -- one that is the first of the text, between these
+  -- the first of the name, between these
   settled_between : (front back : List (String A × List X)) (k : String A) (v : List X) → string_bytes k ≡ text → list_any (bytes_eq text) (map (λ g. g.0) (texts_of front)) ≡ false → alone v ≡ true
       → texts_of (front ++ back ++ (k, v) ∷ []) ≡ settled alone text (texts_of (front ++ (k, v) ∷ back))
   settled_between [] back k v is none a = settled_first (k, v) (k, v) back refl ((bytes_eq-Decides text (string_bytes k)).1 (sym is)) a
@@ -345,7 +348,7 @@ module _ {A X : Type 0} (alone : List X → Bool) (text : List ℕ) where
       → texts_of (move_index (front ++ (k, v) ∷ back) (length front) (length (front ++ (k, v) ∷ back) - 1)) ≡ settled alone text (texts_of (front ++ (k, v) ∷ back))
   map_settled_between front back k v is none a = ap texts_of (move_last_between front back (k, v)) ∙ settled_between front back k v is none a
 
-  -- one that is the first of the text, at this place
+  -- the first of the name, at this position
   settled_at : (es : List (String A × List X)) (n : ℕ) (k : String A) (v : List X) → slice_get es n ≡ Some (k, v) → place_of text (texts_of es) ≡ Some n → alone v ≡ true
       → texts_of (remove es n ++ (k, v) ∷ []) ≡ settled alone text (texts_of es)
   settled_at [] n k v there place a = absurd (cc)
@@ -363,7 +366,7 @@ module _ {A X : Type 0} (alone : List X → Bool) (text : List ℕ) where
       → texts_of (move_index es n (length es - 1)) ≡ settled alone text (texts_of es)
   map_settled es n k v there place a = ap texts_of (move_last es n (k, v) there) ∙ settled_at es n k v there (sym (place ∙ place_is text es)) a
 
-  -- the entry of the text does not stand alone, and stays
+  -- the entry of the name is not alone, and is unchanged
   pub map_stays : (es : List (String A × List X)) (v : List X) → Some v ≡ lookup (at_text text) es → alone v ≡ false → settled alone text (texts_of es) ≡ texts_of es
   map_stays [] v l a = refl
   map_stays (e ∷ es) v l a = elim (cases_Bool (at_text text e.0)) [
@@ -371,7 +374,7 @@ module _ {A X : Type 0} (alone : List X → Bool) (text : List ℕ) where
     | inr t ↦ let l' = rw t at l in rw t (ap (λ gs. (string_bytes e.0, e.1) ∷ gs) (map_stays es v l' a))
   ]
 
-  -- there is none, and all stay
+  -- there is none, and all are unchanged
   pub map_stays_none : (es : List (String A × List X)) → None ≡ lookup (at_text text) es → settled alone text (texts_of es) ≡ texts_of es
   map_stays_none [] l = refl
   map_stays_none (e ∷ es) l = elim (cases_Bool (at_text text e.0)) [
@@ -379,9 +382,9 @@ module _ {A X : Type 0} (alone : List X → Bool) (text : List ℕ) where
     | inr t ↦ let l' = rw t at l in rw t (ap (λ gs. (string_bytes e.0, e.1) ∷ gs) (map_stays_none es l'))
   ]
 
--- entries leave a map
+-- entries are removed from a map
 
--- what its `retain` leaves, where the closure keeps no state, changes each value by a function and tests what that gives
+-- the entries after `retain`, if the closure keeps no state, changes each value by a function and tests the result
 module _ {K X F : Type 0} (T : F → K → X → Bool → X → F → Type 0) (change : X → X) (test : X → Bool) (f : F)
     (says : (k : K) (v : X) (b : Bool) (w : X) (g : F) → T f k v b w g → (b ≡ test (change v)) × (w ≡ change v) × (g ≡ f)) where
   pub changed_retained : (es left : List (K × X)) → RetainsPairs T f es left → left ≡ filter (λ e. test e.1) (map (λ e. (e.0, change e.1)) es)
@@ -391,7 +394,7 @@ module _ {K X F : Type 0} (T : F → K → X → Bool → X → F → Type 0) (c
       let rest = changed_retained es h.3 (subst (λ g. RetainsPairs T g es h.3) s.2 h.5) in
       h.6 ∙ (λ j. cond (s.0 j) ((e.0, s.1 j) ∷ rest j) (rest j))
 
--- items under their names, of which those stay that pass the test
+-- items under their names, without those that fail the test
 module _ {A F : Type 0} (T : F → String A → Item → Bool → Item → F → Type 0) (test : Item → Bool) (f : F)
     (says : (k : String A) (v : Item) (b : Bool) (w : Item) (g : F) → T f k v b w g → (b ≡ test v) × (w ≡ v) × (g ≡ f)) where
   -- the items
@@ -418,18 +421,18 @@ module _ {A F : Type 0} (T : F → String A → Item → Bool → Item → F →
         | inr t ↦ rw t (named_filtered es g.1)
       ]
 
--- groups under their paths, of which those stay in which an item passes the test
+-- groups under their paths, without those in which no item passes the test
 module _ {A F : Type 0} (T : F → String A → List Item → Bool → List Item → F → Type 0) (test : Item → Bool) (f : F)
     (says : (k : String A) (v : List Item) (b : Bool) (w : List Item) (g : F) → T f k v b w g → (b ≡ not (length (filter test v) == 0)) × (w ≡ filter test v) × (g ≡ f)) where
   pub texts_retained : (es left : List (String A × List Item)) → RetainsPairs T f es left → texts_of left ≡ passing test (texts_of es)
   texts_retained es left h = ap texts_of (changed_retained T (filter test) (λ xs. not (length xs == 0)) f says es left h) ∙ texts_filtered es
     where
-      -- an entry stays where its group is kept
+      -- an entry remains if its group is kept
       one_stays : (k : String A) (xs : List Item) (es : List (String A × List Item)) (ps : ItemPaths) → texts_of es ≡ ps → texts_of (cond (not (length xs == 0)) ((k, xs) ∷ es) es) ≡ kept (string_bytes k) xs ps
       one_stays k [] es ps same = same
       one_stays k (x ∷ xs) es ps same = rw (some_is x xs) (ap (λ qs. (string_bytes k, x ∷ xs) ∷ qs) same)
 
-      -- the entries that stay have the groups that are kept
+      -- the remaining entries have the kept groups
       texts_filtered : (es : List (String A × List Item)) → texts_of (filter (λ e. not (length e.1 == 0)) (map (λ e. (e.0, filter test e.1)) es)) ≡ passing test (texts_of es)
       texts_filtered [] = refl
       texts_filtered (e ∷ es) =

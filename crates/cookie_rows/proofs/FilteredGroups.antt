@@ -1,4 +1,4 @@
--- What a filter keeps of lists, of the order of rows, of groups, and of the keys by making.
+-- What a filter keeps of lists, of the order of rows, of groups, and of the keys in creation order.
 use Rattle.std.proofs.Common.{◌≡◌, ℕ, zero, suc, ◌<◌, Bool, true, false, List, [], ◌∷◌, ◌++◌, cond, length, map, take, refl, sym, ◌∙◌, ap, ap₂, inl, inr, bytes_eq, append-nil, arith}
 use Rattle.std.specs.Cmp.{IsEquivalence}
 use Rattle.std.specs.List.{AllByRecursion, filter, list_any}
@@ -86,7 +86,7 @@ module _ {A B : Type 0} (f : A → B) where
   map-filter test (x ∷ xs) = grind (arith, map-filter test xs)
 
   module _ (test : A → Bool) where
-    -- where no value passes, none of those that are left does
+    -- if no value passes, none of the remaining ones does
     none-filter : (p : B → Bool) (xs : List A) → list_any p (map f xs) ≡ false → list_any p (map f (filter test xs)) ≡ false
     none-filter p [] h = refl
     none-filter p (x ∷ xs) h = grind (arith, none-filter p xs)
@@ -100,7 +100,7 @@ module _ {A B : Type 0} (f : A → B) where
     begins-later : (p : B → Bool) (x : A) (xs : List A) → begins p (map f (x ∷ xs)) ≡ true → begins p (map f (x ∷ filter test xs)) ≡ true
     begins-later p x xs h = grind (arith, none-filter p xs)
 
-    -- so any of them may go, where those that are alike stand together
+    -- so any of them may be removed, if those that are alike are adjacent
     begins-filter : {alike : B → B → Bool} → IsEquivalence alike → (y : B) (xs : List A) → begins (alike y) (map f xs) ≡ true → stand_together alike (map f xs) ≡ true → begins (alike y) (map f (filter test xs)) ≡ true
     begins-filter laws y [] first h = refl
     begins-filter {alike = alike} laws y (x ∷ xs) first h =
@@ -109,7 +109,7 @@ module _ {A B : Type 0} (f : A → B) where
         (λ e. begins-later (alike y) x xs first)
         (λ e. begins-filter laws y xs (begins-rest laws y (f x) (map f xs) first parts.0) parts.1)
 
-    -- values that are alike still stand together
+    -- values that are alike are still adjacent
     together-filter : {alike : B → B → Bool} → IsEquivalence alike → (xs : List A) → stand_together alike (map f xs) ≡ true → stand_together alike (map f (filter test xs)) ≡ true
     together-filter laws [] h = refl
     together-filter {alike = alike} laws (x ∷ xs) h =
@@ -133,14 +133,14 @@ are_keys-filter key test rows h =
 pub are_rows-filter : (test : Row → Bool) (rows : List Row) → are_rows rows ≡ true → are_rows (filter test rows) ≡ true
 are_rows-filter test rows h = are_keys-filter key_of test rows h
 
--- groups of which items leave
+-- groups from which items are removed
 
 module _ (test : Item → Bool) where
   -- the items that pass, and groups in which none does are empty
   abbrev tested : ItemPaths → ItemPaths
   tested ps = map (λ p. (p.0, filter test p.1)) ps
 
-  -- the texts stay
+  -- the names are unchanged
   texts_tested : (ps : ItemPaths) → map (λ p. p.0) (tested ps) ≡ map (λ p. p.0) ps
   texts_tested [] = refl
   texts_tested (p ∷ ps) = ap (λ ts. p.0 ∷ ts) (texts_tested ps)
@@ -252,7 +252,7 @@ module _ (key : Key) where
             )
       ]
 
-  -- and so are those by making
+  -- and so are those in creation order
   pub made_near : FilterKeepsOrder → (gs : ItemGroups) → AreGroups (bare gs) → filter (same_domain key) (made_of gs) ≡ map (λ x. x.0) (by_number (numbered_paths key.domain (paths_of key.domain gs)))
   made_near ordered gs a =
       sym (map-filter (λ (x : Key × ℕ). x.0) (same_domain key) (by_number (numbered gs)))

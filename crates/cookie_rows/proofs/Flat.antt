@@ -1,4 +1,4 @@
--- One list of rows, seen from its parts.
+-- The one list of rows, by its parts.
 use Rattle.std.proofs.Common.{◌≡◌, ◌⊎◌, Bool, true, false, ◌||◌, List, [], ◌∷◌, ◌++◌, refl, sym, subst, inl, inr, arith, append-nil, find, None}
 use Rattle.std.specs.Prelude.{if◌then◌else◌}
 use Rattle.std.specs.List.{AllByRecursion, list_any}

@@ -1,4 +1,4 @@
--- A row found in, ended in, or removed from groups, and the same in the one list of their rows.
+-- Finding, expiring and removing a row in groups, and the same in the one list of their rows.
 use Rattle.std.proofs.Common.{◌≡◌, ℕ, true, false, List, [], ◌∷◌, ◌++◌, map, refl, sym, ◌∙◌, ap, inl, inr, bytes_eq, arith}
 use Rattle.std.specs.List.{AllByRecursion, list_any, flat_map}
 use Rattle.std.proofs.lemmas.Bool.{cases_Bool}
@@ -24,7 +24,7 @@ module _ (key : Key) where
   names_found [] a = refl
   names_found (x ∷ xs) a = grind (arith, nat_tests, by_name key x a.0, names_found xs a.1)
 
-  -- it ends as that does
+  -- it is expired as that is
   names_ended : (xs : List Row) → AllByRecursion (λ r. in_group key r ≡ true) xs → changed (has_key key) ended xs ≡ end_name key.name xs
   names_ended [] a = refl
   names_ended (x ∷ xs) a = elim (cases_Bool (is_named key.name x)) [
@@ -56,7 +56,7 @@ module _ (key : Key) where
         | inr f ↦ rw f (find_right (has_key key) p.1 (flat_paths ps) (no_key key p.1 (no_group_rows key d p.0 p.1 a.0.1 f)) ∙ found_in_paths d ps e after a.1)
       ]
 
-  -- it ends there
+  -- it is expired there
   ended_in_paths : (d : List ℕ) (ps : PathGroups) → bytes_eq key.domain d ≡ true → differ bytes_eq (map (λ p. p.0) ps) ≡ true → Filled d ps → changed (has_key key) ended (flat_paths ps) ≡ flat_paths (end_paths key.path key.name ps)
   ended_in_paths d [] e k a = refl
   ended_in_paths d (p ∷ ps) e k a =
@@ -100,7 +100,7 @@ module _ (key : Key) where
     | inr f ↦ rw f (find_right (has_key key) (flat_paths g.1) (flat gs) (other_domain g gs a f) ∙ found_in_groups gs (rest_are g gs a))
   ]
 
-  -- it ends in them
+  -- it is expired in them
   pub ended_in_groups : (gs : DomainGroups) → AreGroups gs → changed (has_key key) ended (flat gs) ≡ flat (end_groups key gs)
   ended_in_groups [] a = refl
   ended_in_groups (g ∷ gs) a = elim (cases_Bool (bytes_eq key.domain g.0)) [

@@ -43,7 +43,7 @@ keys_of xs = map (λ x. x.0) xs
 abbrev is_entry : Entry → Entry → Bool
 is_entry x y = same_key x.0 y.0 && nat_eq x.1 y.1
 
--- where a key stands among those of entries
+-- the position of a key among those of entries
 abbrev place_in : List Entry → Entry → ℕ
 place_in xs x = position_or_len (same_key x.0) (keys_of xs)
 
@@ -69,7 +69,7 @@ differs_from : (n : ℕ) (xs : List Entry) → list_any (nat_eq n) (map (λ x. x
 differs_from n [] none = tt
 differs_from n (x ∷ xs) none = (grind (arith, none), differs_from n xs (grind (arith, none)))
 
--- entries in order ascend where their numbers differ
+-- sorted entries ascend if their numbers differ
 ascend_order : (xs : List Entry) → differ nat_eq (map (λ x. x.1) xs) ≡ true → Ascend (by_number xs)
 ascend_order [] d = tt
 ascend_order (x ∷ xs) d =
@@ -97,7 +97,7 @@ among_keys x (y ∷ ys) among = elim (cases_Bool (same_key x.0 y.0)) [
   | inr there ↦ grind (arith, there, among_keys x ys (grind (arith, there, among)))
 ]
 
--- where numbers ascend, a key with a smaller number, or the same, stands no later
+-- if numbers ascend, a key with a smaller or equal number is at no later position
 no_later : (xs : List Entry) → Ascend xs → differ same_key (keys_of xs) ≡ true → (x y : Entry) → list_any (is_entry x) xs ≡ true → list_any (is_entry y) xs ≡ true
     → x.1 ≤ y.1 → place_in xs x ≤ place_in xs y
 no_later [] up d x y p q below = omega arith
@@ -210,7 +210,7 @@ in_groups (g ∷ gs) (suc l) m n item of there =
     ∙ or_right _ _ (in_groups gs l m n item of.1 there)
 
 module _ (gs : ItemGroups) where
-  -- what may stand at a spot, and what is then
+  -- P holds of the row at a position, if there is one
   known : (P : Item → Type 0) (there : Option Item) → ((item : Item) → there ≡ Some item → P item) → AllByRecursion P (list_of there)
   known P None holds = tt
   known P (Some item) holds = (holds item refl, tt)
@@ -220,7 +220,7 @@ module _ (gs : ItemGroups) where
   all_both P [] ys p q = q
   all_both P (x ∷ xs) ys p q = (p.0, all_both P xs ys p.1 q)
 
-  -- the rows at spots are among the numbered ones
+  -- the rows at positions are among the numbered ones
   all_in : AllByRecursion (λ g. (0 < length g.1) × ArePaths g.0 g.1) (bare gs) → (spots : List Spot) → AllByRecursion (IsIn (numbered gs)) (flat_map (items_at gs) spots)
   all_in of [] = tt
   all_in of (s ∷ spots) =
@@ -228,13 +228,13 @@ module _ (gs : ItemGroups) where
       (known (IsIn (numbered gs)) (slice_get (under s.1 (under s.0 gs)) s.2) (λ item there. in_groups gs s.0 s.1 s.2 item of there))
       (all_in of spots)
 
-  -- the rows of what stands at a spot
+  -- the rows at a position
   rows_known : (items : List Item) (n : ℕ) → rows_of (list_of (slice_get items n)) ≡ list_of (slice_get (rows_of items) n)
   rows_known [] n = refl
   rows_known (item ∷ items) zero = refl
   rows_known (item ∷ items) (suc n) = rows_known items n
 
-  -- the rows of what stands at spots
+  -- the rows at positions
   rows_at_spots : (spots : List Spot) → rows_of (flat_map (items_at gs) spots) ≡ flat_map (rows_at (bare gs)) spots
   rows_at_spots [] = refl
   rows_at_spots (s ∷ spots) =
@@ -266,7 +266,7 @@ module _ (gs : ItemGroups) where
       in_tests (ltb la lb) (eqb la lb) (ltb (creation (made_of gs) b.row) (creation (made_of gs) a.row)) (eqb (creation (made_of gs) b.row) (creation (made_of gs) a.row))
       ∙ ordered la lb a.number b.number (creation (made_of gs) a.row) (creation (made_of gs) b.row) later tests
     where
-      -- so no test of creation passes where none of numbers does
+      -- so no test of creation order passes if no number does
       ordered : (la lb m n i j : ℕ) → (m ≤ n → i ≤ j) → (ltb la lb || (eqb la lb && ltb n m)) ≡ false → (ltb la lb || (eqb la lb && ltb j i)) ≡ false
       ordered la lb m n i j later tests = elim (cases_Bool (eqb la lb)) [
         | inl same ↦
@@ -298,7 +298,7 @@ module _ (gs : ItemGroups) where
         rows_sorted n are sorted (All-permutation (IsIn (numbered gs)) items sorted moved (All-from_recursion (IsIn (numbered gs)) items among)) up,
       )
 
-  -- the rows are none only where none is given
+  -- the list is empty only if no row is given
   pub sorted_some : (asked : List Row) (sorted : List Item) → IsPermutation asked (rows_of sorted) → asked ≡ [] → sorted ≡ []
   sorted_some asked sorted moved none =
       nil_from_length sorted (sym (length-map sorted (λ item. item.row)) ∙ length_permutation asked (rows_of sorted) moved ∙ ap length none)

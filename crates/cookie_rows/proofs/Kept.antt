@@ -12,7 +12,7 @@ use Rattle.cookie_rows.specs.Groups.{is_named, put_at, changed_at, kept, lessene
 use Rattle.cookie_rows.proofs.BareGroups.{put_name, end_name, remove_name, put_paths, put_groups, end_paths, end_groups, remove_paths, remove_groups}
 use Rattle.cookie_rows.proofs.Flat.{any_append}
 
--- a text that is not there goes last, and the texts differ
+-- a new name goes last, and the names differ
 differ_push : (xs : List (List ℕ)) (y : List ℕ) → differ bytes_eq xs ≡ true → list_any (bytes_eq y) xs ≡ false → differ bytes_eq (xs ++ y ∷ []) ≡ true
 differ_push [] y h k = refl
 differ_push (x ∷ xs) y h k =
@@ -22,7 +22,7 @@ differ_push (x ∷ xs) y h k =
 module _ {X : Type 0} (f : List X → List X) (t : List ℕ) where
   -- put
 
-  -- a text that is there
+  -- a name that is there
   keys_in : (gs : List (List ℕ × List X)) → list_any (bytes_eq t) (map (λ g. g.0) gs) ≡ true → map (λ g. g.0) (put_at f t gs) ≡ map (λ g. g.0) gs
   keys_in [] h = absurd (cc)
   keys_in (g ∷ gs) h = elim (cases_Bool (bytes_eq t g.0)) [
@@ -30,7 +30,7 @@ module _ {X : Type 0} (f : List X → List X) (t : List ℕ) where
     | inr e ↦ let h' : list_any (bytes_eq t) (map (λ g. g.0) gs) ≡ true = grind (arith, nat_tests, h, e) in rw e (ap (λ ks. g.0 ∷ ks) (keys_in gs h'))
   ]
 
-  -- a text that is not there goes last
+  -- a new name goes last
   keys_out : (gs : List (List ℕ × List X)) → list_any (bytes_eq t) (map (λ g. g.0) gs) ≡ false → map (λ g. g.0) (put_at f t gs) ≡ map (λ g. g.0) gs ++ t ∷ []
   keys_out [] h = refl
   keys_out (g ∷ gs) h =
@@ -38,7 +38,7 @@ module _ {X : Type 0} (f : List X → List X) (t : List ℕ) where
       let h' : list_any (bytes_eq t) (map (λ g. g.0) gs) ≡ false = grind (arith, nat_tests, h) in
       rw e (ap (λ ks. g.0 ∷ ks) (keys_out gs h'))
 
-  -- texts differ after either
+  -- names differ after either
   differ_put : (gs : List (List ℕ × List X)) → differ bytes_eq (map (λ g. g.0) gs) ≡ true → differ bytes_eq (map (λ g. g.0) (put_at f t gs)) ≡ true
   differ_put gs d = elim (cases_Bool (list_any (bytes_eq t) (map (λ g. g.0) gs))) [
     | inl e ↦ ap (differ bytes_eq) (keys_in gs e) ∙ d
@@ -62,7 +62,7 @@ module _ {X : Type 0} (f : List X → List X) (t : List ℕ) where
 
   -- changed
 
-  -- the texts stay
+  -- the names are unchanged
   keys_changed : (gs : List (List ℕ × List X)) → map (λ g. g.0) (changed_at f t gs) ≡ map (λ g. g.0) gs
   keys_changed [] = refl
   keys_changed (g ∷ gs) = elim (cases_Bool (bytes_eq t g.0)) [ inl e ↦ rw e refl | inr e ↦ rw e (ap (λ ks. g.0 ∷ ks) (keys_changed gs)) ]
@@ -75,19 +75,19 @@ module _ {X : Type 0} (f : List X → List X) (t : List ℕ) where
     | inr e ↦ rw e (a.0, all_changed P gs s a.1)
   ]
 
-  -- groups that are there stay
+  -- groups that are there remain
   some_changed : (gs : List (List ℕ × List X)) → 0 < length gs → 0 < length (changed_at f t gs)
   some_changed [] h = h
   some_changed (g ∷ gs) h = elim (cases_Bool (bytes_eq t g.0)) [ inl e ↦ rw e (omega arith) | inr e ↦ rw e (omega arith) ]
 
   -- lessened
 
-  -- a text that none of the groups has is not among those that are left
+  -- a name that none of the groups has is not among the remaining ones
   none_kept : (p : List ℕ → Bool) (k : List ℕ) (v : List X) (gs : List (List ℕ × List X)) → p k ≡ false → list_any p (map (λ g. g.0) gs) ≡ false → list_any p (map (λ g. g.0) (kept k v gs)) ≡ false
   none_kept p k [] gs h n = n
   none_kept p k (x ∷ xs) gs h n = grind (arith, nat_tests, h, n)
 
-  -- no text comes
+  -- no name is added
   none_lessened : (p : List ℕ → Bool) (gs : List (List ℕ × List X)) → list_any p (map (λ g. g.0) gs) ≡ false → list_any p (map (λ g. g.0) (lessened_at f t gs)) ≡ false
   none_lessened p [] h = h
   none_lessened p (g ∷ gs) h =
@@ -98,7 +98,7 @@ module _ {X : Type 0} (f : List X → List X) (t : List ℕ) where
         | inr e ↦ let below = none_lessened p gs rest in rw e (grind (arith, nat_tests, one, below))
       ]
 
-  -- texts differ with a group that is kept or not
+  -- names differ with a group that is kept or not
   differ_kept : (k : List ℕ) (v : List X) (gs : List (List ℕ × List X)) → differ bytes_eq (k ∷ map (λ g. g.0) gs) ≡ true → differ bytes_eq (map (λ g. g.0) (kept k v gs)) ≡ true
   differ_kept k [] gs d = grind (arith, nat_tests, d)
   differ_kept k (x ∷ xs) gs d = d
@@ -121,7 +121,7 @@ module _ {X : Type 0} (f : List X → List X) (t : List ℕ) where
   all_kept P k [] gs s a = a
   all_kept P k (x ∷ xs) gs s a = (s (omega arith), a)
 
-  -- what holds of each group holds after a change that keeps it where something is left
+  -- what holds of each group holds after a change that preserves it, for groups that are not empty then
   pub all_lessened : (P : List ℕ × List X → Type 0) (gs : List (List ℕ × List X)) → ((k : List ℕ) (v : List X) → P (k, v) → 0 < length (f v) → P (k, f v)) → AllByRecursion P gs → AllByRecursion P (lessened_at f t gs)
   all_lessened P [] s a = tt
   all_lessened P (g ∷ gs) s a = elim (cases_Bool (bytes_eq t g.0)) [
@@ -129,7 +129,7 @@ module _ {X : Type 0} (f : List X → List X) (t : List ℕ) where
     | inr e ↦ rw e (a.0, all_lessened P gs s a.1)
   ]
 
--- a row is put
+-- a row is stored
 
 module _ (row : Row) where
   -- rows of one domain and path are such after one more
@@ -159,15 +159,15 @@ module _ (row : Row) where
         (paths_put (domain_text row.domain) [] refl (refl, tt)) (λ v h. paths_put (domain_text row.domain) v refl h.1) a.1,
   )
 
--- a row is ended, and removed
+-- a row is expired, and removed
 
 module _ (key : Key) where
-  -- rows that are there stay
+  -- rows that are there remain
   some_ended : (xs : List Row) → 0 < length xs → 0 < length (end_name key.name xs)
   some_ended [] h = h
   some_ended (x ∷ xs) h = elim (cases_Bool (is_named key.name x)) [ inl e ↦ rw e (omega arith) | inr e ↦ rw e (omega arith) ]
 
-  -- rows of one domain and path are such after one ended
+  -- rows of one domain and path still are after one is expired
   names_ended : (d p : List ℕ) (xs : List Row) → AllByRecursion (Of d p) xs → AllByRecursion (Of d p) (end_name key.name xs)
   names_ended d p [] a = tt
   names_ended d p (x ∷ xs) a = elim (cases_Bool (is_named key.name x)) [

@@ -7,7 +7,7 @@ use Rattle.cookie_laws.specs.Rows.{Key, key_of, same_domain_equiv, same_group_eq
 use Rattle.cookie_rows.proofs.AfterLast.{list_any-map, map-after_last, map-changed, map-replaced}
 use Rattle.cookie_rows.proofs.StandTogether.{differ-after_last, together-after_like, together-after_any, together-after_unlike}
 
--- keys differ, those of one domain stand together, and in them those of one path
+-- keys differ, those of one domain are adjacent, and in them those of one path
 abbrev pub are_keys : List Key → Bool
 are_keys keys = differ same_key keys && (stand_together same_domain keys && stand_together same_group keys)
 
@@ -51,7 +51,7 @@ are_keys-in_domain keys key new none h =
       groups = together-after_unlike same_group_equiv same_domain_equiv group_in_domain keys key none parts.groups;
     })
 
--- a row in the place of one of its key leaves the keys as they were
+-- replacing a row of the same key does not change the keys
 pub are_keys-replaced : {R : Type 0} (key : R → Key) (rows : List R) (row : R) → are_keys (map key rows) ≡ true → are_keys (map key (replaced (λ r. same_key (key row) (key r)) rows row)) ≡ true
 are_keys-replaced {R} key rows row h =
     let same = λ (r : R) (e : same_key (key row) (key r) ≡ true). sym (same_key-true (key row) (key r) e) in
@@ -77,7 +77,7 @@ are_rows-placed rows cookie new h =
     (λ some. are_keys-after_last key_of (same_group key) rows cookie (in_the_group some))
     (λ none. are_keys-after_last key_of (same_domain key) rows cookie (in_the_domain none))
 
--- a cookie that is put keeps the order
+-- a cookie that is stored keeps the order
 pub are_rows-put : (rows : List Row) (cookie : Row) → are_rows rows ≡ true → are_rows (put rows cookie) ≡ true
 are_rows-put rows cookie h =
     let key = key_of cookie in
@@ -85,6 +85,6 @@ are_rows-put rows cookie h =
     (λ some. are_keys-replaced key_of rows cookie h)
     (λ new. are_rows-placed rows cookie new h)
 
--- rows of which one was ended keep the order
+-- expiring a row keeps the order
 pub are_rows-ended : (test : Row → Bool) (rows : List Row) → are_rows rows ≡ true → are_rows (changed test ended rows) ≡ true
 are_rows-ended test rows h = subst (λ keys. are_keys keys ≡ true) (sym (map-changed key_of test ended rows (λ row. refl))) h

@@ -1,4 +1,4 @@
--- Items that leave a domain where they do not pass a test, and what is left of rows and keys.
+-- Items of a domain that fail a test are removed; the remaining rows and keys.
 use Rattle.std.proofs.Common.{◌≡◌, ℕ, ◌<◌, Bool, true, false, not, ◌&&◌, ◌||◌, List, [], ◌∷◌, ◌++◌, cond, length, map, refl, sym, ◌∙◌, ap, ap₂, subst, inl, inr, bytes_eq, Some}
 use Rattle.std.specs.Prelude.{IsTrue, nat_eq}
 use Rattle.std.specs.List.{AllByRecursion, filter, find, flat_map, list_any}
@@ -100,14 +100,14 @@ each_key (g ∷ gs) a = (each_key_in g.0 g.1 a.0.1.1, each_key gs a.1)
 -- it is found by its key
 
 module _ {R : Type 0} (key : R → Key) where
-  -- where no row is of a key, no row's key is that one
+  -- if no row has a key, no row's key is that one
   all_apart : (k : Key) (rows : List R) → list_any (same_key k) (map key rows) ≡ false → AllByRecursion (λ r. same_key (key r) k ≡ false) rows
   all_apart k [] none = tt
   all_apart k (r ∷ rs) none =
       let parts = or_parts _ _ none in
       (same_key_equiv.symm (key r) k ∙ parts.0, all_apart k rs parts.1)
 
-  -- where keys differ, the first row of a row's key is that row
+  -- if keys differ, the first row of a row's key is that row
   all_found : (rows : List R) → differ same_key (map key rows) ≡ true → AllByRecursion (λ r. find (λ q. same_key (key r) (key q)) rows ≡ Some r) rows
   all_found [] apart = tt
   all_found (r ∷ rs) apart =
@@ -127,7 +127,7 @@ module _ (n : ℕ) (gs : ItemGroups) (a : AreItems n gs) where
       (λ d p x is found. subst (λ k. row_of k rows ≡ Some x.row) is found) gs
       (each_key gs a.0.1) (each_row (λ r. row_of (key_of r) rows ≡ Some r) gs (all_found key_of rows (and_parts _ _ a.1).0))
 
-  -- and has ended where that has
+  -- and has expired if that has
   pub has_ended_item : (now : Moment) → Each (λ d p x. has_ended now (flat (bare gs)) (key_at d p x.row.raw.name) ≡ is_expired now x.row) gs
   has_ended_item now =
       let rows = flat (bare gs) in
@@ -186,7 +186,7 @@ module _ {Y : Type 0} where
         ∙ ap₂ (λ xs ys. xs ++ ys) (names_left (of p.0) p.1 a.0) (paths_left of ps a.1)
         ∙ sym (filter-append keeps (map (of p.0) p.1) (listed_in of ps))
 
-    -- where the domain is another, each item stays
+    -- if the domain is another, each item remains
     paths_stay : (of : List ℕ → Item → Y) (here : Bool) (ps : ItemPaths) → here ≡ false → EachIn (λ p x. keeps (of p x) ≡ (not here || test x)) ps → AllByRecursion (λ y. keeps y ≡ true) (listed_in of ps)
     paths_stay of here ps e a =
         all_listed_in (λ y. keeps y ≡ true) of ps
@@ -197,7 +197,7 @@ module _ {Y : Type 0} where
       abbrev KeepsOthers : ItemGroups → Type 0
       KeepsOthers gs = Each (λ e p x. keeps (of e p x) ≡ (not (bytes_eq d e) || test x)) gs
 
-      -- where no domain is this one, each item stays
+      -- if no domain is this one, each item remains
       groups_stay : (gs : ItemGroups) → list_any (bytes_eq d) (map (λ g. g.0) gs) ≡ false → KeepsOthers gs → AllByRecursion (λ y. keeps y ≡ true) (listed of gs)
       groups_stay [] none a = tt
       groups_stay (g ∷ gs) none a =
@@ -248,13 +248,13 @@ pub rows_listed : (gs : ItemGroups) → flat (bare gs) ≡ listed (λ d p x. x.r
 rows_listed [] = refl
 rows_listed (g ∷ gs) = ap₂ (λ xs ys. xs ++ ys) (rows_listed_in g.1) (rows_listed gs)
 
--- items leave
+-- items are removed
 
--- those keys leave whose items are of the domain and do not pass the test
+-- the evicted keys are those whose items are of the domain and fail the test
 abbrev pub Agrees : List ℕ → (Item → Bool) → (Key → Bool) → ItemGroups → Type 0
 Agrees d test leaves gs = Each (λ e p x. leaves (key_at e p x.row.raw.name) ≡ (bytes_eq d e && not (test x))) gs
 
--- it is enough that no key of another domain leaves, and of the domain's groups those whose items do not pass
+-- it is enough that no key of another domain is evicted, and in the domain those whose items fail
 module _ (d : List ℕ) (test : Item → Bool) (leaves : Key → Bool) (elsewhere : (key : Key) → bytes_eq d key.domain ≡ false → leaves key ≡ false) where
   -- under another domain
   agrees_in_other : (e : List ℕ) (ps : ItemPaths) → bytes_eq d e ≡ false → EachIn (λ p x. leaves (key_at e p x.row.raw.name) ≡ (bytes_eq d e && not (test x))) ps
@@ -281,7 +281,7 @@ module _ (d : List ℕ) (test : Item → Bool) (leaves : Key → Bool) (elsewher
     | inr e ↦ let rest = rw e at own in (agrees_in_other g.0 g.1 e, agrees gs (and_parts _ _ apart).1 rest)
   ]
 
--- what does not leave stays
+-- what is not evicted remains
 not-and : (b c : Bool) → not (b && not c) ≡ (not b || c)
 not-and false c = refl
 not-and true false = refl
@@ -305,7 +305,7 @@ module _ (n : ℕ) (gs : ItemGroups) (a : AreItems n gs) (d : List ℕ) (test : 
       (λ e p x h. ap not h ∙ not-and (bytes_eq d e) (test x)) gs agree in
       groups_left (λ (x : Key × ℕ). not (leaves x.0)) test (λ e p x. (key_at e p x.row.raw.name, x.number)) d gs (texts_differ gs a.0).0 stays
 
-  -- the keys by making
+  -- the keys in creation order
   pub made_left : FilterKeepsOrder → made_of (lessened_at (passing test) d gs) ≡ filter (λ key. not (leaves key)) (made_of gs)
   made_left ordered =
       ap (λ xs. map (λ x. x.0) (by_number xs)) numbered_left

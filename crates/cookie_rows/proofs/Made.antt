@@ -1,4 +1,4 @@
--- The keys by making, as rows are put, end and go.
+-- The keys in creation order, as rows are stored, expired and removed.
 use Rattle.std.proofs.Common.{◌≡◌, ℕ, suc, ◌<◌, true, false, List, [], ◌∷◌, ◌++◌, length, map, refl, sym, ◌∙◌, ap, subst, inl, inr, bytes_eq, arith}
 use Rattle.std.specs.Prelude.{◌≢◌, nat_eq, None}
 use Rattle.std.specs.List.{AllByRecursion, list_any}
@@ -17,7 +17,7 @@ use Rattle.cookie_rows.proofs.NumberedPuts.{is_key, PathsDiffer, TextsDiffer, pu
 use Rattle.cookie_rows.proofs.NumberedTakes.{takes}
 use Rattle.cookie_rows.proofs.Ordered.{ordered_removed}
 
--- texts of groups of rows differ
+-- the names of groups of rows differ
 
 -- in each domain the paths
 paths_differ : (gs : ItemGroups) → AllByRecursion (λ g. (0 < length g.1) × ArePaths g.0 g.1) (bare gs) → AllByRecursion (λ g. PathsDiffer g.1) gs
@@ -59,14 +59,14 @@ keys_groups (g ∷ gs) a = keys_both (flat_paths (bare_paths g.1)) (flat (bare g
 pub keys_differ : (gs : ItemGroups) → AreGroups (bare gs) → are_rows (flat (bare gs)) ≡ true → differ same_key (map (λ x. x.0) (numbered gs)) ≡ true
 keys_differ gs a r = ap (differ same_key) (sym (keys_groups gs a.1)) ∙ (and_parts _ _ r).0
 
--- a row is put
+-- a row is stored
 
--- whether its key was made is whether it is numbered
+-- a key is in the creation order if and only if it is numbered
 made_any : (key : Key) (gs : ItemGroups) → list_any (same_key key) (made_of gs) ≡ list_any (is_key key) (numbered gs)
 made_any key gs = list_any-map (λ x. x.0) (same_key key) (by_number (numbered gs)) ∙ any_ordered (is_key key) (numbered gs)
 
 module _ (row : Row) (n : ℕ) (gs : ItemGroups) where
-  -- its key is made last, unless it was made before
+  -- its key is created last, unless it was created before
   pub made_put : AreGroups (bare gs) → Below n gs → made_of (put_items row n gs) ≡ make (made_of gs) (key_of row)
   made_put a b = elim (puts row n gs) [
     | inl h ↦ ap (λ ks. map (λ x. x.0) (by_number ks)) h.1 ∙ stays (made_any (key_of row) gs ∙ h.0)
@@ -76,7 +76,7 @@ module _ (row : Row) (n : ℕ) (gs : ItemGroups) where
         ∙ comes (made_any (key_of row) gs ∙ h.0 (texts_differ gs a))
   ]
     where
-      -- it was made before
+      -- it was created before
       stays : list_any (same_key (key_of row)) (made_of gs) ≡ true → made_of gs ≡ make (made_of gs) (key_of row)
       stays e = rw e refl
 
@@ -100,7 +100,7 @@ module _ (row : Row) (n : ℕ) (gs : ItemGroups) where
     | inr h ↦ differ_gained (key_of row, n) (numbered gs) (numbered (put_items row n gs)) h.1 b d
   ]
 
-  -- where there is a row of its key, the numbers stay
+  -- if there is a row of its key, the numbers are unchanged
   pub stays_numbered : AreGroups (bare gs) → row_of (key_of row) (flat (bare gs)) ≢ None → numbered (put_items row n gs) ≡ numbered gs
   stays_numbered a there = elim (puts row n gs) [
     | inl h ↦ h.1
@@ -113,7 +113,7 @@ module _ (row : Row) (n : ℕ) (gs : ItemGroups) where
         absurd (there (find_none (has_key (key_of row)) (flat (bare gs)) none))
   ]
 
--- a row ends, and its key and number stay
+-- a row is expired; its key and number are unchanged
 
 module _ (key : Key) where
   -- in a group
@@ -140,21 +140,21 @@ module _ (key : Key) where
     | inr e ↦ rw e (ap (λ ys. numbered_paths g.0 g.1 ++ ys) (numbered_end gs))
   ]
 
--- a row goes
+-- a row is removed
 
 -- the keys of what is left
 map_removed : (key : Key) (xs : List (Key × ℕ)) → map (λ x. x.0) (removed (is_key key) xs) ≡ removed (same_key key) (map (λ x. x.0) xs)
 map_removed key [] = refl
 map_removed key (x ∷ xs) = grind (arith, map_removed key xs)
 
--- its key goes
+-- its key is removed
 pub made_remove : (key : Key) (gs : ItemGroups) → AreGroups (bare gs) → are_rows (flat (bare gs)) ≡ true → made_of (remove_items key gs) ≡ removed (same_key key) (made_of gs)
 made_remove key gs a r =
     ap (λ ks. map (λ x. x.0) (by_number ks)) ((takes key gs).0 (texts_differ gs a))
     ∙ ap (map (λ x. x.0)) (ordered_removed key (numbered gs) (keys_differ gs a r))
     ∙ map_removed key (by_number (numbered gs))
 
--- the other numbers stay below
+-- the other numbers are still below
 pub below_remove : (n : ℕ) (key : Key) (gs : ItemGroups) → Below n gs → Below n (remove_items key gs)
 below_remove n key gs b = elim (takes key gs).1 [
   | inl e ↦ subst (AllByRecursion (λ x. x.1 < n)) (sym e) b

@@ -1,4 +1,4 @@
--- The keys by making are those of the rows, and differ.
+-- The keys in creation order are those of the rows, and differ.
 use Rattle.std.proofs.Common.{◌≡◌, ℕ, List, [], ◌∷◌, map, None, refl, sym, ◌∙◌, subst, inl, inr, arith, IsPermutation}
 use Rattle.std.specs.Prelude.{nat_le}
 use Rattle.std.specs.List.{list_any}
@@ -37,7 +37,7 @@ any_key : (key : Key) (x : Key × ℕ) (ys : List (Key × ℕ)) → list_any (sa
 any_key key x [] = refl
 any_key key x (y ∷ ys) = grind (arith, any_key key x ys)
 
--- keys differ with one in its place where they differ with it in front
+-- keys differ after `place` if they differ with the new one in front
 differ_place : (x : Key × ℕ) (ys : List (Key × ℕ)) → differ same_key (keys_of (place x ys)) ≡ differ same_key (x.0 ∷ keys_of ys)
 differ_place x [] = refl
 differ_place x (y ∷ ys) = grind (arith, same_key_equiv.symm x.0 y.0, any_key y.0 x ys, differ_place x ys)
@@ -47,7 +47,7 @@ pub differ_order : (xs : List (Key × ℕ)) → differ same_key (keys_of (by_num
 differ_order [] = refl
 differ_order (x ∷ xs) = grind (arith, differ_place x (by_number xs), any_order x.0 xs, differ_order xs)
   where
-    -- a key is among them in order where it is among them
+    -- a key is among the sorted ones if it is among them
     any_order : (key : Key) (xs : List (Key × ℕ)) → list_any (same_key key) (keys_of (by_number xs)) ≡ list_any (same_key key) (keys_of xs)
     any_order key [] = refl
     any_order key (x ∷ xs) = grind (arith, any_key key x (by_number xs), any_order key xs)

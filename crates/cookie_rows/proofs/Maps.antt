@@ -1,4 +1,4 @@
--- A map from texts to groups, changed at one text.
+-- A map from names to groups, changed at one name.
 use Rattle.std.proofs.Common.{◌≡◌, ℕ, ◌==◌, Bool, true, false, List, [], ◌∷◌, map, length, refl, ap, inl, inr, bytes_eq, Option, Some, None, arith}
 use Rattle.std.specs.Prelude.{string_bytes, String}
 use Rattle.std.specs.String.{string_eq}
@@ -9,12 +9,12 @@ use Rattle.cookie_parts.specs.Cookie.{Row}
 use Rattle.cookie_laws.specs.Rows.{removed}
 use Rattle.cookie_rows.specs.Groups.{texts_of, found, put_at, changed_at, is_empty_at, kept, lessened_at}
 
--- the test of a key by a text
+-- the test of a key by a name
 abbrev pub at_text : {A : Type 0} → List ℕ → String A → Bool
 at_text q k = bytes_eq q (string_bytes k)
 
 module _ {A X : Type 0} where
-  -- a group that stood there was changed, as `put_at` says
+  -- a group that exists was changed, as in `put_at`
   pub put_set : (f : List X → List X) (q : List ℕ) (es : List (String A × List X)) (v : List X) → Some v ≡ lookup (at_text q) es
       → texts_of (set_value (at_text q) es (f v)) ≡ put_at f q (texts_of es)
   put_set f q [] v l = absurd (cc)
@@ -23,7 +23,7 @@ module _ {A X : Type 0} where
     | inr t ↦ let l' = rw t at l in rw t (ap (λ xs. (string_bytes e.0, e.1) ∷ xs) (put_set f q es v l'))
   ]
 
-  -- as `changed_at` says
+  -- as in `changed_at`
   pub changed_set : (f : List X → List X) (q : List ℕ) (es : List (String A × List X)) (v : List X) → Some v ≡ lookup (at_text q) es
       → texts_of (set_value (at_text q) es (f v)) ≡ changed_at f q (texts_of es)
   changed_set f q [] v l = absurd (cc)
@@ -40,7 +40,7 @@ module _ {A X : Type 0} where
     | inr t ↦ let l' = rw t at l in rw t (ap (λ xs. (string_bytes e.0, e.1) ∷ xs) (same_set test es v l'))
   ]
 
-  -- a group was made of nothing and put last, as `put_at` says
+  -- a group was created from nothing and put last, as in `put_at`
   pub put_insert : (f : List X → List X) (q : List ℕ) (k : String A) (es : List (String A × List X)) → string_bytes k ≡ q → None ≡ lookup (at_text q) es
       → texts_of (insert_entry string_eq es k (f [])) ≡ put_at f q (texts_of es)
   put_insert f q k [] is l = ap (λ t. (t, f []) ∷ []) is
@@ -51,7 +51,7 @@ module _ {A X : Type 0} where
         | inr t ↦ let l' = rw t at l in rw (same, t) (ap (λ xs. (string_bytes e.0, e.1) ∷ xs) (put_insert f q k es is l'))
       ]
 
-  -- nothing stands there, so nothing is changed
+  -- there is no group, so nothing is changed
   pub changed_none : (f : List X → List X) (q : List ℕ) (es : List (String A × List X)) → None ≡ lookup (at_text q) es → texts_of es ≡ changed_at f q (texts_of es)
   changed_none f q [] l = refl
   changed_none f q (e ∷ es) l = elim (cases_Bool (at_text q e.0)) [
@@ -59,7 +59,7 @@ module _ {A X : Type 0} where
     | inr t ↦ let l' = rw t at l in rw t (ap (λ xs. (string_bytes e.0, e.1) ∷ xs) (changed_none f q es l'))
   ]
 
-  -- what is found in a group that stands there
+  -- what is found in a group that exists
   pub found_some : (f : List X → Option Row) (q : List ℕ) (es : List (String A × List X)) (v : List X) → Some v ≡ lookup (at_text q) es → f v ≡ found f q (texts_of es)
   found_some f q [] v l = absurd (cc)
   found_some f q (e ∷ es) v l = elim (cases_Bool (at_text q e.0)) [
@@ -67,7 +67,7 @@ module _ {A X : Type 0} where
     | inr t ↦ let l' = rw t at l in rw t (found_some f q es v l')
   ]
 
-  -- nothing is found where none stands
+  -- nothing is found without a group
   pub found_none : (f : List X → Option Row) (q : List ℕ) (es : List (String A × List X)) → None ≡ lookup (at_text q) es → None ≡ found f q (texts_of es)
   found_none f q [] l = refl
   found_none f q (e ∷ es) l = elim (cases_Bool (at_text q e.0)) [
@@ -75,7 +75,7 @@ module _ {A X : Type 0} where
     | inr t ↦ let l' = rw t at l in rw t (found_none f q es l')
   ]
 
-  -- what was written is what stands there
+  -- what was written is what the map has
   pub empty_set : (q : List ℕ) (es : List (String A × List X)) (v w : List X) → Some v ≡ lookup (at_text q) es → (length w == 0) ≡ is_empty_at q (texts_of (set_value (at_text q) es w))
   empty_set q [] v w l = absurd (cc)
   empty_set q (e ∷ es) v w l = elim (cases_Bool (at_text q e.0)) [
@@ -83,7 +83,7 @@ module _ {A X : Type 0} where
     | inr t ↦ let l' = rw t at l in rw (t, t) (empty_set q es v w l')
   ]
 
-  -- where nothing stands, nothing stands empty
+  -- without a group, no group is empty
   pub empty_none : (q : List ℕ) (es : List (String A × List X)) → None ≡ lookup (at_text q) es → false ≡ is_empty_at q (texts_of es)
   empty_none q [] l = refl
   empty_none q (e ∷ es) l = elim (cases_Bool (at_text q e.0)) [
@@ -99,12 +99,12 @@ module _ {A X : Type 0} where
     | inr t ↦ rw t (ap (λ xs. (string_bytes e.0, e.1) ∷ xs) (texts_removed q es))
   ]
 
-  -- the values of a map, without its texts
+  -- the values of a map, without its keys
   pub values_texts : (es : List (String A × X)) → values_of es ≡ map (λ g. g.1) (texts_of es)
   values_texts [] = refl
   values_texts (e ∷ es) = ap (λ xs. e.1 ∷ xs) (values_texts es)
 
--- a group that was changed is dropped where nothing is left in it
+-- a changed group is dropped if it is empty
 module _ {X : Type 0} (f : List X → List X) (q : List ℕ) where
   -- a group with something in it is kept
   some_kept : (t : List ℕ) (v : List X) (gs : List (List ℕ × List X)) → (length v == 0) ≡ false → (t, v) ∷ gs ≡ kept t v gs

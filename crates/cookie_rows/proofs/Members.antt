@@ -1,4 +1,4 @@
--- Where the rows of a key stand among groups.
+-- The positions of the rows of a key among groups.
 use Rattle.std.proofs.Common.{◌≡◌, ℕ, ◌<◌, ◌⊎◌, Bool, true, false, ◌&&◌, List, [], ◌∷◌, ◌++◌, length, map, refl, sym, ◌∙◌, ap, subst, inl, inr, bytes_eq, arith}
 use Rattle.std.specs.List.{AllByRecursion, list_any}
 use Rattle.std.proofs.lemmas.Bool.Decides.{nat_tests}
@@ -10,23 +10,23 @@ use Rattle.cookie_lookup.specs.Groups.{PathGroups, DomainGroups, flat_paths, fla
 use Rattle.cookie_rows.specs.Groups.{is_named}
 use Rattle.cookie_rows.proofs.Flat.{any_append}
 
--- the rest of the texts is without the first one
+-- the rest of the names is without the first one
 pub absent : (k : List ℕ) (keys : List (List ℕ)) (t : List ℕ) → bytes_eq t k ≡ true → differ bytes_eq (k ∷ keys) ≡ true → list_any (bytes_eq t) keys ≡ false
 absent k keys t e d =
     let no : list_any (bytes_eq k) keys ≡ false = grind (arith, nat_tests, d) in
     subst (λ x. list_any (bytes_eq x) keys ≡ false) (sym ((bytes_eq-Decides t k).0 e)) no
 
 module _ {T : Type 0} (t : T → Bool) where
-  -- where all pass and there is one, some do
+  -- if all pass and there is one, some do
   pub any_of_all : (xs : List T) → 0 < length xs → AllByRecursion (λ r. t r ≡ true) xs → list_any t xs ≡ true
   any_of_all [] l a = absurd (omega arith)
   any_of_all (x ∷ xs) l a = grind (arith, nat_tests, a.0)
 
-  -- where none passes in either list, none does
+  -- if none passes in either list, none does
   pub none_both : (xs ys : List T) → list_any t xs ≡ false → list_any t ys ≡ false → list_any t (xs ++ ys) ≡ false
   none_both xs ys h k = grind (arith, nat_tests, h, k, any_append t xs ys)
 
-  -- some pass where some do in the first list
+  -- some pass if some do in the first list
   any_front : (xs ys : List T) → list_any t xs ≡ true → list_any t (xs ++ ys) ≡ true
   any_front xs ys h = grind (arith, nat_tests, h, any_append t xs ys)
 
@@ -63,12 +63,12 @@ module _ (key : Key) where
       both : (b c : Bool) → b ≡ true → c ≡ true → (b && c) ≡ true
       both b c h k = grind (arith, nat_tests, h, k)
 
-  -- where no row is of its domain and path, none is of the key
+  -- if no row has its domain and path, none has the key
   pub no_key : (xs : List Row) → list_any (in_group key) xs ≡ false → list_any (has_key key) xs ≡ false
   no_key [] h = refl
   no_key (x ∷ xs) h = grind (arith, nat_tests, h, no_key xs)
 
-  -- where none is of its domain, none is of that and its path
+  -- if none has its domain, none has its domain and path
   pub no_group : (xs : List Row) → list_any (in_domain key) xs ≡ false → list_any (in_group key) xs ≡ false
   no_group [] h = refl
   no_group (x ∷ xs) h = grind (arith, nat_tests, h, no_group xs)

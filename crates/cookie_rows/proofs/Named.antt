@@ -17,7 +17,7 @@ no_item None e = refl
 no_item (Some x) e = absurd (cc)
 
 module _ {A : Type 0} where
-  -- the test of a key by a text
+  -- the test of a key by a name
   abbrev pub at_text : List ℕ → String A → Bool
   at_text q k = bytes_eq q (string_bytes k)
 
@@ -33,7 +33,7 @@ module _ {A : Type 0} where
     | inr f ↦ rw (f, same_test q e g.0 false f) (row_found q es g.1)
   ]
 
-  -- nothing stands under a name that no row has
+  -- there is nothing under a name that no row has
   pub none_named : (q : List ℕ) (es : List (String A × Item)) → AreNamed es → row_named q (rows_of (values_of es)) ≡ None → None ≡ lookup (at_text q) es
   none_named q es g none = no_item (lookup (at_text q) es) (row_found q es g ∙ none)
 
@@ -77,7 +77,7 @@ module _ {A : Type 0} where
           ]
 
   module _ (q : List ℕ) where
-    -- the row under the name ended
+    -- the row of the name expired
     pub named_ended : (v : Item) (es : List (String A × Item)) → AreNamed es → Some v ≡ lookup (at_text q) es → AreNamed (set_value (at_text q) es (record v { row = ended v.row }))
     named_ended v [] g l = tt
     named_ended v (e ∷ es) g l = elim (cases_Bool (at_text q e.0)) [
@@ -85,7 +85,7 @@ module _ {A : Type 0} where
       | inr f ↦ let l' = rw f at l in rw f (g.0, named_ended v es g.1 l')
     ]
 
-    -- as `end_item` says
+    -- as in `end_item`
     pub end_set : (v : Item) (es : List (String A × Item)) → AreNamed es → Some v ≡ lookup (at_text q) es → values_of (set_value (at_text q) es (record v { row = ended v.row })) ≡ end_item q (values_of es)
     end_set v [] g l = absurd (cc)
     end_set v (e ∷ es) g l = elim (cases_Bool (at_text q e.0)) [
@@ -93,7 +93,7 @@ module _ {A : Type 0} where
       | inr f ↦ let l' = rw f at l in rw (f, same_test q e g.0 false f) (ap (λ xs. e.1 ∷ xs) (end_set v es g.1 l'))
     ]
 
-    -- there is none, so none ends
+    -- there is none, so none is expired
     pub end_none : (es : List (String A × Item)) → AreNamed es → None ≡ lookup (at_text q) es → values_of es ≡ end_item q (values_of es)
     end_none [] g l = refl
     end_none (e ∷ es) g l = elim (cases_Bool (at_text q e.0)) [
@@ -109,7 +109,7 @@ module _ {A : Type 0} where
       | inr f ↦ rw f (g.0, named_removed es g.1)
     ]
 
-    -- as `remove_item` says
+    -- as in `remove_item`
     pub remove_values : (es : List (String A × Item)) → AreNamed es → values_of (remove_entry (at_text q) es) ≡ remove_item q (values_of es)
     remove_values [] g = refl
     remove_values (e ∷ es) g = elim (cases_Bool (at_text q e.0)) [
@@ -117,7 +117,7 @@ module _ {A : Type 0} where
       | inr f ↦ rw (f, same_test q e g.0 false f) (ap (λ xs. e.1 ∷ xs) (remove_values es g.1))
     ]
 
--- each text is the name of its item
+-- each map key is the name of its item
 abbrev AreNames : List (List ℕ × Item) → Type 0
 AreNames gs = AllByRecursion (λ g. g.0 ≡ g.1.row.raw.name) gs
 
@@ -131,6 +131,6 @@ names_of_keys : {A : Type 0} (es : List (String A × Item)) → AreNames (texts_
 names_of_keys [] g = tt
 names_of_keys (e ∷ es) g = (g.0, names_of_keys es g.1)
 
--- entries of the same texts and items have the same names
+-- entries of the same keys and items have the same names
 pub named_texts : {A : Type 0} (es fs : List (String A × Item)) → texts_of fs ≡ texts_of es → AreNamed es → AreNamed fs
 named_texts es fs same g = names_of_keys fs (subst AreNames (sym same) (names_of_texts es g))

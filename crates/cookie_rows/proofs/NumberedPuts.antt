@@ -1,4 +1,4 @@
--- A row is put, and what becomes of the numbered keys.
+-- The numbered keys after a row is stored.
 use Rattle.std.proofs.Common.{◌≡◌, ℕ, ◌⊎◌, Bool, true, false, ◌&&◌, List, [], ◌∷◌, ◌++◌, map, refl, sym, ◌∙◌, ap, subst, inl, inr, bytes_eq, arith}
 use Rattle.std.specs.List.{AllByRecursion, list_any}
 use Rattle.std.proofs.lemmas.Bool.{cases_Bool}
@@ -28,11 +28,11 @@ TextsDiffer gs = (differ bytes_eq (map (λ g. g.0) gs) ≡ true) × AllByRecursi
 pub paths_rest : (p : List ℕ × List Item) (ps : ItemPaths) → PathsDiffer (p ∷ ps) → PathsDiffer ps
 paths_rest p ps d = grind (arith, d)
 
--- the rest of texts that differ
+-- the rest of names that differ
 pub texts_rest : (g : List ℕ × ItemPaths) (gs : ItemGroups) → TextsDiffer (g ∷ gs) → TextsDiffer gs
 texts_rest g gs d = let rest : differ bytes_eq (map (λ g. g.0) gs) ≡ true = grind (arith, d.0) in (rest, d.1.1)
 
--- where a key does not stand
+-- where a key is not
 
 module _ (key : Key) where
   -- under another domain or path
@@ -75,7 +75,7 @@ module _ (key : Key) where
   pub behind_domain : (g : List ℕ × ItemPaths) (gs : ItemGroups) → bytes_eq key.domain g.0 ≡ true → TextsDiffer (g ∷ gs) → list_any (is_key key) (numbered gs) ≡ false
   behind_domain g gs e d = other_domains gs (absent g.0 (map (λ g. g.0) gs) key.domain e d.0)
 
--- a key that is there leaves the list as it was; another is gained, and it was not there where texts differ
+-- a known key leaves the list as it was; a new one is added, and was not there if names differ
 abbrev pub Puts : Type 0 → Key × ℕ → List (Key × ℕ) → List (Key × ℕ) → Type 0
 Puts D y xs ys = ((list_any (is_key y.0) xs ≡ true) × (ys ≡ xs)) ⊎ ((D → list_any (is_key y.0) xs ≡ false) × Gains y xs ys)
 

@@ -1,4 +1,4 @@
--- A row goes, and what becomes of the numbered keys.
+-- The numbered keys after a row is removed.
 use Rattle.std.proofs.Common.{◌≡◌, ℕ, ◌⊎◌, Bool, true, false, List, [], ◌∷◌, ◌++◌, refl, sym, ◌∙◌, ap, subst, inl, inr, bytes_eq}
 use Rattle.std.specs.List.{list_any}
 use Rattle.std.proofs.lemmas.Bool.{cases_Bool}
@@ -14,7 +14,7 @@ use Rattle.cookie_rows.proofs.NumberedPuts.{is_key, PathsDiffer, TextsDiffer, pa
 abbrev pub Lost : {A : Type 0} → List A → List A → Type 0
 Lost {A} xs ys = (ys ≡ xs) ⊎ ((y : A) × Gains y ys xs)
 
--- an item goes, or none does
+-- an item is removed, or none is
 lost_removed : {A : Type 0} (test : A → Bool) (xs : List A) → Lost xs (removed test xs)
 lost_removed test [] = inl refl
 lost_removed test (x ∷ xs) = elim (cases_Bool (test x)) [
@@ -29,7 +29,7 @@ lost_removed test (x ∷ xs) = elim (cases_Bool (test x)) [
       | inr g ↦ inr (g.0, gains_right g.0 (x ∷ []) ys xs g.1)
     ]
 
--- the key goes where texts differ, and at most one item goes
+-- the key is removed if names differ, and at most one item is
 abbrev pub Takes : Type 0 → Key → List (Key × ℕ) → List (Key × ℕ) → Type 0
 Takes D key xs ys = (D → ys ≡ removed (is_key key) xs) × Lost xs ys
 
@@ -76,7 +76,7 @@ module _ (key : Key) where
   remove_first : (x : Item) (xs : List Item) → is_named key.name x.row ≡ true → remove_item key.name (x ∷ xs) ≡ xs
   remove_first x xs e = rw e refl
 
-  -- one of another name stays
+  -- one of another name remains
   remove_later : (x : Item) (xs : List Item) → is_named key.name x.row ≡ false → remove_item key.name (x ∷ xs) ≡ x ∷ remove_item key.name xs
   remove_later x xs e = rw e refl
 
@@ -84,11 +84,11 @@ module _ (key : Key) where
   abbrev own_names : List Item → List (Key × ℕ)
   own_names xs = numbered_names key.domain key.path xs
 
-  -- the first key goes
+  -- the first key is removed
   first_goes : (x : Item) (xs : List Item) → same_key key (key_at key.domain key.path x.row.raw.name) ≡ true → own_names xs ≡ removed (is_key key) (own_names (x ∷ xs))
   first_goes x xs h = rw h refl
 
-  -- the first key stays
+  -- the first key remains
   first_stays : (x : Item) (xs : List Item) → same_key key (key_at key.domain key.path x.row.raw.name) ≡ false
       → (key_at key.domain key.path x.row.raw.name, x.number) ∷ removed (is_key key) (own_names xs) ≡ removed (is_key key) (own_names (x ∷ xs))
   first_stays x xs h = rw h refl

@@ -1,4 +1,4 @@
--- Keys in the order of their numbers, of which one goes.
+-- Keys in the order of their numbers, after one is removed.
 use Rattle.std.proofs.Common.{◌≡◌, ℕ, ◌≤◌, Bool, true, false, List, [], ◌∷◌, map, refl, sym, ◌∙◌, ap, subst, inl, inr, arith}
 use Rattle.std.specs.Prelude.{nat_le}
 use Rattle.std.specs.List.{AllByRecursion, list_any}
@@ -22,7 +22,7 @@ Ascend (x ∷ xs) = From x.1 xs × Ascend xs
 pub from_more : (m n : ℕ) (xs : List (Key × ℕ)) → m ≤ n → From n xs → From m xs
 from_more m n xs l a = all_map (λ x. n ≤ x.1) (λ x. m ≤ x.1) (λ x h. omega (arith, l, h)) xs a
 
--- a key in its place leaves no number less than one before it
+-- after `place` no number is less than one before it
 ascend_place : (x : Key × ℕ) (zs : List (Key × ℕ)) → Ascend zs → Ascend (place x zs)
 ascend_place x [] a = (tt, tt)
 ascend_place x (z ∷ zs) a = elim (cases_Bool (nat_le x.1 z.1)) [
@@ -68,13 +68,13 @@ module _ (test : Key × ℕ → Bool) where
     ]
   ]
 
--- where keys differ, those of the same key as one that passes do not pass
+-- if keys differ, keys equal to one that passes do not pass
 none_behind : (key : Key) (x : Key × ℕ) (xs : List (Key × ℕ)) → differ same_key (map (λ y. y.0) (x ∷ xs)) ≡ true → same_key key x.0 ≡ true → list_any (λ y. same_key key y.0) xs ≡ false
 none_behind key x xs d e =
     let none : list_any (same_key x.0) (map (λ y. y.0) xs) ≡ false = grind (arith, d) in
     sym (list_any-map (λ y. y.0) (same_key key) xs) ∙ subst (λ k. list_any (same_key k) (map (λ y. y.0) xs) ≡ false) (sym (same_key-true key x.0 e)) none
 
--- a key goes from keys that differ, before they are ordered or after
+-- a key is removed from keys that differ, before they are ordered or after
 pub ordered_removed : (key : Key) (xs : List (Key × ℕ)) → differ same_key (map (λ x. x.0) xs) ≡ true → by_number (removed (λ x. same_key key x.0) xs) ≡ removed (λ x. same_key key x.0) (by_number xs)
 ordered_removed key [] d = refl
 ordered_removed key (x ∷ xs) d =
@@ -86,10 +86,10 @@ ordered_removed key (x ∷ xs) d =
       | inr e ↦ ap by_number (removed_later test x xs e) ∙ ap (place x) (ordered_removed key xs after) ∙ sym (removed_beside test x (by_number xs) e (ascend_ordered xs))
     ]
   where
-    -- the first item goes
+    -- the first item is removed
     removed_here : (test : Key × ℕ → Bool) (x : Key × ℕ) (xs : List (Key × ℕ)) → test x ≡ true → removed test (x ∷ xs) ≡ xs
     removed_here test x xs e = rw e refl
 
-    -- the first item stays
+    -- the first item remains
     removed_later : (test : Key × ℕ → Bool) (x : Key × ℕ) (xs : List (Key × ℕ)) → test x ≡ false → removed test (x ∷ xs) ≡ x ∷ removed test xs
     removed_later test x xs e = rw e refl

@@ -1,4 +1,4 @@
--- Where a text's group stands in a map.
+-- The position of a name's group in a map.
 use Rattle.std.proofs.Common.{◌≡◌, ℕ, zero, suc, ◌+◌, ◌<◌, ◌⊎◌, Bool, true, false, List, [], ◌∷◌, ◌++◌, length, get_or, map, refl, sym, ◌∙◌, ap, inl, inr, bytes_eq, Option, Some, None, arith}
 use Rattle.std.specs.Prelude.{string_bytes, String, option_map, slice_get, position, ◌≢◌}
 use Rattle.std.specs.List.{flat_map, position_from}
@@ -54,7 +54,7 @@ none_back None h = refl
 none_back (Some p) h = absurd (cc)
 
 module _ {X : Type 0} (f : List X → Option Row) (q : List ℕ) where
-  -- what is found under a text is found in the group at its position
+  -- what is found under a name is found in the group at its position
   pub found_at : (gs : List (List ℕ × List X)) (n : ℕ) → place_of q gs ≡ Some n → f (under n gs) ≡ found f q gs
   found_at [] n h = absurd (cc)
   found_at (g ∷ gs) zero h = elim (bool_cases (bytes_eq q g.0)) [
@@ -66,7 +66,7 @@ module _ {X : Type 0} (f : List X → Option Row) (q : List ℕ) where
     | inr t ↦ let h' = rw t at h in rw t (found_at gs n (one_back (place_of q gs) n h'))
   ]
 
-  -- and nothing where it has none
+  -- and nothing if it has none
   pub found_nowhere : (gs : List (List ℕ × List X)) → place_of q gs ≡ None → None ≡ found f q gs
   found_nowhere [] h = refl
   found_nowhere (g ∷ gs) h = elim (bool_cases (bytes_eq q g.0)) [
@@ -85,7 +85,7 @@ under_none [] n h = refl
 under_none (e ∷ es) zero h = absurd (cc)
 under_none (e ∷ es) (suc n) h = under_none es n h
 
--- the text at a place
+-- the name at a position
 pub text_is : {A X : Type 0} (es : List (String A × X)) (n : ℕ) (k : String A) (v : X) → slice_get es n ≡ Some (k, v) → Some (string_bytes k) ≡ slice_get (map (λ p. p.0) (texts_of es)) n
 text_is [] n k v h = absurd (omega (arith, slice_get_within [] n (k, v) h))
 text_is (e ∷ es) zero k v h = let s : e ≡ (k, v) = cc in ap (λ p. Some (string_bytes p.0)) (sym s)
@@ -99,7 +99,7 @@ text_none (e ∷ es) (suc n) h = text_none es n h
 pub get_nothing : {X : Type 0} (n : ℕ) (xs : List X) → [] ≡ xs → None ≡ slice_get xs n
 get_nothing n xs e = ap (λ ys. slice_get ys n) e
 
--- where there is a row at a spot, there are rows at the spots
+-- if there is a row at a position, there are rows at the positions
 nothing_right : {A : Type 0} (xs ys : List A) → xs ++ ys ≡ [] → ys ≡ []
 nothing_right [] ys e = e
 nothing_right (x ∷ xs) ys e = absurd (cc)
@@ -114,7 +114,7 @@ some_row groups (s ∷ spots) (suc at) default row below here none =
 
 -- groups of items, seen as groups of rows
 
--- the place of a text among what is seen of groups
+-- the position of a name in the view of groups
 pub seen_place : {A B : Type 0} (see : A → B) (text : List ℕ) (gs : List (List ℕ × A)) → place_of text gs ≡ place_of text (map (λ g. (g.0, see g.1)) gs)
 seen_place see text [] = refl
 seen_place see text (g ∷ gs) = elim (bool_cases (bytes_eq text g.0)) [
@@ -122,7 +122,7 @@ seen_place see text (g ∷ gs) = elim (bool_cases (bytes_eq text g.0)) [
   | inr t ↦ rw t (ap (option_map suc) (seen_place see text gs))
 ]
 
--- what stands under a place in it
+-- the group at a position in it
 seen_under : {A B : Type 0} (see : A → B) (n : ℕ) (gs : List (List ℕ × List A)) → map see (under n gs) ≡ under n (map (λ g. (g.0, map see g.1)) gs)
 seen_under see n [] = refl
 seen_under see zero (g ∷ gs) = refl

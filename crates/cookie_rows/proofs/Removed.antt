@@ -13,7 +13,7 @@ map-removed : {A B : Type 0} (f : A → B) (test : B → Bool) (xs : List A) →
 map-removed f test [] = refl
 map-removed f test (x ∷ xs) = grind (arith, map-removed f test xs)
 
--- where no item passes, none of those that are left does
+-- if no item passes, none of the remaining ones does
 none-removed : {T : Type 0} (p test : T → Bool) (xs : List T) → list_any p xs ≡ false → list_any p (removed test xs) ≡ false
 none-removed p test [] h = refl
 none-removed p test (x ∷ xs) h = grind (arith, none-removed p test xs)
@@ -23,12 +23,12 @@ differ-removed : {T : Type 0} (same : T → T → Bool) (test : T → Bool) (xs 
 differ-removed same test [] h = refl
 differ-removed same test (x ∷ xs) h = grind (arith, none-removed (same x) test xs, differ-removed same test xs)
 
--- where no item passes, nothing is asked of the first
+-- if no item passes, `begins` holds
 begins-none : {T : Type 0} (p : T → Bool) (xs : List T) → list_any p xs ≡ false → begins p xs ≡ true
 begins-none p [] h = refl
 begins-none p (x ∷ xs) h = grind arith
 
--- the first of the items that follow x may go: where it is like x, those after it follow it as they follow x
+-- the first of the items after x may be removed: if it is like x, those after it follow it as they follow x
 pub begins-rest : {T : Type 0} {alike : T → T → Bool} → IsEquivalence alike → (x y : T) (ys : List T) → begins (alike x) (y ∷ ys) ≡ true → begins (alike y) ys ≡ true → begins (alike x) ys ≡ true
 begins-rest {alike = alike} laws x y ys first next = grind (arith, begins_congr laws x y ys, begins-none (alike x) ys)
 
@@ -44,7 +44,7 @@ begins-removed {alike = alike} laws test x (y ∷ ys) first h =
     (λ e. begins-rest laws x y ys first (together-parts alike y ys h).0)
     (λ e. begins-later (alike x) test y ys first)
 
--- items that are alike still stand together
+-- items that are alike are still adjacent
 together-removed : {T : Type 0} {alike : T → T → Bool} → IsEquivalence alike → (test : T → Bool) (xs : List T) → stand_together alike xs ≡ true → stand_together alike (removed test xs) ≡ true
 together-removed laws test [] h = refl
 together-removed {alike = alike} laws test (x ∷ xs) h =

@@ -1,4 +1,4 @@
--- What an unknown result says.
+-- What an unknown result implies.
 use Rattle.std.proofs.Common.{IfOk, Result, Ok, Err, OnOk, OnErr}
 
 -- what follows from what holds after success

@@ -1,4 +1,4 @@
--- Items that are alike stand together after `after_last`.
+-- Items that are alike are adjacent after `after_last`.
 use Rattle.std.proofs.Common.{◌≡◌, Bool, true, false, not, ◌&&◌, ◌||◌, List, [], ◌∷◌, refl, ◌∙◌, sym, ⊎_elim, arith}
 use Rattle.std.specs.List.{list_any}
 use Rattle.std.specs.Cmp.{IsEquivalence}
@@ -7,7 +7,7 @@ use Rattle.std.proofs.lemmas.Map.Steps.{list_any_congr}
 use Rattle.cookie_laws.specs.Rows.{after_last, differ, stand_together}
 use Rattle.cookie_rows.proofs.AfterLast.{starts, list_any-after_last, starts-after_last}
 
--- where an item passes, the first one does
+-- if an item passes, the first one does
 abbrev pub begins : {T : Type 0} → (T → Bool) → List T → Bool
 begins p xs = starts p xs || not (list_any p xs)
 
@@ -16,7 +16,7 @@ stand_together-cons : {T : Type 0} (alike : T → T → Bool) (x : T) (xs : List
 stand_together-cons alike x [] = refl
 stand_together-cons alike x (y ∷ ys) = grind arith
 
--- what a list that stands together says of its first item and of the rest
+-- a list whose alike items are adjacent: its first item and the rest
 pub together-parts : {T : Type 0} (alike : T → T → Bool) (x : T) (xs : List T) → stand_together alike (x ∷ xs) ≡ true → (begins (alike x) xs ≡ true) × (stand_together alike xs ≡ true)
 together-parts alike x xs h = and_parts _ _ (rw stand_together-cons at h)
 
@@ -24,7 +24,7 @@ together-parts alike x xs h = and_parts _ _ (rw stand_together-cons at h)
 pub together-from : {T : Type 0} (alike : T → T → Bool) (x : T) (xs : List T) → begins (alike x) xs ≡ true → stand_together alike xs ≡ true → stand_together alike (x ∷ xs) ≡ true
 together-from alike x xs first rest = rw stand_together-cons (and_from _ _ first rest)
 
--- y changes nothing where it doesn't pass or another item does
+-- y changes nothing if it does not pass or another item does
 begins-after_last : {T : Type 0} (p test : T → Bool) (xs : List T) (y : T) → (p y ≡ true → list_any p xs ≡ true) → begins p xs ≡ true → begins p (after_last test xs y) ≡ true
 begins-after_last p test [] y seen h = grind arith
 begins-after_last p test (x ∷ xs) y seen h = grind (arith, starts-after_last p test x xs y, list_any-after_last p test (x ∷ xs) y)
@@ -34,16 +34,16 @@ pub begins_congr : {T : Type 0} {alike : T → T → Bool} → IsEquivalence ali
 begins_congr laws x y [] e = refl
 begins_congr laws x y (z ∷ zs) e = grind (arith, laws.congr x y z e, list_any_congr laws x y zs e)
 
--- where an item passes a test, one passes a test that is no stricter
+-- if an item passes a test, one passes a test that is no stricter
 any_coarser : {T : Type 0} (p q : T → Bool) (xs : List T) → ((x : T) → p x ≡ true → q x ≡ true) → list_any p xs ≡ true → list_any q xs ≡ true
 any_coarser p q [] implies h = h
 any_coarser p q (x ∷ xs) implies h = grind (arith, implies x, any_coarser p q xs implies)
 
--- where no item passes a test, none passes a stricter one
+-- if no item passes a test, none passes a stricter one
 none_finer : {T : Type 0} (p q : T → Bool) (xs : List T) → ((x : T) → p x ≡ true → q x ≡ true) → list_any q xs ≡ false → list_any p xs ≡ false
 none_finer p q xs implies none = false_from_ne_true _ (λ some. both_ways _ none (any_coarser p q xs implies some))
 
--- items stay different where none is the same as y
+-- items still differ if none is the same as y
 pub differ-after_last : {T : Type 0} (same : T → T → Bool) (test : T → Bool) → IsEquivalence same → (xs : List T) (y : T) → list_any (same y) xs ≡ false → differ same xs ≡ true → differ same (after_last test xs y) ≡ true
 differ-after_last same test laws [] y new h = refl
 differ-after_last same test laws (x ∷ xs) y new h = grind (arith, laws.symm x y, list_any-after_last (same x) test xs y, differ-after_last same test laws xs y)
@@ -52,7 +52,7 @@ differ-after_last same test laws (x ∷ xs) y new h = grind (arith, laws.symm x 
 together-next : {T : Type 0} {alike : T → T → Bool} → IsEquivalence alike → (x y : T) (xs : List T) → alike x y ≡ true → stand_together alike (x ∷ xs) ≡ true → stand_together alike (x ∷ y ∷ xs) ≡ true
 together-next {alike = alike} laws x y xs e h = grind (arith, stand_together-cons alike x xs, stand_together-cons alike y xs, begins_congr laws x y xs e)
 
--- y right after an item, where none of the rest is like either
+-- y right after an item, if none of the rest is like either
 together-apart : {T : Type 0} (alike : T → T → Bool) (x y : T) (xs : List T) → list_any (alike x) xs ≡ false → list_any (alike y) xs ≡ false → alike x y ≡ false → stand_together alike (x ∷ xs) ≡ true → stand_together alike (x ∷ y ∷ xs) ≡ true
 together-apart alike x y xs first second apart h = grind (arith, stand_together-cons alike x xs, stand_together-cons alike y xs)
 
@@ -61,17 +61,17 @@ together-further : {T : Type 0} (alike : T → T → Bool) (test : T → Bool) (
 together-further alike test x xs y seen h rest =
     together-from alike x (after_last test xs y) (begins-after_last (alike x) test xs y seen (together-parts alike x xs h).0) rest
 
--- where an item passes, but the first isn't the last one that does, one of the rest passes
+-- if an item passes, but the first is not the last one that does, one of the rest passes
 some_further : (here rest : Bool) → (here || rest) ≡ true → (here && not rest) ≡ false → rest ≡ true
 some_further here rest some e = grind arith
 
 -- two relations, the one stricter than the other
 module _ {T : Type 0} {finer coarser : T → T → Bool} (fine : IsEquivalence finer) (coarse : IsEquivalence coarser) (implies : (a b : T) → finer a b ≡ true → coarser a b ≡ true) where
-  -- where one of the items is like y, and x is like y less strictly, one is like x
+  -- if one of the items is like y, and x is like y less strictly, one is like x
   seen_further : (x y : T) (xs : List T) → list_any (finer y) xs ≡ true → coarser x y ≡ true → list_any (coarser x) xs ≡ true
   seen_further x y xs some like = list_any_congr coarse x y xs like ∙ any_coarser (finer y) (coarser y) xs (implies y) some
 
-  -- y stands right after an item that is like it
+  -- y is right after an item that is like it
   pub together-after_like : (xs : List T) (y : T) → list_any (finer y) xs ≡ true → stand_together coarser xs ≡ true → stand_together coarser (after_last (finer y) xs y) ≡ true
   together-after_like [] y some h = refl
   together-after_like (x ∷ xs) y some h =
@@ -82,11 +82,11 @@ module _ {T : Type 0} {finer coarser : T → T → Bool} (fine : IsEquivalence f
       let further : stand_together coarser (after_last (finer y) xs y) ≡ true = together-after_like xs y rest (together-parts coarser x xs h).1 in
       together-further coarser (finer y) x xs y (seen_further x y xs rest) h further)
 
-  -- none of the rest is like x, where none is like y less strictly
+  -- none of the rest is like x, if none is like y less strictly
   none_further : (x y : T) (xs : List T) → coarser y x ≡ true → list_any (coarser y) xs ≡ false → list_any (finer x) xs ≡ false
   none_further x y xs like none = none_finer (finer x) (coarser x) xs (implies x) (sym (list_any_congr coarse y x xs like) ∙ none)
 
-  -- no item is like y, and y stands at the end of those that are so less strictly
+  -- no item is like y, and y is at the end of those that are so less strictly
   pub together-after_unlike : (xs : List T) (y : T) → list_any (finer y) xs ≡ false → stand_together finer xs ≡ true → stand_together finer (after_last (coarser y) xs y) ≡ true
   together-after_unlike [] y none h = refl
   together-after_unlike (x ∷ xs) y none h =
@@ -97,7 +97,7 @@ module _ {T : Type 0} {finer coarser : T → T → Bool} (fine : IsEquivalence f
       (λ e. together-apart finer x y xs (none_further x y xs (and_parts _ _ e).0 (not-true _ (and_parts _ _ e).1)) rest apart h)
       (λ e. together-further finer (coarser y) x xs y (λ like. absurd (both_ways _ apart like)) h further)
 
--- y stands at the end of the items that are like it, if there are any
+-- y is at the end of the items that are like it, if there are any
 pub together-after_any : {T : Type 0} {alike : T → T → Bool} → IsEquivalence alike → (xs : List T) (y : T) → stand_together alike xs ≡ true → stand_together alike (after_last (alike y) xs y) ≡ true
 together-after_any {alike = alike} laws xs y h = ⊎_elim
     (λ some. together-after_like laws laws (λ a b e. e) xs y some h)

@@ -1,4 +1,5 @@
--- Turns in order: a sort of turns is their ascending list, and which entries come before the first turn that stays.
+-- Turns (places in eviction order): a sorted list of turns is their ascending list, and which entries come before the
+-- first turn that survives.
 use Rattle.std.proofs.Common.{◌≡◌, ℕ, zero, suc, ◌+◌, ◌<◌, ◌≤◌, Bool, true, false, cond, not, ◌&&◌, ◌||◌, eqb, ltb, List, [], ◌∷◌, ◌++◌, length, map, take, get_or, slice_get, Some, refl, sym, ◌∙◌, ap, subst, arith, is_lt, IsPermutation, IsSorted}
 use Rattle.std.specs.Ordering.{bool_cmp, ordering_then}
 use Rattle.std.specs.declared.cmp.Ordering.TheVariants.{Less, Equal, Greater}
@@ -46,18 +47,18 @@ before_tests a b = in_tests a.0 b.0 (ltb a.1 b.1) (eqb a.1 b.1)
 pub before_alike : (a b : Turn) → a.0 ≡ b.0 → a.1 < b.1 → comes_before a b ≡ true
 before_alike a b e l = before_tests a b ∙ passes a.0 b.0 (ltb a.1 b.1) e (lt-ltb a.1 b.1 l)
   where
-    -- the test by which
+    -- the cases of the test
     passes : (x y l : Bool) → x ≡ y → l ≡ true → cond x (y && l) (y || l) ≡ true
     passes true true l e h = h
     passes true false l e h = absurd (cc)
     passes false true l e h = refl
     passes false false l e h = h
 
--- the turn of a row that has ended comes before that of one that has not
+-- the turn of an expired row comes before that of an unexpired one
 pub before_apart : (a b : Turn) → a.0 ≡ false → b.0 ≡ true → comes_before a b ≡ true
 before_apart a b e f = before_tests a b ∙ passes a.0 b.0 (ltb a.1 b.1) e f
   where
-    -- the test by which
+    -- the cases of the test
     passes : (x y l : Bool) → x ≡ false → y ≡ true → cond x (y && l) (y || l) ≡ true
     passes x y l e f = rw (e, f) refl
 
@@ -65,7 +66,7 @@ before_apart a b e f = before_tests a b ∙ passes a.0 b.0 (ltb a.1 b.1) e f
 pub before_new : (a : Turn) (n : ℕ) → a.1 < n → comes_before a (true, n) ≡ true
 before_new a n l = before_tests a (true, n) ∙ passes a.0 (ltb a.1 n) (lt-ltb a.1 n l)
   where
-    -- the test by which
+    -- the cases of the test
     passes : (x l : Bool) → l ≡ true → cond x (true && l) (true || l) ≡ true
     passes true l h = h
     passes false l h = refl
@@ -96,7 +97,7 @@ pub all_by_index : (P : Turn → Type 0) (xs : List Turn) → ((j : ℕ) (d : Tu
 all_by_index P [] h = tt
 all_by_index P (x ∷ xs) h = (h 0 x (omega arith), all_by_index P xs (λ j d l. h (suc j) d (omega arith)))
 
--- turns ascend where none comes before one at an earlier place
+-- turns ascend if none comes before one at an earlier position
 ascends_by_index : (xs : List Turn) → ((i j : ℕ) (d : Turn) → i ≤ j → j < length xs → comes_before (get_or xs j d) (get_or xs i d) ≡ false) → Ascends xs
 ascends_by_index [] h = tt
 ascends_by_index (x ∷ xs) h = (
@@ -192,14 +193,14 @@ module _ (t : Key × ℕ → Turn) (new : Turn) where
     ascends_turns es r.1 l.1,
   )
 
-  -- where the first entry stays, no turn comes before its own
+  -- if the first entry survives, no turn comes before its own
   first_stays : (e : Key × ℕ) (es : List (Key × ℕ)) → AllByRecursion (λ f. comes_before (t e) (t f) ≡ true) es → AllByRecursion (λ f. false ≡ comes_before (t f) (t e)) (e ∷ es)
   first_stays e es r = (
     sym (not_before_itself (t e)),
     all_map (λ f. comes_before (t e) (t f) ≡ true) (λ f. false ≡ comes_before (t f) (t e)) (λ f h. sym (turns_order.one_way (t e) (t f) h)) es r,
   )
 
-  -- where it leaves, entries of other keys leave or stay as they would without it
+  -- if it is evicted, entries of other keys are evicted or survive as they would without it
   first_leaves : (e : Key × ℕ) (es : List (Key × ℕ)) (keys : List Key) (first : Turn) → AllByRecursion (λ f. same_key f.0 e.0 ≡ false) es
       → AllByRecursion (λ f. list_any (same_key f.0) keys ≡ comes_before (t f) first) es → AllByRecursion (λ f. list_any (same_key f.0) (e.0 ∷ keys) ≡ comes_before (t f) first) es
   first_leaves e es keys first o a =

@@ -1,4 +1,4 @@
--- Keys in the order of their numbers, and in the turn in which their rows leave.
+-- Keys in the order of their numbers, and in eviction order.
 use Rattle.std.proofs.Common.{◌≡◌, ℕ, ◌+◌, ◌-◌, ◌<◌, ◌≤◌, Bool, true, false, not, List, [], ◌∷◌, ◌++◌, length, map, filter, take, slice_get, Some, sum_by, refl, sym, ◌∙◌, ap, subst, inl, inr, arith, IsPermutation, IsSorted}
 use Rattle.std.specs.Prelude.{nat_eq, nat_le}
 use Rattle.std.specs.List.{AllByRecursion, IsDistinct, list_any}
@@ -77,7 +77,7 @@ pub all_moved : {A : Type 0} (P : A → Type 0) (xs ys : List A) → IsPermutati
 all_moved P xs ys p a = recursion_from_All P ys (All-permutation P xs ys p (All-from_recursion P xs a))
 
 module _ {T : Type 0} where
-  -- where none passes, each fails
+  -- if none passes, each fails
   each_fails : (test : T → Bool) (xs : List T) → list_any test xs ≡ false → AllByRecursion (λ x. test x ≡ false) xs
   each_fails test [] n = tt
   each_fails test (x ∷ xs) n = let parts = or_parts (test x) (list_any test xs) n in (parts.0, each_fails test xs parts.1)
@@ -165,7 +165,7 @@ pub all_joined : {A : Type 0} (P : A → Type 0) (xs ys : List A) → AllByRecur
 all_joined P [] ys a b = b
 all_joined P (x ∷ xs) ys a b = (a.0, all_joined P xs ys a.1 b)
 
--- turns that rise in two lists rise in them joined, where those of the first come before those of the second
+-- turns that rise in two lists rise in them joined, if those of the first come before those of the second
 rises_joined : (t : Key × ℕ → Turn) (P Q : Key × ℕ → Type 0) → ((x y : Key × ℕ) → P x → Q y → comes_before (t x) (t y) ≡ true) → (xs ys : List (Key × ℕ))
     → AllByRecursion P xs → AllByRecursion Q ys → Rises t xs → Rises t ys → Rises t (xs ++ ys)
 rises_joined t P Q w [] ys p q a b = b
@@ -179,7 +179,7 @@ module _ (ended : Key × ℕ → Bool) where
   abbrev pub entry_turn : Key × ℕ → Turn
   entry_turn e = (not (ended e), e.1)
 
-  -- entries in their turns: first those that have ended, and each part by number
+  -- entries in eviction order: first the expired ones, each part by number
   abbrev pub in_turn : List (Key × ℕ) → List (Key × ℕ)
   in_turn xs = filter ended (by_number xs) ++ filter (λ e. not (ended e)) (by_number xs)
 
@@ -187,7 +187,7 @@ module _ (ended : Key × ℕ → Bool) where
   pub turned : (xs : List (Key × ℕ)) → IsPermutation xs (in_turn xs)
   turned xs = IsPermutation-trans xs (by_number xs) (in_turn xs) (ordered_moved xs) (IsPermutation-filter_both ended (λ e. not (ended e)) (λ e. refl) (by_number xs))
 
-  -- of entries whose numbers rise, those that pass have rising turns, where all of them have ended or none has
+  -- of entries whose numbers rise, those that pass have rising turns, if all of them have expired or none has
   rises_passing : (p : Key × ℕ → Bool) (b : Bool) → ((e : Key × ℕ) → p e ≡ true → not (ended e) ≡ b) → (zs : List (Key × ℕ)) → NumbersRise zs → Rises entry_turn (filter p zs)
   rises_passing p b same [] r = tt
   rises_passing p b same (z ∷ zs) r =
@@ -237,7 +237,8 @@ module _ (ended : Key × ℕ → Bool) where
         ∙ length_push (map entry_turn xs) (true, n)
         ∙ ap (λ m. m + 1) (length-map xs entry_turn)
 
-    -- of entries whose keys differ, those that leave, so that with a new one no more than the limit stand, are those whose turns come before the first that stays
+    -- of entries whose keys differ, those evicted so that with a new one at most the limit remain are those whose
+    -- turns come before the first that survives
     pub leaving_entries : differ same_key (map (λ x. x.0) xs) ≡ true → IsSorted turn_cmp turns → (limit : ℕ) (first : Turn) → slice_get turns (length turns - limit) ≡ Some first
         → AllByRecursion (λ e. list_any (same_key e.0) (take (length xs + 1 - limit) (map (λ f. f.0) (in_turn xs))) ≡ comes_before (entry_turn e) first) xs
     leaving_entries keys sorted limit first is =

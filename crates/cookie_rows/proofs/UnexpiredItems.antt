@@ -1,4 +1,4 @@
--- Items of all domains that leave where they do not pass a test, and what is left of rows and keys where those leave that have expired.
+-- Items of all domains that fail a test are removed; the rows and keys that remain if these are the expired ones.
 use Rattle.std.proofs.Common.{◌≡◌, ℕ, ◌<◌, ◌≤◌, Bool, true, false, not, ◌&&◌, ◌||◌, List, [], ◌∷◌, ◌++◌, cond, eqb, ltb, length, map, refl, sym, ◌∙◌, ap, ap₂, subst, inl, inr, bytes_eq, arith, None}
 use Rattle.std.specs.Prelude.{◌==◌, IsTrue, nat_eq, string_bytes, String}
 use Rattle.std.specs.List.{AllByRecursion, filter, list_any}
@@ -52,7 +52,7 @@ module _ (test : Item → Bool) where
   abbrev tested : ItemGroups → ItemGroups
   tested gs = map (λ g. (g.0, passing test g.1)) gs
 
-  -- their texts stay
+  -- their names are unchanged
   texts_tested : (gs : ItemGroups) → map (λ g. g.0) (tested gs) ≡ map (λ g. g.0) gs
   texts_tested [] = refl
   texts_tested (g ∷ gs) = ap (λ ts. g.0 ∷ ts) (texts_tested gs)
@@ -78,13 +78,13 @@ module _ (test : Item → Bool) where
       let after : differ bytes_eq (map (λ g. g.0) (passing_groups test gs)) ≡ true = differ-filter (λ (g : List ℕ × ItemPaths). g.0) is_filled bytes_eq (tested gs) before in
       (ap (differ bytes_eq) (all (passing_groups test gs)) ∙ after, filled_groups gs a.1)
 
--- domains under their texts, of which those stay in which an item passes the test
+-- domains under their names, without those in which no item passes the test
 module _ {A F : Type 0} (T : F → String A → ItemPaths → Bool → ItemPaths → F → Type 0) (test : Item → Bool) (f : F)
     (says : (k : String A) (v : ItemPaths) (b : Bool) (w : ItemPaths) (g : F) → T f k v b w g → (b ≡ not (length (passing test v) == 0)) × (w ≡ passing test v) × (g ≡ f)) where
   pub groups_retained : (es left : List (String A × ItemPaths)) → RetainsPairs T f es left → texts_of left ≡ passing_groups test (texts_of es)
   groups_retained es left h = ap texts_of (changed_retained T (passing test) (λ ps. not (length ps == 0)) f says es left h) ∙ texts_filtered es
     where
-      -- an entry stays where there is something in its domain
+      -- an entry remains if something is left in its domain
       one_stays : (k : String A) (ps : ItemPaths) (es : List (String A × ItemPaths)) (gs : ItemGroups) → texts_of es ≡ gs
           → texts_of (cond (not (length ps == 0)) ((k, ps) ∷ es) es) ≡ cond (is_filled (string_bytes k, ps)) ((string_bytes k, ps) ∷ gs) gs
       one_stays k [] es gs same = same
@@ -92,7 +92,7 @@ module _ {A F : Type 0} (T : F → String A → ItemPaths → Bool → ItemPaths
           let some : (length (p ∷ ps) == 0) ≡ false = grind (arith, nat_tests) in
           rw some (ap (λ hs. (string_bytes k, p ∷ ps) ∷ hs) same)
 
-      -- the entries that stay have the domains that are kept
+      -- the remaining entries have the kept domains
       texts_filtered : (es : List (String A × ItemPaths)) → texts_of (filter (λ e. not (length e.1 == 0)) (map (λ e. (e.0, passing test e.1)) es)) ≡ passing_groups test (texts_of es)
       texts_filtered [] = refl
       texts_filtered (e ∷ es) =
@@ -113,7 +113,7 @@ stays_live now x = sym (ap not (before_tests (turn_of now x) (true, 0)) ∙ pass
     none : ltb x.number 0 ≡ false
     none = grind (arith, nat_tests)
 
-    -- the test by which
+    -- the cases of the test
     passes : (live l : Bool) → l ≡ false → not (cond live (true && l) (true || l)) ≡ live
     passes true l h = ap not h
     passes false l h = refl
@@ -140,7 +140,7 @@ module _ (n : ℕ) (gs : ItemGroups) (a : AreItems n gs) where
     abbrev left : ItemGroups
     left = passing_groups (stays now (true, 0)) gs
 
-    -- the key of the row stays
+    -- the key of the row is unchanged
     abbrev key_stays : Key → Bool
     key_stays key = not (has_ended now (flat (bare gs)) key)
 

@@ -5,7 +5,7 @@ use Rattle.cookie_rows.specs.Items.{ItemPaths}
 use Rattle.cookie_rows.specs.declared.paths.PathMap.{PathMap}
 use Rattle.cookie_rows.specs.declared.paths.PathMap.TheVariants as Groups
 
--- the groups under their paths
+-- the groups, each with its path
 abbrev pub groups_of : PathMap → ItemPaths
 groups_of Groups.Empty = []
 groups_of (Groups.Single path names) = (string_bytes path, names) ∷ []

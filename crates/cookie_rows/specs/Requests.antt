@@ -1,4 +1,4 @@
--- What contracts see of the cookies of a request.
+-- What contracts know of the cookies of a request.
 use Rattle.std.specs.Prelude.{ℕ, List}
 use Rattle.std.specs.Borrow.{Bor}
 use Rattle.cookie_parts.specs.Cookie.{Row}
@@ -7,6 +7,6 @@ use Rattle.cookie_parts.specs.Cookie.{Row}
 abbrev pub name_and_value : Row → List ℕ × List ℕ
 name_and_value cookie = (cookie.raw.name, cookie.raw.value)
 
--- two texts that are lent
+-- two borrowed strings
 abbrev pub lent_pair : Bor (List ℕ) × Bor (List ℕ) → List ℕ × List ℕ
 lent_pair pair = (pair.0.now, pair.1.now)

@@ -1,4 +1,5 @@
-//! A numbered cookie in a box: a map that reserves places for rows then reserves places for pointers.
+//! A numbered cookie in a box. Maps of rows reserve room ahead; with boxes they reserve it for
+//! pointers only.
 ghost use Rattle.std.specs.Prelude.{◌≡◌, IfOk};
 ghost use Rattle.cookie_words.specs.Moments.{moment_of};
 ghost use Rattle.cookie_parts.specs.Cookie.{ended};
@@ -11,7 +12,8 @@ use jiff::civil::DateTime;
 use std::alloc::{AllocError, Global};
 use std::marker::Model;
 
-/// A cookie, and its number, which is less than that of every row that was made later. Requests read the cookie, so it comes first.
+/// A cookie and its number: cookies created later have greater numbers. Requests read the cookie,
+/// so it comes first.
 #[derive(Drop)]
 struct Numbered {
     cookie: Cookie<'static>,
@@ -31,7 +33,7 @@ impl Clone for Numbered {
     }
 }
 
-/// A cookie in a box, with its number.
+/// A cookie with its number, in a box.
 #[derive(Drop)]
 pub(crate) struct BoxedCookie {
     inner: Box<Numbered>,
@@ -64,7 +66,7 @@ impl Rehash for BoxedCookie {
 }
 
 impl BoxedCookie {
-    // The cookie with this number, in a box.
+    // Boxes the cookie with this number.
     pub(crate) fn new(
         alloc: Global,
         cookie: Cookie<'static>,
@@ -91,7 +93,7 @@ impl BoxedCookie {
         self.inner.as_ref().number
     }
 
-    // When the row leaves, at the moment: one that has ended before one that has not, and else the one that was made less recently.
+    // The place in eviction order: expired rows first, then by creation.
     pub(crate) fn turn(&self, now: DateTime) -> (bool, u64)
         ensures { result ≡ turn_of (moment_of now) self.now }
     {
@@ -99,21 +101,21 @@ impl BoxedCookie {
         (!inner.cookie.is_expired(now), inner.number)
     }
 
-    // Puts this cookie in the place of the other, with its number.
+    // Replaces the cookie and keeps the number.
     pub(crate) fn set(&mut self, cookie: Cookie<'static>)
         ensures { self.new ≡ record self.old { row = cookie.entry } }
     {
         self.inner.as_mut().cookie = cookie;
     }
 
-    // Ends the cookie.
+    // Expires the cookie.
     pub(crate) fn expire(&mut self)
         ensures { self.new ≡ record self.old { row = ended self.old.row } }
     {
         self.inner.as_mut().cookie.expire();
     }
 
-    // The cookie, out of its box.
+    // Returns the cookie without its box.
     pub(crate) fn into_cookie(self) -> Cookie<'static>
         ensures { result ≡ self.row }
     {

@@ -1,4 +1,4 @@
-//! Copies of maps.
+//! Copies of maps with another hash key.
 ghost use Rattle.std.specs.Prelude.{◌≡◌, ◌≢◌, [], IfOk, OnErr};
 ghost use Rattle.cookie_rows.specs.Groups.{texts_of};
 
@@ -6,14 +6,14 @@ use crate::hashing::HashKey;
 use indexmap::IndexMap;
 use std::alloc::{AllocError, Global};
 
-/// A value of a map that can be copied into maps of another hash key.
+/// A map value that may contain maps, which are copied with it.
 pub(crate) trait Rehash: Drop {
-    /// A copy whose maps hash by this key.
+    /// Returns a copy whose maps hash by this key.
     fn rehashed(&self, alloc: Global, hash_key: HashKey) -> Result<Self, AllocError>
         ensures { IfOk result (λ copy. copy ≡ self.now) };
 }
 
-/// A copy of a table, hashed by this key. Allocates only if there is an entry.
+/// Returns a copy of the table, hashed by this key. Allocates only if there is an entry.
 pub(crate) fn rehashed_table<V: Rehash>(
     table: &IndexMap<String, V, HashKey>,
     alloc: Global,

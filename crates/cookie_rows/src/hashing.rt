@@ -1,13 +1,14 @@
-//! How the maps hash their texts.
+//! The hash key of a store's maps.
 use std::alloc::Global;
 use std::hash::{BuildHasher, DefaultHasher, RandomState};
 
-/// What the maps of a store hash their texts by. It changes no answer.
+/// The key by which the maps of a store hash domains, paths and names. It does not change what any
+/// call returns.
 #[derive(Clone, Copy)]
 pub enum HashKey {
-    /// A key that everyone knows, the same in each program.
+    /// A fixed, public key, the same in every program.
     Fixed,
-    /// A key that was drawn: who does not know it cannot choose texts whose hashes meet.
+    /// A random key: an attacker who does not know it cannot choose strings whose hashes collide.
     Drawn(RandomState),
 }
 
@@ -26,12 +27,13 @@ impl BuildHasher for HashKey {
     }
 }
 
-/// What a store allocates by, and the key that its maps hash by. An allocator alone stands for itself and the fixed key.
+/// An allocator, and the hash key for a store's maps. Converted from an allocator alone, it has the
+/// fixed key.
 #[derive(Clone, Copy)]
 pub struct StoreAlloc {
     /// The allocator.
     pub alloc: Global,
-    /// The key.
+    /// The hash key.
     pub hash_key: HashKey,
 }
 

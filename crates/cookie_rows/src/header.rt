@@ -24,7 +24,8 @@ use std::alloc::{AllocError, Global};
 use std::cmp::Ordering;
 use url::Url;
 
-/// The rows that are given for the URL, in the order of RFC 6265 5.4 step 2. Allocates only if there is one.
+/// Returns the rows given for the URL, in the order of RFC 6265 5.4 step 2. Allocates only if there
+/// is one.
 pub(crate) fn in_header_order<'a>(
     groups: &'a IndexMap<String, Paths, HashKey>,
     alloc: Global,

@@ -1,4 +1,4 @@
-//! The cookies of a store, one after the other.
+//! Iterators over the cookies of a store.
 ghost use Rattle.std.specs.Prelude.{◌≡◌, ◌<◌, ◌^◌, length};
 ghost use Rattle.cookie_words.specs.Moments.{moment_of};
 ghost use Rattle.cookie_laws.specs.Rows.{live_rows};
@@ -12,7 +12,7 @@ use jiff::civil::DateTime;
 use std::marker::Model;
 use std::slice;
 
-/// The groups of rows of one domain and path, in their order.
+/// An iterator over the groups of rows of one domain and path, in order.
 #[derive(Drop)]
 struct Groups<'a> {
     paths: slice::Iter<'a, Names>,
@@ -63,7 +63,7 @@ impl<'a> Iterator for Groups<'a> {
     }
 }
 
-// How many rows these domains have.
+// Returns how many rows these domains have.
 pub(crate) fn count_rows(domains: &[Paths]) -> usize
     requires few { length (joined (all_groups domains.now)) < 2 ^ 64 }
     ensures { result ≡ length (joined (all_groups domains.now)) }
@@ -75,7 +75,7 @@ pub(crate) fn count_rows(domains: &[Paths]) -> usize
     count
 }
 
-/// The cookies of a store, whether they have ended or not, in its order.
+/// An iterator over all cookies of a store, expired or not, in the order of the store.
 #[derive(Drop)]
 pub struct IterAny<'a> {
     rows: slice::Iter<'a, BoxedCookie>,
@@ -94,7 +94,7 @@ impl<'a> Model for IterAny<'a> {
 }
 
 impl<'a> IterAny<'a> {
-    /// Over the rows of these domains.
+    /// Returns an iterator over the rows of these domains.
     pub(crate) fn new(domains: &'a [Paths]) -> IterAny<'a>
         ensures { result ≡ rows_of (joined (all_groups domains.now)) }
     {
@@ -128,7 +128,8 @@ impl<'a> Iterator for IterAny<'a> {
     }
 }
 
-/// The cookies of a store that have not ended by a moment, in its order.
+/// An iterator over the cookies of a store that have not expired at a given time, in the order of
+/// the store.
 #[derive(Drop)]
 pub struct IterUnexpired<'a> {
     rows: IterAny<'a>,
@@ -147,7 +148,7 @@ impl<'a> Model for IterUnexpired<'a> {
 }
 
 impl<'a> IterUnexpired<'a> {
-    /// Over those of these rows that have not ended by the moment.
+    /// Returns an iterator over those of `rows` that have not expired at `moment`.
     pub(crate) fn new(rows: IterAny<'a>, moment: DateTime) -> IterUnexpired<'a>
         ensures { result ≡ live_rows (moment_of moment) rows.entry }
     {

@@ -1,5 +1,8 @@
-//! The rows of a cookie store: one list of cookies in which keys differ, and rows of one domain, and in it of one path, stand
-//! together. Whoever holds them sees that list alone. They are kept in three maps, one in the other: by domain, by path, by name.
+//! The rows of a cookie store.
+//!
+//! `Rows` is one list of cookies. No two have the same domain, path and name; cookies of one domain
+//! are adjacent, and among them those of one path. Callers see only that list. It is stored in
+//! three nested maps: by domain, by path and by name.
 #![tactic(auto)]
 
 mod boxed;

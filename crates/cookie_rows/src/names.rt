@@ -28,7 +28,7 @@ pub(crate) enum NameMap {
     Table(Box<IndexMap<String, BoxedCookie, HashKey>>),
 }
 
-/// The rows of one domain and path, each under its name.
+/// The rows of one domain and path, by name.
 #[derive(Drop)]
 pub(crate) struct Names {
     rows: NameMap,
@@ -55,7 +55,7 @@ impl Rehash for Names {
 }
 
 impl Names {
-    // A group of this row alone.
+    // Returns the group of this row alone.
     pub(crate) fn of_one(row: BoxedCookie) -> Names
         ensures { result ≡ row ∷ [] }
     {
@@ -71,7 +71,7 @@ impl Names {
         self.rows().len() == 0
     }
 
-    // The rows, in their order.
+    // The rows, in order.
     pub(crate) fn rows(&self) -> &[BoxedCookie]
         ensures { result.now ≡ self.now }
     {
@@ -101,7 +101,7 @@ impl Names {
         }
     }
 
-    // The row of this name.
+    // The row of this name, if there is one.
     pub(crate) fn get(&self, name: &str) -> Option<&Cookie<'static>>
         ensures { option_copied result ≡ row_named name.now (rows_of self.now) }
     {
@@ -120,7 +120,7 @@ impl Names {
         replace_row(&mut self.rows, cookie);
     }
 
-    // Adds the row as the last one.
+    // Adds the row at the end.
     pub(crate) fn add(
         &mut self,
         alloc: Global,
@@ -137,7 +137,7 @@ impl Names {
         outcome
     }
 
-    // Keeps the rows whose turn does not come before this one, at the moment.
+    // Keeps the rows that do not come before `first` in eviction order.
     pub(crate) fn retain(&mut self, first: (bool, u64), now: DateTime)
         ensures { self.new ≡ filter (stays (moment_of now) first) self.old }
     {
@@ -231,7 +231,7 @@ fn replace_in(rows: &mut IndexMap<String, BoxedCookie, HashKey>, cookie: Cookie<
     }
 }
 
-// Adds the row as the last one. Returns the rows unchanged if memory runs out.
+// Adds the row at the end. Returns the rows unchanged if out of memory.
 fn with_row(
     rows: NameMap,
     alloc: Global,
@@ -254,7 +254,7 @@ fn with_row(
     }
 }
 
-// Adds the row behind a single one. Returns the single row if memory runs out.
+// Adds the row after a single one. Returns the single row alone if out of memory.
 fn with_second(
     first: BoxedCookie,
     alloc: Global,
@@ -272,7 +272,7 @@ fn with_second(
     }
 }
 
-// An empty table with room for two rows, and their names.
+// Returns an empty table with room for two rows, and their names.
 fn table_for(
     alloc: Global,
     hash_key: HashKey,
@@ -290,7 +290,7 @@ fn table_for(
     Ok((Box::new(alloc, table)?, first, second))
 }
 
-// A table of two rows.
+// Returns a table of two rows.
 fn pair(
     table: Box<IndexMap<String, BoxedCookie, HashKey>>,
     first_name: String,
@@ -312,7 +312,7 @@ fn pair(
     NameMap::Table(table)
 }
 
-// Adds the row to a table as the last one.
+// Adds the row at the end of a table.
 fn add_in(
     rows: &mut IndexMap<String, BoxedCookie, HashKey>,
     alloc: Global,
@@ -329,7 +329,7 @@ fn add_in(
     Ok(())
 }
 
-// Keeps the rows whose turn does not come before this one, at the moment.
+// Keeps the rows that do not come before `first` in eviction order.
 fn retain_rows(rows: &mut NameMap, first: (bool, u64), now: DateTime)
     requires named { HasNames rows.old }
     ensures retained { items_of rows.new ≡ filter (stays (moment_of now) first) (items_of rows.old) }
@@ -346,7 +346,7 @@ fn retain_rows(rows: &mut NameMap, first: (bool, u64), now: DateTime)
     }
 }
 
-// Keeps these rows of a table.
+// Keeps the rows of a table that do not come before `first` in eviction order.
 fn retain_in(rows: &mut IndexMap<String, BoxedCookie, HashKey>, first: (bool, u64), now: DateTime)
     requires named { AreNamed rows.old.entries }
     ensures retained { values_of rows.new.entries ≡ filter (stays (moment_of now) first) (values_of rows.old.entries) }
@@ -388,7 +388,7 @@ fn end_in(rows: &mut IndexMap<String, BoxedCookie, HashKey>, name: &str)
     }
 }
 
-// Removes the row of this name. Returns the rows that are left, and the row.
+// Removes the row of this name. Returns the remaining rows, and the removed one.
 fn without_row(rows: NameMap, name: &str) -> (NameMap, Option<Cookie<'static>>)
     requires named { HasNames rows }
     ensures value { result.1 ≡ row_named name.now (rows_of (items_of rows)) }

@@ -31,7 +31,7 @@ pub(crate) enum PathMap {
     Table(Box<IndexMap<String, Names, HashKey>>),
 }
 
-/// The rows of one domain, those of each path under it.
+/// The rows of one domain, by path.
 #[derive(Drop)]
 pub(crate) struct Paths {
     groups: PathMap,
@@ -55,7 +55,7 @@ impl Rehash for Paths {
 }
 
 impl Paths {
-    // The groups of this row alone.
+    // Returns the groups of this row alone.
     pub(crate) fn of_one(alloc: Global, row: BoxedCookie) -> Result<Paths, AllocError>
         ensures { IfOk result (λ paths. paths ≡ put_item_paths row.row row.number []) }
     {
@@ -72,7 +72,7 @@ impl Paths {
         self.groups().len() == 0
     }
 
-    // The groups, in their order.
+    // The groups, in order.
     pub(crate) fn groups(&self) -> &[Names]
         ensures { result.now ≡ map (λ g. g.1) self.now }
     {
@@ -83,7 +83,7 @@ impl Paths {
         }
     }
 
-    // The position of the group of this path, and that group.
+    // The group of this path, and its position.
     pub(crate) fn find(&self, path: &str) -> Option<(usize, &Names)>
         ensures place { option_map (λ found. found.0) result ≡ place_of path.now self.now }
         ensures names { IfSome result (λ found. found.1.now ≡ under found.0 self.now) }
@@ -135,7 +135,7 @@ impl Paths {
         }
     }
 
-    // The row of this path and name.
+    // The row of this path and name, if there is one.
     pub(crate) fn get(&self, path: &str, name: &str) -> Option<&Cookie<'static>>
         ensures { option_copied result ≡ find_item_paths path.now name.now self.now }
     {
@@ -153,7 +153,7 @@ impl Paths {
         replace_path(&mut self.groups, cookie);
     }
 
-    // Adds the row as the last one of its path.
+    // Adds the row at the end of its path's group.
     pub(crate) fn add(
         &mut self,
         alloc: Global,
@@ -170,7 +170,8 @@ impl Paths {
         outcome
     }
 
-    // Adds a new row and evicts rows of the domain, so that at most `limit` are stored. Returns whether any was evicted.
+    // Adds a new row and evicts rows of the domain, so that at most `limit` are stored. Returns
+    // whether any was evicted. Unchanged if out of memory.
     pub(crate) fn enter(
         &mut self,
         alloc: Global,
@@ -195,8 +196,8 @@ impl Paths {
         Ok(true)
     }
 
-    // Of the turns of the rows, at the moment, and that of a new row with this number, the first that stays, so that no more than the
-    // limit stand. `None` where there is room for the new row.
+    // Returns the place in eviction order of the first row that survives once a new row of this
+    // number is added. `None` if nothing need be evicted.
     fn first_to_stay(
         &self,
         alloc: Global,
@@ -219,7 +220,7 @@ impl Paths {
         Ok(Some(*first))
     }
 
-    // When the rows leave, at the moment.
+    // The places of the rows in eviction order.
     fn turns(&self, alloc: Global, now: DateTime) -> Result<Vec<(bool, u64)>, AllocError>
         ensures { IfOk result (λ turns. turns.items ≡ turns_of (moment_of now) self.now) }
     {
@@ -231,7 +232,7 @@ impl Paths {
         Ok(turns)
     }
 
-    // Keeps the rows whose turn does not come before this one, at the moment, and drops the groups that are emptied.
+    // Keeps the rows that do not come before `first` in eviction order, and drops empty groups.
     pub(crate) fn retain(&mut self, first: (bool, u64), now: DateTime)
         ensures { self.new ≡ passing (stays (moment_of now) first) self.old }
     {
@@ -245,7 +246,7 @@ impl Paths {
         settle_path(&mut self.groups, path);
     }
 
-    // Whether there is one row alone.
+    // Whether there is exactly one row.
     pub(crate) fn is_single(&self) -> bool
         ensures { result ≡ is_single_paths self.now }
     {
@@ -275,7 +276,7 @@ impl Paths {
     }
 }
 
-// The position of the group of this path in a table, and that group.
+// The group of this path in a table, and its position.
 fn found_in<'a>(
     groups: &'a IndexMap<String, Names, HashKey>,
     path: &str,
@@ -339,7 +340,7 @@ fn replace_in(groups: &mut IndexMap<String, Names, HashKey>, cookie: Cookie<'sta
     }
 }
 
-// Adds the row as the last one of its path. Returns the groups unchanged if memory runs out.
+// Adds the row at the end of its path's group. Returns the groups unchanged if out of memory.
 fn with_row(
     groups: PathMap,
     alloc: Global,
@@ -370,7 +371,8 @@ fn with_row(
     }
 }
 
-// Adds the row, whose path is another, behind a single group. Returns the single group if memory runs out.
+// Adds the row, which has another path, after a single group. Returns that group alone if out of
+// memory.
 fn with_second(
     first: String,
     names: Names,
@@ -388,7 +390,7 @@ fn with_second(
     }
 }
 
-// An empty table with room for two groups, and the row's path.
+// Returns an empty table with room for two groups, and the row's path.
 fn table_for(
     alloc: Global,
     hash_key: HashKey,
@@ -403,7 +405,7 @@ fn table_for(
     Ok((Box::new(alloc, table)?, path))
 }
 
-// A table of a group, and of one of a row alone.
+// Returns a table of a group, and of a second one with a single row.
 fn pair(
     table: Box<IndexMap<String, Names, HashKey>>,
     first: String,
@@ -422,7 +424,7 @@ fn pair(
     PathMap::Table(table)
 }
 
-// Adds the row to a table, as the last one of its path.
+// Adds the row at the end of its path's group in a table.
 fn add_in(
     groups: &mut IndexMap<String, Names, HashKey>,
     alloc: Global,
@@ -443,7 +445,7 @@ fn add_in(
     }
 }
 
-// Adds when the rows leave, at the moment.
+// Adds the places of these rows in eviction order.
 fn push_turns(
     turns: &mut Vec<(bool, u64)>,
     rows: &[BoxedCookie],
@@ -457,7 +459,7 @@ fn push_turns(
     Ok(())
 }
 
-// Keeps the rows whose turn does not come before this one, at the moment, and drops the groups that are emptied.
+// Keeps the rows that do not come before `first` in eviction order, and drops empty groups.
 fn retain_paths(groups: &mut PathMap, first: (bool, u64), now: DateTime)
     ensures { groups_of groups.new ≡ passing (stays (moment_of now) first) (groups_of groups.old) }
 {
@@ -473,7 +475,8 @@ fn retain_paths(groups: &mut PathMap, first: (bool, u64), now: DateTime)
     }
 }
 
-// Keeps those of a table, and drops the groups that are emptied.
+// Keeps the rows of a table that do not come before `first` in eviction order, and drops empty
+// groups.
 fn retain_in(groups: &mut IndexMap<String, Names, HashKey>, first: (bool, u64), now: DateTime)
     ensures { texts_of groups.new.entries ≡ passing (stays (moment_of now) first) (texts_of groups.old.entries) }
 {
@@ -540,7 +543,8 @@ fn end_in(groups: &mut IndexMap<String, Names, HashKey>, path: &str, name: &str)
     }
 }
 
-// Removes the row of this path and name, and its group with the last row. Returns the groups that are left, and the row.
+// Removes the row of this path and name, and its group if it was the last row there. Returns the
+// remaining groups, and the removed row.
 fn without_row(groups: PathMap, path: &str, name: &str) -> (PathMap, Option<Cookie<'static>>)
     ensures value { result.1 ≡ find_item_paths path.now name.now (groups_of groups) }
     ensures removed { groups_of result.0 ≡ remove_item_paths path.now name.now (groups_of groups) }
@@ -555,7 +559,7 @@ fn without_row(groups: PathMap, path: &str, name: &str) -> (PathMap, Option<Cook
     }
 }
 
-// The same for a single group.
+// Removes the row from a single group, and the group if it was its last row.
 fn without_named(
     own: String,
     names: Names,
@@ -577,7 +581,7 @@ fn without_named(
     }
 }
 
-// Removes the row of this path and name from its group in a table. Returns it, and whether the group is empty now.
+// Removes the row from its group in a table. Returns it, and whether the group is now empty.
 fn take_named(
     groups: &mut IndexMap<String, Names, HashKey>,
     path: &str,
@@ -596,7 +600,7 @@ fn take_named(
     }
 }
 
-// Removes the row of this path and name from a table, and its group with the last row.
+// Removes the row of this path and name from a table, and its group if it was the last row there.
 fn remove_in(
     groups: &mut IndexMap<String, Names, HashKey>,
     path: &str,

@@ -1,4 +1,4 @@
-//! The cookies of a request.
+//! Iterators over the cookies of a request.
 ghost use Rattle.std.specs.Prelude.{◌≡◌, map};
 ghost use Rattle.cookie_rows.specs.Requests.{name_and_value};
 
@@ -7,7 +7,7 @@ use cookie_raw::RawCookie;
 use std::marker::Model;
 use std::vec::IntoIter;
 
-/// The names and values of the cookies of a request, in the store's order.
+/// An iterator over the names and values of the cookies of a request, in the order of the store.
 #[derive(Drop)]
 pub struct RequestValues<'a> {
     cookies: IntoIter<&'a Cookie<'static>>,
@@ -24,7 +24,7 @@ impl<'a> Model for RequestValues<'a> {
 }
 
 impl<'a> RequestValues<'a> {
-    /// Of these cookies.
+    /// Returns an iterator over the names and values of these cookies.
     pub(crate) fn new(cookies: Vec<&'a Cookie<'static>>) -> RequestValues<'a>
         ensures { result ≡ map name_and_value (map (λ cookie. cookie.now) cookies.entry.items) }
     {
@@ -50,7 +50,7 @@ impl<'a> Iterator for RequestValues<'a> {
     }
 }
 
-/// The raw cookies of the cookies of a request, in the store's order.
+/// An iterator over the raw cookies of a request, in the order of the store.
 #[derive(Drop)]
 pub struct RequestCookies<'a> {
     cookies: IntoIter<&'a Cookie<'static>>,
@@ -67,7 +67,7 @@ impl<'a> Model for RequestCookies<'a> {
 }
 
 impl<'a> RequestCookies<'a> {
-    /// Of these cookies.
+    /// Returns an iterator over the raw cookies of these cookies.
     pub(crate) fn new(cookies: Vec<&'a Cookie<'static>>) -> RequestCookies<'a>
         ensures { result ≡ map (λ cookie. cookie.raw) (map (λ cookie. cookie.now) cookies.entry.items) }
     {

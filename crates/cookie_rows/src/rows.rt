@@ -1,4 +1,4 @@
-//! The rows, as one list.
+//! The rows of a store, as one list.
 ghost use Rattle.std.specs.Prelude.{◌≡◌, ◌≢◌, ◌≤◌, ◌<◌, ℕ, false, true, ◌+◌, ◌*◌, ◌^◌, ◌==◌, [], ◌∷◌, length, map, not, string_bytes, IfErr, IfOk, IfSome, IsTrue, None, Ok, OnErr, OnOk, Some, ◌⊎◌};
 ghost use Rattle.std.specs.Iterator.{IsFinite};
 ghost use Rattle.std.specs.Option.{option_copied};
@@ -36,12 +36,15 @@ use std::alloc::{AllocError, Global};
 use std::marker::Model;
 use url::Url;
 
-/// The rows of a store, RFC 6265 5.3. Rows of one domain stand together, and among them rows of one path: a new row comes after
-/// those, and one that replaces another stands in its place. No two have the same domain, path and name.
+/// The rows of a store, RFC 6265 5.3.
+///
+/// No two rows have the same domain, path and name. Rows of one domain are adjacent, and among them
+/// those of one path: a new row is added after those, and a row that replaces another takes its
+/// position.
 #[derive(Drop)]
 pub struct Rows {
     groups: IndexMap<String, Paths, HashKey>,
-    // How many cookies were put: no row has this number, or a greater one.
+    // The number of the next new row; all rows have smaller numbers.
     made: u64,
 }
 
@@ -68,7 +71,7 @@ impl Clone for Rows {
 }
 
 impl Rows {
-    /// No rows.
+    /// Returns an empty list of rows.
     pub fn new(alloc: StoreAlloc) -> Rows
         ensures { result ≡ record { rows = []; made = [] } }
     {
@@ -78,9 +81,15 @@ impl Rows {
         }
     }
 
-    /// The rows of the cookies that the iterator gives, put one after the other, all or those that have not ended. Answers the
-    /// first error that the iterator gives, or `Memory`, which comes only at a cookie that would be a new row, and asks for no
-    /// item after that.
+    /// Builds the rows from cookies, stored one after the other: a cookie replaces an earlier one
+    /// with the same domain, path and name. Expired cookies are skipped unless `include_expired`.
+    ///
+    /// Stops at the first error, and takes no further item from the iterator.
+    ///
+    /// # Errors
+    ///
+    /// - the first error that the iterator yields
+    /// - `Memory`: out of memory, only at a cookie that would be a new row
     pub fn from_cookies<I: Iterator<Item = Result<Cookie<'static>, Error>> + Drop>(
         alloc: StoreAlloc,
         mut cookies: I,
@@ -97,36 +106,40 @@ impl Rows {
         build(alloc, &mut cookies, include_expired, now)
     }
 
-    /// The row of this domain, path and name, if there is one.
+    /// Returns the row of this domain, path and name, if there is one.
     pub fn named(&self, domain: &str, path: &str, name: &str) -> Option<&Cookie<'static>>
         ensures { option_copied result ≡ row_of (key_at domain.now path.now name.now) self.now.rows }
     {
         find_row(&self.groups, domain, path, name)
     }
 
-    /// The row of the cookie's domain, path and name, if there is one.
+    /// Returns the row of the cookie's domain, path and name, if there is one.
     pub fn row_of(&self, cookie: &Cookie<'static>) -> Option<&Cookie<'static>>
         ensures { option_copied result ≡ row_of (key_of cookie.now) self.now.rows }
     {
         self.named(domain_text(cookie), path_text(cookie), cookie.name())
     }
 
-    /// All rows, in their order.
+    /// Returns an iterator over all rows, in order.
     pub fn iter(&self) -> IterAny<'_>
         ensures { result ≡ self.now.rows }
     {
         IterAny::new(self.groups.values().as_slice())
     }
 
-    /// The rows that have not ended by the moment, in their order.
+    /// Returns an iterator over the rows that have not expired at `now`, in order.
     pub fn iter_unexpired(&self, now: DateTime) -> IterUnexpired<'_>
         ensures { result ≡ live_rows (moment_of now) self.now.rows }
     {
         IterUnexpired::new(self.iter(), now)
     }
 
-    /// The rows that are given for the URL at the moment, RFC 6265 5.4, in their order, and how often the maps were searched for
-    /// them: for domains and for paths no less often than some were found. Memory is wanted only where there is one.
+    /// Returns the rows given for `url` at `now`, RFC 6265 5.4, in order, and how many lookups that
+    /// took. The lookups of domains, and those of paths, are at least as many as were found.
+    ///
+    /// # Errors
+    ///
+    /// `AllocError`: out of memory, only if at least one row is given.
     pub fn given_counted(
         &self,
         alloc: Global,
@@ -147,7 +160,11 @@ impl Rows {
         searched(&self.groups, alloc, url, now)
     }
 
-    /// The rows that are given for the URL at the moment, RFC 6265 5.4, in their order. Memory is wanted only where there is one.
+    /// Returns the rows given for `url` at `now`, RFC 6265 5.4, in order.
+    ///
+    /// # Errors
+    ///
+    /// `AllocError`: out of memory, only if at least one row is given.
     pub fn given(
         &self,
         alloc: Global,
@@ -163,7 +180,12 @@ impl Rows {
         Ok(self.given_counted(alloc, url, now)?.0)
     }
 
-    /// The rows that are given for the URL, in the order of the Cookie header, RFC 6265 5.4 step 2. Allocates only if there is one.
+    /// Returns the rows given for `url` at `now`, in the order of the Cookie header, RFC 6265 5.4
+    /// step 2.
+    ///
+    /// # Errors
+    ///
+    /// `AllocError`: out of memory, only if at least one row is given.
     pub fn in_header_order(
         &self,
         alloc: Global,
@@ -177,8 +199,11 @@ impl Rows {
         in_header_order(&self.groups, alloc, url, now)
     }
 
-    /// The names and values of the rows that are given for the URL at the moment, in their order. Memory is wanted only
-    /// where there is one.
+    /// Returns the names and values of the rows given for `url` at `now`, in order.
+    ///
+    /// # Errors
+    ///
+    /// `AllocError`: out of memory, only if at least one row is given.
     pub fn request_values(
         &self,
         alloc: Global,
@@ -191,8 +216,11 @@ impl Rows {
         Ok(RequestValues::new(self.given(alloc, url, now)?))
     }
 
-    /// The raw cookies of the rows that are given for the URL at the moment, in their order. Memory is wanted only
-    /// where there is one.
+    /// Returns the raw cookies of the rows given for `url` at `now`, in order.
+    ///
+    /// # Errors
+    ///
+    /// `AllocError`: out of memory, only if at least one row is given.
     pub fn request_cookies(
         &self,
         alloc: Global,
@@ -205,7 +233,8 @@ impl Rows {
         Ok(RequestCookies::new(self.given(alloc, url, now)?))
     }
 
-    /// Replaces the row of the cookie's domain, path and name, which keeps its place and its creation order.
+    /// Replaces the row of the cookie's domain, path and name, which keeps its position and its
+    /// place in creation order.
     pub fn replace(&mut self, cookie: Cookie<'static>)
         requires stored { row_of (key_of cookie) self.old.rows ≢ None }
         ensures { self.new ≡ record { rows = put self.old.rows cookie.entry; made = make self.old.made (key_of cookie.entry) } }
@@ -213,9 +242,13 @@ impl Rows {
         replace_row(&mut self.groups, cookie);
     }
 
-    /// Adds the cookie as a new row, which is created last. Under a limit, rows of its domain are evicted so that at most so many are
-    /// stored: first those that have expired, then the others, each time the one that was created least recently. If memory, or the
-    /// number for a new row, runs out, the rows are unchanged.
+    /// Adds the cookie as a new row, the last one in creation order. With a limit, rows of its
+    /// domain are evicted so that at most `limit` are stored: expired rows first, then the others,
+    /// in each case the least recently created.
+    ///
+    /// # Errors
+    ///
+    /// `AllocError`: out of memory, or of numbers for new rows. The rows are unchanged.
     pub fn enter(
         &mut self,
         cookie: Cookie<'static>,
@@ -239,6 +272,7 @@ impl Rows {
                 Ok(())
             }
             Some(limit) => {
+                // a limit of 0 evicts the same rows as 1: all others of the domain
                 enter_row(&mut self.groups, row, limit.max(1), now)?;
                 self.made = next;
                 Ok(())
@@ -246,8 +280,12 @@ impl Rows {
         }
     }
 
-    /// Puts the cookie, unless it has ended and is to be passed over: rows that were built from cookies are built from these and
-    /// this one then. Want of memory leaves the rows, and comes only where the cookie would be a new row.
+    /// Stores the cookie, or skips it if it has expired and `include_expired` is false. It replaces
+    /// the row of its domain, path and name, or is a new row.
+    ///
+    /// # Errors
+    ///
+    /// `AllocError`: out of memory, only if the cookie would be a new row. The rows are unchanged.
     pub fn take(
         &mut self,
         cookie: Cookie<'static>,
@@ -283,14 +321,15 @@ impl Rows {
         }
     }
 
-    /// Ends the row of the cookie's domain, path and name, if there is one.
+    /// Expires the row of the cookie's domain, path and name, if there is one.
     pub fn end(&mut self, cookie: &Cookie<'static>)
         ensures { self.new ≡ record self.old { rows = changed (has_key (key_of cookie.now)) ended self.old.rows } }
     {
         end_row(&mut self.groups, cookie);
     }
 
-    /// Takes out the row of this domain, path and name, if there is one. The others keep their order.
+    /// Removes the row of this domain, path and name, if there is one, and returns it. The others
+    /// keep their order.
     pub fn remove(&mut self, domain: &str, path: &str, name: &str) -> Option<Cookie<'static>>
         ensures value { result ≡ row_of (key_at domain.now path.now name.now) self.old.rows }
         ensures removed { let key = key_at domain.now path.now name.now in
@@ -299,8 +338,8 @@ impl Rows {
         remove_row(&mut self.groups, domain, path, name)
     }
 
-    /// Removes the cookies that have expired at `now`, RFC 6265 5.3, and returns how many. The others keep their order. Allocates
-    /// nothing.
+    /// Removes the rows that have expired at `now`, RFC 6265 5.3, and returns how many. The others
+    /// keep their order. Allocates nothing.
     pub fn remove_expired(&mut self, now: DateTime) -> usize
         ensures rows { self.new ≡ kept_of (unexpired (moment_of now) (contents_of self.old None None)) }
         ensures removed { result + length self.new.rows ≡ length self.old.rows }
@@ -310,17 +349,20 @@ impl Rows {
         before - self.len()
     }
 
-    // How many rows there are.
+    // Returns how many rows there are.
     fn len(&self) -> usize
         ensures { result ≡ length self.now.rows }
     {
-        // for the checker: each row has a number of its own below this one, so their count fits
+        // for the checker: all rows have different numbers below this one, so their count fits
         let _made = self.made;
         count_rows(self.groups.values().as_slice())
     }
 
-    /// Copies the rows into maps that hash by this key. Want of memory leaves the maps that were, and comes only where there is
-    /// a row.
+    /// Copies the rows into maps that hash by this key.
+    ///
+    /// # Errors
+    ///
+    /// `AllocError`: out of memory, only if there is a row. The old maps are kept.
     pub fn set_hash_key(&mut self, alloc: Global, hash_key: HashKey) -> Result<(), AllocError>
         ensures rows { self.new ≡ self.old }
         ensures memory { OnErr result (self.old.rows ≢ []) }
@@ -329,7 +371,7 @@ impl Rows {
         Ok(())
     }
 
-    // Copies of the rows, in maps that hash by this key.
+    // Returns copies of the rows, in maps that hash by this key.
     fn rehashed(&self, alloc: Global, hash_key: HashKey) -> Result<Rows, AllocError>
         ensures rows { IfOk result (λ rows. rows ≡ self.now) }
         ensures memory { OnErr result (self.now.rows ≢ []) }
@@ -341,7 +383,7 @@ impl Rows {
         })
     }
 
-    /// Takes out all rows.
+    /// Removes all rows.
     pub fn clear(&mut self)
         ensures { self.new ≡ record { rows = []; made = [] } }
     {
@@ -349,7 +391,8 @@ impl Rows {
     }
 }
 
-// The rows of the cookies that are left. The error, and the cookie that finds no room, are the last item that is taken.
+// Builds the rows from the remaining cookies. Takes no item after an error of the iterator, or
+// after a cookie for which memory ran out.
 fn build<I: Iterator<Item = Result<Cookie<'static>, Error>>>(
     alloc: StoreAlloc,
     cookies: &mut I,
@@ -374,7 +417,7 @@ fn build<I: Iterator<Item = Result<Cookie<'static>, Error>>>(
     Ok(built)
 }
 
-// The row of this domain, path and name.
+// Returns the row of this domain, path and name, if there is one.
 fn find_row<'a>(
     groups: &'a IndexMap<String, Paths, HashKey>,
     domain: &str,
@@ -389,7 +432,7 @@ fn find_row<'a>(
     }
 }
 
-// The row's domain, and its groups: the row alone.
+// Returns the row's domain, and a group of this row alone.
 fn entry_of(alloc: Global, row: BoxedCookie) -> Result<(String, Paths), AllocError>
     ensures domain { IfOk result (λ entry. string_bytes entry.0 ≡ domain_text row.row.domain) }
     ensures group { IfOk result (λ entry. entry.1 ≡ put_item_paths row.row row.number []) }
@@ -410,7 +453,7 @@ fn replace_row(groups: &mut IndexMap<String, Paths, HashKey>, cookie: Cookie<'st
     }
 }
 
-// Adds the row to the groups of its domain.
+// Adds the row to the group of its domain.
 fn add_row(
     groups: &mut IndexMap<String, Paths, HashKey>,
     row: BoxedCookie,
@@ -431,7 +474,8 @@ fn add_row(
     }
 }
 
-// Adds the row to the groups of its domain and evicts rows of the domain, so that at most `limit` are stored.
+// Adds the row to the group of its domain, and evicts rows so that at most `limit` of the domain
+// are stored.
 fn enter_row(
     groups: &mut IndexMap<String, Paths, HashKey>,
     row: BoxedCookie,
@@ -457,7 +501,7 @@ fn enter_row(
     Ok(())
 }
 
-// Lets the group of this domain be the last, if there is one row in it.
+// Moves the group of this domain to the end, if it has a single row: all its old rows were evicted.
 fn settle_group(groups: &mut IndexMap<String, Paths, HashKey>, domain: &str)
     ensures { texts_of groups.new.entries ≡ settled is_single_paths domain.now (texts_of groups.old.entries) }
 {
@@ -470,7 +514,7 @@ fn settle_group(groups: &mut IndexMap<String, Paths, HashKey>, domain: &str)
     }
 }
 
-// Ends the row of the cookie's key.
+// Expires the row of the cookie's key, if there is one.
 fn end_row(groups: &mut IndexMap<String, Paths, HashKey>, cookie: &Cookie<'static>)
     ensures { texts_of groups.new.entries ≡ end_items (key_of cookie.now) (texts_of groups.old.entries) }
 {
@@ -480,7 +524,7 @@ fn end_row(groups: &mut IndexMap<String, Paths, HashKey>, cookie: &Cookie<'stati
     }
 }
 
-// Takes the row of this domain, path and name out of its group, and says whether nothing is left of its domain.
+// Removes the row from its domain's group. Returns it, and whether the group is now empty.
 fn take_row(
     groups: &mut IndexMap<String, Paths, HashKey>,
     domain: &str,
@@ -500,7 +544,7 @@ fn take_row(
     }
 }
 
-// Takes out the row of this domain, path and name, and its domain with the last one.
+// Removes the row of this domain, path and name, and its domain's group if that is empty then.
 fn remove_row(
     groups: &mut IndexMap<String, Paths, HashKey>,
     domain: &str,
@@ -517,8 +561,8 @@ fn remove_row(
     row
 }
 
-// Keeps the rows that have not expired at `now`, and drops the groups that are emptied. An expired row is one whose turn comes before
-// (true, 0).
+// Keeps the rows that have not expired at `now`, and drops empty groups. An expired row is one that
+// comes before (true, 0) in eviction order.
 fn retain_groups(groups: &mut IndexMap<String, Paths, HashKey>, now: DateTime)
     ensures { texts_of groups.new.entries ≡ passing_groups (stays (moment_of now) (true, 0)) (texts_of groups.old.entries) }
 {

@@ -1,4 +1,4 @@
-//! The search of the maps.
+//! The search for the rows of a URL in the maps.
 ghost use Rattle.std.proofs.Props.{props};
 ghost use Rattle.std.specs.List.{flat_map};
 ghost use Rattle.std.specs.Prelude.{◌≡◌, ◌≢◌, ◌≤◌, ◌*◌, [], map, option_map, slice_get, IfOk, OnErr};
@@ -21,7 +21,7 @@ use jiff::civil::DateTime;
 use std::alloc::{AllocError, Global};
 use url::Url;
 
-// The maps, how often they were searched, and the group of the path that was found last.
+// The maps, the number of lookups so far, and the rows of the path found last.
 #[derive(Drop)]
 struct MapSearch<'a> {
     groups: &'a IndexMap<String, Paths, HashKey>,
@@ -87,8 +87,8 @@ impl<'a> ListedSearch for MapSearch<'a> {
     }
 }
 
-/// The rows that are given for the URL at the moment, in their order, and how often the maps were searched for them. Memory is
-/// wanted only where there is one.
+/// Returns the rows given for `url` at `now`, in order, and the number of lookups. Allocates only
+/// if there is one.
 pub(crate) fn searched<'a>(
     groups: &'a IndexMap<String, Paths, HashKey>,
     alloc: Global,
@@ -107,14 +107,15 @@ pub(crate) fn searched<'a>(
         (λ found. paths_found url.now (flat (bare (texts_of groups.now.entries))) ≤ found.1.paths) }
     ensures memory { OnErr result (given url.now (moment_of now) (flat (bare (texts_of groups.now.entries))) ≢ []) }
 {
+    // for the checker: the rows at the positions found are the rows given
     laws::rows_at_spots();
     let (spots, lookups) = given_spots(groups, alloc, url, now)?;
     let cookies = rows_at(groups, alloc, &spots)?;
     Ok((cookies, lookups))
 }
 
-/// Where the rows stand that are given for the URL, in their order, and how often the maps were searched. Allocates only if there is
-/// one.
+/// Returns the positions of the rows given for `url` at `now`, in order, and the number of lookups.
+/// Allocates only if there is one.
 pub(crate) fn given_spots(
     groups: &IndexMap<String, Paths, HashKey>,
     alloc: Global,
@@ -145,7 +146,7 @@ pub(crate) fn given_spots(
     Ok((spots, search.lookups))
 }
 
-// The rows at these spots.
+// Returns the rows at these positions.
 fn rows_at<'a>(
     groups: &'a IndexMap<String, Paths, HashKey>,
     alloc: Global,
@@ -164,7 +165,7 @@ fn rows_at<'a>(
     Ok(cookies)
 }
 
-// The row at a spot.
+// Returns the row at a position.
 fn row_at<'a>(
     groups: &'a IndexMap<String, Paths, HashKey>,
     domain: usize,
@@ -177,7 +178,7 @@ fn row_at<'a>(
     Some(item_at(groups, domain, path, row)?.cookie())
 }
 
-/// The row at a spot, with its number.
+/// Returns the row at a position, with its number.
 pub(crate) fn item_at<'a>(
     groups: &'a IndexMap<String, Paths, HashKey>,
     domain: usize,

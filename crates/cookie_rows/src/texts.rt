@@ -1,17 +1,17 @@
-//! The texts that a row stands under.
+//! The strings by which a row is looked up.
 ghost use Rattle.std.specs.Prelude.{◌≡◌};
 ghost use Rattle.cookie_parts.specs.Domain.{domain_text};
 
 use cookie_parts::Cookie;
 
-// The text of the cookie's domain.
+// Returns the cookie's domain, empty if it has none.
 pub(crate) fn domain_text<'a>(cookie: &'a Cookie<'static>) -> &'a str
     ensures { result.now ≡ domain_text cookie.now.domain }
 {
     cookie.domain.as_str()
 }
 
-// The text of its path.
+// Returns the cookie's path.
 pub(crate) fn path_text<'a>(cookie: &'a Cookie<'static>) -> &'a str
     ensures { result.now ≡ cookie.now.path.text }
 {

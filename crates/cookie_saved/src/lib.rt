@@ -1,4 +1,4 @@
-//! Saved cookies: trees of JSON, lists in RON, and the text of a moment.
+//! Saved cookies: as JSON values, as lists in RON, and the string form of their expiry times.
 #![tactic(auto)]
 
 pub use cookie_forms::{

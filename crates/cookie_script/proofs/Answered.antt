@@ -1,4 +1,4 @@
--- The lines of a script that were answered, and what went out of their answers.
+-- The lines of a script that were run, and what was written of their output.
 use Rattle.std.proofs.Common.{◌≡◌, ℕ, List, [], ◌∷◌, ◌++◌, Option, refl, sym, ap, subst, ◌∙◌, append_assoc, append-nil}
 use Rattle.std.specs.Io.KnownBytes.{Appends}
 use Rattle.std.specs.Str.Lines.{lines}
@@ -14,7 +14,7 @@ abbrev pub state_after : List (List ℕ) → State → State
 state_after [] state = state
 state_after (line ∷ more) state = state_after more (turn line state).state
 
--- what some lines write, and what the next ones write after them
+-- the output of some lines and of the lines after them
 outputs-append : (passed more : List (List ℕ)) (state : State)
     → outputs (passed ++ more) state ≡ outputs passed state ++ outputs more (state_after passed state)
 outputs-append [] more state = refl
@@ -23,32 +23,32 @@ outputs-append (line ∷ passed) more state =
     ap (λ text. (turn line state).text ++ text) (outputs-append passed more next)
     ∙ sym (append_assoc (turn line state).text (outputs passed next) (outputs more (state_after passed next)))
 
--- the state after some lines and the next ones
+-- the state after some lines and the lines after them
 state_after-append : (passed more : List (List ℕ)) (state : State) → state_after (passed ++ more) state ≡ state_after more (state_after passed state)
 state_after-append [] more state = refl
 state_after-append (line ∷ passed) more state = state_after-append passed more (turn line state).state
 
--- The first lines of the input were answered, and the others are still to be, from this state on. What had been gathered
--- before and the answers went out, but for what is gathered.
+-- The lines `passed` were run, and `more` are still to be run, from this state. What was buffered before and
+-- their output were written, except what is buffered now.
 pub record Answered (store : Contents) (input : List ℕ) (old : Option (List ℕ)) (before : List ℕ) (passed more : List (List ℕ)) (state : State) (new : Option (List ℕ)) (gathered : List ℕ) : Type 0 where
   pub split : lines input ≡ passed ++ more
   pub state_is : state ≡ state_after passed (start store)
   pub sends : Sends old new (before ++ outputs passed (start store)) gathered
 
--- the output is that of some first lines, and of the others after them
+-- the output is that of some first lines, followed by that of the others
 split_output : (store : Contents) (input : List ℕ) (passed more : List (List ℕ)) → lines input ≡ passed ++ more
     → output_of store input ≡ outputs passed (start store) ++ outputs more (state_after passed (start store))
 split_output store input passed more split =
     ap (λ ls. outputs ls (start store)) split ∙ outputs-append passed more (start store)
 
 module _ {store : Contents} {input : List ℕ} {old : Option (List ℕ)} {before : List ℕ} (passed : List (List ℕ)) where
-  -- the output is the answers so far and those that are to come
+  -- the output is that of the lines so far, followed by that of the remaining lines
   all_output : (more : List (List ℕ)) (state : State) (new : Option (List ℕ)) (g : List ℕ) (a : Answered store input old before passed more state new g)
       → output_of store input ≡ outputs passed (start store) ++ outputs more state
   all_output more state new g a =
       split_output store input passed more a.split ∙ ap (λ s. outputs passed (start store) ++ outputs more s) (sym a.state_is)
 
-  -- the next line is answered
+  -- the next line was run
   pub next_answered : (line : List ℕ) (more : List (List ℕ)) (state : State) (new then : Option (List ℕ)) (g h : List ℕ)
       → Answered store input old before passed (line ∷ more) state new g → Sends new then (g ++ (turn line state).text) h
       → Answered store input old before (passed ++ line ∷ []) more (turn line state).state then h
@@ -65,7 +65,7 @@ module _ {store : Contents} {input : List ℕ} {old : Option (List ℕ)} {before
             (put_then old new then before done (turn line state).text g h a.sends sends);
       }
 
-  -- a beginning of what is gathered goes out: it is one of the output
+  -- if a prefix of the buffered bytes is written, a prefix of the output was written
   pub part_sent : (more : List (List ℕ)) (state : State) (new then : Option (List ℕ)) (g : List ℕ)
       → Answered store input old before passed more state new g → AppendsBeginning new then g → AppendsBeginning old then (before ++ output_of store input)
   part_sent more state new then g a part =
@@ -73,7 +73,7 @@ module _ {store : Contents} {input : List ℕ} {old : Option (List ℕ)} {before
       subst (λ (text : List ℕ). AppendsBeginning old then (before ++ text)) (sym (all_output more state new g a))
       (part_longer old then before done (outputs more state) (part_of_rest old new then (before ++ done) g a.sends part))
 
-  -- so is a beginning of the next answer
+  -- if a prefix of the output of the next line is written, a prefix of the output was written
   pub next_part : (line : List ℕ) (more : List (List ℕ)) (state : State) (new then : Option (List ℕ)) (g : List ℕ)
       → Answered store input old before passed (line ∷ more) state new g → AppendsBeginning new then (g ++ (turn line state).text)
       → AppendsBeginning old then (before ++ output_of store input)
@@ -85,14 +85,14 @@ module _ {store : Contents} {input : List ℕ} {old : Option (List ℕ)} {before
       (part_longer old then before (done ++ (turn line state).text) others
       (part_then old new then before done (turn line state).text g a.sends part))
 
-  -- all lines are answered
+  -- all lines were run
   pub all_sent : (state : State) (new : Option (List ℕ)) (g : List ℕ)
       → Answered store input old before passed [] state new g → Sends old new (before ++ output_of store input) g
   all_sent state new g a =
       subst (λ (text : List ℕ). Sends old new (before ++ text) g)
       (sym (all_output [] state new g a ∙ append-nil (outputs passed (start store)))) a.sends
 
-  -- what was gathered goes out
+  -- the buffered bytes are written
   pub gathered_sent : (more : List (List ℕ)) (state : State) (new then : Option (List ℕ)) (g h : List ℕ)
       → Answered store input old before passed more state new g → Appends new then g → h ≡ [] → Answered store input old before passed more state then h
   gathered_sent more state new then g h a whole empty = record {
@@ -105,12 +105,13 @@ module _ {store : Contents} {input : List ℕ} {old : Option (List ℕ)} {before
     };
   }
 
--- a text of which nothing stays gathered went out
+-- a text of which nothing is buffered was written
 pub sent_all : (a b : Option (List ℕ)) (text g : List ℕ) → Sends a b text g → g ≡ [] → Appends a b text
 sent_all a b text g sends empty =
     subst (Appends a b) (sym (sends.split ∙ ap (λ rest. sends.sent ++ rest) empty ∙ append-nil sends.sent)) sends.appended
 
--- of the answers to some first lines all but the rest went out, and then a beginning of the rest: it is one of the output
+-- the output of some first lines was written except the rest, then a prefix of the rest: a prefix of the output
+-- was written
 pub first_part : (store : Contents) (input : List ℕ) (Holds : List (List ℕ) → List (List ℕ) → Type 0) (a b c : Option (List ℕ)) (g : List ℕ)
     → AnswersFirst store input Holds (λ text. Sends a b text g) → AppendsBeginning b c g → AppendsBeginning a c (output_of store input)
 first_part store input Holds a b c g (first, more, split, holds, sends) part =
@@ -118,7 +119,7 @@ first_part store input Holds a b c g (first, more, split, holds, sends) part =
     (part_longer a c [] (outputs first (start store)) (outputs more (state_after first (start store)))
     (part_of_rest a b c (outputs first (start store)) g sends part))
 
--- and where all of the rest went out, the answers to some first lines did
+-- if all of the rest was written, so was the output of some first lines
 pub first_appended : (store : Contents) (input : List ℕ) (Holds : List (List ℕ) → List (List ℕ) → Type 0) (a b c : Option (List ℕ)) (g : List ℕ)
     → AnswersFirst store input Holds (λ text. Sends a b text g) → Appends b c g → AnswersFirst store input Holds (Appends a c)
 first_appended store input Holds a b c g (first, more, split, holds, sends) whole =

@@ -1,4 +1,4 @@
--- What a failed write of a conversion says.
+-- What a failed write of a conversion means.
 use Rattle.std.proofs.Common.{◌≡◌, ℕ, false, List, map, Option, Err, inl, inr, refl}
 use Rattle.std.specs.List.{list_any}
 use Rattle.cookie_forms.specs.WrittenTrees.{is_early}
@@ -12,11 +12,11 @@ use Rattle.cookie_store.specs.RonLists.{SaysRonList}
 use Rattle.cookie_store.specs.Rows.{Kept}
 use Rattle.cookie_script.specs.Conversion.{BeginsConversion}
 
--- the list of rows that have saved forms is not refused, so memory is wanting where it is not said
+-- rows with saved forms have a list, so an error is out of memory
 unsaid : (rows : List Row) (error : Error) → HaveSavedForms rows → SaysRonList rows (Err error) → error ≡ Store.Memory
 unsaid rows error saved says = let none : list_any is_early (map saved_of rows) ≡ false = saved in rw none at says
 
--- a write that failed was one of the list, of which a beginning was written
+-- if a write failed, a prefix of the list was written
 pub not_written : (known old new : Option (List ℕ)) (kept : Kept) (failures failures' : ℕ) → Migrates known kept → HaveSavedForms kept.rows
     → FailsToSaveList SaysRonList Store.Io kept.rows old new failures failures' → BeginsConversion known old new
 not_written known old new kept failures failures' migrates saved (inl (says, none, count)) =

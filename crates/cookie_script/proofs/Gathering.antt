@@ -1,4 +1,4 @@
--- How texts are gathered one after the other.
+-- How strings are buffered, one after the other.
 use Rattle.std.proofs.Common.{◌≡◌, ◌≤◌, ◌<◌, ℕ, ◌+◌, List, [], ◌∷◌, ◌++◌, Bor, Option, Result, Ok, Err, ap, append_assoc, append-nil, arith, codes, drop, flat_map, get_or, length, length-append, map, refl, suc, sym, take, ◌∙◌}
 use Rattle.std.proofs.Math.Seq.{take-suc}
 use Rattle.std.proofs.lemmas.Bool.{false≢true}
@@ -12,7 +12,7 @@ use Rattle.cookie_store.specs.Header.{later_pair, pair_text}
 use Rattle.cookie_script.specs.Answering.{Gathers}
 use Rattle.cookie_script.specs.Script.{header_text, line_text, row_line, rows_text}
 
--- nothing was gathered
+-- nothing was buffered
 pub gathers_nothing : {E : Type 0} (a : Option (List ℕ)) (g : List ℕ) (n : ℕ) → Gathers {T = Unit {0}} {E = E} (Ok tt) a a g g n n []
 gathers_nothing a g n = record {
   whole = nothing_put a g;
@@ -21,7 +21,7 @@ gathers_nothing a g n = record {
   count = refl;
 }
 
--- where both texts fit, the first one does, and the second behind it
+-- if both strings fit, the first one fits, and the second one after it
 both_fit : (most : ℕ) (g t u : List ℕ) → length g + length (t ++ u) ≤ most
     → (length g + length t ≤ most) × ((h : List ℕ) → h ≡ g ++ t → length h + length u ≤ most)
 both_fit most g t u fits = (
@@ -29,7 +29,7 @@ both_fit most g t u fits = (
   λ h is. omega (arith, fits, length-append t u, length-append g t, ap length is),
 )
 
--- one text was gathered, and then another was to be
+-- one string was buffered, and then another
 pub gathers_then : {T U E : Type 0} (r : Result U E) (ok : T) {a b c : Option (List ℕ)} {g h k : List ℕ} {m n o : ℕ} (t u : List ℕ)
     → Gathers {T = T} {E = E} (Ok ok) a b g h m n t → Gathers r b c h k n o u → Gathers r a c g k m o (t ++ u)
 gathers_then (Ok done) ok {a} {b} {c} {g} {h} {k} t u first next = record {
@@ -50,7 +50,7 @@ gathers_then (Err fault) ok {a} {b} {c} {g} {h} {k} t u first next = record {
   count = next.count ∙ ap (λ n. n + 1) first.count;
 }
 
--- a write failed, and a text more was to follow
+-- a write failed, before one more string
 pub gathers_stopped : {T U E : Type 0} (r : Result U E) (fault : E) {a b : Option (List ℕ)} {g h : List ℕ} {m n : ℕ} (t u : List ℕ)
     → IsErr r → Gathers {T = T} {E = E} (Err fault) a b g h m n t → Gathers r a b g h m n (t ++ u)
 gathers_stopped (Ok done) fault t u is first = absurd (false≢true is)
@@ -63,7 +63,7 @@ gathers_stopped (Err told) fault {a} {b} {g} t u is first =
     }
 
 module _ {A : Type 0} (f : A → List ℕ) (items : List A) where
-  -- the texts of the first items and of the next one
+  -- the strings of the first items and of the next one
   pub next_text : (i : ℕ) (d item : A) → i < length items → item ≡ get_or items i d
       → flat_map f (take (i + 1) items) ≡ flat_map f (take i items) ++ f item
   next_text i d item small is =
@@ -72,7 +72,7 @@ module _ {A : Type 0} (f : A → List ℕ) (items : List A) where
       ∙ flat_map-append f (take i items) (get_or items i d ∷ [])
       ∙ ap (λ last. flat_map f (take i items) ++ last) (append-nil (f (get_or items i d)) ∙ ap f (sym is))
 
-  -- the texts of the first items and of the others, and a text behind
+  -- the strings of the first items, those of the others, and a string after them
   pub parts_text : (i : ℕ) (behind : List ℕ) → flat_map f (take i items) ++ (flat_map f (drop i items) ++ behind) ≡ flat_map f items ++ behind
   parts_text i behind =
       sym (append_assoc (flat_map f (take i items)) (flat_map f (drop i items)) behind)
@@ -89,18 +89,18 @@ header_parts row cookies first others are =
     ∙ ap (λ text. before ++ line_text text) (flat_map-map later_pair row others)
 
 module _ (seen : List (Bor Row)) (row : Bor Row) where
-  -- the rows that came, and one more
+  -- the rows so far, and one more
   rows_more : map (λ c. c.now) (seen ++ row ∷ []) ≡ map (λ c. c.now) seen ++ row.now ∷ []
   rows_more = map-append (λ c. c.now) seen (row ∷ [])
 
-  -- the lines of the rows that came, and of one more
+  -- the lines of the rows so far, and of one more
   pub next_row : rows_text (map (λ c. c.now) (seen ++ row ∷ [])) ≡ rows_text (map (λ c. c.now) seen) ++ row_line row.now
   next_row =
       ap rows_text rows_more ∙ flat_map-append row_line (map (λ c. c.now) seen) (row.now ∷ [])
       ∙ ap (λ last. rows_text (map (λ c. c.now) seen) ++ last) (append-nil (row_line row.now))
 
   module _ (left after rows : List Row) (steps : left ≡ row.now ∷ after) (rest : map (λ c. c.now) seen ++ left ≡ rows) where
-    -- the rows that came, one more, and those that are left then
+    -- the rows so far, one more, and the remaining ones
     pub rows_passed : map (λ c. c.now) (seen ++ row ∷ []) ++ after ≡ rows
     rows_passed =
         ap (λ xs. xs ++ after) rows_more ∙ append_assoc (map (λ c. c.now) seen) (row.now ∷ []) after

@@ -1,4 +1,4 @@
--- A script in its course: what was answered, what is at hand, and what is left of the input.
+-- The progress of a script: the lines that were run, the bytes read ahead, and the rest of the input.
 use Rattle.std.proofs.Common.{◌≡◌, ◌≢◌, ℕ, ◌+◌, cond, eqb, ne_eqb, subst, List, [], ◌∷◌, ◌++◌, Option, Some, None, IfSome, length, take, drop, position, refl, sym, ap, ◌∙◌, append_assoc, append-nil}
 use Rattle.std.specs.Io.KnownBytes.{Appends, IsAtEnd, Keeps, prepend_known}
 use Rattle.std.specs.Str.Lines.{lines, lines_of_parts, strip_carriage_return}
@@ -11,7 +11,7 @@ use Rattle.cookie_script.specs.Script.{State, start, turn, output_of}
 use Rattle.cookie_script.proofs.Answered.{Answered, gathered_sent, next_answered, part_sent}
 use Rattle.cookie_script.proofs.WholeLines.{WholeLines, line_cut, no_lines, one_more}
 
--- whole lines were passed and answered, and the bytes at hand and what the source has left are still to be
+-- whole lines were consumed and run; the bytes read ahead and the rest of the source are still to be run
 pub record Progress (store : Contents) (input : List ℕ) (old : Option (List ℕ)) (before at_hand : List ℕ) (rest : Option (List ℕ)) (state : State) (new : Option (List ℕ)) (gathered : List ℕ) : Type 0 where
   pub gone : List ℕ
   pub left : List ℕ
@@ -21,7 +21,7 @@ pub record Progress (store : Contents) (input : List ℕ) (old : Option (List �
   pub whole : WholeLines gone passed
   pub answered : Answered store input old before passed (lines left) state new gathered
 
--- at first all is left
+-- at first all of the input is left
 pub begun : (store : Contents) (rest : Option (List ℕ)) (a : Option (List ℕ)) (before : List ℕ)
     → IfSome rest (λ input. Progress store input a before [] rest (start store) a before)
 begun store None a before = tt
@@ -35,7 +35,7 @@ begun store (Some input) a before = record {
   answered = record { split = refl; state_is = refl; sends = nothing_put a before };
 }
 
--- the lines that are left, where a line was found at hand
+-- the lines that are left, if a line was found in the bytes read ahead
 left_lines : (at_hand left : List ℕ) (rest : Option (List ℕ)) (end : ℕ) → prepend_known at_hand rest ≡ Some left → EndsLine at_hand end
     → (more : List ℕ) × (rest ≡ Some more) × (lines left ≡ strip_carriage_return (take end at_hand) ∷ lines (drop (end + 1) at_hand ++ more))
 left_lines at_hand left None end known ends = cc
@@ -48,7 +48,7 @@ kept_known None b left known kept = cc
 kept_known (Some x) None left known kept = absurd kept
 kept_known (Some x) (Some y) left known kept = ap Some kept ∙ known
 
--- at the end of the source, the bytes at hand are what is left
+-- at the end of the source, the bytes read ahead are all that is left
 all_at_hand : (at_hand left : List ℕ) (rest : Option (List ℕ)) → prepend_known at_hand rest ≡ Some left → IsAtEnd rest → left ≡ at_hand
 all_at_hand at_hand left None known end = cc
 all_at_hand at_hand left (Some more) known end =
@@ -61,7 +61,7 @@ nothing_last n x e = rw e
 something_last : (n : ℕ) (x : List ℕ) → n ≢ 0 → cond (eqb n 0) [] (x ∷ []) ≡ x ∷ []
 something_last n x h = rw (ne_eqb n 0 h)
 
--- the input up to the end of the line that was found, and what comes behind it
+-- the input up to the end of the line that was found, and what follows it
 cut_behind_line : (input gone at_hand left more : List ℕ) (rest : Option (List ℕ)) (end : ℕ) → input ≡ gone ++ left
     → prepend_known at_hand rest ≡ Some left → rest ≡ Some more → position (λ b. eqb b 10) at_hand ≡ Some end
     → input ≡ (gone ++ (take end at_hand ++ 10 ∷ [])) ++ (drop (end + 1) at_hand ++ more)
@@ -73,7 +73,7 @@ cut_behind_line input gone at_hand left more rest end cut known is found =
     cut ∙ ap (λ xs. gone ++ xs) (sym joined ∙ ap (λ xs. xs ++ more) (line_cut at_hand end found) ∙ append_assoc piece behind more)
     ∙ sym (append_assoc gone piece (behind ++ more))
 
--- what was read: the bytes that were passed, and those at hand
+-- what was read: the bytes that were consumed, and those read ahead
 cut_unread : (input gone at_hand left : List ℕ) (passed : List (List ℕ)) (rest : Option (List ℕ)) → input ≡ gone ++ left
     → prepend_known at_hand rest ≡ Some left → WholeLines gone passed → position (λ b. eqb b 10) at_hand ≡ None → AreRead input rest passed
 cut_unread input gone at_hand left passed None cut known whole none = cc
@@ -87,7 +87,7 @@ cut_unread input gone at_hand left passed (Some more) cut known whole none =
     )
 
 module _ {store : Contents} {input : List ℕ} {old : Option (List ℕ)} {before : List ℕ} {rest : Option (List ℕ)} {state : State} {new : Option (List ℕ)} {g : List ℕ} where
-  -- the line that was found at hand comes next
+  -- the line that was found in the bytes read ahead comes next
   pub found : (at_hand line : List ℕ) (end : ℕ) (p : Progress store input old before at_hand rest state new g) → EndsLine at_hand end
       → line ≡ strip_carriage_return (take end at_hand)
       → (more : List ℕ) × (rest ≡ Some more) × Answered store input old before p.passed (line ∷ lines (drop (end + 1) at_hand ++ more)) state new g
@@ -98,7 +98,7 @@ module _ {store : Contents} {input : List ℕ} {old : Option (List ℕ)} {before
         subst (λ next. Answered store input old before p.passed next state new g) (ls ∙ ap (λ l. l ∷ lines (drop (end + 1) at_hand ++ more)) (sym is)) p.answered,
       )
 
-  -- it is answered
+  -- it was run
   pub line_answered : (at_hand line : List ℕ) (end : ℕ) (then : Option (List ℕ)) (h : List ℕ) → Progress store input old before at_hand rest state new g
       → position (λ b. eqb b 10) at_hand ≡ Some end → EndsLine at_hand end → line ≡ strip_carriage_return (take end at_hand)
       → Sends new then (g ++ (turn line state).text) h → Progress store input old before (drop (end + 1) at_hand) rest (turn line state).state then h
@@ -116,7 +116,7 @@ module _ {store : Contents} {input : List ℕ} {old : Option (List ℕ)} {before
         answered = next_answered p.passed line (lines (drop (end + 1) at_hand ++ more)) state new then g h next sends;
       }
 
-  -- what was gathered goes out
+  -- the buffered bytes are written
   pub flushed : (at_hand : List ℕ) (then : Option (List ℕ)) (h : List ℕ) → Progress store input old before at_hand rest state new g → Appends new then g
       → h ≡ [] → Progress store input old before at_hand rest state then h
   flushed at_hand then h p out empty = record {
@@ -129,7 +129,7 @@ module _ {store : Contents} {input : List ℕ} {old : Option (List ℕ)} {before
     answered = gathered_sent p.passed (lines p.left) state new then g h p.answered out empty;
   }
 
-  -- more is read ahead
+  -- more bytes are read ahead
   pub read_ahead : (at_hand more : List ℕ) (less : Option (List ℕ)) → Progress store input old before at_hand rest state new g
       → Keeps (prepend_known at_hand rest) (prepend_known more less) → Progress store input old before more less state new g
   read_ahead at_hand more less p kept = record {
@@ -142,35 +142,35 @@ module _ {store : Contents} {input : List ℕ} {old : Option (List ℕ)} {before
     answered = p.answered;
   }
 
-  -- at the end of the source the bytes at hand are the last line, unless there are none
+  -- at the end of the source the bytes read ahead are the last line, unless there are none
   last_lines : (at_hand : List ℕ) (p : Progress store input old before at_hand rest state new g) → IsAtEnd rest → IsLastLine at_hand
       → Answered store input old before p.passed (lines_of_parts (at_hand ∷ [])) state new g
   last_lines at_hand p end one =
       subst (λ next. Answered store input old before p.passed next state new g) (ap lines (all_at_hand at_hand p.left rest p.known end) ∙ one) p.answered
 
-  -- nothing is left to answer
+  -- no line is left to run
   pub no_line_left : (at_hand : List ℕ) (p : Progress store input old before at_hand rest state new g) → IsAtEnd rest → IsLastLine at_hand
       → length at_hand ≡ 0 → Answered store input old before p.passed [] state new g
   no_line_left at_hand p end one empty =
       subst (λ next. Answered store input old before p.passed next state new g) (nothing_last (length at_hand) at_hand empty) (last_lines at_hand p end one)
 
-  -- one line is left to answer
+  -- one line is left to run
   pub one_line_left : (at_hand line : List ℕ) (p : Progress store input old before at_hand rest state new g) → IsAtEnd rest → IsLastLine at_hand
       → length at_hand ≢ 0 → line ≡ at_hand → Answered store input old before p.passed (line ∷ []) state new g
   one_line_left at_hand line p end one some is =
       subst (λ next. Answered store input old before p.passed next state new g)
       (something_last (length at_hand) at_hand some ∙ ap (λ l. l ∷ []) (sym is)) (last_lines at_hand p end one)
 
-  -- a beginning of what was gathered is one of the output
+  -- if a prefix of the buffered bytes is written, a prefix of the output was written
   pub flush_part : (at_hand : List ℕ) (then : Option (List ℕ)) → Progress store input old before at_hand rest state new g → AppendsBeginning new then g
       → AppendsBeginning old then (before ++ output_of store input)
   flush_part at_hand then p part = part_sent p.passed (lines p.left) state new then g p.answered part
 
-  -- so is what went out so far
+  -- what was written so far is a prefix of the output
   pub part_so_far : (at_hand : List ℕ) → Progress store input old before at_hand rest state new g → AppendsBeginning old new (before ++ output_of store input)
   part_so_far at_hand p = part_sent p.passed (lines p.left) state new new g p.answered (nothing_part new g)
 
-  -- where no line feed is at hand, the lines that were answered are those that were read
+  -- if no line feed was read ahead, the lines that were run are those that were read
   pub are_read : (at_hand : List ℕ) (p : Progress store input old before at_hand rest state new g) → position (λ b. eqb b 10) at_hand ≡ None
       → AreRead input rest p.passed
   are_read at_hand p none = cut_unread input p.gone at_hand p.left p.passed rest p.cut p.known p.whole none

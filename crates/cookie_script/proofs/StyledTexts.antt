@@ -1,4 +1,4 @@
--- Texts that are written in two parts to a formatter with options.
+-- Strings that are written in two parts to a formatter with options.
 use Rattle.std.proofs.Common.{◌≡◌, ℕ, List, ◌++◌}
 use Rattle.std.specs.Fmt.{HasWrittenStyled}
 use Rattle.std.specs.declared.fmt.Formatter.{Formatter}

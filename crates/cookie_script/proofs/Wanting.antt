@@ -1,34 +1,34 @@
--- A command that may want memory is that of a line that may.
+-- If a command may allocate, so may its line.
 use Rattle.std.proofs.Common.{◌≡◌, ℕ, Bool, true, false, cond, ◌&&◌, List, Option, Some, None, option_and_then, option_map, is_some, refl, bytes_eq, codes}
 use Rattle.std.specs.Option.{option_map_or}
 use Rattle.std.specs.Str.{is_utf8}
 use Rattle.cookie_forms.specs.MomentText.{moment_at}
 use Rattle.cookie_script.specs.Commands.{Command, Now, Get, ListRows, Clear, command_may_want, command_of, first_word, lone_command, may_want, one_word, remove_command, set_command, text_command, url_at, verb_command, verb_may_want}
 
--- a command that is made without a URL wants none
+-- a command without a URL allocates nothing
 without_url : {X : Type 0} (f : X → Command) → ((x : X) → command_may_want (f x) ≡ false) → (o : Option X) (command : Command)
     → option_map f o ≡ Some command → command_may_want command ≡ false
 without_url f none None command e = cc
 without_url f none (Some x) command e = let same : f x ≡ command = cc in rw (← same) (none x)
 
--- so does `now`
+-- `now` allocates nothing
 now_wants_none : (text : List ℕ) (command : Command) → option_map Now (moment_at text) ≡ Some command
     → command_may_want command ≡ false
 now_wants_none text command e = without_url Now (λ moment. refl) (moment_at text) command e
 
--- and `remove`
+-- `remove` allocates nothing
 remove_wants_none : (words : Option (List ℕ × List ℕ)) (command : Command) → option_and_then remove_command words ≡ Some command
     → command_may_want command ≡ false
 remove_wants_none None command e = cc
 remove_wants_none (Some words) command e = without_url _ (λ others. refl) (first_word words.1) command e
 
--- after `set` stand a URL and a text
+-- `set` is followed by two words
 set_words : (words : Option (List ℕ × List ℕ)) (command : Command) → option_and_then set_command words ≡ Some command
     → is_some words ≡ true
 set_words None command e = cc
 set_words (Some words) command e = refl
 
--- after `get` stands a URL
+-- `get` is followed by one word
 get_word : (word : Option (List ℕ)) (command : Command) → option_map Get (option_and_then url_at word) ≡ Some command
     → is_some word ≡ true
 get_word None command e = cc
@@ -46,7 +46,7 @@ by_verb false false true remove a b c d s g command ha hb hc hd e want = hc e
 by_verb false false false true a b c d s g command ha hb hc hd e want = let none = hd e in cc
 by_verb false false false false a b c d s g command ha hb hc hd e want = cc
 
--- the command of a verb that may want memory
+-- the command of a verb that may allocate
 verb_wants : (words : List ℕ × List ℕ) (command : Command) → verb_command words ≡ Some command → command_may_want command ≡ true
     → verb_may_want words ≡ true
 unfolding verb_command verb_may_want
@@ -66,12 +66,12 @@ by_word true clear command e = let same : ListRows ≡ command = cc in rw (← s
 by_word false true command e = let same : Clear ≡ command = cc in rw (← same) refl
 by_word false false command e = cc
 
--- a command of one word wants none
+-- a command of one word allocates nothing
 lone_wants_none : (word : List ℕ) (command : Command) → lone_command word ≡ Some command → command_may_want command ≡ false
 unfolding lone_command
 lone_wants_none word command e = by_word (bytes_eq word (codes "list")) (bytes_eq word (codes "clear")) command e
 
--- the command of a text that may want memory
+-- the command of a string that may allocate
 by_words : (utf8 : Bool) (line : List ℕ) (words : Option (List ℕ × List ℕ)) (command : Command)
     → cond utf8 (text_command line words) None ≡ Some command → command_may_want command ≡ true
     → (utf8 && option_map_or verb_may_want words false) ≡ true
@@ -79,7 +79,7 @@ by_words false line words command e want = cc
 by_words true line None command e want = let none = lone_wants_none line command e in cc
 by_words true line (Some words) command e want = verb_wants words command e want
 
--- where the command of a line may want memory, the line may
+-- if the command of a line may allocate, so may the line
 pub line_wants : (line : List ℕ) (command : Command) → command_of line ≡ Some command → command_may_want command ≡ true
     → may_want line ≡ true
 unfolding command_of may_want

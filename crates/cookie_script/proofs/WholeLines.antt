@@ -1,4 +1,4 @@
--- The bytes that were passed are whole lines.
+-- The bytes that were consumed are whole lines.
 use Rattle.std.proofs.Common.{◌≡◌, ◌∙◌, ℕ, ◌+◌, ◌-◌, ◌<◌, ◌≤◌, false, eqb, not, List, [], ◌∷◌, ◌++◌, None, Some, length, get_or, take, drop, position, refl, sym, ap, cond, ltb, arith, append_assoc, length-append, take-append-drop, drop-cons, add-one}
 use Rattle.std.specs.List.{All, slice_split, suffix_len}
 use Rattle.std.specs.Str.Lines.{lines, lines_of_parts, strip_carriage_return}
@@ -12,7 +12,7 @@ use Rattle.std.proofs.lemmas.List.Splits.{length-slice_split, slice_split_at}
 use Rattle.std.proofs.lemmas.List.Sums.{fails_before_first, suffix_len_is}
 use Rattle.cookie_script.specs.Progress.{whole_lines}
 
--- these bytes are these lines, each with its line feed, whatever stands behind them
+-- these bytes are these lines, each with its line feed, whatever follows them
 pub record WholeLines (bytes : List ℕ) (passed : List (List ℕ)) : Type 0 where
   pub cut : (part : List ℕ) → position (λ b. eqb b 10) part ≡ None → whole_lines (bytes ++ part) ≡ bytes
   pub are : (more : List ℕ) → lines (bytes ++ more) ≡ passed ++ lines more
@@ -20,7 +20,7 @@ pub record WholeLines (bytes : List ℕ) (passed : List (List ℕ)) : Type 0 whe
 length-none : (n len : ℕ) → cond (ltb n len) (Some n) None ≡ None → len ≤ n
 length-none n len none = grind (arith, nat_tests)
 
--- what stands behind the last line feed is cut off
+-- what follows the last line feed is cut off
 cut_behind : (front part : List ℕ) → (0 < length front → get_or front (length front - 1) 0 ≡ 10)
     → position (λ b. eqb b 10) part ≡ None → whole_lines (front ++ part) ≡ front
 cut_behind front part ends none =
@@ -44,7 +44,7 @@ lines_of_parts-cons : (x : List ℕ) (parts : List (List ℕ)) → 0 < length pa
 lines_of_parts-cons x [] some = absurd (omega arith)
 lines_of_parts-cons x (y ∷ more) some = refl
 
--- a line with its line feed comes first, whatever stands behind it
+-- a line with its line feed comes first, whatever follows it
 line_first : (line more : List ℕ) → All (λ b. eqb b 10 ≡ false) line
     → lines ((line ++ 10 ∷ []) ++ more) ≡ strip_carriage_return line ∷ lines more
 line_first line more no_feed =
@@ -52,13 +52,13 @@ line_first line more no_feed =
     ∙ ap lines_of_parts (slice_split_at (λ b. eqb b 10) line 10 more no_feed refl)
     ∙ lines_of_parts-cons line (slice_split (λ b. eqb b 10) more) (omega (arith, length-slice_split (λ b. eqb b 10) more))
 
--- no line feed stands before the first
+-- there is no line feed before the first one
 none_before : (bytes : List ℕ) (end : ℕ) → position (λ b. eqb b 10) bytes ≡ Some end → All (λ b. eqb b 10 ≡ false) (take end bytes)
 none_before bytes end found = λ k d low.
     let before : k < end = omega (arith, simp length-take at low) in
     rw (get_or-take end bytes k d before) ((position-Some (λ b. eqb b 10) bytes end d found).2 k before)
 
--- one line more is passed
+-- one more line is consumed
 pub one_more : (gone bytes : List ℕ) (passed : List (List ℕ)) (end : ℕ) → WholeLines gone passed → position (λ b. eqb b 10) bytes ≡ Some end
     → WholeLines (gone ++ (take end bytes ++ 10 ∷ [])) (passed ++ strip_carriage_return (take end bytes) ∷ [])
 one_more gone bytes passed end whole found =
@@ -78,7 +78,7 @@ one_more gone bytes passed end whole found =
           ∙ sym (append_assoc passed (strip_carriage_return line ∷ []) (lines more));
     }
 
--- the line that was found, its line feed, and what stands behind it
+-- the line that was found, its line feed, and what follows it
 pub line_cut : (bytes : List ℕ) (end : ℕ) → position (λ b. eqb b 10) bytes ≡ Some end → bytes ≡ (take end bytes ++ 10 ∷ []) ++ drop (end + 1) bytes
 line_cut bytes end found =
     let (inside, feed, before) = position-Some (λ b. eqb b 10) bytes end 0 found in

@@ -1,19 +1,19 @@
--- The texts of answers, and what became of a text that was to be gathered.
+-- The output of a line, and how it is buffered.
 use Rattle.std.specs.Prelude.{◌≡◌, ℕ, ◌+◌, ◌≤◌, List, [], ◌++◌, Option, Result, IsOk, OnOk, length, map}
 use Rattle.cookie_device.specs.Device.{AppendsBeginning, CountsFailure, Sends}
 use Rattle.cookie_script.specs.Script.{header_text, line_text, rows_text}
 use Rattle.cookie_script.specs.declared.answer.Answer.{Answer}
 use Rattle.cookie_script.specs.declared.answer.Answer.TheVariants.{Nothing, Line, Header, Rows}
 
--- what is written
+-- the bytes of the output of a line
 abbrev pub answer_text : Answer → List ℕ
 answer_text Nothing = []
 answer_text (Line mark text) = line_text (mark.now ++ text.now)
 answer_text (Header cookies) = line_text (header_text (map (λ c. c.now) cookies.items))
 answer_text (Rows rows) = rows_text rows
 
--- Of what was gathered and the text all but what is gathered now went out, which is nothing where both fit, or a write failed and a
--- beginning went out.
+-- The buffered bytes and the text were written, except what is buffered now; if both fit the buffer, nothing was
+-- written. If a write failed, a prefix of them was written.
 pub record Gathers {T E : Type 0} (outcome : Result T E) (old new : Option (List ℕ)) (before after : List ℕ) (failures then : ℕ) (text : List ℕ) : Type 0 where
   pub whole : OnOk outcome (Sends old new (before ++ text) after)
   pub part : AppendsBeginning old new (before ++ text)

@@ -1,4 +1,4 @@
--- What the words of the command line ask for.
+-- The command-line arguments.
 use Rattle.std.specs.Prelude.{ℕ, ◌^◌, Bool, true, false, ◌&&◌, List, [], ◌∷◌, bytes_eq, codes, nat_le, nat_lt, is_none, Option, Some, None, option_and_then, option_map, if◌then◌else◌}
 use Rattle.std.specs.Char.{is_ascii_digit}
 use Rattle.std.specs.List.{list_all}
@@ -6,18 +6,17 @@ use Rattle.std.specs.Option.{option_copied}
 use Rattle.std.specs.Str.Parse.{digits_value}
 use Rattle.cookie_script.specs.declared.options.Options.{Options}
 
--- the file of a public suffix list, and how many cookies of one domain may stand, as far as they are said; and whether lines are to be
--- converted
+-- the file of a public suffix list, the most cookies of one domain, and whether to convert lines
 pub record OptionsValue : Type 0 where
   pub suffixes : Option (List ℕ)
   pub limit : Option ℕ
   pub convert : Bool
 
--- nothing is said
+-- no option is given
 abbrev pub no_options : OptionsValue
 no_options = record { suffixes = None; limit = None; convert = false }
 
--- decimal digits of a number from 1 to the greatest of 64 bits
+-- decimal digits of a number from 1 to 2^64 - 1
 abbrev pub limit_of : List ℕ → Option ℕ
 limit_of word =
     if list_all is_ascii_digit word && nat_le 1 (digits_value 10 word) && nat_lt (digits_value 10 word) (2 ^ 64)
@@ -27,7 +26,7 @@ limit_of word =
 abbrev pub option_alone : List ℕ → OptionsValue → Option OptionsValue
 option_alone word options = if bytes_eq word (codes "--convert") then Some (record options { convert = true }) else None
 
--- an option and its word, if it was not said before
+-- an option with a value, unless it is set already
 abbrev pub option_said : List ℕ → List ℕ → OptionsValue → Option OptionsValue
 option_said option word options =
     if bytes_eq option (codes "--suffixes") && is_none options.suffixes
@@ -36,7 +35,7 @@ option_said option word options =
     then option_map (λ limit. record options { limit = Some limit }) (limit_of word)
     else None)
 
--- no words, `--convert` alone, `--suffixes FILE`, `--limit N`, and these two in either order; None for all others
+-- no arguments, `--convert` alone, or `--suffixes FILE` and `--limit N` in either order, one or both
 abbrev pub options_of : List (List ℕ) → Option OptionsValue
 options_of [] = Some no_options
 options_of (word ∷ []) = option_alone word no_options
@@ -45,6 +44,6 @@ options_of (option ∷ word ∷ other ∷ second ∷ []) =
     option_and_then (option_said other second) (option_said option word no_options)
 options_of others = None
 
--- what contracts see of the options
+-- the view of the options in contracts
 abbrev pub options_value : Options → OptionsValue
 options_value options = record { suffixes = option_copied options.suffixes; limit = options.limit; convert = options.convert }

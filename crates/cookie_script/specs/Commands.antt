@@ -1,4 +1,4 @@
--- What a line of a script asks for.
+-- The commands of a script.
 use Rattle.std.specs.Prelude.{ℕ, ◌==◌, Bool, true, false, ◌&&◌, List, bytes_eq, codes, Option, Some, None, is_none, is_some, option_map, option_and_then, if◌then◌else◌}
 use Rattle.std.specs.List.{before_first, after_first, list_any}
 use Rattle.std.specs.Option.{option_map_or}
@@ -12,7 +12,7 @@ use Rattle.cookie_raw.specs.Reading.{reading}
 use Rattle.cookie_forms.specs.MomentText.{moment_at}
 use Rattle.cookie_store.specs.Rows.{Key, key_at}
 
--- `now MOMENT`, `set URL TEXT`, `get URL`, `list`, `remove DOMAIN PATH NAME` and `clear`
+-- `now TIME`, `set URL VALUE`, `get URL`, `list`, `remove DOMAIN PATH NAME` and `clear`
 pub data Command : Type 0 where
   Now : Moment → Command
   Set : Parts → List ℕ → Command
@@ -21,29 +21,29 @@ pub data Command : Type 0 where
   Remove : Key → Command
   Clear : Command
 
--- the byte is a space
+-- whether the byte is a space
 abbrev pub is_space : ℕ → Bool
 is_space b = b == 32
 
--- the first word of a text, and what follows the space after it, if there is a space
+-- the first word of a string, and what follows the space after it, if there is a space
 abbrev pub first_word : List ℕ → Option (List ℕ × List ℕ)
 first_word text =
     if list_any is_space text then Some (before_first is_space text, after_first is_space text)
     else None
 
--- the URL that a text writes
+-- the URL that a string parses to
 unfoldable pub url_at : List ℕ → Option Parts
 url_at text = result_ok (parse_url None text)
 
--- the text, where it holds no space
+-- the string, if it holds no space
 abbrev pub one_word : List ℕ → Option (List ℕ)
 one_word text = if list_any is_space text then None else Some text
 
--- the URL and the text of `set`, which is all after the space that follows the URL
+-- the URL and the header value of `set`, which is everything after the space that follows the URL
 abbrev pub set_command : List ℕ × List ℕ → Option Command
 set_command words = option_map (λ url. Set url words.1) (url_at words.0)
 
--- the domain, the path and the name of `remove`, which is all after the space that follows the path
+-- the domain, the path and the name of `remove`, which is everything after the space that follows the path
 abbrev pub remove_command : List ℕ × List ℕ → Option Command
 remove_command words = option_map (λ others. Remove (key_at words.0 others.0 others.1)) (first_word words.1)
 
@@ -63,27 +63,27 @@ lone_command word =
     else (if bytes_eq word (codes "clear") then Some Clear
     else None)
 
--- the command of a text, by its first word and what follows, if it has more than one
+-- the command of a string, by its first word and the rest, if it has more than one word
 abbrev pub text_command : List ℕ → Option (List ℕ × List ℕ) → Option Command
 text_command text None = lone_command text
 text_command text (Some words) = verb_command words
 
--- the command of a line, and None for a bad line
+-- the command of a line, or None for a bad line
 unfoldable pub command_of : List ℕ → Option Command
 command_of line = if is_utf8 line then text_command line (first_word line) else None
 
--- what follows the verb has a URL to read: it is a URL and a text after `set`, and one word after `get`
+-- a URL is to be parsed: `set` has a URL and a header value, and `get` has one word
 unfoldable pub verb_may_want : List ℕ × List ℕ → Bool
 verb_may_want line =
     if bytes_eq line.0 (codes "set") then is_some (first_word line.1)
     else (if bytes_eq line.0 (codes "get") then is_some (one_word line.1)
     else false)
 
--- a line may want memory where it has a URL to read, whether it can be read or not
+-- a line may allocate if a URL is to be parsed, valid or not
 unfoldable pub may_want : List ℕ → Bool
 may_want line = is_utf8 line && option_map_or verb_may_want (first_word line) false
 
--- a command may want memory, once it is read: a `set` whose text is not refused early, and `get`
+-- a parsed command may allocate: `get`, and a `set` that is not rejected early
 abbrev pub command_may_want : Command → Bool
 command_may_want (Now moment) = false
 command_may_want (Set url text) = is_none (early (reading text) url)

@@ -1,4 +1,4 @@
--- Lines of JSON that are converted into a list in RON.
+-- Lines of JSON that are converted into a RON list.
 use Rattle.std.specs.Prelude.{◌≡◌, ◌⊎◌, ℕ, List, Option, Ok, Err}
 use Rattle.std.specs.Io.KnownBytes.{IsAtEnd, Keeps}
 use Rattle.std.specs.declared.alloc.Global.{Global}
@@ -16,22 +16,22 @@ use Rattle.cookie_store.specs.declared.serde.migration.MigrateError.TheVariants 
 use Rattle.cookie_script.specs.declared.fault.ConvertFault.{ConvertFault}
 use Rattle.cookie_script.specs.declared.fault.ConvertFault.TheVariants.{Read, Write, Memory, BadLine}
 
--- the list in RON of the rows that are built from all cookies of the lines, and a line feed, were written
+-- the RON list of the rows built from all cookies of the lines was written, and a line feed
 abbrev pub Converts : Option (List ℕ) → Option (List ℕ) → Option (List ℕ) → Type 0
 Converts known old new = (kept : Kept) × Migrates known kept × WritesList SaysRonList kept.rows old new
 
--- a beginning of that was written
+-- a prefix of it was written
 abbrev pub BeginsConversion : Option (List ℕ) → Option (List ℕ) → Option (List ℕ) → Type 0
 BeginsConversion known old new =
     (kept : Kept) × Migrates known kept × (text : String Global) × SaysRonList kept.rows (Ok text)
     × AppendsBeginning old new (line_text text)
 
--- rows are built from the lines, none of which is refused, and memory was wanting for their list
+-- rows are built from the lines, all of which are valid, and memory ran out for their list
 abbrev pub WantsRoomForList : Option (List ℕ) → Type 0
 WantsRoomForList known = (kept : Kept) × Migrates known kept × SaysRonList kept.rows (Err Store.Memory)
 
--- Unless a write failed, nothing was written. No store was made of the lines, because a read failed, memory ran out or this line is the
--- first that is refused; or all was read and one was made, and memory was wanting for its list.
+-- Unless a write failed, nothing was written. A read failed, memory ran out, or this line is the first invalid
+-- one; or all lines were read and a store was built, and memory ran out for its list.
 abbrev pub FailsToConvert : (MigrateError → Type 0) → ConvertFault → Option (List ℕ) → Option (List ℕ) → Option (List ℕ) → Option (List ℕ) → Type 0
 FailsToConvert no_store_for Read known rest old new = no_store_for Migrate.Io × Keeps old new
 FailsToConvert no_store_for Write known rest old new = IsAtEnd rest × BeginsConversion known old new

@@ -1,4 +1,4 @@
--- What the faults of the program say of it.
+-- The errors of the program.
 use Rattle.std.specs.Prelude.{◌≡◌, ℕ, ◌+◌, List, ◌++◌, Result, Ok, Err, codes, decimal}
 use Rattle.std.specs.declared.io.ErrorKind.{ErrorKind}
 use Rattle.std.specs.declared.io.ErrorKind.TheVariants as Io
@@ -29,20 +29,20 @@ status_of (Convert Conversion.Write) = 1
 status_of (Convert Conversion.Memory) = 3
 status_of (Convert (Conversion.BadLine line)) = 2
 
--- why a script was not run to its end, in words
+-- the text of an error of a script
 abbrev pub run_fault_text : RunFault → List ℕ
 run_fault_text Read = codes "read failed"
 run_fault_text Write = codes "write failed"
 run_fault_text Memory = codes "out of memory"
 
--- why lines were not converted, in words
+-- the text of an error of a conversion
 abbrev pub convert_fault_text : ConvertFault → List ℕ
 convert_fault_text Conversion.Read = codes "read failed"
 convert_fault_text Conversion.Write = codes "write failed"
 convert_fault_text Conversion.Memory = codes "out of memory"
 convert_fault_text (Conversion.BadLine line) = codes "bad line " ++ decimal line
 
--- why the program failed, in words after its name
+-- the text of an error of the program
 abbrev pub fault_text : MainFault → List ℕ
 fault_text BadArguments = codes "cookie_jar: bad arguments"
 fault_text CannotReadList = codes "cookie_jar: cannot read list"
@@ -51,40 +51,40 @@ fault_text CannotDrawKey = codes "cookie_jar: cannot draw a hash key"
 fault_text (Run fault) = codes "cookie_jar: " ++ run_fault_text fault
 fault_text (Convert fault) = codes "cookie_jar: " ++ convert_fault_text fault
 
--- the fault where lines made no store
+-- the error of a conversion whose lines make no store
 abbrev pub migrate_fault : MigrateError → ConvertFault
 migrate_fault (Migrate.Line line error) = Conversion.BadLine line
 migrate_fault Migrate.Io = Conversion.Read
 migrate_fault Migrate.Memory = Conversion.Memory
 
--- the fault of a script whose source could not be read ahead
+-- the error of a script whose source cannot be read
 abbrev pub fill_fault : FillError → RunFault
 fill_fault Fill.Read = Read
 fill_fault Fill.Memory = Memory
 
--- the fault where the words of the command line could not be read: no memory, or a word that is not UTF-8
+-- the error for arguments that cannot be read: out of memory, or an argument that is not UTF-8
 abbrev pub words_fault : ErrorKind → MainFault
 words_fault Io.OutOfMemory = Run Memory
 words_fault _ = BadArguments
 
--- the fault where the file of a list could not be read
+-- the error for a file of a list that cannot be read
 abbrev pub file_fault : ErrorKind → MainFault
 file_fault Io.OutOfMemory = Run Memory
 file_fault _ = CannotReadList
 
--- the fault where a text is no list
+-- the error for a string that is not a public suffix list
 abbrev pub list_fault : ListError → MainFault
 list_fault (Psl.BadRule line) = BadRule line
 list_fault Psl.Memory = Run Memory
 
--- `Read` raised the source's count of failures by one, `Write` the sink's, and everything else left both
+-- `Read` raises the source's count of failures by one, `Write` the sink's, and any other outcome neither
 abbrev pub CountsFault : {T : Type 0} → Result T RunFault → ℕ → ℕ → ℕ → ℕ → Type 0
 CountsFault (Ok _) reads reads' writes writes' = (reads' ≡ reads) × (writes' ≡ writes)
 CountsFault (Err Read) reads reads' writes writes' = (reads' ≡ reads + 1) × (writes' ≡ writes)
 CountsFault (Err Write) reads reads' writes writes' = (reads' ≡ reads) × (writes' ≡ writes + 1)
 CountsFault (Err Memory) reads reads' writes writes' = (reads' ≡ reads) × (writes' ≡ writes)
 
--- the same of a conversion; a line that is refused leaves both too
+-- the same for a conversion; an invalid line raises neither
 abbrev pub CountsConvertFault : {T : Type 0} → Result T ConvertFault → ℕ → ℕ → ℕ → ℕ → Type 0
 CountsConvertFault (Ok _) reads reads' writes writes' = (reads' ≡ reads) × (writes' ≡ writes)
 CountsConvertFault (Err Conversion.Read) reads reads' writes writes' = (reads' ≡ reads + 1) × (writes' ≡ writes)

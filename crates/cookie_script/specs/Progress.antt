@@ -1,4 +1,4 @@
--- How far a script came.
+-- How far a script was run.
 use Rattle.std.specs.Prelude.{◌≡◌, ℕ, ◌-◌, ◌==◌, not, List, [], ◌∷◌, ◌++◌, length, take, IsTrue, Option, Some}
 use Rattle.std.specs.List.{suffix_len}
 use Rattle.std.specs.Str.Lines.{lines}
@@ -6,21 +6,21 @@ use Rattle.cookie_store.specs.Contents.{Contents}
 use Rattle.cookie_script.specs.Commands.{may_want}
 use Rattle.cookie_script.specs.Script.{outputs, start}
 
--- a text up to its last line feed, or nothing where it has none
+-- a string up to its last line feed, or nothing if it has none
 abbrev pub whole_lines : List ℕ → List ℕ
 whole_lines text = take (length text - suffix_len (λ b. not (b == 10)) text) text
 
--- all of the input but what is left was read, and these are the whole lines of what was read
+-- all of the input except `left` was read, and `first` are the whole lines of what was read
 abbrev pub AreRead : List ℕ → Option (List ℕ) → List (List ℕ) → Type 0
 AreRead input left first =
     (read unread : List ℕ) × (left ≡ Some unread) × (input ≡ read ++ unread) × (first ≡ lines (whole_lines read))
 
--- there is a next line, and it may want memory
+-- there is a next line, and it may allocate
 abbrev pub NextMayWant : List (List ℕ) → Type 0
 NextMayWant [] = ⊥
 NextMayWant (line ∷ more) = IsTrue (may_want line)
 
--- the answers to some first lines, each whole, are what went out, and the condition holds of these lines and the others
+-- what was written is the whole output of some first lines, and the condition holds of these and the other lines
 abbrev pub AnswersFirst : Contents → List ℕ → (List (List ℕ) → List (List ℕ) → Type 0) → (List ℕ → Type 0) → Type 0
 AnswersFirst store input Holds WentOut = (first more : List (List ℕ)) × (lines input ≡ first ++ more)
     × Holds first more × WentOut (outputs first (start store))

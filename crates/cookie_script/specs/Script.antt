@@ -1,4 +1,4 @@
--- What a script writes.
+-- The output of a script.
 use Rattle.std.specs.Prelude.{ℕ, List, [], ◌∷◌, ◌++◌, codes, flat_map, Option, Some, None, Ok, Err}
 use Rattle.std.specs.Str.Lines.{lines}
 use Rattle.cookie_words.specs.Moments.{Moment, epoch}
@@ -14,25 +14,25 @@ use Rattle.cookie_store.specs.Runs as Runs
 use Rattle.cookie_store.specs.Runs.{Reply, Stored, Removed, Cleared, Step, step}
 use Rattle.cookie_script.specs.Commands.{Command, Now, Set, Get, ListRows, Remove, Clear, command_of}
 
--- the store, and the moment that the script has come to
+-- the store, and the current time of the script
 pub record State : Type 0 where
   pub store : Contents
   pub moment : Moment
 
--- a store without rows, under a list and a limit, if there are any
+-- an empty store under a list and a limit, if there are any
 abbrev pub empty : Option RuleList → Option ℕ → Contents
 empty suffixes limit = record { rows = []; made = []; suffixes = suffixes; limit = limit }
 
--- a script begins with a store at the epoch
+-- a script starts with a store, at the epoch
 abbrev pub start : Contents → State
 start store = record { store = store; moment = epoch }
 
--- what a line writes, and the state after it
+-- the output of a line, and the state after it
 pub record Turn : Type 0 where
   pub text : List ℕ
   pub state : State
 
--- how a reply is written
+-- the text of a reply
 abbrev pub reply_text : Reply → List ℕ
 reply_text (Stored (Ok Inserted)) = codes "inserted"
 reply_text (Stored (Ok ExpiredExisting)) = codes "expired existing"
@@ -47,27 +47,27 @@ abbrev pub header_text : List Row → List ℕ
 header_text [] = codes "Cookie:"
 header_text (cookie ∷ cookies) = codes "Cookie: " ++ cookie_string (cookie ∷ cookies)
 
--- a text as a line
+-- a string as a line
 abbrev pub line_text : List ℕ → List ℕ
 line_text text = text ++ 10 ∷ []
 
--- a text and a space
+-- a string and a space
 abbrev pub word_text : List ℕ → List ℕ
 word_text text = text ++ codes " "
 
--- the domain, the path and the name of a row, parted by one space, as a line
+-- the domain, the path and the name of a row as a line, separated by single spaces
 abbrev pub row_line : Row → List ℕ
 row_line row = word_text (domain_text row.domain) ++ word_text row.path.text ++ line_text row.raw.name
 
--- all rows, a line each
+-- all rows, one line each
 abbrev pub rows_text : List Row → List ℕ
 rows_text rows = flat_map row_line rows
 
--- what a step of the store writes, and the state after it
+-- the output of a step of the store, and the state after it
 abbrev pub stored_turn : Step → State → Turn
 stored_turn step state = record { text = line_text (reply_text step.reply); state = record state { store = step.store } }
 
--- what a command writes and leaves, and `bad line` for none
+-- the output of a command, and the state after it; `bad line` if there is no command
 unfoldable pub command_turn : Option Command → State → Turn
 command_turn None state = record { text = line_text (codes "bad line"); state = state }
 command_turn (Some (Now moment)) state = record { text = []; state = record state { moment = moment } }
@@ -78,15 +78,15 @@ command_turn (Some ListRows) state = record { text = rows_text state.store.rows;
 command_turn (Some (Remove key)) state = stored_turn (step (Runs.Remove key) state.store) state
 command_turn (Some Clear) state = stored_turn (step Runs.Clear state.store) state
 
--- what a line writes and leaves
+-- the output of a line, and the state after it
 abbrev pub turn : List ℕ → State → Turn
 turn line state = command_turn (command_of line) state
 
--- what the lines write, one after the other
+-- the output of the lines, one after the other
 abbrev pub outputs : List (List ℕ) → State → List ℕ
 outputs [] state = []
 outputs (line ∷ more) state = (turn line state).text ++ outputs more (turn line state).state
 
--- what a script writes that begins with a store: it is read line by line, from the start
+-- the output of a script that starts with a store and is read line by line
 abbrev pub output_of : Contents → List ℕ → List ℕ
 output_of store input = outputs (lines input) (start store)

@@ -1,4 +1,4 @@
--- The public suffix list that a file gives.
+-- The public suffix list of a file.
 use Rattle.std.specs.Prelude.{◌≡◌, ℕ, List, Result, Ok, Err, if◌then◌else◌, ⊤}
 use Rattle.std.specs.Result.{result_map_both}
 use Rattle.std.specs.Str.{is_utf8}
@@ -9,12 +9,12 @@ use Rattle.cookie_script.specs.declared.fault.MainFault.{MainFault}
 use Rattle.cookie_script.specs.declared.fault.MainFault.TheVariants.{CannotReadList, BadRule, Run}
 use Rattle.cookie_script.specs.declared.fault.RunFault.TheVariants.{Memory}
 
--- the rules of a file's bytes, or the fault: a bad rule with its line, and what is no text
+-- the rules in a file's bytes, or the error: a malformed line with its number, or bytes that are not UTF-8
 unfoldable pub list_at : List ℕ → Result RuleList MainFault
 list_at bytes =
     if is_utf8 bytes then result_map_both (λ rules. rules) BadRule (rules_from bytes) else Err CannotReadList
 
--- unless memory ran out, a list with these rules, or the fault
+-- unless memory ran out, a list with these rules, or the error
 abbrev pub GivesList : Result Psl.List.List MainFault → Result RuleList MainFault → Type 0
 GivesList (Ok list) answer = (rules : RuleList) × (answer ≡ Ok rules) × SameRules list rules
 GivesList (Err (Run Memory)) answer = ⊤

@@ -1,4 +1,4 @@
-//! The answers, and how their texts are put into an output.
+//! The output of a line, and how it is written.
 ghost use Rattle.std.specs.Prelude.{◌≡◌, ◌++◌, ◌^◌, ◌-◌, ◌<◌, codes, flat_map, map};
 ghost use Rattle.cookie_script.specs.Answering.{answer_text, Gathers};
 ghost use Rattle.cookie_script.specs.Script.{header_text, line_text, reply_text, row_line, rows_text};
@@ -8,21 +8,21 @@ ghost use Rattle.cookie_store.specs.Runs.{Stored};
 use cookie_device::{DeviceFailed, Output, Sink};
 use cookie_store::{Cookie, InsertResult, IterAny, StoreAction};
 
-/// What is written of a line.
+/// The output of a line.
 #[derive(Drop)]
 pub enum Answer<'a> {
-    /// No text at all.
+    /// No output.
     Nothing,
-    /// A mark and a text, as a line.
+    /// A prefix and a string, as a line.
     Line(&'static str, &'static str),
-    /// The Cookie header of the cookies, as a line.
+    /// The `Cookie` header of the cookies, as a line.
     Header(Vec<&'a Cookie<'static>>),
-    /// The domain, the path and the name of each row, as a line.
+    /// The domain, the path and the name of each row, one line each.
     Rows(IterAny<'a>),
 }
 
 impl<'a> Answer<'a> {
-    /// What became of the cookie of a text, as a line.
+    /// Returns the line for the result of inserting a cookie.
     pub fn stored(told: InsertResult) -> Answer<'a>
         ensures { answer_text result ≡ line_text (reply_text (Stored told)) }
     {
@@ -32,7 +32,8 @@ impl<'a> Answer<'a> {
         }
     }
 
-    /// Gathers the text in the output. Where a part of it doesn't fit any more, what is gathered goes out first.
+    /// Appends the output to `out`. If a part no longer fits, the buffered bytes are written to
+    /// `sink` first.
     pub fn put<W: Sink>(self, out: &mut Output, sink: &mut W) -> Result<(), DeviceFailed>
         requires { W.failed sink.old < 2 ^ 64 - 1 }
         ensures { Gathers result (W.contents sink.old) (W.contents sink.new) out.old out.new (W.failed sink.old) (W.failed sink.new)
@@ -57,7 +58,7 @@ fn action_text(action: StoreAction) -> &'static str
     }
 }
 
-// A mark and a text, as a line.
+// Appends `mark` and `text` as a line.
 fn put_line<W: Sink>(
     mark: &str,
     text: &str,
@@ -71,7 +72,7 @@ fn put_line<W: Sink>(
     out.put_all(sink, &[mark, text, "\n"])
 }
 
-// The Cookie header, RFC 6265 4.2.1.
+// Appends the `Cookie` header as a line, RFC 6265 4.2.1.
 fn put_header<W: Sink>(
     cookies: &[&Cookie<'static>],
     out: &mut Output,
@@ -90,7 +91,7 @@ fn put_header<W: Sink>(
     }
 }
 
-// The cookies of a header behind its first one, and the end of the line.
+// Appends the cookies after the first one, and the line feed.
 fn put_others<W: Sink>(
     cookies: &[&Cookie<'static>],
     out: &mut Output,
@@ -106,7 +107,7 @@ fn put_others<W: Sink>(
     put_line("", "", out, sink)
 }
 
-// A mark and a cookie.
+// Appends `mark` and the name and value of a cookie.
 fn put_pair<W: Sink>(
     mark: &str,
     cookie: &Cookie<'static>,
@@ -120,7 +121,7 @@ fn put_pair<W: Sink>(
     out.put_all(sink, &[mark, cookie.name(), "=", cookie.value()])
 }
 
-// A line of each row.
+// Appends a line for each row.
 fn put_rows<W: Sink>(rows: IterAny<'_>, out: &mut Output, sink: &mut W) -> Result<(), DeviceFailed>
     requires { W.failed sink.old < 2 ^ 64 - 1 }
     ensures { Gathers result (W.contents sink.old) (W.contents sink.new) out.old out.new (W.failed sink.old) (W.failed sink.new)
@@ -132,7 +133,7 @@ fn put_rows<W: Sink>(rows: IterAny<'_>, out: &mut Output, sink: &mut W) -> Resul
     Ok(())
 }
 
-// The domain, the path and the name of a row, parted by one space, as a line.
+// Appends the domain, the path and the name of a row as a line, separated by single spaces.
 fn put_row<W: Sink>(
     row: &Cookie<'static>,
     out: &mut Output,

@@ -1,4 +1,4 @@
-//! The words of the command line.
+//! The command-line arguments.
 ghost use Rattle.std.specs.Prelude.{◌≡◌, ◌≤◌, drop, map, option_map, string_bytes, IfErr, IfOk, IfSome};
 ghost use Rattle.std.specs.Char.{is_ascii_digit};
 ghost use Rattle.std.specs.IoError.{error_kind};
@@ -11,15 +11,15 @@ use crate::fault::{MainFault, RunFault};
 use crate::options::Options;
 use std::io;
 
-/// The words after the program's own name, which is the first.
+/// Returns the arguments after the first one, which is the program's name.
 pub fn own_words(words: &[String]) -> &[String]
     ensures { result.now ≡ drop 1 words.now }
 {
     words.get(1..).unwrap_or(&[])
 }
 
-/// Why the words of the command line could not be read: a word that is not UTF-8 is a bad argument, unless there was no
-/// memory.
+/// Returns the error for arguments that cannot be read: `Run(Memory)` if memory ran out, otherwise
+/// `BadArguments`, as for an argument that is not UTF-8.
 pub fn words_fault(error: io::Error) -> MainFault
     ensures { result ≡ words_fault (error_kind error) }
 {
@@ -29,8 +29,10 @@ pub fn words_fault(error: io::Error) -> MainFault
     }
 }
 
-/// Reads the words of the command line, without the program's own name: none, `--convert` alone, `--suffixes FILE`, `--limit N`, or
-/// these two in either order, where N is a number of decimal digits, from 1 to the greatest `usize`. All others are `BadArguments`.
+/// Parses the command-line arguments without the program's name: none, `--convert` alone, or
+/// `--suffixes FILE` and `--limit N` in either order, one or both.
+///
+/// `N` is a decimal number from 1 to `usize::MAX`. Anything else is `BadArguments`.
 pub fn options(words: &[String]) -> Result<Options<'_>, MainFault>
     ensures value { option_map options_value (result_ok result) ≡ options_of (map string_bytes words.now) }
     ensures refused { IfErr result (λ fault. fault ≡ MainFault.BadArguments) }
@@ -53,7 +55,7 @@ pub fn options(words: &[String]) -> Result<Options<'_>, MainFault>
     }
 }
 
-// The options with the one that stands alone.
+// Sets the option that stands alone.
 fn alone<'a>(options: Options<'a>, word: &str) -> Result<Options<'a>, MainFault>
     requires limit { IfSome options.limit (λ limit. 1 ≤ limit) }
     ensures value { option_map options_value (result_ok result) ≡ option_alone word.now (options_value options.entry) }
@@ -69,7 +71,7 @@ fn alone<'a>(options: Options<'a>, word: &str) -> Result<Options<'a>, MainFault>
     }
 }
 
-// The options with this one, if it was not said before.
+// Sets an option with a value, which must not be set already.
 fn said<'a>(options: Options<'a>, option: &str, word: &'a str) -> Result<Options<'a>, MainFault>
     requires limit { IfSome options.limit (λ limit. 1 ≤ limit) }
     ensures value { option_map options_value (result_ok result) ≡ option_said option.now word.now (options_value options.entry) }
@@ -94,7 +96,7 @@ fn said<'a>(options: Options<'a>, option: &str, word: &'a str) -> Result<Options
     Err(MainFault::BadArguments)
 }
 
-// The number of decimal digits that the word is, from 1 to the greatest `usize`.
+// Parses a decimal number from 1 to `usize::MAX`.
 fn limit_of(word: &str) -> Option<usize>
     ensures value { result ≡ limit_of word.now }
     ensures limit { IfSome result (λ limit. 1 ≤ limit) }
@@ -108,7 +110,7 @@ fn limit_of(word: &str) -> Option<usize>
     }
 }
 
-// Whether the word is decimal digits alone, or empty.
+// Whether the argument consists of decimal digits alone, or is empty.
 fn is_digits(word: &str) -> bool
     ensures { result ≡ list_all is_ascii_digit word.now }
 {

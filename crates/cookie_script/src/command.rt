@@ -1,4 +1,4 @@
-//! What a line of a script asks for.
+//! Parses the lines of a script.
 ghost use Rattle.std.specs.Prelude.{◌≡◌, ◌↔◌, option_and_then, option_map, IfOk, IsErr, IsErrAnd, IsSome, IsTrue, OnErr};
 ghost use Rattle.std.specs.Result.{result_ok};
 ghost use Rattle.url.specs.Parser.{IsOutOfRoom};
@@ -12,24 +12,24 @@ use jiff::civil::DateTime;
 use std::alloc::{AllocError, Global};
 use url::{ParseError, Url};
 
-/// What a line of a script asks for.
+/// A command of a script.
 #[derive(Drop)]
 pub enum Command<'a> {
-    /// `now MOMENT`: this is the moment from here on.
+    /// `now TIME`: sets the current time.
     Now(DateTime),
-    /// `set URL TEXT`: a Set-Cookie text comes from the URL.
+    /// `set URL VALUE`: inserts the cookie of a `Set-Cookie` header value received from the URL.
     Set(Url, &'a str),
-    /// `get URL`: the cookies of the URL.
+    /// `get URL`: writes the cookies for the URL.
     Get(Url),
-    /// `list`: all cookies, whether they have ended or not.
+    /// `list`: writes all cookies, expired ones included.
     ListRows,
-    /// `remove DOMAIN PATH NAME`: the cookie of this domain, path and name goes.
+    /// `remove DOMAIN PATH NAME`: removes the cookie with this domain, path and name.
     Remove(&'a str, &'a str, &'a str),
-    /// `clear`: all cookies go.
+    /// `clear`: removes all cookies.
     Clear,
 }
 
-/// The command of a line, and None for a bad line.
+/// Parses a line. Returns `None` for a bad line.
 pub fn read_command(alloc: Global, line: &[u8]) -> Result<Option<Command<'_>>, AllocError>
     ensures value { IfOk result (λ command. option_map command_view command ≡ command_of line.now) }
     ensures memory { OnErr result (IsTrue (may_want line.now)) }
@@ -43,7 +43,7 @@ pub fn read_command(alloc: Global, line: &[u8]) -> Result<Option<Command<'_>>, A
     }
 }
 
-// The command that is one word.
+// Parses a command of one word.
 fn lone_command<'a>(word: &str) -> Option<Command<'a>>
     ensures { option_map command_view result ≡ lone_command word.now }
 {
@@ -54,7 +54,7 @@ fn lone_command<'a>(word: &str) -> Option<Command<'a>>
     }
 }
 
-// The command of a verb and what follows the space after it.
+// Parses a command from its verb and what follows the space after it.
 fn verb_command<'a>(
     alloc: Global,
     verb: &str,
@@ -78,7 +78,7 @@ fn first_word(text: &str) -> Option<(&str, &str)>
     text.split_once(' ')
 }
 
-// The URL of a text.
+// Parses a URL.
 #[tactic(auto, unfolding(crate::specs::Commands::url_at))]
 fn read_url(alloc: Global, text: &str) -> Result<Option<Url>, AllocError>
     ensures { IfOk result (λ url. url ≡ url_at text.now) }
@@ -86,7 +86,7 @@ fn read_url(alloc: Global, text: &str) -> Result<Option<Url>, AllocError>
     parsed_url(Url::parse(alloc, text))
 }
 
-// The URL that was parsed, and None where the text writes none. A refusal that says nothing of the text is want of memory.
+// Maps the error of a parse. `OutOfMemory` and `Overflow` say nothing about the URL: `AllocError`.
 fn parsed_url(parsed: Result<Url, ParseError>) -> Result<Option<Url>, AllocError>
     ensures url { IfOk result (λ url. url ≡ result_ok parsed) }
     ensures room { IsErr result ↔ IsErrAnd parsed IsOutOfRoom }
@@ -108,7 +108,7 @@ fn now_command<'a>(text: &str) -> Option<Command<'a>>
     }
 }
 
-// The URL, and after a space the text.
+// The URL, a space, and the rest of the line as the header value.
 fn set_command<'a>(alloc: Global, rest: &'a str) -> Result<Option<Command<'a>>, AllocError>
     ensures value { IfOk result (λ command. option_map command_view command ≡ option_and_then set_command (first_word rest.now)) }
     ensures memory { OnErr result (IsSome (first_word rest.now)) }
@@ -137,7 +137,7 @@ fn get_command<'a>(alloc: Global, rest: &str) -> Result<Option<Command<'a>>, All
     }
 }
 
-// The domain, the path, and after a space the name.
+// The domain and the path, each followed by a space, and the name.
 fn remove_command<'a>(rest: &'a str) -> Option<Command<'a>>
     ensures { option_map command_view result ≡ option_and_then remove_command (first_word rest.now) }
 {

@@ -1,4 +1,4 @@
-//! Lines of JSON, which older programs save, as a list in RON.
+//! Converts lines of JSON, as older programs save cookies, into a RON list.
 ghost use Rattle.std.specs.Prelude.{◌≡◌, ◌-◌, ◌^◌, ◌<◌, IfErr, OnOk};
 ghost use Rattle.std.specs.Io.KnownBytes.{IsAtEnd};
 ghost use Rattle.cookie_script.specs.Conversion.{Converts, FailsToConvert};
@@ -11,9 +11,11 @@ use cookie_device::{Sink, Source};
 use cookie_store::serde::{migrate_lines, ron};
 use cookie_store::{Error, StoreAlloc};
 
-/// Reads every line of the source as a saved cookie in JSON, those that have ended too, and writes the rows that they make as a list
-/// in RON, and a line feed. Nothing is written before all lines are read and the whole list is made. Where a write failed, a beginning
-/// of it was written.
+/// Reads each line of `source` as a cookie saved in JSON, expired cookies included, and writes the
+/// resulting rows to `sink` as a RON list and a line feed.
+///
+/// Nothing is written before all lines are read and the whole list is built. If a write fails, a
+/// prefix of the list was written.
 pub fn convert<A: Into<StoreAlloc>, R: Source, W: Sink>(
     alloc: A,
     source: &mut R,
@@ -34,7 +36,7 @@ pub fn convert<A: Into<StoreAlloc>, R: Source, W: Sink>(
     match ron::save_incl_expired_and_nonpersistent(&store, sink) {
         Ok(()) => Ok(()),
         Err(Error::Io) => Err(ConvertFault::Write),
-        // Each row has a saved form, so memory was wanting.
+        // Each row has a saved form, so this is out of memory.
         Err(_) => Err(ConvertFault::Memory),
     }
 }

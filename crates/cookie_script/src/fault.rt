@@ -1,4 +1,4 @@
-//! Why the program failed.
+//! The errors of the program.
 ghost use Rattle.std.specs.Prelude.{◌≡◌};
 ghost use Rattle.cookie_script.specs.Faults.{status_of};
 
@@ -9,14 +9,14 @@ use itoa::Buffer;
 use std::alloc::AllocError;
 use std::{fmt, io};
 
-/// Why a script was not run to its end.
+/// The error of a script.
 #[derive(Clone, Copy, Debug, PartialEq, Eq)]
 pub enum RunFault {
-    /// The script could not be read.
+    /// Reading the script failed.
     Read,
-    /// The answers could not be written.
+    /// Writing the output failed.
     Write,
-    /// The allocator had no memory.
+    /// Out of memory.
     Memory,
 }
 
@@ -30,7 +30,7 @@ impl From<AllocError> for RunFault {
     }
 }
 
-// Of a sink: a source's failures come as a `FillError`.
+// Only a sink fails with `DeviceFailed` here: a source fails with a `FillError`.
 impl From<DeviceFailed> for RunFault {
     ghost use Rattle.cookie_script.specs.declared.fault.RunFault.TheVariants.{Write};
 
@@ -71,16 +71,17 @@ impl fmt::Display for RunFault {
     }
 }
 
-/// Why lines of JSON were not converted.
+/// The error of a conversion.
 #[derive(Clone, Copy, Debug, PartialEq, Eq)]
 pub enum ConvertFault {
-    /// The lines could not be read.
+    /// Reading the lines failed.
     Read,
-    /// The list could not be written.
+    /// Writing the list failed.
     Write,
-    /// The allocator had no memory.
+    /// Out of memory.
     Memory,
-    /// This line, counted from 1, is the first that is no saved cookie. A number past the greatest `u64` stays there.
+    /// The first line that is not a saved cookie, counted from 1. The number saturates at
+    /// `u64::MAX`.
     BadLine(u64),
 }
 
@@ -120,26 +121,30 @@ impl fmt::Display for ConvertFault {
     }
 }
 
-/// Why the program failed.
+/// The error of the program.
 #[derive(Clone, Copy, Debug, PartialEq, Eq)]
 pub enum MainFault {
-    /// The arguments are not those of the program.
+    /// The arguments are invalid.
     BadArguments,
-    /// The file of the public suffix list could not be read, or is not UTF-8.
+    /// The file of the public suffix list cannot be read, or is not UTF-8.
     CannotReadList,
-    /// This line of the public suffix list, counted from 1, is the first that is no rule.
+    /// The first malformed line of the public suffix list, counted from 1.
     BadRule(usize),
-    /// The system gave no random bytes for the hash key.
+    /// The system returned no random bytes for the hash key.
     CannotDrawKey,
-    /// The script was not run to its end.
+    /// Running the script failed.
     Run(RunFault),
-    /// Lines of JSON were not converted.
+    /// Converting lines of JSON failed.
     Convert(ConvertFault),
 }
 
 impl MainFault {
-    /// The exit status: 1 where a read or a write of the script or of a conversion failed, or no hash key could be drawn, 2 for bad
-    /// arguments, a list that cannot be read or has a bad rule and a line that is no saved cookie, 3 where there was no memory.
+    /// Returns the exit status:
+    /// - 1: a read or a write of the script or of a conversion failed, or the system returned no
+    ///   random hash key.
+    /// - 2: bad arguments, a list that cannot be read or has a malformed line, or a line that is
+    ///   not a saved cookie.
+    /// - 3: out of memory.
     pub fn status(&self) -> u8
         ensures { result ≡ status_of self.now }
     {
@@ -199,14 +204,14 @@ impl From<ListError> for MainFault {
     }
 }
 
-/// Why no hash key could be drawn.
+/// Returns the error for failing to get a random hash key.
 pub fn draw_fault(_error: io::Error) -> MainFault
     ensures { result ≡ MainFault.CannotDrawKey }
 {
     MainFault::CannotDrawKey
 }
 
-/// The whole text that goes to standard error, but for its line feed.
+/// Formats the whole line for standard error, without its line feed.
 impl fmt::Display for MainFault {
     ghost use Rattle.std.specs.Prelude.{Some};
     ghost use Rattle.cookie_script.specs.Faults.{fault_text};

@@ -1,4 +1,4 @@
-//! The state of a script, and what a line comes to.
+//! The state of a script, and the effect of a line.
 ghost use Rattle.std.specs.Prelude.{◌≡◌, ◌≢◌, ◌≤◌, [], Err, IfOk, IfSome, IsTrue, OnErr, OnOk, Some};
 ghost use Rattle.cookie_script.specs.Answering.{answer_text};
 ghost use Rattle.cookie_script.specs.Told.{cookies_asked, told_may_want, told_text};
@@ -15,26 +15,26 @@ use std::alloc::{AllocError, Global};
 use std::marker::Model;
 use url::Url;
 
-/// What a line came to.
+/// The result of a line.
 #[derive(Drop)]
 pub enum Told {
-    /// Nothing is to be written.
+    /// No output.
     Nothing,
-    /// The line is a bad one.
+    /// A bad line.
     BadLine,
-    /// What became of the cookie of a text. Never `Memory`.
+    /// The result of inserting a cookie. Never `Memory`.
     Stored(InsertResult),
     /// Whether a cookie was removed.
     Removed(bool),
     /// All cookies were removed.
     Cleared,
-    /// The cookies of the URL are asked for.
+    /// The cookies for this URL are to be written.
     Cookies(Url),
-    /// All rows are asked for.
+    /// All rows are to be written.
     Rows,
 }
 
-/// A store, and the moment that the script has come to.
+/// A store, and the current time of the script.
 #[derive(Drop)]
 pub struct Jar {
     store: CookieStore,
@@ -51,7 +51,8 @@ impl Model for Jar {
 }
 
 impl Jar {
-    /// An empty store under the list and the limit, if there are any, at the epoch.
+    /// Creates an empty store under the public suffix list and the limit, if there are any. The
+    /// time is the epoch.
     pub fn new(alloc: StoreAlloc, list: Option<List>, limit: Option<usize>) -> Jar
         requires { IfSome limit (λ limit. 1 ≤ limit) }
         ensures { result ≡ start (empty list limit) }
@@ -70,7 +71,9 @@ impl Jar {
         }
     }
 
-    /// Does what a line asks. The state stays where there is no memory, and also after a line whose answer may want memory.
+    /// Runs a line.
+    ///
+    /// The state is unchanged on an error, and also if the output of the line may allocate.
     #[tactic(auto, using(crate::proofs::Wanting::line_wants), unfolding(crate::specs::Script::command_turn))]
     pub fn turn(&mut self, alloc: Global, line: &[u8]) -> Result<Told, AllocError>
         ensures state { OnOk result (self.new ≡ (turn line.now self.old).state) }
@@ -86,7 +89,7 @@ impl Jar {
         }
     }
 
-    // A text that is refused early wants no memory.
+    // Runs a command. A `set` that is rejected early allocates nothing.
     #[tactic(auto, unfolding(crate::specs::Script::command_turn))]
     fn obey(&mut self, command: Command<'_>) -> Result<Told, AllocError>
         ensures state { OnOk result (self.new ≡ (command_turn (Some (command_view command.entry)) self.old).state) }
@@ -116,7 +119,8 @@ impl Jar {
         }
     }
 
-    /// The answer to a line, after what it came to. Memory is wanted only for cookies that are asked for, where there is one.
+    /// Returns the output of a line from its result. Allocates only for the cookies of a URL, if
+    /// there are any.
     pub fn answer(&self, told: Told) -> Result<Answer<'_>, AllocError>
         ensures text { IfOk result (λ answer. answer_text answer ≡ told_text told self.now) }
         ensures wants { OnErr result (IsTrue (told_may_want told)) }
@@ -135,7 +139,7 @@ impl Jar {
     }
 }
 
-// What a cookie came to that the store took or refused.
+// Returns the result of an insertion, or `AllocError` if memory ran out.
 fn said(told: InsertResult) -> Result<Told, AllocError>
     ensures said { IfOk result (λ said. (said ≡ Told.Stored told) × (told ≢ Err CookieError.Memory)) }
     ensures memory { OnErr result (told ≡ Err CookieError.Memory) }

@@ -1,8 +1,9 @@
-//! A script of cookies that come and of URLs that ask for them: from the bytes that come in to the bytes that go out; and lines of
-//! JSON that become a list in RON.
+//! Runs scripts of cookies that are received and of URLs that are requested, from the bytes read to
+//! the bytes written; and converts lines of JSON into a RON list.
 //!
-//! Each line is `now MOMENT`, `set URL TEXT`, `get URL`, `list`, `remove DOMAIN PATH NAME` or `clear`. A line is read into a
-//! command, which the jar obeys; what it came to is told as an answer, and `run` sends the answers.
+//! Each line of a script is `now TIME`, `set URL VALUE`, `get URL`, `list`,
+//! `remove DOMAIN PATH NAME` or `clear`, where `VALUE` is a `Set-Cookie` header value. A line is
+//! parsed into a command, the jar runs it, and `run` writes its output.
 #![tactic(auto)]
 
 mod answer;

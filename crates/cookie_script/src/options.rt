@@ -1,10 +1,10 @@
-/// What the arguments of the program ask for.
+/// The options given by the command-line arguments.
 #[derive(Clone, Copy, Debug, PartialEq, Eq)]
 pub struct Options<'a> {
     /// The file of a public suffix list.
     pub suffixes: Option<&'a str>,
-    /// How many cookies of one domain may stand.
+    /// The most cookies that one domain may have.
     pub limit: Option<usize>,
-    /// Whether lines of JSON are converted into a list in RON, where else a script is run.
+    /// Whether to convert lines of JSON into a RON list instead of running a script.
     pub convert: bool,
 }

@@ -1,4 +1,4 @@
-//! A script, from the bytes that come in to the bytes that go out.
+//! Runs a script, from the bytes read to the bytes written.
 ghost use Rattle.std.specs.Prelude.{◌≡◌, ℕ, ◌+◌, ◌-◌, ◌^◌, ◌<◌, ◌≤◌, ◌++◌, ◌⊎◌, Err, IfSome, IsTrue, OnOk, length};
 ghost use Rattle.std.specs.Io.KnownBytes.{Appends};
 ghost use Rattle.cookie_device.specs.Device.{AppendsBeginning, Sends};
@@ -14,9 +14,17 @@ use cookie_store::StoreAlloc;
 use cookie_store::psl::List;
 use std::alloc::Global;
 
-/// Runs the script that the source gives, and writes its answers to the sink. The store obeys the public suffix list and the limit
-/// of cookies for each domain, if there are any. Where a read failed, the answers to all whole lines that were read went out, and
-/// nothing else. Where memory ran out, those did, or the answers to the lines before one that may want memory.
+/// Runs the script read from `source`, and writes its output to `sink`.
+///
+/// The store is under the public suffix list and the limit of cookies per domain, if there are any.
+///
+/// # Errors
+///
+/// - `Read`: a read failed. The output of all whole lines that were read was written, and nothing
+///   else.
+/// - `Write`: a write failed. A prefix of the output was written.
+/// - `Memory`: out of memory. The output of all whole lines that were read was written, or that of
+///   the lines before one that may allocate.
 pub fn run<A: Into<StoreAlloc>, R: Source, W: Sink>(
     alloc: A,
     source: &mut R,
@@ -53,7 +61,7 @@ pub fn run<A: Into<StoreAlloc>, R: Source, W: Sink>(
     }
 }
 
-// Answers the lines that the source gives, up to its end.
+// Runs the lines of the source up to its end.
 fn answer_lines<R: Source, W: Sink>(
     alloc: StoreAlloc,
     source: &mut R,
@@ -81,6 +89,7 @@ fn answer_lines<R: Source, W: Sink>(
 {
     let mut input = LineBuffer::new(alloc.alloc);
     let mut jar = Jar::new(alloc, list, limit);
+    // for the checker: the label names the loop's invariant
     'lines: loop {
         if let Some(end) = input.line_end() {
             answer_line(alloc.alloc, &mut jar, input.line(end), out, sink)?;
@@ -99,7 +108,7 @@ fn answer_lines<R: Source, W: Sink>(
     answer_line(alloc.alloc, &mut jar, input.rest(), out, sink)
 }
 
-// Does what a line asks, and gathers its answer.
+// Runs a line, and buffers its output.
 fn answer_line<W: Sink>(
     alloc: Global,
     jar: &mut Jar,

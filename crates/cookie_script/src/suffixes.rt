@@ -1,4 +1,4 @@
-//! The public suffix list of a file.
+//! Reads the public suffix list of a file.
 ghost use Rattle.std.specs.Prelude.{◌≡◌, false, Err};
 ghost use Rattle.std.specs.IoError.{error_kind};
 ghost use Rattle.std.specs.Result.{result_map_both};
@@ -11,8 +11,14 @@ use cookie_store::psl::{List, ListError};
 use std::alloc::Global;
 use std::io;
 
-/// The list that the bytes of a file say. `CannotReadList` where they are not UTF-8, `BadRule` with the number of the first
-/// line that is no rule.
+/// Parses the public suffix list in the bytes of a file.
+///
+/// # Errors
+///
+/// In the order in which they are checked:
+/// - `CannotReadList`: the bytes are not UTF-8.
+/// - `BadRule`: a line is malformed, with the number of the first one.
+/// - `Run(Memory)`: out of memory. It may come instead of `BadRule`.
 #[tactic(auto, unfolding(crate::specs::Suffixes::list_at))]
 pub fn list_of(alloc: Global, bytes: &[u8]) -> Result<List, MainFault>
     ensures value { GivesList result (list_at bytes.now) }
@@ -24,7 +30,7 @@ pub fn list_of(alloc: Global, bytes: &[u8]) -> Result<List, MainFault>
     list_or_fault(List::from_text(alloc, text))
 }
 
-// The list that was read, or the fault that its error is.
+// Maps the error of a list.
 fn list_or_fault(read: Result<List, ListError>) -> Result<List, MainFault>
     ensures { result ≡ result_map_both (λ list. list) list_fault read }
 {
@@ -34,7 +40,8 @@ fn list_or_fault(read: Result<List, ListError>) -> Result<List, MainFault>
     }
 }
 
-/// Why the file of a list could not be read: `CannotReadList`, unless there was no memory.
+/// Returns the error for a file that cannot be read: `Run(Memory)` if memory ran out, otherwise
+/// `CannotReadList`.
 pub fn file_fault(error: io::Error) -> MainFault
     ensures { result ≡ file_fault (error_kind error) }
 {

@@ -1,4 +1,4 @@
-//! Lines of JSON that are converted into a list in RON.
+//! Lines of JSON that are converted into a RON list.
 use cookie_device::{Counted, Sink, Source};
 use cookie_fakes::Fake;
 use cookie_script::convert::convert;
@@ -7,7 +7,7 @@ use std::alloc::Global;
 use std::fmt::Debug;
 use std::process::Abort;
 
-// How the conversion ended, how many reads and writes failed, and the writer.
+// Converts, and returns the result, the numbers of failed reads and writes, and the writer.
 fn converted(
     alloc: Global,
     reader: Fake<&[u8]>,
@@ -38,7 +38,7 @@ const LIST: &str = r#"[
 ]
 "#;
 
-// Lines, how their conversion ends, and what is written.
+// Lines, the result of their conversion, and its output.
 static CASES: [(&[u8], Result<(), ConvertFault>, &str); 5] = [
     (LINE, Ok(()), LIST),
     (TWICE, Ok(()), LIST),
@@ -59,7 +59,7 @@ static CASES: [(&[u8], Result<(), ConvertFault>, &str); 5] = [
     ),
 ];
 
-// It ended so, with this text written and so many failures.
+// The result, the output, and the numbers of failed reads and writes.
 type Ended<'a> = (Result<(), ConvertFault>, &'a [u8], (u64, u64));
 
 fn has_ended(rt: &impl Abort, ended: Ended<'_>, wanted: Ended<'_>, row: &impl Debug) {
@@ -84,12 +84,13 @@ fn lines_become_a_list(rt: HostRuntime) {
     }
 }
 
-// A conversion that meets no failure writes the list.
+// The outcome of a conversion without a failure.
 fn whole() -> Ended<'static> {
     (Ok(()), LIST.as_bytes(), (0, 0))
 }
 
-// Whether no read, of few bytes, failed. Where one did, nothing is written.
+// Converts, with read `fails_at` failing, and returns whether no read failed. If one failed,
+// nothing is written. A read returns at most 7 bytes.
 fn is_read_whole(rt: &impl Abort, alloc: Global, fails_at: usize) -> bool {
     let ample = Fake::new(Vec::new(alloc), usize::MAX, 0);
     let (outcome, failures, writer) = converted(alloc, Fake::new(TWICE, 7, fails_at), ample);
@@ -108,7 +109,7 @@ fn is_read_whole(rt: &impl Abort, alloc: Global, fails_at: usize) -> bool {
     is_whole
 }
 
-// The call that was to fail came, at least once.
+// The failing call was reached at least once.
 fn has_failed_once(rt: &impl Abort, fails_at: usize) {
     assert!(rt; fails_at > 1);
 }
@@ -123,7 +124,8 @@ fn a_failed_read_ends_the_conversion(rt: HostRuntime) {
     panic!(rt; "reading has no end");
 }
 
-// Whether no write, of one byte, failed. Where one did, what was written before is a beginning.
+// Converts, with write `fails_at` failing, and returns whether no write failed. If one failed, the
+// output before it was written. A write takes 1 byte.
 fn is_written_whole(rt: &impl Abort, alloc: Global, fails_at: usize) -> bool {
     let failing = Fake::new(Vec::new(alloc), 1, fails_at);
     let (outcome, failures, writer) = converted(alloc, Fake::new(TWICE, usize::MAX, 0), failing);

@@ -8,7 +8,7 @@ use std::alloc::Global;
 use std::process::Abort;
 use std::test::Fail;
 
-// How the script of a reader ended, what it wrote, and the reader.
+// Runs the script of a reader, and returns the result, the output and the reader.
 fn read_from<'a>(
     alloc: Global,
     fake: Fake<&'a [u8]>,
@@ -19,7 +19,7 @@ fn read_from<'a>(
     (outcome, sink.into_inner(), source.into_inner())
 }
 
-// How the script to a writer ended, and the writer.
+// Runs `HOSTS` with a writer, and returns the result and the writer.
 fn written_to(alloc: Global, fake: Fake<Vec<u8>>) -> (Result<(), RunFault>, Fake<Vec<u8>>) {
     let mut source = Counted::new(HOSTS);
     let mut sink = Counted::new(fake);
@@ -51,7 +51,8 @@ fn is_count(rt: &impl Abort, count: usize, wanted: usize) {
     assert_eq!(rt; count, wanted);
 }
 
-// Whether the call that was to fail came. It was the last one, and ended the script with the fault; without it all went out.
+// Whether the failing call was reached. If it was, it is the last call, and the script ends with
+// this error; if not, the whole output was written.
 fn was_stopped(
     rt: &impl Abort,
     outcome: Result<(), RunFault>,
@@ -71,7 +72,8 @@ fn was_stopped(
     true
 }
 
-// The reader works again, and still has all but what the reads before the one that failed took: that is the next script.
+// After the failed read, the reader works again. It still has everything but the bytes of the reads
+// before, which is run as the next script.
 fn reads_on(
     rt: &impl Abort,
     alloc: Global,
@@ -89,7 +91,7 @@ fn reads_on(
     Ok(())
 }
 
-// Runs the script once for each read, which fails, and last with no failure.
+// Runs the script once for each read, which fails, and finally without a failure.
 fn each_read_fails(rt: &impl Abort, alloc: Global, most: usize) -> Result<(), Fail> {
     for fails_at in 1..1_001 {
         let (outcome, written, fake) = read_from(alloc, Fake::new(HOSTS, most, fails_at));
@@ -107,7 +109,7 @@ fn a_failed_read_ends_the_script(rt: HostRuntime) -> Result<(), Fail> {
     each_read_fails(&rt, rt.alloc(), 7)
 }
 
-// The writer works again: the next script's answers stand behind what it has.
+// After the failed write, the writer works again: the next script's output follows what it has.
 fn writes_on(rt: &impl Abort, alloc: Global, fake: Fake<Vec<u8>>, fails_at: usize) {
     let part = fake.inner.len();
     let (outcome, fake) = written_to(alloc, fake);
@@ -116,7 +118,7 @@ fn writes_on(rt: &impl Abort, alloc: Global, fake: Fake<Vec<u8>>, fails_at: usiz
     is_text(rt, behind, HOSTS_OUTPUT.as_bytes(), fails_at);
 }
 
-// Runs the script once for each write, of one byte, which fails, and last with no failure.
+// Runs the script once for each write of one byte, which fails, and finally without a failure.
 fn each_write_fails(rt: &impl Abort, alloc: Global) -> Result<(), Fail> {
     for fails_at in 1..1_001 {
         let (outcome, fake) = written_to(alloc, Fake::new(Vec::new(alloc), 1, fails_at));

@@ -1,4 +1,4 @@
-//! Each growth refused in turn.
+//! Scripts and lists with each allocation failing in turn.
 use crate::lists::LIST;
 use cookie_device::Counted;
 use cookie_psl::List;
@@ -9,7 +9,7 @@ use std::alloc::Global;
 use std::process::Abort;
 use std::test::Fail;
 
-// tools/refuse.c counts the growths after one of so many bytes.
+// tools/refuse.c counts the allocations after one of this many bytes.
 const START: usize = 48271;
 
 const SCRIPT: &[u8] = b"now 2026-01-01T00:00:00Z\n\
@@ -30,7 +30,7 @@ const OUTPUT: &str = "inserted\ninserted\nupdated\n\
     inserted\nbad line\nCookie: x=2; z=1\n\
     a.com / x\na.com /p z\nxn--bcher-kva.example / d\nremoved\nCookie: d=1\ncleared\n";
 
-// The answer to each of its lines.
+// The output of each of its lines.
 const ANSWERS: [&str; 12] = [
     "",
     "inserted\n",
@@ -46,7 +46,8 @@ const ANSWERS: [&str; 12] = [
     "cleared\n",
 ];
 
-// Runs the script into the room, and says how many bytes it wrote.
+// Runs the script with `room` as the output, and returns the result and the number of bytes
+// written.
 fn run_into(alloc: Global, room: &mut [u8]) -> (Result<(), RunFault>, usize) {
     let size = room.len();
     let mut source = Counted::new(SCRIPT);
@@ -63,12 +64,12 @@ fn is_want_of_memory(rt: &impl Abort, fault: MainFault) {
     assert_eq!(rt; fault, MainFault::Run(RunFault::Memory));
 }
 
-// What is left of the text behind an answer.
+// Returns what follows the output of a line.
 fn behind<'a>(text: &'a [u8], answer: &str) -> Option<&'a [u8]> {
     text.strip_prefix(answer.as_bytes())
 }
 
-// The answers to some first lines, each whole.
+// The output is that of some first lines, each whole.
 fn is_of_whole_answers(rt: &impl Abort, written: &[u8]) {
     let mut rest = written;
     for answer in &ANSWERS {
@@ -99,7 +100,7 @@ fn a_script(rt: HostRuntime) -> Result<(), Fail> {
     Ok(())
 }
 
-// It is the list.
+// The list is `LIST`.
 fn has_rules(rt: &impl Abort, list: &List) {
     let suffix = list.suffix("a.www.ck").map(|suffix| suffix.as_str());
     assert_eq!(rt; suffix, Some("ck"));

@@ -1,4 +1,5 @@
-//! Tests of scripts and conversions: what they write, and what they do where a device fails or memory is wanting.
+//! Tests of scripts and conversions: their output, and what they do if a device or an allocation
+//! fails.
 #![tactic(auto)]
 
 #[cfg(test)]

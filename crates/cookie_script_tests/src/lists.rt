@@ -6,7 +6,7 @@ use std::alloc::Global;
 use std::process::Abort;
 use std::test::Fail;
 
-// Of every kind of rule.
+// A list with each kind of rule.
 pub const LIST: &[u8] = b"// a comment\ncom\n*.ck\n!www.ck\n\n*.www.ck\n";
 
 const UNDER_A_LIST: &[u8] = b"now 2026-01-01T00:00:00Z\n\

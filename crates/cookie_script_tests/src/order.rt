@@ -1,4 +1,4 @@
-//! When answers go out.
+//! When output is written.
 use cookie_device::Counted;
 use cookie_fakes::Fake;
 use cookie_script::fault::RunFault;
@@ -10,7 +10,7 @@ use std::io::{Read, Write};
 use std::process::Abort;
 use std::test::Fail;
 
-// Gives one line a call, and keeps how many bytes were out at each of its calls.
+// A reader that returns one line a call, and records how many bytes were written at each call.
 #[derive(Drop)]
 struct LineReader<'a> {
     script: &'a [u8],
@@ -34,7 +34,7 @@ impl Read for LineReader<'_> {
     }
 }
 
-// Counts the bytes that are out.
+// A writer that counts the bytes written.
 #[derive(Drop)]
 struct CountingWriter<'a> {
     out: &'a Cell<usize>,
@@ -66,7 +66,8 @@ const LINES: &[u8] = b"now 2026-01-01T00:00:00Z\n\
     fly\n\
     get http://b.com/";
 
-// How many bytes were out at each read of a script that comes line by line, and how many reads there were.
+// Returns how many bytes were written at each read of a script that is read line by line, and the
+// number of reads.
 fn seen_at_reads(
     alloc: Global,
     script: &[u8],
@@ -89,13 +90,13 @@ fn answers_are_out_before_the_next_read(rt: HostRuntime) -> Result<(), Fail> {
     let out = Cell::new(0);
     let (seen, calls) = seen_at_reads(rt.alloc(), LINES, &out)?;
     is_count(&rt, calls, 6);
-    // The answers are of 0, 9, 12, 9 and 8 bytes.
+    // The lines write 0, 9, 12, 9 and 8 bytes.
     assert_eq!(rt; seen, [0, 0, 9, 21, 30, 30]);
     is_count(&rt, out.get(), 38);
     Ok(())
 }
 
-// Behind the first lines, others so many times.
+// Returns `first`, followed by `times` copies of `lines`.
 fn repeated(
     alloc: Global,
     first: &[u8],
@@ -110,7 +111,7 @@ fn repeated(
     Ok(script)
 }
 
-// How many reads and writes a script had, and how many bytes it wrote.
+// Returns the numbers of reads, of writes and of bytes written by a script.
 fn calls_of(alloc: Global, script: &[u8]) -> Result<(usize, usize, usize), RunFault> {
     let mut source = Counted::new(Fake::new(script, 4_096, 0));
     let mut sink = Counted::new(Fake::new(Vec::new(alloc), usize::MAX, 0));
@@ -122,7 +123,7 @@ fn calls_of(alloc: Global, script: &[u8]) -> Result<(usize, usize, usize), RunFa
 #[test]
 fn answers_go_out_together(rt: HostRuntime) -> Result<(), Fail> {
     let script = repeated(rt.alloc(), b"", b"get http://a.com/\n", 1_000)?;
-    // The script has 18,000 bytes, and the last read finds its end.
+    // The script has 18,000 bytes, and the last read reports its end.
     let (reads, writes, written) = calls_of(rt.alloc(), &script)?;
     is_count(&rt, reads, 6);
     is_at_most(&rt, writes, 7);
@@ -135,11 +136,11 @@ const TWO: &[u8] = b"now 2026-01-01T00:00:00Z\nset http://a.com/ a=1\nset http:/
 #[test]
 fn answers_of_many_pieces_go_out_together(rt: HostRuntime) -> Result<(), Fail> {
     let script = repeated(rt.alloc(), TWO, b"get http://a.com/\nlist\n", 500)?;
-    // The script has 69 bytes and 500 times 23, and the last read finds its end.
+    // The script has 69 bytes and 500 times 23, and the last read reports its end.
     let (reads, writes, written) = calls_of(rt.alloc(), &script)?;
     is_count(&rt, reads, 4);
     is_at_most(&rt, writes, 5);
-    // Two answers of 9 bytes, and 500 times one of 17 and two lines of 10.
+    // Two lines write 9 bytes each; 500 times, one writes 17 bytes and one two rows of 10.
     is_count(&rt, written, 18_518);
     Ok(())
 }

@@ -1,4 +1,4 @@
-//! What scripts write.
+//! The output of scripts.
 ghost use Rattle.std.specs.Prelude.{◌≤◌, IfSome};
 
 use cookie_device::Counted;
@@ -8,7 +8,7 @@ use std::alloc::Global;
 use std::process::Abort;
 use std::test::Fail;
 
-// A name, a script, and what it writes.
+// A name, a script, and its output.
 type Row = (&'static str, &'static [u8], &'static str);
 
 const SCRIPTS: [Row; 18] = [
@@ -189,7 +189,7 @@ const BAD_LINES: [(&str, &[u8]); 19] = [
     ("no UTF-8 in a text", b"set http://a.com/ a=\xff\n"),
 ];
 
-// A name, a limit, a script, and what it writes.
+// A name, a limit, a script, and its output.
 type LimitedRow = (&'static str, usize, &'static [u8], &'static str);
 
 const LIMITED: [LimitedRow; 3] = [
@@ -228,7 +228,7 @@ const LIMITED: [LimitedRow; 3] = [
     ),
 ];
 
-/// What a script writes under a public suffix list and a limit, if there are any.
+/// Returns the output of a script under a public suffix list and a limit, if there are any.
 pub fn output(
     alloc: Global,
     script: &[u8],
@@ -243,7 +243,7 @@ pub fn output(
     Ok(sink.into_inner())
 }
 
-/// It is what is wanted.
+/// The output is as wanted.
 pub fn is_text(rt: &impl Abort, text: &str, wanted: &str, name: &str) {
     assert_eq!(rt; text, wanted, "at {name}");
 }
@@ -274,6 +274,7 @@ fn answers_scripts(rt: HostRuntime) -> Result<(), Fail> {
 #[test]
 fn answers_scripts_under_a_limit(rt: HostRuntime) -> Result<(), Fail> {
     for (name, limit, script, wanted) in &LIMITED {
+        // for the checker: `max` shows that the limit is at least 1
         writes(&rt, rt.alloc(), script, Some((*limit).max(1)), wanted, name)?;
     }
     Ok(())
@@ -294,7 +295,7 @@ fn add(text: &mut String, words: &[&str]) -> Result<(), Fail> {
     Ok(())
 }
 
-// A script that lists a thousand rows, and what it writes: more than is gathered before it goes out.
+// Returns a script that lists a thousand rows, which is more than is buffered, and its output.
 fn long_list(alloc: Global) -> Result<(String, String), Fail> {
     let mut script = String::new(alloc);
     let mut wanted = String::new(alloc);

@@ -1,4 +1,4 @@
-//! The words of the command line, and the faults.
+//! The command-line arguments and the errors.
 use cookie_script::fault::{ConvertFault, MainFault, RunFault};
 use cookie_script::options::Options;
 use cookie_script::{arguments, suffixes};
@@ -7,10 +7,10 @@ use std::io::{Error, ErrorKind};
 use std::process::Abort;
 use std::test::Fail;
 
-// The file and the limit that words ask for, and whether they ask for a conversion.
+// The file, the limit, and whether to convert.
 type Asked = (Option<&'static str>, Option<usize>, bool);
 
-// Words, and what they ask for, or None where they are bad.
+// Arguments and their options, or `None` if they are invalid.
 static WORDS: [(&[&str], Option<Asked>); 38] = [
     (&[], Some((None, None, false))),
     (
@@ -78,7 +78,7 @@ fn owned(alloc: Global, words: &[&str]) -> Result<Vec<String>, AllocError> {
     Ok(owned)
 }
 
-// The words ask for this, or are bad.
+// The arguments have these options, or are invalid.
 fn asks_for(rt: &impl Abort, words: &[String], wanted: Option<Asked>) {
     let wanted = match wanted {
         Some((suffixes, limit, convert)) => Ok(Options {
@@ -100,7 +100,7 @@ fn the_list_the_limit_and_the_conversion_are_the_only_options(rt: HostRuntime) -
     Ok(())
 }
 
-// The words of the command line, and those after the program's name.
+// The arguments, and those after the name of the program.
 const COMMAND_LINES: [(&[&str], &[&str]); 4] = [
     (&["cookie_jar", "--suffixes", "a"], &["--suffixes", "a"]),
     (&["--suffixes", "a"], &["a"]),
@@ -122,7 +122,7 @@ fn the_name_is_no_argument(rt: HostRuntime) -> Result<(), Fail> {
     Ok(())
 }
 
-// Of each kind of error: what it is where the words cannot be read, and where the list cannot.
+// A kind of error, and the error of the program if arguments or a list cannot be read.
 const KINDS: [(ErrorKind, MainFault, MainFault); 3] = [
     (
         ErrorKind::InvalidData,
@@ -205,7 +205,7 @@ fn has_text(rt: &impl Abort, alloc: Global, fault: MainFault, text: &str) -> Res
     Ok(())
 }
 
-// A width changes nothing.
+// A width is ignored.
 fn has_text_at_a_width(
     rt: &impl Abort,
     alloc: Global,
@@ -233,7 +233,7 @@ const RUN_FAULTS: [(RunFault, &str); 3] = [
     (RunFault::Memory, "out of memory"),
 ];
 
-// Also where a width is asked for.
+// A width is ignored here too.
 fn is_printed(rt: &impl Abort, alloc: Global, fault: RunFault, text: &str) -> Result<(), Fail> {
     let printed = format!(in alloc; "{fault}|{fault:>40}|{fault:<40}|")?;
     let wanted = format!(in alloc; "{text}|{text}|{text}|")?;

@@ -1,4 +1,4 @@
--- Rows whose ends are cut, and what is read of their saved forms.
+-- Rows with each expiry cut to whole seconds, and what their saved forms read as.
 use Rattle.std.proofs.Common.{◌≡◌, ℕ, true, List, [], ◌∷◌, ◌++◌, map, Result, Ok, Err, refl, sym, ap, subst, ◌∙◌}
 use Rattle.std.specs.List.{All}
 use Rattle.std.proofs.lemmas.List.Elements.{All-head, All-map, All-tail, All-weaker}
@@ -25,34 +25,34 @@ use Rattle.cookie_store.specs.SavedForms.{cookies_of_saved}
 use Rattle.cookie_store.specs.Saving.{line_text}
 use Rattle.cookie_forms.specs.MomentText.{whole_seconds}
 
--- a cut end is saved as the end, cut
+-- cutting an expiry commutes with saving it
 end_cut : (end : Expiry) → saved_end (cut_end end) ≡ option_map whole_seconds (saved_end end)
 end_cut (AtUtc end) = refl
 end_cut SessionEnd = refl
 
--- so is a row
+-- and with saving its row
 saved_cut : (row : Row) → saved_of (cut_row row) ≡ cut (saved_of row)
 saved_cut row = rw (end_cut row.expires) refl
 
--- which comes back from its saved form, cut
+-- the cut saved form of a row reads as the cut row
 pub row_cut : ((cookie : Row) → reading (cookie_text cookie.raw) ≡ Ok cookie.raw → cookie_of_saved (saved_of cookie) ≡ Ok cookie)
     → (row : Row) → ReadsBack row → cookie_of_saved (cut (saved_of row)) ≡ Ok (cut_row row)
 row_cut comes_back row back = ap cookie_of_saved (sym (saved_cut row)) ∙ comes_back (cut_row row) back.0
 
 module _ (comes_back : (cookie : Row) → reading (cookie_text cookie.raw) ≡ Ok cookie.raw → cookie_of_saved (saved_of cookie) ≡ Ok cookie) where
-  -- rows come back from their saved forms, cut
+  -- the cut saved forms of rows read as the cut rows
   pub cookies_cut : (rows : List Row) → All ReadsBack rows → cookies_of_saved (map cut (map saved_of rows)) ≡ Ok (cut_rows rows)
   cookies_cut [] all = refl
   cookies_cut (row ∷ rows) all =
       rw (row_cut comes_back row (All-head ReadsBack row rows all), cookies_cut rows (All-tail ReadsBack row rows all)) refl
 
-  -- of a tree that is read as their forms, cut, they are the cookies
+  -- a JSON value that reads as these saved forms reads as the cut rows
   tree_comes_back : (rows : List Row) (tree : Data) → All ReadsBack rows → list_at tree ≡ Ok (map cut (map saved_of rows))
       → tree_cookies tree ≡ Ok (cut_rows rows)
   tree_comes_back rows tree all is = rw (is, cookies_cut rows all) refl
 
   module _ (blank : (text : List ℕ) → read (text ++ 10 ∷ []) ≡ read text) where
-    -- what is said of them is read so, also with a line feed behind it
+    -- so does the string of the list, with a line feed after it
     text_comes_back : (rows : List Row) (told : Result Data SavedError) (text : String Global) → All ReadsBack rows
         → ((tree : Data) → told ≡ Ok tree → list_at tree ≡ Ok (map cut (map saved_of rows)))
         → SaysListTree told (Ok text) → json_cookies (line_text text) ≡ Ok (cut_rows rows)
@@ -65,21 +65,21 @@ module _ (comes_back : (cookie : Row) → reading (cookie_text cookie.raw) ≡ O
         → SaysJsonList rows (Ok text) → json_cookies (line_text text) ≡ Ok (cut_rows rows)
     said_comes_back rows text all reads says = text_comes_back rows (list_written (map saved_of rows)) text all reads says
 
--- a cut row has its key
+-- a cut row has the key of the row
 keys_cut : (rows : List Row) → map key_of (cut_rows rows) ≡ map key_of rows
 keys_cut [] = refl
 keys_cut (row ∷ rows) = ap (λ keys. key_of row ∷ keys) (keys_cut rows)
 
--- so cut rows are rows of a store
+-- so the keys of cut rows differ if those of the rows do
 pub rows_cut : (rows : List Row) → are_rows rows ≡ true → are_rows (cut_rows rows) ≡ true
 rows_cut rows are = rw (keys_cut rows) are
 
--- the cookies that are answered, if they are
+-- the cookies of a result, none if it is an error
 abbrev pub cookies_in : Result (List Row) Error → List Row
 cookies_in (Ok cookies) = cookies
 cookies_in (Err error) = []
 
--- their saved forms
+-- the saved forms of rows that have them
 pub forms_of : (rows : List Row) → All ReadsBack rows → (forms : List Saved) × (map saved_view forms ≡ map saved_of rows)
 forms_of [] all = ([], refl)
 forms_of (row ∷ rows) all =
@@ -87,7 +87,7 @@ forms_of (row ∷ rows) all =
     let others = forms_of rows (All-tail ReadsBack row rows all) in
     (back.1 ∷ others.0, rw (back.2, others.1) refl)
 
--- end at moments, if each saved cookie does
+-- their expiries are valid times, if those of all saved cookies are
 module _ (ends : (saved : Saved) → EndsAtMoment (saved_view saved)) where
   pub form_ends : (row : Row) → ReadsBack row → EndsAtMoment (saved_of row)
   form_ends row back = subst EndsAtMoment back.2 (ends back.1)

@@ -1,4 +1,4 @@
--- An early refusal is no want of memory.
+-- An early rejection is never out of memory.
 use Rattle.std.proofs.Common.{◌≡◌, ◌≢◌, arith, refl, Option, Result, Ok, Err, Some, None}
 use Rattle.url.specs.Parts.{Parts}
 use Rattle.cookie_raw.specs.Raw.{Raw}
@@ -16,7 +16,7 @@ none_of : {T : Type 0} (refusal : Option CookieError) (result : Result T CookieE
 none_of None result never told want = refl
 none_of (Some r) result never told want = grind (arith, never, told r refl, want)
 
--- where memory is wanted no early refusal came
+-- if out of memory, the cookie was not rejected early
 pub want_is_not_early : {T : Type 0} (read : Result Raw RawCookieParseError) (url : Parts) (result : Result T CookieError)
     → ((r : CookieError) → early read url ≡ Some r → result ≡ Err r) → result ≡ Err Memory → early read url ≡ None
 want_is_not_early read url result told want = none_of (early read url) result (not_memory read url) told want

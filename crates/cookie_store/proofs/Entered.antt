@@ -1,4 +1,4 @@
--- What becomes of a cookie, seen from what a store is made of.
+-- The result of an insertion, from the parts of a store.
 use Rattle.std.proofs.Common.{◌≡◌, Result, Ok, Err, refl}
 use Rattle.url.specs.Parts.{Parts}
 use Rattle.cookie_words.specs.Moments.{Moment}
@@ -12,7 +12,7 @@ use Rattle.cookie_laws.specs.Contents.{Contents, contents_of, kept_of}
 use Rattle.cookie_laws.specs.Rows.{key_of, row_of}
 use Rattle.cookie_laws.specs.Runs.{UnlessMemory}
 
--- no reply changes the list, or the limit
+-- no reply changes the list or the limit
 store_by_keeps : (reply : Result StoreAction CookieError) (store : Contents) (cookie : Row) (now : Moment)
     → contents_of (kept_of (store_by reply store cookie now)) store.suffixes store.limit ≡ store_by reply store cookie now
 store_by_keeps (Ok Inserted) store cookie now = refl
@@ -20,19 +20,19 @@ store_by_keeps (Ok UpdatedExisting) store cookie now = refl
 store_by_keeps (Ok ExpiredExisting) store cookie now = refl
 store_by_keeps (Err refusal) store cookie now = refl
 
--- so no cookie that may enter does
+-- so what follows the checks of the cookie does not, whether they passed or not
 entered_keeps : (made : Result Row CookieError) (url : Parts) (now : Moment) (store : Contents)
     → contents_of (kept_of (entered made url now store).store) store.suffixes store.limit ≡ (entered made url now store).store
 entered_keeps (Ok cookie) url now store = store_by_keeps (reply_at (row_of (key_of cookie) store.rows) cookie url now) store cookie now
 entered_keeps (Err refusal) url now store = refl
 
--- nor any other
+-- so no insertion does
 pub accept_keeps : (store : Contents) (cookie : Row) (url : Parts) (now : Moment)
     → contents_of (kept_of (accept store cookie url now).store) store.suffixes store.limit ≡ (accept store cookie url now).store
 unfolding accept
 accept_keeps store cookie url now = entered_keeps (admitted store.suffixes url cookie) url now store
 
--- what follows unless memory ran out
+-- a consequence that holds unless out of memory
 pub unless_then : {P Q : Type 0} (result : Result StoreAction CookieError) → (P → Q) → UnlessMemory result P → UnlessMemory result Q
 unless_then (Ok action) follows p = follows p
 unless_then (Err Memory) follows p = tt

@@ -1,4 +1,4 @@
--- What is read of rows that were saved as lines of JSON.
+-- What lines of JSON, saved from rows, read as.
 use Rattle.std.proofs.Common.{◌≡◌, ◌==◌, ◌-◌, ◌<◌, ℕ, Bool, true, false, List, [], ◌∷◌, ◌++◌, ◌&&◌, length, map, nat_le, Result, Ok, Err, refl, sym, ap, subst, ◌∙◌, append_assoc, arith}
 use Rattle.std.proofs.lemmas.Bool.Decides.{nat_tests}
 use Rattle.std.proofs.lemmas.List.Elements.{All-cons, All-get_or, All-head, All-nil, All-tail, All-weaker}
@@ -55,7 +55,7 @@ no_line_feed byte is = grind (arith, nat_tests, is)
 no_return : (byte : ℕ) → IsAbove byte → (byte == 13) ≡ false
 no_return byte is = grind (arith, nat_tests, is)
 
--- such a text ends in no carriage return
+-- a string without control characters does not end in a carriage return
 not_stripped : (text : List ℕ) → has_no_control text ≡ true → strip_carriage_return text ≡ text
 not_stripped [] none = refl
 not_stripped (byte ∷ text) none =
@@ -67,7 +67,7 @@ part_more : (part : List ℕ) (parts : List (List ℕ)) → 0 < length parts
 part_more part [] some = absurd (omega arith)
 part_more part (next ∷ parts) some = refl
 
--- and with a line feed behind it is a line
+-- with a line feed after it, it is a line
 line_more : (text rest : List ℕ) → has_no_control text ≡ true → lines (text ++ 10 ∷ rest) ≡ text ∷ lines rest
 line_more text rest none =
     let is_feed = λ (byte : ℕ). byte == 10 in
@@ -88,12 +88,12 @@ module _ (comes_back : (cookie : Row) → reading (cookie_text cookie.raw) ≡ O
   )
   of_tree row (Err fault) text back is says = absurd (cc)
 
-  -- what is said of a row is one line, which reads as the row
+  -- the string of a row is one line, which reads as the cut row
   said_back : (row : Row) (text : String Global) → ReadsBack row → SaysJson row (Ok text)
       → (has_no_control (string_bytes text) ≡ true) × (json_cookie (string_bytes text) ≡ Ok (cut_row row))
   said_back row text back says = of_tree row (written (saved_of row)) text back refl says
 
-  -- so what is said of rows is as many lines
+  -- so the strings of rows are as many lines
   lines_back : (rows : List Row) (texts : List (String Global)) → All ReadsBack rows → AreTexts SaysJson rows texts
       → lines (lines_text texts) ≡ map string_bytes texts
   lines_back [] [] back said = refl
@@ -104,7 +104,7 @@ module _ (comes_back : (cookie : Row) → reading (cookie_text cookie.raw) ≡ O
       ∙ line_more (string_bytes text) (lines_text texts) (said_back row text (All-head ReadsBack row rows back) said.0).0
       ∙ ap (λ others. string_bytes text ∷ others) (lines_back rows texts (All-tail ReadsBack row rows back) said.1)
 
-  -- of which each reads as its row
+  -- each of which reads as its cut row
   each_back : (rows : List Row) (texts : List (String Global)) → All ReadsBack rows → AreTexts SaysJson rows texts
       → AllZip ReadsAs (map string_bytes texts) (cut_rows rows)
   each_back [] [] back said = tt
@@ -120,7 +120,7 @@ module _ (comes_back : (cookie : Row) → reading (cookie_text cookie.raw) ≡ O
   come_back rows texts back said =
       subst (λ ls. AllZip ReadsAs ls (cut_rows rows)) (sym (lines_back rows texts back said)) (each_back rows texts back said)
 
--- cookies that are made of lines are those which the lines read as
+-- the cookies loaded from lines are those that the lines read as
 pub made_as_read : (texts : List (List ℕ)) (made read : List Row) → AreCookies MakesJson texts made → AllZip ReadsAs texts read → made ≡ read
 made_as_read [] [] [] are reads = refl
 made_as_read [] [] (row ∷ read) are reads = absurd reads

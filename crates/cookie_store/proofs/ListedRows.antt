@@ -1,4 +1,4 @@
--- Rows that are walked to make a list of them, and cookies that come as a list.
+-- Rows that are iterated into a list, and cookies that come as a list.
 use Rattle.std.proofs.Common.{◌≡◌, ℕ, ◌+◌, Bool, true, List, [], ◌∷◌, ◌++◌, filter, Option, Result, Ok, Err, IfOk, IfErr, IsOk, OnErr, OnOk, IsTrue, inr, map, Bor, refl, sym, ap, append_assoc, ◌∙◌}
 use Rattle.std.specs.Io.KnownBytes.{Appends}
 use Rattle.std.specs.Prelude.{◌≢◌}
@@ -22,43 +22,43 @@ use Rattle.cookie_store.specs.Saving.{line_text}
 use Rattle.cookie_store.proofs.SavedLines.{filter_around}
 use Rattle.cookie_store.proofs.Walked.{around}
 
--- a list with an item in it
+-- a list with an item is not empty
 with_item : {A : Type 0} (before : List A) (x : A) (after : List A) → before ++ x ∷ after ≢ []
 with_item [] x after is = absurd (cc)
 with_item (y ∷ before) x after is = absurd (cc)
 
--- a filter keeps something where an item passes
+-- a filter keeps something if one item passes
 pub some_kept : {A : Type 0} (kept : A → Bool) (all before : List A) (x : A) (after : List A) → all ≡ before ++ x ∷ after → kept x ≡ true
     → filter kept all ≢ []
 some_kept kept all before x after is passes none =
     with_item (filter kept before) x (filter kept after) (sym (ap (filter kept) is ∙ filter_around kept before x after passes) ∙ none)
 
--- a walk over all items comes to one that passes
+-- a filter keeps something if an item reached by the iteration passes
 pub some_walked : {A : Type 0} (kept : A → Bool) (all : List A) (done : List (Bor A)) (x : Bor A) (left after : List A) → left ≡ x.now ∷ after
     → map (λ c. c.now) done ++ left ≡ all → kept x.now ≡ true → filter kept all ≢ []
 some_walked kept all done x left after step so_far passes =
     some_kept kept all (map (λ c. c.now) done) x.now after (around done x left after all step so_far) passes
 
--- of an error that is the answer holds what holds in any case
+-- what always holds also holds on an error
 pub on_refusal : {T E P : Type 0} (answer : Result T E) → P → OnErr answer P
 on_refusal (Ok done) holds = tt
 on_refusal (Err error) holds = holds
 
 module _ (makes : List ℕ → Result (Vec Row Global) Error → Type 0) where
-  -- cookies that a function answers for a text are made of it
+  -- the cookies that a function returns for a string are those that it makes of it
   pub made_at_once : (text : List ℕ) (answer : Result (Vec Row Global) Error) → IsTrue (is_utf8 text) → makes text answer
       → IfOk answer (λ cookies. MakesCookies (MakesVec makes) text cookies.items)
   made_at_once text (Ok cookies) valid answers = (valid, (Ok cookies, answers, refl))
   made_at_once text (Err error) valid answers = tt
 
-  -- and with an error it refuses it
+  -- and if it returns an error, the string is rejected
   pub refused_at_once : (text : List ℕ) (answer : Result (Vec Row Global) Error) → IsTrue (is_utf8 text) → makes text answer
       → IfErr answer (λ error. RefusesText (MakesVec makes) error text)
   refused_at_once text (Ok cookies) valid answers = tt
   refused_at_once text (Err error) valid answers = inr (valid, (Err error, answers, refl))
 
 module _ (makes : List ℕ → Result (List Row) Error → Type 0) (text : List ℕ) where
-  -- the cookies that are made of a list as text, or why there are none
+  -- the cookies of a list, or the error, as a result with a vector
   pub list_made : (answer : Result (Vec Row Global) Error) → IsTrue (is_utf8 text)
       → makes text (result_map_both (λ cookies. cookies.items) (λ error. error) answer)
       → IfOk answer (λ cookies. MakesCookies makes text cookies.items)
@@ -72,27 +72,27 @@ module _ (makes : List ℕ → Result (List Row) Error → Type 0) (text : List 
   list_refused (Err error) valid made = inr (valid, made)
 
 module _ (says : List Row → Result (String Global) Error → Type 0) (rows : List Row) (text : String Global) (said : says rows (Ok text)) {T : Type 0} where
-  -- the text of the rows was written, and a line feed
+  -- the string of the rows and a line feed were written
   pub list_written : (answer : Result T Error) (old new : Option (List ℕ)) → OnOk answer (Appends old new (line_text text))
       → OnOk answer (WritesList says rows old new)
   list_written (Ok done) old new appended = (text, said, appended)
   list_written (Err error) old new appended = tt
 
-  -- or a beginning of it
+  -- or a beginning of them
   pub list_begun : (answer : Result T Error) (old new : Option (List ℕ)) (failures failures' : ℕ)
       → IfErr answer (λ error. AppendsBeginning old new (line_text text) × (error ≡ Io) × (failures' ≡ failures + 1))
       → IfErr answer (λ error. FailsToSaveList says error rows old new failures failures')
   list_begun (Ok done) old new failures failures' begun = tt
   list_begun (Err error) old new failures failures' (begun, is, count) = inr (text, said, begun, is, count)
 
--- a cookie that stands before others goes to the end of those before it
+-- a cookie in front of others is moved to the end of those before
 moved_over : (done : List Row) (cookie : Row) (others : Result (List Row) CookieError)
     → result_map_both (λ cookies. done ++ cookies) (λ fault. fault) (result_map_both (λ cookies. cookie ∷ cookies) (λ fault. fault) others)
     ≡ result_map_both (λ cookies. (done ++ cookie ∷ []) ++ cookies) (λ fault. fault) others
 moved_over done cookie (Ok cookies) = ap Ok (sym (append_assoc done (cookie ∷ []) cookies))
 moved_over done cookie (Err fault) = refl
 
--- the cookie of the first form is made
+-- the cookie of the first saved form was made
 pub form_done : (done : List Row) (cookie : Row) (form : Parts Moment) (forms : List (Parts Moment)) → cookie_of_saved form ≡ Ok cookie
     → result_map_both (λ cookies. done ++ cookies) (λ fault. fault) (cookies_of_saved (form ∷ forms))
     ≡ result_map_both (λ cookies. (done ++ cookie ∷ []) ++ cookies) (λ fault. fault) (cookies_of_saved forms)
@@ -105,7 +105,7 @@ some_made (Err fault) others e = cc
 some_made (Ok cookie) (Err fault) e = cc
 some_made (Ok cookie) (Ok cookies) e = let some : Ok (cookie ∷ cookies) ≡ Ok [] = e in cc
 
--- where there are no cookies, no form was read
+-- if there are no cookies, no saved form was read
 pub none_read : (told : Result (List (Parts Moment)) SavedError) → read_cookies told ≡ Ok [] → told ≡ Ok []
 none_read (Err fault) e = cc
 none_read (Ok []) e = refl
@@ -114,7 +114,7 @@ none_read (Ok (form ∷ forms)) e = absurd (some_made (cookie_of_saved form) (co
 pub none_listed : (told : Result (List (Parts Moment)) SavedError) (forms : List (Parts Moment)) → told ≡ Ok forms → read_cookies told ≡ Ok [] → forms ≡ []
 none_listed told forms is none = let empty : told ≡ Ok [] = none_read told none in cc
 
--- what fails for some items alone succeeds for none
+-- what fails only if there are items succeeds if there are none
 pub done_of_none : {A B T E : Type 0} (f : A → B) (items : List A) (answer : Result T E) → map f items ≡ [] → OnErr answer (items ≢ []) → IsOk answer
 done_of_none f items (Ok done) none fails = refl
 done_of_none f [] (Err error) none fails = absurd (fails refl)

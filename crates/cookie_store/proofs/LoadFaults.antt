@@ -1,4 +1,4 @@
--- Faults of loading, with and without the number of the line.
+-- Errors of loading, with and without the number of the line.
 use Rattle.std.proofs.Common.{◌≡◌, ℕ, List, Option, Result, Err, IfSome, inl, inr, refl}
 use Rattle.std.proofs.lemmas.Option.{IfSome_then}
 use Rattle.cookie_device.specs.FillError.{CountsRead}
@@ -12,21 +12,21 @@ use Rattle.cookie_store.specs.declared.loading.LoadFault.{LoadFault}
 use Rattle.cookie_store.specs.declared.loading.LoadFault.TheVariants.{Source, Line}
 
 module _ (makes : List ℕ → Result Row Error → Type 0) where
-  -- a fault at a line that is reached
+  -- an error at a line that is reached
   pub stops_at : (fault : LoadFault) (number : ℕ) (line : List ℕ) (known rest : Option (List ℕ)) (failures failures' reads_left reads_left' : ℕ)
       → (error : Error) × (fault ≡ Line number error) × FailsAtLine makes error line → IsReachedAt makes number line known
       → failures' ≡ failures → StopsLoading makes fault known rest failures failures' reads_left reads_left'
   stops_at fault number line known rest failures failures' reads_left reads_left' (error, is, fails) reached count =
       rw is (line, fails, reached, count)
 
-  -- a fault of the source
+  -- an error of the source
   pub stops_reading : (fault : FillError) (known rest : Option (List ℕ)) (failures between failures' reads_left reads_left' : ℕ)
       → IfSome known (StopsWithinLine makes rest reads_left reads_left') → CountsRead {T = ℕ} (Err fault) between failures'
       → between ≡ failures → StopsLoading makes (Source fault) known rest failures failures' reads_left reads_left'
   stops_reading Fill.Read known rest failures between failures' reads_left reads_left' within count same = (within, rw (← same) count)
   stops_reading Fill.Memory known rest failures between failures' reads_left reads_left' within count same = (within, rw (← same) count)
 
-  -- what stops loading is a failure to load, by the error that it is
+  -- an error with a line number is the same error without it
   pub fails_by : (fault : LoadFault) (known rest : Option (List ℕ)) (failures failures' reads_left reads_left' : ℕ)
       → StopsLoading makes fault known rest failures failures' reads_left reads_left'
       → FailsToLoad makes (error_of fault) known rest failures failures' reads_left reads_left'

@@ -1,4 +1,4 @@
--- What is loaded by a function is loaded by each relation that its answers keep.
+-- What holds of loading by a function holds of loading by each relation that all its results satisfy.
 use Rattle.std.proofs.Common.{ℕ, Bool, List, Option, Result, Ok, Err, inl, inr, IfOk, IfErr}
 use Rattle.std.proofs.lemmas.Option.{IfSome_then}
 use Rattle.std.specs.Borrow.{Bor}
@@ -57,7 +57,7 @@ module _ {makes yields : List ℕ → Result Row Error → Type 0}
   stops_alike (Source Fill.Memory) known rest failures failures' reads_left reads_left' (within, count) =
       (IfSome_then known within (stops_within_alike rest reads_left reads_left'), count)
 
--- the same of what a call with a function ensures
+-- the same for what the contract of a call with a function ensures
 pub loaded_alike : {F : Type 0} (g : Shared F (Bor (List ℕ) × Unit {0}) (Result Row Error)) (f : F)
     (yields : List ℕ → Result Row Error → Type 0)
     → ((line : List ℕ) (answer : Result Row Error) → FnReturnsAt g f line answer → yields line answer)

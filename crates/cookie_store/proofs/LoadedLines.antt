@@ -1,4 +1,4 @@
--- Lines of a text that is read bit by bit, and the cookies that are made of them.
+-- Lines of a source that is read in parts, and the cookies loaded from them.
 use Rattle.std.proofs.Common.{◌≡◌, ℕ, ◌+◌, Bool, true, false, cond, eqb, List, [], ◌∷◌, ◌++◌, Option, Some, None, Result, Ok, Err, IfSome, IfOk, IfErr, IsTrue, inr, length, position, take, drop, refl, sym, ap, ◌∙◌, append_assoc, append-nil, take-append-drop, length-append, min, ◌-◌, ◌^◌, ◌≤◌, arith}
 use Rattle.std.specs.Str.{is_utf8}
 use Rattle.std.specs.Str.Lines.{lines, lines_of_parts, strip_carriage_return}
@@ -17,7 +17,7 @@ pub built_none : (include_expired : Bool) (now : Moment) → record { rows = [];
 built_none true now = refl
 built_none false now = refl
 
--- bytes that were passed go from those at hand to those before
+-- passing bytes moves them from the buffer to those already passed
 passed_over : (front at_hand behind more : List ℕ) (count : ℕ) → behind ≡ drop count at_hand
     → front ++ take count at_hand ++ (behind ++ more) ≡ front ++ (at_hand ++ more)
 passed_over front at_hand behind more count is =
@@ -25,24 +25,24 @@ passed_over front at_hand behind more count is =
     ∙ ap (λ xs. front ++ xs) (sym (append_assoc (take count at_hand) behind more)
     ∙ ap (λ xs. xs ++ more) (ap (λ xs. take count at_hand ++ xs) is ∙ take-append-drop count at_hand))
 
--- bytes that stay in front, and what came behind them
+-- bytes that begin with the old ones are the old ones and those after them
 grown : (old new : List ℕ) → StartsWith new old → new ≡ old ++ drop (length old) new
 grown old new starts = sym (take-append-drop (length old) new) ∙ ap (λ xs. xs ++ drop (length old) new) starts
 
 module _ (makes : List ℕ → Result Row Error → Type 0) where
-  -- a cookie that the function answers for a text is made of it
+  -- a cookie that the function returns for a line is one that it makes of it
   pub made : (line : List ℕ) (answer : Result Row Error) → IsTrue (is_utf8 line) → makes line answer
       → IfOk answer (λ cookie. MakesCookie makes line cookie)
   made line (Ok cookie) valid answers = (valid, answers)
   made line (Err error) valid answers = tt
 
-  -- and with an error it refuses it
+  -- and if it returns an error, the line is rejected
   pub refused : (line : List ℕ) (answer : Result Row Error) → IsTrue (is_utf8 line) → makes line answer
       → IfErr answer (λ error. RefusesLine makes error line)
   refused line (Ok cookie) valid answers = tt
   refused line (Err error) valid answers = inr (valid, answers)
 
-  -- a line that is taken brings one cookie more
+  -- each line that is loaded adds one cookie
   pub taken_built : (line : List ℕ) (include_expired : Bool) (now : Moment) (old new : Kept) (cookies : List Row)
       → TakesLine makes line include_expired now old new → old ≡ built include_expired now cookies
       → (cookie : Row) × MakesCookie makes line cookie × (new ≡ built include_expired now (cookies ++ cookie ∷ []))
@@ -52,8 +52,8 @@ module _ (makes : List ℕ → Result Row Error → Type 0) where
     taken cookies are_built,
   )
 
--- The bytes `front` of the text were passed, and with them the lines `done`, whatever comes behind the bytes at hand. The source
--- has what is left.
+-- `front` has been passed, with the lines `done`; `at_hand` is in the buffer, and `left` is still in the source. The lines `done` do
+-- not depend on what follows the buffer.
 pub record Loaded (text at_hand : List ℕ) (rest : Option (List ℕ)) (done : List (List ℕ)) : Type 0 where
   pub front : List ℕ
   pub left : List ℕ
@@ -61,12 +61,12 @@ pub record Loaded (text at_hand : List ℕ) (rest : Option (List ℕ)) (done : L
   pub whole : text ≡ front ++ (at_hand ++ left)
   pub split : (more : List ℕ) → lines (front ++ (at_hand ++ more)) ≡ done ++ lines (at_hand ++ more)
 
--- at first all is left
+-- at the beginning all bytes are left
 pub begun : (rest : Option (List ℕ)) → IfSome rest (λ text. Loaded text [] rest [])
 begun None = tt
 begun (Some text) = record { front = []; left = text; known = refl; whole = refl; split = λ more. refl }
 
--- the lines of the text, where the next is known
+-- the lines of the source, once the next line is in the buffer
 next_line : (text at_hand line : List ℕ) (rest : Option (List ℕ)) (done : List (List ℕ)) (end : ℕ)
     (l : Loaded text at_hand rest done) → EndsLine at_hand end → line ≡ strip_carriage_return (take end at_hand)
     → (more : List ℕ) → lines (l.front ++ (at_hand ++ more)) ≡ done ++ line ∷ lines (drop (end + 1) at_hand ++ more)
@@ -74,7 +74,7 @@ next_line text at_hand line rest done end l ends is more =
     let others = lines (drop (end + 1) at_hand ++ more) in
     l.split more ∙ ap (λ ls. done ++ ls) (ends more ∙ ap (λ x. x ∷ others) (sym is))
 
--- it is the next of the text
+-- that line is the next line of the source
 pub next_found : (text at_hand line : List ℕ) (rest : Option (List ℕ)) (done : List (List ℕ)) (end : ℕ)
     → Loaded text at_hand rest done → EndsLine at_hand end → line ≡ strip_carriage_return (take end at_hand)
     → (after : List (List ℕ)) × (lines text ≡ done ++ line ∷ after)
@@ -83,7 +83,7 @@ next_found text at_hand line rest done end l ends is = (
   ap lines l.whole ∙ next_line text at_hand line rest done end l ends is l.left,
 )
 
--- it is passed
+-- passing that line
 pub passed : (text at_hand behind line : List ℕ) (rest : Option (List ℕ)) (done : List (List ℕ)) (end : ℕ)
     → Loaded text at_hand rest done → EndsLine at_hand end → line ≡ strip_carriage_return (take end at_hand)
     → behind ≡ drop (end + 1) at_hand → Loaded text behind rest (done ++ line ∷ [])
@@ -100,7 +100,7 @@ passed text at_hand behind line rest done end l ends is stands =
           ∙ sym (append_assoc done (line ∷ []) (lines (behind ++ more)));
     }
 
--- the source was read
+-- after a read
 pub filled : (text old new : List ℕ) (rest less : Option (List ℕ)) (done : List (List ℕ))
     → Loaded text old rest done → Keeps (prepend_known old rest) (prepend_known new less) → StartsWith new old
     → IfSome rest (λ left. (more : List ℕ) × (less ≡ Some more) × (length left + length old ≡ length more + length new))
@@ -118,11 +118,11 @@ filled text old new rest less done l kept starts moved =
           ap (λ bs. lines (l.front ++ bs)) longer ∙ l.split (drop (length old) new ++ xs) ∙ ap (λ bs. done ++ lines bs) (sym longer);
     }
 
--- all of the text was read: its lines are those that were passed, and the last bytes, unless there are none
+-- all bytes were read: the lines are those passed, and the last bytes if there are any
 abbrev pub IsEnded : List ℕ → List (List ℕ) → List ℕ → Type 0
 IsEnded last done text = lines text ≡ done ++ lines_of_parts (last ∷ [])
 
--- the source is at its end, and no line feed is at hand
+-- if the source is at its end and the buffer has no line feed
 pub ended : (text last : List ℕ) (rest : Option (List ℕ)) (done : List (List ℕ))
     → Loaded text last rest done → IsAtEnd rest → IsLastLine last → IsEnded last done text
 ended text last rest done l end one =
@@ -135,12 +135,12 @@ pub finished : (text last : List ℕ) (done : List (List ℕ)) → IsEnded last 
 finished text last done is empty =
     let none = ap (λ test. cond test [] (last ∷ [])) (sym empty) in sym (is ∙ ap (λ ls. done ++ ls) none ∙ append-nil done)
 
--- else they are the last line
+-- otherwise they are the last line
 pub last_found : (text last : List ℕ) (done : List (List ℕ)) → IsEnded last done text → false ≡ eqb (length last) 0
     → lines text ≡ done ++ last ∷ []
 last_found text last done is some = is ∙ ap (λ ls. done ++ ls) (ap (λ test. cond test [] (last ∷ [])) (sym some))
 
--- without a line feed at hand, the reading is within a line; each read that succeeded brought a byte
+-- without a line feed in the buffer, reading is within a line; each successful read gave at least a byte
 pub within : (makes : List ℕ → Result Row Error → Type 0) (text at_hand : List ℕ) (rest : Option (List ℕ)) (done : List (List ℕ))
     (cookies : List Row) (reads_left reads_left' : ℕ)
     → AreCookies makes done cookies → Loaded text at_hand rest done
@@ -160,11 +160,11 @@ within makes text at_hand rest done cookies reads_left reads_left' are_made l br
       omega arith,
     )
 
--- the number behind one line more
+-- the number after one more line
 pub number_more : (done : List (List ℕ)) (line : List ℕ) → min (number_behind done + 1) (2 ^ 64 - 1) ≡ number_behind (done ++ line ∷ [])
 number_more done line = let more = length-append done (line ∷ []) in grind (arith, more)
 
--- a read that failed brought nothing, and none is taken of the reads left
+-- a failed read gave nothing, and did not use up a read
 pub not_read : (old new text : List ℕ) (rest less : Option (List ℕ)) (reads_left reads_left' reads_left'' : ℕ)
     → (left : List ℕ) × (rest ≡ Some left) × (reads_left + length left ≤ reads_left' + length text)
     → IfSome rest (λ left. (more : List ℕ) × (less ≡ Some more) × (length left + length old ≡ length more + length new))

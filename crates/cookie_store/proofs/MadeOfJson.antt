@@ -1,4 +1,4 @@
--- What is made of a line of JSON, and of a list.
+-- What a line of JSON, and a JSON array, read as.
 use Rattle.std.proofs.Common.{◌≡◌, ℕ, List, [], Result, Ok, Err, Some, None, inl, inr, refl, sym, ◌∙◌, ap}
 use Rattle.std.specs.Prelude.{◌≢◌, ◌⊎◌, IfOk, IfErr}
 use Rattle.std.specs.Result.{result_map_both}
@@ -23,7 +23,7 @@ nothing_read = refl
 some_text : (line : List ℕ) (tree : Data) → read line ≡ Some tree → line ≢ []
 some_text line tree is none = let clash : None ≡ Some tree = sym nothing_read ∙ ap read (sym none) ∙ is in absurd (cc)
 
--- what is made of its tree is made of the line
+-- a line reads as its JSON value does
 pub tree_makes : (line : List ℕ) (tree : Data) (result : Result Row Error) → read line ≡ Some tree
     → IfOk result (λ cookie. tree_cookie tree ≡ Ok cookie)
     → IfErr result (λ error. (error ≡ Memory) ⊎ (tree_cookie tree ≡ Err error)) → MakesJson line result
@@ -34,7 +34,7 @@ tree_makes line tree (Err error) is made (inr refused) = inl (of_tree line tree 
 of_list_tree : (text : List ℕ) (tree : Data) → read text ≡ Some tree → json_cookies text ≡ tree_cookies tree
 of_list_tree text tree is = rw (json_cookies, is) refl
 
--- the same of the cookies of a list
+-- the same for the cookies of a list
 pub tree_makes_list : (text : List ℕ) (tree : Data) (answer : Result (Vec Row Global) Error) → read text ≡ Some tree
     → IfOk answer (λ cookies. tree_cookies tree ≡ Ok cookies.items)
     → IfErr answer (λ error. (error ≡ Memory) ⊎ (tree_cookies tree ≡ Err error))

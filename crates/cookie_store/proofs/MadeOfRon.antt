@@ -1,4 +1,4 @@
--- What is made of a list in RON.
+-- What a list in RON reads as.
 use Rattle.std.proofs.Common.{◌≡◌, ℕ, List, [], Result, Ok, Err, inl, inr, refl, sym, ◌∙◌}
 use Rattle.std.specs.Prelude.{◌≢◌, ◌⊎◌, IfOk, IfErr}
 use Rattle.std.specs.Result.{result_map_both}
@@ -21,7 +21,7 @@ module _ (text : List ℕ) (result : Result (Vec Saved Global) SavedError) (empt
   is_some : (e : SavedError) → result ≡ Err e → e ≡ Fault.Memory → text ≢ []
   is_some e told memory none = let fault = sym told ∙ empty none in absurd (cc)
 
-  -- what is made of its list is made of the text
+  -- a string reads as its list does
   pub ron_made : (saved : Vec Saved Global) → result ≡ Ok saved → (list : List (Parts Moment)) (answer : Result (Vec Row Global) Error) → SaysRon text (Ok list)
       → IfOk answer (λ cookies. cookies_of_saved list ≡ Ok cookies.items)
       → IfErr answer (λ error. (error ≡ Memory) ⊎ (result_map_both (λ cookies. cookies) Cookie (cookies_of_saved list) ≡ Err error))
@@ -30,7 +30,7 @@ module _ (text : List ℕ) (result : Result (Vec Saved Global) SavedError) (empt
   ron_made saved read list (Err error) says made (inl memory) = inr (memory, λ none. let clash = sym read ∙ empty none in absurd (cc))
   ron_made saved read list (Err error) says made (inr refused) = inl (Ok list, says, sym refused)
 
-  -- and what the text is refused for is what is made of it
+  -- and the error of parsing the string is the error of reading it
   pub ron_refused : (fault : SavedError) → result ≡ Err fault → (fault ≡ Fault.Memory) ⊎ SaysRon text (Err fault)
       → MakesRonList text (Err (fault_of_saved fault))
   ron_refused fault told (inl memory) = rw memory (inr (refl, is_some fault told memory))

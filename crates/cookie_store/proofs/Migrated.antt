@@ -1,4 +1,4 @@
--- What stops the loading of lines of JSON, told as it is of a migration.
+-- An error of loading lines of JSON, as an error of a migration.
 use Rattle.std.proofs.Common.{◌≡◌, ℕ, List, Option, inl, inr}
 use Rattle.cookie_device.specs.declared.lines.FillError.TheVariants as Fill
 use Rattle.cookie_parts.specs.declared.error.Error.{Error}
@@ -11,7 +11,7 @@ use Rattle.cookie_store.specs.declared.loading.LoadFault.{LoadFault}
 use Rattle.cookie_store.specs.declared.loading.LoadFault.TheVariants.{Line, Source}
 use Rattle.cookie_store.proofs.LoadFaults.{fails_by}
 
--- a line where loading fails, but for want of memory, is refused
+-- a line at which loading fails, but not out of memory, is rejected
 refuses : (error : Error) (line : List ℕ) → (error ≡ Memory → ⊥) → FailsAtLine MakesJson error line → RefusesLine IsOfJson error line
 refuses error line other (inl (memory, cookie, made)) = absurd (other memory)
 refuses error line other (inr (inl not_utf8)) = inl not_utf8

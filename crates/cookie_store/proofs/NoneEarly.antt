@@ -1,4 +1,4 @@
--- Cookies that are made of lines of JSON end at no moment before the year 0, nor do rows that are built from them.
+-- Cookies loaded from lines of JSON do not expire before the year 0, nor do the rows built from them.
 use Rattle.std.proofs.Common.{◌≡◌, ℕ, Bool, true, false, not, ◌&&◌, ◌||◌, List, [], ◌∷◌, map, Option, Some, None, option_map, Result, Ok, Err, int_lt, pos, refl, ap, subst, ◌∙◌, arith, if◌then◌else◌, drop}
 use Rattle.std.specs.List.{list_any}
 use Rattle.std.proofs.lemmas.Bool.{or_parts, cond_both}
@@ -28,7 +28,7 @@ use Rattle.cookie_store.specs.JsonLines.{tree_cookie, MakesJson}
 use Rattle.cookie_store.specs.Loading.{AreCookies}
 use Rattle.cookie_store.specs.Migration.{HaveSavedForms}
 
--- no moment that a text writes is before the year 0
+-- no time that a string can write is before the year 0
 none_before : (n : ℕ) → int_lt (pos n) (pos 0) ≡ false
 none_before n = grind (arith, nat_tests)
 
@@ -74,7 +74,7 @@ of_tree : (float : Bool) (parts : Option (Parts (List ℕ))) (saved : Parts Mome
 of_tree true parts saved is = absurd (cc)
 of_tree false parts saved is = of_parts parts saved is
 
--- nor does a saved cookie that a tree is read as
+-- nor does a saved cookie read from a JSON value expire before it
 of_saved_tree : (tree : Data) (saved : Parts Moment) → saved_at tree ≡ Ok saved → is_early saved ≡ false
 of_saved_tree tree saved is = of_tree (has_float tree) (parts_in tree) saved is
 
@@ -82,7 +82,7 @@ ends_back : (ends : Option Moment) → saved_end (end_of_saved ends) ≡ ends
 ends_back None = refl
 ends_back (Some end) = refl
 
--- nor the cookie of it
+-- nor its cookie
 of_raw : (raw : Result Raw CookieError) (saved : Parts Moment) (cookie : Row) → is_early saved ≡ false
     → and_then raw (λ raw. Ok (record {
       raw = raw;
@@ -112,11 +112,11 @@ of_read : (tree : Option Data) (cookie : Row)
 of_read None cookie is = absurd (cc)
 of_read (Some tree) cookie is = of_saved (saved_at tree) cookie (of_saved_tree tree) is
 
--- the row ends before the year 0
+-- the row expires before the year 0
 abbrev ends_before : Row → Bool
 ends_before row = is_early (saved_of row)
 
--- no cookie that is made of lines does
+-- no cookie loaded from lines does
 none_made : (texts : List (List ℕ)) (cookies : List Row) → AreCookies MakesJson texts cookies → list_any ends_before cookies ≡ false
 none_made [] [] made = refl
 none_made [] (cookie ∷ cookies) made = absurd made
@@ -124,7 +124,7 @@ none_made (text ∷ texts) [] made = absurd made
 none_made (text ∷ texts) (cookie ∷ cookies) ((valid, is), others) =
     rw (of_read (read text) cookie is, none_made texts cookies others) refl
 
--- where no row passes a test, and a cookie does not, no row does that the cookie is put among
+-- if no row and not the cookie passes a test, no row passes after the cookie is inserted
 module _ (test : Row → Bool) where
   none_after : (last : Row → Bool) (rows : List Row) (cookie : Row) → list_any test rows ≡ false → test cookie ≡ false
       → list_any test (after_last last rows cookie) ≡ false
@@ -164,6 +164,6 @@ of_forms : (rows : List Row) → list_any is_early (map saved_of rows) ≡ list_
 of_forms [] = refl
 of_forms (row ∷ rows) = ap (λ b. ends_before row || b) (of_forms rows)
 
--- so no row does that is built from such cookies
+-- so no row built from such cookies does
 pub none_built : (texts : List (List ℕ)) (cookies : List Row) → AreCookies MakesJson texts cookies → HaveSavedForms (put_all [] cookies)
 none_built texts cookies made = of_forms (put_all [] cookies) ∙ none_put_all ends_before [] cookies refl (none_made texts cookies made)

@@ -1,4 +1,4 @@
--- What is read of rows that were saved as a list in RON.
+-- What a list in RON, saved from rows, reads as.
 use Rattle.std.proofs.Common.{◌≡◌, ℕ, List, [], ◌∷◌, ◌++◌, map, Result, Ok, Err, refl, sym, ap, subst, ◌∙◌}
 use Rattle.std.specs.List.{All}
 use Rattle.std.specs.Prelude.{string_bytes}
@@ -19,7 +19,7 @@ use Rattle.cookie_store.specs.RonLists.{RonCookies, SaysListText, SaysRonList}
 use Rattle.cookie_store.specs.Saving.{line_text}
 use Rattle.cookie_store.proofs.CutRows.{cookies_cut, forms_of}
 
--- the text that is said is that of the list
+-- the string that is saved is that of the list
 text_said : (told : Result (List ℕ) SavedError) (text : String Global) → SaysListText told (Ok text) → told ≡ Ok (string_bytes text)
 text_said (Ok written) text says = ap Ok (sym says)
 text_said (Err fault) text says = absurd (cc)

@@ -1,4 +1,4 @@
--- What is written by a function is written by each relation that its answers keep.
+-- What holds of saving by a function holds of saving by each relation that all its results satisfy.
 use Rattle.std.proofs.Common.{ℕ, List, Option, Result, Ok, Err, inl, inr, OnOk, IfErr}
 use Rattle.std.specs.Borrow.{Bor}
 use Rattle.std.specs.Fn.{FnReturnsAt, Shared}
@@ -9,7 +9,7 @@ use Rattle.cookie_parts.specs.declared.error.Error.{Error}
 use Rattle.cookie_store.specs.Saving.{AreTexts, FailsToSave, StopsAtRow, StopsWithinRow, WritesRows}
 use Rattle.cookie_store.proofs.Pairs.{AllZip-then}
 
--- a relation keeps what a function may answer
+-- all results of the one relation satisfy the other
 abbrev pub IsKept : (says tells : Row → Result (String Global) Error → Type 0) → Type 0
 IsKept says tells = (row : Row) (answer : Result (String Global) Error) → says row answer → tells row answer
 
@@ -50,7 +50,7 @@ module _ {says tells : Row → Result (String Global) Error → Type 0} where
   fails_to_save_alike error rows old new failures failures' (inr (stops, is, count)) kept =
       inr (stops_within_alike rows old new stops kept, is, count)
 
--- the same of what a call with a function ensures
+-- the same for what the contract of a call with a function ensures
 module _ {F T : Type 0} (g : Shared F (Bor Row × Unit {0}) (Result (String Global) Error)) (f : F)
     (tells : Row → Result (String Global) Error → Type 0) (kept : IsKept (FnReturnsAt g f) tells) where
   pub whole_alike : (result : Result T Error) (rows : List Row) (old new : Option (List ℕ))

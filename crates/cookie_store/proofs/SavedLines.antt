@@ -1,4 +1,4 @@
--- Lines that are written of some rows and of one row more.
+-- The lines of rows, and of one row more.
 use Rattle.std.proofs.Common.{◌≡◌, ℕ, ◌+◌, Bool, true, false, List, [], ◌∷◌, ◌++◌, Option, Result, Ok, Err, ◌⊎◌, inl, inr, refl, ap, subst, ◌∙◌, append-nil, arith}
 use Rattle.std.specs.List.{filter}
 use Rattle.std.specs.declared.alloc.Global.{Global}
@@ -18,17 +18,17 @@ pub filter-all : {A : Type 0} (xs : List A) → filter (λ x. true) xs ≡ xs
 filter-all [] = refl
 filter-all (x ∷ xs) = ap (λ ys. x ∷ ys) (filter-all xs)
 
--- of items, one of which passes, a filter keeps it among the others that it keeps
+-- a filter keeps an item that passes, in its place
 pub filter_around : {A : Type 0} (p : A → Bool) (before : List A) (x : A) (after : List A) → p x ≡ true
     → filter p (before ++ x ∷ after) ≡ filter p before ++ x ∷ filter p after
 filter_around p before x after passes = filter-append p before (x ∷ after) ∙ grind arith
 
--- and leaves one out that does not pass
+-- and drops one that does not pass
 pub filter_past : {A : Type 0} (p : A → Bool) (before : List A) (x : A) → p x ≡ false → filter p (before ++ x ∷ []) ≡ filter p before
 filter_past p before x fails = grind (arith, filter-append p before (x ∷ []), append-nil (filter p before))
 
 module _ (says : Row → Result (String Global) Error → Type 0) where
-  -- no line, of no row
+  -- no row has no line
   pub writes_none : (a : Option (List ℕ)) → WritesRows says [] a a
   writes_none a = ([], tt, Appends-nil a)
 
@@ -44,7 +44,7 @@ module _ (says : Row → Result (String Global) Error → Type 0) where
             (Appends-trans a b c (lines_text texts) (line_text text) lines.2 line.2),
       )
 
-  -- the rows before one were written, and then the function refused it, or a beginning of its line was written
+  -- the rows before one were written, and then the function returned an error for it, or a beginning of its line was written
   pub stopped_at : (error : Error) (rows before : List Row) (row : Row) (after : List Row) (a b c : Option (List ℕ)) (n m k : ℕ)
       → rows ≡ before ++ row ∷ after → WritesRows says before a b → m ≡ n
       → (says row (Err error) × Keeps b c × (k ≡ m)) ⊎ (BeginsRow says row b c × (error ≡ Io) × (k ≡ m + 1))

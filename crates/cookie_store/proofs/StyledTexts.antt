@@ -1,4 +1,4 @@
--- Texts that are written in parts to a formatter with options.
+-- Strings written in parts to a formatter with options.
 use Rattle.std.proofs.Common.{◌≡◌, ℕ, List, ◌++◌, Option, Some, None, option_map, Result, IsOk, refl}
 use Rattle.std.specs.Fmt.{DisplaysStyledOnOk, HasWrittenStyled, WritesStyledOnOk}
 use Rattle.std.specs.declared.fmt.Error.{Error}
@@ -6,12 +6,12 @@ use Rattle.std.specs.declared.fmt.Formatter.{Formatter}
 use Rattle.cookie_raw.proofs.StyledWrites as Writes
 
 module _ {W : Type 0} (took : W → List ℕ → W → Type 0) where
-  -- three writes are one
+  -- three writes are one write
   pub styled_three : (f g h i : Formatter W) (a b c all : List ℕ) → HasWrittenStyled took f a g → HasWrittenStyled took g b h
       → HasWrittenStyled took h c i → a ++ (b ++ c) ≡ all → HasWrittenStyled took f all i
   styled_three f g h i a b c all = Writes.styled_three took f g h i a b c all
 
-  -- a text, and behind it one that may be known
+  -- a string, and after it one that may be known
   pub styled_before : (f g h : Formatter W) (first second : Result (Unit {0}) Error) (front : List ℕ) (behind : Option (List ℕ))
       → WritesStyledOnOk took f first front g → IsOk first → DisplaysStyledOnOk took g second behind h
       → DisplaysStyledOnOk took f second (option_map (λ words. front ++ words) behind) h

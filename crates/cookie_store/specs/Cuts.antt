@@ -1,4 +1,4 @@
--- Rows that come back from what was saved of them.
+-- Rows that can be saved and loaded again, with each expiry cut to whole seconds.
 use Rattle.std.specs.Prelude.{◌≡◌, List, map, Ok}
 use Rattle.cookie_raw.specs.CookieText.{cookie_text}
 use Rattle.cookie_raw.specs.Reading.{reading}
@@ -9,18 +9,19 @@ use Rattle.cookie_parts.specs.Cookie.{Row}
 use Rattle.cookie_parts.specs.Expiry.{Expiry, AtUtc, SessionEnd}
 use Rattle.cookie_parts.specs.Passage.{saved_of}
 
--- it has a saved form, and the text of its raw cookie reads as that raw cookie
+-- the row has a saved form, and the string of its raw cookie parses as that raw cookie
 abbrev pub ReadsBack : Row → Type 0
 ReadsBack row = (reading (cookie_text row.raw) ≡ Ok row.raw) × (form : Saved) × (saved_view form ≡ saved_of row)
 
--- an end cut to whole seconds
+-- an expiry, cut to whole seconds
 abbrev pub cut_end : Expiry → Expiry
 cut_end (AtUtc end) = AtUtc (whole_seconds end)
 cut_end SessionEnd = SessionEnd
 
--- rows whose ends are cut so
+-- a row, with its expiry cut to whole seconds
 abbrev pub cut_row : Row → Row
 cut_row row = record row { expires = cut_end row.expires }
 
+-- rows, with their expiries cut to whole seconds
 abbrev pub cut_rows : List Row → List Row
 cut_rows rows = map cut_row rows

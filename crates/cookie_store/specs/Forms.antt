@@ -1,4 +1,4 @@
--- The forms that rows are saved in as a list.
+-- The formats in which rows are saved as one list.
 use Rattle.std.specs.Prelude.{ℕ, List, Result}
 use Rattle.std.specs.declared.alloc.Global.{Global}
 use Rattle.std.specs.declared.string.String.{String}
@@ -9,12 +9,12 @@ use Rattle.cookie_store.specs.RonLists.{MakesRonList, SaysRonList}
 use Rattle.cookie_store.specs.declared.serde.forms.Form.{Form}
 use Rattle.cookie_store.specs.declared.serde.forms.Form.TheVariants.{Json, Ron}
 
--- what is said of rows in the form
+-- the result of writing rows in the format
 abbrev pub SaysList : Form → List Row → Result (String Global) Error → Type 0
 SaysList Json = SaysJsonList
 SaysList Ron = SaysRonList
 
--- what is made of a text of the form
+-- the result of reading a string in the format
 abbrev pub MakesList : Form → List ℕ → Result (List Row) Error → Type 0
 MakesList Json = MakesJsonList
 MakesList Ron = MakesRonList

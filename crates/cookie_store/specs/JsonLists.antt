@@ -1,4 +1,4 @@
--- Rows that are saved as one text of JSON, and made of one.
+-- Rows saved as one JSON array, and loaded from it.
 use Rattle.std.specs.Prelude.{◌≡◌, ◌≢◌, ◌⊎◌, ℕ, List, [], map, string_bytes, None, Some, Result, Ok, Err}
 use Rattle.std.specs.declared.alloc.Global.{Global}
 use Rattle.std.specs.declared.string.String.{String}
@@ -15,26 +15,26 @@ use Rattle.cookie_parts.specs.declared.error.Error.{Error}
 use Rattle.cookie_parts.specs.declared.error.Error.TheVariants.{Memory, Saved}
 use Rattle.cookie_store.specs.SavedForms.{read_cookies}
 
--- a list's tree is said by its text with a line for each item and member, which reads as it, unless memory is wanting; without a
--- tree its fault is the answer
+-- the result of writing the JSON value of a list: its string with a line for each item and member, which reads as the value, or
+-- `Memory`; the error if there is no value
 abbrev pub SaysListTree : Result Data SavedError → Result (String Global) Error → Type 0
 SaysListTree (Ok tree) (Ok text) = (string_bytes text ≡ pretty_text tree) × (read (string_bytes text) ≡ Some tree)
 SaysListTree (Ok tree) (Err error) = error ≡ Memory
 SaysListTree (Err fault) answer = answer ≡ Err (Saved fault)
 
--- what is said of rows: the tree of the list of their saved forms
+-- the result of writing rows: the JSON array of their saved forms
 abbrev pub SaysJsonList : List Row → Result (String Global) Error → Type 0
 SaysJsonList rows answer = SaysListTree (list_written (map saved_of rows)) answer
 
--- the cookies of a list's tree, or why there are none
+-- the cookies of a JSON value that is a list of saved forms, or the error
 abbrev pub tree_cookies : Data → Result (List Row) Error
 tree_cookies tree = read_cookies (list_at tree)
 
--- the cookies of a text: those of its tree, and `Saved(Json)` where it is no JSON
+-- the cookies of a string, or `Saved(Json)` if it is not JSON
 abbrev pub json_cookies : List ℕ → Result (List Row) Error
 json_cookies text = elim (read text) [ None ↦ Err (Saved Json) | Some tree ↦ tree_cookies tree ]
 
--- what is made of a text: its cookies, or why there are none, unless memory is wanting, which no empty text is told for
+-- the result of reading a string: its cookies or the error, or `Memory`, but not for an empty string
 abbrev pub MakesJsonList : List ℕ → Result (List Row) Error → Type 0
 MakesJsonList text (Ok cookies) = json_cookies text ≡ Ok cookies
 MakesJsonList text (Err error) = (json_cookies text ≡ Err error) ⊎ ((error ≡ Memory) × (text ≢ []))

@@ -1,4 +1,4 @@
--- Lines of JSON that are all taken, or read to the first that is refused.
+-- Loading all lines of JSON, or failing at the first that is not a saved cookie. `known` are the bytes of the source, as in Loading.
 use Rattle.std.specs.Prelude.{◌≡◌, ℕ, ◌+◌, ◌++◌, true, false, List, map, Option, Some, option_map, Result, IfSome, codes, decimal}
 use Rattle.std.specs.List.{list_any}
 use Rattle.cookie_words.specs.Moments.{epoch}
@@ -18,7 +18,7 @@ use Rattle.cookie_store.specs.declared.loading.LoadFault.TheVariants as Load
 use Rattle.cookie_store.specs.declared.serde.migration.MigrateError.{MigrateError}
 use Rattle.cookie_store.specs.declared.serde.migration.MigrateError.TheVariants.{Line, Io, Memory}
 
--- why no store was made, where no rows were: memory that ran out at a line is no refusal of it
+-- the error of a migration: out of memory at a line is not an error of the line
 abbrev pub migrate_error_of : LoadFault → MigrateError
 migrate_error_of (Load.Source Fill.Read) = Io
 migrate_error_of (Load.Source Fill.Memory) = Memory
@@ -29,35 +29,35 @@ migrate_error_of (Load.Line number error) = Line number error
 abbrev pub line_number_text : ℕ → List ℕ
 line_number_text number = codes "line " ++ decimal number ++ codes ": "
 
--- it in words
+-- the error as `Display` prints it
 abbrev pub migrate_error_text : MigrateError → List ℕ
 migrate_error_text (Line number error) = line_number_text number ++ fault_text error
 migrate_error_text Io = codes "a read failed"
 migrate_error_text Memory = codes "out of memory"
 
--- the same under a width or other options, which change nothing: of a line where the text of its error is known there
+-- the error as `Display` prints it with a width or other options, which are ignored, if that is known of the line's error
 abbrev pub styled_migrate_error_text : MigrateError → Option (List ℕ)
 styled_migrate_error_text (Line number error) = option_map (λ words. line_number_text number ++ words) (styled_fault_text error)
 styled_migrate_error_text other = Some (migrate_error_text other)
 
--- rows that are built from all cookies of the lines of a text, where that is known
+-- the rows built from the cookies of all lines of the source, expired ones included
 abbrev pub Migrates : Option (List ℕ) → Kept → Type 0
 Migrates known kept = BuildsFrom MakesJson known true epoch kept
 
--- no row ends before the year 0
+-- no row expires before the year 0
 abbrev pub HaveSavedForms : List Row → Type 0
 HaveSavedForms rows = list_any is_early (map saved_of rows) ≡ false
 
--- what is made of a line, want of memory aside: its cookie, or why it has none
+-- the result of reading a line, out of memory aside: its cookie or the error
 abbrev pub IsOfJson : List ℕ → Result Row Error → Type 0
 IsOfJson line answer = json_cookie line ≡ answer
 
--- the line of this number is refused so, and none before it is, in the text, where that is known
+-- the line of this number is the first that is rejected, with this error
 abbrev pub RefusesFirst : ℕ → Error → Option (List ℕ) → Type 0
 RefusesFirst number error known =
     (line : List ℕ) × RefusesLine IsOfJson error line × IsReachedAt MakesJson number line known
 
--- a line is refused, the first; or a read failed, which raised the count of failures by one; or memory ran out
+-- the first rejected line; or a read failed, which added one to the failures; or out of memory
 abbrev pub FailsToMigrate : MigrateError → Option (List ℕ) → Option (List ℕ) → ℕ → ℕ → ℕ → ℕ → Type 0
 FailsToMigrate (Line number error) known rest failures failures' reads_left reads_left' =
     RefusesFirst number error known × (failures' ≡ failures)

@@ -10,35 +10,35 @@ use Rattle.cookie_parts.specs.Cookie.{cookie_of, early_refusal, is_secure_only}
 use Rattle.cookie_laws.specs.Acceptance.{received}
 use Rattle.cookie_laws.specs.Contents.{Contents}
 
--- the store after raw cookies that came from the URL at the moment, one after the other; a refusal leaves it
+-- the store after inserting the raw cookies received from the URL, in order; a rejected one changes nothing
 abbrev pub store_after_response : Parts → Moment → List Raw → Contents → Contents
 store_after_response url now raws store =
     fold (λ before raw. (received before (cookie_of raw url now) url now).store) store raws
 
--- the store took these raw cookies
+-- the new store is the one after inserting these raw cookies, in order
 abbrev pub Takes : Parts → Moment → List Raw → Contents → Contents → Type 0
 Takes url now raws old new = new ≡ store_after_response url now raws old
 
--- it took all items
+-- the same with all items of the iterator
 abbrev pub TakesAll : {S : Type 0} → (S → Option Raw → S → Type 0) → S → Parts → Moment → Contents → Contents → Type 0
 TakesAll steps items url now old new = (raws : List Raw) × Drains steps items raws × Takes url now raws old new
 
--- the same, and these are left after the `None`
+-- the same, and `rest` is left of the iterator after its `None`
 abbrev pub TakesToEnd : {S : Type 0} → (S → Option Raw → S → Type 0) → S → S → Parts → Moment → Contents → Contents → Type 0
 TakesToEnd steps items rest url now old new =
     (raws : List Raw) × YieldsThen steps items raws None rest × Takes url now raws old new
 
--- it took the items before one, which is not refused early, and these are left after that one
+-- the same with the items before one that is not rejected early, and `rest` is left of the iterator after that one
 abbrev pub TakesUntil : {S : Type 0} → (S → Option Raw → S → Type 0) → S → S → Parts → Moment → Contents → Contents → Type 0
 TakesUntil steps items rest url now old new =
     (raws : List Raw) × (next : Raw) × YieldsThen steps items raws (Some next) rest × (early_refusal next url ≡ None)
     × Takes url now raws old new
 
--- the same, wherever it stopped
+-- the same with the items before one that is not rejected early, whatever is left
 abbrev pub TakesSome : {S : Type 0} → (S → Option Raw → S → Type 0) → S → Parts → Moment → Contents → Contents → Type 0
 TakesSome {S} steps items url now old new = (rest : S) × TakesUntil steps items rest url now old new
 
--- what is logged as a raw cookie comes: of a secure one the name alone
+-- the log line of a received cookie: of a Secure cookie the name only
 abbrev pub arrival_text : Raw → List ℕ
 arrival_text raw =
     if is_secure_only raw then codes "inserting secure cookie '" ++ raw.name ++ codes "'"

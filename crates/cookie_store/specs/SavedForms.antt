@@ -1,4 +1,4 @@
--- Saved forms of rows, and the cookies of saved forms.
+-- The cookies of saved forms.
 use Rattle.std.specs.Prelude.{List, [], ◌∷◌, Result, Ok}
 use Rattle.std.specs.Result.{result_map_both}
 use Rattle.cookie_words.specs.Moments.{Moment}
@@ -10,14 +10,14 @@ use Rattle.cookie_parts.specs.declared.cookie_error.CookieError.{CookieError}
 use Rattle.cookie_parts.specs.declared.error.Error.{Error}
 use Rattle.cookie_parts.specs.declared.error.Error.TheVariants.{Cookie, Saved}
 
--- the cookies of saved forms, or why the first that has none has none
+-- the cookies of saved forms, or the error of the first that has no cookie
 abbrev pub cookies_of_saved : List (Parts Moment) → Result (List Row) CookieError
 cookies_of_saved [] = Ok []
 cookies_of_saved (form ∷ forms) =
     and_then (cookie_of_saved form) (λ cookie.
     result_map_both (λ cookies. cookie ∷ cookies) (λ fault. fault) (cookies_of_saved forms))
 
--- those of a list that was read, or why there are none
+-- the cookies of a list that was read, or the error
 abbrev pub read_cookies : Result (List (Parts Moment)) SavedError → Result (List Row) Error
 read_cookies told =
     and_then (result_map_both (λ list. list) Saved told)

@@ -1,4 +1,5 @@
-//! What a store does with many cookies at once.
+//! Calls of a store that take many cookies: those of a response, and those saved or loaded as
+//! lines.
 ghost use Rattle.std.specs.Prelude.{◌≡◌, ◌-◌, ◌^◌, ◌<◌, false, true, Err, None, Some, IfErr, IfOk, OnErr, OnOk};
 ghost use Rattle.std.specs.Fn.{FnReturnsAt};
 ghost use Rattle.std.specs.Io.KnownBytes.{IsAtEnd};
@@ -27,21 +28,21 @@ use log::Log;
 use std::alloc::AllocError;
 use url::Url;
 
-/// What a [`CookieStore`] does with many cookies at once: it writes them as lines, reads them from lines, and takes those of a
-/// response.
+/// The calls of a [`CookieStore`] that take many cookies: those of a response, and those saved or
+/// loaded as lines.
 pub trait Bulk: Drop {
-    /// What contracts see of the store.
+    /// The store as contracts see it.
     ghost contents: { Self → Contents };
 
-    /// The store, given up.
+    /// Converts from a [`CookieStore`].
     fn of_store(store: CookieStore) -> Self
         ensures { contents result ≡ store };
 
-    /// The store, lent.
+    /// Borrows as a [`CookieStore`].
     fn as_store(&self) -> &CookieStore
         ensures { result.now ≡ contents self.now };
 
-    /// [`CookieStore::insert_raw`].
+    /// Inserts a cookie, as [`CookieStore::insert_raw`] does.
     fn take_raw(&mut self, raw: &RawCookie<'_>, url: &Url, now: DateTime) -> InsertResult
         ensures reply { IsReply result (Stored
             (received (contents self.old) (cookie_of raw.now url.now (moment_of now)) url.now (moment_of now)).reply) }
@@ -50,9 +51,16 @@ pub trait Bulk: Drop {
         ensures refused { OnErr result (contents self.new ≡ contents self.old) }
         ensures early { (refusal : CookieError) → early_refusal raw.now url.now ≡ Some refusal → result ≡ Err refusal };
 
-    /// Writes, for each cookie that has not ended by the moment and ends at one, what the function says of it and a line
-    /// feed, in the store's order. The first error that the function answers, or `Io` where the writer failed, ends this;
-    /// the lines of the cookies before are written then. It takes no memory.
+    /// Writes the unexpired persistent cookies as lines, in the store's order.
+    ///
+    /// A line is the string that `cookie_to_string` returns for the cookie, and a line feed. Saving
+    /// itself allocates nothing.
+    ///
+    /// # Errors
+    ///
+    /// The first error stops saving. The lines of the cookies before it are written.
+    /// - The error that `cookie_to_string` returns.
+    /// - `Io`: the writer failed. Of the cookie's line, a beginning may be written.
     final fn save<W: Sink, F: Fn(&Cookie<'_>) -> Result<String, Error>>(
         &self,
         writer: &mut W,
@@ -71,7 +79,10 @@ pub trait Bulk: Drop {
         save_rows(self.as_store().rows(), writer, cookie_to_string, Some(now))
     }
 
-    /// The same of all cookies, also those that have ended and those that end with the session.
+    /// Writes all cookies as lines, expired cookies and session cookies included, in the store's
+    /// order.
+    ///
+    /// The lines and the errors are those of [`save`](Self::save).
     final fn save_incl_expired_and_nonpersistent<
         W: Sink,
         F: Fn(&Cookie<'_>) -> Result<String, Error>,
@@ -87,8 +98,17 @@ pub trait Bulk: Drop {
         save_rows(self.as_store().rows(), writer, cookie_to_string, None)
     }
 
-    /// [`save`](Self::save) with the saved form of each cookie as a JSON object on a line. A cookie that ends before the year 0
-    /// is refused `Saved(Moment)`, and no memory is wanted for it.
+    /// Writes the unexpired persistent cookies as lines of JSON, in the store's order.
+    ///
+    /// A line is the saved form of the cookie as a JSON object, and a line feed.
+    ///
+    /// # Errors
+    ///
+    /// The first error stops saving. The lines of the cookies before it are written.
+    /// - `Saved(Moment)`: the cookie expires before the year 0. Checked before anything is
+    ///   allocated for it.
+    /// - `Memory`: out of memory.
+    /// - `Io`: the writer failed. Of the cookie's line, a beginning may be written.
     #[deprecated(note = "use `serde::json`")]
     final fn save_json<W: Sink>(&self, writer: &mut W, now: DateTime) -> StoreResult<()>
         requires writable { W.failed writer.old < 2 ^ 64 - 1 }
@@ -103,7 +123,9 @@ pub trait Bulk: Drop {
         save_json_rows(store.alloc(), store.rows(), writer, Some(now))
     }
 
-    /// The same of all cookies, also those that have ended and those that end with the session.
+    /// Writes all cookies as lines of JSON, expired cookies and session cookies included.
+    ///
+    /// The order, the lines and the errors are those of [`save_json`](Self::save_json).
     #[deprecated(note = "use `serde::json`")]
     final fn save_incl_expired_and_nonpersistent_json<W: Sink>(
         &self,
@@ -119,11 +141,21 @@ pub trait Bulk: Drop {
         save_json_rows(store.alloc(), store.rows(), writer, None)
     }
 
-    /// A store of the cookies that the function makes of the reader's lines, each in the place of an earlier one of its
-    /// domain, path and name, without a public suffix list. Those that have ended are passed over. A line ends with a line
-    /// feed, of which a carriage return before is a part, and the last line may go without. Answers `Io` where the reader
-    /// failed, `NotUtf8` at a line that is no UTF-8, the first error that the function answers, or `Memory`, where there was no
-    /// room for a cookie that the function made, or for more of the reader's bytes.
+    /// Loads a store from lines, skipping expired cookies.
+    ///
+    /// Each line is passed to `cookie_from_str`, without its line ending. A cookie replaces an
+    /// earlier one with the same domain, path and name. The store has no public suffix list and no
+    /// limit. A line ends with a line feed, or with a carriage return and a line feed; the last
+    /// line may have no ending.
+    ///
+    /// # Errors
+    ///
+    /// The first error stops loading.
+    /// - `Io`: the reader failed.
+    /// - `NotUtf8`: a line is not UTF-8.
+    /// - The error that `cookie_from_str` returns.
+    /// - `Memory`: out of memory, for the reader's bytes or for a cookie that `cookie_from_str`
+    ///   returned.
     final fn load<A: Into<StoreAlloc>, R: Source, F: Fn(&str) -> Result<Cookie<'_>, Error>>(
         alloc: A,
         reader: &mut R,
@@ -147,7 +179,9 @@ pub trait Bulk: Drop {
         Ok(Self::of_store(CookieStore::of_rows(alloc.alloc, rows)))
     }
 
-    /// The same, where cookies that have ended are kept. The moment is not looked at.
+    /// Loads a store from lines, expired cookies included.
+    ///
+    /// Otherwise as [`load`](Self::load). `now` is not used.
     final fn load_all<A: Into<StoreAlloc>, R: Source, F: Fn(&str) -> Result<Cookie<'_>, Error>>(
         alloc: A,
         reader: &mut R,
@@ -171,9 +205,23 @@ pub trait Bulk: Drop {
         Ok(Self::of_store(CookieStore::of_rows(alloc.alloc, rows)))
     }
 
-    /// [`load`](Self::load) of lines that are saved forms of cookies as JSON. At a line answers `Saved(Json)` where it is no JSON,
-    /// `Saved(Shape)` where its tree is not of the form, or holds a float, `Saved(Moment)` where only its end is no moment, and
-    /// `Cookie(Parse)` where only its text is no cookie.
+    /// Loads a store from lines of JSON, skipping expired cookies.
+    ///
+    /// Each line is the saved form of a cookie, as [`save_json`](Self::save_json) writes it.
+    /// Otherwise as [`load`](Self::load).
+    ///
+    /// # Errors
+    ///
+    /// The first error stops loading.
+    /// - `Io`: the reader failed.
+    /// - `Memory`: out of memory.
+    ///
+    /// At a line, in the order in which they are checked:
+    /// - `NotUtf8`: the line is not UTF-8.
+    /// - `Saved(Json)`: it is not JSON.
+    /// - `Saved(Shape)`: its value is not a saved cookie, or has a float in it.
+    /// - `Saved(Moment)`: its expiry is not a valid time.
+    /// - `Cookie(Parse)`: its `Set-Cookie` value is not a cookie.
     #[deprecated(note = "use `serde::json`")]
     final fn load_json<A: Into<StoreAlloc>, R: Source>(
         alloc: A,
@@ -195,7 +243,9 @@ pub trait Bulk: Drop {
         Ok(Self::of_store(CookieStore::of_rows(alloc.alloc, rows)))
     }
 
-    /// The same, where cookies that have ended are kept. The moment is not looked at.
+    /// Loads a store from lines of JSON, expired cookies included.
+    ///
+    /// Otherwise as [`load_json`](Self::load_json). `now` is not used.
     #[deprecated(note = "use `serde::json`")]
     final fn load_json_all<A: Into<StoreAlloc>, R: Source>(
         alloc: A,
@@ -217,9 +267,15 @@ pub trait Bulk: Drop {
         Ok(Self::of_store(CookieStore::of_rows(alloc.alloc, rows)))
     }
 
-    /// Takes the cookies of a response that came from the URL at the moment, one after the other, as
-    /// [`CookieStore::insert_raw`] takes them. The logger is told of each, at the level debug, of a secure one only its
-    /// name, and why one is refused, which is passed over. Where memory runs out, the cookies before stand.
+    /// Inserts the cookies of a response received from `url`, in order.
+    ///
+    /// Each is inserted as by [`CookieStore::insert_raw`]; those that are rejected are skipped.
+    /// Each cookie, and the error of each that is rejected, is logged at the level debug. Of a
+    /// Secure cookie only the name is logged.
+    ///
+    /// # Errors
+    ///
+    /// `AllocError`: out of memory. The cookies before the one that failed remain stored.
     final fn store_response_cookies<'c, L: Log, I: Iterator<Item = RawCookie<'c>> + Drop>(
         &mut self,
         logger: &L,

@@ -12,57 +12,58 @@ use std::alloc::AllocError;
 use std::fmt;
 use url::Url;
 
-/// What a store may be asked to do.
+/// A call of a store, for [`CookieStore::apply`](crate::CookieStore::apply).
 #[derive(Debug, Drop)]
 pub enum Call {
-    /// To take the cookie of a Set-Cookie text that came from the URL at the moment.
+    /// Parses a `Set-Cookie` header value and inserts the cookie, as
+    /// [`CookieStore::parse`](crate::CookieStore::parse) does.
     Set {
-        /// The Set-Cookie text.
+        /// The header value.
         text: String,
-        /// Where it came from.
+        /// The URL from which it was received.
         url: Url,
-        /// When it came.
+        /// The time at which it was received, in UTC.
         now: DateTime,
     },
-    /// To take a cookie that came from the URL at the moment.
+    /// Inserts a cookie, as [`CookieStore::insert`](crate::CookieStore::insert) does.
     Insert {
         /// The cookie.
         cookie: Cookie<'static>,
-        /// Where it came from.
+        /// The URL from which it was received.
         url: Url,
-        /// When it came.
+        /// The time at which it was received, in UTC.
         now: DateTime,
     },
-    /// To remove the cookie of this domain, path and name.
+    /// Removes the cookie with this domain, path and name, expired or not.
     Remove {
-        /// The text of the cookie's domain.
+        /// The cookie's domain.
         domain: String,
-        /// The text of its path.
+        /// Its path.
         path: String,
         /// Its name.
         name: String,
     },
-    /// To remove all cookies.
+    /// Removes all cookies.
     Clear,
 }
 
-/// What a store answers to a [`Call`].
+/// The reply to a [`Call`].
 #[derive(Debug, Drop)]
 pub enum Reply {
-    /// What became of the cookie of a `Set` or an `Insert`. Never `Memory`.
+    /// The result of a `Set` or an `Insert`, never `Memory`.
     Stored(InsertResult),
-    /// The cookie that a `Remove` took out, if there was one.
+    /// The cookie that a `Remove` removed, if there was one.
     Removed(Option<Cookie<'static>>),
-    /// To a `Clear`.
+    /// The reply to a `Clear`.
     Cleared,
 }
 
-/// Memory ran out in a list of calls.
+/// The error of [`CookieStore::apply_all`](crate::CookieStore::apply_all): out of memory.
 #[derive(Debug, Drop)]
 pub struct Stopped {
-    /// The replies to the calls that were done.
+    /// The replies to the calls that were executed.
     pub replies: Vec<Reply>,
-    /// How many calls were done.
+    /// The number of calls that were executed.
     pub count: usize,
 }
 
@@ -84,7 +85,7 @@ impl fmt::Display for Stopped {
 
 impl std::error::Error for Stopped {}
 
-/// The reply that says what became of a cookie, unless memory ran out.
+/// The reply for the result of an insertion, or `AllocError` if it is `Memory`.
 pub(crate) fn stored(told: InsertResult) -> Result<Reply, AllocError>
     ensures reply { IfOk result (λ reply. (reply_view reply ≡ Runs.Stored told) × (told ≢ Err Memory)) }
     ensures memory { OnErr result (told ≡ Err Memory) }

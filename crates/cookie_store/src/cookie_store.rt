@@ -1,4 +1,4 @@
-//! The store.
+//! The cookie store.
 ghost use Rattle.std.specs.Prelude.{◌≡◌, ◌≢◌, ◌≤◌, ◌+◌, ◌*◌, ◌-◌, ◌^◌, ◌<◌, [], false, is_some, length, map, string_bytes, true, Err, None, Ok, Some, IfErr, IfOk, IsTrue, OnErr, OnOk, ◌⊎◌};
 ghost use Rattle.std.specs.Iterator.{IsFinite};
 ghost use Rattle.std.specs.Option.{option_copied};
@@ -34,12 +34,15 @@ use std::alloc::{AllocError, Global};
 use std::marker::Model;
 use url::Url;
 
-/// What a store did with a cookie, or why it refused it.
+/// The result of inserting a cookie: what the store did with it, or why it was not inserted.
 pub type InsertResult = Result<StoreAction, CookieError>;
 
-/// The cookies of a user agent, RFC 6265 5.3. Cookies of one domain stand together, and among them cookies of one path: a new
-/// cookie comes after those, and one that replaces another stands in its place. Under a public suffix list, no cookie enters
-/// for all hosts below a public suffix.
+/// The cookies of a user agent, RFC 6265 5.3.
+///
+/// In the store's order, cookies are grouped by domain, and in a domain by path. A new cookie is
+/// the last of its group, and a new group is last; a cookie that replaces another takes its place.
+///
+/// Under a public suffix list, no domain cookie is inserted for a public suffix.
 #[derive(Drop)]
 pub struct CookieStore {
     alloc: Global,
@@ -72,29 +75,33 @@ impl Clone for CookieStore {
 }
 
 impl CookieStore {
-    /// A store without cookies, and without a public suffix list.
+    /// Returns an empty store without a public suffix list.
+    ///
+    /// Its maps hash by a fixed key: see [`with_hash_key`](Self::with_hash_key).
     pub fn new(alloc: Global) -> CookieStore
         ensures { result ≡ record { rows = []; made = []; suffixes = None; limit = None } }
     {
         CookieStore::new_with_public_suffix(alloc, None)
     }
 
-    /// A store without cookies, and without a public suffix list.
+    /// Returns an empty store without a public suffix list, as [`new`](Self::new) does.
     pub fn default(alloc: Global) -> CookieStore
         ensures { result ≡ record { rows = []; made = []; suffixes = None; limit = None } }
     {
         CookieStore::new(alloc)
     }
 
-    /// A store without cookies, and without a public suffix list, whose maps hash by this key. The key changes no answer: a
-    /// program that takes cookies of servers which it does not trust hands over a drawn one.
+    /// Returns an empty store without a public suffix list, whose maps hash by `hash_key`.
+    ///
+    /// The key changes no result. Pass a random key if the store takes cookies from servers that
+    /// you do not trust.
     pub fn with_hash_key(alloc: Global, hash_key: HashKey) -> CookieStore
         ensures { result ≡ record { rows = []; made = []; suffixes = None; limit = None } }
     {
         CookieStore::of_rows(alloc, Rows::new(StoreAlloc { alloc, hash_key }))
     }
 
-    /// A store without cookies, under the public suffix list if there is one.
+    /// Returns an empty store with this public suffix list, or with none.
     pub fn new_with_public_suffix(alloc: Global, suffixes: Option<List>) -> CookieStore
         ensures { result ≡ record { rows = []; made = []; suffixes = suffixes; limit = None } }
     {
@@ -106,7 +113,7 @@ impl CookieStore {
         }
     }
 
-    /// The same store, under this public suffix list from now on. The cookies that it holds stay.
+    /// Sets the public suffix list for later insertions. Cookies already stored are kept.
     pub fn with_suffix_list(self, suffixes: List) -> CookieStore
         ensures { result ≡ record self { suffixes = Some suffixes } }
     {
@@ -116,9 +123,11 @@ impl CookieStore {
         }
     }
 
-    /// The same store, which lets no more than so many cookies of one domain stand from now on, RFC 6265 6.1: where a cookie would be
-    /// inserted into as many or more, cookies of its domain leave first, those that have ended before the others, and each time the
-    /// one that was inserted least recently. The cookies that it holds stay till then.
+    /// Limits each domain to `n` cookies, RFC 6265 6.1.
+    ///
+    /// Before a cookie is inserted into a domain that has `n` or more, cookies of that domain are
+    /// evicted until `n - 1` are left: first those that have expired, then the others, both in
+    /// creation order. Until then, cookies already stored are kept.
     pub fn with_domain_limit(self, n: usize) -> CookieStore
         requires { 1 ≤ n }
         ensures { result ≡ record self { limit = Some n } }
@@ -129,10 +138,16 @@ impl CookieStore {
         }
     }
 
-    /// A store of the cookies that the iterator gives, each in the place of an earlier one of its domain, path and name, without a
-    /// public suffix list. Those that have ended are passed over unless `include_expired`. Answers the first error that the
-    /// iterator gives, or `Memory`, which comes only at a cookie that would enter and take no earlier one's place, and asks for
-    /// no item after that.
+    /// Builds a store from the cookies of an iterator, without a public suffix list or a limit.
+    ///
+    /// A cookie replaces an earlier one with the same domain, path and name. Expired cookies are
+    /// skipped unless `include_expired`. Domains are not checked.
+    ///
+    /// # Errors
+    ///
+    /// At the first error no further item is taken from the iterator.
+    /// - The first error that the iterator returns.
+    /// - `Memory`: out of memory. Only at a cookie that is not skipped and replaces none.
     pub fn from_cookies<
         A: Into<StoreAlloc>,
         I: Iterator<Item = Result<Cookie<'static>, Error>> + Drop,
@@ -151,10 +166,23 @@ impl CookieStore {
         Ok(CookieStore::of_rows(alloc.alloc, rows))
     }
 
-    /// Takes the cookie of a Set-Cookie text that came from the URL at the moment: the cookie that
-    /// [`Cookie::parse`] makes, as [`insert`](Self::insert) takes it. A refusal, and want of memory, leave the store as it was. A
-    /// text that is no cookie wants none, nor one that is out of the URL's reach, or has no Domain attribute and comes from no
-    /// host.
+    /// Parses a `Set-Cookie` header value received from `url` and inserts the cookie, RFC 6265 5.3.
+    ///
+    /// This is [`Cookie::parse`] followed by [`insert`](Self::insert), and returns what `insert`
+    /// does. On any error, out of memory included, the store is unchanged.
+    ///
+    /// # Errors
+    ///
+    /// In the order in which they are checked:
+    /// - `Parse`: `text` is not a cookie.
+    /// - `NonHttpScheme`: the cookie is HttpOnly and the URL's scheme does not begin with `http`.
+    /// - `NonRelativeScheme`: the Domain attribute is missing or empty and the URL has no host.
+    /// - `Parse`: the Domain attribute is not a domain name.
+    /// - `DomainMismatch`: the cookie's domain does not match the URL's host.
+    /// - Those of [`insert`](Self::insert).
+    ///
+    /// `Memory`: out of memory, in place of any of these but `Parse` and `NonHttpScheme` at the
+    /// beginning, and `NonRelativeScheme` if there is no Domain attribute.
     pub fn parse(&mut self, text: &str, url: &Url, now: DateTime) -> InsertResult
         ensures reply { IsReply result
             (step (Set text.now url.now (moment_of now)) self.old).reply }
@@ -168,13 +196,25 @@ impl CookieStore {
         self.insert_made(made, url, now)
     }
 
-    /// Takes a cookie that came from the URL at the moment. In this order: `NonHttpScheme` where it is HttpOnly and the
-    /// scheme not HTTP; `PublicSuffix` where its domain is a public suffix on the store's list and not the URL's host (where
-    /// it is, the cookie is for that host alone); `DomainMismatch` where it is not for the URL's host; and where a cookie of
-    /// its domain, path and name is stored that has not ended, `NonHttpScheme` where that one is HttpOnly and the scheme not
-    /// HTTP, and `ExpiredExisting` where the new one has ended, so that the stored one ends; `Expired` where it has ended;
-    /// else it takes the place of the stored one, `UpdatedExisting`, or is `Inserted`. `Memory` comes only where it would be
-    /// inserted. A refusal leaves the store as it was.
+    /// Inserts a cookie received from `url`, RFC 6265 5.3.
+    ///
+    /// Returns `UpdatedExisting` if it replaces a stored cookie with the same domain, path and
+    /// name, and `Inserted` if there is none. If the cookie has expired and the stored one has not,
+    /// the stored one is expired: `ExpiredExisting`. A cookie whose domain is a public suffix on
+    /// the store's list, received from that very host, is stored as a host-only cookie. On any
+    /// error, out of memory included, the store is unchanged.
+    ///
+    /// # Errors
+    ///
+    /// In the order in which they are checked:
+    /// - `NonHttpScheme`: the cookie is HttpOnly and the URL's scheme does not begin with `http`.
+    /// - `PublicSuffix`: the cookie's domain is a public suffix on the store's list and not the
+    ///   URL's host.
+    /// - `DomainMismatch`: the cookie's domain does not match the URL's host.
+    /// - `NonHttpScheme`: the stored cookie is HttpOnly and has not expired, and the URL's scheme
+    ///   does not begin with `http`.
+    /// - `Expired`: the cookie has expired, and there is no stored cookie to expire.
+    /// - `Memory`: out of memory. Only if the cookie would be `Inserted`.
     pub fn insert(&mut self, cookie: Cookie<'static>, url: &Url, now: DateTime) -> InsertResult
         ensures reply { IsReply result
             (step (Insert cookie.entry url.now (moment_of now)) self.old).reply }
@@ -195,10 +235,22 @@ impl CookieStore {
         )
     }
 
-    /// Takes the cookie of a raw cookie that came from the URL at the moment: the cookie that
-    /// [`Cookie::try_from_raw_cookie`] makes, as [`insert`](Self::insert) takes it. A refusal, and want of memory, leave the
-    /// store as it was. One that is out of the URL's reach wants none, nor one that has no Domain attribute and comes from no
-    /// host.
+    /// Inserts the cookie of a parsed `Set-Cookie` header value received from `url`, RFC 6265 5.3.
+    ///
+    /// This is [`Cookie::try_from_raw_cookie`] followed by [`insert`](Self::insert), and returns
+    /// what `insert` does. On any error, out of memory included, the store is unchanged.
+    ///
+    /// # Errors
+    ///
+    /// In the order in which they are checked:
+    /// - `NonHttpScheme`: the cookie is HttpOnly and the URL's scheme does not begin with `http`.
+    /// - `NonRelativeScheme`: the Domain attribute is missing or empty and the URL has no host.
+    /// - `Parse`: the Domain attribute is not a domain name.
+    /// - `DomainMismatch`: the cookie's domain does not match the URL's host.
+    /// - Those of [`insert`](Self::insert).
+    ///
+    /// `Memory`: out of memory, in place of any of these but `NonHttpScheme` at the beginning, and
+    /// `NonRelativeScheme` if there is no Domain attribute.
     pub fn insert_raw(&mut self, raw: &RawCookie<'_>, url: &Url, now: DateTime) -> InsertResult
         ensures reply { IsReply result (Stored
             (received self.old (cookie_of raw.now url.now (moment_of now)) url.now (moment_of now)).reply) }
@@ -212,7 +264,7 @@ impl CookieStore {
         self.insert_made(made, url, now)
     }
 
-    /// The stored cookie of this domain, path and name, whether it has ended or not.
+    /// Returns the stored cookie with this domain, path and name, expired or not.
     pub fn get_any(&self, domain: &str, path: &str, name: &str) -> Option<&Cookie<'static>>
         ensures { option_copied result
             ≡ row_of (key_at domain.now path.now name.now) self.now.rows }
@@ -220,7 +272,7 @@ impl CookieStore {
         self.rows.named(domain, path, name)
     }
 
-    /// The stored cookie of this domain, path and name, if it has not ended.
+    /// Returns the stored cookie with this domain, path and name, if it has not expired at `now`.
     pub fn get(
         &self,
         domain: &str,
@@ -239,14 +291,14 @@ impl CookieStore {
         }
     }
 
-    /// Whether a cookie of this domain, path and name is stored, whether it has ended or not.
+    /// Returns whether a cookie with this domain, path and name is stored, expired or not.
     pub fn contains_any(&self, domain: &str, path: &str, name: &str) -> bool
         ensures { result ≡ is_some (row_of (key_at domain.now path.now name.now) self.now.rows) }
     {
         self.get_any(domain, path, name).is_some()
     }
 
-    /// Whether a cookie of this domain, path and name is stored that has not ended.
+    /// Returns whether a cookie with this domain, path and name is stored and unexpired at `now`.
     pub fn contains(&self, domain: &str, path: &str, name: &str, now: DateTime) -> bool
         ensures { result
             ≡ is_some (if_live (moment_of now) (row_of (key_at domain.now path.now name.now) self.now.rows)) }
@@ -254,22 +306,23 @@ impl CookieStore {
         self.get(domain, path, name, now).is_some()
     }
 
-    /// The stored cookies, whether they have ended or not, in the store's order.
+    /// Returns an iterator over all stored cookies, expired or not, in the store's order.
     pub fn iter_any(&self) -> IterAny<'_>
         ensures { result ≡ self.now.rows }
     {
         self.rows.iter()
     }
 
-    /// The stored cookies that have not ended by the moment, in the store's order.
+    /// Returns an iterator over the cookies that have not expired at `now`, in the store's order.
     pub fn iter_unexpired(&self, now: DateTime) -> IterUnexpired<'_>
         ensures { result ≡ live_rows (moment_of now) self.now.rows }
     {
         self.rows.iter_unexpired(now)
     }
 
-    /// Removes the cookie of this domain, path and name, whether it has ended or not, and answers it. The others keep their
-    /// order.
+    /// Removes and returns the cookie with this domain, path and name, expired or not.
+    ///
+    /// The others keep their order.
     pub fn remove(&mut self, domain: &str, path: &str, name: &str) -> Option<Cookie<'static>>
         ensures reply { Removed result
             ≡ (step (Remove (key_at domain.now path.now name.now)) self.old).reply }
@@ -278,8 +331,11 @@ impl CookieStore {
         self.rows.remove(domain, path, name)
     }
 
-    /// Removes the cookies that have expired at `now`, RFC 6265 5.3, and returns how many. The others keep their order. Allocates
-    /// nothing. No later request changes by it: [`matches`](Self::matches) returns no expired cookie.
+    /// Removes the cookies that have expired at `now`, RFC 6265 5.3, and returns how many.
+    ///
+    /// The others keep their order. Allocates nothing. At `now` and later,
+    /// [`matches`](Self::matches) returns the same cookies as without the removal, since it never
+    /// returns an expired cookie.
     pub fn remove_expired(&mut self, now: DateTime) -> usize
         ensures store { self.new ≡ unexpired (moment_of now) self.old }
         ensures removed { result + length self.new.rows ≡ length self.old.rows }
@@ -287,8 +343,14 @@ impl CookieStore {
         self.rows.remove_expired(now)
     }
 
-    /// Lets the maps hash by this key from now on, also in a store that was built or loaded: the cookies are copied once. The key
-    /// changes no answer. Want of memory leaves the key that was, and comes only where there is a cookie.
+    /// Makes the store's maps hash by `hash_key`, also those of a store that was built or loaded.
+    ///
+    /// The cookies are copied once. The key changes no result.
+    ///
+    /// # Errors
+    ///
+    /// `AllocError`: out of memory. The store keeps its key and its cookies. An empty store never
+    /// fails.
     pub fn set_hash_key(&mut self, hash_key: HashKey) -> Result<(), AllocError>
         ensures store { self.new ≡ self.old }
         ensures memory { OnErr result (self.old.rows ≢ []) }
@@ -296,15 +358,18 @@ impl CookieStore {
         self.rows.set_hash_key(self.alloc, hash_key)
     }
 
-    /// Removes all cookies. The public suffix list stays.
+    /// Removes all cookies. The public suffix list and the limit are kept.
     pub fn clear(&mut self)
         ensures { self.new ≡ (step Clear self.old).store }
     {
         self.rows.clear();
     }
 
-    /// The cookies that are given for the URL at the moment, RFC 6265 5.4, in the store's order; for the header of a request use
-    /// [`cookie_header`](Self::cookie_header). Memory is wanted only where there is one.
+    /// Returns the cookies that match `url` and are unexpired at `now`, in the store's order.
+    ///
+    /// The tests are those of RFC 6265 5.4 step 1: domain, path, Secure and HttpOnly. For the
+    /// header of a request use [`cookie_header`](Self::cookie_header). Allocates only if a cookie
+    /// matches.
     pub fn matches(&self, url: &Url, now: DateTime) -> Result<Vec<&Cookie<'static>>, AllocError>
         ensures given { IfOk result
             (λ cookies. map (λ c. c.now) cookies.items ≡ given url.now (moment_of now) self.now.rows) }
@@ -315,9 +380,12 @@ impl CookieStore {
         self.rows.given(self.alloc, url, now)
     }
 
-    /// What `matches` gives, and how often the maps of the store were searched for it: for a domain at most as often as the host
-    /// has labels, and in each domain that was found at most once more than twice the slashes of the URL's path. Neither
-    /// count is lower than how many domains, and how many paths in them, were found.
+    /// Returns what [`matches`](Self::matches) does, and the number of lookups in the store's maps.
+    ///
+    /// Domains are looked up at most once for each label of the URL's host, and paths at most
+    /// `2 * n + 1` times for each domain that is found, where `n` is the number of slashes in the
+    /// URL's path. The counts are at least the number of domains found, and of paths found in them.
+    /// Allocates only if a cookie matches.
     pub fn matches_counted(
         &self,
         url: &Url,
@@ -337,9 +405,12 @@ impl CookieStore {
         self.rows.given_counted(self.alloc, url, now)
     }
 
-    /// The cookies that [`matches`](Self::matches) returns, in the order of the Cookie header, RFC 6265 5.4 step 2: longer paths first,
-    /// and of equally long ones the cookie that was created first. A cookie that replaces another keeps the creation of that one, also of
-    /// an expired one that was not removed; loaded cookies are created in the order of the list. Allocates only if a cookie matches.
+    /// Returns the cookies that [`matches`](Self::matches) does, in the order of the Cookie header.
+    ///
+    /// Cookies with longer paths come first, and among equal lengths those created first, RFC 6265
+    /// 5.4 step 2. A cookie that replaces another keeps its place in creation order, even if that
+    /// one had expired and was not yet removed. Loaded cookies are created in the order of the
+    /// list. Allocates only if a cookie matches.
     pub fn cookies_in_order(
         &self,
         url: &Url,
@@ -352,9 +423,11 @@ impl CookieStore {
         self.rows.in_header_order(self.alloc, url, now)
     }
 
-    /// The value of the Cookie header of a request for the URL, RFC 6265 4.2.1 and 5.4, such as `id=1; lang=de`: the cookies of
-    /// [`cookies_in_order`](Self::cookies_in_order). The empty string if no cookie matches: send no header then. Allocates only if a
-    /// cookie matches.
+    /// Returns the value of the Cookie header for a request to `url`, RFC 6265 4.2.1 and 5.4.
+    ///
+    /// It lists the cookies of [`cookies_in_order`](Self::cookies_in_order), such as
+    /// `id=1; lang=de`. If none matches, the string is empty: send no header then. Allocates only
+    /// if a cookie matches.
     pub fn cookie_header(&self, url: &Url, now: DateTime) -> Result<String, AllocError>
         ensures header { IfOk result (λ text. IsCookieHeader url.now (moment_of now) self.now (string_bytes text)) }
         ensures memory { OnErr result (given url.now (moment_of now) self.now.rows ≢ []) }
@@ -362,8 +435,10 @@ impl CookieStore {
         cookie_string(self.alloc, &self.cookies_in_order(url, now)?)
     }
 
-    /// The names and values of the cookies that are given for the URL at the moment, in the store's order. Memory is wanted
-    /// only where there is one.
+    /// Returns the names and values of the cookies of [`matches`](Self::matches), in the same
+    /// order.
+    ///
+    /// Allocates only if a cookie matches.
     pub fn get_request_values(
         &self,
         url: &Url,
@@ -375,8 +450,9 @@ impl CookieStore {
         self.rows.request_values(self.alloc, url, now)
     }
 
-    /// The raw cookies of the cookies that are given for the URL at the moment, in the store's order. Memory is wanted only
-    /// where there is one.
+    /// Returns the raw cookies of the cookies of [`matches`](Self::matches), in the same order.
+    ///
+    /// Allocates only if a cookie matches.
     #[deprecated(note = "use `get_request_values`")]
     pub fn get_request_cookies(
         &self,
@@ -389,8 +465,17 @@ impl CookieStore {
         self.rows.request_cookies(self.alloc, url, now)
     }
 
-    /// Does what a call asks. Want of memory leaves the store as it was; `Remove` and `Clear` want none, `Set` only as
-    /// [`parse`](Self::parse) does, and `Insert` only where the cookie would be inserted.
+    /// Executes a call and returns its reply.
+    ///
+    /// `Set` is [`parse`](Self::parse), `Insert` is [`insert`](Self::insert), `Remove` is
+    /// [`remove`](Self::remove), and `Clear` is [`clear`](Self::clear). A cookie that is rejected
+    /// is a reply, not an error.
+    ///
+    /// # Errors
+    ///
+    /// `AllocError`: out of memory, and the store is unchanged. `Remove` and `Clear` allocate
+    /// nothing, `Set` fails only where `parse` can return `Memory`, and `Insert` only if the cookie
+    /// would be inserted.
     pub fn apply(&mut self, call: Call) -> Result<Reply, AllocError>
         ensures reply { IfOk result (λ reply.
             reply_view reply ≡ (step (call_view call) self.old).reply) }
@@ -415,7 +500,12 @@ impl CookieStore {
         }
     }
 
-    /// Does what the calls ask, one after the other, and answers their replies. Where memory runs out, the calls before stand.
+    /// Executes the calls in order and returns their replies.
+    ///
+    /// # Errors
+    ///
+    /// [`Stopped`]: out of memory. The calls before the one that failed remain in effect; `Stopped`
+    /// has their number and replies.
     pub fn apply_all(&mut self, calls: Vec<Call>) -> Result<Vec<Reply>, Stopped>
         ensures replies { IfOk result (λ told.
             map reply_view told.items ≡ replies (map call_view calls.items) self.old) }
@@ -423,7 +513,7 @@ impl CookieStore {
         ensures stopped { IfErr result (λ stopped. StopsAfter stopped (map call_view calls.items) self.old self.new) }
         ensures wanting { IfErr result (λ stopped. StopsAt stopped.count (map call_view calls.items) self.new) }
     {
-        // the room for all replies, before the first call
+        // Room for all replies first, so that no reply is lost once its call was executed.
         let Ok(mut told) = Vec::with_capacity(self.alloc, calls.len()) else {
             return Err(Stopped {
                 replies: Vec::new(self.alloc),
@@ -445,7 +535,7 @@ impl CookieStore {
         Ok(told)
     }
 
-    // Takes a cookie that came from the URL at the moment, unless it was refused as it was made: then that is the answer.
+    // Inserts the cookie, or returns the error from making it.
     fn insert_made(&mut self, made: CookieResult<'static>, url: &Url, now: DateTime) -> InsertResult
         ensures reply { IsReply result
             (Stored (received self.old made.entry url.now (moment_of now)).reply) }
@@ -466,7 +556,7 @@ impl CookieStore {
         )
     }
 
-    // A store of these rows, without a public suffix list.
+    // A store of these rows, without a public suffix list or a limit.
     pub(crate) fn of_rows(alloc: Global, rows: Rows) -> CookieStore
         ensures { result ≡ contents_of rows None None }
     {
@@ -478,12 +568,12 @@ impl CookieStore {
         }
     }
 
-    // What takes memory for the store.
+    // The store's allocator.
     pub(crate) fn alloc(&self) -> Global {
         self.alloc
     }
 
-    // The rows.
+    // The stored rows.
     pub(crate) fn rows(&self) -> &Rows
         ensures { result.now ≡ kept_of self.now }
     {

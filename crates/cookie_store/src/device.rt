@@ -1,3 +1,3 @@
-//! Readers and writers that count their failures.
+//! Readers and writers that count their failed calls.
 
 pub use cookie_device::{Counted, DeviceFailed, Sink, Source};

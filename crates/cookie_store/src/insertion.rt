@@ -1,4 +1,4 @@
-//! Insertion, RFC 6265 5.3.
+//! Insertion of a cookie, RFC 6265 5.3.
 ghost use Rattle.std.specs.Prelude.{◌≡◌, ◌≢◌, Err, None, Ok, Some, IfErr, IfSome, OnErr, OnOk};
 ghost use Rattle.std.specs.Option.{option_copied};
 ghost use Rattle.cookie_words.specs.Moments.{moment_of};
@@ -32,7 +32,7 @@ fn owned(alloc: Global, cookie: Cookie<'_>) -> CookieResult<'static>
     }
 }
 
-/// The cookie of a text, with texts of its own.
+/// Parses a `Set-Cookie` header value into a cookie that borrows nothing.
 pub(crate) fn owned_cookie(
     alloc: Global,
     text: &str,
@@ -49,7 +49,7 @@ pub(crate) fn owned_cookie(
     }
 }
 
-/// The cookie of a raw cookie, with texts of its own.
+/// Makes the cookie of a raw cookie, borrowing nothing.
 pub(crate) fn owned_raw_cookie(
     alloc: Global,
     raw: &RawCookie<'_>,
@@ -62,7 +62,7 @@ pub(crate) fn owned_raw_cookie(
     owned(alloc, Cookie::try_from_raw_cookie(alloc, raw, url, now)?)
 }
 
-// The same domain, for that host alone.
+// The domain as a host-only domain.
 fn for_that_host(domain: CookieDomain) -> CookieDomain
     ensures { IfSome (text_if_any (domain_value domain)) (λ text. domain_value result ≡ HostOnly text) }
 {
@@ -72,7 +72,8 @@ fn for_that_host(domain: CookieDomain) -> CookieDomain
     }
 }
 
-// Makes a cookie whose domain is a public suffix host-only, if it comes from that very host, and rejects it else.
+// RFC 6265 5.3 step 5: a cookie whose domain is a public suffix becomes host-only if the domain is
+// the URL's host, and is rejected otherwise.
 fn by_list(
     suffixes: Option<&List>,
     cookie: &mut Cookie<'static>,
@@ -96,7 +97,7 @@ fn by_list(
     Ok(())
 }
 
-// Makes the cookie what may enter, or returns why it may not, whatever is stored.
+// The checks that depend on no stored cookie: RFC 6265 5.3 steps 10, 5 and 6, in that order.
 fn admit(
     suffixes: Option<&List>,
     cookie: &mut Cookie<'static>,
@@ -116,7 +117,7 @@ fn admit(
     Ok(())
 }
 
-// The reply to a cookie that may enter, by the row of its key.
+// RFC 6265 5.3 step 11: the reply to a cookie that passed `admit`, by the stored cookie of its key.
 fn reply_at(
     row: Option<&Cookie<'static>>,
     cookie: &Cookie<'static>,
@@ -145,7 +146,8 @@ fn reply_at(
     }
 }
 
-/// What becomes of a cookie from the URL at the moment, under the list. A refusal, and want of memory, leave the rows.
+/// Inserts a cookie received from `url`, under the list and the limit. On any error, out of memory
+/// included, the rows are unchanged.
 #[tactic(auto, unfolding(cookie_laws::specs::Acceptance::accept))]
 pub(crate) fn accept(
     suffixes: Option<&List>,
@@ -179,7 +181,7 @@ pub(crate) fn accept(
     }
 }
 
-// What was done with a cookie, if there was memory for it.
+// The result of an insertion: the action, or `Memory` if it failed to allocate.
 fn stored(outcome: Result<(), AllocError>, action: StoreAction) -> InsertResult
     ensures stored { OnOk outcome (result ≡ Ok action) }
     ensures memory { OnErr outcome (result ≡ Err Memory) }

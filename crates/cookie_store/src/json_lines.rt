@@ -1,4 +1,4 @@
-//! Cookies as lines of JSON.
+//! Saving and loading rows as lines of JSON.
 ghost use Rattle.std.specs.Prelude.{◌≡◌, ◌⊎◌, ◌-◌, ◌^◌, ◌<◌, filter, option_map, Err, IfErr, IfOk, Ok, OnOk};
 ghost use Rattle.std.specs.Io.KnownBytes.{IsAtEnd};
 ghost use Rattle.serde_json.specs.View.{view};
@@ -21,7 +21,8 @@ use jiff::civil::DateTime;
 use serde_json::Value;
 use std::alloc::Global;
 
-/// Writes the saved form of each row as JSON and a line feed: of those that are saved at the moment, or of all where there is none.
+/// Writes the saved form of each row that is saved as a line of JSON. Which rows are saved: see
+/// `is_among`.
 pub(crate) fn save_json_rows<W: Sink>(
     alloc: Global,
     rows: &Rows,
@@ -42,21 +43,22 @@ pub(crate) fn save_json_rows<W: Sink>(
     save_rows(rows, sink, text_of, now)
 }
 
-// The saved form of the cookie as JSON without a space. An end before the year 0 is refused `Saved(Moment)`, and no memory is
-// wanted before that.
+// The saved form of the cookie as JSON without spaces. `Saved(Moment)` if it expires before the
+// year 0, checked before anything is allocated.
 fn json_line(alloc: Global, cookie: &Cookie<'_>) -> Result<String, Error>
     ensures { SaysJson cookie.now result }
 {
     if ends_early(cookie) {
         return Err(Error::Saved(SavedError::Moment));
     }
+    // for the checker: the JSON value has no float, so its string is fixed and reads as the value
     laws::trees_are_plain();
     let saved = cookie.to_saved(alloc)?;
     let tree = to_value(alloc, &saved)?;
     Ok(tree.to_string(alloc)?)
 }
 
-/// Whether the cookie ends before the year 0.
+/// Whether the cookie expires before the year 0.
 pub(crate) fn ends_early(cookie: &Cookie<'_>) -> bool
     ensures { result ≡ is_early (saved_of cookie.now) }
 {
@@ -66,7 +68,8 @@ pub(crate) fn ends_early(cookie: &Cookie<'_>) -> bool
     }
 }
 
-/// The rows of the cookies whose saved form the lines of the source are, as JSON, all or those that have not ended.
+/// The rows of the source's lines, each the saved form of a cookie as JSON. Expired cookies are
+/// skipped unless `include_expired`.
 pub(crate) fn load_json_rows<R: Source>(
     alloc: StoreAlloc,
     source: &mut R,
@@ -84,7 +87,7 @@ pub(crate) fn load_json_rows<R: Source>(
     Ok(numbered_json_rows(alloc, source, include_expired, now)?)
 }
 
-/// The same, where the fault tells the number of the line.
+/// As [`load_json_rows`], with the number of the line in the error.
 pub(crate) fn numbered_json_rows<R: Source>(
     alloc: StoreAlloc,
     source: &mut R,
@@ -110,8 +113,9 @@ pub(crate) fn numbered_json_rows<R: Source>(
     )
 }
 
-// The cookie whose saved form the line is, as JSON. `Saved(Json)` where it is no JSON, and else what its tree is refused for.
-// Want of memory comes before a refusal only where the tree found no room.
+// The cookie of a line of JSON: `Saved(Json)` if it is not JSON, else an error of `cookie_of_tree`.
+// `Memory` takes the place of `Saved(Shape)` or `Saved(Moment)` only if the JSON value could not be
+// allocated.
 fn cookie_of_json_line(alloc: Global, line: &str) -> Result<Cookie<'static>, Error>
     ensures { MakesJson line.now result }
 {
@@ -122,8 +126,8 @@ fn cookie_of_json_line(alloc: Global, line: &str) -> Result<Cookie<'static>, Err
     }
 }
 
-// The cookie whose saved form the tree is: `Saved(Shape)` or `Saved(Moment)` where it is none, and `Cookie(Parse)` where the text
-// of the raw cookie is none. A fault of the form is told whatever memory is left.
+// The cookie of a JSON value: `Saved(Shape)` or `Saved(Moment)` if it is not a saved cookie, even
+// if out of memory, or `Cookie(Parse)` if its `Set-Cookie` value is not a cookie.
 fn cookie_of_tree(alloc: Global, tree: &Value) -> Result<Cookie<'static>, Error>
     ensures cookie { IfOk result (λ cookie. tree_cookie (view tree.now) ≡ Ok cookie) }
     ensures refused { IfErr result (λ error. (error ≡ Error.Memory) ⊎ (tree_cookie (view tree.now) ≡ Err error)) }

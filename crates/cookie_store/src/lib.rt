@@ -1,4 +1,11 @@
-//! A cookie store, after RFC 6265.
+//! A cookie store for HTTP clients, RFC 6265.
+//!
+//! [`CookieStore`] parses `Set-Cookie` header values, stores the cookies, and returns those that
+//! match the URL of a request. The trait [`Bulk`] takes all cookies of a response, and saves and
+//! loads a store line by line. The module [`serde`] saves and loads a store as one list: in JSON,
+//! in RON, or by functions of your own.
+//!
+//! A store reads no clock: each call that depends on the time takes it as `now`, in UTC.
 #![tactic(auto)]
 
 mod bulk;

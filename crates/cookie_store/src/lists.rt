@@ -1,4 +1,4 @@
-//! Rows that are saved as one text, and made of one.
+//! Saving rows as one string, and loading them from one.
 ghost use Rattle.std.specs.Prelude.{◌≡◌, ◌≢◌, ◌⊎◌, ◌+◌, ◌-◌, ◌≤◌, ◌^◌, ◌<◌, [], length, filter, option_map, IfErr, IfOk, IfSome, OnErr, OnOk};
 ghost use Rattle.std.specs.Fn.{FnReturnsAt};
 ghost use Rattle.std.specs.Io.KnownBytes.{Appends, IsAtEnd};
@@ -16,8 +16,8 @@ use cookie_rows::{Rows, StoreAlloc};
 use jiff::civil::DateTime;
 use std::alloc::{AllocError, Global};
 
-/// Writes what the function says of copies of the rows, of those that are saved at the moment or of all where there is none, and a
-/// line feed.
+/// Passes copies of the saved rows to `text_of`, and writes its string and a line feed. Which rows
+/// are saved: see [`is_among`].
 pub(crate) fn save_copies<W: Sink, F: Fn(&Vec<Cookie<'_>>) -> Result<String, Error>>(
     alloc: Global,
     rows: &Rows,
@@ -39,7 +39,7 @@ pub(crate) fn save_copies<W: Sink, F: Fn(&Vec<Cookie<'_>>) -> Result<String, Err
     write_text(sink, &text)
 }
 
-// Copies of the rows that are saved at the moment, or of all where there is none.
+// Copies of the rows that are saved.
 fn copies_of(
     alloc: Global,
     rows: &Rows,
@@ -57,7 +57,7 @@ fn copies_of(
     Ok(copies)
 }
 
-/// Writes the text and a line feed.
+/// Writes the string and a line feed.
 pub(crate) fn write_text<W: Sink>(sink: &mut W, text: &String) -> Result<(), Error>
     requires writable { W.failed sink.old < 2 ^ 64 - 1 }
     ensures whole { OnOk result (Appends (W.contents sink.old) (W.contents sink.new) (line_text text.now)) }
@@ -71,7 +71,8 @@ pub(crate) fn write_text<W: Sink>(sink: &mut W, text: &String) -> Result<(), Err
     }
 }
 
-/// The rows of the cookies that the function makes of all that the source gives, all or those that have not ended.
+/// The rows of the cookies that `cookies_of` returns for all bytes of the source. Expired cookies
+/// are skipped unless `include_expired`.
 pub(crate) fn load_list<R: Source, F: Fn(&str) -> Result<Vec<Cookie<'_>>, Error>>(
     alloc: StoreAlloc,
     source: &mut R,
@@ -94,7 +95,7 @@ pub(crate) fn load_list<R: Source, F: Fn(&str) -> Result<Vec<Cookie<'_>>, Error>
     rows_of(alloc, cookies, include_expired, now)
 }
 
-/// All bytes of the source, up to its end.
+/// Reads the source to its end.
 pub(crate) fn read_bytes<R: Source>(alloc: Global, source: &mut R) -> Result<Vec<u8>, Error>
     requires readable { R.failed source.old < 2 ^ 64 - 1 }
     ensures all { IfOk result (λ bytes. IsAll (R.remaining source.old) bytes.items) }
@@ -113,7 +114,7 @@ pub(crate) fn read_bytes<R: Source>(alloc: Global, source: &mut R) -> Result<Vec
     }
 }
 
-// The cookies that the function makes of the bytes.
+// The cookies that `cookies_of` returns for the bytes, or `NotUtf8`.
 fn made_of<'l, F: Fn(&str) -> Result<Vec<Cookie<'_>>, Error>>(
     bytes: &'l [u8],
     cookies_of: &F,
@@ -128,7 +129,8 @@ fn made_of<'l, F: Fn(&str) -> Result<Vec<Cookie<'_>>, Error>>(
     }
 }
 
-/// The rows of the cookies, put one after the other, all or those that have not ended. Memory is wanted only where there is one.
+/// The rows of the cookies, inserted in order. Expired cookies are skipped unless
+/// `include_expired`. Allocates only if there are cookies.
 pub(crate) fn rows_of(
     alloc: StoreAlloc,
     cookies: Vec<Cookie<'_>>,

@@ -1,4 +1,4 @@
-//! Rows that are made of lines.
+//! Loading rows from lines.
 ghost use Rattle.std.specs.Prelude.{◌≡◌, ◌-◌, ◌^◌, ◌<◌, IfErr, IfOk, OnErr, OnOk};
 ghost use Rattle.std.specs.Fn.{FnReturnsAt};
 ghost use Rattle.std.specs.Io.KnownBytes.{IsAtEnd};
@@ -12,12 +12,12 @@ use cookie_rows::{Rows, StoreAlloc};
 use jiff::civil::DateTime;
 use std::alloc::Global;
 
-/// Why no rows were made of lines.
+/// Why loading rows from lines failed.
 #[derive(Drop)]
 pub(crate) enum LoadFault {
-    /// No more of the source could be had.
+    /// A read failed, or out of memory for the bytes read.
     Source(FillError),
-    /// At the line of this number, counted from 1, which past the greatest `u64` stays there.
+    /// The error at a line, with its number: counted from 1, `u64::MAX` for all lines beyond that.
     Line(u64, Error),
 }
 
@@ -31,7 +31,7 @@ impl From<FillError> for LoadFault {
     }
 }
 
-/// What the fault is where the number of the line is not told.
+/// The error without the number of the line.
 impl From<LoadFault> for Error {
     ghost use Rattle.cookie_store.specs.LoadFault.{error_of};
 
@@ -46,7 +46,8 @@ impl From<LoadFault> for Error {
     }
 }
 
-/// The rows of the cookies that the function makes of the lines of the source, all or those that have not ended.
+/// The rows of the cookies that `cookie_of` returns for the source's lines. Expired cookies are
+/// skipped unless `include_expired`.
 pub(crate) fn load_rows<R: Source, F: Fn(&str) -> Result<Cookie<'_>, Error>>(
     alloc: StoreAlloc,
     source: &mut R,
@@ -67,7 +68,7 @@ pub(crate) fn load_rows<R: Source, F: Fn(&str) -> Result<Cookie<'_>, Error>>(
     Ok(numbered_rows(alloc, source, cookie_of, include_expired, now)?)
 }
 
-/// The same, where the fault tells the number of the line.
+/// As [`load_rows`], with the number of the line in the error.
 pub(crate) fn numbered_rows<R: Source, F: Fn(&str) -> Result<Cookie<'_>, Error>>(
     alloc: StoreAlloc,
     source: &mut R,
@@ -88,6 +89,7 @@ pub(crate) fn numbered_rows<R: Source, F: Fn(&str) -> Result<Cookie<'_>, Error>>
     let mut input = LineBuffer::new(alloc.alloc);
     let mut rows = Rows::new(alloc);
     let mut number: u64 = 1;
+    // for the checker: the proofs name the loop by its label
     'lines: loop {
         if let Some(end) = input.line_end() {
             let line = input.line(end);
@@ -121,7 +123,7 @@ pub(crate) fn numbered_rows<R: Source, F: Fn(&str) -> Result<Cookie<'_>, Error>>
     Ok(rows)
 }
 
-// The same as `take_line`, of the line of this number.
+// Does [`take_line`], and adds the number of the line to its error.
 fn take_numbered<F: Fn(&str) -> Result<Cookie<'_>, Error>>(
     rows: &mut Rows,
     alloc: Global,
@@ -143,7 +145,8 @@ fn take_numbered<F: Fn(&str) -> Result<Cookie<'_>, Error>>(
     }
 }
 
-// Puts the cookie that the function makes of the line, unless it has ended and is to be passed over. An error leaves the rows.
+// Inserts the cookie that `cookie_of` returns for the line. If it has expired, it is skipped unless
+// `include_expired`. On any error the rows are unchanged.
 fn take_line<F: Fn(&str) -> Result<Cookie<'_>, Error>>(
     rows: &mut Rows,
     alloc: Global,
@@ -168,7 +171,7 @@ fn take_line<F: Fn(&str) -> Result<Cookie<'_>, Error>>(
     }
 }
 
-// The cookie that the function makes of the line.
+// The cookie that `cookie_of` returns for the line, or `NotUtf8`.
 fn made_of<'l, F: Fn(&str) -> Result<Cookie<'_>, Error>>(
     line: &'l [u8],
     cookie_of: &F,

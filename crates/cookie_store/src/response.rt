@@ -15,7 +15,7 @@ use std::alloc::AllocError;
 use std::fmt;
 use url::Url;
 
-// A raw cookie as it comes: of a secure one, only the name is shown.
+// The log line of a received cookie. Of a Secure cookie it has the name only.
 #[derive(Drop)]
 struct Arrival<'a> {
     raw: &'a RawCookie<'a>,
@@ -36,7 +36,7 @@ impl<'a> fmt::Display for Arrival<'a> {
     }
 }
 
-/// Stores the cookies that are left, one after the other. Where memory runs out, the cookies before stand.
+/// Inserts the remaining cookies in order. If memory runs out, those before remain stored.
 pub(crate) fn store_each<'c, S: Bulk, L: Log, I: Iterator<Item = RawCookie<'c>>>(
     store: &mut S,
     logger: &L,
@@ -59,7 +59,7 @@ pub(crate) fn store_each<'c, S: Bulk, L: Log, I: Iterator<Item = RawCookie<'c>>>
     Ok(())
 }
 
-// Why a cookie was refused, if it was, unless memory ran out.
+// The error of a rejected cookie, if it was rejected; `AllocError` if out of memory.
 fn refusal_of(told: InsertResult) -> Result<Option<CookieError>, AllocError>
     ensures refusal { IfOk result (λ refusal. (refusal ≡ result_err told) × (told ≢ Err Memory)) }
     ensures memory { OnErr result (told ≡ Err Memory) }
@@ -71,12 +71,12 @@ fn refusal_of(told: InsertResult) -> Result<Option<CookieError>, AllocError>
     }
 }
 
-// Logs that a cookie came.
+// Logs a received cookie.
 fn log_arrival<L: Log>(logger: &L, raw: &RawCookie<'_>) {
     debug!(logger; "{}", Arrival { raw });
 }
 
-// Logs why a cookie was refused, if it was.
+// Logs why a cookie was rejected, if it was.
 fn log_refusal<L: Log>(logger: &L, refusal: Option<CookieError>) {
     if let Some(refusal) = refusal {
         debug!(logger; "unable to store Set-Cookie: {refusal}");

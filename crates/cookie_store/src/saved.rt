@@ -1,4 +1,5 @@
-//! Saved forms of cookies: trees of JSON, lists in RON, and the text of a moment.
+//! The saved form of a cookie, as a JSON value or in a list in RON, and times as strings such as
+//! `2026-01-31T23:59:59Z`.
 
 pub use cookie_saved::{
     Saved, SavedDomain, SavedError, SavedExpiry, from_ron, from_value, laws, list_from_value,

@@ -1,4 +1,4 @@
-//! Rows that are saved as lines.
+//! Saving rows as lines.
 ghost use Rattle.std.specs.Prelude.{◌≡◌, ◌-◌, ◌+◌, ◌^◌, ◌<◌, ◌⊎◌, Err, filter, option_map, IfErr, OnOk};
 ghost use Rattle.std.specs.Fn.{FnReturnsAt};
 ghost use Rattle.std.specs.Io.KnownBytes.{Keeps};
@@ -10,7 +10,7 @@ use cookie_parts::{Cookie, Error};
 use cookie_rows::Rows;
 use jiff::civil::DateTime;
 
-/// Writes what the function says of each row and a line feed: of those that are saved at the moment, or of all where there is none.
+/// Writes the string that `text_of` returns for each row that is saved, and a line feed.
 pub(crate) fn save_rows<W: Sink, F: Fn(&Cookie<'_>) -> Result<String, Error>>(
     rows: &Rows,
     sink: &mut W,
@@ -34,7 +34,8 @@ pub(crate) fn save_rows<W: Sink, F: Fn(&Cookie<'_>) -> Result<String, Error>>(
     Ok(())
 }
 
-/// Whether the row is saved at the moment: it has not ended, and ends at one. All are where there is no moment.
+/// Whether a row is saved: it is unexpired and persistent at `now`; every row is if `now` is
+/// `None`.
 pub(crate) fn is_among(row: &Cookie<'static>, now: &Option<DateTime>) -> bool
     ensures { result ≡ is_among (option_map moment_of now.now) row.now }
 {
@@ -44,7 +45,7 @@ pub(crate) fn is_among(row: &Cookie<'static>, now: &Option<DateTime>) -> bool
     }
 }
 
-// Writes what the function says of the row, and a line feed.
+// Writes the string that `text_of` returns for the row, and a line feed.
 fn save_row<W: Sink, F: Fn(&Cookie<'_>) -> Result<String, Error>>(
     row: &Cookie<'static>,
     sink: &mut W,

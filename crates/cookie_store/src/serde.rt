@@ -1,4 +1,4 @@
-//! A store that is saved as one text, and loaded from one.
+//! Saving and loading a store as one list, in JSON, in RON, or by functions of your own.
 ghost use Rattle.std.specs.Prelude.{◌≡◌, ◌-◌, ◌^◌, ◌<◌, false, true, None, IfErr, IfOk, OnOk};
 ghost use Rattle.std.specs.Fn.{FnReturnsAt};
 ghost use Rattle.std.specs.Io.KnownBytes.{IsAtEnd};
@@ -23,9 +23,17 @@ pub mod ron;
 
 pub use migration::{MigrateError, migrate_lines};
 
-/// Writes what the function says of the cookies that have not ended by the moment and end at one, in the store's order, and a line
-/// feed. The function is handed copies of them, once, before anything is written. Its error, or `Memory` where there was no room for
-/// the copies, ends this, and nothing is written then; or `Io` where the writer failed.
+/// Writes the unexpired persistent cookies as one list, and a line feed.
+///
+/// `cookies_to_string` makes the list. It is called once, with copies of the cookies in the store's
+/// order, before anything is written.
+///
+/// # Errors
+///
+/// In the order in which they can come:
+/// - `Memory`: out of memory for the copies. Nothing is written.
+/// - The error that `cookies_to_string` returns. Nothing is written.
+/// - `Io`: the writer failed. A beginning of the list may be written.
 pub fn save<S: Bulk, W: Sink, F: Fn(&Vec<Cookie<'_>>) -> Result<String, Error>>(
     store: &S,
     writer: &mut W,
@@ -51,7 +59,9 @@ pub fn save<S: Bulk, W: Sink, F: Fn(&Vec<Cookie<'_>>) -> Result<String, Error>>(
     )
 }
 
-/// The same of all cookies, also those that have ended and those that end with the session.
+/// Writes all cookies as one list, expired cookies and session cookies included, and a line feed.
+///
+/// Otherwise as [`save`].
 pub fn save_incl_expired_and_nonpersistent<
     S: Bulk,
     W: Sink,
@@ -70,10 +80,20 @@ pub fn save_incl_expired_and_nonpersistent<
     save_copies(store.alloc(), store.rows(), writer, cookies_to_string, None)
 }
 
-/// A store of the cookies that the function makes of all that the reader gives, each in the place of an earlier one of its domain,
-/// path and name, without a public suffix list. Those that have ended are passed over. Answers `Io` where the reader failed, `NotUtf8`
-/// where the text is no UTF-8, the error that the function answers, or `Memory`, where there was no room for the text or for a
-/// cookie that the function made.
+/// Loads a store from one list, skipping expired cookies.
+///
+/// All that the reader has is passed to `cookies_from_str`. A cookie replaces an earlier one with
+/// the same domain, path and name. The store has no public suffix list and no limit.
+///
+/// # Errors
+///
+/// In the order in which they can come:
+/// - `Io`: the reader failed.
+/// - `NotUtf8`: the bytes are not UTF-8.
+/// - The error that `cookies_from_str` returns.
+///
+/// `Memory`: out of memory, for the reader's bytes or for a cookie that `cookies_from_str`
+/// returned.
 pub fn load<S: Bulk, A: Into<StoreAlloc>, R: Source, F: Fn(&str) -> Result<Vec<Cookie<'_>>, Error>>(
     alloc: A,
     reader: &mut R,
@@ -97,7 +117,9 @@ pub fn load<S: Bulk, A: Into<StoreAlloc>, R: Source, F: Fn(&str) -> Result<Vec<C
     Ok(S::of_store(CookieStore::of_rows(alloc.alloc, rows)))
 }
 
-/// The same, where cookies that have ended are kept. The moment is not looked at.
+/// Loads a store from one list, expired cookies included.
+///
+/// Otherwise as [`load`]. `now` is not used.
 pub fn load_all<
     S: Bulk,
     A: Into<StoreAlloc>,

@@ -1,4 +1,4 @@
--- Buffers that are filled from their front on.
+-- Buffers that are filled from the front.
 use Rattle.std.proofs.Common.{◌≡◌, ℕ, suc, ◌+◌, ◌≤◌, ◌<◌, List, [], ◌∷◌, ◌++◌, ap, append_assoc, append-nil, arith, drop, flat_map, get_or, length, length-append, map, set, refl, subst, sym, take, ◌∙◌}
 use Rattle.std.proofs.Math.Seq.{set-append_seam, take-suc}
 use Rattle.std.proofs.lemmas.Grind.{flat_map-append}
@@ -6,7 +6,7 @@ use Rattle.std.proofs.lemmas.List.{drop_more, length-map, map-append, take-appen
 use Rattle.cookie_store_c.specs.Buffers.{Stands, at_front}
 
 module _ {A : Type 0} (f : A → List ℕ) (items : List A) where
-  -- the texts of the first items, and of one more
+  -- the strings of the first items and of one more
   pub next_text : (i : ℕ) (d : A) (text : List ℕ) → i < length items → text ≡ f (get_or items i d)
       → flat_map f (take (i + 1) items) ≡ flat_map f (take i items) ++ text
   next_text i d text small is =
@@ -15,14 +15,14 @@ module _ {A : Type 0} (f : A → List ℕ) (items : List A) where
       ∙ flat_map-append f (take i items) (get_or items i d ∷ [])
       ∙ ap (λ last. flat_map f (take i items) ++ last) (append-nil (f (get_or items i d)) ∙ sym is)
 
-  -- the texts of the first items and of the others
+  -- the strings of the first items and of the others
   parts : (i : ℕ) → length (flat_map f items) ≡ length (flat_map f (take i items)) + length (flat_map f (drop i items))
   parts i =
       ap (λ all. length (flat_map f all)) (sym (take-append-drop i items))
       ∙ ap length (flat_map-append f (take i items) (drop i items))
       ∙ length-append (flat_map f (take i items)) (flat_map f (drop i items))
 
-  -- the text of one more fits with all
+  -- if all strings fit, so does the next one
   pub fits : (i n : ℕ) (d : A) → i < length items → n ≡ length (f (get_or items i d))
       → length (flat_map f (take i items)) + n ≤ length (flat_map f items)
   fits i n d small is =
@@ -46,7 +46,7 @@ filled_more front before item small =
     ∙ sym (append_assoc front (item ∷ []) (drop (length (front ++ item ∷ [])) before)
     ∙ ap (λ k. front ++ item ∷ drop k before) n)
 
--- what is told of items, and of one more
+-- the rows of the first items and of one more
 pub filled_next : {A T : Type 0} (tell : A → T) (seen : List A) (item : A) (before buffer : List T) (place : ℕ) (told : T)
     → buffer ≡ at_front (map tell seen) before → place ≡ length seen → length seen < length before → told ≡ tell item
     → set buffer place told ≡ at_front (map tell (seen ++ item ∷ [])) before

@@ -1,4 +1,4 @@
--- A header that is handed over is that of the request.
+-- The header that is written is that of the request.
 use Rattle.std.proofs.Common.{◌≡◌, ◌≢◌, ◌⊎◌, ℕ, ℤ, List, [], Result, Ok, Err, IfErr, IfOk, IsOk, ap, inl, inr, refl, subst, sym, ◌∙◌}
 use Rattle.std.specs.Result.{result_map_both}
 use Rattle.url.specs.Parts.{Parts}
@@ -12,12 +12,12 @@ use Rattle.cookie_store_c.specs.Headers.{IsHeader, IsHeaderFor}
 use Rattle.cookie_store_c.specs.declared.status.Status.{Status}
 use Rattle.cookie_store_c.specs.declared.status.Status.TheVariants.{NoMemory}
 
--- what comes of two steps that succeed comes of a first one that does
+-- if both steps succeed, so does the first one
 first_is_ok : {A B : Type 0} (first : Result A Status) (next : A → Result B Status) (b : B) → and_then first next ≡ Ok b → IsOk first
 first_is_ok (Ok a) next b is = refl
 first_is_ok (Err status) next b is = absurd (cc)
 
--- of what is known of an error and of more, the first part
+-- the first of two facts about an error
 pub errors_alone : {A T : Type 0} (P : Status → Type 0) (Q : A → Type 0) (asked : Result A Status) (text : Result T Status)
     → IfOk asked (λ a. IfErr text (λ error. P error × Q a)) → IfOk asked (λ a. IfErr text P)
 errors_alone P Q (Ok a) (Ok t) known = tt
@@ -25,14 +25,14 @@ errors_alone P Q (Ok a) (Err error) known = known.0
 errors_alone P Q (Err status) text known = tt
 
 module _ (store : Contents) (url : List ℕ) (now : ℤ) (old : List ℕ) (status : Status) (new : List ℕ) (needed : ℕ) where
-  -- what was handed over
+  -- the outcome
   abbrev Told : Handed
   Told = record { status = status; buffer = new; needed = needed }
 
   abbrev Hands : Type 0
   Hands = HandsSome (IsHeader store url now) (IsOk (look url now)) old status new needed
 
-  -- this answer was
+  -- it is that of this result
   answered : (answer : Result (List ℕ) Status) (asked : Result (Parts × Moment) Status) → asked ≡ request url now → IsHeaderFor store asked answer → Told ≡ handed answer old → Hands
   answered answer asked is header told = inl (answer, subst (λ r. IsHeaderFor store r answer) is header, told)
 
@@ -40,7 +40,7 @@ module _ (store : Contents) (url : List ℕ) (now : ℤ) (old : List ℕ) (statu
   ran_out : (error : Status) → error ≡ NoMemory → IsOk (look url now) → Told ≡ handed (Err error) old → Hands
   ran_out error is ok told = inr (ap (λ h. h.status) told ∙ is, ok, ap (λ h. h.buffer) told, ap (λ h. h.needed) told)
 
-  -- so the header of what was asked for is handed over, or why there is none
+  -- the header of the request is written, or its error returned
   pub header_handed : {A T : Type 0} (view : A → Parts × Moment) (items : T → List ℕ) (asked : Result A Status) (text : Result T Status)
       → GivesOrRunsOut (result_map_both view (λ error. error) asked) (request url now)
       → (asked ≡ Err NoMemory → IsOk (look url now))

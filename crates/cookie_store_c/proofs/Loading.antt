@@ -1,4 +1,4 @@
--- What loading a list comes to.
+-- The outcome of loading a list.
 use Rattle.std.proofs.Common.{◌≡◌, ◌⊎◌, ◌∙◌, true≢false, inl, inr, ℕ, Bool, List, Some, None, Result, Ok, Err, ap, refl, subst, sym, true, Option, IfOk, IfErr}
 use Rattle.std.specs.Result.{result_map_both}
 use Rattle.std.specs.Str.{is_utf8}
@@ -15,13 +15,13 @@ use Rattle.cookie_store_c.specs.declared.lists.Form.{Form}
 use Rattle.cookie_store_c.specs.declared.status.Status.{Status}
 use Rattle.cookie_store_c.specs.declared.status.Status.TheVariants.{Done, NoMemory}
 
--- of a refusal, or of memory that was wanting, no more is known than that
+-- an error, or memory ran out: the condition under which it may is dropped
 pub of_memory : {Refused Wanting : Type 0} {error : Error} → Refused ⊎ ((error ≡ Memory) × Wanting) → Refused ⊎ (error ≡ Memory)
 of_memory (inl h) = inl h
 of_memory (inr (memory, wanting)) = inr memory
 
 module _ (form : Form) (Makes : List ℕ → Result (List Row) Error → Type 0) (all : Bool) (now : Moment) (text : List ℕ) where
-  -- a store that was built
+  -- a store that was created
   loads : ((cookies : List Row) → Makes text (Ok cookies) → Says form text (Ok cookies)) → (store : Contents)
       → BuildsFromList Makes (Some text) all now (kept_of store) → store.suffixes ≡ None → store.limit ≡ None
       → LoadsText form all now text (record { status = Done; store = Some store })
@@ -34,7 +34,7 @@ module _ (form : Form) (Makes : List ℕ → Result (List Row) Error → Type 0)
     },
   )
 
-  -- the same of what was loaded
+  -- the same for what was loaded
   pub loads_built : ((cookies : List Row) → Makes text (Ok cookies) → Says form text (Ok cookies)) → (known : Option (List ℕ)) → known ≡ Some text
       → (read : Result Contents Error) (told : Result Contents Status) → told ≡ result_map_both (λ store. store) fault_status read
       → IfOk read (λ store. BuildsFromList Makes known all now (kept_of store)) → IfOk read (λ store. store.suffixes ≡ None)
@@ -45,13 +45,13 @@ module _ (form : Form) (Makes : List ℕ → Result (List Row) Error → Type 0)
   loads_built made known e (Err error) told is built suffixes limit = rw is tt
 
   module _ (valid : is_utf8 text ≡ true) (says : (error : Error) → Makes text (Err error) → Says form text (Err error) ⊎ (error ≡ Memory)) where
-    -- a text that is refused
+    -- a string that is rejected
     said : (error : Error) → Says form text (Err error) ⊎ (error ≡ Memory)
         → LoadsText form all now text (refused None (fault_status error)) ⊎ (fault_status error ≡ NoMemory)
     said error (inl h) = inl (Err error, h, refl)
     said error (inr h) = inr (ap fault_status h)
 
-    -- no store
+    -- there is no store
     fails : (error : Error) (rest : Option (List ℕ)) (failures failures' reads_left reads_left' : ℕ)
         → FailsToLoadList Makes error (Some text) rest failures failures' reads_left reads_left'
         → LoadsText form all now text (refused None (fault_status error)) ⊎ (fault_status error ≡ NoMemory)
@@ -63,7 +63,7 @@ module _ (form : Form) (Makes : List ℕ → Result (List Row) Error → Type 0)
     fails error rest f f' n n' (inr (within, inl (io, raised))) = inr (ap fault_status io)
     fails error rest f f' n n' (inr (within, inr (memory, kept))) = inr (ap fault_status memory)
 
-    -- the same of what was loaded
+    -- the same for what was loaded
     pub fails_told : (known : Option (List ℕ)) → known ≡ Some text → (read : Result Contents Error) (told : Result Contents Status)
         → told ≡ result_map_both (λ store. store) fault_status read
         → (rest : Option (List ℕ)) (failures failures' reads_left reads_left' : ℕ)

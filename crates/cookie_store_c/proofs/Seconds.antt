@@ -1,4 +1,4 @@
--- Seconds from the epoch, and the moments that lie there.
+-- Seconds since the epoch, and the times that they are.
 use Rattle.std.proofs.Common.{◌≡◌, ℤ, pos, ◌+ℤ◌, ◌-ℤ◌, ◌*ℤ◌, ◌≤ℤ◌, Bool, true, false, ◌&&◌, Ok, Err, arith, refl, sym, ap, ◌∙◌, FitsSigned, w64}
 use Rattle.std.specs.Prelude.{int_le}
 use Rattle.std.specs.Int.{int_div_euclid}
@@ -15,26 +15,26 @@ use Rattle.jiff.proofs.Family.{civil_nanos_range}
 use Rattle.cookie_store_c.specs.Asked.{first_second, last_second, moment_in}
 use Rattle.cookie_store_c.specs.declared.status.Status.TheVariants.{BadMoment}
 
--- the test of seconds, that they are of the years -9999 to 9999
+-- the test that seconds lie in the years -9999 to 9999
 abbrev pub is_counted : ℤ → Bool
 is_counted seconds = int_le first_second seconds && int_le seconds last_second
 
--- what is no later passes the test
+-- if a is at most b, the test returns true
 at_most : (a b : ℤ) → a ≤ℤ b → int_le a b ≡ true
 at_most a b h = grind (arith, ints)
 
--- and what passes the test is no later
+-- if the test returns true, a is at most b
 no_later : (a b : ℤ) → int_le a b ≡ true → a ≤ℤ b
 no_later a b h = grind (arith, ints)
 
--- what lies on the calendar passes
+-- the seconds of a time on the calendar pass the test
 pub counted : (seconds n : ℤ) → n ≡ seconds *ℤ pos 1_000_000_000 → IsCivilNanos n → is_counted seconds ≡ true
 counted seconds n e h =
     let first : first_second ≤ℤ seconds = omega (arith, signed_arith, e, h) in
     let last : seconds ≤ℤ last_second = omega (arith, signed_arith, e, h) in
     both_true (at_most first_second seconds first) (at_most seconds last_second last)
 
--- and nothing else does
+-- no other seconds pass the test
 pub not_counted : (seconds n : ℤ) → n ≡ seconds *ℤ pos 1_000_000_000 → (IsCivilNanos n → ⊥) → is_counted seconds ≡ false
 not_counted seconds n e beyond =
     false_from_ne_true _ (λ counts.
@@ -43,7 +43,7 @@ not_counted seconds n e beyond =
     let last = no_later seconds last_second parts.1 in
     beyond (omega (arith, signed_arith, e, first, last), omega (arith, signed_arith, e, first, last)))
 
--- the same nanoseconds in the words of this repository
+-- the same nanoseconds, by the definitions of this repository
 pub same_nanos : (d : DateTime) → civil_nanos d ≡ nanoseconds (moment_of d)
 unfolding civil_nanos nanoseconds
 same_nanos d = refl
@@ -59,7 +59,7 @@ unfolding nanoseconds
 begins start e = same_nanos start ∙ ap nanoseconds e ∙ ap (λ days. days *ℤ pos 86_400_000_000_000 +ℤ pos 0) no_days
 
 module _ (start : DateTime) (seconds : ℤ) (e : moment_of start ≡ epoch) where
-  -- what lies so many seconds behind the epoch is the moment of these seconds
+  -- a time that is so many seconds after the epoch is the time of these seconds
   pub told : ((moment : DateTime) → moment_at (nanoseconds (moment_of moment)) ≡ moment_of moment) → (moment : DateTime)
       → civil_nanos moment ≡ civil_nanos start +ℤ seconds *ℤ pos 1_000_000_000 → Ok (moment_of moment) ≡ moment_in seconds
   told scale moment lies =
@@ -68,14 +68,14 @@ module _ (start : DateTime) (seconds : ℤ) (e : moment_of start ≡ epoch) wher
       rw (counted seconds (civil_nanos moment) n (civil_nanos_range moment))
       (ap Ok (sym (scale moment) ∙ ap moment_at (sym (same_nanos moment) ∙ n)))
 
-  -- where nothing does, there is none
+  -- if no time is, there is none
   pub not_told : (IsCivilNanos (civil_nanos start +ℤ seconds *ℤ pos 1_000_000_000) → ⊥) → Err BadMoment ≡ moment_in seconds
   not_told beyond =
       let begin : civil_nanos start ≡ pos 0 = begins start e in
       let n : civil_nanos start +ℤ seconds *ℤ pos 1_000_000_000 ≡ seconds *ℤ pos 1_000_000_000 = omega (arith, signed_arith, begin) in
       rw (not_counted seconds _ n beyond)
 
--- the second of a moment, by the nanoseconds from the epoch
+-- the second of a time, by its nanoseconds since the epoch
 pub second_is : (start moment : DateTime) → moment_of start ≡ epoch → (n : ℤ) → n ≡ civil_nanos moment -ℤ civil_nanos start
     → (seconds : ℤ) → seconds ≡ int_div_euclid n (pos 1_000_000_000)
     → FitsSigned w64 seconds × (seconds ≡ int_div_euclid (nanoseconds (moment_of moment)) (pos 1_000_000_000))

@@ -54,7 +54,7 @@ module _ {K : Type 0} {M : Type 1} {𝓤 : Ura M} {𝓛 : Logic 𝓤} {G : Goal 
   lies t alloc at store =
       in_a_block t at (λ p. boxed alloc p store) (fst∗ 𝓤 (never 𝓤) (sem 𝓛 (ghosts.dealloc_token alloc (bare (lone Store.mir)) null_ptr)))
 
-  -- arguments, and what a call asks of them, with what it asks of its two type parameters, a store and the heap
+  -- arguments, and the preconditions of a call with its two type parameters, a store and the heap
   pub asks : K → {args : Fml} {asked : Item 𝓤}
       → Step K 𝓛 (((tokens ⊛ ‵ args) ⊛ raw (fact 𝓤 ([] ⊑ Store.lives)) ⊛ raw (fact 𝓤 ([] ⊑ Heap.lives)) ⊛ asked) ∷ Γ) G (‵ args ∷ asked ∷ Γ) G
   asks t = step (λ rest.

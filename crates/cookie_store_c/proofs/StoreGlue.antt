@@ -1,4 +1,4 @@
--- A store can be dropped: what the drop of a store meets is what a type parameter's `Drop` asks.
+-- A store can be dropped: its drop meets what the `Drop` of a type parameter requires.
 use Rattle.std.proofs.Common.{[], ◌∷◌, refl}
 use seplogic.Ra.Ura.{Ura}
 use mir.Syntax.{Callee, method, no_args}

@@ -1,45 +1,45 @@
--- Texts that are handed over in a buffer of the caller's.
+-- Strings that are written into the caller's buffers.
 use Rattle.std.specs.Prelude.{◌≡◌, ◌⊎◌, ℕ, List, ◌++◌, drop, length, nat_le, Result, Ok, Err, if◌then◌else◌}
 use Rattle.cookie_store_c.specs.declared.status.Status.{Status}
 use Rattle.cookie_store_c.specs.declared.status.Status.TheVariants.{Done, NoMemory, NoRoom}
 
--- the buffer with these items at its front, and the rest of it as it was
+-- the buffer with these items at its front, and otherwise unchanged
 abbrev pub at_front : {T : Type 0} → List T → List T → List T
 at_front items buffer = items ++ drop (length items) buffer
 
--- of a buffer that was so before, this is its front, which ends at the place
+-- the buffer, which was `before`, has `front` at its front, which ends at `place`
 pub record Stands (front before buffer : List ℕ) (place : ℕ) : Type 0 where
   pub filled : buffer ≡ at_front front before
   pub ends : place ≡ length front
   pub as_long : length buffer ≡ length before
 
--- a status, what is in the buffer, and how long the text is
+-- the status, the buffer after the call, and the length of the string
 pub record Handed : Type 0 where
   pub status : Status
   pub buffer : List ℕ
   pub needed : ℕ
 
--- a text is written where it fits, and its length is told
+-- a string is written if it fits; its length is returned in any case
 abbrev pub handed_text : List ℕ → List ℕ → Handed
 handed_text text buffer =
     if nat_le (length text) (length buffer) then record { status = Done; buffer = at_front text buffer; needed = length text }
     else record { status = NoRoom; buffer = buffer; needed = length text }
 
--- where there is no text, nothing is
+-- on an error nothing is written, and the length is 0
 abbrev pub handed : Result (List ℕ) Status → List ℕ → Handed
 handed (Ok text) buffer = handed_text text buffer
 handed (Err status) buffer = record { status = status; buffer = buffer; needed = 0 }
 
--- memory ran out where it may be wanted, and nothing was handed over
+-- memory ran out, which it may if `MayWant` holds; the buffer is unchanged and the length is 0
 abbrev pub HandsNothing : Type 0 → List ℕ → Status → List ℕ → ℕ → Type 0
 HandsNothing MayWant old status new needed = (status ≡ NoMemory) × MayWant × (new ≡ old) × (needed ≡ 0)
 
--- this answer was handed over, or nothing for want of memory
+-- the outcome is that of this result, or memory ran out
 abbrev pub Hands : Result (List ℕ) Status → Type 0 → List ℕ → Status → List ℕ → ℕ → Type 0
 Hands answer MayWant old status new needed =
     (record { status = status; buffer = new; needed = needed } ≡ handed answer old) ⊎ HandsNothing MayWant old status new needed
 
--- an answer of this kind was
+-- the outcome is that of a result with this property, or memory ran out
 abbrev pub HandsSome : (Result (List ℕ) Status → Type 0) → Type 0 → List ℕ → Status → List ℕ → ℕ → Type 0
 HandsSome IsAnswer MayWant old status new needed =
     ((answer : Result (List ℕ) Status) × IsAnswer answer × (record { status = status; buffer = new; needed = needed } ≡ handed answer old))

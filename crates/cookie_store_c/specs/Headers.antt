@@ -8,16 +8,16 @@ use Rattle.cookie_store_c.specs.Asked.{request}
 use Rattle.cookie_store_c.specs.declared.status.Status.{Status}
 use Rattle.cookie_store_c.specs.declared.status.Status.TheVariants.{NoStore}
 
--- RFC 6265 5.4: the cookie-string of a request for a URL, or why there is none
+-- RFC 6265 5.4: the cookie-string of a request for a URL, or the error
 abbrev pub IsHeaderFor : Contents → Result (Parts × Moment) Status → Result (List ℕ) Status → Type 0
 IsHeaderFor store (Ok asked) answer = (text : List ℕ) × IsCookieHeader asked.0 asked.1 store text × (answer ≡ Ok text)
 IsHeaderFor store (Err status) answer = answer ≡ Err status
 
--- the same for the text of a URL and the seconds of a time
+-- the same for the string of a URL and a time in seconds
 abbrev pub IsHeader : Contents → List ℕ → ℤ → Result (List ℕ) Status → Type 0
 IsHeader store url now answer = IsHeaderFor store (request url now) answer
 
--- the same, if there is a store
+-- the same, or `NoStore` if there is no store
 abbrev pub IsHeaderIn : Option Contents → List ℕ → ℤ → Result (List ℕ) Status → Type 0
 IsHeaderIn None url now answer = answer ≡ Err NoStore
 IsHeaderIn (Some store) url now answer = IsHeader store url now answer

@@ -1,4 +1,4 @@
--- What is told of rows.
+-- Rows as C programs read them.
 use Rattle.std.specs.Prelude.{◌≡◌, ◌⊎◌, ℕ, ◌^◌, ◌≤◌, Bool, true, false, ◌&&◌, List, ◌++◌, flat_map, length, map, nat_le, Option, Some, None, if◌then◌else◌, ℤ, pos}
 use Rattle.std.specs.Int.{int_div_euclid}
 use Rattle.cookie_words.specs.Moments.{nanoseconds}
@@ -11,12 +11,12 @@ use Rattle.cookie_store_c.specs.declared.rows.CookieRow.{CookieRow}
 use Rattle.cookie_store_c.specs.declared.status.Status.{Status}
 use Rattle.cookie_store_c.specs.declared.status.Status.TheVariants.{Done, NoMemory, NoRoom, NoStore}
 
--- the second in which it ends, counted from the epoch, and 0 where it ends with the session
+-- the second of the expiry, counted from the epoch and rounded down; 0 for a session cookie
 abbrev pub end_second : Expiry → ℤ
 end_second (AtUtc end) = int_div_euclid (nanoseconds end) (pos 1_000_000_000)
 end_second SessionEnd = pos 0
 
--- 5.3 step 6: the host-only-flag
+-- RFC 6265 5.3 step 6: the host-only-flag
 abbrev pub is_host_only : DomainValue → Bool
 is_host_only (HostOnly d) = true
 is_host_only other = false
@@ -25,7 +25,7 @@ is_host_only other = false
 abbrev pub flag : Bool → ℕ
 flag set = if set then 1 else 0
 
--- what is told of a row
+-- a row without its strings
 abbrev pub row_told : Row → CookieRow
 row_told row = record {
   domain_len = length (domain_text row.domain);
@@ -40,11 +40,11 @@ row_told row = record {
   http_only = flag (is_http_only row.raw);
 }
 
--- its texts
+-- the strings of a row
 abbrev pub row_texts : Row → List ℕ
 row_texts row = domain_text row.domain ++ row.path.text ++ row.raw.name ++ row.raw.value
 
--- a status, what is in the two buffers, and how long they have to be
+-- the status, the two buffers after the call, and the lengths that they need
 pub record Told : Type 0 where
   pub status : Status
   pub rows : List CookieRow
@@ -52,17 +52,17 @@ pub record Told : Type 0 where
   pub rows_needed : ℕ
   pub texts_needed : ℕ
 
--- a status alone
+-- a status alone: nothing is written, and both lengths are 0
 abbrev pub nothing_told : Status → List CookieRow → List ℕ → Told
 nothing_told status rows texts =
     record { status = status; rows = rows; texts = texts; rows_needed = 0; texts_needed = 0 }
 
--- how long the buffers have to be
+-- the lengths that the buffers need
 abbrev pub lengths_told : List Row → List CookieRow → List ℕ → Told
 lengths_told all rows texts =
     record (nothing_told NoRoom rows texts) { rows_needed = length all; texts_needed = length (flat_map row_texts all) }
 
--- rows are told where they and their texts fit
+-- rows and strings are written if both fit
 abbrev pub rows_told : List Row → List CookieRow → List ℕ → Told
 rows_told all rows texts =
     if nat_le (length all) (length rows) && nat_le (length (flat_map row_texts all)) (length texts) then record (lengths_told all rows texts) {
@@ -72,11 +72,11 @@ rows_told all rows texts =
     }
     else lengths_told all rows texts
 
--- there are more rows, or longer texts, than a machine counts
+-- the number of rows or the length of all strings is 2^64 or more
 abbrev pub IsBeyond : List Row → Type 0
 IsBeyond rows = (2 ^ 64 ≤ length rows) ⊎ (2 ^ 64 ≤ length (flat_map row_texts rows))
 
--- the rows of a store were told, where there is one; or they are beyond what a machine counts
+-- the rows of a store are written if they fit; `NoMemory` if a length is too great, `NoStore` without a store
 abbrev pub TellsRows : Option Contents → List CookieRow → List ℕ → Told → Type 0
 TellsRows None rows texts told = told ≡ nothing_told NoStore rows texts
 TellsRows (Some store) rows texts told =

@@ -1,4 +1,4 @@
--- What calls answer, and its numbers.
+-- The statuses that calls return, and their numbers.
 use Rattle.std.specs.Prelude.{◌≡◌, ℕ, Some, None, Ok, Err}
 use Rattle.cookie_forms.specs.declared.error.SavedError.TheVariants as saved
 use Rattle.cookie_parts.specs.declared.cookie_error.CookieError.{CookieError}
@@ -38,7 +38,7 @@ status_code BadShape = 32
 status_code BadRon = 33
 status_code BadEnd = 34
 
--- that of why a cookie is refused
+-- the status of an insertion error
 abbrev pub refusal_status : CookieError → Status
 refusal_status refused.NonHttpScheme = NonHttpScheme
 refusal_status refused.NonRelativeScheme = NonRelativeScheme
@@ -49,7 +49,7 @@ refusal_status refused.PublicSuffix = PublicSuffix
 refusal_status refused.UnspecifiedDomain = UnspecifiedDomain
 refusal_status refused.Memory = NoMemory
 
--- that of what a store replies
+-- the status of a reply of the store
 abbrev pub reply_status : Reply → Status
 reply_status (Stored (Ok action.Inserted)) = Inserted
 reply_status (Stored (Ok action.UpdatedExisting)) = Updated
@@ -59,8 +59,8 @@ reply_status (Removed (Some row)) = Done
 reply_status (Removed None) = NotFound
 reply_status Cleared = Done
 
--- that of why a list of cookies is refused, or not written: a reader and a writer of memory fail for want of it alone, and no list is refused
--- for what `idna` or a function of the user's says
+-- the status of a failed save or load: readers and writers in memory fail only by allocation, and
+-- no list fails with `Idna` or `Other`
 abbrev pub fault_status : Error → Status
 fault_status (fault.Cookie refusal) = refusal_status refusal
 fault_status (fault.Saved saved.Json) = BadJson
@@ -74,6 +74,6 @@ fault_status fault.Io = NoMemory
 fault_status (fault.Idna why) = NoMemory
 fault_status (fault.Other text) = NoMemory
 
--- the number is that of a status with which this holds
+-- the number is that of a status with this property
 abbrev pub Tells : ℕ → (Status → Type 0) → Type 0
 Tells code Holds = (status : Status) × (code ≡ status_code status) × Holds status

@@ -1,4 +1,4 @@
-//! What programs in C hand over.
+//! Reads the arguments that C programs pass: strings, times and URLs.
 ghost use Rattle.std.specs.Prelude.{◌≡◌, ◌↔◌, Err, IsErrAnd, IsOk};
 ghost use Rattle.std.specs.Result.{result_map_both};
 ghost use Rattle.url.specs.Parser.{IsOutOfRoom};
@@ -12,7 +12,7 @@ use jiff::civil::{DateTime, date};
 use std::alloc::Global;
 use url::{ParseError, Url};
 
-/// The text of bytes in UTF-8.
+/// Returns the bytes as a string, or `NotUtf8` if they are not UTF-8.
 pub(crate) fn text_in(bytes: &[u8]) -> Result<&str, Status>
     ensures { result_map_both (λ text. text.now) (λ status. status) result ≡ text_in bytes.now }
 {
@@ -22,10 +22,11 @@ pub(crate) fn text_in(bytes: &[u8]) -> Result<&str, Status>
     }
 }
 
-/// The moment so many seconds from the epoch.
+/// Returns the time `seconds` after the epoch, or `BadMoment` outside the years -9999 to 9999.
 pub(crate) fn moment_in(seconds: i64) -> Result<DateTime, Status>
     ensures { result_map_both moment_of (λ status. status) result ≡ moment_in seconds }
 {
+    // for the checker: a `DateTime` is determined by its nanoseconds since the epoch
     moments_are_on_the_scale();
     match epoch().checked_add(SignedDuration::from_secs(seconds)) {
         Ok(moment) => Ok(moment),
@@ -33,14 +34,14 @@ pub(crate) fn moment_in(seconds: i64) -> Result<DateTime, Status>
     }
 }
 
-/// 1970-01-01T00:00:00.
+/// Returns 1970-01-01T00:00:00.
 pub(crate) fn epoch() -> DateTime
     ensures { moment_of result ≡ epoch }
 {
     date(1970, 1, 1).at(0, 0, 0, 0)
 }
 
-// The URL of a text.
+// Parses a URL.
 #[tactic(auto, unfolding(crate::specs::Asked::url_in))]
 fn url_in(alloc: Global, text: &str) -> Result<Url, Status>
     ensures { GivesOrRunsOut result (url_in text.now) }
@@ -48,7 +49,7 @@ fn url_in(alloc: Global, text: &str) -> Result<Url, Status>
     parsed_url(Url::parse(alloc, text))
 }
 
-// The URL that was parsed. A refusal that says nothing of the text is want of memory.
+// Maps the error of a parse. `OutOfMemory` and `Overflow` say nothing about the URL: `NoMemory`.
 fn parsed_url(parsed: Result<Url, ParseError>) -> Result<Url, Status>
     ensures url { GivesOrRunsOut result (result_map_both (λ url. url) (λ _. Status.BadUrl) parsed) }
     ensures room { result ≡ Err Status.NoMemory ↔ IsErrAnd parsed IsOutOfRoom }
@@ -61,7 +62,10 @@ fn parsed_url(parsed: Result<Url, ParseError>) -> Result<Url, Status>
     }
 }
 
-/// The URL of a text, and the moment so many seconds from the epoch. Memory is wanted only once the rest is read.
+/// Parses `url` and reads the time `now` seconds after the epoch.
+///
+/// The errors are `NotUtf8`, `BadMoment` and `BadUrl`, checked in this order. `NoMemory` is
+/// returned only if neither of the first two applies.
 pub(crate) fn request(alloc: Global, url: &[u8], now: i64) -> Result<(Url, DateTime), Status>
     ensures value { GivesOrRunsOut (result_map_both (λ request. (request.0, moment_of request.1)) (λ status. status) result) (request url.now now) }
     ensures memory { result ≡ Err Status.NoMemory → IsOk (look url.now now) }

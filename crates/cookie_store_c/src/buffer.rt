@@ -1,4 +1,4 @@
-//! Texts that are written into a buffer of the caller's.
+//! Writes strings into the caller's buffers.
 ghost use Rattle.std.specs.Prelude.{◌≡◌, ℕ, ◌+◌, ◌^◌, ◌≤◌, ◌++◌, length, List};
 ghost use Rattle.std.specs.Option.{MatchOption};
 ghost use Rattle.std.specs.Result.{result_map_both};
@@ -7,7 +7,7 @@ ghost use Rattle.cookie_store_c.specs.Buffers.{handed, Stands};
 
 use crate::status::Status;
 
-/// A length with those of texts, and None where that is too great a number.
+/// Returns `total` plus the lengths of the strings, or `None` on overflow.
 pub(crate) fn with_lengths(total: usize, texts: &[&str]) -> Option<usize>
     ensures { MatchOption result (2 ^ 64 ≤ total + length (joined texts.now)) (λ n. n ≡ total + length (joined texts.now)) }
 {
@@ -18,7 +18,7 @@ pub(crate) fn with_lengths(total: usize, texts: &[&str]) -> Option<usize>
     Some(sum)
 }
 
-/// Writes texts, one after the other, from the place on, and answers the place behind them.
+/// Writes the strings one after the other from `place` on, and returns the place after them.
 pub(crate) fn put_all(buffer: &mut [u8], place: usize, texts: &[&str]) -> usize
     requires { place + length (joined texts.now) ≤ length buffer.old }
     ensures end { result ≡ place + length (joined texts.now) }
@@ -33,7 +33,7 @@ pub(crate) fn put_all(buffer: &mut [u8], place: usize, texts: &[&str]) -> usize
     end
 }
 
-// Writes a text from the place on, and answers the place behind it.
+// Writes a string from `place` on, and returns the place after it.
 fn put(buffer: &mut [u8], place: usize, text: &[u8]) -> usize
     requires { place + length text.now ≤ length buffer.old }
     ensures end { result ≡ place + length text.now }
@@ -46,7 +46,9 @@ fn put(buffer: &mut [u8], place: usize, text: &[u8]) -> usize
     end
 }
 
-/// Hands over a text, if there is one.
+/// Copies `answer` into the front of the buffer, if it is `Ok` and fits, and returns the status.
+///
+/// `needed` is set to its length, also if the result is `NoRoom`, and to 0 if `answer` is an error.
 pub(crate) fn hand_over(
     answer: Result<Vec<u8>, Status>,
     buffer: &mut [u8],

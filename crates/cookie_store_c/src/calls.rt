@@ -15,7 +15,7 @@ use std::hash::RandomState;
 use std::random::RandomSource;
 use std::{io, mem};
 
-/// Takes the cookie of a Set-Cookie text.
+/// Parses the `Set-Cookie` header value `text` received from `url` and inserts the cookie.
 pub(crate) fn set(
     alloc: Global,
     store: &mut CookieStore,
@@ -36,7 +36,8 @@ pub(crate) fn set(
     }
 }
 
-/// Puts the store under the public suffix list of a text, and tells the number of the first bad line.
+/// Puts the store under the public suffix list `list`. Sets `bad_line` to the number of the first
+/// malformed line after `BadRule`, and otherwise to 0.
 pub(crate) fn use_suffixes(
     alloc: Global,
     store: &mut CookieStore,
@@ -53,6 +54,7 @@ pub(crate) fn use_suffixes(
     };
     match List::from_text(alloc, text) {
         Ok(list) => {
+            // `with_suffix_list` takes the store by value.
             let begun = mem::replace(store, CookieStore::new(alloc));
             *store = begun.with_suffix_list(list);
             Status::Done
@@ -75,7 +77,7 @@ fn list_error_status(error: ListError, bad_line: &mut usize) -> Status
     }
 }
 
-/// Removes the cookie of a domain, a path and a name.
+/// Removes the cookie with this domain, path and name.
 pub(crate) fn remove(store: &mut CookieStore, domain: &[u8], path: &[u8], name: &[u8]) -> Status
     ensures { record { status = result; store = Some store.new } ≡ store_turn store.old (remove_call domain.now path.now name.now) }
 {
@@ -88,7 +90,7 @@ pub(crate) fn remove(store: &mut CookieStore, domain: &[u8], path: &[u8], name: 
     }
 }
 
-// The texts of a domain, a path and a name.
+// Reads the three strings, or returns the first error.
 fn key_in<'a>(
     domain: &'a [u8],
     path: &'a [u8],
@@ -108,7 +110,8 @@ pub(crate) fn clear(store: &mut CookieStore) -> Status
     Status::Done
 }
 
-/// Removes the cookies that have expired `now` seconds from the epoch, and sets `removed` to their number, or to 0 on an error.
+/// Removes the cookies that have expired `now` seconds after the epoch, and sets `removed` to their
+/// number, or to 0 on an error.
 pub(crate) fn remove_expired(store: &mut CookieStore, now: i64, removed: &mut usize) -> Status
     ensures store { record { status = result; store = Some store.new } ≡ expired_turn (moment_in now) (Some store.old) }
     ensures removed { removed.new + length store.new.rows ≡ length store.old.rows }
@@ -123,19 +126,20 @@ pub(crate) fn remove_expired(store: &mut CookieStore, now: i64, removed: &mut us
     }
 }
 
-/// Lets no more than so many cookies of one domain stand from now on.
+/// Limits each domain to `limit` cookies, or returns `BadLimit` if `limit` is 0.
 pub(crate) fn set_domain_limit(alloc: Global, store: &mut CookieStore, limit: usize) -> Status
     ensures { record { status = result; store = Some store.new } ≡ limit_turn limit (Some store.old) }
 {
     if limit == 0 {
         return Status::BadLimit;
     }
+    // `with_domain_limit` takes the store by value.
     let begun = mem::replace(store, CookieStore::new(alloc));
     *store = begun.with_domain_limit(limit);
     Status::Done
 }
 
-/// Lets the maps of the store hash by a key of these bytes from now on.
+/// Makes the maps of the store hash by `key`. The cookies stay the same.
 pub(crate) fn set_hash_key(store: &mut CookieStore, key: &[u8]) -> Status
     ensures status { (result ≡ Status.Done) ⊎ (result ≡ Status.NoMemory) }
     ensures store { store.new ≡ store.old }
@@ -150,7 +154,7 @@ pub(crate) fn set_hash_key(store: &mut CookieStore, key: &[u8]) -> Status
     }
 }
 
-/// The hash key of these bytes.
+/// Returns the hash key made of these bytes.
 pub(crate) fn hash_key(key: &[u8]) -> Result<HashKey, Status>
     ensures { IfErr result (λ status. status ≡ Status.NoMemory) }
 {
@@ -160,7 +164,8 @@ pub(crate) fn hash_key(key: &[u8]) -> Result<HashKey, Status>
     }
 }
 
-// Bytes that the caller drew, in the place of those of a system.
+// The caller's key as a source of random bytes, in place of the system's. It fills the front of a
+// longer buffer.
 #[derive(Drop)]
 struct Drawn<'a> {
     key: &'a [u8],

@@ -1,4 +1,4 @@
-//! What programs in C call. The header says what each answers.
+//! The functions that C programs call. `cookie_store.h` documents them.
 ghost use Rattle.std.specs.Prelude.{◌≡◌, ◌⊎◌, ◌+◌, Ok, Some, None, IsOk, IsSome};
 ghost use Rattle.cookie_laws.specs.Runs.{Clear};
 ghost use Rattle.cookie_store_c.specs.Asked.{look, moment_in, remove_call, set_call, text_in};
@@ -18,7 +18,13 @@ use crate::{calls, header, lists};
 use cookie_store::CookieStore;
 use std::alloc::Global;
 
-/// Begins a store.
+/// Creates a store without cookies, public suffix list or limit, whose maps hash by `key`.
+///
+/// # Errors
+///
+/// In the order in which they are checked:
+/// - `HasStore`: the handle has a store.
+/// - `NoMemory`: out of memory. The handle stays empty.
 #[unsafe(no_mangle)]
 pub extern "C" fn cookie_store_new(alloc: Global, handle: &mut StoreHandle, key: &[u8]) -> u32
     ensures { Tells result (λ status. Comes (new_turn handle.old.slot.store) (handle.old.slot.store ≡ None)
@@ -34,7 +40,7 @@ pub extern "C" fn cookie_store_new(alloc: Global, handle: &mut StoreHandle, key:
     }
 }
 
-// Puts a store into a handle without one.
+// Boxes the store and puts it into the empty handle.
 fn begin(alloc: Global, handle: &mut StoreHandle, store: CookieStore) -> Status
     requires { handle.old.slot.store ≡ None }
     ensures { ((result ≡ Status.Done) × (handle.new.slot.store ≡ Some store))
@@ -49,7 +55,7 @@ fn begin(alloc: Global, handle: &mut StoreHandle, store: CookieStore) -> Status
     }
 }
 
-/// Frees the store, if there is one.
+/// Frees the store of the handle, if there is one.
 #[unsafe(no_mangle)]
 pub extern "C" fn cookie_store_free(alloc: Global, handle: &mut StoreHandle)
     ensures { handle.new.slot.store ≡ None }
@@ -57,7 +63,15 @@ pub extern "C" fn cookie_store_free(alloc: Global, handle: &mut StoreHandle)
     let _store = handle.take(alloc);
 }
 
-/// Lets no more than so many cookies of one domain stand.
+/// Limits each domain to `limit` cookies, RFC 6265 6.1.
+///
+/// No stored cookie is evicted until a cookie is inserted into its domain.
+///
+/// # Errors
+///
+/// In the order in which they are checked; the store is unchanged:
+/// - `NoStore`: the handle has no store.
+/// - `BadLimit`: `limit` is 0.
 #[unsafe(no_mangle)]
 pub extern "C" fn cookie_store_set_domain_limit(
     alloc: Global,
@@ -74,7 +88,13 @@ pub extern "C" fn cookie_store_set_domain_limit(
     status.code()
 }
 
-/// Lets the maps of the store hash by a key.
+/// Makes the maps of the store hash by `key`. The cookies stay the same.
+///
+/// # Errors
+///
+/// In the order in which they are checked:
+/// - `NoStore`: the handle has no store.
+/// - `NoMemory`: out of memory.
 #[unsafe(no_mangle)]
 pub extern "C" fn cookie_store_set_hash_key(
     alloc: Global,
@@ -92,7 +112,18 @@ pub extern "C" fn cookie_store_set_hash_key(
     status.code()
 }
 
-/// Takes the cookie of a Set-Cookie text.
+/// Parses the `Set-Cookie` header value `text` received from `url` and inserts the cookie,
+/// RFC 6265 5.3.
+///
+/// # Errors
+///
+/// In the order in which they are checked; the store is unchanged:
+/// - `NoStore`: the handle has no store.
+/// - `NotUtf8`: `text` or `url` is not UTF-8.
+/// - `BadMoment`: `now` is not in the years -9999 to 9999.
+/// - `BadUrl`: `url` is not a valid URL.
+/// - The errors of `CookieStore::parse`.
+/// - `NoMemory`: out of memory. It may come instead of any error but the first three.
 #[unsafe(no_mangle)]
 pub extern "C" fn cookie_store_set(
     alloc: Global,
@@ -113,7 +144,21 @@ pub extern "C" fn cookie_store_set(
     status.code()
 }
 
-/// Hands over the value of the Cookie header of a request, in the order of RFC 6265 5.4.
+/// Writes the value of the `Cookie` header of a request for `url` into `out`, its cookies in the
+/// order of RFC 6265 5.4.
+///
+/// The store is unchanged. `needed` is set to the length of the value, 0 if there are no cookies to
+/// send, and to 0 on any error but `NoRoom`.
+///
+/// # Errors
+///
+/// In the order in which they are checked; `out` is unchanged:
+/// - `NoStore`: the handle has no store.
+/// - `NotUtf8`: `url` is not UTF-8.
+/// - `BadMoment`: `now` is not in the years -9999 to 9999.
+/// - `BadUrl`: `url` is not a valid URL.
+/// - `NoRoom`: `out` is shorter than `needed`.
+/// - `NoMemory`: out of memory. It may come instead of any error but the first three.
 #[unsafe(no_mangle)]
 pub extern "C" fn cookie_store_get(
     alloc: Global,
@@ -136,7 +181,17 @@ pub extern "C" fn cookie_store_get(
     status.code()
 }
 
-/// Puts the store under a public suffix list.
+/// Puts the store under the public suffix list `list`. The stored cookies stay.
+///
+/// `bad_line` is set to the number of the first malformed line after `BadRule`, and otherwise to 0.
+///
+/// # Errors
+///
+/// In the order in which they are checked; the store is unchanged:
+/// - `NoStore`: the handle has no store.
+/// - `NotUtf8`: `list` is not UTF-8.
+/// - `BadRule`: a line of `list` is malformed.
+/// - `NoMemory`: out of memory. It may come instead of `BadRule`.
 #[unsafe(no_mangle)]
 pub extern "C" fn cookie_store_use_suffixes(
     alloc: Global,
@@ -158,7 +213,14 @@ pub extern "C" fn cookie_store_use_suffixes(
     status.code()
 }
 
-/// Removes a cookie.
+/// Removes the cookie with this domain, path and name, expired or not.
+///
+/// # Errors
+///
+/// In the order in which they are checked; the store is unchanged:
+/// - `NoStore`: the handle has no store.
+/// - `NotUtf8`: `domain`, `path` or `name` is not UTF-8.
+/// - `NotFound`: there is no such cookie.
 #[unsafe(no_mangle)]
 pub extern "C" fn cookie_store_remove(
     alloc: Global,
@@ -178,7 +240,7 @@ pub extern "C" fn cookie_store_remove(
     status.code()
 }
 
-/// Removes all cookies.
+/// Removes all cookies, or returns `NoStore` if the handle has no store.
 #[unsafe(no_mangle)]
 pub extern "C" fn cookie_store_clear(alloc: Global, handle: &mut StoreHandle) -> u32
     ensures { Tells result (λ status. record { status = status; store = handle.new.slot.store }
@@ -192,7 +254,15 @@ pub extern "C" fn cookie_store_clear(alloc: Global, handle: &mut StoreHandle) ->
     status.code()
 }
 
-/// Removes the cookies that have expired.
+/// Removes the cookies that have expired at `now`.
+///
+/// `removed` is set to their number, and to 0 on an error.
+///
+/// # Errors
+///
+/// In the order in which they are checked; the store is unchanged:
+/// - `NoStore`: the handle has no store.
+/// - `BadMoment`: `now` is not in the years -9999 to 9999.
 #[unsafe(no_mangle)]
 pub extern "C" fn cookie_store_remove_expired(
     alloc: Global,
@@ -213,7 +283,8 @@ pub extern "C" fn cookie_store_remove_expired(
     status.code()
 }
 
-/// How many cookies there are.
+/// Returns the number of cookies, expired ones included: 0 if there is no store, and at most
+/// `usize::MAX`.
 #[unsafe(no_mangle)]
 pub extern "C" fn cookie_store_count(alloc: Global, handle: &mut StoreHandle) -> usize
     ensures count { result ≡ count_of handle.old.slot.store }
@@ -227,7 +298,17 @@ pub extern "C" fn cookie_store_count(alloc: Global, handle: &mut StoreHandle) ->
     count
 }
 
-/// Tells all cookies.
+/// Writes all cookies, expired ones included, into `rows`, and their strings into `texts`.
+///
+/// The store is unchanged. `rows_needed` and `texts_needed` are set to the lengths that the buffers
+/// need, and to 0 on any error but `NoRoom`.
+///
+/// # Errors
+///
+/// In the order in which they are checked; `rows` and `texts` are unchanged:
+/// - `NoStore`: the handle has no store.
+/// - `NoMemory`: one of the two lengths is 2^64 or more.
+/// - `NoRoom`: `rows` or `texts` is too short.
 #[unsafe(no_mangle)]
 pub extern "C" fn cookie_store_rows(
     alloc: Global,
@@ -250,7 +331,20 @@ pub extern "C" fn cookie_store_rows(
     status.code()
 }
 
-/// Hands over the cookies as a list in JSON.
+/// Writes the cookies as a JSON list and a line feed into `out`: all of them if `all` is true,
+/// otherwise the persistent cookies that have not expired at `now`.
+///
+/// The store is unchanged. `needed` is set to the length of the list, and to 0 on any error but
+/// `NoRoom`.
+///
+/// # Errors
+///
+/// In the order in which they are checked; `out` is unchanged:
+/// - `NoStore`: the handle has no store.
+/// - `BadMoment`: `now` is not in the years -9999 to 9999, also if `all` is true.
+/// - `BadEnd`: a cookie to be saved expires before the year 0.
+/// - `NoRoom`: `out` is shorter than `needed`.
+/// - `NoMemory`: out of memory. It may come instead of any error but the first three.
 #[unsafe(no_mangle)]
 pub extern "C" fn cookie_store_save_json(
     alloc: Global,
@@ -273,7 +367,20 @@ pub extern "C" fn cookie_store_save_json(
     status.code()
 }
 
-/// Hands over the cookies as a list in RON.
+/// Writes the cookies as a RON list and a line feed into `out`: all of them if `all` is true,
+/// otherwise the persistent cookies that have not expired at `now`.
+///
+/// The store is unchanged. `needed` is set to the length of the list, and to 0 on any error but
+/// `NoRoom`.
+///
+/// # Errors
+///
+/// In the order in which they are checked; `out` is unchanged:
+/// - `NoStore`: the handle has no store.
+/// - `BadMoment`: `now` is not in the years -9999 to 9999, also if `all` is true.
+/// - `BadEnd`: a cookie to be saved expires before the year 0.
+/// - `NoRoom`: `out` is shorter than `needed`.
+/// - `NoMemory`: out of memory. It may come instead of any error but the first three.
 #[unsafe(no_mangle)]
 pub extern "C" fn cookie_store_save_ron(
     alloc: Global,
@@ -296,7 +403,19 @@ pub extern "C" fn cookie_store_save_ron(
     status.code()
 }
 
-/// Begins a store with the cookies of a list in JSON.
+/// Creates a store from the cookies of a JSON list: all of them if `all` is true, otherwise those
+/// that have not expired at `now`, session cookies included.
+///
+/// The store has no public suffix list and no limit, and its maps hash by `key`.
+///
+/// # Errors
+///
+/// In the order in which they are checked; the handle is unchanged:
+/// - `HasStore`: the handle has a store.
+/// - `BadMoment`: `now` is not in the years -9999 to 9999, also if `all` is true.
+/// - `NotUtf8`: `list` is not UTF-8.
+/// - `BadJson`, `BadShape`, `BadEnd` or `Parse`: `list` is not a valid list of cookies.
+/// - `NoMemory`: out of memory. It may come instead of any error but the first three.
 #[unsafe(no_mangle)]
 pub extern "C" fn cookie_store_load_json(
     alloc: Global,
@@ -319,7 +438,19 @@ pub extern "C" fn cookie_store_load_json(
     }
 }
 
-/// Begins a store with the cookies of a list in RON.
+/// Creates a store from the cookies of a RON list: all of them if `all` is true, otherwise those
+/// that have not expired at `now`, session cookies included.
+///
+/// The store has no public suffix list and no limit, and its maps hash by `key`.
+///
+/// # Errors
+///
+/// In the order in which they are checked; the handle is unchanged:
+/// - `HasStore`: the handle has a store.
+/// - `BadMoment`: `now` is not in the years -9999 to 9999, also if `all` is true.
+/// - `NotUtf8`: `list` is not UTF-8.
+/// - `BadRon`, `BadEnd` or `Parse`: `list` is not a valid list of cookies.
+/// - `NoMemory`: out of memory. It may come instead of any error but the first three.
 #[unsafe(no_mangle)]
 pub extern "C" fn cookie_store_load_ron(
     alloc: Global,

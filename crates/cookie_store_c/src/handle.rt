@@ -1,4 +1,4 @@
-//! The handle of a store.
+//! The handle that C programs hold.
 ghost use Rattle.std.specs.Prelude.{◌≡◌, is_some, option_map, None, Some};
 
 use crate::slot::Slot;
@@ -6,8 +6,9 @@ use cookie_store::CookieStore;
 use std::alloc::Global;
 use std::mem;
 
-/// A store that C holds, if it is live. A handle that is not live is two zeros. It is not `Drop`, so that it does not go out of
-/// scope with a store.
+/// A store held by C, or none: then both members are zero.
+///
+/// It is not `Drop`, so that no store can go out of scope with it unfreed.
 #[repr(C)]
 pub struct StoreHandle {
     live: bool,
@@ -16,7 +17,7 @@ pub struct StoreHandle {
 }
 
 impl StoreHandle {
-    // The handle of no store.
+    // Returns a handle without a store.
     fn empty() -> StoreHandle
         ensures { result.slot.store ≡ None }
     {
@@ -26,7 +27,7 @@ impl StoreHandle {
         }
     }
 
-    // The store of the handle, if there is one.
+    // Returns the store of the handle, if there is one.
     fn into_store(self, alloc: Global) -> Option<Box<CookieStore>>
         ensures { option_map (λ b. b.value) result ≡ self.slot.store }
     {
@@ -39,7 +40,7 @@ impl StoreHandle {
         }
     }
 
-    /// Takes the store out, if there is one.
+    /// Takes the store out, if there is one, and leaves the handle empty.
     pub(crate) fn take(&mut self, alloc: Global) -> Option<Box<CookieStore>>
         ensures taken { option_map (λ b. b.value) result ≡ self.old.slot.store }
         ensures empty { self.new.slot.store ≡ None }
@@ -47,7 +48,7 @@ impl StoreHandle {
         mem::replace(self, StoreHandle::empty()).into_store(alloc)
     }
 
-    /// Puts a store in, in the place of the one that was there, which is freed.
+    /// Puts the store into the handle, and frees the one that it replaces, if there is one.
     pub(crate) fn put(&mut self, alloc: Global, store: Box<CookieStore>)
         ensures { self.new.slot.store ≡ Some store.value }
     {
@@ -59,14 +60,14 @@ impl StoreHandle {
     }
 }
 
-// Takes what may go to another thread.
+// Compiles only for a type that is `Send`.
 fn sent<T: Send>(value: T) -> T
     ensures { result ≡ value }
 {
     value
 }
 
-/// A handle may go to another thread: this is accepted only while its type is `Send`.
+/// For the checker: shows that `StoreHandle` is `Send`. It is never called.
 pub(crate) fn goes(handle: StoreHandle) -> StoreHandle
     ensures { result ≡ handle }
 {

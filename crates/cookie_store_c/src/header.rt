@@ -1,4 +1,4 @@
-//! The Cookie header of a request.
+//! The `Cookie` header of a request.
 ghost use Rattle.std.specs.Prelude.{◌≡◌, ◌≢◌, [], Err, IfErr, IfOk, IsOk};
 ghost use Rattle.cookie_words.specs.Moments.{moment_of};
 ghost use Rattle.cookie_laws.specs.Given.{given};
@@ -15,7 +15,8 @@ use jiff::civil::DateTime;
 use std::alloc::Global;
 use url::Url;
 
-/// Hands over the value of the Cookie header of a request for the URL.
+/// Writes the value of the `Cookie` header of a request for `url` into `out`, and its length into
+/// `needed`.
 pub(crate) fn get(
     alloc: Global,
     store: &CookieStore,
@@ -29,7 +30,7 @@ pub(crate) fn get(
     hand_over(text_for(store, request(alloc, url, now)), out, needed)
 }
 
-// The value of the header of a request, if there is one.
+// Returns the value of the `Cookie` header, or the error of the request.
 fn text_for(store: &CookieStore, asked: Result<(Url, DateTime), Status>) -> Result<Vec<u8>, Status>
     ensures text { IfOk result (λ text. IfOk asked
         (λ asked. IsCookieHeader asked.0 (moment_of asked.1) store.now text.items)) }

@@ -1,4 +1,5 @@
-//! The store for programs in C, and in languages that call C: the functions that `bindings/c/cookie_store.h` declares.
+//! The cookie store for C and for languages that call C: the functions that
+//! `bindings/c/cookie_store.h` declares.
 #![tactic(auto)]
 
 mod asked;

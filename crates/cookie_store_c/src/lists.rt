@@ -1,4 +1,4 @@
-//! Stores that are saved as a list, and loaded from one.
+//! Stores saved as a list, and loaded from one.
 ghost use Rattle.std.specs.Prelude.{◌≡◌, ◌⊎◌, Err, None, Ok, Some, IfErr, IfOk, IsOk};
 ghost use Rattle.std.specs.Result.{result_map_both};
 ghost use Rattle.cookie_words.specs.Moments.{moment_of};
@@ -17,16 +17,17 @@ use cookie_store::{CookieStore, Error, StoreAlloc};
 use jiff::civil::DateTime;
 use std::alloc::Global;
 
-/// What a list is written in.
+/// The format of a list.
 #[derive(Clone, Copy)]
 pub enum Form {
-    /// A tree of JSON.
+    /// A JSON array.
     Json,
-    /// A list in RON.
+    /// A RON list.
     Ron,
 }
 
-/// Hands over the rows as a list: those that have not ended by the moment and end at one, or all.
+/// Writes the rows as a list into `out`: all of them if `all` is true, otherwise the persistent
+/// cookies that have not expired at `now`.
 pub(crate) fn save(
     form: Form,
     alloc: Global,
@@ -45,7 +46,7 @@ pub(crate) fn save(
     hand_over(text, out, needed)
 }
 
-// The rows as a list.
+// Returns the selected rows as a list.
 fn text_of(
     form: Form,
     alloc: Global,
@@ -63,7 +64,7 @@ fn text_of(
     }
 }
 
-// The rows as a list in JSON.
+// Returns the selected rows as a JSON list.
 fn json_text(
     alloc: Global,
     store: &CookieStore,
@@ -86,7 +87,7 @@ fn json_text(
     }
 }
 
-// The rows as a list in RON.
+// Returns the selected rows as a RON list.
 fn ron_text(alloc: Global, store: &CookieStore, now: DateTime, all: bool) -> Result<Vec<u8>, Status>
     ensures text { IfOk result (λ text. saved_as Form.Ron (chosen all (moment_of now) store.now.rows) ≡ Ok text.items) }
     ensures refused { IfErr result (λ status. (saved_as Form.Ron (chosen all (moment_of now) store.now.rows) ≡ Err status)
@@ -104,7 +105,8 @@ fn ron_text(alloc: Global, store: &CookieStore, now: DateTime, all: bool) -> Res
     }
 }
 
-/// A store of the cookies of a list, whose maps hash by a key of these bytes: those that have not ended by the moment, or all.
+/// Returns a store of the cookies of a list: all of them if `all` is true, otherwise those that
+/// have not expired at `now`. Its maps hash by `key`.
 pub(crate) fn load(
     form: Form,
     alloc: Global,
@@ -123,7 +125,7 @@ pub(crate) fn load(
     store_of(form, StoreAlloc { alloc, hash_key }, text, now, all)
 }
 
-// A store of the cookies of a text.
+// Loads a store from a string.
 fn store_of(
     form: Form,
     alloc: StoreAlloc,
@@ -143,7 +145,7 @@ fn store_of(
     }
 }
 
-// What was loaded, or the status of why nothing was.
+// Maps the error of a load to its status.
 fn loaded(read: Result<CookieStore, Error>) -> Result<CookieStore, Status>
     ensures { result ≡ result_map_both (λ store. store) fault_status read }
 {

@@ -1,4 +1,4 @@
-//! All rows of a store, as an editor shows them.
+//! Lists all cookies of a store, as a cookie editor shows them.
 ghost use Rattle.std.specs.Prelude.{◌≡◌, ◌⊎◌, ◌+◌, ◌^◌, ◌≤◌, flat_map, length, map, pos};
 ghost use Rattle.std.specs.Option.{MatchOption};
 ghost use Rattle.std.specs.Int.{int_div_euclid};
@@ -14,8 +14,9 @@ use crate::status::Status;
 use cookie_store::{Cookie, CookieDomain, CookieExpiration, CookieStore, IterAny};
 use jiff::civil::DateTime;
 
-/// What is told of a row. Its texts stand elsewhere: domain, path, name, value. What is a `bool` of C is a byte here, 0 or 1, for what a
-/// caller hands over may be any byte.
+/// A cookie without its strings, which are stored elsewhere: domain, path, name, value.
+///
+/// Each C `bool` is a byte here, 0 or 1, since a caller may pass any byte.
 #[repr(C)]
 #[derive(Clone, Copy)]
 pub struct CookieRow {
@@ -23,15 +24,17 @@ pub struct CookieRow {
     pub path_len: usize,
     pub name_len: usize,
     pub value_len: usize,
+    /// The second in which it expires, counted from the epoch; 0 for a session cookie.
     pub ends_at: i64,
     pub persistent: u8,
     pub host_only: u8,
+    /// Whether the path is that of a Path attribute.
     pub has_path: u8,
     pub secure: u8,
     pub http_only: u8,
 }
 
-/// Tells all rows, and their texts one after the other.
+/// Writes all rows into `rows`, and their strings, one after the other, into `texts`.
 pub(crate) fn tell_rows(
     store: &CookieStore,
     rows: &mut [CookieRow],
@@ -59,7 +62,7 @@ pub(crate) fn tell_rows(
     Status::Done
 }
 
-/// How many rows there are, and None where that is too great a number.
+/// Returns the number of rows, or `None` on overflow.
 pub(crate) fn rows_len(all: IterAny<'_>) -> Option<usize>
     ensures { MatchOption result (2 ^ 64 ≤ length all.entry) (λ n. n ≡ length all.entry) }
 {
@@ -70,7 +73,7 @@ pub(crate) fn rows_len(all: IterAny<'_>) -> Option<usize>
     Some(count)
 }
 
-// How long their texts are, and None where that is too great a number.
+// Returns the total length of the strings of all rows, or `None` on overflow.
 fn texts_len(all: IterAny<'_>) -> Option<usize>
     ensures { MatchOption result (2 ^ 64 ≤ length (flat_map row_texts all.entry)) (λ n. n ≡ length (flat_map row_texts all.entry)) }
 {
@@ -89,7 +92,7 @@ fn texts_len(all: IterAny<'_>) -> Option<usize>
     Some(total)
 }
 
-// Writes their texts to the front of the buffer.
+// Writes the strings of all rows to the front of the buffer.
 fn put_texts(all: IterAny<'_>, texts: &mut [u8])
     requires { length (flat_map row_texts all) ≤ length texts.old }
     ensures { texts.new ≡ at_front (flat_map row_texts all.entry) texts.old }
@@ -109,7 +112,7 @@ fn put_texts(all: IterAny<'_>, texts: &mut [u8])
     }
 }
 
-// Writes what is told of each to the front of the buffer.
+// Writes all rows to the front of the buffer.
 fn put_rows(all: IterAny<'_>, rows: &mut [CookieRow])
     requires { length all ≤ length rows.old }
     ensures { rows.new ≡ at_front (map row_told all.entry) rows.old }
@@ -147,7 +150,7 @@ fn end_second(end: &CookieExpiration) -> i64
     }
 }
 
-// The second of a moment, counted from the epoch.
+// Returns the second of a time since the epoch, rounded down.
 fn second_of(moment: DateTime) -> i64
     ensures { result ≡ int_div_euclid (nanoseconds (moment_of moment)) (pos 1_000_000_000) }
 {

@@ -1,4 +1,4 @@
-//! Where a store lies that C holds.
+//! The pointer by which C holds a store.
 ghost use Rattle.std.specs.Prelude.{◌≡◌, IsSome, None, Option, Some};
 ghost use Rattle.cookie_laws.specs.Contents.{Contents};
 
@@ -7,8 +7,10 @@ use std::alloc::Global;
 use std::marker::Model;
 use std::ptr;
 
-/// Where a store lies that C holds, if there is one. It is not `Drop`, so that it does not go out of scope with a
-/// store: what takes a slot makes a box of its store, or shows that it has none.
+/// A pointer to a boxed store, or null.
+///
+/// It is not `Drop`, so that no store can go out of scope with it unfreed: it is consumed by
+/// [`Slot::into_box`], or by [`Slot::end`] if it holds no store.
 #[repr(C)]
 pub struct Slot {
     at: *mut u8,
@@ -22,7 +24,7 @@ impl Model for Slot {
 }
 
 impl Slot {
-    /// A slot with no store.
+    /// Returns a slot without a store.
     pub(crate) fn empty() -> Slot
         ensures { result.store ≡ None }
     {
@@ -31,7 +33,7 @@ impl Slot {
         }
     }
 
-    /// A slot with this store.
+    /// Returns a slot that owns the store.
     pub(crate) fn of(store: Box<CookieStore>) -> Slot
         ensures { result.store ≡ Some store.value }
     {
@@ -39,7 +41,7 @@ impl Slot {
         Slot { at: at as *mut u8 }
     }
 
-    /// The store of a slot that has one.
+    /// Returns the store of a slot that has one.
     pub(crate) fn into_box(self, alloc: Global) -> Box<CookieStore>
         requires { IsSome self.store }
         ensures { self.store ≡ Some result.value }
@@ -48,7 +50,7 @@ impl Slot {
         unsafe { Box::from_raw(alloc, at as *mut CookieStore) }
     }
 
-    /// Lets a slot with no store go.
+    /// Consumes a slot without a store.
     pub(crate) fn end(self)
         requires { self.store ≡ None }
     {
@@ -56,5 +58,5 @@ impl Slot {
     }
 }
 
-// A slot owns a boxed store, and a store may go to another thread.
+// A slot owns a boxed store, and a store is `Send`.
 unsafe impl Send for Slot {}

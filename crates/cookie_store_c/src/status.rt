@@ -1,4 +1,4 @@
-//! What a call answers.
+//! The status codes of the C functions.
 ghost use Rattle.std.specs.Prelude.{◌≡◌};
 ghost use Rattle.cookie_laws.specs.Runs.{Stored};
 ghost use Rattle.cookie_store_c.specs.Statuses.{fault_status, refusal_status, reply_status, status_code};
@@ -6,7 +6,7 @@ ghost use Rattle.cookie_store_c.specs.Statuses.{fault_status, refusal_status, re
 use cookie_store::saved::SavedError;
 use cookie_store::{CookieError, Error, InsertResult, StoreAction};
 
-/// What a call answers, as `cookie_store.h` says.
+/// The status that a C function returns. `cookie_store.h` documents each.
 #[derive(Clone, Copy, Debug, PartialEq, Eq)]
 pub enum Status {
     Done,
@@ -37,7 +37,7 @@ pub enum Status {
 }
 
 impl Status {
-    /// Its number.
+    /// Returns its number in `cookie_store.h`.
     pub fn code(self) -> u32
         ensures { result ≡ status_code self }
     {
@@ -70,7 +70,7 @@ impl Status {
         }
     }
 
-    /// That of what a store told.
+    /// Returns the status of an insertion.
     pub(crate) fn of_reply(told: InsertResult) -> Status
         ensures { result ≡ reply_status (Stored told) }
     {
@@ -82,7 +82,7 @@ impl Status {
         }
     }
 
-    // That of a refusal.
+    // Returns the status of an insertion error.
     fn of_refusal(refusal: CookieError) -> Status
         ensures { result ≡ refusal_status refusal }
     {
@@ -98,7 +98,8 @@ impl Status {
         }
     }
 
-    /// That of why a list is not saved or loaded. A reader or writer of memory fails for want of it alone.
+    /// Returns the status of a failed save or load. A reader or writer in memory fails only by
+    /// allocation, so `Io` is `NoMemory`.
     pub(crate) fn of_fault(fault: Error) -> Status
         ensures { result ≡ fault_status fault }
     {

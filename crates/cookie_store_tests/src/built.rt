@@ -7,7 +7,7 @@ use std::alloc::Global;
 use std::process::Abort;
 use std::vec::IntoIter;
 
-// A URL, and the text of a cookie that came from it.
+// A URL and a `Set-Cookie` value received from it.
 pub type Came = (&'static str, &'static str);
 
 pub type Item = Result<Cookie<'static>, Error>;
@@ -27,7 +27,7 @@ pub fn items(rt: &impl Abort, alloc: Global, came: &[Came]) -> Vec<Item> {
     items
 }
 
-// The store of the items up to an error, also of cookies that have ended if they are to be included.
+// The store built from the items, or their first error.
 pub fn built(
     alloc: Global,
     items: IntoIter<Item>,
@@ -46,7 +46,7 @@ fn store_with(rt: &impl Abort, alloc: Global, came: &[Came], include_expired: bo
     built(alloc, items, include_expired).expect(rt, "a store")
 }
 
-// A store of the cookies, also of those that have ended.
+// A store of the cookies, expired ones included.
 pub fn store_of(rt: &impl Abort, alloc: Global, came: &[Came]) -> CookieStore {
     store_with(rt, alloc, came, true)
 }
@@ -71,7 +71,8 @@ const TWO_DOMAINS: [Came; 5] = [
     ("http://b.com/", "y=2"),
 ];
 
-// Cookies, whether those that have ended are included, the rows, and the cookies of all rows and of the unexpired ones.
+// Cookies, whether expired ones are included, the stored cookies, and the headers of all and of the
+// unexpired ones.
 type Case = (
     &'static [Came],
     bool,
@@ -107,7 +108,7 @@ static BUILT: [Case; 6] = [
     ),
 ];
 
-// The cookies of the rows that have not ended.
+// Checks the header of the unexpired cookies.
 fn are_live(rt: &impl Abort, alloc: Global, store: &CookieStore, case: &Case) {
     let rows = unexpired(rt, alloc, store, new_year());
     let live = header(rt, alloc, rows.as_slice());

@@ -7,7 +7,7 @@ use cookie_store::{Call, CookieError, CookieStore, InsertResult, Reply, Stopped}
 use std::alloc::Global;
 use std::process::Abort;
 
-// What a call asks, and what it is told.
+// A call and its reply.
 #[derive(Clone, Copy, Debug)]
 pub enum Asked {
     Set(&'static str, &'static str, InsertResult),
@@ -20,7 +20,8 @@ const FROM: &str = "http://a.com/";
 
 const SUFFIX: Asked = Asked::Set(FROM, "x=4; Domain=com", Err(CookieError::PublicSuffix));
 
-// One after the other, and what a store under a list of one rule then gives.
+// Calls made one after the other, and what a store with a one-rule list returns for `FROM` after
+// each.
 pub static CALLS: [(Asked, &str); 13] = [
     (Asked::Set(FROM, "x=1", INSERTED), "x=1"),
     (Asked::Insert(FROM, "y=1", INSERTED), "x=1; y=1"),
@@ -86,7 +87,7 @@ fn is_told(asked: &Asked, reply: &Reply) -> bool {
     }
 }
 
-// What the store gives after so many calls.
+// What the store returns for `FROM` after the first `count` calls.
 fn after(count: usize) -> &'static str {
     match CALLS.get(count.wrapping_sub(1)) {
         Some((_, after)) => after,
@@ -94,21 +95,21 @@ fn after(count: usize) -> &'static str {
     }
 }
 
-// The replies are those to the first calls.
+// Checks that the replies are those to the first calls.
 fn are_replies(rt: &impl Abort, replies: &[Reply], calls: &[(Asked, &'static str)]) {
     for (reply, (asked, _)) in replies.iter().zip(calls) {
         is_equal(rt, &is_told(asked, reply), &true, asked);
     }
 }
 
-// The same, and the store gives what those calls leave.
+// Checks the replies, and what the store returns for `FROM` after those calls.
 pub fn are_told(rt: &impl Abort, alloc: Global, store: &CookieStore, replies: &[Reply]) {
     are_replies(rt, replies, &CALLS);
     let after = after(replies.len());
     are_given(rt, alloc, store, (FROM, after), new_year(), &replies.len());
 }
 
-// The store replies to one call as it should, and gives what it should afterwards.
+// Checks the reply to one call, and what the store returns for `FROM` after it.
 fn is_done(rt: &impl Abort, alloc: Global, store: &mut CookieStore, row: &(Asked, &'static str)) {
     let reply = store.apply(call(rt, alloc, &row.0)).expect(rt, "memory");
     is_equal(rt, &is_told(&row.0, &reply), &true, row);

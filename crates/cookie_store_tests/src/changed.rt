@@ -1,4 +1,4 @@
-//! Stores that are put under a limit or another list, copied, or hashed by another key.
+//! Stores that get a limit or another list, are cloned, or get another hash key.
 use crate::steps::{INSERTED, Step, UPDATED, list, new_year, take_all};
 use cookie_store::psl::List;
 use cookie_store::{CookieError, CookieStore, HashKey};
@@ -6,7 +6,8 @@ use std::alloc::Global;
 use std::hash::RandomState;
 use std::process::Abort;
 
-// What a store is exchanged for: itself under a limit of one or three, under a list or one of no rule, a copy, itself by a drawn key.
+// A change of a store: a limit of one or three, a list, a list without rules, a clone, a random
+// hash key.
 #[derive(Clone, Copy)]
 enum Change {
     One,
@@ -33,14 +34,14 @@ const EMPTY_LIST: [Step; 2] = [
     Step::Set(FROM, "x=2; Domain=com", UPDATED),
 ];
 
-// Three rows of a domain, before it has a limit.
+// Three cookies of a domain, before it has a limit.
 const THREE: [Step; 3] = [
     Step::Set(FROM, "x=1", INSERTED),
     Step::Set(FROM, "y=1", INSERTED),
     Step::Set(FROM, "z=1", INSERTED),
 ];
 
-// Under a limit of one they stay until a cookie is inserted, and then they all leave.
+// Under a limit of one they are kept until a cookie is inserted, and then all are evicted.
 const ONE_STANDS: [Step; 8] = [
     Step::Listed("a.com / x, a.com / y, a.com / z"),
     Step::Set(FROM, "x=2", UPDATED),
@@ -52,7 +53,7 @@ const ONE_STANDS: [Step; 8] = [
     Step::Given(FROM, "w=1"),
 ];
 
-// What a row that was made first leaves to the others, under a limit of three.
+// Under a limit of three, the cookie that was created first is evicted.
 const FIRST_LEAVES: [Step; 3] = [
     Step::Listed("a.com / x, a.com / y, a.com / z"),
     Step::Set(FROM, "w=1", INSERTED),
@@ -66,7 +67,7 @@ const KEYED: [Step; 4] = [
     Step::Listed("a.com / x, a.com / y, a.com / z, b.com / k"),
 ];
 
-// The steps before the changes, the changes, and the steps after them.
+// Steps, changes, and steps after the changes.
 type Run = (&'static [Step], &'static [Change], &'static [Step]);
 
 static RUNS: [Run; 6] = [

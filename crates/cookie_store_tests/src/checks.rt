@@ -1,14 +1,14 @@
-//! Assertions of all tests, whose messages name the row of a table.
+//! Assertions, whose messages name the row of a table.
 use cookie_store::{CookieStore, Error};
 use std::fmt::Debug;
 use std::process::Abort;
 
-// The value is the one that is wanted.
+// Checks that the value is the one wanted.
 pub fn is_equal<T: Debug + PartialEq>(rt: &impl Abort, value: &T, wanted: &T, row: &impl Debug) {
     assert_eq!(rt; value, wanted, "at {row:?}");
 }
 
-// The stores have the same rows in the same order.
+// Checks that both stores have the same cookies in the same order.
 pub fn has_the_same_rows(rt: &impl Abort, store: &CookieStore, other: &CookieStore) {
     let mut rows = store.iter_any();
     for same in other.iter_any() {
@@ -21,7 +21,7 @@ pub fn has_the_same_rows(rt: &impl Abort, store: &CookieStore, other: &CookieSto
     is_equal(rt, &rows.next().is_none(), &true, &"a row behind all");
 }
 
-// How a call ended: done, or by what error.
+// The outcome of a call: `done`, or its error in short.
 pub fn end_of<T>(outcome: &Result<T, Error>) -> &str {
     match outcome {
         Ok(_) => "done",

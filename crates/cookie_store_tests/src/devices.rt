@@ -1,4 +1,4 @@
-//! Readers and writers that fail, in each form that rows are saved in and loaded from.
+//! Readers and writers that fail, for each format of saving and loading.
 use crate::built::store_of;
 use crate::checks::{end_of, has_the_same_rows, is_equal};
 use crate::forms::{CAME, CASES, Case, FROM, Shape, load, save};
@@ -11,10 +11,10 @@ use std::alloc::Global;
 use std::process::Abort;
 use url::Url;
 
-// What rows are saved as or loaded from, and which, by calls of at most how many bytes, and the call that fails.
+// The format, which cookies, the most bytes of one call, and the number of the call that fails.
 type Failing<'a> = (Shape, &'a Which, usize, usize);
 
-// All the writes before the one that failed wrote a beginning of the text.
+// Checks that a beginning of the text was written, by the writes before the one that failed.
 fn is_beginning(rt: &impl Abort, written: &[u8], text: &str, row: &Failing<'_>) {
     let writes = row.3.saturating_sub(1);
     let is_part = text.as_bytes().starts_with(written)
@@ -22,7 +22,7 @@ fn is_beginning(rt: &impl Abort, written: &[u8], text: &str, row: &Failing<'_>) 
     is_equal(rt, &is_part, &true, row);
 }
 
-// The writer works again, and has the whole text behind the beginning.
+// Checks that a second saving, without failures, writes the whole text behind that beginning.
 fn is_written_behind(
     rt: &impl Abort,
     alloc: Global,
@@ -38,7 +38,8 @@ fn is_written_behind(
     is_equal(rt, &behind, &Some(text.as_bytes()), row);
 }
 
-// All is written, or else a write failed: nothing is tried again, and the next saving writes all. Says whether it is all.
+// Checks that all is written, or that a write failed once and was not retried, and that saving
+// again writes all. Returns whether all was written at once.
 fn is_saved_whole(
     rt: &impl Abort,
     alloc: Global,
@@ -61,7 +62,7 @@ fn is_saved_whole(
     is_whole
 }
 
-// Saves once for each write, which fails, and last with no failure.
+// Saves with each write failing in turn, and at last without a failure.
 fn each_write_fails(
     rt: &impl Abort,
     alloc: Global,
@@ -111,7 +112,7 @@ fn a_writer_that_takes_nothing_has_failed(rt: HostRuntime) {
     }
 }
 
-// Both loadings ended alike, and with the same rows.
+// Checks that both loadings had the same outcome and the same cookies.
 fn have_ended_alike(
     rt: &impl Abort,
     outcome: &Result<CookieStore, Error>,
@@ -124,7 +125,7 @@ fn have_ended_alike(
     }
 }
 
-// The reader works again, and loads what is wanted.
+// Checks that loading from the reader again, without failures, has the wanted outcome.
 fn is_loaded_so(
     rt: &impl Abort,
     alloc: Global,
@@ -138,7 +139,7 @@ fn is_loaded_so(
     have_ended_alike(rt, &outcome, wanted, row);
 }
 
-// What is loaded of the bytes where no read fails.
+// The outcome of loading the bytes without failures.
 fn outcome_of(
     alloc: Global,
     url: &Url,
@@ -148,7 +149,8 @@ fn outcome_of(
     load(alloc, row.0, url, row.1, Fake::new(bytes, usize::MAX, 0)).0
 }
 
-// The reader still has all but what the reads before the one that failed took, and that is loaded as if it were all.
+// Checks that the failed read took nothing: the reader has the bytes not read before, and they load
+// as if they were all.
 fn is_rest_loaded(
     rt: &impl Abort,
     alloc: Global,
@@ -164,7 +166,8 @@ fn is_rest_loaded(
     is_loaded_so(rt, alloc, url, row, fake, &wanted);
 }
 
-// All rows are loaded, or else a read failed: nothing is tried again, and the next loading goes on. Says whether it is all.
+// Checks that all is loaded, or that a read failed once and was not retried, and that the rest
+// loads. Returns whether all was loaded at once.
 fn is_loaded_whole(
     rt: &impl Abort,
     alloc: Global,
@@ -189,7 +192,7 @@ fn is_loaded_whole(
     outcome.is_ok()
 }
 
-// Loads once for each read, which fails, and last with no failure.
+// Loads with each read failing in turn, and at last without a failure.
 fn each_read_fails(
     rt: &impl Abort,
     alloc: Global,

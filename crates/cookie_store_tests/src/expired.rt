@@ -1,4 +1,4 @@
-//! Cookies that are removed when they have expired.
+//! Removal of expired cookies.
 use crate::checks::is_equal;
 use crate::steps::{INSERTED, Step, new_year, take_all};
 use crate::texts::are_listed;
@@ -9,7 +9,8 @@ use std::process::Abort;
 
 const FROM: &str = "http://a.com/";
 
-// Session cookies and such as last a minute, in one path, as all of a path and as all of a domain.
+// Session cookies and cookies with a lifetime of a minute: some of a path, all of a path, all of a
+// domain.
 static INSERTS: [Step; 7] = [
     Step::Set(FROM, "m=1; Max-Age=60", INSERTED),
     Step::Set(FROM, "s=1", INSERTED),
@@ -22,7 +23,8 @@ static INSERTS: [Step; 7] = [
 
 const ALL: &str = "a.com / m, a.com / s, a.com / l, a.com /p m, b.com / m, c.com / s";
 
-// When cookies are removed: as they were set, a second before a minute is over, a minute after, and an hour after.
+// The time of a removal: at once, a second before the minute is over, after the minute, after an
+// hour.
 #[derive(Clone, Copy, Debug)]
 enum Time {
     Start,
@@ -31,10 +33,10 @@ enum Time {
     Hour,
 }
 
-// A removal, how many cookies it removes, and the cookies that are left.
+// The time of a removal, how many cookies it removes, and the cookies that are left.
 type Removal = (Time, usize, &'static str);
 
-// A cookie stays until its expiry, and a second removal removes none.
+// A cookie is kept until its expiry, and a second removal removes none.
 static REMOVALS: [Removal; 5] = [
     (Time::Second59, 0, ALL),
     (Time::Minute, 3, "a.com / s, a.com / l, c.com / s"),
@@ -43,7 +45,7 @@ static REMOVALS: [Removal; 5] = [
     (Time::Start, 0, "a.com / s, c.com / s"),
 ];
 
-// An emptied domain is new again, and comes last.
+// A domain that was emptied is a new one, and comes last.
 static INSERTED_AGAIN: [Step; 3] = [
     Step::Set("http://b.com/", "m=2", INSERTED),
     Step::Set(FROM, "m=2", INSERTED),

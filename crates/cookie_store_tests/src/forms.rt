@@ -1,4 +1,4 @@
-//! Rows in each form that they are saved in and loaded from.
+//! Saving and loading in each format.
 use crate::built::{Came, store_of};
 use crate::checks::{end_of, has_the_same_rows, is_equal};
 use crate::json::{fault_of, load_json_from, save_json};
@@ -15,7 +15,8 @@ use std::alloc::Global;
 use std::process::Abort;
 use url::Url;
 
-// What rows are saved as: a line of each or one text of all, by functions, lines of JSON, or a list.
+// The format: lines or one string by functions of the test, lines of JSON, or a list in JSON or
+// RON.
 #[derive(Clone, Copy, Debug)]
 pub enum Shape {
     Lines,
@@ -39,7 +40,7 @@ pub fn save(
     }
 }
 
-// Lines, and the cookies of a text, came from the URL.
+// Loads in the format. Functions of the test parse cookies as received from `url`.
 pub fn load<'a>(
     alloc: Global,
     shape: Shape,
@@ -117,7 +118,7 @@ const RON: &str = r#"[
 ]
 "#;
 
-// What they are saved as in each form, all or those that `save` chooses, and loaded from.
+// A format, and what `CAME` is saved as, with either `Which`, and loaded from.
 pub type Case = (Shape, &'static str);
 
 pub const IN_JSON: Shape = Shape::List(Form::Json);
@@ -132,7 +133,7 @@ pub static CASES: [Case; 5] = [
     (IN_RON, RON),
 ];
 
-// Rows of one URL, two of which have ended.
+// Cookies of one URL, two of which have expired.
 const ROWS: [Came; 7] = [
     (loaded::FROM, "a=1"),
     (loaded::FROM, "b=2; Domain=b.example.com; Path=/"),
@@ -146,7 +147,7 @@ const ROWS: [Came; 7] = [
     (loaded::FROM, "g=\u{e9}; Path=relative"),
 ];
 
-// A cookie that has ended.
+// A cookie that has expired.
 const HAS_ENDED: [Came; 1] = [(
     "http://test.com/",
     "1=one; SameSite=None; Secure; Path=/; Expires=Thu, 03 Aug 2000 00:38:37 GMT",
@@ -154,7 +155,7 @@ const HAS_ENDED: [Came; 1] = [(
 
 const LASTS: [Came; 1] = [lists::LASTS];
 
-// A form, cookies that came, and what they are saved as: all, and those that `save` chooses at new year.
+// A format, cookies, and what they are saved as: all, and those that `save` selects at new year.
 type Written = (Shape, &'static [Came], &'static str, &'static str);
 
 static WRITTEN: [Written; 13] = [
@@ -200,7 +201,7 @@ fn is_saved_as(
     );
 }
 
-// The store of a text, whose lines came from the URL.
+// The store loaded from the text, whose cookies were received from the URL `from`.
 pub fn loaded(
     rt: &impl Abort,
     alloc: Global,
@@ -216,7 +217,7 @@ pub fn loaded(
         .expect(rt, "a store")
 }
 
-// Where no cookie came, no line has come from anywhere.
+// The URL from which the cookies were received, or `FROM` if there are none.
 fn origin(written: &Written) -> &'static str {
     match written.1.first() {
         Some((from, _)) => from,
@@ -224,7 +225,7 @@ fn origin(written: &Written) -> &'static str {
     }
 }
 
-// All rows load again as they were, and are saved again as they were.
+// Checks that all cookies load again as they were, and are saved again as before.
 fn loads_again(rt: &impl Abort, alloc: Global, store: &CookieStore, written: &Written) {
     let (shape, _, all, _) = *written;
     let again = loaded(rt, alloc, shape, origin(written), &Which::All, all);
@@ -232,7 +233,7 @@ fn loads_again(rt: &impl Abort, alloc: Global, store: &CookieStore, written: &Wr
     is_saved_as(rt, alloc, shape, &again, &Which::All, ("done", all));
 }
 
-// Those that have not ended load without the others.
+// Checks that `load` skips the expired cookies.
 fn loads_what_lives(rt: &impl Abort, alloc: Global, store: &CookieStore, written: &Written) {
     let (shape, _, all, _) = *written;
     let live = unexpired(rt, alloc, store, new_year());
@@ -242,7 +243,7 @@ fn loads_what_lives(rt: &impl Abort, alloc: Global, store: &CookieStore, written
     are_listed(rt, alloc, &again, live.as_str(), &all);
 }
 
-// Nothing is left to be saved when the last one has ended.
+// Nothing is left to save when the last cookie has expired.
 fn is_written(rt: &impl Abort, alloc: Global, store: &CookieStore, written: &Written) {
     let (shape, _, all, live) = *written;
     is_saved_as(rt, alloc, shape, store, &Which::All, ("done", all));
@@ -288,7 +289,7 @@ fn a_function_says_all_rows_at_once(rt: HostRuntime) {
     }
 }
 
-// Lines or a text, and the rows that they load as: at once, after a minute, and where all are kept.
+// A format, a text, and the cookies loaded from it: at new year, a minute later, and all.
 type Kept = (
     Shape,
     &'static str,
@@ -341,7 +342,7 @@ fn cookies_that_have_ended_are_passed_over(rt: HostRuntime) {
     }
 }
 
-// Bytes of one form that are none of another, and what they are refused for.
+// Bytes that another format accepts and this one rejects, and the error.
 const LINE: [(&[u8], &str); 1] = [(
     br#"{"domain":"Empty","expires":"SessionEnd","path":["/",true],"raw_cookie":"a=1"}"#,
     "another shape",
@@ -369,7 +370,7 @@ const LIST: [(&[u8], &str); 1] = [(
 
 const TEXTS: [(&[u8], &str); 2] = [(b"a=1|b", "no cookie"), (b"a=1\xff", "no UTF-8")];
 
-// By what fault loading the bytes ends.
+// Checks the error of loading the bytes.
 fn is_refused(
     rt: &impl Abort,
     alloc: Global,
@@ -414,7 +415,8 @@ fn what_is_not_of_the_form_is_refused(rt: HostRuntime) {
     }
 }
 
-// A form, an opening and a closing, how many of each come, and what they are refused for: no text drives a reader deep.
+// A format, an opening, a closing, how many of each, and the error: no input drives the parser
+// deep.
 static DEEP: [(Form, &str, &str, usize, &str); 4] = [
     (Form::Json, "[", "]", 200, "no JSON"),
     (Form::Ron, "[", "", 50_000, "no RON"),
@@ -441,7 +443,7 @@ fn no_list_nests_deep(rt: HostRuntime) {
     }
 }
 
-// Each proper front of a list is refused, but for the one that lacks the line feed alone.
+// Each proper prefix of a list is rejected, but for the one that lacks the line feed only.
 #[test]
 fn a_list_that_is_cut_off_is_refused(rt: HostRuntime) {
     let lists = [
@@ -459,13 +461,13 @@ fn a_list_that_is_cut_off_is_refused(rt: HostRuntime) {
     }
 }
 
-// The front of a text of lines, cut off behind so many bytes, is cut off within an object.
+// Whether the first `length` bytes of lines of JSON end within an object.
 fn ends_within_an_object(bytes: &[u8], length: usize) -> bool {
     let (front, rest) = bytes.split_at(length.min(bytes.len()));
     !front.is_empty() && !front.ends_with(b"\n") && !rest.starts_with(b"\n")
 }
 
-// The rows are those of the cookies that came first.
+// Checks that a prefix of the lines loads as the first cookies.
 fn has_first_rows(rt: &impl Abort, alloc: Global, front: &str) {
     let count = front.lines().count().min(json::CAME.len());
     let same = store_of(rt, alloc, &json::CAME[..count]);
@@ -473,8 +475,8 @@ fn has_first_rows(rt: &impl Abort, alloc: Global, front: &str) {
     has_the_same_rows(rt, &store, &same);
 }
 
-// A front of the lines that ends within an object is no JSON; any other one loads as the objects that it holds, the last one
-// also without its line feed.
+// A prefix that ends within an object is not JSON. Any other prefix loads as the objects that it
+// has, the last one also without its line feed.
 #[test]
 fn lines_that_are_cut_off_within_an_object_are_refused(rt: HostRuntime) {
     let bytes = json::LINES.as_bytes();
@@ -496,7 +498,7 @@ fn lines_that_are_cut_off_within_an_object_are_refused(rt: HostRuntime) {
     }
 }
 
-// A list as Rust's crate writes it, with its members in the order of their declaration.
+// A list as the Rust crate writes it, with members in the order of their declaration.
 const TEN: &str = r#"[
   {
     "raw_cookie": "sid=31d4d96e407aad42; Path=/; Domain=example.com; Secure; HttpOnly",
@@ -621,7 +623,7 @@ const TEN: &str = r#"[
 ]
 "#;
 
-// The rows of all of them, and of those that have not ended. What came last for a key stands in the place of the first.
+// All its cookies, and the unexpired ones. The last cookie of a key replaces the first.
 const LISTED: [&str; 2] = [
     "example.com / sid, example.com / lang, www.example.com /shop cart, www.example.com /shop/new seen, \
     www.example.com / theme, 127.0.0.1 / a, [::1] / b, xn--bcher-kva.example /x c,  / d",

@@ -1,4 +1,5 @@
-//! Each call that takes memory answers as it does with ample memory, or says that memory is wanting.
+//! Each call that allocates returns what it does with enough memory, or out of memory.
+//! `tools/refuse.c` makes each allocation fail in turn.
 use crate::built::{Came, built, items, store_of};
 use crate::calls::{CALLS, all_calls, are_told};
 use crate::checks::{end_of, has_the_same_rows, is_equal};
@@ -23,17 +24,17 @@ use std::process::Abort;
 use std::vec::IntoIter;
 use url::Url;
 
-// A growth of a size that is used for nothing else.
+// An allocation of a size that is used for nothing else.
 fn mark(alloc: Global, size: usize) {
     let _mark: Result<Vec<u8>, AllocError> = Vec::with_capacity(alloc, size);
 }
 
-// The growths from here on are the ones to refuse.
+// Marks the start of the allocations that are to fail.
 pub fn start(alloc: Global) {
     mark(alloc, 48_271);
 }
 
-// And those from here on are not.
+// Marks their end.
 pub fn end(alloc: Global) {
     mark(alloc, 48_281);
 }
@@ -48,17 +49,17 @@ const Y: &str = "y=1; Domain=example.com; Path=/";
 
 const U: &str = "u=1; Domain=example.com; Path=/p";
 
-// As many rows as a list holds before it grows, all given for `FROM`.
+// As many cookies as a vector holds before it grows, all matching `FROM`.
 const ROWS: [&str; 4] = [X, Z, Y, U];
 
 const GIVEN: &str = "x=1; z=1; y=1; u=1";
 
-// One row more, so that their list has grown.
+// One cookie more, so that the vector has grown.
 const FIVE: [&str; 5] = [X, Z, Y, U, "t=1"];
 
 const GIVEN_OF_FIVE: &str = "x=1; z=1; y=1; u=1; t=1";
 
-// Under a list.
+// A store with a public suffix list and these cookies.
 fn store_of_texts(rt: &impl Abort, alloc: Global, texts: &[&str]) -> CookieStore {
     let url = url(rt, alloc, FROM);
     let mut store = store_under(rt, alloc, "com");
@@ -68,17 +69,18 @@ fn store_of_texts(rt: &impl Abort, alloc: Global, texts: &[&str]) -> CookieStore
     store
 }
 
-// The store obeys that list.
+// Checks that the store has that list.
 fn obeys_its_list(rt: &impl Abort, store: &mut CookieStore, url: &Url) {
     let reply = store.parse("s=1; Domain=com", url, new_year());
     is_equal(rt, &reply, &Err(CookieError::PublicSuffix), &"the list");
 }
 
-// A text, the reply, and what the store gives afterwards.
+// A `Set-Cookie` value, the reply, and what the store returns for `FROM` after it.
 type Case = (&'static str, InsertResult, &'static str);
 
-// A row after those of its domain and path, where its domain is put to ASCII first, after those of its domain, at the end, and
-// in the place of one of its key; a row that is ended, and a cookie that has ended.
+// A new cookie in an existing path, whose domain is mapped to ASCII; in a new path of an existing
+// domain; in a new domain; one that replaces; one that expires a stored cookie; and one that has
+// expired.
 static CASES: [Case; 6] = [
     (
         "w=1; Domain=\u{ff42}.example.com; Path=/",
@@ -104,7 +106,8 @@ static CASES: [Case; 6] = [
     ("s=1; Max-Age=0", Err(CookieError::Expired), GIVEN),
 ];
 
-// Of a cookie that is made already, memory is wanted only where it would be inserted.
+// Whether the call may return out of memory: with a cookie already made, only if it would be
+// inserted.
 fn may_want(way: Way, wanted: InsertResult) -> bool {
     match way {
         Way::Parse | Way::InsertRaw | Way::ApplySet => true,
@@ -117,7 +120,7 @@ fn has_the_four_rows(rt: &impl Abort, alloc: Global, store: &CookieStore) {
     has_the_same_rows(rt, store, &same);
 }
 
-// After the reply the store gives what the case says, or for want of memory has the rows that it had before.
+// Checks what the store returns after the reply, or that it is unchanged if out of memory.
 fn is_answered(
     rt: &impl Abort,
     alloc: Global,
@@ -167,7 +170,7 @@ fn apply(rt: HostRuntime) {
     are_answered(&rt, rt.alloc(), Way::ApplyInsert);
 }
 
-// Where two cookies of a domain may stand, the one that was made first leaves, after this one the next.
+// With a limit of two, the cookie that was created first is evicted, and after it the next.
 const ONE_LEAVES: Case = (
     "v=1; Domain=b.example.com; Path=/p/q",
     INSERTED,
@@ -176,7 +179,7 @@ const ONE_LEAVES: Case = (
 
 const ANOTHER: &str = "w=1; Domain=b.example.com; Path=/";
 
-// By what is given afterwards, once a further cookie came.
+// Checks this by what the store returns after one more cookie.
 fn one_leaves(rt: &impl Abort, alloc: Global, store: &mut CookieStore, url: &Url) {
     let reply = reply_by(rt, alloc, Way::Parse, store, (FROM, ONE_LEAVES.0), url);
     is_answered(rt, alloc, store, Way::Parse, &ONE_LEAVES, reply);
@@ -196,7 +199,7 @@ fn parse_under_a_limit(rt: HostRuntime) {
     one_leaves(&rt, rt.alloc(), &mut store, &url);
 }
 
-// What is asked of a store, which it leaves.
+// The calls that do not change the store.
 #[derive(Clone, Copy)]
 pub enum Asking {
     Matches,
@@ -208,7 +211,7 @@ pub enum Asking {
     Clone,
 }
 
-// Each answers whether there was memory.
+// Each of these returns whether there was enough memory.
 fn cookies_of(rt: &impl Abort, alloc: Global, store: &CookieStore, url: &Url) -> bool {
     start(alloc);
     let outcome = store.matches(url, new_year());
@@ -220,7 +223,8 @@ fn cookies_of(rt: &impl Abort, alloc: Global, store: &CookieStore, url: &Url) ->
     outcome.is_ok()
 }
 
-// The host has four labels, of which three domains have five paths; for each at most once more than twice two slashes.
+// The host has four labels and three domains are found, with five paths; each domain takes at most
+// 2 * 2 + 1 path lookups.
 const COUNTED: Wanted = Wanted {
     from: FROM,
     given: GIVEN_OF_FIVE,
@@ -306,7 +310,7 @@ fn raw_cookies_of(rt: &impl Abort, alloc: Global, store: &CookieStore, url: &Url
     }
 }
 
-// The copy has the rows, and the list too.
+// Checks that the clone has the cookies and the list.
 fn copy_of(rt: &impl Abort, alloc: Global, store: &CookieStore, url: &Url) -> bool {
     start(alloc);
     let mut outcome: Result<CookieStore, AllocError> = store.clone();
@@ -343,7 +347,8 @@ fn is_answered_by(
     }
 }
 
-// A store of five rows answers, if there is memory, and has them afterwards.
+// Checks a call on a store of five cookies, which keeps them. Returns whether there was enough
+// memory.
 pub fn answers(rt: &impl Abort, alloc: Global, asking: Asking) -> bool {
     let url = url(rt, alloc, FROM);
     let store = store_of_texts(rt, alloc, &FIVE);
@@ -433,7 +438,7 @@ fn from_cookies(rt: HostRuntime) {
     }
 }
 
-// The replies to the calls that were done: to all, or to fewer for want of memory.
+// The replies to the calls executed: to all, or to fewer if out of memory.
 fn replies_to_all(
     rt: &impl Abort,
     alloc: Global,
@@ -464,7 +469,8 @@ fn apply_all(rt: HostRuntime) {
     are_told(&rt, rt.alloc(), &store, replies.as_slice());
 }
 
-// The texts of a response, of which one is refused, and what the store of four rows gives after none of them, one, two ..
+// The cookies of a response, one of which is rejected, and what the store of four cookies returns
+// after none, one, two ..
 const RESPONSE: [&str; 4] = [
     "t=1",
     "s=1; Max-Age=0",
@@ -480,7 +486,7 @@ const AFTER: [&str; 5] = [
     "x=1; w=1; z=1; y=2; u=1; t=1",
 ];
 
-// How many cookies of the response are stored: those that came before the one for which memory was wanting.
+// How many cookies of the response were processed: those before the one that ran out of memory.
 fn stored_of_response(
     rt: &impl Abort,
     alloc: Global,
@@ -512,7 +518,8 @@ fn store_response_cookies(rt: HostRuntime) {
     obeys_its_list(&rt, &mut store, &url);
 }
 
-// What may be written where memory is wanting: whole lines of first rows, and nothing of one text.
+// Whether the output is well formed if out of memory: whole lines of the first cookies, or nothing
+// for one string.
 fn is_cut_off_well(case: &forms::Case, written: &[u8]) -> bool {
     match case.0 {
         Shape::Lines | Shape::JsonLines => {
@@ -533,7 +540,7 @@ fn is_saved(rt: &impl Abort, case: &forms::Case, outcome: &Result<(), Error>, wr
     }
 }
 
-// The rows are saved, or memory is wanting. The store has them afterwards.
+// Checks that the cookies are saved, or out of memory, and that the store keeps them.
 fn are_saved_as(rt: &impl Abort, alloc: Global, case: &forms::Case, which: &Which) {
     let store = store_of(rt, alloc, &forms::CAME);
     let room = Vec::with_capacity(alloc, 1_024).expect(rt, "memory");
@@ -546,7 +553,7 @@ fn are_saved_as(rt: &impl Abort, alloc: Global, case: &forms::Case, which: &Whic
     has_the_same_rows(rt, &store, &store_of(rt, alloc, &forms::CAME));
 }
 
-// In each form.
+// In each format.
 fn are_saved(rt: &impl Abort, alloc: Global, which: &Which) {
     for case in &FORMS {
         are_saved_as(rt, alloc, case, which);
@@ -563,7 +570,7 @@ fn save_incl_expired_and_nonpersistent(rt: HostRuntime) {
     are_saved(&rt, rt.alloc(), &Which::All);
 }
 
-// What rows are loaded from, and what the store then gives.
+// A format, a text, and what the store loaded from it returns for `FROM`.
 type Source = (Shape, &'static [u8], &'static str);
 
 static SOURCES: [Source; 5] = [

@@ -1,4 +1,4 @@
-//! Cookies that come into a store, in each way.
+//! Insertion of cookies, by each call that inserts.
 use crate::built::Came;
 use crate::calls::{Asked, call};
 use crate::checks::is_equal;
@@ -10,7 +10,7 @@ use std::alloc::Global;
 use std::process::Abort;
 use url::Url;
 
-// How a cookie comes into a store.
+// A call that inserts a cookie.
 #[derive(Clone, Copy, Debug)]
 pub enum Way {
     Parse,
@@ -43,7 +43,7 @@ fn reply_to_raw(
     reply
 }
 
-// A text that makes no cookie is refused before.
+// If the value cannot be parsed, that error is returned before `insert`.
 fn reply_to_cookie(
     rt: &impl Abort,
     alloc: Global,
@@ -70,7 +70,7 @@ fn reply_to_call(
     let outcome = store.apply(call);
     end(alloc);
     if let Ok(Reply::Stored(reply)) = &outcome {
-        // Want of memory is no reply.
+        // Out of memory is an error of `apply`, never a reply.
         is_equal(rt, &(*reply == WANTING), &false, asked);
         *reply
     } else {
@@ -79,7 +79,7 @@ fn reply_to_call(
     }
 }
 
-// The reply to a text that came from the URL.
+// The reply to a `Set-Cookie` value received from the URL.
 pub fn reply_by(
     rt: &impl Abort,
     alloc: Global,
@@ -98,10 +98,10 @@ pub fn reply_by(
     }
 }
 
-// A URL, a text that comes from it, and the reply.
+// A URL, a `Set-Cookie` value received from it, and the reply.
 type Received = (&'static str, &'static str, InsertResult);
 
-// One after the other, from a store without cookies.
+// Insertions made one after the other, into an empty store.
 static REPLIES: [Received; 8] = [
     ("http://example.com/foo/bar", "c=v", INSERTED),
     ("data:x", "c=v", Err(CookieError::NonRelativeScheme)),
@@ -125,7 +125,7 @@ static REPLIES: [Received; 8] = [
     ),
 ];
 
-// A domain, a path and a name, and whether that row has ended, if there is one.
+// A domain, a path, a name, and whether the stored cookie has expired; `None` if there is none.
 type Left = (&'static str, &'static str, &'static str, Option<bool>);
 
 static LEFT: [Left; 4] = [

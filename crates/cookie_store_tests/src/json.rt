@@ -1,4 +1,4 @@
-//! Rows as lines of JSON.
+//! Cookies as lines of JSON.
 use crate::built::Came;
 use crate::saved::Which;
 use crate::steps::new_year;
@@ -8,7 +8,7 @@ use cookie_store::saved::SavedError;
 use cookie_store::{Bulk, CookieError, CookieStore, Error};
 use std::alloc::Global;
 
-// How saving ends, how many writes failed, and the writer.
+// The result of saving, how many writes failed, and the writer.
 pub fn save_json(
     store: &CookieStore,
     which: &Which,
@@ -22,7 +22,7 @@ pub fn save_json(
     (outcome, writer.failures(), writer.into_inner())
 }
 
-// How loading ends, how many reads failed, and the reader.
+// The result of loading, how many reads failed, and the reader.
 pub fn load_json_from<'a>(
     alloc: Global,
     which: &Which,
@@ -36,12 +36,12 @@ pub fn load_json_from<'a>(
     (outcome, reader.failures(), reader.into_inner())
 }
 
-// How loading ends.
+// The result of loading.
 pub fn load_json(alloc: Global, which: &Which, fake: Fake<&[u8]>) -> Result<CookieStore, Error> {
     load_json_from(alloc, which, fake).0
 }
 
-// How loading ended, by the fault that ended it.
+// The error of loading, in short.
 pub fn fault_of(outcome: &Result<CookieStore, Error>) -> &'static str {
     match outcome {
         Ok(_) => "none",
@@ -74,7 +74,7 @@ pub const CAME: [Came; 4] = [
     ),
 ];
 
-// Their lines: the members in the order of their names, and nothing between them.
+// Their lines: members in the order of their names, and no spaces.
 pub const LINES: &str =
     r#"{"domain":{"HostOnly":"foo.example.com"},"expires":"SessionEnd","path":["/foo/bar",true],"raw_cookie":"cookie3=value3; Path=/foo/bar"}
 {"domain":{"Suffix":"example.com"},"expires":"SessionEnd","path":["/foo",false],"raw_cookie":"cookie2=value2; Domain=example.com"}
@@ -82,13 +82,13 @@ pub const LINES: &str =
 {"domain":{"HostOnly":"test.com"},"expires":{"AtUtc":"2100-08-03T00:38:37Z"},"path":["/",false],"raw_cookie":"q=\"\\; Expires=Tue, 03 Aug 2100 00:38:37 GMT"}
 "#;
 
-// The lines of those that end at a moment.
+// The lines of the persistent cookies.
 pub const LASTING: &str =
     r#"{"domain":{"HostOnly":"test.com"},"expires":{"AtUtc":"2100-08-03T00:38:37Z"},"path":["/",true],"raw_cookie":"2=two; SameSite=None; Secure; Path=/; Expires=Tue, 03 Aug 2100 00:38:37 GMT"}
 {"domain":{"HostOnly":"test.com"},"expires":{"AtUtc":"2100-08-03T00:38:37Z"},"path":["/",false],"raw_cookie":"q=\"\\; Expires=Tue, 03 Aug 2100 00:38:37 GMT"}
 "#;
 
-// Lines, and what they are refused for.
+// Lines that are rejected, and the error.
 pub const REFUSED: [(&[u8], &str); 14] = [
     (b"{\n", "no JSON"),
     (b"\n", "no JSON"),

@@ -1,4 +1,4 @@
-//! Rows as one text, by functions or as a list.
+//! Cookies as one list: by functions, in JSON or in RON.
 use crate::built::Came;
 use crate::loaded::{Loaded, cookie_of};
 use crate::saved::{Saved, Which};
@@ -9,7 +9,8 @@ use cookie_store::{Cookie, CookieStore, Error, serde};
 use std::alloc::Global;
 use url::Url;
 
-// The cookies' texts, with a '|' between them, or as an error that there are none.
+// The `Set-Cookie` values of the cookies, with a '|' between them, or an error if there are no
+// cookies.
 fn text_of(alloc: Global, cookies: &Vec<Cookie<'_>>) -> Result<String, Error> {
     let mut text = String::new(alloc);
     for cookie in cookies {
@@ -40,7 +41,7 @@ pub fn save_text(alloc: Global, store: &CookieStore, which: &Which, fake: Fake<V
     (outcome, writer.failures(), writer.into_inner())
 }
 
-// The cookies of such a text, which came from the URL.
+// The cookies of such a string, as received from the URL.
 fn cookies_of<'t>(alloc: Global, text: &'t str, url: &Url) -> Result<Vec<Cookie<'t>>, Error> {
     let mut cookies = Vec::new(alloc);
     for words in text.split('|') {
@@ -68,7 +69,7 @@ pub fn load_text<'a>(alloc: Global, url: &Url, which: &Which, fake: Fake<&'a [u8
     (outcome, reader.failures(), reader.into_inner())
 }
 
-/// What a list is written in.
+/// The format of a list.
 #[derive(Clone, Copy, Debug)]
 pub enum Form {
     Json,
@@ -101,7 +102,7 @@ pub fn load_list<'a>(form: Form, alloc: Global, which: &Which, fake: Fake<&'a [u
     (outcome, reader.failures(), reader.into_inner())
 }
 
-// A cookie that ends at a moment.
+// A persistent cookie.
 pub const LASTS: Came = (
     "http://test.com/",
     "2=two; SameSite=None; Secure; Path=/; Expires=Tue, 03 Aug 2100 00:38:37 GMT",
@@ -109,7 +110,7 @@ pub const LASTS: Came = (
 
 pub const CAME: [Came; 2] = [LASTS, ("http://test.com/a/b", "s=\"\\")];
 
-// The list of the cookies that came.
+// The list of all of these.
 pub const BOTH: &str = r#"[
   {
     "domain": {
@@ -138,7 +139,7 @@ pub const BOTH: &str = r#"[
 ]
 "#;
 
-// The list of the one that ends at a moment.
+// The list of the persistent one.
 pub const LASTING: &str = r#"[
   {
     "domain": {
@@ -156,7 +157,7 @@ pub const LASTING: &str = r#"[
 ]
 "#;
 
-// A cookie that has ended: a list that is loaded has it where all are kept, and it is saved where all are.
+// The list of an expired cookie, which is loaded and saved only with expired cookies included.
 pub const ENDED: &str = r#"[
   {
     "domain": {
@@ -174,7 +175,7 @@ pub const ENDED: &str = r#"[
 ]
 "#;
 
-// Bytes that are no list, and what they are refused for.
+// Bytes that are rejected, and the error.
 pub const REFUSED: [(&[u8], &str); 21] = [
     (b"", "no JSON"),
     (b"\n", "no JSON"),

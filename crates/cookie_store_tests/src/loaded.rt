@@ -1,4 +1,4 @@
-//! Stores that are made of lines.
+//! Stores loaded from lines.
 use crate::checks::{end_of, is_equal};
 use crate::saved::Which;
 use crate::steps::new_year;
@@ -14,10 +14,10 @@ use url::Url;
 
 pub const FROM: &str = "http://a.b.example.com/p/q";
 
-// How loading ended, how many reads failed, and the reader.
+// The result of loading, how many reads failed, and the reader.
 pub type Loaded<'a> = (Result<CookieStore, Error>, u64, Fake<&'a [u8]>);
 
-// The cookie of a line that came from the URL.
+// The cookie of a line, as received from the URL.
 pub fn cookie_of<'l>(alloc: Global, line: &'l str, url: &Url) -> Result<Cookie<'l>, Error> {
     match Cookie::parse(alloc, line, url, new_year()) {
         Ok(cookie) => Ok(cookie),
@@ -26,7 +26,8 @@ pub fn cookie_of<'l>(alloc: Global, line: &'l str, url: &Url) -> Result<Cookie<'
     }
 }
 
-// Makes a cookie of any line but `b`, its own if it is one, and writes the lines down, each with a '|' behind it.
+// Returns a cookie for each line but `b`, its own if it has a `=`, and notes the lines, each with a
+// '|' after it.
 #[derive(Drop)]
 pub struct Notes<'u> {
     alloc: Global,
@@ -61,7 +62,7 @@ impl<'u> Notes<'u> {
     }
 }
 
-// Loads the cookies of the lines: all, or those that have not ended by the moment.
+// Loads the lines: all cookies, or those unexpired at a time.
 pub fn load_lines<'a>(
     alloc: Global,
     notes: &Notes<'_>,
@@ -81,10 +82,10 @@ pub fn load_lines<'a>(
     (outcome, reader.failures(), reader.into_inner())
 }
 
-// Bytes, the lines that the function is given of them, the bytes that are not read, and how loading ends.
+// Bytes, the lines passed to the function, the bytes left unread, and the outcome.
 type Noted = (&'static [u8], &'static str, &'static [u8], &'static str);
 
-// Read to their end, by any reads.
+// Read to the end, by reads of any size.
 static LINES: [Noted; 14] = [
     (b"", "", b"", "done"),
     (b"a", "a|", b"", "done"),
@@ -107,7 +108,7 @@ static LINES: [Noted; 14] = [
     ),
 ];
 
-// The first refusal ends the loading, here by reads of one byte.
+// The first error stops loading, here with reads of one byte.
 static REFUSED: [Noted; 7] = [
     (b"a\nb\nc\n", "a|b|", b"c\n", "b"),
     (b"a\nb", "a|b|", b"", "b"),
@@ -118,7 +119,8 @@ static REFUSED: [Noted; 7] = [
     (b"a\xff", "", b"", "not UTF-8"),
 ];
 
-// Loading by reads of at most so many bytes ends as it should, with these lines given.
+// Checks loading with reads of at most `most` bytes: the outcome, and the lines passed to the
+// function.
 fn is_noted(rt: &impl Abort, alloc: Global, url: &Url, noted: &Noted, most: usize) {
     let notes = Notes::new(alloc, url);
     let fake = Fake::new(noted.0, most, 0);

@@ -1,4 +1,4 @@
-//! How often the maps of a store are searched for the cookies of a URL.
+//! Numbers of lookups in the maps of a store.
 use crate::checks::is_equal;
 use crate::steps::{INSERTED, Step, new_year, take_all};
 use crate::texts::{header, url};
@@ -19,7 +19,7 @@ static ROWS: [Step; 6] = [
     Step::Set("http://other.org/x/", "f=6; Path=/", INSERTED),
 ];
 
-// What is given for a URL, and how often domains and paths are looked up for it, at least and at most.
+// The cookies for a URL, and the least and the most lookups of domains and of paths.
 #[derive(Clone, Copy)]
 pub struct Wanted {
     pub from: &'static str,
@@ -61,7 +61,7 @@ static COUNTED: [Wanted; 5] = [
     },
 ];
 
-// They are no fewer and no more.
+// Checks that the numbers are within these bounds.
 pub fn are_between(rt: &impl Abort, counted: Lookups, wanted: &Wanted) {
     let (least, most) = (wanted.least, wanted.most);
     let domains = least.0 <= counted.domains && counted.domains <= most.0;
@@ -78,7 +78,7 @@ fn counted(rt: &impl Abort, alloc: Global, store: &CookieStore, wanted: &Wanted)
     counted
 }
 
-// Rows of other hosts beside those of the table.
+// A store with cookies of 1,000 other hosts.
 fn rows_beside(rt: &impl Abort, alloc: Global) -> CookieStore {
     let mut store = CookieStore::new(alloc);
     for number in 0..1_000 {
@@ -90,7 +90,7 @@ fn rows_beside(rt: &impl Abort, alloc: Global) -> CookieStore {
     store
 }
 
-// The same rows beside others cost no look-up more.
+// Checks that the same cookies among others take the same number of lookups.
 fn is_counted(
     rt: &impl Abort,
     alloc: Global,

@@ -1,4 +1,4 @@
-//! Stores of many rows, and a long text.
+//! Stores of many cookies, and long input.
 use crate::built::{Item, built, cookie};
 use crate::checks::is_equal;
 use crate::forms::{Shape, load};
@@ -15,16 +15,16 @@ const HOSTS: usize = 50;
 
 const COOKIES: usize = 1_000;
 
-// The cookies of one host.
+// The number of cookies of one host.
 const GIVEN: usize = 20;
 
-// The URL that the cookie of this number comes from.
+// The URL from which the cookie of this number is received.
 fn address(rt: &impl Abort, alloc: Global, number: usize) -> String {
     let host = number % HOSTS;
     format!(in alloc; "http://host{host}.com/").expect(rt, "memory")
 }
 
-// Its text.
+// Its `Set-Cookie` value.
 fn text(rt: &impl Abort, alloc: Global, number: usize) -> String {
     format!(in alloc; "name{number}=value").expect(rt, "memory")
 }
@@ -39,7 +39,7 @@ fn cookie_of(rt: &impl Abort, alloc: Global, number: usize) -> Cookie<'static> {
     cookie(rt, alloc, &(address.as_str(), text.as_str()))
 }
 
-// The store has all of them, and gives a host its own.
+// Checks that the store has all cookies, and returns those of one host for it.
 fn has_all(rt: &impl Abort, alloc: Global, store: &CookieStore) {
     let rows: Vec<&Cookie<'static>> = store.iter_any().collect(alloc).expect(rt, "memory");
     is_equal(rt, &rows.len(), &COOKIES, &"the rows");
@@ -65,7 +65,7 @@ fn a_store_is_built_of_many_cookies(rt: HostRuntime) {
     has_all(&rt, rt.alloc(), &store);
 }
 
-// Every other one comes as a text.
+// `Set` for even numbers, `Insert` for odd ones.
 fn call(rt: &impl Abort, alloc: Global, number: usize) -> Call {
     let url = url_of(rt, alloc, number);
     if number % 2 == 0 {
@@ -108,7 +108,7 @@ fn many_calls_are_done(rt: HostRuntime) {
     has_all(&rt, rt.alloc(), &store);
 }
 
-// Lines of cookies of one host.
+// Lines of cookies, all loaded as of one host.
 fn lines(rt: &impl Abort, alloc: Global) -> String {
     let mut lines = String::new(alloc);
     for number in 0..COOKIES {

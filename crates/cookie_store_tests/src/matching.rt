@@ -1,4 +1,4 @@
-//! Cookies that are given for a URL.
+//! Cookies that match a URL.
 use crate::checks::is_equal;
 use crate::forms::{FROM as ORIGIN, IN_RON, loaded};
 use crate::growths::{Asking, answers};
@@ -9,7 +9,8 @@ use jiff::civil::DateTime;
 
 const FROM: &str = "http://a.b.example.com/x/y/z";
 
-// A new store gives nothing; cookies come and are refused, and the others are given in the order of insertion.
+// An empty store returns nothing; some cookies are rejected, and the others are returned in the
+// store's order.
 static IN_ORDER: [Step; 19] = [
     Step::Given("http://a.com/p/q", ""),
     Step::Set("http://a.com/", "x=1", INSERTED),
@@ -36,15 +37,15 @@ static IN_ORDER: [Step; 19] = [
     Step::Given(FROM, "c=3; a=1; b=2"),
 ];
 
-// No script can name this moment.
+// The earliest time that there is; a script of the program cannot name it.
 #[test]
 fn gives_in_order_at_the_first_moment(rt: HostRuntime) {
     let mut store = CookieStore::default(rt.alloc());
     take_all(&rt, rt.alloc(), &mut store, &IN_ORDER, DateTime::MIN);
 }
 
-// Rows as they may be loaded: the domain of some is no name, the path of some does not begin with `/`, and the last one is
-// as any other.
+// Cookies as they may be loaded: some domains are not a domain name, some paths do not begin with
+// `/`. The last cookie is an ordinary one.
 const LOADED: &str = r#"[
     (raw_cookie: "a=1", path: ("/", false), domain: HostOnly(""), expires: SessionEnd),
     (raw_cookie: "b=1", path: ("/", false), domain: Suffix(""), expires: SessionEnd),
@@ -57,7 +58,7 @@ const LOADED: &str = r#"[
     (raw_cookie: "k=1", path: ("/", false), domain: HostOnly("a.com"), expires: SessionEnd),
 ]"#;
 
-// All stand, and the last one alone is given for a URL.
+// All are stored, and only the last one matches a URL.
 static STANDING: [Step; 9] = [
     Step::Listed(" / a,  / b,  / c,  / d, . / e, . / f, a.com  g, a.com p h, a.com / k"),
     Step::Given("http://a.com/p", "k=1"),

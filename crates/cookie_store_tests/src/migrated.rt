@@ -1,4 +1,4 @@
-//! Stores that are made of all lines of JSON, and the first line that is refused.
+//! Stores loaded from lines of JSON, and the first line that is rejected.
 use crate::built::store_of;
 use crate::checks::{has_the_same_rows, is_equal};
 use crate::forms::{CAME, IN_RON, Shape, save};
@@ -12,14 +12,14 @@ use cookie_store::serde::{MigrateError, migrate_lines};
 use std::alloc::Global;
 use std::process::Abort;
 
-// How the making of a store ends, and how many reads failed.
+// The result of a migration, and how many reads failed.
 fn migrate(alloc: Global, fake: Fake<&[u8]>) -> (Result<CookieStore, MigrateError>, u64) {
     let mut reader = Counted::new(fake);
     let outcome = migrate_lines(alloc, &mut reader);
     (outcome, reader.failures())
 }
 
-// The rows, or why there are none.
+// The cookies as a header, or the error.
 fn told(rt: &impl Abort, alloc: Global, outcome: &Result<CookieStore, MigrateError>) -> String {
     match outcome {
         Ok(store) => all_rows(rt, alloc, store),
@@ -27,7 +27,7 @@ fn told(rt: &impl Abort, alloc: Global, outcome: &Result<CookieStore, MigrateErr
     }
 }
 
-// Lines, and the rows that they make, or why they make none.
+// Lines, and their cookies as a header, or the error.
 const CASES: [(&[u8], &str); 11] = [
     (b"", ""),
     (
@@ -70,7 +70,8 @@ const CASES: [(&[u8], &str); 11] = [
     (b"\xff\n", "line 1: a text is not UTF-8"),
 ];
 
-// One that has ended in the place of another, and one that a carriage return follows.
+// An expired cookie that replaces another, and a line that ends with a carriage return and a line
+// feed.
 const LINES: &[u8] = b"\
     {\"raw_cookie\":\"a=1\",\"path\":[\"/\",false],\"domain\":{\"HostOnly\":\"a.com\"},\"expires\":\"SessionEnd\"}\n\
     {\"raw_cookie\":\"b=3\",\"path\":[\"/\",false],\"domain\":{\"HostOnly\":\"a.com\"},\"expires\":\"SessionEnd\"}\r\n\
@@ -90,7 +91,7 @@ fn lines_are_taken_up_to_the_first_that_is_refused(rt: HostRuntime) {
     }
 }
 
-// Whether no read failed. Where one did, no store is made.
+// Returns whether no read failed. If one did, it checks that there is no store.
 fn is_whole(rt: &impl Abort, alloc: Global, fails_at: usize) -> bool {
     let (outcome, failures) = migrate(alloc, Fake::new(LINES, 7, fails_at));
     let wanted = if failures == 0 {
@@ -113,7 +114,7 @@ fn a_failed_read_ends_the_migration(rt: HostRuntime) {
     panic!(rt; "reading has no end");
 }
 
-// All rows of the store, as they are saved.
+// All cookies of the store, as saved in the format.
 fn saved_in(rt: &impl Abort, alloc: Global, shape: Shape, store: &CookieStore) -> Vec<u8> {
     let ample = Fake::new(Vec::new(alloc), usize::MAX, 0);
     let (outcome, _, fake) = save(alloc, shape, store, &Which::All, ample);
@@ -121,7 +122,7 @@ fn saved_in(rt: &impl Abort, alloc: Global, shape: Shape, store: &CookieStore) -
     fake.inner
 }
 
-// A list in RON of the rows that the lines make.
+// The list in RON of the cookies of the lines.
 fn list_of(rt: &impl Abort, alloc: Global, lines: &[u8]) -> Vec<u8> {
     let (outcome, _) = migrate(alloc, Fake::new(lines, usize::MAX, 0));
     saved_in(rt, alloc, IN_RON, &outcome.expect(rt, "a store"))

@@ -8,7 +8,7 @@ use log::sink::{Discard, Memory};
 use std::alloc::Global;
 use std::process::Abort;
 
-// The texts of a response, the cookies that are then stored, and what is logged.
+// The `Set-Cookie` values of a response, the cookies stored after it, and the log lines.
 type Case = (
     &'static [&'static str],
     &'static str,
@@ -40,7 +40,7 @@ static CASES: [Case; 3] = [
     ),
 ];
 
-// Raw cookies of the texts.
+// The raw cookies of the values.
 pub fn raw_cookies(
     rt: &impl Abort,
     alloc: Global,
@@ -54,7 +54,7 @@ pub fn raw_cookies(
     cookies
 }
 
-// The response leaves the rows that are wanted, in a store that was empty.
+// Checks the cookies stored after the response, in a store that was empty.
 fn is_stored(rt: &impl Abort, alloc: Global, logger: &impl Log, case: &Case) {
     let (texts, wanted, _) = *case;
     let url = url(rt, alloc, "http://a.com/");
@@ -65,7 +65,7 @@ fn is_stored(rt: &impl Abort, alloc: Global, logger: &impl Log, case: &Case) {
     are_all(rt, alloc, &store, wanted, &wanted);
 }
 
-// The line is this text at the level debug, and shows no value of a secure cookie.
+// Checks that a log line is this string at the level debug, without the value of a Secure cookie.
 fn is_logged(rt: &impl Abort, line: &str, text: &str) {
     let (place, logged) = line.split_once("] ").expect(rt, "a level");
     is_equal(rt, &place.starts_with("[DEBUG "), &true, &line);

@@ -1,6 +1,6 @@
-//! Rows as one list in RON.
+//! Cookies as one list in RON.
 
-// The list of the cookies that came.
+// The list of all cookies.
 pub const BOTH: &str = r#"[
     (
         raw_cookie: "2=two; SameSite=None; Secure; Path=/; Expires=Tue, 03 Aug 2100 00:38:37 GMT",
@@ -17,7 +17,7 @@ pub const BOTH: &str = r#"[
 ]
 "#;
 
-// The list of the one that ends at a moment.
+// The list of the persistent one.
 pub const LASTING: &str = r#"[
     (
         raw_cookie: "2=two; SameSite=None; Secure; Path=/; Expires=Tue, 03 Aug 2100 00:38:37 GMT",
@@ -28,7 +28,7 @@ pub const LASTING: &str = r#"[
 ]
 "#;
 
-// A cookie that has ended: a list that is loaded has it where all are kept, and it is saved where all are.
+// The list of an expired cookie, which is loaded and saved only with expired cookies included.
 pub const ENDED: &str = r#"[
     (
         raw_cookie: "1=one; SameSite=None; Secure; Path=/; Expires=Thu, 03 Aug 2000 00:38:37 GMT",
@@ -39,7 +39,7 @@ pub const ENDED: &str = r#"[
 ]
 "#;
 
-// Lists, and what they are refused for.
+// Lists that are rejected, and the error.
 pub const REFUSED: [(&[u8], &str); 31] = [
     (b"", "no RON"),
     (b"\n", "no RON"),

@@ -1,4 +1,4 @@
-//! Rows that are found by their keys, and passed over when they have ended.
+//! Stored cookies, found by domain, path and name, whether expired or not.
 use crate::checks::is_equal;
 use crate::steps::{ENDED, INSERTED, Step, new_year, take_all};
 use crate::texts::{are_listed, listed, unexpired, value_of};
@@ -9,7 +9,7 @@ use std::process::Abort;
 
 const LISTED: &str = "a.com / s, a.com / m, b.com /p e";
 
-// One row ends with the session, one after a minute, and one has ended.
+// A session cookie, a cookie that expires after a minute, and an expired one.
 static LIVES: [Step; 5] = [
     Step::Set("http://a.com/", "s=1", INSERTED),
     Step::Set("http://b.com/", "e=3; Path=/p", INSERTED),
@@ -18,7 +18,8 @@ static LIVES: [Step; 5] = [
     Step::Listed(LISTED),
 ];
 
-// A domain, a path and a name, the value of that row, and whether it lives in the last second of the minute and after it.
+// A domain, a path, a name, the value of that cookie, and whether it is unexpired in the last
+// second of the minute, and after it.
 type Found = (
     &'static str,
     &'static str,
@@ -37,7 +38,7 @@ static FOUND: [Found; 7] = [
     ("", "", "", None, [false, false]),
 ];
 
-// The row is found whether it has ended or not, and while it lives.
+// Checks `get_any` and `contains_any`, and `get` and `contains` at the time.
 fn is_found(rt: &impl Abort, store: &CookieStore, found: &Found, moment: DateTime, is_live: bool) {
     let (domain, path, name, value, _) = *found;
     let any = value_of(store.get_any(domain, path, name));
@@ -49,7 +50,7 @@ fn is_found(rt: &impl Abort, store: &CookieStore, found: &Found, moment: DateTim
     is_equal(rt, &(live, is_there), &(wanted, is_live), &(found, moment));
 }
 
-// The rows that live at the moment are listed so.
+// Checks the cookies that are unexpired at the time.
 fn are_live(rt: &impl Abort, alloc: Global, store: &CookieStore, moment: DateTime, wanted: &str) {
     let rows = unexpired(rt, alloc, store, moment);
     let live = listed(rt, alloc, rows.as_slice());

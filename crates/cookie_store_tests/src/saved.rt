@@ -1,4 +1,4 @@
-//! Rows that are written as lines.
+//! Cookies saved as lines.
 use crate::built::{Came, store_of};
 use crate::checks::{end_of, is_equal};
 use crate::steps::new_year;
@@ -10,17 +10,18 @@ use std::alloc::{AllocError, Global};
 use std::cell::RefCell;
 use std::process::Abort;
 
-// Which rows are saved or loaded: all, or those that `save` or `load` chooses at the moment.
+// Which cookies are saved or loaded: all, or those that `save` or `load` selects at the time.
 #[derive(Clone, Copy, Debug)]
 pub enum Which {
     All,
     At(DateTime),
 }
 
-// How saving ended, how many writes failed, and the writer.
+// The result of saving, how many writes failed, and the writer.
 pub type Saved = (Result<(), Error>, u64, Fake<Vec<u8>>);
 
-// Answers a row's text, or its name alone, or as an error the name that is refused, and writes each name down.
+// Returns a cookie's `Set-Cookie` value or its name only, or an error for one name, and notes each
+// name.
 #[derive(Drop)]
 pub struct Names<'r> {
     alloc: Global,
@@ -84,7 +85,7 @@ pub const LASTING: [Came; 3] = [
     (FROM, "c=1; Max-Age=300"),
 ];
 
-// Some rows end after five minutes or after one, one ends with the session, and one has ended.
+// Cookies that expire after five minutes or one, a session cookie, and an expired one.
 const LIVES: [Came; 6] = [
     ("http://a.com/", "a=1; Max-Age=300"),
     ("http://b.com/", "b=1; Max-Age=300"),
@@ -94,7 +95,7 @@ const LIVES: [Came; 6] = [
     ("http://b.com/", "c=1; Max-Age=60"),
 ];
 
-// The name that is refused, what is written, and the rows whose text is asked for.
+// The name with an error, what is written, and the names of the cookies passed to the function.
 type Row = (&'static str, &'static str, &'static str);
 
 const REFUSED: [Row; 4] = [

@@ -1,4 +1,4 @@
-//! What is done with a store step by step, and what must come of it.
+//! Steps of a test: calls of a store, with what they must return.
 use crate::checks::is_equal;
 use crate::texts::{are_given, are_listed, are_sent, url};
 use cookie_store::psl::List;
@@ -13,8 +13,8 @@ pub const UPDATED: InsertResult = Ok(StoreAction::UpdatedExisting);
 
 pub const ENDED: InsertResult = Ok(StoreAction::ExpiredExisting);
 
-// A text comes from a URL and has this reply; the rows are listed, each by its domain, path and name; cookies are given for a URL, and
-// sent to it.
+// A URL, a `Set-Cookie` value received from it, and the reply; all stored cookies by domain, path
+// and name; a URL and the cookies that match it; a URL and its Cookie header.
 #[derive(Clone, Copy, Debug)]
 pub enum Step {
     Set(&'static str, &'static str, InsertResult),
@@ -23,22 +23,22 @@ pub enum Step {
     Sent(&'static str, &'static str),
 }
 
-// The moment of most tests.
+// The time of most tests.
 pub fn new_year() -> DateTime {
     date(2026, 1, 1).at(0, 0, 0, 0)
 }
 
-// The list of a text that is one.
+// A public suffix list.
 pub fn list(rt: &impl Abort, alloc: Global, text: &str) -> List {
     List::from_text(alloc, text).expect(rt, "a list")
 }
 
-// A store under the list.
+// A store with the list.
 pub fn store_under(rt: &impl Abort, alloc: Global, text: &str) -> CookieStore {
     CookieStore::new_with_public_suffix(alloc, Some(list(rt, alloc, text)))
 }
 
-// The reply to a text that comes from the URL.
+// The reply to a `Set-Cookie` value received from the URL.
 fn reply(
     rt: &impl Abort,
     alloc: Global,
@@ -50,7 +50,7 @@ fn reply(
     store.parse(text, &url(rt, alloc, from), now)
 }
 
-// Does one step at the moment.
+// Executes one step at the time, and checks it.
 fn take(rt: &impl Abort, alloc: Global, store: &mut CookieStore, step: &Step, now: DateTime) {
     match *step {
         Step::Set(from, text, wanted) => {
@@ -69,7 +69,7 @@ fn take(rt: &impl Abort, alloc: Global, store: &mut CookieStore, step: &Step, no
     }
 }
 
-// Does all the steps at the moment.
+// Executes all steps at the time, and checks them.
 pub fn take_all(
     rt: &impl Abort,
     alloc: Global,

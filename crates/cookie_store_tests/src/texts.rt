@@ -1,4 +1,4 @@
-//! Cookies and rows as texts.
+//! Cookies as strings.
 use crate::checks::is_equal;
 use cookie_store::{Cookie, CookieStore};
 use jiff::civil::DateTime;
@@ -7,12 +7,12 @@ use std::fmt::Debug;
 use std::process::Abort;
 use url::Url;
 
-// The URL of a text that is one.
+// Parses a URL that is valid.
 pub fn url(rt: &impl Abort, alloc: Global, text: &str) -> Url {
     Url::parse(alloc, text).expect(rt, "a URL")
 }
 
-// Adds the words, behind the separator unless they are the first ones.
+// Appends the words, with the separator before them unless the string is empty.
 pub fn add(rt: &impl Abort, text: &mut String, separator: &str, words: &[&str]) {
     if !text.is_empty() {
         text.push_str(separator).expect(rt, "memory");
@@ -22,7 +22,7 @@ pub fn add(rt: &impl Abort, text: &mut String, separator: &str, words: &[&str]) 
     }
 }
 
-// The cookies as a Cookie header lists them.
+// The cookies as a Cookie header, in the order given.
 pub fn header(rt: &impl Abort, alloc: Global, cookies: &[&Cookie<'static>]) -> String {
     let mut header = String::new(alloc);
     for cookie in cookies {
@@ -31,14 +31,14 @@ pub fn header(rt: &impl Abort, alloc: Global, cookies: &[&Cookie<'static>]) -> S
     header
 }
 
-// The same of those that the store gives for the URL.
+// The cookies that match the URL as a header.
 fn given(rt: &impl Abort, alloc: Global, store: &CookieStore, from: &str, now: DateTime) -> String {
     let url = url(rt, alloc, from);
     let cookies = store.matches(&url, now).expect(rt, "memory");
     header(rt, alloc, cookies.as_slice())
 }
 
-// For a URL the store gives this at the moment.
+// Checks the cookies that match a URL at the time.
 pub fn are_given(
     rt: &impl Abort,
     alloc: Global,
@@ -51,7 +51,7 @@ pub fn are_given(
     is_equal(rt, &header.as_str(), &wanted.1, row);
 }
 
-// The Cookie header of a request for the URL.
+// Checks the Cookie header of a request for the URL.
 fn is_sent(
     rt: &impl Abort,
     store: &CookieStore,
@@ -64,7 +64,7 @@ fn is_sent(
     is_equal(rt, &sent.as_str(), &wanted, row);
 }
 
-// At the moment the store sends this for a URL, and has the cookies in that order.
+// Checks the Cookie header for a URL at the time, and the order of its cookies.
 pub fn are_sent(
     rt: &impl Abort,
     alloc: Global,
@@ -80,13 +80,13 @@ pub fn are_sent(
     is_equal(rt, &header.as_str(), &wanted.1, row);
 }
 
-// The same of all rows.
+// All stored cookies as a header.
 pub fn all_rows(rt: &impl Abort, alloc: Global, store: &CookieStore) -> String {
     let rows: Vec<&Cookie<'static>> = store.iter_any().collect(alloc).expect(rt, "memory");
     header(rt, alloc, rows.as_slice())
 }
 
-// The rows of the store have these names and values.
+// Checks the names and values of all stored cookies.
 pub fn are_all(
     rt: &impl Abort,
     alloc: Global,
@@ -98,7 +98,7 @@ pub fn are_all(
     is_equal(rt, &rows.as_str(), &wanted, row);
 }
 
-// Each row's domain, path and name, parted by a space.
+// The domain, path and name of each cookie, with a space between them.
 pub fn listed(rt: &impl Abort, alloc: Global, rows: &[&Cookie<'static>]) -> String {
     let mut listed = String::new(alloc);
     for row in rows {
@@ -109,13 +109,13 @@ pub fn listed(rt: &impl Abort, alloc: Global, rows: &[&Cookie<'static>]) -> Stri
     listed
 }
 
-// The same of all rows of the store.
+// The same of all stored cookies.
 fn all_listed(rt: &impl Abort, alloc: Global, store: &CookieStore) -> String {
     let rows: Vec<&Cookie<'static>> = store.iter_any().collect(alloc).expect(rt, "memory");
     listed(rt, alloc, rows.as_slice())
 }
 
-// The rows of the store are listed so.
+// Checks the domain, path and name of all stored cookies.
 pub fn are_listed(
     rt: &impl Abort,
     alloc: Global,
@@ -127,7 +127,7 @@ pub fn are_listed(
     is_equal(rt, &listed.as_str(), &wanted, row);
 }
 
-// The rows that have not ended.
+// The unexpired cookies.
 pub fn unexpired<'a>(
     rt: &impl Abort,
     alloc: Global,
@@ -140,7 +140,7 @@ pub fn unexpired<'a>(
         .expect(rt, "memory")
 }
 
-// The value of a row, if there is one.
+// The value of a cookie, if there is one.
 pub fn value_of<'a>(row: Option<&'a Cookie<'static>>) -> Option<&'a str> {
     match row {
         Some(row) => Some(row.value()),

@@ -1,4 +1,4 @@
--- The day of a number on the calendar.
+-- The date and time of a number of nanoseconds.
 use Rattle.std.proofs.Common.{◌≡◌, ℕ, zero, suc, ◌+◌, ◌-◌, ◌*◌, ◌/◌, ◌%◌, ◌<◌, ◌≤◌, Bool, true, false, ◌≢◌, ⊎_elim, refl, sym, ap, ◌∙◌, arith, T, ℤ, pos, ◌+ℤ◌, ◌-ℤ◌, ◌*ℤ◌, ◌≤ℤ◌, ◌<ℤ◌, int_le, unsigned_abs}
 use Rattle.std.specs.Int.{int_div_euclid, int_rem_euclid}
 use Rattle.std.proofs.lemmas.Bool.{cases_lt}
@@ -10,7 +10,7 @@ use Rattle.jiff_core.proofs.CalendarLemmas.{days_from_civil-day_count, day_count
 use Rattle.jiff_core.proofs.DateLemmas.{civil}
 use Rattle.cookie_words.specs.Moments.{moment_of, moment_at, nanoseconds, greatest, year_of_day, month_of_day, moment_of_day}
 
--- a number that passes, where no greater one does
+-- the greatest number that passes the test
 greatest_is : (test : ℕ → Bool) (n k : ℕ) → k ≤ n → (1 ≤ k → test k ≡ true) → ((j : ℕ) → k < j → j ≤ n → test j ≡ false) → greatest test n ≡ k
 greatest_is test zero k within passes fails = omega arith
 greatest_is test (suc n) k within passes fails =
@@ -19,25 +19,25 @@ greatest_is test (suc n) k within passes fails =
     (λ (l : suc n ≤ k). let e : k ≡ suc n = omega arith in rw (sym e, passes (omega arith)) refl)
     (cases_lt k (suc n))
 
--- a test that holds
+-- a test that holds is true
 holds : (x : Bool) → T x → x ≡ true
 holds true t = refl
 holds false t = absurd t
 
--- a test that cannot hold
+-- a test that does not hold is false
 fails : (x : Bool) → x ≢ true → x ≡ false
 fails true h = absurd (h refl)
 fails false h = refl
 
--- where a number is at most another, the test says so
+-- int_le is true if a <= b
 le_yes : (a b : ℤ) → a ≤ℤ b → int_le a b ≡ true
 le_yes a b h = holds (int_le a b) h.le
 
--- and where it is greater
+-- int_le is false if a > b
 le_no : (a b : ℤ) → b <ℤ a → int_le a b ≡ false
 le_no a b h = fails (int_le a b) (λ e. omega (arith, signed_arith, le-true a b e))
 
--- the year of a day
+-- the year of a day is the year it was computed from
 year_back : (year : ℤ) (month day : ℕ) → IsCivilDate year month day → year_of_day (days_from_civil year month day) ≡ year
 year_back year month day h =
     let n = up year + 10000 - down year in
@@ -48,7 +48,7 @@ year_back year month day h =
     (λ k above within. le_no (days_from_civil (pos k -ℤ pos 10_000) 1 1) (days_from_civil year month day) (omega (arith, signed_arith, days_from_civil-day_count, day_count-lt_year year month day (pos k -ℤ pos 10_000) 1 1 h (omega arith) (omega (arith, signed_arith))))) in
     ap (λ k. pos k -ℤ pos 10_000) found ∙ sym place
 
--- the month of a day
+-- so is its month
 month_back : (year : ℤ) (month day : ℕ) → IsCivilDate year month day → month_of_day year (days_from_civil year month day) ≡ month
 month_back year month day h =
     greatest_is (λ m. int_le (days_from_civil year m 1) (days_from_civil year month day)) 12 month h.1.1
@@ -57,14 +57,14 @@ month_back year month day h =
     (λ m above within. le_no (days_from_civil year m 1) (days_from_civil year month day)
     (omega (arith, signed_arith, days_from_civil-day_count, day_count-lt_month year month day m 1 h (omega arith) above)))
 
--- the day in its month
+-- and its day of the month
 day_back : (year : ℤ) (month day : ℕ) → 1 ≤ day → unsigned_abs (days_from_civil year month day -ℤ days_from_civil year month 1) + 1 ≡ day
 day_back year month day h =
     let later : days_from_civil year month day -ℤ days_from_civil year month 1 ≡ pos (day - 1) =
     omega (arith, signed_arith, days_from_civil-day_count, day_count-day year month 1 day (omega arith) h) in
     ap (λ z. unsigned_abs z + 1) later ∙ omega arith
 
--- the moment of a day and a time
+-- so are date and time of a day and of nanoseconds since its start
 of_day_back : (year : ℤ) (month day hour minute second nanosecond : ℕ) → IsCivilDate year month day
     → minute < 60 → second < 60 → nanosecond < 1_000_000_000
     → moment_of_day (days_from_civil year month day) ((hour * 3600 + minute * 60 + second) * 1_000_000_000 + nanosecond)
@@ -77,16 +77,16 @@ of_day_back year month day hour minute second nanosecond date m s n =
     let rest : time % 1_000_000_000 ≡ nanosecond = omega arith in
     rw (year_back year month day date, month_back year month day date, day_back year month day date.2.0, hours, minutes, seconds, rest) refl
 
--- the whole days of a day and a time
+-- the day of a number of nanoseconds
 days_back : (day : ℤ) (time : ℕ) → time < 86_400_000_000_000 → int_div_euclid (day *ℤ pos 86_400_000_000_000 +ℤ pos time) (pos 86_400_000_000_000) ≡ day
 days_back day time h = omega (arith, signed_arith)
 
--- what is left of them
+-- the nanoseconds since the start of that day
 time_back : (day : ℤ) (time : ℕ) → time < 86_400_000_000_000
     → unsigned_abs (int_rem_euclid (day *ℤ pos 86_400_000_000_000 +ℤ pos time) (pos 86_400_000_000_000)) ≡ time
 time_back day time h = omega (arith, signed_arith)
 
--- the moment of its nanoseconds
+-- converting a time to nanoseconds and back gives that time
 fields_back : (year : ℤ) (month day hour minute second nanosecond : ℕ) → IsCivilDate year month day
     → hour < 24 → minute < 60 → second < 60 → nanosecond < 1_000_000_000
     → moment_at (nanoseconds (record { year = year; month = month; day = day; hour = hour; minute = minute; second = second; nanosecond = nanosecond }))
@@ -102,7 +102,7 @@ fields_back year month day hour minute second nanosecond date h m s n =
     ∙ ap (moment_of_day (days_from_civil year month day)) (time_back (days_from_civil year month day) time small)
     ∙ of_day_back year month day hour minute second nanosecond date m s n
 
--- a moment of the library is that of its nanoseconds
+-- the same for a `DateTime` of `jiff`
 pub moment_back : (d : DateTime) → moment_at (nanoseconds (moment_of d)) ≡ moment_of d
 moment_back d =
     fields_back d.date.year d.date.month d.date.day d.time.hour d.time.minute d.time.second d.time.subsec_nanosecond (civil d.date)

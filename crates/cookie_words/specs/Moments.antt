@@ -1,9 +1,10 @@
--- A moment is a date and a time of day in UTC, on the calendar that ISO 8601 extends to every year.
+-- A `Moment` is a time in UTC: a date of the ISO 8601 calendar, extended to every year, and a time of day.
 use Rattle.std.specs.Prelude.{ℕ, zero, suc, ◌+◌, ◌*◌, ◌/◌, ◌%◌, Bool, ◌&&◌, nat_le, ℤ, pos, ◌+ℤ◌, ◌-ℤ◌, ◌*ℤ◌, int_le, unsigned_abs, if◌then◌else◌}
 use Rattle.std.specs.Int.{int_div_euclid, int_rem_euclid}
 use Rattle.jiff_core.specs.Calendar.{days_in_month, days_from_civil}
 use Rattle.jiff_core.specs.declared.civil.datetime.DateTime.{DateTime}
 
+-- a date and a time of day in UTC
 pub record Moment : Type 0 where
   pub year : ℤ
   pub month : ℕ
@@ -13,7 +14,7 @@ pub record Moment : Type 0 where
   pub second : ℕ
   pub nanosecond : ℕ
 
--- what contracts see of a `DateTime` of `jiff`
+-- the fields of a `DateTime` of `jiff`, as contracts see them
 abbrev pub moment_of : DateTime → Moment
 moment_of d = record {
   year = d.date.year;
@@ -25,7 +26,7 @@ moment_of d = record {
   nanosecond = d.time.subsec_nanosecond;
 }
 
--- the moment of these fields, of a year from 0 on
+-- the time with these fields; the year is not negative
 abbrev pub moment_of_fields : ℕ → ℕ → ℕ → ℕ → ℕ → ℕ → ℕ → Moment
 moment_of_fields year month day hour minute second nanosecond = record {
   year = pos year;
@@ -41,27 +42,27 @@ moment_of_fields year month day hour minute second nanosecond = record {
 abbrev pub epoch : Moment
 epoch = record { year = pos 1970; month = 1; day = 1; hour = 0; minute = 0; second = 0; nanosecond = 0 }
 
--- the nanoseconds from the epoch to the moment, on a clock whose days have 24 hours
+-- the nanoseconds from the epoch to this time; each day has 24 hours
 unfoldable pub nanoseconds : Moment → ℤ
 nanoseconds m =
     days_from_civil m.year m.month m.day *ℤ pos 86_400_000_000_000
     +ℤ pos ((m.hour * 3600 + m.minute * 60 + m.second) * 1_000_000_000 + m.nanosecond)
 
--- the greatest number from 1 to n that passes the test, and 0 where none does
+-- the greatest number from 1 to n that passes the test, or 0 if none does
 abbrev pub greatest : (ℕ → Bool) → ℕ → ℕ
 greatest test zero = 0
 greatest test (suc n) = if test (suc n) then suc n else greatest test n
 
--- the last year from -9999 to 9999 that has begun by the day of this number
+-- the last year from -9999 to 9999 that has begun by this day; days are counted from the epoch
 abbrev pub year_of_day : ℤ → ℤ
 year_of_day day =
     pos (greatest (λ n. int_le (days_from_civil (pos n -ℤ pos 10_000) 1 1) day) 19_999) -ℤ pos 10_000
 
--- the last month of the year that has begun by then
+-- the last month of the year that has begun by this day
 abbrev pub month_of_day : ℤ → ℤ → ℕ
 month_of_day year day = greatest (λ month. int_le (days_from_civil year month 1) day) 12
 
--- the moment of a day and a time of so many nanoseconds
+-- the time of a day and of nanoseconds since its start
 abbrev pub moment_of_day : ℤ → ℕ → Moment
 moment_of_day day time =
     let year = year_of_day day in
@@ -76,13 +77,13 @@ moment_of_day day time =
       nanosecond = time % 1_000_000_000;
     }
 
--- the moment so many nanoseconds from the epoch, of the years -9999 to 9999
+-- the time that is this many nanoseconds from the epoch, in the years -9999 to 9999
 unfoldable pub moment_at : ℤ → Moment
 moment_at nanoseconds =
     moment_of_day (int_div_euclid nanoseconds (pos 86_400_000_000_000))
     (unsigned_abs (int_rem_euclid nanoseconds (pos 86_400_000_000_000)))
 
--- the number lies from low to high, both included
+-- low <= n <= high
 abbrev pub is_within : ℕ → ℕ → ℕ → Bool
 is_within low high n = nat_le low n && nat_le n high
 
@@ -90,6 +91,6 @@ is_within low high n = nat_le low n && nat_le n high
 abbrev pub is_day : ℤ → ℕ → ℕ → Bool
 is_day year month day = is_within 1 12 month && is_within 1 (days_in_month year month) day
 
--- a clock shows this time
+-- the time of day exists
 abbrev pub is_time : ℕ → ℕ → ℕ → Bool
 is_time hour minute second = nat_le hour 23 && nat_le minute 59 && nat_le second 59

@@ -1,10 +1,10 @@
-//! Dates and times of day of numbers that a text writes.
+//! Dates and times of day from numbers.
 ghost use Rattle.std.specs.Prelude.{◌≡◌, ◌<◌, pos, is_some, IfSome};
 ghost use Rattle.cookie_words.specs.Moments.{is_day, is_time};
 
 use jiff::civil::{Date, Time};
 
-/// The date, where the calendar has it.
+/// Returns the date, or `None` if the calendar has no such day.
 pub fn calendar_date(year: u32, month: u32, day: u32) -> Option<Date>
     requires year { year < 10_000 }
     requires month { month < 100 }
@@ -16,7 +16,7 @@ pub fn calendar_date(year: u32, month: u32, day: u32) -> Option<Date>
     Date::new(year as i16, month as i8, day as i8).ok()
 }
 
-/// The time, where a clock shows it.
+/// Returns the time of day, or `None` if the hour is above 23, or the minute or second above 59.
 pub fn clock_time(hour: u32, minute: u32, second: u32, nanosecond: u32) -> Option<Time>
     requires hour { hour < 100 }
     requires minute { minute < 100 }

@@ -1,10 +1,12 @@
-//! Numbers in digits.
+//! Decimal numbers.
 ghost use Rattle.std.specs.Prelude.{◌≡◌, ◌^◌, ◌<◌, ◌≤◌, length, Some, None, IfSome, if◌then◌else◌};
 ghost use Rattle.std.specs.Char.{is_ascii_digit};
 ghost use Rattle.std.specs.List.{list_all};
 ghost use Rattle.std.specs.Str.Parse.{digits_value};
 
-/// The number that these digits write; `None` where a byte is no digit.
+/// Returns the value of decimal digits, or `None` if a byte is not an ASCII digit.
+///
+/// The value of an empty slice is 0.
 #[tactic(auto, using(crate::proofs::Powers::power_below))]
 pub fn digits_value(digits: &[u8]) -> Option<u32>
     requires { length digits.now ≤ 9 }

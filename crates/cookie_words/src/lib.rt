@@ -1,4 +1,4 @@
-//! The words that several crates speak in: pieces of a text, numbers in digits, dates and moments. Most of them are
+//! What several crates share: splitting a string, decimal numbers, dates and times. Most of it is
 //! definitions, in `specs/`.
 #![tactic(auto)]
 
@@ -13,13 +13,14 @@ mod digits;
 pub use dates::{calendar_date, clock_time};
 pub use digits::digits_value;
 
-/// A moment of `jiff` is the one that lies its nanoseconds from the epoch.
+/// Converting a `DateTime` of `jiff` to nanoseconds since 1970-01-01T00:00:00 and back gives the
+/// same date and time.
 #[tactic(auto, using(crate::proofs::Calendar::moment_back))]
 pub fn moments_are_on_the_scale()
     ensures { (moment : DateTime) → moment_at (nanoseconds (moment_of moment)) ≡ moment_of moment }
 {}
 
-/// The text without one leading dot.
+/// Returns `text` without one leading dot, or all of it if it has none.
 pub fn without_dot(text: &str) -> &str
     ensures { result.now ≡ without_dot text.now }
 {

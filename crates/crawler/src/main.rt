@@ -1,5 +1,5 @@
-//! A crawler of many hosts: under a public suffix list that it reads from a file, so that no host sets cookies for all hosts
-//! below a public suffix.
+//! A crawler of many hosts. It reads a public suffix list from a file, so that no host sets domain
+//! cookies for a public suffix.
 #![tactic(auto)]
 
 use cookie_store::psl::{List, ListError};
@@ -12,7 +12,7 @@ use url::{ParseError, Url};
 /// The file of the public suffix list.
 const FILE: &str = "suffixes.dat";
 
-/// A page, and the Set-Cookie texts that come with it.
+/// The URL of a page, and the `Set-Cookie` header values of its response.
 type Page = (&'static str, &'static [&'static str]);
 
 /// The pages, in the order in which they are visited.
@@ -30,14 +30,14 @@ const PAGES: [Page; 5] = [
     ("http://blog.example.com/2026", &[]),
 ];
 
-/// Visits pages, and keeps what their hosts set.
+/// Visits pages, and stores their cookies.
 #[derive(Drop)]
 struct Crawler {
     store: CookieStore,
 }
 
 impl Crawler {
-    /// A crawler without cookies, under the list of the file.
+    /// Creates a crawler without cookies, under the public suffix list of the file.
     fn new(rt: &HostRuntime) -> Result<Crawler, Error> {
         let alloc = rt.alloc();
         let text = fs::read_to_string(rt, FILE).map_err(|_| Error::Io)?;
@@ -47,12 +47,13 @@ impl Crawler {
         })
     }
 
-    /// The value of the Cookie header of a request for the page.
+    /// Returns the value of the `Cookie` header of a request for the page.
     fn header(&self, page: &Url, now: DateTime) -> Result<String, Error> {
         Ok(self.store.cookie_header(page, now)?)
     }
 
-    /// Takes a Set-Cookie text of the page, and says what became of it.
+    /// Parses a `Set-Cookie` header value of the page and inserts the cookie. Returns `taken`, or
+    /// the text of the error.
     fn take(&mut self, text: &str, page: &Url, now: DateTime) -> Result<&'static str, Error> {
         match self.store.parse(text, page, now) {
             Ok(_) => Ok("taken"),
@@ -62,7 +63,7 @@ impl Crawler {
     }
 }
 
-/// The list of a text, or what is wrong with it.
+/// Parses a public suffix list. An error other than out of memory is returned as its text.
 fn list_of(alloc: Global, text: &str) -> Result<List, Error> {
     match List::from_text(alloc, text) {
         Ok(list) => Ok(list),
@@ -71,7 +72,7 @@ fn list_of(alloc: Global, text: &str) -> Result<List, Error> {
     }
 }
 
-/// The URL of a text, or what is wrong with it.
+/// Parses a URL. An error other than out of memory is returned as its text.
 fn url_of(alloc: Global, text: &str) -> Result<Url, Error> {
     match Url::parse(alloc, text) {
         Ok(url) => Ok(url),
@@ -80,7 +81,7 @@ fn url_of(alloc: Global, text: &str) -> Result<Url, Error> {
     }
 }
 
-/// Visits the pages one after the other.
+/// Visits the pages, one after the other.
 fn run(rt: &HostRuntime) -> Result<(), Error> {
     let (alloc, now) = (rt.alloc(), date(2026, 1, 1).at(0, 0, 0, 0));
     let mut crawler = Crawler::new(rt)?;

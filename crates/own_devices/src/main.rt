@@ -1,4 +1,4 @@
-//! Cookies are loaded from bytes at hand, and what saving them would write is counted.
+//! Loads cookies from bytes in memory, and counts the bytes that saving them writes.
 #![tactic(auto)]
 
 ghost use Rattle.std.specs.Prelude.{Some};
@@ -9,11 +9,14 @@ use jiff::civil::date;
 use std::alloc::Global;
 use url::{ParseError, Url};
 
-/// Bytes at hand, as a source.
+/// A source that reads bytes in memory.
 #[derive(Drop)]
 struct Bytes<'a> {
+    /// The bytes that are still to be read.
     left: &'a [u8],
+    /// How many more reads may succeed.
     reads: u64,
+    /// How many reads have failed.
     failures: u64,
 }
 
@@ -41,10 +44,11 @@ impl<'a> Source for Bytes<'a> {
     }
 }
 
-/// Counts the bytes that are written, and keeps none.
+/// A sink that counts the bytes written, and keeps none.
 #[derive(Drop)]
 struct Length {
     bytes: u64,
+    /// How many writes have failed.
     failures: u64,
 }
 
@@ -69,7 +73,7 @@ impl Sink for Length {
     }
 }
 
-/// The URL of a text, or what is wrong with it.
+/// Parses a URL. An error other than out of memory is returned as its text.
 fn url_of(alloc: Global, text: &str) -> Result<Url, Error> {
     match Url::parse(alloc, text) {
         Ok(url) => Ok(url),

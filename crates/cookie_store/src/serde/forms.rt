@@ -1,4 +1,4 @@
-//! Lists of saved cookies in the forms that a store is saved in, and loaded from.
+//! Saving and loading rows as one list, in JSON or RON.
 ghost use Rattle.std.specs.Prelude.{◌≡◌, ◌≢◌, ◌⊎◌, ◌-◌, ◌^◌, ◌<◌, [], map, filter, option_map, Err, IfErr, IfOk, IsOk, Ok, OnErr, OnOk};
 ghost use Rattle.std.specs.Io.KnownBytes.{IsAtEnd};
 ghost use Rattle.std.specs.List.{list_any};
@@ -29,16 +29,17 @@ use jiff::civil::DateTime;
 use serde_json::Value;
 use std::alloc::{AllocError, Global};
 
-/// What a list of saved cookies is written in.
+/// The format of a list of saved cookies.
 #[derive(Clone, Copy)]
 pub enum Form {
-    /// A tree of JSON, laid out a line for each item and member.
+    /// A JSON array, with a line for each item and member.
     Json,
     /// A list in RON.
     Ron,
 }
 
-/// Writes the list of the rows that are saved at the moment, or of all where there is none, and a line feed.
+/// Writes the list of the rows that are saved, and a line feed. Which rows are saved: see
+/// [`is_among`].
 pub(crate) fn save_rows<W: Sink>(
     form: Form,
     alloc: Global,
@@ -58,7 +59,8 @@ pub(crate) fn save_rows<W: Sink>(
     write_text(sink, &text)
 }
 
-// The list of those rows as text. An end before the year 0 is refused `Saved(Moment)`, and no memory is wanted before that.
+// The list of the rows that are saved. `Saved(Moment)` if one expires before the year 0, checked
+// before anything is allocated.
 fn text_of(form: Form, alloc: Global, rows: &Rows, now: &Option<DateTime>) -> Result<String, Error>
     ensures { SaysList form (filter (is_among (option_map moment_of now.now)) rows.now.rows) result }
 {
@@ -72,7 +74,7 @@ fn text_of(form: Form, alloc: Global, rows: &Rows, now: &Option<DateTime>) -> Re
     }
 }
 
-// Whether one of those rows ends before the year 0.
+// Whether one of the rows that are saved expires before the year 0.
 fn any_early(rows: &Rows, now: &Option<DateTime>) -> bool
     ensures { result ≡ list_any is_early (map saved_of (filter (is_among (option_map moment_of now.now)) rows.now.rows)) }
 {
@@ -84,7 +86,7 @@ fn any_early(rows: &Rows, now: &Option<DateTime>) -> bool
     false
 }
 
-// The saved forms of those rows.
+// The saved forms of the rows that are saved.
 fn saved_list(alloc: Global, rows: &Rows, now: &Option<DateTime>) -> Result<Vec<Saved>, AllocError>
     ensures saved { IfOk result (λ list. map saved_view list.items
         ≡ map saved_of (filter (is_among (option_map moment_of now.now)) rows.now.rows)) }
@@ -99,7 +101,7 @@ fn saved_list(alloc: Global, rows: &Rows, now: &Option<DateTime>) -> Result<Vec<
     Ok(list)
 }
 
-/// The rows of the cookies of the list that the source gives, all or those that have not ended.
+/// The rows of the list that the source has. Expired cookies are skipped unless `include_expired`.
 pub(crate) fn load_rows<R: Source>(
     form: Form,
     alloc: StoreAlloc,
@@ -120,7 +122,7 @@ pub(crate) fn load_rows<R: Source>(
     rows_of(alloc, cookies, include_expired, now)
 }
 
-// The cookies of a list as bytes.
+// The cookies of a list, or `NotUtf8`.
 fn cookies_of_bytes(form: Form, alloc: Global, bytes: &[u8]) -> Result<Vec<Cookie<'static>>, Error>
     ensures made { IfOk result (λ cookies. MakesCookies (MakesList form) bytes.now cookies.items) }
     ensures refused { IfErr result (λ error. RefusesText (MakesList form) error bytes.now) }
@@ -131,7 +133,7 @@ fn cookies_of_bytes(form: Form, alloc: Global, bytes: &[u8]) -> Result<Vec<Cooki
     }
 }
 
-// The cookies of a list as text.
+// The cookies of a list in this format.
 fn cookies_of_text(form: Form, alloc: Global, text: &str) -> Result<Vec<Cookie<'static>>, Error>
     ensures { MakesList form text.now (result_map_both (λ cookies. cookies.items) (λ error. error) result) }
 {
@@ -141,7 +143,8 @@ fn cookies_of_text(form: Form, alloc: Global, text: &str) -> Result<Vec<Cookie<'
     }
 }
 
-// The cookies of a list as JSON. `Saved(Json)` where it is none, and else what its tree is refused for.
+// The cookies of a JSON array: `Saved(Json)` if `text` is not JSON, else an error of
+// `cookies_of_tree`.
 fn cookies_of_json(alloc: Global, text: &str) -> Result<Vec<Cookie<'static>>, Error>
     ensures { MakesJsonList text.now (result_map_both (λ cookies. cookies.items) (λ error. error) result) }
 {
@@ -152,8 +155,8 @@ fn cookies_of_json(alloc: Global, text: &str) -> Result<Vec<Cookie<'static>>, Er
     }
 }
 
-// The cookies of a list in RON. `Saved(Ron)` where it is none, `Saved(Moment)` where the text of an end is no moment, and
-// `Cookie(Parse)` where that of a raw cookie is none.
+// The cookies of a list in RON: `Saved(Ron)` if `text` is not one, `Saved(Moment)` if an expiry is
+// not a valid time, `Cookie(Parse)` if a `Set-Cookie` value is not a cookie.
 fn cookies_of_ron(alloc: Global, text: &str) -> Result<Vec<Cookie<'static>>, Error>
     ensures { MakesRonList text.now (result_map_both (λ cookies. cookies.items) (λ error. error) result) }
 {
@@ -161,8 +164,8 @@ fn cookies_of_ron(alloc: Global, text: &str) -> Result<Vec<Cookie<'static>>, Err
     cookies_of_list(alloc, list)
 }
 
-// The cookies of a list's tree: `Saved(Shape)` or `Saved(Moment)` where it is none, and `Cookie(Parse)` where the text of a raw cookie
-// is none. A fault of the form is told whatever memory is left.
+// The cookies of a JSON value: `Saved(Shape)` or `Saved(Moment)` if it is not a list of saved
+// cookies, even if out of memory, or `Cookie(Parse)` if a `Set-Cookie` value is not a cookie.
 fn cookies_of_tree(alloc: Global, tree: &Value) -> Result<Vec<Cookie<'static>>, Error>
     ensures cookies { IfOk result (λ cookies. tree_cookies (view tree.now) ≡ Ok cookies.items) }
     ensures refused { IfErr result (λ error. (error ≡ Error.Memory) ⊎ (tree_cookies (view tree.now) ≡ Err error)) }
@@ -173,7 +176,7 @@ fn cookies_of_tree(alloc: Global, tree: &Value) -> Result<Vec<Cookie<'static>>, 
     cookies_of_list(alloc, list)
 }
 
-// The cookies of saved forms, or `Cookie(Parse)` where the text of one is no cookie.
+// The cookies of saved forms, or `Cookie(Parse)` if a `Set-Cookie` value is not a cookie.
 fn cookies_of_list(alloc: Global, list: Vec<Saved>) -> Result<Vec<Cookie<'static>>, Error>
     ensures cookies { IfOk result (λ cookies. cookies_of_saved (map saved_view list.items) ≡ Ok cookies.items) }
     ensures refused { IfErr result (λ error. (error ≡ Error.Memory)

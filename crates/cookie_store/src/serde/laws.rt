@@ -1,4 +1,6 @@
-//! Laws of what is saved and loaded, over the definitions alone.
+//! Laws of saving and loading: what is saved loads again.
+//!
+//! These functions do nothing. A function that calls one may use what its contract states.
 ghost use Rattle.std.specs.List.{All, AllZip};
 ghost use Rattle.std.specs.Prelude.{◌≡◌, ℕ, [], true, List, Ok, Some};
 ghost use Rattle.std.specs.Str.Lines.{lines};
@@ -21,8 +23,11 @@ use cookie_forms::laws::{
 use cookie_parts::laws::comes_back;
 use cookie_ron::laws::{answers_are_one, printed_reads_back};
 
-/// What is said of rows as a list in JSON, and a line feed behind it, is the text of those rows, each end cut to whole seconds, where
-/// the text of each raw cookie reads as that raw cookie. The saved form that each row is asked to have is what `to_saved` answers.
+/// Reading the JSON list of rows, with a line feed after it, gives those rows, with each expiry cut
+/// to whole seconds.
+///
+/// Of each row the string of its raw cookie must parse as that raw cookie, and it must have a saved
+/// form, as `to_saved` returns it (`ReadsBack`).
 pub fn list_comes_back()
     ensures { (rows : List Row) (text : String Global) → All ReadsBack rows → SaysJsonList rows (Ok text)
         → json_cookies (line_text text) ≡ Ok (cut_rows rows) }
@@ -33,7 +38,11 @@ pub fn list_comes_back()
     comes_back();
 }
 
-/// So a list of all rows of such a store, which was saved from its beginning, loads as those rows in the same order.
+/// Loading a saved JSON list of all rows of a store gives those rows, in the same order, with each
+/// expiry cut to whole seconds.
+///
+/// The list is saved to an empty sink, and loaded with expired cookies included. The rows are as in
+/// [`list_comes_back`].
 pub fn list_loads_again()
     ensures { (rows : List Row) (loaded : Kept) (written : List ℕ) (now : Moment) → are_rows rows ≡ true → All ReadsBack rows
         → WritesList SaysJsonList rows (Some []) (Some written) → BuildsFromList MakesJsonList (Some written) true now loaded
@@ -43,7 +52,10 @@ pub fn list_loads_again()
     cookie_laws::rebuilt();
 }
 
-/// The same of a list in RON.
+/// Reading the list in RON of rows, with a line feed after it, gives those rows, with each expiry
+/// cut to whole seconds.
+///
+/// The rows are as in [`list_comes_back`].
 pub fn ron_list_comes_back()
     ensures { (rows : List Row) (text : String Global) → All ReadsBack rows → SaysRonList rows (Ok text)
         → RonCookies (line_text text) (Ok (cut_rows rows)) }
@@ -52,8 +64,11 @@ pub fn ron_list_comes_back()
     comes_back();
 }
 
-/// So a list in RON of all rows of such a store, which was saved from its beginning, loads as those rows in the same order, as the
-/// list in JSON does.
+/// Loading a saved list in RON of all rows of a store gives those rows, in the same order, with
+/// each expiry cut to whole seconds.
+///
+/// The list is saved to an empty sink, and loaded with expired cookies included. The rows are as in
+/// [`list_comes_back`].
 pub fn ron_list_loads_again()
     ensures { (rows : List Row) (loaded : Kept) (written : List ℕ) (now : Moment) → are_rows rows ≡ true → All ReadsBack rows
         → WritesList SaysRonList rows (Some []) (Some written) → BuildsFromList MakesRonList (Some written) true now loaded
@@ -64,8 +79,10 @@ pub fn ron_list_loads_again()
     cookie_laws::rebuilt();
 }
 
-/// What is said of rows as lines of JSON is as many lines, and the cookies of these are those rows, each end cut to whole seconds, where
-/// the text of each raw cookie reads as that raw cookie.
+/// Reading the lines of JSON of rows gives one row for each line, with each expiry cut to whole
+/// seconds.
+///
+/// The rows are as in [`list_comes_back`].
 pub fn lines_come_back()
     ensures { (rows : List Row) (texts : List (String Global)) → All ReadsBack rows → AreTexts SaysJson rows texts
         → AllZip (λ line cookie. json_cookie line ≡ Ok cookie) (lines (lines_text texts)) (cut_rows rows) }
@@ -76,7 +93,11 @@ pub fn lines_come_back()
     comes_back();
 }
 
-/// So lines of all rows of such a store, which were saved from their beginning, load as those rows in the same order.
+/// Loading saved lines of JSON of all rows of a store gives those rows, in the same order, with
+/// each expiry cut to whole seconds.
+///
+/// The lines are saved to an empty sink, and loaded with expired cookies included. The rows are as
+/// in [`list_comes_back`].
 pub fn lines_load_again()
     ensures { (rows : List Row) (loaded : Kept) (written : List ℕ) (now : Moment) → are_rows rows ≡ true → All ReadsBack rows
         → WritesRows SaysJson rows (Some []) (Some written) → BuildsFrom MakesJson (Some written) true now loaded

@@ -1,4 +1,5 @@
-//! A store that is made of all lines of JSON, and tells the first that is refused.
+//! Loading a store from lines of JSON, with the number of the first line that is not a saved
+//! cookie.
 ghost use Rattle.std.specs.Prelude.{◌≡◌, ◌-◌, ◌^◌, ◌<◌, None, IfErr, IfOk, OnOk};
 ghost use Rattle.std.specs.Fmt.{WritesOnOk, WritesStyledOnOk};
 ghost use Rattle.std.specs.Io.KnownBytes.{IsAtEnd};
@@ -18,24 +19,24 @@ use itoa::Buffer;
 use jiff::civil::date;
 use std::fmt;
 
-/// Why lines of JSON made no store.
+/// The error of [`migrate_lines`].
 #[derive(Debug, PartialEq, Eq, Drop)]
 pub enum MigrateError {
-    /// The first line that is refused, counted from 1, and what it is refused for: `NotUtf8`, `Saved(Json)`, `Saved(Shape)`,
-    /// `Saved(Moment)` or `Cookie(Parse)`. A number past the greatest `u64` stays there.
+    /// The first line that is not a saved cookie. The error is `NotUtf8`, `Saved(Json)`,
+    /// `Saved(Shape)`, `Saved(Moment)` or `Cookie(Parse)`.
     Line {
-        /// Its number.
+        /// Its number, counted from 1; `u64::MAX` for all lines beyond that.
         line: u64,
-        /// What it is refused for.
+        /// Why it is not a saved cookie.
         error: Error,
     },
-    /// The reader failed.
+    /// A read failed.
     Io,
-    /// The allocator had no memory.
+    /// Out of memory.
     Memory,
 }
 
-/// A line where memory ran out is no refused one.
+/// Out of memory at a line becomes `Memory`, not `Line`.
 impl From<LoadFault> for MigrateError {
     ghost use Rattle.cookie_store.specs.Migration.{migrate_error_of};
 
@@ -73,7 +74,7 @@ impl fmt::Display for MigrateError {
 
 impl std::error::Error for MigrateError {}
 
-// Writes the number of a line, and the colon that stands before its error.
+// Writes `line`, the number and a colon.
 #[tactic(auto, using(crate::proofs::StyledTexts::styled_three))]
 fn write_line_number<W: fmt::Write>(f: &mut fmt::Formatter<W>, line: u64) -> fmt::Result
     ensures writes { WritesOnOk W.write_str_gives f.old result (line_number_text line) f.new }
@@ -84,9 +85,18 @@ fn write_line_number<W: fmt::Write>(f: &mut fmt::Formatter<W>, line: u64) -> fmt
     f.write_str(": ")
 }
 
-/// A store of the cookies of the reader's lines, as [`load_json_all`](crate::Bulk::load_json_all) makes it: each in the place of an
-/// earlier one of its domain, path and name, those that have ended too, without a public suffix list or a limit. Each can be saved:
-/// none ends before the year 0.
+/// Loads a store from lines of JSON, expired cookies included, and reports the first bad line.
+///
+/// As [`load_json_all`](crate::Bulk::load_json_all), but the error has the number of the line. A
+/// cookie replaces an earlier one with the same domain, path and name. The store has no public
+/// suffix list and no limit. Each of its cookies can be saved: none expires before the year 0.
+///
+/// # Errors
+///
+/// The first error stops loading.
+/// - `Line`: a line is not a saved cookie.
+/// - `Io`: a read failed.
+/// - `Memory`: out of memory.
 pub fn migrate_lines<A: Into<StoreAlloc>, R: Source>(
     alloc: A,
     reader: &mut R,
@@ -102,7 +112,7 @@ pub fn migrate_lines<A: Into<StoreAlloc>, R: Source>(
         (R.reads_left reader.old) (R.reads_left reader.new)) }
     ensures reads { ReadsEachOnce (R.remaining reader.old) (R.reads_left reader.old) (R.reads_left reader.new) }
 {
-    // All are taken, so the moment is not looked at.
+    // All cookies are loaded, so this time is not used.
     let now = date(1970, 1, 1).at(0, 0, 0, 0);
     let alloc = alloc.into();
     let rows = numbered_json_rows(alloc, reader, true, now)?;

@@ -1,4 +1,4 @@
-//! A store that is saved as a list in RON, and loaded from one.
+//! Saving and loading a store as one list in RON.
 ghost use Rattle.std.specs.Prelude.{◌≡◌, ◌-◌, ◌^◌, ◌<◌, false, true, None, IfErr, IfOk, OnOk};
 ghost use Rattle.std.specs.Io.KnownBytes.{IsAtEnd};
 ghost use Rattle.cookie_words.specs.Moments.{moment_of};
@@ -15,9 +15,16 @@ use cookie_parts::StoreResult;
 use cookie_rows::StoreAlloc;
 use jiff::civil::DateTime;
 
-/// Writes the cookies that have not ended by the moment and end at one as a list in RON, a field a line, in the store's order, and a
-/// line feed. Where one ends before the year 0 the list is refused `Saved(Moment)`, and no memory is wanted before that.
-/// Nothing is written then, nor where memory is wanting; `Io` where the writer failed.
+/// Writes the unexpired persistent cookies as a list in RON, in the store's order, and a line feed.
+///
+/// Each field has a line of its own.
+///
+/// # Errors
+///
+/// In the order in which they are checked:
+/// - `Saved(Moment)`: a cookie expires before the year 0. Nothing is written or allocated.
+/// - `Memory`: out of memory. Nothing is written.
+/// - `Io`: the writer failed. A beginning of the list may be written.
 pub fn save<W: Sink>(store: &CookieStore, writer: &mut W, now: DateTime) -> StoreResult<()>
     requires writable { W.failed writer.old < 2 ^ 64 - 1 }
     ensures whole { OnOk result (WritesList SaysRonList (saved_rows (moment_of now) store.now.rows)
@@ -29,7 +36,10 @@ pub fn save<W: Sink>(store: &CookieStore, writer: &mut W, now: DateTime) -> Stor
     save_rows(Form::Ron, store.alloc(), store.rows(), writer, Some(now))
 }
 
-/// The same of all cookies, also those that have ended and those that end with the session.
+/// Writes all cookies as a list in RON and a line feed, expired cookies and session cookies
+/// included.
+///
+/// The order, the layout and the errors are those of [`save`].
 pub fn save_incl_expired_and_nonpersistent<W: Sink>(
     store: &CookieStore,
     writer: &mut W,
@@ -43,10 +53,22 @@ pub fn save_incl_expired_and_nonpersistent<W: Sink>(
     save_rows(Form::Ron, store.alloc(), store.rows(), writer, None)
 }
 
-/// A store of the cookies of a list in RON, which is all that the reader gives, each in the place of an earlier one of its domain,
-/// path and name, without a public suffix list. Those that have ended are passed over. In this order: `Io` where the reader failed;
-/// `NotUtf8`; `Saved(Ron)` where the text is no list in RON; `Saved(Moment)` where the text of an end is no moment; `Cookie(Parse)` where
-/// that of a raw cookie is none. `Memory` where there was no room.
+/// Loads a store from a list in RON, skipping expired cookies.
+///
+/// The list is all that the reader has, in the form that [`save`] writes. A cookie replaces an
+/// earlier one with the same domain, path and name. The store has no public suffix list and no
+/// limit.
+///
+/// # Errors
+///
+/// In the order in which they are checked:
+/// - `Io`: the reader failed.
+/// - `NotUtf8`: the bytes are not UTF-8.
+/// - `Saved(Ron)`: they are not a list in RON.
+/// - `Saved(Moment)`: an expiry is not a valid time.
+/// - `Cookie(Parse)`: a `Set-Cookie` value is not a cookie.
+///
+/// `Memory`: out of memory.
 pub fn load<A: Into<StoreAlloc>, R: Source>(
     alloc: A,
     reader: &mut R,
@@ -67,7 +89,9 @@ pub fn load<A: Into<StoreAlloc>, R: Source>(
     Ok(CookieStore::of_rows(alloc.alloc, rows))
 }
 
-/// The same, where cookies that have ended are kept. The moment is not looked at.
+/// Loads a store from a list in RON, expired cookies included.
+///
+/// Otherwise as [`load`]. `now` is not used.
 pub fn load_all<A: Into<StoreAlloc>, R: Source>(
     alloc: A,
     reader: &mut R,

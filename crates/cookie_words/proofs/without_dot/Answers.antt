@@ -8,7 +8,7 @@ first_stays : (b : ℕ) (bs : List ℕ) (is_dot : Bool) → eqb b 46 ≡ is_dot 
 first_stays b bs true e other = absurd (other (eqb-true b 46 e))
 first_stays b bs false e other = refl
 
--- a text that does not begin with a dot keeps all its bytes
+-- a string that does not begin with a dot is unchanged
 without_dot-other : (bs : List ℕ) → ((rest : List ℕ) → bs ≢ 46 ∷ rest) → without_dot bs ≡ bs
 without_dot-other [] other = refl
 without_dot-other (b ∷ bs) other = first_stays b bs (eqb b 46) refl (λ e. other bs (ap (λ x. x ∷ bs) e))

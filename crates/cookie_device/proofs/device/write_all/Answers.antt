@@ -3,7 +3,7 @@ use Rattle.std.proofs.lemmas.List.{take_rest}
 use Rattle.std.proofs.KnownBytes.{Appends-trans}
 use Rattle.cookie_device.proofs.device.write_all.Goals as goal
 
--- what was taken goes from the front of the rest to the end of what was sent
+-- the bytes written move from the front of the rest to the end of the bytes sent
 taken_moves : (all sent rest : List ℕ) (n : ℕ) → all ≡ sent ++ rest → all ≡ (sent ++ take n rest) ++ take (length rest - n) (drop n rest)
 taken_moves all sent rest n split =
     split ∙ ap (λ l. sent ++ l) (sym (take-append-drop n rest)) ∙ sym (append_assoc sent (take n rest) (drop n rest))

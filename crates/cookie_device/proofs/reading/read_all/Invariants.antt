@@ -1,4 +1,4 @@
--- What was read is in the bytes, each read brought one, and none has failed.
+-- `bytes` holds what was read, each read returned at least one byte, and none has failed.
 use Rattle.std.proofs.Common.{◌≡◌, ◌+◌, ◌≤◌, length}
 use Rattle.std.specs.Io.KnownBytes.{Consumes}
 use Rattle.cookie_device.proofs.reading.read_all.Given as goal

@@ -1,4 +1,4 @@
--- The number of n digits times the power that fills up nine is below a second's nanoseconds.
+-- A fraction of n digits, scaled to nine digits, is less than a second in nanoseconds.
 use Rattle.std.proofs.Common.{length, arith}
 use Rattle.cookie_forms.proofs.Powers.{scaled_below}
 use Rattle.cookie_forms.proofs.moment.nanoseconds.Goals as goal

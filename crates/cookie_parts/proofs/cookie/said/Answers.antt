@@ -4,7 +4,7 @@ use Rattle.cookie_parts.specs.Cookie.{said_domain, said_end, said_path}
 use Rattle.cookie_parts.specs.Views.{domain_value, expiry_value}
 use Rattle.cookie_parts.proofs.cookie.said.Goals as goal
 
--- a value or else nothing
+-- `option_or` with `None` is the value itself
 or_nothing : {T : Type 0} (value : Option T) → option_or value None ≡ value
 or_nothing None = refl
 or_nothing (Some x) = refl

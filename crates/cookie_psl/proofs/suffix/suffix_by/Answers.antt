@@ -3,37 +3,37 @@ use Rattle.std.specs.Prelude.{◌==◌}
 use Rattle.cookie_psl.specs.Rules.{by_exception, by_rule, labels_of, last_labels, longest, prevailing, suffix_of, without_final_dot, Prevailing, RuleList, SuffixValue}
 use Rattle.cookie_psl.proofs.suffix.suffix_by.Goals as goal
 
--- the suffix that a prevailing rule gives
+-- the suffix given by a prevailing rule
 abbrev suffix_from : List ℕ → Prevailing → SuffixValue
 suffix_from domain found = record {
   text = last_labels found.count (without_final_dot domain) ++ drop (length (without_final_dot domain)) domain;
   is_known = found.is_known;
 }
 
--- nothing has no suffix
+-- an empty domain has no suffix
 suffix_of-empty : (rules : RuleList) (domain : List ℕ) → (length (without_final_dot domain) == 0) ≡ true → suffix_of rules domain ≡ None
 unfolding suffix_of
 suffix_of-empty rules domain h = rw h
 
--- all else has one
+-- each other domain has one
 suffix_of-some : (rules : RuleList) (domain : List ℕ) → (length (without_final_dot domain) == 0) ≡ false
     → suffix_of rules domain ≡ Some (suffix_from domain (prevailing rules (labels_of (without_final_dot domain))))
 unfolding suffix_of
 suffix_of-some rules domain h = rw h
 
--- suffixes of the same parts are the same
+-- suffixes with equal parts are equal
 same_parts : (a b : SuffixValue) → a.text ≡ b.text → a.is_known ≡ b.is_known → a ≡ b
 same_parts a b e h =
     let suffix : List ℕ → Bool → SuffixValue = λ text is_known. record { text = text; is_known = is_known } in
     ap (λ text. suffix text a.is_known) e ∙ ap (λ is_known. suffix b.text is_known) h
 
--- the greatest counts say which rule prevails
+-- the longest matching rules determine which one prevails
 prevailing_by : (rules : RuleList) (labels : List (List ℕ)) (exception rule : Option ℕ) → exception ≡ longest true rules labels
     → rule ≡ longest false rules labels → by_exception exception (by_rule rule) ≡ prevailing rules labels
 prevailing_by rules labels exception rule e h =
     ap (λ n. by_exception n (by_rule rule)) e ∙ ap (λ n. by_exception (longest true rules labels) (by_rule n)) h
 
--- the suffix of a domain that is not empty, by the greatest counts
+-- the suffix of a nonempty domain, from the longest matching rules
 suffix_of-found : (rules : RuleList) (domain : List ℕ) (exception rule : Option ℕ) (value : SuffixValue)
     → (length (without_final_dot domain) == 0) ≡ false
     → exception ≡ longest true rules (labels_of (without_final_dot domain))

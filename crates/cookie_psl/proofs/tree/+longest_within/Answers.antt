@@ -19,7 +19,7 @@ returns-in_default t c =
     ∙ ap (λ rules. longest c.args.is_exception rules []) (sym (rules_out c.args.node.now))
     ∙ ap (λ left. longest c.args.is_exception (tree_rules c.args.node.now) (labels_left left)) (sym c.in_default.is)
 
--- the count by the last label, where a tree below gives one
+-- the count from the last label, if there is one
 by_label : (t : ℕ) (c : goal.In-Some-greater t) →
     c.match-get.by_label ≡ longest_in c.args.is_exception (lookup (is_at (text_cmp c.cut_last.result.1.now)) (out-Node c.args.node.now).kids.entries) (labels_left c.cut_last.result.0)
 by_label t c = elim c.match-get.branch [
@@ -32,7 +32,7 @@ by_label t c = elim c.match-get.branch [
       ∙ ap (λ found. longest_in c.args.is_exception found (labels_left c.cut_last.result.0)) (sym (ap option_copied w.in-None.is) ∙ c.get.ensures.value)
 ]
 
--- the count by `*`, where a tree below gives one
+-- the count from `*`, if there is one
 by_any : (t : ℕ) (c : goal.In-Some-greater t) →
     c.match-node.by_any ≡ longest_in c.args.is_exception (option_map box_value (out-Node c.args.node.now).any) (labels_left c.cut_last.result.0)
 by_any t c = elim c.match-node.branch [

@@ -1,4 +1,4 @@
--- `jiff` compares the same nanoseconds.
+-- `jiff` compares times by their nanoseconds.
 use Rattle.std.proofs.Common.{◌≡◌, Option, Some, None, refl, option_map, ◌∙◌}
 use Rattle.std.specs.Option.{option_eq}
 use Rattle.jiff_core.specs.DateTime.{civil_nanos}

@@ -1,4 +1,4 @@
--- The count of the digits taken while there are any.
+-- The count of the leading digits.
 use Rattle.std.proofs.Common.{◌∙◌, rules, tests}
 use Rattle.std.specs.Char.{is_ascii_digit}
 use Rattle.std.proofs.lemmas.Iterator.{YieldsList-from_slice}

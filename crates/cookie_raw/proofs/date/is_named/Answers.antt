@@ -1,4 +1,4 @@
--- The front of a token up to three letters is what `take` gives.
+-- The first three bytes of a token are what `take` gives.
 use Rattle.std.proofs.Common.{◌≡◌, length, take}
 use Rattle.std.proofs.Math.Nat.{min_comm}
 use Rattle.std.proofs.lemmas.List.{take_min}

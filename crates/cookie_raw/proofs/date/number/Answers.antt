@@ -1,4 +1,4 @@
--- What is split off are the digits at the start, of which there are few.
+-- The bytes that are split off are the leading digits, of which there are few.
 use Rattle.std.proofs.Common.{◌≡◌, true, is_some, ap, sym, ◌∙◌, arith}
 use Rattle.std.specs.Char.{is_ascii_digit}
 use Rattle.std.specs.List.{list_all}

@@ -1,4 +1,4 @@
--- The loop goes over the tokens of the text, and each adds to the parts that were found.
+-- The loop visits the tokens of the date, and each adds to the parts found.
 use Rattle.std.proofs.Common.{not, ap, ◌∙◌, length, rules, tests}
 use Rattle.std.specs.Prelude.{◌==◌}
 use Rattle.std.proofs.lemmas.Iterator.Consumers.{YieldsList-at, YieldsList-end, YieldsList-from_filter}

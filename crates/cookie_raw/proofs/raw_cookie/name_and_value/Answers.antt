@@ -8,7 +8,7 @@ none_passes_after : (b rest : Bool) (n m : ℕ) → cond (not b) (1 + n) 0 ≡ s
 none_passes_after true rest n m e h = absurd (omega arith)
 none_passes_after false rest n m e h = h (omega arith)
 
--- where no place passes, no element does
+-- if no position passes, no element does
 none_passes : {X : Type 0} (p : X → Bool) (xs : List X) → position_or_len p xs ≡ length xs → list_any p xs ≡ false
 none_passes p [] e = refl
 none_passes p (x ∷ xs) e = none_passes_after (p x) (list_any p xs) (position_or_len p xs) (length xs) e (none_passes p xs)

@@ -2,7 +2,7 @@ use Rattle.std.proofs.Common.{◌≡◌, ℕ, List, ◌++◌, Bool, string_bytes
 use Rattle.cookie_ron.specs.Printed.{printed_path, quoted}
 use Rattle.cookie_ron.proofs.printing.push_cookie.Goals as goal
 
--- two texts, one after the other
+-- two strings appended, one after the other
 next : (old between new a b : List ℕ) → between ≡ old ++ a → new ≡ between ++ b → new ≡ old ++ (a ++ b)
 next old between new a b first second = second ∙ ap (λ text. text ++ b) first ∙ append_assoc old a b
 
@@ -12,7 +12,7 @@ line : (old after_name after_value new name value end : List ℕ) → after_name
 line old after_name after_value new name value end n v e =
     next old after_value new (name ++ value) end (next old after_name after_value name value n v) e
 
--- a text in quotes, at a text that equals it
+-- a quoted string, and one that equals it
 in_quotes : (old new given text : List ℕ) → new ≡ old ++ quoted given → given ≡ text → new ≡ old ++ quoted text
 in_quotes old new given text is same = is ∙ ap (λ text. old ++ quoted text) same
 

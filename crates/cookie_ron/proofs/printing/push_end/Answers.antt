@@ -5,7 +5,7 @@ use Rattle.std.specs.Prelude.{option_map}
 use Rattle.cookie_ron.specs.Printed.{printed_end}
 use Rattle.cookie_ron.proofs.printing.push_end.Goals as goal
 
--- the text of the end, at a text that equals it
+-- the string of an expiry, and one that equals it
 ended : (old new given text : List ℕ) (end : Option (List ℕ)) → new ≡ old ++ printed_end (Some given) → given ≡ text → Some text ≡ end
     → new ≡ old ++ printed_end end
 ended old new given text end is same whole = is ∙ ap (λ e. old ++ printed_end e) (ap Some same ∙ whole)

@@ -1,4 +1,4 @@
--- The cookies so far stand before those that are left.
+-- The cookies read so far precede those that are left.
 use Rattle.std.proofs.Common.{◌≡◌, suc, length, map}
 use Rattle.cookie_ron.specs.Entries.{entry_view}
 use Rattle.cookie_ron.specs.Reading.{onto, cookies_at}

@@ -1,4 +1,4 @@
--- The saved cookies so far stand before those of the entries that are left.
+-- The saved cookies so far precede those of the entries that are left.
 use Rattle.std.proofs.Common.{◌≡◌, ◌++◌, map, option_map}
 use Rattle.std.specs.Vec.Iter.{into_iter_items}
 use Rattle.cookie_forms.specs.Saved.{saved_view}

@@ -1,4 +1,4 @@
--- One more digit: the front stays digits, and the number is sixteen times the last one and the digit.
+-- One more digit: the digits so far are hexadecimal, and the value is sixteen times the last one plus the digit.
 use Rattle.std.proofs.Common.{◌≡◌, ◌+◌, ◌*◌, take, true, ap, subst, sym, ◌∙◌, arith}
 use Rattle.std.specs.Str.Parse.{digits_value}
 use Rattle.std.specs.Char.{is_ascii_hexdigit, digit_value}

@@ -1,4 +1,4 @@
--- The characters so far stand before those that are left.
+-- The characters read so far precede those that are left.
 use Rattle.std.proofs.Common.{◌≡◌, suc, length, string_bytes}
 use Rattle.cookie_ron.specs.Reading.{onto, chars_at}
 use Rattle.cookie_ron.proofs.texts.text_at.Given as goal

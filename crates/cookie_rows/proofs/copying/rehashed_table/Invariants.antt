@@ -1,4 +1,4 @@
--- The entries that were copied and those that are left are all entries.
+-- The copied and the remaining entries are all entries.
 use Rattle.std.proofs.Common.{◌≡◌, ◌++◌}
 use Rattle.cookie_rows.specs.Groups.{texts_of}
 use Rattle.cookie_rows.proofs.copying.rehashed_table.Given as goal

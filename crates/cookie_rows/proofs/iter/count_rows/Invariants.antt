@@ -1,4 +1,4 @@
--- The rows that were counted and those that are left are all rows.
+-- The counted and the remaining rows are all rows.
 use Rattle.std.proofs.Common.{◌≡◌, ◌+◌, length}
 use Rattle.cookie_rows.specs.Items.{all_groups, joined}
 use Rattle.cookie_rows.proofs.iter.count_rows.Given as goal

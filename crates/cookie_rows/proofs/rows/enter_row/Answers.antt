@@ -13,7 +13,7 @@ use Rattle.cookie_rows.proofs.rows.enter_row.Goals.{then-left, else-left}
 use Rattle.cookie_rows.proofs.rows.enter_row.Goals as goal
 
 module _ {A : Type 0} (d : List ℕ) where
-  -- the groups of the domain are what stands in the map
+  -- the groups of the domain are those in the map
   paths_some : (es : List (String A × ItemPaths)) (v : ItemPaths) → Some v ≡ lookup (at_text d) es → paths_of d (texts_of es) ≡ v
   paths_some [] v l = absurd (cc)
   paths_some (e ∷ es) v l = elim (cases_Bool (at_text d e.0)) [
@@ -31,7 +31,7 @@ module _ {A : Type 0} (d : List ℕ) where
 
 module _ {A : Type 0} (limit : ℕ) (now : Moment) (row : Row) (n : ℕ) (es : List (String A × ItemPaths)) (old new : ItemPaths)
     (there : Some old ≡ lookup (at_text (domain_text row.domain)) es) where
-  -- where a row was put into the groups of its domain and none left, it was put into all
+  -- if a row was put into the groups of its domain and none was evicted, it was put into all
   enters_room : (left : Bool) → EntersPaths limit now row n old new left → left ≡ false
       → EntersItems limit now row n (texts_of es) (texts_of (set_value (at_text (domain_text row.domain)) es new))
   enters_room left enters none = elim enters [
@@ -42,7 +42,7 @@ module _ {A : Type 0} (limit : ℕ) (now : Moment) (row : Row) (n : ℕ) (es : L
     | inr e ↦ let both : true ≡ false = sym e.4 ∙ none in absurd (cc)
   ]
 
-  -- where rows left, its domain is then the last if it stands alone
+  -- if rows were evicted, its domain is then moved to the end if the row is alone in it
   enters_left : (left : Bool) → EntersPaths limit now row n old new left → left ≡ true
       → EntersItems limit now row n (texts_of es) (settled is_single_paths (domain_text row.domain) (texts_of (set_value (at_text (domain_text row.domain)) es new)))
   enters_left left enters some = elim enters [

@@ -7,7 +7,7 @@ use Rattle.cookie_rows.specs.Items.{Item, ItemGroups, bare}
 use Rattle.cookie_rows.proofs.Places.{bare_rows}
 use Rattle.cookie_rows.proofs.search.row_at.Goals as goal
 
--- the row of what stands at a spot
+-- the row at a position
 row_there : (gs : ItemGroups) (d p n : ℕ)
     → option_map (λ (item : Item). item.row) (slice_get (under p (under d gs)) n) ≡ slice_get (under p (under d (bare gs))) n
 row_there gs d p n = sym (slice_get-map (λ (item : Item). item.row) (under p (under d gs)) n) ∙ ap (λ rows. slice_get rows n) (bare_rows d p gs)

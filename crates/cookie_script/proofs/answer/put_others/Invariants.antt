@@ -1,4 +1,4 @@
--- No call has failed, and of what was gathered and the cookies so far all but what is gathered now went out.
+-- No call has failed, and what was buffered before and the cookies so far were written, except what is buffered now.
 use Rattle.std.proofs.Common.{◌++◌, Ok, codes, flat_map, take}
 use Rattle.cookie_device.specs.declared.device.DeviceFailed.{DeviceFailed}
 use Rattle.cookie_script.specs.Answering.{Gathers}

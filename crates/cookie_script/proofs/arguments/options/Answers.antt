@@ -4,14 +4,14 @@ use Rattle.cookie_script.specs.Arguments.{options_of}
 use Rattle.cookie_script.proofs.arguments.options.Goals.{in_default-via-then-words-lt4, in_default-via-else-words-lt4+else-words-lt5}
 use Rattle.cookie_script.proofs.arguments.options.Goals as goal
 
--- what a test of two numbers tells
+-- a comparison that returns true
 below_test : (n m : ℕ) → ltb n m ≡ true → n < m
 below_test n m t = grind (arith, nat_tests, t)
 
 from_test : (n m : ℕ) → ltb n m ≡ false → m ≤ n
 from_test n m t = grind (arith, nat_tests, t)
 
--- other numbers of words ask for nothing
+-- any other number of arguments is invalid
 other_words : {A : Type 0} (ws : List (String A)) → 3 ≤ length ws → length ws ≢ 4 → None ≡ options_of (map string_bytes ws)
 other_words [] more four = absurd (omega arith)
 other_words (a ∷ []) more four = absurd (omega arith)

@@ -5,12 +5,12 @@ use Rattle.cookie_script.specs.Commands.{first_word, is_space}
 use Rattle.cookie_script.specs.CommandViews.{words_view}
 use Rattle.cookie_script.proofs.command.first_word.Goals as goal
 
--- where no place passes, no element does
+-- if no position passes the test, no element does
 none_passes : {X : Type 0} (p : X → Bool) (xs : List X) → position_or_len p xs ≡ length xs → list_any p xs ≡ false
 none_passes p [] e = refl
 none_passes p (x ∷ xs) e = grind (arith, none_passes p xs)
 
--- where a place passes, an element does
+-- if a position passes the test, an element does
 some_passes : {X : Type 0} (p : X → Bool) (xs : List X) → position_or_len p xs < length xs → list_any p xs ≡ true
 some_passes p [] e = absurd (omega arith)
 some_passes p (x ∷ xs) e = grind (arith, some_passes p xs)

@@ -5,18 +5,18 @@ use Rattle.std.proofs.lemmas.Str.{IsUtf8-from_is_utf8, is_utf8-from_IsUtf8}
 use Rattle.cookie_script.specs.Commands.{command_of, first_word, may_want, text_command, verb_may_want}
 use Rattle.cookie_script.proofs.command.read_command.Goals as goal
 
--- bytes that are no text are a bad line
+-- bytes that are not UTF-8 are a bad line
 not_text : (line : List ℕ) → (IsUtf8 line → ⊥) → None ≡ command_of line
 unfolding command_of
 not_text line no_text = rw (false_from_ne_true _ (λ valid. no_text (IsUtf8-from_is_utf8 line valid)))
 
--- the command of a text is that of its first word and the rest
+-- the command of a string is that of its first word and the rest
 command_of_words : (line text : List ℕ) (words : Option (List ℕ × List ℕ)) → text ≡ line → IsUtf8 line → words ≡ first_word text
     → text_command text words ≡ command_of line
 unfolding command_of
 command_of_words line text words same valid cut = rw (is_utf8-from_IsUtf8 line valid, ← same, ← cut)
 
--- a text may want memory where its first word and the rest may
+-- a string may allocate if its first word and the rest may
 may_want_of_words : (line text : List ℕ) (words : List ℕ × List ℕ) → text ≡ line → IsUtf8 line → Some words ≡ first_word text
     → may_want line ≡ verb_may_want words
 unfolding may_want

@@ -3,7 +3,7 @@ use Rattle.cookie_script.specs.Commands.{verb_command, verb_may_want}
 use Rattle.cookie_script.proofs.OtherWords.{differ}
 use Rattle.cookie_script.proofs.command.verb_command.Goals as goal
 
--- any other word is the verb of no command
+-- any other verb is no command
 no_command : (verb rest : List ℕ) → (verb ≡ codes "now" → ⊥) → (verb ≡ codes "set" → ⊥) → (verb ≡ codes "get" → ⊥)
     → (verb ≡ codes "remove" → ⊥) → None ≡ verb_command (verb, rest)
 unfolding verb_command

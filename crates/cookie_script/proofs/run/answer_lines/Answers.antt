@@ -15,14 +15,14 @@ passed_on : {T : Type 0} (error fault : RunFault) (result : Result T RunFault) �
 passed_on error fault (Ok value) told is = absurd told
 passed_on error fault (Err f) told is = let same : f ≡ fault = cc in sym told ∙ same
 
--- what reads nothing has no failed read
+-- a call that does not read has no failed read
 no_read : {T : Type 0} (result : Result T RunFault) (writes writes' : ℕ) → CountsFault result 0 0 writes writes' → result ≡ Err Read → ⊥
 no_read (Ok value) writes writes' count failed = cc
 no_read (Err Read) writes writes' count failed = let more : 0 ≡ 0 + 1 = count.0 in omega arith
 no_read (Err Write) writes writes' count failed = cc
 no_read (Err Memory) writes writes' count failed = cc
 
--- what follows from what holds where all went well holds there
+-- a consequence of what holds on success
 on_ok : {T E P Q : Type 0} (result : Result T E) → (P → Q) → OnOk result P → OnOk result Q
 on_ok (Ok value) follows p = follows p
 on_ok (Err error) follows p = tt

@@ -1,4 +1,5 @@
--- No call has failed, each read brought a byte, and of the output for the input so much was put as the lines passed say.
+-- No call has failed, each read returned a byte, and of the output, that of the consumed lines was buffered or
+-- written.
 use Rattle.std.proofs.Common.{◌≡◌, ◌+◌, ◌*◌, ◌≤◌, ℕ, List, Some, IfSome, length}
 use Rattle.cookie_script.specs.Script.{empty}
 use Rattle.cookie_script.proofs.Progress.{Progress}
@@ -14,6 +15,6 @@ invariant-lines g l = record {
       × (g.R.Source.reads_left l.initial.source + length left ≤ g.R.Source.reads_left l.source + length input));
 }
 
--- a read brings at most 4,096 bytes
+-- a read returns at most 4,096 bytes
 abbrev pub decreases-lines : goal.decreases-lines
 decreases-lines g l = 4097 * g.R.Source.reads_left l.source + length l.input

@@ -10,12 +10,12 @@ use Rattle.cookie_script.specs.Script.{empty}
 use Rattle.cookie_script.proofs.Answered.{first_appended, first_part}
 use Rattle.cookie_script.proofs.run.run.Goals as goal
 
--- what holds of each value holds of one that there may be
+-- what holds for each value holds for an optional one
 if_any : {X : Type 0} (P : X → Type 0) (o : Option X) → ((x : X) → P x) → IfSome o P
 if_any P None each = tt
 if_any P (Some x) each = each x
 
--- before the first read no line was read, and none is answered
+-- before the first read no line was read, and none was run
 none_read : (store : Contents) (rest contents : Option (List ℕ)) → IfSome rest (λ input.
     AnswersFirst store input (λ first more. AreRead input rest first ⊎ NextMayWant more) (Appends contents contents))
 none_read store None contents = tt

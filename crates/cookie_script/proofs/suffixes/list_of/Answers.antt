@@ -15,21 +15,21 @@ use Rattle.cookie_script.specs.declared.fault.MainFault.{MainFault}
 use Rattle.cookie_script.specs.declared.fault.MainFault.TheVariants.{CannotReadList, BadRule}
 use Rattle.cookie_script.proofs.suffixes.list_of.Goals as goal
 
--- bytes that are no text are no list
+-- bytes that are not UTF-8 are no list
 not_text : (bytes : List ℕ) → (IsUtf8 bytes → ⊥) → list_at bytes ≡ Err CannotReadList
 unfolding list_at
 not_text bytes no_text = rw (false_from_ne_true _ (λ valid. no_text (IsUtf8-from_is_utf8 bytes valid)))
 
--- a text has the rules that it says, or a bad one
+-- a string has its rules, or a malformed line
 of_text : (bytes text : List ℕ) → text ≡ bytes → IsUtf8 bytes → list_at bytes ≡ result_map_both (λ rules. rules) BadRule (rules_from text)
 unfolding list_at
 of_text bytes text same valid = rw (is_utf8-from_IsUtf8 bytes valid, same)
 
--- a text is UTF-8
+-- a string is UTF-8
 no_other : (bytes : List ℕ) → IsUtf8 bytes → is_utf8 bytes ≡ false → ⊥
 no_other bytes valid other = let is : is_utf8 bytes ≡ true = is_utf8-from_IsUtf8 bytes valid in cc
 
--- what was read of a text is its list, or the fault that its error is
+-- what was parsed is the list, or the error of the program for its error
 of_read : (read : Result Declared.List.List ListError) (rules : Result RuleList ℕ) (answer : Result RuleList MainFault)
     → Psl.GivesList read rules → answer ≡ result_map_both (λ rules. rules) BadRule rules → GivesList (result_map_both (λ list. list) list_fault read) answer
 of_read (Ok list) rules answer (given, is, same) answered = (given, answered ∙ ap (result_map_both (λ rules. rules) BadRule) is, same)

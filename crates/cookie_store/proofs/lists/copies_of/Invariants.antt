@@ -1,4 +1,4 @@
--- The rows so far that are among them were copied.
+-- The rows so far that are saved were copied.
 use Rattle.std.proofs.Common.{◌≡◌, ◌++◌, filter, map, option_map}
 use Rattle.cookie_words.specs.Moments.{moment_of}
 use Rattle.cookie_store.specs.Saving.{is_among}

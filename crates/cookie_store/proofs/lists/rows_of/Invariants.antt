@@ -1,4 +1,4 @@
--- The rows are built of the cookies so far.
+-- The rows are built from the cookies so far.
 use Rattle.std.proofs.Common.{◌≡◌, ◌++◌}
 use Rattle.std.specs.Vec.Iter.{into_iter_items}
 use Rattle.cookie_words.specs.Moments.{moment_of}

@@ -1,4 +1,4 @@
--- No read has failed, each brought a byte, and of the lines passed, which are counted, cookies are made, from which the rows are built.
+-- No read has failed and each gave at least a byte; the rows are built from the cookies of the lines passed, which are counted.
 use Rattle.std.proofs.Common.{◌≡◌, ◌+◌, ◌*◌, ◌≤◌, ℕ, List, Some, IfSome, length}
 use Rattle.std.specs.Fn.{FnReturnsAt}
 use Rattle.cookie_words.specs.Moments.{moment_of}
@@ -19,6 +19,6 @@ invariant-lines g l = record {
       × (g.R.Source.reads_left l.initial.source + length left ≤ g.R.Source.reads_left l.source + length input));
 }
 
--- a read brings at most 4,096 bytes
+-- a read gives at most 4,096 bytes
 abbrev pub decreases-lines : goal.decreases-lines
 decreases-lines g l = 4097 * g.R.Source.reads_left l.source + length l.input

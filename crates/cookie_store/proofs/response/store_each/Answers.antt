@@ -15,12 +15,12 @@ use Rattle.cookie_store.specs.Responses.{Takes}
 use Rattle.cookie_store.proofs.EarlyRefusals.{want_is_not_early}
 use Rattle.cookie_store.proofs.response.store_each.Goals as goal
 
--- what holds unless memory ran out holds where it did not
+-- what holds unless out of memory holds if it is not
 told : (P : Type 0) (result : Result StoreAction CookieError) → UnlessMemory result P → result ≢ Err Memory → P
 told P (Ok action) holds some = holds
 told P (Err refusal) holds some = grind (arith, holds, some)
 
--- the store takes one raw cookie more
+-- the store after one more raw cookie
 taken_more : (url : Parts) (now : Moment) (raws : List Raw) (raw : Raw) (old mid new : Contents) → Takes url now raws old mid
     → new ≡ (received mid (cookie_of raw url now) url now).store
     → Takes url now (raws ++ raw ∷ []) old new

@@ -1,4 +1,4 @@
--- The store took all items so far.
+-- The store is the one after inserting all items so far.
 use Rattle.cookie_words.specs.Moments.{moment_of}
 use Rattle.cookie_store.specs.Responses.{Takes}
 use Rattle.cookie_store.proofs.response.store_each.Given as goal

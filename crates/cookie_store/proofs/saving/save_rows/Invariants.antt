@@ -1,4 +1,4 @@
--- A line was written for each row so far that is saved, and no call has failed.
+-- A line was written for each row so far that is saved, and no write has failed.
 use Rattle.std.proofs.Common.{◌≡◌, ◌++◌, filter, map, option_map}
 use Rattle.std.specs.Fn.{FnReturnsAt}
 use Rattle.cookie_words.specs.Moments.{moment_of}

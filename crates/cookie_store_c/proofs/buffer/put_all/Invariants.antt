@@ -1,4 +1,4 @@
--- What was put stands in the buffer, and what is left fits behind it.
+-- The strings so far stand in the buffer, and the others fit after them.
 use Rattle.std.proofs.Common.{◌≡◌, ◌+◌, ◌++◌, length, take, List, ℕ}
 use Rattle.cookie_device.specs.Texts.{joined}
 use Rattle.cookie_store_c.specs.Buffers.{Stands}

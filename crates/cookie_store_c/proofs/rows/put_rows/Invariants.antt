@@ -1,4 +1,4 @@
--- What is told of the rows that came stands at the front.
+-- The rows so far stand at the front.
 use Rattle.std.proofs.Common.{◌≡◌, ◌++◌, length, map}
 use Rattle.cookie_store_c.specs.Buffers.{at_front}
 use Rattle.cookie_store_c.specs.Rows.{row_told}

@@ -1,4 +1,4 @@
--- The texts of the rows that came stand at the front.
+-- The strings of the rows so far stand at the front.
 use Rattle.std.proofs.Common.{◌≡◌, ◌++◌, flat_map, map}
 use Rattle.cookie_store_c.specs.Buffers.{Stands}
 use Rattle.cookie_store_c.specs.Rows.{row_texts}

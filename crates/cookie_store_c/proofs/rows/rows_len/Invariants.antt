@@ -1,4 +1,4 @@
--- The number of the rows that came.
+-- The number of the rows so far.
 use Rattle.std.proofs.Common.{◌≡◌, ◌++◌, length, map}
 use Rattle.cookie_store_c.proofs.rows.rows_len.Given as goal
 

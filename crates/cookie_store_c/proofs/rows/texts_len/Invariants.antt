@@ -1,4 +1,4 @@
--- The length of the texts of the rows that came.
+-- The length of the strings of the rows so far.
 use Rattle.std.proofs.Common.{◌≡◌, ◌++◌, flat_map, length, map}
 use Rattle.cookie_store_c.specs.Rows.{row_texts}
 use Rattle.cookie_store_c.proofs.rows.texts_len.Given as goal

@@ -1,4 +1,4 @@
--- No call has failed, and of what was gathered and the texts so far all but what is gathered now went out.
+-- No call has failed; of the buffer and the strings so far, all but what is in the buffer now was written.
 use Rattle.std.proofs.Common.{◌≡◌, ◌+◌, ◌≤◌, ◌++◌, length, take}
 use Rattle.cookie_device.specs.Device.{Sends}
 use Rattle.cookie_device.specs.Texts.{joined}

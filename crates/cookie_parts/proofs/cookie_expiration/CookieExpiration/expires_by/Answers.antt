@@ -1,4 +1,4 @@
--- `jiff` compares the same nanoseconds.
+-- `jiff` compares times by the same nanoseconds.
 use Rattle.std.proofs.Common.{rules, sym, ◌∙◌}
 use Rattle.jiff_core.specs.DateTime.{civil_nanos}
 use Rattle.cookie_words.specs.Moments.{moment_of, nanoseconds}

@@ -17,7 +17,7 @@ loop-piece-preserved c = record {
   expires = rw (c.take.ensures.expires, last_given-push expires_from c.loop-piece.yielded c.in-Some-piece.piece, c.loop-piece.invariant.expires);
 }
 
--- the pieces that were walked are the attributes
+-- the pieces that the loop visited are the attributes
 walked : (c : goal.In-None) → map (λ x. x.now) c.loop-piece.yielded ≡ attributes_after (option_copied c.args.rest)
 walked c =
     let road = yields_pieces c.in-Some.text.now c.split-piece-items.ensures.text c.split-piece-items.ensures.has_more c.split-piece-items.ensures.pattern c.into_iter-piece-iterator.ensures.into_iter_gives in

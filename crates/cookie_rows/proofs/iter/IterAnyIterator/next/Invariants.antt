@@ -1,4 +1,4 @@
--- The rows that are left stay the same.
+-- The remaining rows are unchanged.
 use Rattle.std.proofs.Common.{◌≡◌, ◌++◌, length}
 use Rattle.std.specs.Slice.Iter.{iter_rest}
 use Rattle.cookie_rows.specs.Items.{joined}

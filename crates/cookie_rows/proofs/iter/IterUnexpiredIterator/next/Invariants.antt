@@ -1,4 +1,4 @@
--- Only rows that have ended were passed.
+-- Only expired rows were skipped.
 use Rattle.std.proofs.Common.{◌≡◌, length}
 use Rattle.cookie_words.specs.Moments.{moment_of}
 use Rattle.cookie_laws.specs.Rows.{live_rows}

@@ -9,23 +9,23 @@ use Rattle.cookie_words.specs.Moments.{moment_of}
 use Rattle.cookie_script.specs.Script.{command_turn, line_text, reply_text}
 use Rattle.cookie_script.proofs.jar.Jar.obey.Goals as goal
 
--- what follows from what holds where there is an error holds there
+-- a consequence of what holds if there is an error
 on_err : {T E P Q : Type 0} (result : Result T E) → (P → Q) → OnErr result P → OnErr result Q
 on_err (Ok value) follows p = tt
 on_err (Err error) follows p = follows p
 
--- what follows from what is known of a value holds where there is one
+-- a consequence of what holds if there is a value
 on_ok : {T E P Q : Type 0} (told : T) (result : Result T E) → (P → Q) → IfOk result (λ value. (value ≡ told) × P) → OnOk result Q
 on_ok told (Ok value) follows p = follows p.1
 on_ok told (Err error) follows p = tt
 
--- the same of the value
+-- the same for a property of the value
 if_ok : {T E P : Type 0} (Q : T → Type 0) (told : T) (result : Result T E) → (P → Q told)
     → IfOk result (λ value. (value ≡ told) × P) → IfOk result Q
 if_ok Q told (Ok value) follows p = subst Q (sym p.0) (follows p.1)
 if_ok Q told (Err error) follows p = tt
 
--- what holds unless memory ran out
+-- a fact that holds unless memory ran out
 unless : {P : Type 0} (result : Result StoreAction CookieError) → UnlessMemory result P → result ≢ Err Memory → P
 unless (Ok action) p never = p
 unless (Err refusal) p never = grind (arith, p, never)

@@ -1,4 +1,4 @@
--- The replies and the store are those of the calls so far, and there is room for the other replies.
+-- The replies and the store are those of the calls so far, and there is room for the remaining replies.
 use Rattle.std.proofs.Common.{◌≡◌, ◌++◌, ◌≤◌, length, map}
 use Rattle.std.specs.Vec.{vec_capacity, vec_len}
 use Rattle.std.specs.Vec.Iter.{into_iter_items}

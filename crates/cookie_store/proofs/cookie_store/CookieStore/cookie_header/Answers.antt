@@ -3,7 +3,7 @@ use Rattle.std.proofs.lemmas.List.{length-map, nil_from_length}
 use Rattle.std.proofs.lemmas.List.Sorted.{length_permutation}
 use Rattle.cookie_store.proofs.cookie_store.CookieStore.cookie_header.Goals as goal
 
--- what follows after an error
+-- a consequence of what holds on an error
 on_err_map : {T E P Q : Type 0} (r : Result T E) → (P → Q) → OnErr r P → OnErr r Q
 on_err_map (Ok x) f h = tt
 on_err_map (Err e) f h = f h

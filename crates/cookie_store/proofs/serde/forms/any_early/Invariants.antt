@@ -1,4 +1,4 @@
--- None of the rows so far that are among them ends early.
+-- No row so far that is saved expires before the year 0.
 use Rattle.std.proofs.Common.{◌≡◌, ◌++◌, false, filter, map, option_map}
 use Rattle.std.specs.List.{list_any}
 use Rattle.cookie_words.specs.Moments.{moment_of}

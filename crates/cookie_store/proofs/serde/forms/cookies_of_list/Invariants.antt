@@ -1,4 +1,4 @@
--- The cookies so far stand before those of the forms that are left.
+-- All cookies are those so far, and then those of the remaining saved forms.
 use Rattle.std.proofs.Common.{◌≡◌, ◌++◌, map}
 use Rattle.std.specs.Result.{result_map_both}
 use Rattle.std.specs.Vec.Iter.{into_iter_items}

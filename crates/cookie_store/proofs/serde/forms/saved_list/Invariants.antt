@@ -1,4 +1,4 @@
--- The list has the saved forms of the rows so far that are among them.
+-- The list has the saved forms of the rows so far that are saved.
 use Rattle.std.proofs.Common.{◌≡◌, ◌++◌, filter, map, option_map}
 use Rattle.cookie_words.specs.Moments.{moment_of}
 use Rattle.cookie_forms.specs.Saved.{saved_view}

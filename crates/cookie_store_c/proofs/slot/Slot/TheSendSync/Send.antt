@@ -1,4 +1,4 @@
--- What a slot owns says the same to every thread, as a boxed store does.
+-- What a slot owns means the same in every thread, as a boxed store does.
 use mir.Raw.{raw as bare}
 use base.Shift.{Keyless}
 use denote.Memory.{lone}

@@ -1,4 +1,4 @@
--- `empty` makes a slot of the null pointer, where nothing lies.
+-- `empty` makes a slot of the null pointer, which owns nothing.
 use Rattle.std.proofs.Common.{[], ◌∷◌, refl, lit<, None}
 use Rattle.std.proofs.raw_atomic.Walks.{proved}
 use base.Fml.{ftrue}

@@ -1,4 +1,4 @@
--- `into_box` takes the pointer out of the slot, and hands `from_raw` what lies there.
+-- `into_box` takes the pointer out of the slot, and passes what it owns to `from_raw`.
 use Rattle.std.proofs.Common.{◌≡◌, List, [], ◌∷◌, refl, sym, ap, ◌∙◌, Option, Some, IsSome}
 use mir.Val.{Val, vptr}
 use base.Fraction.{full_share}
