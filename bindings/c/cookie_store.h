@@ -181,8 +181,9 @@ typedef struct cookie_store {
  * handle.
  *
  * `key` is the hash key of the store's hash tables. Only its first 16 bytes count, and a shorter
- * key is filled up with zeros. The key changes no result. With a random key no server can choose
- * names that make the store slow; a program that trusts its servers may pass an empty key ("", 0).
+ * key is filled up with zeros. The key changes no result. A random key keeps servers that do not
+ * know it from choosing names that make the store slow; a program that trusts its servers may pass an
+ * empty key ("", 0).
  *
  * Errors: HAS_STORE.
  * May return NO_MEMORY instead of OK. */

@@ -225,7 +225,7 @@ def _bytes(text: Text) -> bytes:
     return text if isinstance(text, bytes) else text.encode('utf-8', 'surrogatepass')
 
 
-def _drawn_key() -> tuple[bytes, int]:
+def _random_key() -> tuple[bytes, int]:
     """Return a random hash key and its length."""
     return os.urandom(16), 16
 
@@ -267,7 +267,7 @@ class CookieStore:
         self._suffixes: Optional[bytes] = None
         self._limit: Optional[int] = None
         self._buffer = ctypes.create_string_buffer(4096)
-        _check(_new(self._at, *_drawn_key()))
+        _check(_new(self._at, *_random_key()))
         self._finalizer = weakref.finalize(self, _free, self._at)
         # Another thread may still be in a call when the program ends.
         self._finalizer.atexit = False
@@ -450,7 +450,7 @@ class CookieStore:
     def _load(cls, call: Callable[..., int], text: Text, now: Optional[int], all: bool) -> CookieStore:
         saved, moment, store = _bytes(text), _moment(now), cls()
         _free(store._at)
-        _check(call(store._at, *_drawn_key(), saved, len(saved), moment, all))
+        _check(call(store._at, *_random_key(), saved, len(saved), moment, all))
         return store
 
     def copy(self) -> CookieStore:

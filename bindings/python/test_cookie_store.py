@@ -348,8 +348,8 @@ class HeaderTests(unittest.TestCase):
         body = re.search(r'pub struct CookieRow \{(.*?)\}', (PROVED / 'rows.rt').read_text(), re.S).group(1)
         fields = [(name, self.in_c([kind])[0]) for name, kind in re.findall(r'pub (\w+): (\w+),', body)]
         self.assertEqual(fields, cookie_store._Row._fields_)
-        self.assertRegex((PROVED / 'handle.rt').read_text(), r'#\[repr\(C\)\]\npub struct StoreHandle \{\n    live: bool,\n    pub slot: Slot,')
-        self.assertRegex((PROVED / 'slot.rt').read_text(), r'#\[repr\(C\)\]\npub struct Slot \{\n    at: \*mut u8,')
+        self.assertRegex((PROVED / 'handle.rt').read_text(), r'#\[repr\(C\)\]\npub struct StoreHandle \{\n    live: bool,\n    pub store_ptr: StorePtr,')
+        self.assertRegex((PROVED / 'store_ptr.rt').read_text(), r'#\[repr\(C\)\]\npub struct StorePtr \{\n    at: \*mut u8,')
 
 
 class Response:

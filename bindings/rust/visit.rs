@@ -41,7 +41,7 @@ extern "C" {
 }
 
 /// Returns a random hash key.
-fn drawn_key() -> [u8; 16] {
+fn random_key() -> [u8; 16] {
     let half = || u128::from(RandomState::new().build_hasher().finish());
     (half() << 64 | half()).to_ne_bytes()
 }
@@ -57,7 +57,7 @@ impl Store {
     /// Creates a store without cookies, or returns the status of the error.
     fn new() -> Result<Store, u32> {
         let mut handle = Handle { live: false, at: ptr::null_mut() };
-        let key = drawn_key();
+        let key = random_key();
         match unsafe { cookie_store_new(&mut handle, key.as_ptr().cast(), key.len()) } {
             OK => Ok(Store(handle)),
             status => Err(status),

@@ -2,7 +2,7 @@
 use Rattle.std.proofs.Common.{ℕ, List, [], ◌++◌, Option, refl, sym, ap, ◌∙◌, append_assoc, append-nil}
 use Rattle.std.specs.Io.KnownBytes.{Appends}
 use Rattle.std.proofs.KnownBytes.{Appends-trans, Appends-nil}
-use Rattle.cookie_device.specs.Device.{AppendsBeginning, Sends}
+use Rattle.cookie_device.specs.Device.{AppendsPrefix, Sends}
 
 -- nothing was written
 pub nothing_sent : (a : Option (List ℕ)) (text : List ℕ) → Sends a a text text
@@ -21,7 +21,7 @@ sent_after a b c text more rest whole next = record {
 }
 
 -- a prefix of a string is a prefix of a longer one
-pub longer_beginning : (a b : Option (List ℕ)) (text more : List ℕ) → AppendsBeginning a b text → AppendsBeginning a b (text ++ more)
+pub longer_beginning : (a b : Option (List ℕ)) (text more : List ℕ) → AppendsPrefix a b text → AppendsPrefix a b (text ++ more)
 longer_beginning a b text more part = record {
   rest = part.rest ++ more;
   sends = record {
@@ -32,10 +32,10 @@ longer_beginning a b text more part = record {
 }
 
 -- one string was written, and then a prefix of the next
-pub beginning_after : (a b c : Option (List ℕ)) (text more : List ℕ) → Appends a b text → AppendsBeginning b c more → AppendsBeginning a c (text ++ more)
+pub beginning_after : (a b c : Option (List ℕ)) (text more : List ℕ) → Appends a b text → AppendsPrefix b c more → AppendsPrefix a c (text ++ more)
 beginning_after a b c text more whole next =
     record { rest = next.rest; sends = sent_after a b c text more next.rest whole next.sends }
 
 -- what was written is a prefix
-pub sent_beginning : (a b : Option (List ℕ)) (text rest : List ℕ) → Sends a b text rest → AppendsBeginning a b text
+pub sent_beginning : (a b : Option (List ℕ)) (text rest : List ℕ) → Sends a b text rest → AppendsPrefix a b text
 sent_beginning a b text rest sends = record { rest = rest; sends = sends }

@@ -4,7 +4,7 @@ use Rattle.std.proofs.Math.Seq.{take-suc}
 use Rattle.std.proofs.lemmas.List.{take-append-drop}
 use Rattle.std.proofs.lemmas.Grind.{flat_map-append}
 use Rattle.std.proofs.KnownBytes.{Appends-trans, Appends-nil}
-use Rattle.cookie_device.specs.Device.{AppendsBeginning, Sends}
+use Rattle.cookie_device.specs.Device.{AppendsPrefix, Sends}
 use Rattle.cookie_device.specs.Texts.{joined}
 
 -- the bytes written and those left, of two strings in a row
@@ -27,7 +27,7 @@ put_then a b c g t u g1 g2 first next = record {
 }
 
 -- a prefix of a string is a prefix of a longer one
-pub part_longer : (a b : Option (List ℕ)) (g t u : List ℕ) → AppendsBeginning a b (g ++ t) → AppendsBeginning a b (g ++ (t ++ u))
+pub part_longer : (a b : Option (List ℕ)) (g t u : List ℕ) → AppendsPrefix a b (g ++ t) → AppendsPrefix a b (g ++ (t ++ u))
 part_longer a b g t u part = record {
   rest = part.rest ++ u;
   sends = record {
@@ -38,17 +38,17 @@ part_longer a b g t u part = record {
 }
 
 -- one string was put, and then a prefix of the next was written
-pub part_then : (a b c : Option (List ℕ)) (g t u g1 : List ℕ) → Sends a b (g ++ t) g1 → AppendsBeginning b c (g1 ++ u)
-    → AppendsBeginning a c (g ++ (t ++ u))
+pub part_then : (a b c : Option (List ℕ)) (g t u g1 : List ℕ) → Sends a b (g ++ t) g1 → AppendsPrefix b c (g1 ++ u)
+    → AppendsPrefix a c (g ++ (t ++ u))
 part_then a b c g t u g1 first part =
     record { rest = part.rest; sends = put_then a b c g t u g1 part.rest first part.sends }
 
 -- the empty string is a prefix of each string
-pub nothing_part : (a : Option (List ℕ)) (t : List ℕ) → AppendsBeginning a a t
+pub nothing_part : (a : Option (List ℕ)) (t : List ℕ) → AppendsPrefix a a t
 nothing_part a t = record { rest = t; sends = record { sent = []; split = refl; appended = Appends-nil a } }
 
 -- all of a string but the rest was written, and then a prefix of the rest
-pub part_of_rest : (a b c : Option (List ℕ)) (t g : List ℕ) → Sends a b t g → AppendsBeginning b c g → AppendsBeginning a c t
+pub part_of_rest : (a b c : Option (List ℕ)) (t g : List ℕ) → Sends a b t g → AppendsPrefix b c g → AppendsPrefix a c t
 part_of_rest a b c t g sends part = record {
   rest = part.rest;
   sends = record {

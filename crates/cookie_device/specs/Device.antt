@@ -13,6 +13,6 @@ pub record Sends (old new : Option (List ℕ)) (text rest : List ℕ) : Type 0 w
   pub appended : Appends old new sent
 
 -- a prefix of the string was written, possibly none or all of it
-pub record AppendsBeginning (old new : Option (List ℕ)) (text : List ℕ) : Type 0 where
+pub record AppendsPrefix (old new : Option (List ℕ)) (text : List ℕ) : Type 0 where
   pub rest : List ℕ
   pub sends : Sends old new text rest

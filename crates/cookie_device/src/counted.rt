@@ -1,6 +1,6 @@
 //! A reader or writer of `std` that counts its failed calls.
 ghost use Rattle.std.specs.Prelude.{◌≡◌, ◌-◌, ◌^◌};
-ghost use Rattle.cookie_device.specs.Counted.{Tally};
+ghost use Rattle.cookie_device.specs.Counted.{CountedValue};
 
 use crate::device::{DeviceFailed, Sink, Source};
 use std::io::{Read, Write};
@@ -18,7 +18,7 @@ pub struct Counted<D> {
 }
 
 impl<D> Model for Counted<D> {
-    ghost Value = { Tally D };
+    ghost Value = { CountedValue D };
 
     ghost view = { λ c. record { device = c.device; failures = c.failures; reads_left = c.reads } };
 }

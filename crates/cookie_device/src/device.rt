@@ -2,7 +2,7 @@
 ghost use Rattle.std.specs.Prelude.{◌≡◌, ℕ, ◌+◌, ◌-◌, ◌^◌, ◌<◌, List, [], ◌∷◌, ◌++◌, None, Option, length, IfOk, IsOk, OnErr, OnOk};
 ghost use Rattle.std.specs.Io.{ReadsAtMost, WritesAtMost};
 ghost use Rattle.std.specs.Io.KnownBytes.{Appends, ReadConsumes, WriteAppends};
-ghost use Rattle.cookie_device.specs.Device.{AppendsBeginning, CountsFailure};
+ghost use Rattle.cookie_device.specs.Device.{AppendsPrefix, CountsFailure};
 
 /// The error of a failed read or write.
 #[derive(Clone, Copy, Debug, PartialEq, Eq)]
@@ -62,7 +62,7 @@ pub trait Sink {
 pub fn write_all<W: Sink>(sink: &mut W, bytes: &[u8]) -> Result<(), DeviceFailed>
     requires { W.failed sink.old < 2 ^ 64 - 1 }
     ensures whole { OnOk result (Appends (W.contents sink.old) (W.contents sink.new) bytes.now) }
-    ensures part { AppendsBeginning (W.contents sink.old) (W.contents sink.new) bytes.now }
+    ensures part { AppendsPrefix (W.contents sink.old) (W.contents sink.new) bytes.now }
     ensures idle { bytes.now ≡ [] → IsOk result }
     ensures count { CountsFailure result (W.failed sink.old) (W.failed sink.new) }
 {
@@ -81,7 +81,7 @@ pub fn write_all<W: Sink>(sink: &mut W, bytes: &[u8]) -> Result<(), DeviceFailed
 pub fn write_line<W: Sink>(sink: &mut W, text: &[u8]) -> Result<(), DeviceFailed>
     requires { W.failed sink.old < 2 ^ 64 - 1 }
     ensures whole { OnOk result (Appends (W.contents sink.old) (W.contents sink.new) (text.now ++ 10 ∷ [])) }
-    ensures part { AppendsBeginning (W.contents sink.old) (W.contents sink.new) (text.now ++ 10 ∷ []) }
+    ensures part { AppendsPrefix (W.contents sink.old) (W.contents sink.new) (text.now ++ 10 ∷ []) }
     ensures count { CountsFailure result (W.failed sink.old) (W.failed sink.new) }
 {
     write_all(sink, text)?;

@@ -3,7 +3,7 @@ ghost use Rattle.std.specs.Prelude.{◌≡◌, ◌==◌, ℕ, ◌+◌, ◌-◌, 
 ghost use Rattle.std.specs.Io.{StartsWith};
 ghost use Rattle.std.specs.Io.KnownBytes.{IsAtEnd, Keeps, prepend_known};
 ghost use Rattle.std.specs.Str.Lines.{strip_carriage_return};
-ghost use Rattle.cookie_device.specs.FillError.{CountsRead};
+ghost use Rattle.cookie_device.specs.FillError.{CountsReadFailure};
 ghost use Rattle.cookie_device.specs.Lines.{EndsLine, IsLastLine};
 
 use crate::device::{DeviceFailed, Source};
@@ -142,7 +142,7 @@ impl LineBuffer {
             → (self.new ≡ self.old) × IsAtEnd (R.remaining source.new)) }
         ensures err { OnErr result (self.new ≡ self.old) }
 
-        ensures count { CountsRead result (R.failed source.old) (R.failed source.new) }
+        ensures count { CountsReadFailure result (R.failed source.old) (R.failed source.new) }
         ensures fewer { OnOk result (R.reads_left source.old ≡ R.reads_left source.new + 1) }
         ensures as_many { OnErr result (R.reads_left source.new ≡ R.reads_left source.old) }
     {

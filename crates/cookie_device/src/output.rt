@@ -1,7 +1,7 @@
 //! Buffered output.
 ghost use Rattle.std.specs.Prelude.{◌≡◌, ◌+◌, ◌-◌, ◌^◌, ◌<◌, ◌≤◌, [], ◌++◌, length, IfOk, IsOk, OnOk, OnErr};
 ghost use Rattle.std.specs.Io.KnownBytes.{Appends};
-ghost use Rattle.cookie_device.specs.Device.{AppendsBeginning, CountsFailure, Sends};
+ghost use Rattle.cookie_device.specs.Device.{AppendsPrefix, CountsFailure, Sends};
 ghost use Rattle.cookie_device.specs.Texts.{joined};
 
 use crate::device::{DeviceFailed, Sink, write_all};
@@ -46,9 +46,9 @@ impl Output {
         requires { W.failed sink.old < 2 ^ 64 - 1 }
         ensures whole { OnOk result (Sends (W.contents sink.old) (W.contents sink.new)
             (self.old ++ text.now) self.new) }
-        ensures part { AppendsBeginning (W.contents sink.old) (W.contents sink.new)
+        ensures part { AppendsPrefix (W.contents sink.old) (W.contents sink.new)
             (self.old ++ text.now) }
-        ensures gathered { length self.old + length text.now ≤ Output.LIMIT
+        ensures buffered { length self.old + length text.now ≤ Output.LIMIT
             → IsOk result × (self.new ≡ self.old ++ text.now) }
         ensures alone { Output.LIMIT < length self.old + length text.now → length text.now ≤ Output.LIMIT
             → OnOk result (self.new ≡ text.now) }
@@ -72,9 +72,9 @@ impl Output {
         requires { W.failed sink.old < 2 ^ 64 - 1 }
         ensures whole { OnOk result (Sends (W.contents sink.old) (W.contents sink.new)
             (self.old ++ joined texts.now) self.new) }
-        ensures part { AppendsBeginning (W.contents sink.old) (W.contents sink.new)
+        ensures part { AppendsPrefix (W.contents sink.old) (W.contents sink.new)
             (self.old ++ joined texts.now) }
-        ensures gathered { length self.old + length (joined texts.now) ≤ Output.LIMIT
+        ensures buffered { length self.old + length (joined texts.now) ≤ Output.LIMIT
             → IsOk result × (self.new ≡ self.old ++ joined texts.now) }
         ensures dropped { OnErr result (self.new ≡ []) }
         ensures count { CountsFailure result (W.failed sink.old) (W.failed sink.new) }
@@ -89,7 +89,7 @@ impl Output {
     pub fn flush<W: Sink>(&mut self, sink: &mut W) -> Result<(), DeviceFailed>
         requires { W.failed sink.old < 2 ^ 64 - 1 }
         ensures whole { OnOk result (Appends (W.contents sink.old) (W.contents sink.new) self.old) }
-        ensures part { AppendsBeginning (W.contents sink.old) (W.contents sink.new) self.old }
+        ensures part { AppendsPrefix (W.contents sink.old) (W.contents sink.new) self.old }
         ensures empty { self.new ≡ [] }
         ensures idle { self.old ≡ [] → IsOk result }
         ensures count { CountsFailure result (W.failed sink.old) (W.failed sink.new) }

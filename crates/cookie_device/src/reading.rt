@@ -1,7 +1,7 @@
 //! Reading into a vector.
 ghost use Rattle.std.specs.Prelude.{◌≡◌, ◌↔◌, ℕ, ◌+◌, ◌-◌, ◌^◌, ◌<◌, ◌≤◌, List, ◌++◌, false, length, IfOk, IsTrue, OnErr, OnOk};
 ghost use Rattle.std.specs.Io.KnownBytes.{Consumes, IsAtEnd};
-ghost use Rattle.cookie_device.specs.FillError.{CountsRead};
+ghost use Rattle.cookie_device.specs.FillError.{CountsReadFailure};
 
 use crate::device::Source;
 use crate::lines::FillError;
@@ -20,7 +20,7 @@ pub fn read_all<R: Source>(alloc: Global, source: &mut R) -> Result<Vec<u8>, Fil
     ensures end { OnOk result (IsAtEnd (R.remaining source.new)) }
     ensures part { OnErr result ((bytes : List ℕ) × Consumes (R.remaining source.old) (R.remaining source.new) bytes
         × (R.reads_left source.old ≤ R.reads_left source.new + length bytes)) }
-    ensures count { CountsRead result (R.failed source.old) (R.failed source.new) }
+    ensures count { CountsReadFailure result (R.failed source.old) (R.failed source.new) }
 {
     let mut bytes = Vec::new(alloc);
     while read_more(&mut bytes, source)? {}
@@ -36,7 +36,7 @@ pub(crate) fn read_more<R: Source>(bytes: &mut Vec<u8>, source: &mut R) -> Resul
     ensures came { IfOk result (λ came. IsTrue came ↔ (length bytes.old.items < length bytes.new.items)) }
     ensures end { IfOk result (λ came. came ≡ false → IsAtEnd (R.remaining source.new)) }
     ensures err { OnErr result (bytes.new.items ≡ bytes.old.items) }
-    ensures count { CountsRead result (R.failed source.old) (R.failed source.new) }
+    ensures count { CountsReadFailure result (R.failed source.old) (R.failed source.new) }
     ensures fewer { OnOk result (R.reads_left source.old ≡ R.reads_left source.new + 1) }
     ensures as_many { OnErr result (R.reads_left source.new ≡ R.reads_left source.old) }
 {

@@ -28,7 +28,7 @@ impl<T> Fake<T> {
     }
 
     // Counts a call and returns how many bytes it may move, or fails.
-    fn turn(&mut self) -> io::Result<usize> {
+    fn count_call(&mut self) -> io::Result<usize> {
         self.calls = self.calls.saturating_add(1);
         if self.calls == self.fails_at {
             return Err(io::Error::from(io::ErrorKind::Other));
@@ -39,14 +39,14 @@ impl<T> Fake<T> {
 
 impl<T: Read> Read for Fake<T> {
     fn read(&mut self, buf: &mut [u8]) -> io::Result<usize> {
-        let most = self.turn()?.min(buf.len());
+        let most = self.count_call()?.min(buf.len());
         self.inner.read(&mut buf[..most])
     }
 }
 
 impl<T: Write> Write for Fake<T> {
     fn write(&mut self, buf: &[u8]) -> io::Result<usize> {
-        let most = self.turn()?.min(buf.len());
+        let most = self.count_call()?.min(buf.len());
         self.inner.write(&buf[..most])
     }
 

@@ -8,8 +8,8 @@ use Rattle.serde_json.specs.Written.{compact_text}
 use Rattle.cookie_words.specs.Moments.{Moment}
 use Rattle.cookie_forms.specs.Saved.{Domain, host_only, suffix, not_present, empty, Parts}
 use Rattle.cookie_forms.specs.Texts.{has_no_control}
-use Rattle.cookie_forms.specs.WrittenTrees.{cookie_tree, domain_tree, ends_tree, path_tree, tagged_tree, with_text, is_early, written}
-use Rattle.cookie_forms.specs.declared.error.SavedError.TheVariants as Fault
+use Rattle.cookie_forms.specs.ToJson.{cookie_tree, domain_tree, expiry_tree, path_tree, tagged_tree, with_expiry_text, is_early, written}
+use Rattle.cookie_forms.specs.declared.error.SavedError.TheVariants as ErrorCase
 use Rattle.cookie_forms.proofs.TreesPlain.{same_tree}
 
 both : (a b : List ℕ) → has_no_control a ≡ true → has_no_control b ≡ true → has_no_control (a ++ b) ≡ true
@@ -35,7 +35,7 @@ of_domain (suffix text) = tagged (codes "Suffix") text
 of_domain not_present = in_quotes (codes "NotPresent")
 of_domain empty = in_quotes (codes "Empty")
 
-of_ends : (o : Option (List ℕ)) → has_no_control (compact_text (ends_tree o)) ≡ true
+of_ends : (o : Option (List ℕ)) → has_no_control (compact_text (expiry_tree o)) ≡ true
 of_ends (Some text) = tagged (codes "AtUtc") text
 of_ends None = in_quotes (codes "SessionEnd")
 
@@ -54,10 +54,10 @@ named name d rest of_data of_rest = both (quoted name) (58 ∷ (compact_text d +
 of_cookie : (p : Parts (List ℕ)) → has_no_control (compact_text (cookie_tree p)) ≡ true
 of_cookie p =
     named (codes "domain") (domain_tree p.domain) _ (of_domain p.domain)
-    (named (codes "expires") (ends_tree p.ends) _ (of_ends p.ends)
+    (named (codes "expires") (expiry_tree p.ends) _ (of_ends p.ends)
     (named (codes "path") (path_tree p.path p.from_attr) _ (of_path p.path p.from_attr)
     (named (codes "raw_cookie") (string p.raw_cookie) _ (in_quotes p.raw_cookie) refl)))
 
 pub saved_line : (p : Parts Moment) (tree : Data) → written p ≡ Ok tree → has_no_control (compact_text tree) ≡ true
 saved_line p tree h =
-    subst (λ t. has_no_control (compact_text t) ≡ true) (same_tree (is_early p) Fault.Moment _ tree h) (of_cookie (with_text p))
+    subst (λ t. has_no_control (compact_text t) ≡ true) (same_tree (is_early p) ErrorCase.Moment _ tree h) (of_cookie (with_expiry_text p))

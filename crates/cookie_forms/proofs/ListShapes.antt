@@ -10,8 +10,8 @@ use Rattle.serde_json.specs.Written.{has_float, items_have_float}
 use Rattle.cookie_words.specs.Moments.{Moment}
 use Rattle.cookie_forms.specs.Saved.{Parts}
 use Rattle.cookie_forms.specs.Shape.{HasShape, HasListShape}
-use Rattle.cookie_forms.specs.ReadTrees.{parts_in, all_parts_in, all_with_moment, list_at}
-use Rattle.cookie_forms.specs.declared.error.SavedError.TheVariants as Fault
+use Rattle.cookie_forms.specs.FromJson.{parts_in, all_parts_in, all_with_parsed_expiry, list_at}
+use Rattle.cookie_forms.specs.declared.error.SavedError.TheVariants as ErrorCase
 use Rattle.cookie_forms.proofs.Shapes.{items_in, parts_read, parts_shaped, read_of, refused_by}
 use Rattle.cookie_forms.proofs.TreesPlain.{first_false, second_false}
 
@@ -55,15 +55,15 @@ list_shaped d ps plain e =
     let is_array = items_in d ds here in
     (trees_in ds, is_array ∙ ap array (same_items ds), items_shaped ds ps (subst (λ t. has_float t ≡ false) is_array plain) read))
 
-pub list_shape_read : (d : Data) (ps : List (Parts (List ℕ))) → HasListShape d ps → list_at d ≡ ok_or (all_with_moment ps) Fault.Moment
+pub list_shape_read : (d : Data) (ps : List (Parts (List ℕ))) → HasListShape d ps → list_at d ≡ ok_or (all_with_parsed_expiry ps) ErrorCase.Moment
 list_shape_read d ps h = rw (h.1, items_plain h.0 ps h.2, items_read h.0 ps h.2) refl
 
 pub list_read_shaped : (d : Data) (qs : List (Parts Moment)) → list_at d ≡ Ok qs
-    → (ps : List (Parts (List ℕ))) × HasListShape d ps × (all_with_moment ps ≡ Some qs)
+    → (ps : List (Parts (List ℕ))) × HasListShape d ps × (all_with_parsed_expiry ps ≡ Some qs)
 list_read_shaped d qs e =
-    let r = read_of (has_float d) all_with_moment (option_and_then all_parts_in (as_array d)) qs e in
+    let r = read_of (has_float d) all_with_parsed_expiry (option_and_then all_parts_in (as_array d)) qs e in
     (r.0, list_shaped d r.0 r.1 r.2, r.3)
 
-pub list_shapeless_refused : (d : Data) → ((ps : List (Parts (List ℕ))) → ¬ HasListShape d ps) → list_at d ≡ Err Fault.Shape
+pub list_shapeless_refused : (d : Data) → ((ps : List (Parts (List ℕ))) → ¬ HasListShape d ps) → list_at d ≡ Err ErrorCase.Shape
 list_shapeless_refused d none =
-    refused_by (has_float d) all_with_moment (option_and_then all_parts_in (as_array d)) (λ ps plain e. none ps (list_shaped d ps plain e))
+    refused_by (has_float d) all_with_parsed_expiry (option_and_then all_parts_in (as_array d)) (λ ps plain e. none ps (list_shaped d ps plain e))

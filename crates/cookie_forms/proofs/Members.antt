@@ -3,7 +3,7 @@ use Rattle.std.proofs.Common.{◌≡◌, ◌≢◌, ℕ, List, [], ◌∷◌, le
 use Rattle.serde_json.specs.View.{view, members_view}
 use Rattle.serde_json.specs.Find.{as_str}
 use Rattle.serde_json.specs.declared.value.Value.{Value}
-use Rattle.cookie_forms.specs.ReadTrees.{only_text}
+use Rattle.cookie_forms.specs.FromJson.{only_text}
 
 pub not_one : (es : List (String Global × Value)) → length es ≢ 1 → None ≡ only_text (members_view es)
 not_one [] h = refl

@@ -11,7 +11,7 @@ use Rattle.jiff_core.proofs.CalendarLemmas.{days_in_month_bounds}
 use Rattle.jiff_core.proofs.SignedLemmas.{signed_arith}
 use Rattle.jiff.specs.declared.civil.datetimes.DateTime.{DateTime}
 use Rattle.cookie_words.specs.Moments.{Moment, moment_of, is_day, is_time}
-use Rattle.cookie_forms.specs.MomentText.{number_in, has_signs, fraction_of, moment_at, moment_text, two_digits, four_digits, whole_seconds}
+use Rattle.cookie_forms.specs.MomentText.{number_in, has_separators, fraction_of, parsed_moment, moment_text, two_digits, four_digits, whole_seconds}
 
 is_digit : (k : ℕ) → k ≤ 9 → is_ascii_digit (48 + k) ≡ true
 is_digit k small = grind (arith, nat_tests)
@@ -51,8 +51,8 @@ fields_back : (year month day hour minute second nanosecond : ℕ) → year < 10
     → month ≤ 12 → day ≤ 31 → hour < 24 → minute < 60 → second < 60
     → is_day (pos year) month day ≡ true → is_time hour minute second ≡ true
     → (m : Moment) → m ≡ record { year = pos year; month = month; day = day; hour = hour; minute = minute; second = second; nanosecond = nanosecond }
-    → moment_at (moment_text m) ≡ Some (whole_seconds m)
-unfolding moment_at number_in has_signs fraction_of
+    → parsed_moment (moment_text m) ≡ Some (whole_seconds m)
+unfolding parsed_moment number_in has_separators fraction_of
 fields_back year month day hour minute second nanosecond y mo d h mi s calendar clock m e =
     rw (e, four_in year y, two_in month (omega arith), two_in day (omega arith), two_in hour (omega arith), two_in minute (omega arith), two_in second (omega arith), calendar, clock) refl
 
@@ -69,7 +69,7 @@ of_size : (z : ℤ) → pos 0 ≤ℤ z → z ≡ pos (unsigned_abs z)
 of_size (pos n) h = refl
 of_size (negsuc n) h = absurd h.le
 
-pub moment_back : (d : DateTime) → pos 0 ≤ℤ d.date.year → moment_at (moment_text (moment_of d)) ≡ Some (whole_seconds (moment_of d))
+pub moment_back : (d : DateTime) → pos 0 ≤ℤ d.date.year → parsed_moment (moment_text (moment_of d)) ≡ Some (whole_seconds (moment_of d))
 moment_back d from_zero =
     let year : d.date.year ≡ pos (unsigned_abs d.date.year) = of_size d.date.year from_zero in
     let below : unsigned_abs d.date.year < 10_000 = omega (arith, signed_arith, from_zero, d.date.year_in) in

@@ -9,10 +9,10 @@ use Rattle.serde_json.specs.Written.{has_float}
 use Rattle.cookie_words.specs.Moments.{Moment}
 use Rattle.cookie_forms.specs.Saved.{Domain, host_only, suffix, not_present, empty, Parts}
 use Rattle.cookie_forms.specs.Shape.{HasShape}
-use Rattle.cookie_forms.specs.ReadTrees.{only_text, pair_in, path_in, domain_named, domain_tagged, domain_in, ends_named, ends_tagged, ends_in, parts_in, with_moment, then_read, saved_at}
-use Rattle.cookie_forms.specs.WrittenTrees.{tagged_tree, path_tree, domain_tree, ends_tree}
+use Rattle.cookie_forms.specs.FromJson.{only_text, pair_in, path_in, domain_named, domain_tagged, domain_in, expiry_named, expiry_tagged, expiry_in, parts_in, with_parsed_expiry, then_read, saved_at}
+use Rattle.cookie_forms.specs.ToJson.{tagged_tree, path_tree, domain_tree, expiry_tree}
 use Rattle.cookie_forms.specs.declared.error.SavedError.{SavedError}
-use Rattle.cookie_forms.specs.declared.error.SavedError.TheVariants as Fault
+use Rattle.cookie_forms.specs.declared.error.SavedError.TheVariants as ErrorCase
 use Rattle.cookie_forms.proofs.TreesBack.{domain_back, ends_back, path_back}
 
 -- ---- the JSON values that a part is read from
@@ -103,22 +103,22 @@ domain_of (object ms) domain e =
     (λ h. ap (λ tag. tagged_tree tag t.1) ((bytes_eq-Decides t.0 (codes "HostOnly")).0 h))
     (λ h. ap (λ tag. tagged_tree tag t.1) ((bytes_eq-Decides t.0 (codes "Suffix")).0 h)) named)
 
-by_end : (this : Bool) (d : Data) (a ends : Option (List ℕ)) → (this ≡ true → d ≡ ends_tree a)
-    → (if this then Some a else None) ≡ Some ends → d ≡ ends_tree ends
-by_end true d a ends is_a e = is_a refl ∙ ap ends_tree (same_Some a ends e)
+by_end : (this : Bool) (d : Data) (a ends : Option (List ℕ)) → (this ≡ true → d ≡ expiry_tree a)
+    → (if this then Some a else None) ≡ Some ends → d ≡ expiry_tree ends
+by_end true d a ends is_a e = is_a refl ∙ ap expiry_tree (same_Some a ends e)
 by_end false d a ends is_a e = cc
 
-ends_of : (d : Data) (ends : Option (List ℕ)) → ends_in d ≡ Some ends → d ≡ ends_tree ends
-unfolding ends_in
+ends_of : (d : Data) (ends : Option (List ℕ)) → expiry_in d ≡ Some ends → d ≡ expiry_tree ends
+unfolding expiry_in
 ends_of null ends e = cc
 ends_of (boolean b) ends e = cc
 ends_of (number n) ends e = cc
 ends_of (string s) ends e =
     by_end (bytes_eq s (codes "SessionEnd")) (string s) None ends (λ h. ap string ((bytes_eq-Decides s (codes "SessionEnd")).0 h))
-    (sym (or_none (ends_named s)) ∙ e)
+    (sym (or_none (expiry_named s)) ∙ e)
 ends_of (array ds) ends e = cc
 ends_of (object ms) ends e =
-    option_and_then_some ends_tagged (only_text ms) ends e (λ t here named.
+    option_and_then_some expiry_tagged (only_text ms) ends e (λ t here named.
     tagged_of ms t here
     ∙ by_end (bytes_eq t.0 (codes "AtUtc")) (tagged_tree t.0 t.1) (Some t.1) ends
     (λ h. ap (λ tag. tagged_tree tag t.1) ((bytes_eq-Decides t.0 (codes "AtUtc")).0 h)) named)
@@ -140,7 +140,7 @@ parts_shaped d p plain e =
     option_and_then_some _ (get (codes "domain") d) p e4 (λ kind kind_is e5.
     option_and_then_some _ (domain_in kind) p e5 (λ domain domain_is e6.
     option_and_then_some _ (get (codes "expires") d) p e6 (λ end end_is e7.
-    option_and_then_some _ (ends_in end) p e7 (λ ends ends_is e8.
+    option_and_then_some _ (expiry_in end) p e7 (λ ends ends_is e8.
     subst (λ q. HasShape d q) (same_Some _ p e8) (
       raw_is ∙ ap Some (text_of raw raw_cookie text_is),
       pair_is ∙ ap Some (path_of pair path path_is),
@@ -157,25 +157,25 @@ answered (Some c) e b h = cc
 
 -- what was read has the shape and no float
 pub read_of : {A B : Type 0} (has : Bool) (read : A → Option B) (o : Option A) (b : B)
-    → (if has then Err Fault.Shape else then_read read o) ≡ Ok b → (a : A) × (has ≡ false) × (o ≡ Some a) × (read a ≡ Some b)
+    → (if has then Err ErrorCase.Shape else then_read read o) ≡ Ok b → (a : A) × (has ≡ false) × (o ≡ Some a) × (read a ≡ Some b)
 read_of true read o b e = cc
 read_of false read None b e = cc
-read_of false read (Some a) b e = (a, refl, refl, answered (read a) Fault.Moment b e)
+read_of false read (Some a) b e = (a, refl, refl, answered (read a) ErrorCase.Moment b e)
 
 -- if nothing has the shape, or there is a float, the error is `Shape`
 pub refused_by : {A B : Type 0} (has : Bool) (read : A → Option B) (o : Option A) → ((a : A) → has ≡ false → ¬ (o ≡ Some a))
-    → (if has then Err Fault.Shape else then_read read o) ≡ Err Fault.Shape
+    → (if has then Err ErrorCase.Shape else then_read read o) ≡ Err ErrorCase.Shape
 refused_by true read o none = refl
 refused_by false read None none = refl
 refused_by false read (Some a) none = absurd (none a refl refl)
 
-pub shape_read : (d : Data) (p : Parts (List ℕ)) → HasShape d p → saved_at d ≡ ok_or (with_moment p) Fault.Moment
+pub shape_read : (d : Data) (p : Parts (List ℕ)) → HasShape d p → saved_at d ≡ ok_or (with_parsed_expiry p) ErrorCase.Moment
 shape_read d p h = rw (h.4, parts_read d p h) refl
 
-pub read_shaped : (d : Data) (q : Parts Moment) → saved_at d ≡ Ok q → (p : Parts (List ℕ)) × HasShape d p × (with_moment p ≡ Some q)
+pub read_shaped : (d : Data) (q : Parts Moment) → saved_at d ≡ Ok q → (p : Parts (List ℕ)) × HasShape d p × (with_parsed_expiry p ≡ Some q)
 read_shaped d q e =
-    let r = read_of (has_float d) with_moment (parts_in d) q e in
+    let r = read_of (has_float d) with_parsed_expiry (parts_in d) q e in
     (r.0, parts_shaped d r.0 r.1 r.2, r.3)
 
-pub shapeless_refused : (d : Data) → ((p : Parts (List ℕ)) → ¬ HasShape d p) → saved_at d ≡ Err Fault.Shape
-shapeless_refused d none = refused_by (has_float d) with_moment (parts_in d) (λ p plain e. none p (parts_shaped d p plain e))
+pub shapeless_refused : (d : Data) → ((p : Parts (List ℕ)) → ¬ HasShape d p) → saved_at d ≡ Err ErrorCase.Shape
+shapeless_refused d none = refused_by (has_float d) with_parsed_expiry (parts_in d) (λ p plain e. none p (parts_shaped d p plain e))

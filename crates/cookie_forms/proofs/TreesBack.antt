@@ -7,9 +7,9 @@ use Rattle.serde_json.specs.Data.{Data}
 use Rattle.serde_json.specs.View.{items_of}
 use Rattle.cookie_words.specs.Moments.{Moment}
 use Rattle.cookie_forms.specs.MomentText.{moment_text, whole_seconds}
-use Rattle.cookie_forms.specs.Saved.{Domain, host_only, suffix, not_present, empty, Parts, EndsAtMoment, IsMoment, expiry_view}
-use Rattle.cookie_forms.specs.WrittenTrees.{cookie_tree, domain_tree, ends_tree, path_tree, with_ends, with_text, saved_tree, list_tree, ends_early, is_early, written, list_written}
-use Rattle.cookie_forms.specs.ReadTrees.{path_in, domain_in, ends_in, parts_in, all_parts_in, ends_at, all_with_moment, with_moment, cut, saved_at, list_at}
+use Rattle.cookie_forms.specs.Saved.{Domain, host_only, suffix, not_present, empty, Parts, HasValidExpiry, IsValidTime, expiry_view}
+use Rattle.cookie_forms.specs.ToJson.{cookie_tree, domain_tree, expiry_tree, path_tree, with_expiry, with_expiry_text, saved_tree, list_tree, expires_early, is_early, written, list_written}
+use Rattle.cookie_forms.specs.FromJson.{path_in, domain_in, expiry_in, parts_in, all_parts_in, parsed_expiry, all_with_parsed_expiry, with_parsed_expiry, cut, saved_at, list_at}
 use Rattle.cookie_forms.specs.declared.error.SavedError.TheVariants.{Moment as NoMoment}
 use Rattle.jiff_core.proofs.SignedLemmas.{signed_arith}
 use Rattle.cookie_forms.specs.declared.saved.SavedExpiry.{SavedExpiry}
@@ -24,8 +24,8 @@ domain_back (suffix text) = refl
 domain_back not_present = refl
 domain_back empty = refl
 
-pub ends_back : (o : Option (List ℕ)) → ends_in (ends_tree o) ≡ Some o
-unfolding ends_in
+pub ends_back : (o : Option (List ℕ)) → expiry_in (expiry_tree o) ≡ Some o
+unfolding expiry_in
 ends_back None = refl
 ends_back (Some text) = refl
 
@@ -38,7 +38,7 @@ unfolding parts_in
 parts_back p = rw (path_back p.path p.from_attr, domain_back p.domain, ends_back p.ends) refl
 
 -- the expiry of a saved cookie is a valid time
-pub end_is_moment : (e : SavedExpiry) → IfSome (expiry_view e) IsMoment
+pub end_is_moment : (e : SavedExpiry) → IfSome (expiry_view e) IsValidTime
 end_is_moment (Expiry.AtUtc time) = (time, refl)
 end_is_moment Expiry.SessionEnd = tt
 
@@ -47,42 +47,42 @@ from_zero : (z : ℤ) → int_lt z (pos 0) ≡ false → pos 0 ≤ℤ z
 from_zero (pos n) h = omega (arith, signed_arith)
 from_zero (negsuc n) h = absurd (true≢false h)
 
-ends_kept : (o : Option Moment) → IfSome o IsMoment → ends_early o ≡ false
-    → ends_at (option_map moment_text o) ≡ Some (option_map whole_seconds o)
+ends_kept : (o : Option Moment) → IfSome o IsValidTime → expires_early o ≡ false
+    → parsed_expiry (option_map moment_text o) ≡ Some (option_map whole_seconds o)
 ends_kept (Some m) (d, is) h =
-    subst (λ m. ends_early (Some m) ≡ false → ends_at (Some (moment_text m)) ≡ Some (Some (whole_seconds m))) is
+    subst (λ m. expires_early (Some m) ≡ false → parsed_expiry (Some (moment_text m)) ≡ Some (Some (whole_seconds m))) is
     (λ early. ap (option_map (λ m. Some m)) (moment_back d (from_zero d.date.year early))) h
 ends_kept None _ h = refl
 
-kept : (p : Parts Moment) → EndsAtMoment p → is_early p ≡ false → with_moment (with_text p) ≡ Some (cut p)
-kept p at h = ap (option_map (λ ends. with_ends p ends)) (ends_kept p.ends at h)
+kept : (p : Parts Moment) → HasValidExpiry p → is_early p ≡ false → with_parsed_expiry (with_expiry_text p) ≡ Some (cut p)
+kept p at h = ap (option_map (λ ends. with_expiry p ends)) (ends_kept p.ends at h)
 
-all_kept : (ps : List (Parts Moment)) → All EndsAtMoment ps → list_any is_early ps ≡ false
-    → all_with_moment (map with_text ps) ≡ Some (map cut ps)
+all_kept : (ps : List (Parts Moment)) → All HasValidExpiry ps → list_any is_early ps ≡ false
+    → all_with_parsed_expiry (map with_expiry_text ps) ≡ Some (map cut ps)
 all_kept [] at h = refl
 all_kept (p ∷ ps) at h =
     rw (
-      kept p (All-head EndsAtMoment p ps at) (first_false (is_early p) _ h),
-      all_kept ps (All-tail EndsAtMoment p ps at) (second_false (is_early p) _ h),
+      kept p (All-head HasValidExpiry p ps at) (first_false (is_early p) _ h),
+      all_kept ps (All-tail HasValidExpiry p ps at) (second_false (is_early p) _ h),
     ) refl
 
-items_back : (ps : List (Parts Moment)) → all_parts_in (items_of (map saved_tree ps)) ≡ Some (map with_text ps)
+items_back : (ps : List (Parts Moment)) → all_parts_in (items_of (map saved_tree ps)) ≡ Some (map with_expiry_text ps)
 items_back [] = refl
-items_back (p ∷ ps) = rw (parts_back (with_text p), items_back ps) refl
+items_back (p ∷ ps) = rw (parts_back (with_expiry_text p), items_back ps) refl
 
-saved_tree_back : (p : Parts Moment) → EndsAtMoment p → is_early p ≡ false → saved_at (saved_tree p) ≡ Ok (cut p)
-saved_tree_back p at h = rw (cookie_plain (with_text p), parts_back (with_text p), kept p at h) refl
+saved_tree_back : (p : Parts Moment) → HasValidExpiry p → is_early p ≡ false → saved_at (saved_tree p) ≡ Ok (cut p)
+saved_tree_back p at h = rw (cookie_plain (with_expiry_text p), parts_back (with_expiry_text p), kept p at h) refl
 
-list_tree_back : (ps : List (Parts Moment)) → All EndsAtMoment ps → list_any is_early ps ≡ false
+list_tree_back : (ps : List (Parts Moment)) → All HasValidExpiry ps → list_any is_early ps ≡ false
     → list_at (list_tree ps) ≡ Ok (map cut ps)
 list_tree_back ps at h = rw (items_plain ps, items_back ps, all_kept ps at h) refl
 
-pub saved_back : (p : Parts Moment) (tree : Data) → EndsAtMoment p → written p ≡ Ok tree → saved_at tree ≡ Ok (cut p)
+pub saved_back : (p : Parts Moment) (tree : Data) → HasValidExpiry p → written p ≡ Ok tree → saved_at tree ≡ Ok (cut p)
 saved_back p tree at h =
     subst (λ t. saved_at t ≡ Ok (cut p)) (same_tree (is_early p) NoMoment _ tree h)
     (saved_tree_back p at (by_written (is_early p) NoMoment _ tree h))
 
-pub list_back : (ps : List (Parts Moment)) (tree : Data) → All EndsAtMoment ps → list_written ps ≡ Ok tree
+pub list_back : (ps : List (Parts Moment)) (tree : Data) → All HasValidExpiry ps → list_written ps ≡ Ok tree
     → list_at tree ≡ Ok (map cut ps)
 list_back ps tree at h =
     subst (λ t. list_at t ≡ Ok (map cut ps)) (same_tree (list_any is_early ps) NoMoment _ tree h)

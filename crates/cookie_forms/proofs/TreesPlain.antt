@@ -7,9 +7,9 @@ use Rattle.serde_json.specs.View.{items_of}
 use Rattle.serde_json.specs.Written.{has_float, items_have_float}
 use Rattle.cookie_words.specs.Moments.{Moment}
 use Rattle.cookie_forms.specs.Saved.{Domain, host_only, suffix, not_present, empty, Parts}
-use Rattle.cookie_forms.specs.WrittenTrees.{cookie_tree, domain_tree, ends_tree, with_text, saved_tree, is_early, written, list_written}
+use Rattle.cookie_forms.specs.ToJson.{cookie_tree, domain_tree, expiry_tree, with_expiry_text, saved_tree, is_early, written, list_written}
 use Rattle.cookie_forms.specs.declared.error.SavedError.{SavedError}
-use Rattle.cookie_forms.specs.declared.error.SavedError.TheVariants as Fault
+use Rattle.cookie_forms.specs.declared.error.SavedError.TheVariants as ErrorCase
 
 pub first_false : (a b : Bool) → (a || b) ≡ false → a ≡ false
 first_false true b h = h
@@ -39,7 +39,7 @@ domain_plain (suffix text) = refl
 domain_plain not_present = refl
 domain_plain empty = refl
 
-ends_plain : (o : Option (List ℕ)) → has_float (ends_tree o) ≡ false
+ends_plain : (o : Option (List ℕ)) → has_float (expiry_tree o) ≡ false
 ends_plain None = refl
 ends_plain (Some text) = refl
 
@@ -48,11 +48,11 @@ cookie_plain p = rw (domain_plain p.domain, ends_plain p.ends) refl
 
 pub items_plain : (ps : List (Parts Moment)) → items_have_float (items_of (map saved_tree ps)) ≡ false
 items_plain [] = refl
-items_plain (p ∷ ps) = rw (cookie_plain (with_text p), items_plain ps) refl
+items_plain (p ∷ ps) = rw (cookie_plain (with_expiry_text p), items_plain ps) refl
 
 -- how deep these JSON values nest
 parts_nest : (domain : Domain) (ends : Option (List ℕ)) (rest : ℕ) → rest ≡ 1
-    → suc (max (depth (domain_tree domain)) (max (depth (ends_tree ends)) rest)) ≡ 2
+    → suc (max (depth (domain_tree domain)) (max (depth (expiry_tree ends)) rest)) ≡ 2
 parts_nest (host_only text) None rest e = rw e refl
 parts_nest (host_only text) (Some end) rest e = rw e refl
 parts_nest (suffix text) None rest e = rw e refl
@@ -67,18 +67,18 @@ cookie_nests p = parts_nest p.domain p.ends _ refl
 
 items_nest : (ps : List (Parts Moment)) → items_depth (items_of (map saved_tree ps)) ≤ 2
 items_nest [] = omega arith
-items_nest (p ∷ ps) = rw (cookie_nests (with_text p)) (omega (arith, items_nest ps))
+items_nest (p ∷ ps) = rw (cookie_nests (with_expiry_text p)) (omega (arith, items_nest ps))
 
 pub saved_no_float : (p : Parts Moment) (tree : Data) → written p ≡ Ok tree → has_float tree ≡ false
-saved_no_float p tree h = subst (λ t. has_float t ≡ false) (same_tree (is_early p) Fault.Moment _ tree h) (cookie_plain (with_text p))
+saved_no_float p tree h = subst (λ t. has_float t ≡ false) (same_tree (is_early p) ErrorCase.Moment _ tree h) (cookie_plain (with_expiry_text p))
 
 pub saved_nests : (p : Parts Moment) (tree : Data) → written p ≡ Ok tree → depth tree ≤ max_depth
 saved_nests p tree h =
-    subst (λ t. depth t ≤ max_depth) (same_tree (is_early p) Fault.Moment _ tree h) (rw (cookie_nests (with_text p)) (omega arith))
+    subst (λ t. depth t ≤ max_depth) (same_tree (is_early p) ErrorCase.Moment _ tree h) (rw (cookie_nests (with_expiry_text p)) (omega arith))
 
 pub list_no_float : (ps : List (Parts Moment)) (tree : Data) → list_written ps ≡ Ok tree → has_float tree ≡ false
-list_no_float ps tree h = subst (λ t. has_float t ≡ false) (same_tree (list_any is_early ps) Fault.Moment _ tree h) (items_plain ps)
+list_no_float ps tree h = subst (λ t. has_float t ≡ false) (same_tree (list_any is_early ps) ErrorCase.Moment _ tree h) (items_plain ps)
 
 pub list_nests : (ps : List (Parts Moment)) (tree : Data) → list_written ps ≡ Ok tree → depth tree ≤ max_depth
 list_nests ps tree h =
-    subst (λ t. depth t ≤ max_depth) (same_tree (list_any is_early ps) Fault.Moment _ tree h) (omega (arith, items_nest ps))
+    subst (λ t. depth t ≤ max_depth) (same_tree (list_any is_early ps) ErrorCase.Moment _ tree h) (omega (arith, items_nest ps))

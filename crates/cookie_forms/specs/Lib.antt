@@ -1,8 +1,8 @@
 pub mod Errors
-pub mod Lent
+pub mod Borrowed
 pub mod MomentText
-pub mod ReadTrees
+pub mod FromJson
 pub mod Saved
 pub mod Shape
 pub mod Texts
-pub mod WrittenTrees
+pub mod ToJson

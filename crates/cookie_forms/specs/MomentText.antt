@@ -13,8 +13,8 @@ number_in text from count =
     if (length part == count) && list_all is_ascii_digit part then Some (digits_value 10 part) else None
 
 -- `-`, `-`, `T`, `:` and `:` are at their places between the numbers
-unfoldable pub has_signs : List ℕ → Bool
-has_signs text =
+unfoldable pub has_separators : List ℕ → Bool
+has_separators text =
     bytes_eq
     (slice_index text 4 ∷ slice_index text 7 ∷ slice_index text 10 ∷ slice_index text 13 ∷ slice_index text 16 ∷ [])
     (codes "--T::")
@@ -33,8 +33,8 @@ fraction_of rest =
     then nanoseconds_in (slice_range rest 1 (length rest - 1)) else None)
 
 -- the time of a string: RFC 3339's date-time in UTC
-unfoldable pub moment_at : List ℕ → Option Moment
-moment_at text = do
+unfoldable pub parsed_moment : List ℕ → Option Moment
+parsed_moment text = do
   year ← number_in text 0 4
   month ← number_in text 5 2
   day ← number_in text 8 2
@@ -42,7 +42,7 @@ moment_at text = do
   minute ← number_in text 14 2
   second ← number_in text 17 2
   nanosecond ← fraction_of (drop 19 text)
-  if has_signs text && is_day (pos year) month day && is_time hour minute second
+  if has_separators text && is_day (pos year) month day && is_time hour minute second
       then Some (moment_of_fields year month day hour minute second nanosecond) else None
 
 -- a number below 100 in two digits

@@ -24,12 +24,12 @@ pub record Parts (T : Type 0) : Type 0 where
   pub ends : Option T
 
 -- a valid time: the view of some `DateTime`
-abbrev pub IsMoment : Moment → Type 0
-IsMoment m = (time : DateTime) × (moment_of time ≡ m)
+abbrev pub IsValidTime : Moment → Type 0
+IsValidTime m = (time : DateTime) × (moment_of time ≡ m)
 
 -- the expiry, if there is one, is a valid time
-abbrev pub EndsAtMoment : Parts Moment → Type 0
-EndsAtMoment p = IfSome p.ends IsMoment
+abbrev pub HasValidExpiry : Parts Moment → Type 0
+HasValidExpiry p = IfSome p.ends IsValidTime
 
 -- a `SavedDomain` as contracts see it
 abbrev pub domain_view : SavedDomain → Domain

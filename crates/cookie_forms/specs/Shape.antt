@@ -6,7 +6,7 @@ use Rattle.serde_json.specs.Find.{get}
 use Rattle.serde_json.specs.View.{items_of}
 use Rattle.serde_json.specs.Written.{has_float}
 use Rattle.cookie_forms.specs.Saved.{Parts}
-use Rattle.cookie_forms.specs.WrittenTrees.{path_tree, domain_tree, ends_tree}
+use Rattle.cookie_forms.specs.ToJson.{path_tree, domain_tree, expiry_tree}
 
 -- an object with these four members, whatever others it has, and without any float
 abbrev pub HasShape : Data → Parts (List ℕ) → Type 0
@@ -14,7 +14,7 @@ HasShape d p =
     (get (codes "raw_cookie") d ≡ Some (string p.raw_cookie))
     × (get (codes "path") d ≡ Some (path_tree p.path p.from_attr))
     × (get (codes "domain") d ≡ Some (domain_tree p.domain))
-    × (get (codes "expires") d ≡ Some (ends_tree p.ends))
+    × (get (codes "expires") d ≡ Some (expiry_tree p.ends))
     × (has_float d ≡ false)
 
 -- an array of such objects, one for each cookie

@@ -2,7 +2,7 @@
 
 ghost use Rattle.std.specs.Prelude.{◌≡◌, ◌↔◌, ◌⊎◌, ◌+◌, ◌++◌, ◌^◌, ◌<◌, ◌≤◌, ◌<ℤ◌, ◌≤ℤ◌, pos, unsigned_abs, Err, IfErr, IfOk, IfSome, OnOk, drop, option_map, string_bytes};
 ghost use Rattle.cookie_words.specs.Moments.{moment_of};
-ghost use Rattle.cookie_forms.specs.MomentText.{number_in, has_signs, nanoseconds_in, fraction_of, moment_at, moment_text, two_digits, four_digits, date_text, clock_text};
+ghost use Rattle.cookie_forms.specs.MomentText.{number_in, has_separators, nanoseconds_in, fraction_of, parsed_moment, moment_text, two_digits, four_digits, date_text, clock_text};
 
 use crate::SavedError;
 use cookie_words::{calendar_date, clock_time, digits_value};
@@ -87,9 +87,9 @@ fn push_two_digits(text: &mut String, number: u8) -> Result<(), AllocError>
 /// such as `2026-01-31T23:59:59.5Z`.
 ///
 /// Returns `None` for any other string and for a date or time that does not exist.
-#[tactic(auto, unfolding(crate::specs::MomentText::moment_at))]
+#[tactic(auto, unfolding(crate::specs::MomentText::parsed_moment))]
 pub fn read_moment(text: &str) -> Option<DateTime>
-    ensures { option_map moment_of result ≡ moment_at text.now }
+    ensures { option_map moment_of result ≡ parsed_moment text.now }
 {
     let text = text.as_bytes();
     let year = number(text, 0, 4)?;
@@ -99,7 +99,7 @@ pub fn read_moment(text: &str) -> Option<DateTime>
     let minute = number(text, 14, 2)?;
     let second = number(text, 17, 2)?;
     let nanosecond = fraction(text)?;
-    if !has_signs(text) {
+    if !has_separators(text) {
         return None;
     }
     let date = calendar_date(year, month, day)?;
@@ -108,9 +108,9 @@ pub fn read_moment(text: &str) -> Option<DateTime>
 }
 
 // Whether `-`, `-`, `T`, `:` and `:` are at their places.
-#[tactic(auto, unfolding(crate::specs::MomentText::has_signs))]
-fn has_signs(text: &[u8]) -> bool
-    ensures { result ≡ has_signs text.now }
+#[tactic(auto, unfolding(crate::specs::MomentText::has_separators))]
+fn has_separators(text: &[u8]) -> bool
+    ensures { result ≡ has_separators text.now }
 {
     text.get(4) == Some(&b'-')
         && text.get(7) == Some(&b'-')

@@ -3,9 +3,9 @@ ghost use Rattle.std.specs.Prelude.{◌≡◌, ◌⊎◌, [], IsOk, IfOk, IfErr,
 ghost use Rattle.serde_json.specs.View.{view, items_view, members_view};
 ghost use Rattle.serde_json.specs.Written.{has_float};
 ghost use Rattle.cookie_forms.specs.Saved.{saved_view, domain_view, expiry_view};
-ghost use Rattle.cookie_forms.specs.Lent.{lent_parts, lent_domain};
-ghost use Rattle.cookie_forms.specs.ReadTrees.{only_text, tagged_in, pair_in, path_in, domain_in, domain_named, domain_tagged, ends_in, ends_named, ends_tagged, parts_in, all_parts_in, ends_at, with_moment, all_with_moment, all_in, then_read, saved_at, list_at};
-ghost use Rattle.cookie_forms.specs.WrittenTrees.{with_ends};
+ghost use Rattle.cookie_forms.specs.Borrowed.{borrowed_parts, borrowed_domain};
+ghost use Rattle.cookie_forms.specs.FromJson.{only_text, tagged_in, pair_in, path_in, domain_in, domain_named, domain_tagged, expiry_in, expiry_named, expiry_tagged, parts_in, all_parts_in, parsed_expiry, with_parsed_expiry, all_with_parsed_expiry, all_in, then_read, saved_at, list_at};
+ghost use Rattle.cookie_forms.specs.ToJson.{with_expiry};
 
 use crate::moment::read_moment;
 use crate::{Saved, SavedDomain, SavedError, SavedExpiry};
@@ -15,17 +15,17 @@ use std::alloc::{AllocError, Global};
 
 // The parts of a saved cookie, borrowed from its JSON value.
 #[derive(Clone, Copy)]
-struct LentParts<'a> {
+struct BorrowedParts<'a> {
     raw_cookie: &'a str,
     path: &'a str,
     from_attr: bool,
-    domain: LentDomain<'a>,
+    domain: BorrowedDomain<'a>,
     ends: Option<&'a str>,
 }
 
 // A domain, borrowed from its JSON value.
 #[derive(Clone, Copy)]
-enum LentDomain<'a> {
+enum BorrowedDomain<'a> {
     HostOnly(&'a str),
     Suffix(&'a str),
     NotPresent,
@@ -81,13 +81,13 @@ pub fn list_from_value(alloc: Global, value: &Value) -> Result<Vec<Saved>, Saved
 
 // Reads these items: `Shape` for any item comes before `Moment` for any.
 fn list_of(alloc: Global, items: &[Value]) -> Result<Vec<Saved>, SavedError>
-    ensures saved { IfOk result (λ list. then_read all_with_moment (all_parts_in (items_view items.now))
+    ensures saved { IfOk result (λ list. then_read all_with_parsed_expiry (all_parts_in (items_view items.now))
         ≡ Ok (map saved_view list.items)) }
     ensures refused { IfErr result (λ e. (e ≡ SavedError.Memory)
-        ⊎ (then_read all_with_moment (all_parts_in (items_view items.now)) ≡ Err e)) }
-    ensures early { (e : SavedError) → then_read all_with_moment (all_parts_in (items_view items.now)) ≡ Err e
+        ⊎ (then_read all_with_parsed_expiry (all_parts_in (items_view items.now)) ≡ Err e)) }
+    ensures early { (e : SavedError) → then_read all_with_parsed_expiry (all_parts_in (items_view items.now)) ≡ Err e
         → result ≡ Err e }
-    ensures memory { then_read all_with_moment (all_parts_in (items_view items.now)) ≡ Ok [] → IsOk result }
+    ensures memory { then_read all_with_parsed_expiry (all_parts_in (items_view items.now)) ≡ Ok [] → IsOk result }
 {
     if !all_have_shape(items) {
         return Err(SavedError::Shape);
@@ -130,8 +130,8 @@ fn all_read(items: &[Value]) -> bool
 }
 
 // Whether the expiry is a valid time, or the cookie a session cookie.
-fn has_moment(parts: LentParts<'_>) -> bool
-    ensures { result ≡ is_some (with_moment (lent_parts parts.entry)) }
+fn has_moment(parts: BorrowedParts<'_>) -> bool
+    ensures { result ≡ is_some (with_parsed_expiry (borrowed_parts parts.entry)) }
 {
     expiry_at(parts.ends).is_some()
 }
@@ -154,11 +154,11 @@ fn all_in(alloc: Global, items: &[Value]) -> Result<Vec<Saved>, SavedError>
 }
 
 // Copies the parts into a saved cookie, or returns `Moment` if the expiry is not a valid time.
-fn saved_from(alloc: Global, parts: LentParts<'_>) -> Result<Saved, SavedError>
-    ensures saved { IfOk result (λ saved. with_moment (lent_parts parts.entry) ≡ Some (saved_view saved)) }
+fn saved_from(alloc: Global, parts: BorrowedParts<'_>) -> Result<Saved, SavedError>
+    ensures saved { IfOk result (λ saved. with_parsed_expiry (borrowed_parts parts.entry) ≡ Some (saved_view saved)) }
     ensures refused { IfErr result (λ e. (e ≡ SavedError.Memory)
-        ⊎ ((e ≡ SavedError.Moment) × (with_moment (lent_parts parts.entry) ≡ None))) }
-    ensures early { with_moment (lent_parts parts.entry) ≡ None → result ≡ Err SavedError.Moment }
+        ⊎ ((e ≡ SavedError.Moment) × (with_parsed_expiry (borrowed_parts parts.entry) ≡ None))) }
+    ensures early { with_parsed_expiry (borrowed_parts parts.entry) ≡ None → result ≡ Err SavedError.Moment }
 {
     match expiry_at(parts.ends) {
         Some(expires) => Ok(copied(alloc, parts, expires)?),
@@ -168,7 +168,7 @@ fn saved_from(alloc: Global, parts: LentParts<'_>) -> Result<Saved, SavedError>
 
 // Parses the expiry; `None` stands for a session cookie.
 fn expiry_at(ends: Option<&str>) -> Option<SavedExpiry>
-    ensures { option_map expiry_view result ≡ ends_at (option_map (λ text. text.now) ends.entry) }
+    ensures { option_map expiry_view result ≡ parsed_expiry (option_map (λ text. text.now) ends.entry) }
 {
     match ends {
         Some(text) => Some(SavedExpiry::AtUtc(read_moment(text)?)),
@@ -177,8 +177,12 @@ fn expiry_at(ends: Option<&str>) -> Option<SavedExpiry>
 }
 
 // Copies the parts, with this expiry.
-fn copied(alloc: Global, parts: LentParts<'_>, expires: SavedExpiry) -> Result<Saved, AllocError>
-    ensures { IfOk result (λ saved. saved_view saved ≡ with_ends (lent_parts parts.entry) (expiry_view expires)) }
+fn copied(
+    alloc: Global,
+    parts: BorrowedParts<'_>,
+    expires: SavedExpiry,
+) -> Result<Saved, AllocError>
+    ensures { IfOk result (λ saved. saved_view saved ≡ with_expiry (borrowed_parts parts.entry) (expiry_view expires)) }
 {
     Ok(Saved {
         raw_cookie: parts.raw_cookie.to_string(alloc)?,
@@ -190,27 +194,27 @@ fn copied(alloc: Global, parts: LentParts<'_>, expires: SavedExpiry) -> Result<S
 }
 
 // Copies the domain.
-fn domain_copied(alloc: Global, domain: LentDomain<'_>) -> Result<SavedDomain, AllocError>
-    ensures { IfOk result (λ copy. domain_view copy ≡ lent_domain domain.entry) }
+fn domain_copied(alloc: Global, domain: BorrowedDomain<'_>) -> Result<SavedDomain, AllocError>
+    ensures { IfOk result (λ copy. domain_view copy ≡ borrowed_domain domain.entry) }
 {
     Ok(match domain {
-        LentDomain::HostOnly(text) => SavedDomain::HostOnly(text.to_string(alloc)?),
-        LentDomain::Suffix(text) => SavedDomain::Suffix(text.to_string(alloc)?),
-        LentDomain::NotPresent => SavedDomain::NotPresent,
-        LentDomain::Empty => SavedDomain::Empty,
+        BorrowedDomain::HostOnly(text) => SavedDomain::HostOnly(text.to_string(alloc)?),
+        BorrowedDomain::Suffix(text) => SavedDomain::Suffix(text.to_string(alloc)?),
+        BorrowedDomain::NotPresent => SavedDomain::NotPresent,
+        BorrowedDomain::Empty => SavedDomain::Empty,
     })
 }
 
 // Borrows the parts of an object that has the shape of a saved cookie.
-#[tactic(auto, unfolding(crate::specs::ReadTrees::parts_in))]
-fn parts_in(value: &Value) -> Option<LentParts<'_>>
-    ensures { option_map lent_parts result ≡ parts_in (view value.now) }
+#[tactic(auto, unfolding(crate::specs::FromJson::parts_in))]
+fn parts_in(value: &Value) -> Option<BorrowedParts<'_>>
+    ensures { option_map borrowed_parts result ≡ parts_in (view value.now) }
 {
     let raw_cookie = value.get("raw_cookie")?.as_str()?;
     let (path, from_attr) = path_in(value.get("path")?)?;
     let domain = domain_in(value.get("domain")?)?;
-    let ends = ends_in(value.get("expires")?)?;
-    Some(LentParts {
+    let ends = expiry_in(value.get("expires")?)?;
+    Some(BorrowedParts {
         raw_cookie,
         path,
         from_attr,
@@ -220,7 +224,7 @@ fn parts_in(value: &Value) -> Option<LentParts<'_>>
 }
 
 // Reads a path, and whether a Path attribute set it: `["/", true]`.
-#[tactic(auto, unfolding(crate::specs::ReadTrees::path_in))]
+#[tactic(auto, unfolding(crate::specs::FromJson::path_in))]
 fn path_in(value: &Value) -> Option<(&str, bool)>
     ensures { option_map (λ p. (p.0.now, p.1)) result ≡ path_in (view value.now) }
 {
@@ -240,9 +244,9 @@ fn pair_in(items: &[Value]) -> Option<(&Value, &Value)>
 }
 
 // Reads a domain: `"NotPresent"`, `"Empty"`, or `{"HostOnly": ".."}` or `{"Suffix": ".."}`.
-#[tactic(auto, unfolding(crate::specs::ReadTrees::domain_in))]
-fn domain_in(value: &Value) -> Option<LentDomain<'_>>
-    ensures { option_map lent_domain result ≡ domain_in (view value.now) }
+#[tactic(auto, unfolding(crate::specs::FromJson::domain_in))]
+fn domain_in(value: &Value) -> Option<BorrowedDomain<'_>>
+    ensures { option_map borrowed_domain result ≡ domain_in (view value.now) }
 {
     match value.as_str() {
         Some(name) => domain_named(name),
@@ -251,42 +255,42 @@ fn domain_in(value: &Value) -> Option<LentDomain<'_>>
 }
 
 // Reads a domain without a string.
-fn domain_named(name: &str) -> Option<LentDomain<'_>>
-    ensures { option_map lent_domain result ≡ domain_named name.now }
+fn domain_named(name: &str) -> Option<BorrowedDomain<'_>>
+    ensures { option_map borrowed_domain result ≡ domain_named name.now }
 {
     match name {
-        "NotPresent" => Some(LentDomain::NotPresent),
-        "Empty" => Some(LentDomain::Empty),
+        "NotPresent" => Some(BorrowedDomain::NotPresent),
+        "Empty" => Some(BorrowedDomain::Empty),
         _ => None,
     }
 }
 
 // Reads a domain with a string.
-fn domain_tagged(value: &Value) -> Option<LentDomain<'_>>
-    ensures { option_map lent_domain result ≡ option_and_then domain_tagged (tagged_in (view value.now)) }
+fn domain_tagged(value: &Value) -> Option<BorrowedDomain<'_>>
+    ensures { option_map borrowed_domain result ≡ option_and_then domain_tagged (tagged_in (view value.now)) }
 {
     let (tag, text) = tagged_in(value)?;
     match tag {
-        "HostOnly" => Some(LentDomain::HostOnly(text)),
-        "Suffix" => Some(LentDomain::Suffix(text)),
+        "HostOnly" => Some(BorrowedDomain::HostOnly(text)),
+        "Suffix" => Some(BorrowedDomain::Suffix(text)),
         _ => None,
     }
 }
 
 // Reads an expiry, not parsed yet: `Some(None)` for a session cookie.
-#[tactic(auto, unfolding(crate::specs::ReadTrees::ends_in))]
-fn ends_in(value: &Value) -> Option<Option<&str>>
-    ensures { option_map (λ o. option_map (λ text. text.now) o) result ≡ ends_in (view value.now) }
+#[tactic(auto, unfolding(crate::specs::FromJson::expiry_in))]
+fn expiry_in(value: &Value) -> Option<Option<&str>>
+    ensures { option_map (λ o. option_map (λ text. text.now) o) result ≡ expiry_in (view value.now) }
 {
     match value.as_str() {
-        Some(name) => ends_named(name),
-        None => ends_tagged(value),
+        Some(name) => expiry_named(name),
+        None => expiry_tagged(value),
     }
 }
 
 // Reads `SessionEnd`.
-fn ends_named(name: &str) -> Option<Option<&str>>
-    ensures { option_map (λ o. option_map (λ text. text.now) o) result ≡ ends_named name.now }
+fn expiry_named(name: &str) -> Option<Option<&str>>
+    ensures { option_map (λ o. option_map (λ text. text.now) o) result ≡ expiry_named name.now }
 {
     match name {
         "SessionEnd" => Some(None),
@@ -295,9 +299,9 @@ fn ends_named(name: &str) -> Option<Option<&str>>
 }
 
 // Reads `{"AtUtc": ".."}`.
-fn ends_tagged(value: &Value) -> Option<Option<&str>>
+fn expiry_tagged(value: &Value) -> Option<Option<&str>>
     ensures { option_map (λ o. option_map (λ text. text.now) o) result
-        ≡ option_and_then ends_tagged (tagged_in (view value.now)) }
+        ≡ option_and_then expiry_tagged (tagged_in (view value.now)) }
 {
     let (tag, text) = tagged_in(value)?;
     match tag {

@@ -4,7 +4,7 @@ ghost use Rattle.serde_json.specs.Data.{Data};
 ghost use Rattle.serde_json.specs.Read.{read};
 ghost use Rattle.cookie_forms.specs.Saved.{saved_view};
 ghost use Rattle.cookie_forms.specs.Texts.{pretty_text};
-ghost use Rattle.cookie_forms.specs.WrittenTrees.{list_written};
+ghost use Rattle.cookie_forms.specs.ToJson.{list_written};
 
 use crate::{Saved, SavedError, list_to_value};
 use std::alloc::Global;

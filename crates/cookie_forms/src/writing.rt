@@ -4,7 +4,7 @@ ghost use Rattle.std.specs.List.{list_any};
 ghost use Rattle.serde_json.specs.View.{view};
 ghost use Rattle.cookie_forms.specs.MomentText.{moment_text};
 ghost use Rattle.cookie_forms.specs.Saved.{saved_view, domain_view, expiry_view};
-ghost use Rattle.cookie_forms.specs.WrittenTrees.{ends_early, is_early, written, list_written, saved_tree, domain_tree, ends_tree};
+ghost use Rattle.cookie_forms.specs.ToJson.{expires_early, is_early, written, list_written, saved_tree, domain_tree, expiry_tree};
 
 use crate::{Saved, SavedDomain, SavedError, SavedExpiry, moment};
 use serde_json::{Value, json};
@@ -87,7 +87,7 @@ fn value_of(alloc: Global, saved: &Saved) -> Result<Value, AllocError>
     ensures { IfOk result (λ v. view v ≡ saved_tree (saved_view saved.now)) }
 {
     let domain = domain_value(alloc, &saved.domain)?;
-    let expires = ends_value(alloc, saved.expires)?;
+    let expires = expiry_to_value(alloc, saved.expires)?;
     json!(in alloc; {
         "raw_cookie": saved.raw_cookie.as_str(),
         "path": [saved.path.as_str(), saved.from_attr],
@@ -109,9 +109,9 @@ fn domain_value(alloc: Global, domain: &SavedDomain) -> Result<Value, AllocError
 }
 
 // Converts an expiry that is not before the year 0.
-fn ends_value(alloc: Global, expires: SavedExpiry) -> Result<Value, AllocError>
-    requires { ends_early (expiry_view expires) ≡ false }
-    ensures { IfOk result (λ v. view v ≡ ends_tree (option_map moment_text (expiry_view expires))) }
+fn expiry_to_value(alloc: Global, expires: SavedExpiry) -> Result<Value, AllocError>
+    requires { expires_early (expiry_view expires) ≡ false }
+    ensures { IfOk result (λ v. view v ≡ expiry_tree (option_map moment_text (expiry_view expires))) }
 {
     match expires {
         SavedExpiry::AtUtc(moment) => {

@@ -36,7 +36,7 @@ fn work(rt: &HostRuntime) -> Result<(), MainFault> {
         .collect(rt.alloc())?;
     let own = arguments::own_words(words.as_slice());
     let options = arguments::options(own)?;
-    let hash_key = HashKey::Drawn(RandomState::new(rt).map_err(fault::draw_fault)?);
+    let hash_key = HashKey::Random(RandomState::new(rt).map_err(fault::random_key_fault)?);
     let alloc = StoreAlloc {
         alloc: rt.alloc(),
         hash_key,

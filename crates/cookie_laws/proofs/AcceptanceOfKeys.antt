@@ -20,7 +20,7 @@ HasKey key (Ok cookie) = key_of cookie ≡ key
 HasKey key (Err refusal) = Unit {0}
 
 -- a step after another keeps the key
-and_then-HasKey : (key : Key) (made : Result Row CookieError) (next : Row → Result Row CookieError) → HasKey key made → ((cookie : Row) → key_of cookie ≡ key → HasKey key (next cookie)) → HasKey key (and_then made next)
+and_then-HasKey : (key : Key) (created : Result Row CookieError) (next : Row → Result Row CookieError) → HasKey key created → ((cookie : Row) → key_of cookie ≡ key → HasKey key (next cookie)) → HasKey key (and_then created next)
 and_then-HasKey key (Ok cookie) next same after = after cookie same
 and_then-HasKey key (Err refusal) next same after = tt
 
@@ -53,8 +53,8 @@ passing_outcome test outcome = record { reply = outcome.reply; store = passing_s
 
 module _ (test : Key → Bool) (by_domain : IsByDomain test) where
   -- an admitted cookie whose key passes has the same outcome among the rows that pass
-  entered-passing : (key : Key) (made : Result Row CookieError) (url : Parts) (now : Moment) (store : Contents) → HasKey key made → test key ≡ true
-      → entered made url now (passing_store test store) ≡ passing_outcome test (entered made url now store)
+  entered-passing : (key : Key) (created : Result Row CookieError) (url : Parts) (now : Moment) (store : Contents) → HasKey key created → test key ≡ true
+      → entered created url now (passing_store test store) ≡ passing_outcome test (entered created url now store)
   entered-passing key (Err refusal) url now store same here = refl
   entered-passing key (Ok cookie) url now store same here =
       let passes : test (key_of cookie) ≡ true = ap test same ∙ here in
@@ -63,8 +63,8 @@ module _ (test : Key → Bool) (by_domain : IsByDomain test) where
       ∙ ap {B = Outcome} (λ after. record { reply = reply; store = after }) (store_by-passing test by_domain reply store cookie now passes)
 
   -- one whose key does not pass changes nothing among them
-  entered-other : (key : Key) (made : Result Row CookieError) (url : Parts) (now : Moment) (store : Contents) → HasKey key made → test key ≡ false
-      → passing_store test (entered made url now store).store ≡ passing_store test store
+  entered-other : (key : Key) (created : Result Row CookieError) (url : Parts) (now : Moment) (store : Contents) → HasKey key created → test key ≡ false
+      → passing_store test (entered created url now store).store ≡ passing_store test store
   entered-other key (Err refusal) url now store same away = refl
   entered-other key (Ok cookie) url now store same away =
       store_by-other test by_domain (reply_at (row_of (key_of cookie) store.rows) cookie url now) store cookie now (ap test same ∙ away)

@@ -5,14 +5,14 @@ use Rattle.std.proofs.lemmas.Bool.{cond_both}
 use Rattle.std.proofs.lemmas.List.Elements.{All-filter, All-nil, All-cons, All-head, All-tail}
 use Rattle.url.specs.Parts.{Parts}
 use Rattle.cookie_words.specs.Moments.{Moment}
-use Rattle.cookie_parts.specs.Cookie.{Row, and_then, cookie_at, ended}
+use Rattle.cookie_parts.specs.Cookie.{Row, and_then, cookie_from_header, expired_row}
 use Rattle.cookie_parts.specs.declared.cookie_error.CookieError.{CookieError}
 use Rattle.cookie_parts.specs.declared.store_action.StoreAction.{StoreAction}
 use Rattle.cookie_parts.specs.declared.store_action.StoreAction.TheVariants.{Inserted, ExpiredExisting, UpdatedExisting}
-use Rattle.cookie_laws.specs.Contents.{Contents, is_none_of, leaving, without}
+use Rattle.cookie_laws.specs.Contents.{Contents, is_none_of, evicted, without}
 use Rattle.cookie_laws.specs.Rows.{key_of, has_key, in_domain, in_group, row_of, after_last, changed, replaced, removed, placed, put}
 use Rattle.cookie_laws.specs.Acceptance.{IsPut, accept, admitted, entered, received, reply_at, store_by}
-use Rattle.cookie_laws.specs.Confinement.{Accepts, Brings, SaysPut}
+use Rattle.cookie_laws.specs.Confinement.{Accepts, Offers, RepliesStored}
 use Rattle.cookie_laws.specs.Runs.{Call, Set, Insert, Remove, Clear, Stored, rows_after, step}
 
 -- what holds of each item of a list that was edited
@@ -47,7 +47,7 @@ module _ {T : Type 0} (P : T → Type 0) where
       (λ _. All-cons P x (removed test xs) (All-head P x xs old) (All-removed test xs rest))
 
 -- a result that stores a cookie is reported by its reply
-says_put : (reply : Result StoreAction CookieError) → IsPut reply → SaysPut (Some (Stored reply))
+says_put : (reply : Result StoreAction CookieError) → IsPut reply → RepliesStored (Some (Stored reply))
 says_put reply (inl is) = inl (ap (λ r. Some (Stored r)) is)
 says_put reply (inr is) = inr (ap (λ r. Some (Stored r)) is)
 
@@ -59,7 +59,7 @@ store_by-suffixes (Ok ExpiredExisting) store cookie now = refl
 store_by-suffixes (Err refusal) store cookie now = refl
 
 -- so no cookie does
-entered-suffixes : (made : Result Row CookieError) (url : Parts) (now : Moment) (store : Contents) → (entered made url now store).store.suffixes ≡ store.suffixes
+entered-suffixes : (created : Result Row CookieError) (url : Parts) (now : Moment) (store : Contents) → (entered created url now store).store.suffixes ≡ store.suffixes
 entered-suffixes (Err refusal) url now store = refl
 entered-suffixes (Ok cookie) url now store = store_by-suffixes (reply_at (row_of (key_of cookie) store.rows) cookie url now) store cookie now
 
@@ -67,13 +67,13 @@ accept-suffixes : (store : Contents) (cookie : Row) (url : Parts) (now : Moment)
 unfolding accept
 accept-suffixes store cookie url now = entered-suffixes (admitted store.suffixes url cookie) url now store
 
-received-suffixes : (store : Contents) (made : Result Row CookieError) (url : Parts) (now : Moment) → (received store made url now).store.suffixes ≡ store.suffixes
+received-suffixes : (store : Contents) (created : Result Row CookieError) (url : Parts) (now : Moment) → (received store created url now).store.suffixes ≡ store.suffixes
 received-suffixes store (Ok cookie) url now = accept-suffixes store cookie url now
 received-suffixes store (Err refusal) url now = refl
 
 -- and no call
 step-suffixes : (call : Call) (store : Contents) → (step call store).store.suffixes ≡ store.suffixes
-step-suffixes (Set text url now) store = received-suffixes store (cookie_at text url now) url now
+step-suffixes (Set text url now) store = received-suffixes store (cookie_from_header text url now) url now
 step-suffixes (Insert cookie url now) store = accept-suffixes store cookie url now
 step-suffixes (Remove key) store = refl
 step-suffixes Clear store = refl
@@ -82,10 +82,10 @@ step-suffixes Clear store = refl
 Accepts-later : (call : Call) (calls : List Call) (store : Contents) (place : ℕ) (from : Parts) (cookie : Row)
     → Accepts calls (step call store).store place from cookie → Accepts (call ∷ calls) store (suc place) from cookie
 Accepts-later call calls store place from cookie ((at, is, brings), says) =
-    ((at, is, subst (λ suffixes. Brings suffixes at from cookie) (step-suffixes call store) brings), says)
+    ((at, is, subst (λ suffixes. Offers suffixes at from cookie) (step-suffixes call store) brings), says)
 
 -- what holds of a row, and of it once expired
-module _ (P : Row → Type 0) (ends : (row : Row) → P row → P (ended row)) where
+module _ (P : Row → Type 0) (ends : (row : Row) → P row → P (expired_row row)) where
   -- after a new row is placed
   All-placed : (rows : List Row) (cookie : Row) → P cookie → All P rows → All P (placed rows cookie)
   All-placed rows cookie new old =
@@ -105,15 +105,15 @@ module _ (P : Row → Type 0) (ends : (row : Row) → P row → P (ended row)) w
   -- after a result for a cookie; P holds of the cookie if it is stored
   All-store_by : (reply : Result StoreAction CookieError) (store : Contents) (cookie : Row) (now : Moment) → (IsPut reply → P cookie) → All P store.rows → All P (store_by reply store cookie now).rows
   All-store_by (Ok Inserted) store cookie now new old =
-      let rest = without (leaving store now (key_of cookie)) store in
-      All-put rest.rows cookie (new (inl refl)) (All-filter (λ row. is_none_of (leaving store now (key_of cookie)) (key_of row)) P store.rows old)
+      let rest = without (evicted store now (key_of cookie)) store in
+      All-put rest.rows cookie (new (inl refl)) (All-filter (λ row. is_none_of (evicted store now (key_of cookie)) (key_of row)) P store.rows old)
   All-store_by (Ok UpdatedExisting) store cookie now new old = All-put store.rows cookie (new (inr refl)) old
-  All-store_by (Ok ExpiredExisting) store cookie now new old = All-changed P (has_key (key_of cookie)) ended ends store.rows old
+  All-store_by (Ok ExpiredExisting) store cookie now new old = All-changed P (has_key (key_of cookie)) expired_row ends store.rows old
   All-store_by (Err refusal) store cookie now new old = old
 
   -- after an admitted cookie, or an error
-  All-entered : (made : Result Row CookieError) (url : Parts) (now : Moment) (store : Contents)
-      → ((cookie : Row) → made ≡ Ok cookie → IsPut (entered made url now store).reply → P cookie) → All P store.rows → All P (entered made url now store).store.rows
+  All-entered : (created : Result Row CookieError) (url : Parts) (now : Moment) (store : Contents)
+      → ((cookie : Row) → created ≡ Ok cookie → IsPut (entered created url now store).reply → P cookie) → All P store.rows → All P (entered created url now store).store.rows
   All-entered (Err refusal) url now store new old = old
   All-entered (Ok cookie) url now store new old =
       All-store_by (reply_at (row_of (key_of cookie) store.rows) cookie url now) store cookie now (new cookie refl) old
@@ -126,20 +126,20 @@ module _ (P : Row → Type 0) (ends : (row : Row) → P row → P (ended row)) w
   All-accept store given url now new old = All-entered (admitted store.suffixes url given) url now store new old
 
   -- after a received cookie, or the error from making it
-  All-received : (store : Contents) (made : Result Row CookieError) (url : Parts) (now : Moment)
-      → ((cookie : Row) → and_then made (admitted store.suffixes url) ≡ Ok cookie → IsPut (received store made url now).reply → P cookie)
-      → All P store.rows → All P (received store made url now).store.rows
+  All-received : (store : Contents) (created : Result Row CookieError) (url : Parts) (now : Moment)
+      → ((cookie : Row) → and_then created (admitted store.suffixes url) ≡ Ok cookie → IsPut (received store created url now).reply → P cookie)
+      → All P store.rows → All P (received store created url now).store.rows
   All-received store (Ok given) url now new old = All-accept store given url now new old
   All-received store (Err refusal) url now new old = old
 
   -- after a call
   All-step : (call : Call) (store : Contents)
-      → ((from : Parts) (cookie : Row) → Brings store.suffixes call from cookie → SaysPut (Some (step call store).reply) → P cookie)
+      → ((from : Parts) (cookie : Row) → Offers store.suffixes call from cookie → RepliesStored (Some (step call store).reply) → P cookie)
       → All P store.rows → All P (step call store).store.rows
   All-step (Set text url now) store new old =
-      let made = cookie_at text url now in
-      All-received store made url now
-      (λ cookie enters is_put. new url cookie (refl, enters) (says_put (received store made url now).reply is_put))
+      let created = cookie_from_header text url now in
+      All-received store created url now
+      (λ cookie enters is_put. new url cookie (refl, enters) (says_put (received store created url now).reply is_put))
       old
   All-step (Insert given url now) store new old =
       All-accept store given url now

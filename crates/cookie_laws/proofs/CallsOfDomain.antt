@@ -36,8 +36,8 @@ same_domain_rows domain calls store = ap (λ after. after.rows) (same_stores (of
 
 -- so does their creation order
 pub same_domain_keys : (domain : List ℕ) (calls : List Call) (store : Contents)
-    → domain_keys domain (store_after calls store).made ≡ domain_keys domain (store_after (domain_calls domain calls) store).made
-same_domain_keys domain calls store = ap (λ after. after.made) (same_stores (of_domain domain) calls store)
+    → domain_keys domain (store_after calls store).created ≡ domain_keys domain (store_after (domain_calls domain calls) store).created
+same_domain_keys domain calls store = ap (λ after. after.created) (same_stores (of_domain domain) calls store)
 
 -- and the replies to those calls
 pub same_domain_replies : (domain : List ℕ) (calls : List Call) (store : Contents)

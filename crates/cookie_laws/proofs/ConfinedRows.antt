@@ -9,13 +9,13 @@ use Rattle.std.proofs.lemmas.Slice.Eq.{bytes_eq-Decides}
 use Rattle.url.specs.Parts.{Parts}
 use Rattle.cookie_words.specs.Moments.{Moment, epoch, nanoseconds}
 use Rattle.cookie_psl.specs.Rules.{RuleList}
-use Rattle.cookie_parts.specs.Cookie.{Row, and_then, cookie_at, ended, is_expired}
+use Rattle.cookie_parts.specs.Cookie.{Row, and_then, cookie_from_header, expired_row, is_expired}
 use Rattle.cookie_parts.specs.Domain.{DomainValue, HostOnly, Suffix, NotPresent, Empty, domain_matches, domain_text, host_is_identical}
 use Rattle.cookie_parts.specs.Hosts.{covers, host_of, passes}
 use Rattle.cookie_parts.specs.declared.cookie_error.CookieError.{CookieError}
 use Rattle.cookie_parts.specs.declared.cookie_error.CookieError.TheVariants.{DomainMismatch, PublicSuffix}
 use Rattle.cookie_laws.specs.Acceptance.{admitted, by_domain, by_list, by_scheme, is_listed}
-use Rattle.cookie_laws.specs.Confinement.{Accepts, Brings, HaveOneHost, IsConfined, IsConfinedAsPut, IsShared, IsPutOrEnded, IsUnlisted}
+use Rattle.cookie_laws.specs.Confinement.{Accepts, Offers, HaveOneHost, IsConfined, IsConfinedAsPut, IsShared, IsPutOrExpired, IsUnlisted}
 use Rattle.cookie_laws.specs.Contents.{Contents}
 use Rattle.cookie_laws.specs.Given.{given, is_given}
 use Rattle.cookie_laws.specs.Runs.{Call, Set, Insert, Remove, Clear, rows_after}
@@ -32,12 +32,12 @@ pub record MayCome (suffixes : Option RuleList) (url : Parts) (cookie : Row) : T
   pub shares : SharesUnlisted suffixes cookie
 
 -- what holds of the made cookie, if there is one
-pub IfOk_at : (P : Row → Type 0) (made : Result Row CookieError) (cookie : Row) → IfOk made P → made ≡ Ok cookie → P cookie
-IfOk_at P made cookie holds is = subst (λ r. IfOk r P) is holds
+pub IfOk_at : (P : Row → Type 0) (created : Result Row CookieError) (cookie : Row) → IfOk created P → created ≡ Ok cookie → P cookie
+IfOk_at P created cookie holds is = subst (λ r. IfOk r P) is holds
 
 -- what a step after another gives
-and_then-IfOk : (P : Row → Type 0) (made : Result Row CookieError) (next : Row → Result Row CookieError)
-    → ((cookie : Row) → made ≡ Ok cookie → IfOk (next cookie) P) → IfOk (and_then made next) P
+and_then-IfOk : (P : Row → Type 0) (created : Result Row CookieError) (next : Row → Result Row CookieError)
+    → ((cookie : Row) → created ≡ Ok cookie → IfOk (next cookie) P) → IfOk (and_then created next) P
 and_then-IfOk P (Ok cookie) next after = after cookie refl
 and_then-IfOk P (Err refusal) next after = tt
 
@@ -59,43 +59,43 @@ by_domain-MayCome suffixes url cookie shares =
 -- an admitted cookie may come from its URL
 pub admitted-MayCome : (suffixes : Option RuleList) (url : Parts) (cookie : Row) → IfOk (admitted suffixes url cookie) (MayCome suffixes url)
 admitted-MayCome suffixes url cookie =
-    let made = and_then (by_scheme url cookie) (by_list suffixes url) in
-    let shares : IfOk made (SharesUnlisted suffixes) = and_then-IfOk (SharesUnlisted suffixes) (by_scheme url cookie) (by_list suffixes url) (λ passed _. by_list-shares suffixes url passed) in
-    and_then-IfOk (MayCome suffixes url) made (by_domain url)
-    (λ passed is. by_domain-MayCome suffixes url passed (IfOk_at (SharesUnlisted suffixes) made passed shares is))
+    let created = and_then (by_scheme url cookie) (by_list suffixes url) in
+    let shares : IfOk created (SharesUnlisted suffixes) = and_then-IfOk (SharesUnlisted suffixes) (by_scheme url cookie) (by_list suffixes url) (λ passed _. by_list-shares suffixes url passed) in
+    and_then-IfOk (MayCome suffixes url) created (by_domain url)
+    (λ passed is. by_domain-MayCome suffixes url passed (IfOk_at (SharesUnlisted suffixes) created passed shares is))
 
 -- so may the cookie that a call brings
-Brings-MayCome : (suffixes : Option RuleList) (call : Call) (from : Parts) (cookie : Row) → Brings suffixes call from cookie → MayCome suffixes from cookie
-Brings-MayCome suffixes (Set text url now) from cookie brings =
-    let may : MayCome suffixes url cookie = IfOk_at (MayCome suffixes url) (and_then (cookie_at text url now) (admitted suffixes url)) cookie
-    (and_then-IfOk (MayCome suffixes url) (cookie_at text url now) (admitted suffixes url) (λ made _. admitted-MayCome suffixes url made))
+Offers-MayCome : (suffixes : Option RuleList) (call : Call) (from : Parts) (cookie : Row) → Offers suffixes call from cookie → MayCome suffixes from cookie
+Offers-MayCome suffixes (Set text url now) from cookie brings =
+    let may : MayCome suffixes url cookie = IfOk_at (MayCome suffixes url) (and_then (cookie_from_header text url now) (admitted suffixes url)) cookie
+    (and_then-IfOk (MayCome suffixes url) (cookie_from_header text url now) (admitted suffixes url) (λ created _. admitted-MayCome suffixes url created))
     brings.1 in
     subst (λ place. MayCome suffixes place cookie) (sym brings.0) may
-Brings-MayCome suffixes (Insert given url now) from cookie brings =
+Offers-MayCome suffixes (Insert given url now) from cookie brings =
     let may : MayCome suffixes url cookie = IfOk_at (MayCome suffixes url) (admitted suffixes url given) cookie (admitted-MayCome suffixes url given) brings.1 in
     subst (λ place. MayCome suffixes place cookie) (sym brings.0) may
-Brings-MayCome suffixes (Remove key) from cookie brings = absurd brings
-Brings-MayCome suffixes Clear from cookie brings = absurd brings
+Offers-MayCome suffixes (Remove key) from cookie brings = absurd brings
+Offers-MayCome suffixes Clear from cookie brings = absurd brings
 
 -- a call of the run stored the row, which may have been expired since
 abbrev WasAccepted : List Call → Contents → Row → Type 0
 WasAccepted calls store row =
-    (place : ℕ) × (from : Parts) × (accepted : Row) × Accepts calls store place from accepted × IsPutOrEnded accepted row
+    (place : ℕ) × (from : Parts) × (accepted : Row) × Accepts calls store place from accepted × IsPutOrExpired accepted row
 
 -- a stored row remains so when it expires
-ends-IsPutOrEnded : (accepted row : Row) → IsPutOrEnded accepted row → IsPutOrEnded accepted (ended row)
-ends-IsPutOrEnded accepted row (inl is) = inr (ap ended is)
-ends-IsPutOrEnded accepted row (inr is) = inr (ap ended is)
+ends-IsPutOrExpired : (accepted row : Row) → IsPutOrExpired accepted row → IsPutOrExpired accepted (expired_row row)
+ends-IsPutOrExpired accepted row (inl is) = inr (ap expired_row is)
+ends-IsPutOrExpired accepted row (inr is) = inr (ap expired_row is)
 
 -- and it has the domain that was stored
-same_domain : (accepted row : Row) → IsPutOrEnded accepted row → accepted.domain ≡ row.domain
+same_domain : (accepted row : Row) → IsPutOrExpired accepted row → accepted.domain ≡ row.domain
 same_domain accepted row (inl is) = sym (ap (λ c. c.domain) is)
 same_domain accepted row (inr is) = sym (ap (λ c. c.domain) is)
 
 -- each row was stored
 rows-accepted : (calls : List Call) (store : Contents) → store.rows ≡ [] → All (WasAccepted calls store) (rows_after calls store)
 rows-accepted calls store empty =
-    All-rows_after (WasAccepted calls store) (λ row was. (was.0, was.1, was.2, was.3, ends-IsPutOrEnded was.2 row was.4)) calls store
+    All-rows_after (WasAccepted calls store) (λ row was. (was.0, was.1, was.2, was.3, ends-IsPutOrExpired was.2 row was.4)) calls store
     (λ place from cookie accepts. (place, from, cookie, accepts, inl refl))
     (subst (All (WasAccepted calls store)) (sym empty) (All-nil (WasAccepted calls store)))
 
@@ -144,7 +144,7 @@ row-confined url now calls store row was is =
     let from = was.1 in
     let accepted = was.2 in
     let same : accepted.domain ≡ row.domain = same_domain accepted row was.4 in
-    let may = Brings-MayCome store.suffixes was.3.0.0 from accepted was.3.0.2 in
+    let may = Offers-MayCome store.suffixes was.3.0.0 from accepted was.3.0.2 in
     let first : domain_matches row.domain from ≡ true = sym (ap (λ domain. domain_matches domain from) same) ∙ may.matches in
     let shares = λ (domain : List ℕ) (suffix : row.domain ≡ Suffix domain). may.shares domain (same ∙ suffix) in
     (was.0, from, accepted, was.3, was.4, hosts_of store.suffixes row from url row.domain refl shares first (given-matches url now row is))
@@ -161,9 +161,9 @@ given-confined url now calls store empty k d within =
 given-live : (url : Parts) (now : Moment) (row : Row) → is_given url now row ≡ true → is_expired now row ≡ false
 given-live url now row is = not-true (is_expired now row) (and_parts _ _ (and_parts _ _ (and_parts _ _ is).0).0).0
 
--- from the epoch on, an `ended` row has expired
-ended-expired : (now : Moment) (row : Row) → nanoseconds epoch ≤ℤ nanoseconds now → is_expired now (ended row) ≡ true
-ended-expired now row later = grind (arith, ints, later)
+-- from the epoch on, an `expired_row` row has expired
+expired_row-expired : (now : Moment) (row : Row) → nanoseconds epoch ≤ℤ nanoseconds now → is_expired now (expired_row row) ≡ true
+expired_row-expired now row later = grind (arith, ints, later)
 
 -- so what is given then is the cookie that was stored
 confined-as_put : (url : Parts) (now : Moment) (calls : List Call) (store : Contents) (row : Row) → nanoseconds epoch ≤ℤ nanoseconds now
@@ -171,7 +171,7 @@ confined-as_put : (url : Parts) (now : Moment) (calls : List Call) (store : Cont
 confined-as_put url now calls store row later is (place, from, accepted, accepts, same, hosts) =
     ⊎_elim (λ put. (place, from, subst (Accepts calls store place from) (sym put) accepts, hosts))
     (λ ends.
-    let over : is_expired now row ≡ true = ap (is_expired now) ends ∙ ended-expired now accepted later in
+    let over : is_expired now row ≡ true = ap (is_expired now) ends ∙ expired_row-expired now accepted later in
     absurd (both_ways (is_expired now row) (given-live url now row is) over))
     same
 

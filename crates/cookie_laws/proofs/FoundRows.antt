@@ -2,11 +2,11 @@
 use Rattle.std.proofs.Common.{◌≡◌, Bool, true, false, not, List, [], ◌∷◌, Some, None, ⊎_elim, ◌∙◌, refl, sym, ap, arith}
 use Rattle.std.specs.List.{find, list_any}
 use Rattle.std.proofs.lemmas.Bool.{both_ways, cases_Bool, cond_both, not-true}
-use Rattle.cookie_parts.specs.Cookie.{Row, ended}
+use Rattle.cookie_parts.specs.Cookie.{Row, expired_row}
 use Rattle.cookie_laws.specs.Contents.{Contents, is_none_of, without}
 use Rattle.cookie_laws.specs.Rows.{Key, changed, key_of, has_key, in_domain, in_group, row_of, after_last, replaced, placed, put, same_key, same_key-true, same_key_equiv}
 use Rattle.cookie_laws.proofs.Filtered.{none-apart}
-use Rattle.cookie_laws.proofs.RowsOfKeys.{ended-other, put-other, row_of-passing}
+use Rattle.cookie_laws.proofs.RowsOfKeys.{expired_row-other, put-other, row_of-passing}
 
 -- y in the place of the first item that passes is the first one, if it passes too
 find-replaced : {T : Type 0} (test : T → Bool) (xs : List T) (y : T) → list_any test xs ≡ true → test y ≡ true → find test (replaced test xs y) ≡ Some y
@@ -44,8 +44,8 @@ find-changed test change after [] found here = grind (arith, here)
 find-changed test change after (x ∷ xs) found here = grind (arith, here, after x, find-changed test change after xs found)
 
 -- the row of the key is expired
-pub row_of-ended : (key : Key) (rows : List Row) (row : Row) → row_of key rows ≡ Some row → row_of key (changed (has_key key) ended rows) ≡ Some (ended row)
-row_of-ended key rows row held = find-changed (has_key key) ended (λ _ same. same) rows row held
+pub row_of-expired_row : (key : Key) (rows : List Row) (row : Row) → row_of key rows ≡ Some row → row_of key (changed (has_key key) expired_row rows) ≡ Some (expired_row row)
+row_of-expired_row key rows row held = find-changed (has_key key) expired_row (λ _ same. same) rows row held
 
 -- storing a cookie does not change the row of another key
 pub row_of-put_other : (key : Key) (rows : List Row) (cookie : Row) → same_key key (key_of cookie) ≡ false → row_of key (put rows cookie) ≡ row_of key rows
@@ -55,11 +55,11 @@ row_of-put_other key rows cookie away =
     sym (row_of-passing test key (put rows cookie) here) ∙ ap (row_of key) (put-other test rows cookie away) ∙ row_of-passing test key rows here
 
 -- nor does expiring the row of another key
-pub row_of-ended_other : (key own : Key) (rows : List Row) → same_key key own ≡ false → row_of key (changed (has_key own) ended rows) ≡ row_of key rows
+pub row_of-ended_other : (key own : Key) (rows : List Row) → same_key key own ≡ false → row_of key (changed (has_key own) expired_row rows) ≡ row_of key rows
 row_of-ended_other key own rows away =
     let test = same_key key in
     let here : test key ≡ true = same_key_equiv.refl key in
-    sym (row_of-passing test key (changed (has_key own) ended rows) here) ∙ ap (row_of key) (ended-other test own rows away) ∙ row_of-passing test key rows here
+    sym (row_of-passing test key (changed (has_key own) expired_row rows) here) ∙ ap (row_of key) (expired_row-other test own rows away) ∙ row_of-passing test key rows here
 
 -- if no item passes, none is found
 find-none : {T : Type 0} (test : T → Bool) (xs : List T) → list_any test xs ≡ false → find test xs ≡ None
@@ -74,8 +74,8 @@ row_of-stays keys key store stays = row_of-passing (is_none_of keys) key store.r
 pub row_of-leaves : (keys : List Key) (key : Key) (store : Contents) → list_any (same_key key) keys ≡ true → row_of key (without keys store).rows ≡ None
 row_of-leaves keys key store leaves =
     let rest = λ (row : Row). is_none_of keys (key_of row) in
-    let apart : (row : Row) → rest row ≡ true → has_key key row ≡ false = λ row left.
-    ⊎_elim (λ same. absurd (both_ways (list_any (same_key (key_of row)) keys) (not-true _ left) (sym (ap (λ k. list_any (same_key k) keys) (same_key-true key (key_of row) same)) ∙ leaves)))
+    let apart : (row : Row) → rest row ≡ true → has_key key row ≡ false = λ row calls_related_to.
+    ⊎_elim (λ same. absurd (both_ways (list_any (same_key (key_of row)) keys) (not-true _ calls_related_to) (sym (ap (λ k. list_any (same_key k) keys) (same_key-true key (key_of row) same)) ∙ leaves)))
     (λ differs. differs)
     (cases_Bool (has_key key row)) in
     find-none (has_key key) (without keys store).rows (none-apart (has_key key) rest apart store.rows)

@@ -2,7 +2,7 @@
 use Rattle.std.proofs.Common.{List, [], ◌∷◌, Result, Ok, Err}
 use Rattle.url.specs.Parts.{Parts}
 use Rattle.cookie_words.specs.Moments.{Moment}
-use Rattle.cookie_parts.specs.Cookie.{Row, cookie_at}
+use Rattle.cookie_parts.specs.Cookie.{Row, cookie_from_header}
 use Rattle.cookie_parts.specs.declared.cookie_error.CookieError.{CookieError}
 use Rattle.cookie_laws.specs.Acceptance.{accept, admitted, entered, received, reply_at, store_by}
 use Rattle.cookie_laws.specs.Contents.{Contents}
@@ -14,11 +14,11 @@ module _ (P : Contents → Type 0)
     (answers : (store : Contents) (cookie : Row) (url : Parts) (now : Moment) → P store
     → P (store_by (reply_at (row_of (key_of cookie) store.rows) cookie url now) store cookie now))
     (removes : (key : Key) (store : Contents) → P store
-    → P (record store { rows = removed (has_key key) store.rows; made = removed (same_key key) store.made }))
-    (clears : (store : Contents) → P store → P (record store { rows = []; made = [] })) where
+    → P (record store { rows = removed (has_key key) store.rows; created = removed (same_key key) store.created }))
+    (clears : (store : Contents) → P store → P (record store { rows = []; created = [] })) where
   -- it holds after an admitted cookie, or an error
-  entered-keeps : (made : Result Row CookieError) (url : Parts) (now : Moment) (store : Contents) → P store
-      → P (entered made url now store).store
+  entered-keeps : (created : Result Row CookieError) (url : Parts) (now : Moment) (store : Contents) → P store
+      → P (entered created url now store).store
   entered-keeps (Err refusal) url now store held = held
   entered-keeps (Ok cookie) url now store held = answers store cookie url now held
 
@@ -28,14 +28,14 @@ module _ (P : Contents → Type 0)
   accept-keeps store cookie url now held = entered-keeps (admitted store.suffixes url cookie) url now store held
 
   -- after a received cookie, or the error from making it
-  received-keeps : (store : Contents) (made : Result Row CookieError) (url : Parts) (now : Moment) → P store
-      → P (received store made url now).store
+  received-keeps : (store : Contents) (created : Result Row CookieError) (url : Parts) (now : Moment) → P store
+      → P (received store created url now).store
   received-keeps store (Err refusal) url now held = held
   received-keeps store (Ok cookie) url now held = accept-keeps store cookie url now held
 
   -- after a call
   step-keeps : (call : Call) (store : Contents) → P store → P (step call store).store
-  step-keeps (Set text url now) store held = received-keeps store (cookie_at text url now) url now held
+  step-keeps (Set text url now) store held = received-keeps store (cookie_from_header text url now) url now held
   step-keeps (Insert cookie url now) store held = accept-keeps store cookie url now held
   step-keeps (Remove key) store held = removes key store held
   step-keeps Clear store held = clears store held

@@ -6,7 +6,7 @@ use Rattle.std.proofs.lemmas.List.{length-drop}
 use Rattle.std.proofs.lemmas.List.Sorted.{IsPermutation-filter_both, length_permutation}
 use Rattle.cookie_words.specs.Moments.{Moment}
 use Rattle.cookie_parts.specs.Cookie.{Row}
-use Rattle.cookie_laws.specs.Contents.{Contents, beyond, by_turn, has_ended, is_none_of, leaving, without}
+use Rattle.cookie_laws.specs.Contents.{Contents, over_limit, eviction_order, has_expired, is_none_of, evicted, without}
 use Rattle.cookie_laws.specs.Rows.{Key, differ, removed, same_domain, same_key, same_key_equiv}
 use Rattle.cookie_laws.proofs.DifferentKeys.{differ-filter, differ-permutation}
 use Rattle.cookie_laws.proofs.Filtered.{filter-swap}
@@ -49,14 +49,14 @@ none_of_front (suc n) (key ∷ keys) d =
 -- in eviction order, at this time
 module _ (now : Moment) (rows : List Row) where
   -- the keys are the same
-  turned : (keys : List Key) → IsPermutation keys (by_turn now rows keys)
-  turned keys = IsPermutation-filter_both (has_ended now rows) (λ key. not (has_ended now rows key)) (λ _. refl) keys
+  turned : (keys : List Key) → IsPermutation keys (eviction_order now rows keys)
+  turned keys = IsPermutation-filter_both (has_expired now rows) (λ key. not (has_expired now rows key)) (λ _. refl) keys
 
   -- of distinct keys, all but the first n in eviction order survive
   stay-count : (n : ℕ) (keys : List Key) → differ same_key keys ≡ true
-      → length (filter (is_none_of (take n (by_turn now rows keys))) keys) ≡ length keys - n
+      → length (filter (is_none_of (take n (eviction_order now rows keys))) keys) ≡ length keys - n
   stay-count n keys d =
-      let turns = by_turn now rows keys in
+      let turns = eviction_order now rows keys in
       let differ_too = differ-permutation same_key same_key_equiv.symm keys turns (turned keys) d in
       sym (permuted-count (is_none_of (take n turns)) keys turns (turned keys))
       ∙ ap length (none_of_front n turns differ_too)
@@ -64,11 +64,11 @@ module _ (now : Moment) (rows : List Row) where
       ∙ ap (λ many. many - n) (length_permutation keys turns (turned keys))
 
 -- how many keys of a domain survive the eviction for a new one
-pub own-count : (limit : ℕ) (store : Contents) (now : Moment) (key : Key) → store.limit ≡ Some limit → differ same_key store.made ≡ true
-    → length (filter (same_domain key) (without (leaving store now key) store).made)
-    ≡ length (filter (same_domain key) store.made) - (length (filter (same_domain key) store.made) + 1 - limit)
+pub own-count : (limit : ℕ) (store : Contents) (now : Moment) (key : Key) → store.limit ≡ Some limit → differ same_key store.created ≡ true
+    → length (filter (same_domain key) (without (evicted store now key) store).created)
+    ≡ length (filter (same_domain key) store.created) - (length (filter (same_domain key) store.created) + 1 - limit)
 own-count limit store now key under d =
-    let keys = filter (same_domain key) store.made in
-    ap length (filter-swap (same_domain key) (is_none_of (leaving store now key)) store.made)
-    ∙ ap (λ most. length (filter (is_none_of (beyond most now store.rows keys)) keys)) under
-    ∙ stay-count now store.rows (length keys + 1 - limit) keys (differ-filter same_key (same_domain key) store.made d)
+    let keys = filter (same_domain key) store.created in
+    ap length (filter-swap (same_domain key) (is_none_of (evicted store now key)) store.created)
+    ∙ ap (λ most. length (filter (is_none_of (over_limit most now store.rows keys)) keys)) under
+    ∙ stay-count now store.rows (length keys + 1 - limit) keys (differ-filter same_key (same_domain key) store.created d)

@@ -13,9 +13,9 @@ use Rattle.cookie_parts.specs.declared.cookie_error.CookieError.{CookieError}
 use Rattle.cookie_parts.specs.declared.store_action.StoreAction.{StoreAction}
 use Rattle.cookie_parts.specs.declared.store_action.StoreAction.TheVariants.{Inserted, ExpiredExisting, UpdatedExisting}
 use Rattle.cookie_laws.specs.Acceptance.{accept, admitted, entered, put_action, received, reply_at, store_by}
-use Rattle.cookie_laws.specs.Contents.{Contents, HasMade, is_none_of, leaving, without}
+use Rattle.cookie_laws.specs.Contents.{Contents, HasCreationOrder, is_none_of, evicted, without}
 use Rattle.cookie_laws.specs.Related.{domain_keys, domain_rows}
-use Rattle.cookie_laws.specs.Rows.{Key, has_key, key_of, make, removed, row_of, same_domain, same_domain_equiv, same_key}
+use Rattle.cookie_laws.specs.Rows.{Key, has_key, key_of, add_created, removed, row_of, same_domain, same_domain_equiv, same_key}
 use Rattle.cookie_laws.specs.Runs.{Call, rows_after, store_after}
 use Rattle.cookie_laws.proofs.AcceptanceOfKeys.{HasKey, admitted-HasKey}
 use Rattle.cookie_laws.proofs.CallsOfDomain.{is_in}
@@ -24,7 +24,7 @@ use Rattle.cookie_laws.proofs.Filtered.{none-filter}
 use Rattle.cookie_laws.proofs.KeptByCalls.{store_after-keeps}
 use Rattle.cookie_laws.proofs.LeavingKeys.{filter-fewer, own-count, removed-fewer}
 use Rattle.cookie_laws.proofs.MadeKeys.{MadeOnce, once-none, once-removed, once-store_by, once_from_made}
-use Rattle.cookie_laws.proofs.StoresOfKeys.{make-other}
+use Rattle.cookie_laws.proofs.StoresOfKeys.{add_created-other}
 
 -- a reply shows whether there was a row of the key
 
@@ -56,72 +56,72 @@ found-any test [] = refl
 found-any test (x ∷ xs) = grind (arith, found-any test xs)
 
 -- the key is in the creation order if it has a row
-pub row-made : (key : Key) (store : Contents) → MadeOnce store.rows store.made
-    → is_some (row_of key store.rows) ≡ list_any (same_key key) store.made
-row-made key store once = found-any (has_key key) store.rows ∙ alike-any store.rows store.made once.0 (same_key key)
+pub row-created : (key : Key) (store : Contents) → MadeOnce store.rows store.created
+    → is_some (row_of key store.rows) ≡ list_any (same_key key) store.created
+row-created key store once = found-any (has_key key) store.rows ∙ alike-any store.rows store.created once.0 (same_key key)
 
 -- how many keys a store has of a domain
 
 -- of this key's domain
 abbrev own_keys : Key → Contents → ℕ
-own_keys key store = length (filter (same_domain key) store.made)
+own_keys key store = length (filter (same_domain key) store.created)
 
 -- with a limit greater than zero
 module _ (limit : ℕ) (some : 0 < limit) where
   -- after a new key there is one more of its domain than before, but at most the limit
-  inserted-count : (store : Contents) (cookie : Row) (now : Moment) → store.limit ≡ Some limit → MadeOnce store.rows store.made
-      → list_any (same_key (key_of cookie)) store.made ≡ false
+  inserted-count : (store : Contents) (cookie : Row) (now : Moment) → store.limit ≡ Some limit → MadeOnce store.rows store.created
+      → list_any (same_key (key_of cookie)) store.created ≡ false
       → own_keys (key_of cookie) (store_by (Ok Inserted) store cookie now) ≡ min limit (own_keys (key_of cookie) store + 1)
   inserted-count store cookie now under once new =
       let key = key_of cookie in
-      let rest = without (leaving store now key) store in
-      let still_new : list_any (same_key key) rest.made ≡ false =
-      none-filter (same_key key) (is_none_of (leaving store now key)) store.made new in
+      let rest = without (evicted store now key) store in
+      let still_new : list_any (same_key key) rest.created ≡ false =
+      none-filter (same_key key) (is_none_of (evicted store now key)) store.created new in
       let stay = own-count limit store now key under once.1 in
-      let pushed : length (filter (same_domain key) (make rest.made key)) ≡ own_keys key rest + 1 =
-      ap (λ keys. length (filter (same_domain key) keys)) (cond-false (list_any (same_key key) rest.made) rest.made _ still_new)
-      ∙ pushed-count (same_domain key) rest.made key (same_domain_equiv.refl key) in
+      let pushed : length (filter (same_domain key) (add_created rest.created key)) ≡ own_keys key rest + 1 =
+      ap (λ keys. length (filter (same_domain key) keys)) (cond-false (list_any (same_key key) rest.created) rest.created _ still_new)
+      ∙ pushed-count (same_domain key) rest.created key (same_domain_equiv.refl key) in
       omega (arith, pushed, stay, some)
 
   -- the keys are counted as the rows, the limit is this one, and of the domain there are at most so many keys
   abbrev Within : List ℕ → ℕ → Contents → Type 0
   Within domain most store =
-      MadeOnce store.rows store.made × (store.limit ≡ Some limit) × (length (domain_keys domain store.made) ≤ most)
+      MadeOnce store.rows store.created × (store.limit ≡ Some limit) × (length (domain_keys domain store.created) ≤ most)
 
   -- of a domain no more than so many, which are no fewer than the limit
   module _ (domain : List ℕ) (most : ℕ) (above : limit ≤ most) where
     -- there are no more after a new key
     inserted-within : (store : Contents) (cookie : Row) (now : Moment) → Within domain most store
-        → list_any (same_key (key_of cookie)) store.made ≡ false
-        → length (domain_keys domain (store_by (Ok Inserted) store cookie now).made) ≤ most
+        → list_any (same_key (key_of cookie)) store.created ≡ false
+        → length (domain_keys domain (store_by (Ok Inserted) store cookie now).created) ≤ most
     inserted-within store cookie now within new =
         let key = key_of cookie in
         let after = store_by (Ok Inserted) store cookie now in
-        let keys = leaving store now key in
+        let keys = evicted store now key in
         ⊎_elim (λ own.
         let one : key.domain ≡ domain = sym ((bytes_eq-Decides domain key.domain).0 own) in
         let exact = inserted-count store cookie now within.1 within.0 new in
-        let before : own_keys key store ≤ most = subst (λ d. length (domain_keys d store.made) ≤ most) (sym one) within.2 in
+        let before : own_keys key store ≤ most = subst (λ d. length (domain_keys d store.created) ≤ most) (sym one) within.2 in
         let all : own_keys key after ≤ most = omega (arith, exact, before, above) in
-        subst (λ d. length (domain_keys d after.made) ≤ most) one all)
+        subst (λ d. length (domain_keys d after.created) ≤ most) one all)
         (λ other.
-        let same = ap length (make-other (is_in domain) (without keys store).made key other) in
-        let fewer = filter-fewer (is_in domain) (is_none_of keys) store.made in
+        let same = ap length (add_created-other (is_in domain) (without keys store).created key other) in
+        let fewer = filter-fewer (is_in domain) (is_none_of keys) store.created in
         omega (arith, same, fewer, within.2))
         (cases_Bool (bytes_eq domain key.domain))
 
     -- after a reply, which shows whether the key is new
     store_by-within : (reply : Result StoreAction CookieError) (store : Contents) (cookie : Row) (now : Moment)
-        → (reply ≡ Ok Inserted → list_any (same_key (key_of cookie)) store.made ≡ false)
-        → (reply ≡ Ok UpdatedExisting → list_any (same_key (key_of cookie)) store.made ≡ true)
+        → (reply ≡ Ok Inserted → list_any (same_key (key_of cookie)) store.created ≡ false)
+        → (reply ≡ Ok UpdatedExisting → list_any (same_key (key_of cookie)) store.created ≡ true)
         → Within domain most store → Within domain most (store_by reply store cookie now)
     store_by-within (Ok Inserted) store cookie now new old within =
         let once = once-store_by (Ok Inserted) store cookie now within.0 in
         (once, within.1, inserted-within store cookie now within (new refl))
     store_by-within (Ok UpdatedExisting) store cookie now new old within =
         let once = once-store_by (Ok UpdatedExisting) store cookie now within.0 in
-        let same : make store.made (key_of cookie) ≡ store.made =
-        cond-true (list_any (same_key (key_of cookie)) store.made) store.made _ (old refl) in
+        let same : add_created store.created (key_of cookie) ≡ store.created =
+        cond-true (list_any (same_key (key_of cookie)) store.created) store.created _ (old refl) in
         (once, within.1, subst (λ keys. length (domain_keys domain keys) ≤ most) (sym same) within.2)
     store_by-within (Ok ExpiredExisting) store cookie now new old within =
         (once-store_by (Ok ExpiredExisting) store cookie now within.0, within.1, within.2)
@@ -132,7 +132,7 @@ module _ (limit : ℕ) (some : 0 < limit) where
         → Within domain most (store_by (reply_at (row_of (key_of cookie) store.rows) cookie url now) store cookie now)
     answer-within store cookie url now within =
         let row = row_of (key_of cookie) store.rows in
-        let known = row-made (key_of cookie) store within.0 in
+        let known = row-created (key_of cookie) store within.0 in
         store_by-within (reply_at row cookie url now) store cookie now
         (λ is. sym known ∙ reply_at-new row cookie url now is)
         (λ is. sym known ∙ reply_at-old row cookie url now is)
@@ -140,9 +140,9 @@ module _ (limit : ℕ) (some : 0 < limit) where
 
     -- after a row is removed
     removed-within : (key : Key) (store : Contents) → Within domain most store
-        → Within domain most (record store { rows = removed (has_key key) store.rows; made = removed (same_key key) store.made })
+        → Within domain most (record store { rows = removed (has_key key) store.rows; created = removed (same_key key) store.created })
     removed-within key store within =
-        let fewer = removed-fewer (is_in domain) (same_key key) store.made in
+        let fewer = removed-fewer (is_in domain) (same_key key) store.created in
         (once-removed key store within.0, within.1, omega (arith, fewer, within.2))
 
     -- and after calls
@@ -155,19 +155,19 @@ abbrev domain_count : List ℕ → Contents → ℕ
 domain_count domain store = length (domain_rows domain store.rows)
 
 -- as many as keys
-rows-as-keys : (domain : List ℕ) (store : Contents) → MadeOnce store.rows store.made
-    → domain_count domain store ≡ length (domain_keys domain store.made)
+rows-as-keys : (domain : List ℕ) (store : Contents) → MadeOnce store.rows store.created
+    → domain_count domain store ≡ length (domain_keys domain store.created)
 rows-as-keys domain store once = once.0 (is_in domain)
 
 -- no more after calls than the limit, or than before
 pub limited_rows : (domain : List ℕ) (calls : List Call) (store : Contents) (limit : ℕ)
-    → HasMade store → store.limit ≡ Some limit → 0 < limit
+    → HasCreationOrder store → store.limit ≡ Some limit → 0 < limit
     → length (domain_rows domain (rows_after calls store)) ≤ max limit (length (domain_rows domain store.rows))
 limited_rows domain calls store limit has under some =
     let once = once_from_made store has in
     let most = max limit (domain_count domain store) in
     let before = rows-as-keys domain store once in
-    let starts : length (domain_keys domain store.made) ≤ most = omega (arith, before) in
+    let starts : length (domain_keys domain store.created) ≤ most = omega (arith, before) in
     let within = within-after limit some domain most (omega arith) calls store (once, under, starts) in
     let after = rows-as-keys domain (store_after calls store) within.0 in
     omega (arith, after, within.2)
@@ -177,14 +177,14 @@ abbrev Fills : ℕ → List ℕ → Contents → Contents → Type 0
 Fills limit domain before after = domain_count domain after ≡ min limit (domain_count domain before + 1)
 
 -- an admitted cookie of the key, or an error
-entered-fills : (key : Key) (made : Result Row CookieError) (url : Parts) (now : Moment) (store : Contents) (limit : ℕ) → HasKey key made
-    → MadeOnce store.rows store.made → store.limit ≡ Some limit → 0 < limit → (entered made url now store).reply ≡ Ok Inserted
-    → Fills limit key.domain store (entered made url now store).store
+entered-fills : (key : Key) (created : Result Row CookieError) (url : Parts) (now : Moment) (store : Contents) (limit : ℕ) → HasKey key created
+    → MadeOnce store.rows store.created → store.limit ≡ Some limit → 0 < limit → (entered created url now store).reply ≡ Ok Inserted
+    → Fills limit key.domain store (entered created url now store).store
 entered-fills key (Err refusal) url now store limit same once under some is = absurd (grind (arith, is))
 entered-fills key (Ok cookie) url now store limit same once under some is =
     let own = key_of cookie in
     let row = row_of own store.rows in
-    let new = sym (row-made own store once) ∙ reply_at-new row cookie url now is in
+    let new = sym (row-created own store once) ∙ reply_at-new row cookie url now is in
     let before = rows-as-keys own.domain store once in
     let after = rows-as-keys own.domain (store_by (Ok Inserted) store cookie now) (once-store_by (Ok Inserted) store cookie now once) in
     let fills : Fills limit own.domain store (store_by (Ok Inserted) store cookie now) =
@@ -194,7 +194,7 @@ entered-fills key (Ok cookie) url now store limit same once under some is =
 
 -- any received cookie
 accept-fills : (store : Contents) (cookie : Row) (url : Parts) (now : Moment) (limit : ℕ)
-    → HasMade store → store.limit ≡ Some limit → 0 < limit → (accept store cookie url now).reply ≡ Ok Inserted
+    → HasCreationOrder store → store.limit ≡ Some limit → 0 < limit → (accept store cookie url now).reply ≡ Ok Inserted
     → Fills limit (domain_text cookie.domain) store (accept store cookie url now).store
 unfolding accept
 accept-fills store cookie url now limit has under some is =
@@ -202,10 +202,10 @@ accept-fills store cookie url now limit has under some is =
     (once_from_made store has) under some is
 
 -- and a received cookie, or the error from making it
-pub inserted_rows : (store : Contents) (made : Result Row CookieError) (url : Parts) (now : Moment) (cookie : Row) (limit : ℕ)
-    → HasMade store → store.limit ≡ Some limit → 0 < limit → made ≡ Ok cookie → (received store made url now).reply ≡ Ok Inserted
-    → length (domain_rows (domain_text cookie.domain) (received store made url now).store.rows)
+pub inserted_rows : (store : Contents) (created : Result Row CookieError) (url : Parts) (now : Moment) (cookie : Row) (limit : ℕ)
+    → HasCreationOrder store → store.limit ≡ Some limit → 0 < limit → created ≡ Ok cookie → (received store created url now).reply ≡ Ok Inserted
+    → length (domain_rows (domain_text cookie.domain) (received store created url now).store.rows)
     ≡ min limit (length (domain_rows (domain_text cookie.domain) store.rows) + 1)
-inserted_rows store made url now cookie limit has under some is inserted =
+inserted_rows store created url now cookie limit has under some is inserted =
     subst (λ m. Fills limit (domain_text cookie.domain) store (received store m url now).store) (sym is)
     (accept-fills store cookie url now limit has under some (sym (ap (λ m. (received store m url now).reply) is) ∙ inserted))

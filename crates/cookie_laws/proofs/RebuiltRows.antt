@@ -5,7 +5,7 @@ use Rattle.std.specs.Cmp.{IsEquivalence}
 use Rattle.std.proofs.lemmas.Bool.{and_parts, cond_both, cond-false}
 use Rattle.cookie_words.specs.Moments.{Moment}
 use Rattle.cookie_parts.specs.Cookie.{Row}
-use Rattle.cookie_laws.specs.Rows.{key_of, same_domain_equiv, same_group_equiv, same_key_equiv, has_key, in_domain, in_group, after_last, replaced, placed, put, put_all, built, differ, stand_together, are_rows}
+use Rattle.cookie_laws.specs.Rows.{key_of, same_domain_equiv, same_group_equiv, same_key_equiv, has_key, in_domain, in_group, after_last, replaced, placed, put, put_all, built, differ, are_adjacent, are_rows}
 
 -- rows, of which each has a key
 module _ {R K : Type 0} (key : R → K) where
@@ -23,7 +23,7 @@ module _ {R K : Type 0} (key : R → K) where
 
   -- if rows with alike keys are adjacent, and a later row is like x, no row before it is the last like x
   not_last : {alike : K → K → Bool} → IsEquivalence alike → (x z : R) (zs : List R) (y : R) (ys : List R)
-      → stand_together alike (map key (x ∷ z ∷ zs ++ y ∷ ys)) ≡ true
+      → are_adjacent alike (map key (x ∷ z ∷ zs ++ y ∷ ys)) ≡ true
       → (alike (key y) (key x) && not (list_any (λ r. alike (key y) (key r)) (z ∷ zs))) ≡ false
   not_last {alike = alike} laws x z zs y ys h =
       let followed : (alike (key x) (key z) || not (list_any (alike (key x)) (map key (zs ++ y ∷ ys)))) ≡ true = (and_parts _ _ h).0 in
@@ -31,7 +31,7 @@ module _ {R K : Type 0} (key : R → K) where
 
   -- so the place after the last such row before a row is its own
   last_before : {alike : K → K → Bool} → IsEquivalence alike → (xs : List R) (y : R) (ys : List R)
-      → stand_together alike (map key (xs ++ y ∷ ys)) ≡ true → after_last (λ x. alike (key y) (key x)) xs y ≡ xs ++ y ∷ []
+      → are_adjacent alike (map key (xs ++ y ∷ ys)) ≡ true → after_last (λ x. alike (key y) (key x)) xs y ≡ xs ++ y ∷ []
   last_before laws [] y ys h = refl
   last_before laws (x ∷ []) y ys h = grind arith
   last_before {alike = alike} laws (x ∷ z ∷ zs) y ys h =

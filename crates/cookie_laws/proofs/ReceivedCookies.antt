@@ -3,12 +3,12 @@ use Rattle.std.proofs.Common.{◌≡◌, true, false, Option, Some, Result, Ok, 
 use Rattle.url.specs.Parts.{Parts}
 use Rattle.cookie_words.specs.Moments.{Moment}
 use Rattle.cookie_psl.specs.Rules.{RuleList}
-use Rattle.cookie_parts.specs.Cookie.{Row, ended, is_out_of_reach}
+use Rattle.cookie_parts.specs.Cookie.{Row, expired_row, is_out_of_reach}
 use Rattle.cookie_parts.specs.Domain.{HostOnly, domain_matches, domain_text}
 use Rattle.cookie_parts.specs.Hosts.{host_of}
 use Rattle.cookie_parts.specs.declared.cookie_error.CookieError.{CookieError}
 use Rattle.cookie_parts.specs.declared.store_action.StoreAction.TheVariants.{ExpiredExisting}
-use Rattle.cookie_laws.specs.Acceptance.{IsPut, admitted, is_listed, received, Leaves}
+use Rattle.cookie_laws.specs.Acceptance.{IsPut, admitted, is_listed, received, IsEvicted}
 use Rattle.cookie_laws.specs.Contents.{Contents}
 use Rattle.cookie_laws.specs.Rows.{Key, changed, has_key, is_live, key_of, row_of, same_key}
 use Rattle.cookie_laws.proofs.ConfinedRows.{IfOk_at, MayCome, admitted-MayCome, own_host}
@@ -23,9 +23,9 @@ admitted-host suffixes url cookie entered enters alone =
 
 module _ (store : Contents) (url : Parts) (now : Moment) where
   -- a stored cookie is the row of its key, and a host-only cookie for the URL's host if its domain is listed
-  pub received-put : (made : Result Row CookieError) → IsPut (received store made url now).reply
-      → (cookie : Row) × (entered : Row) × (made ≡ Ok cookie) × (admitted store.suffixes url cookie ≡ Ok entered)
-      × (row_of (key_of cookie) (received store made url now).store.rows ≡ Some entered)
+  pub received-put : (created : Result Row CookieError) → IsPut (received store created url now).reply
+      → (cookie : Row) × (entered : Row) × (created ≡ Ok cookie) × (admitted store.suffixes url cookie ≡ Ok entered)
+      × (row_of (key_of cookie) (received store created url now).store.rows ≡ Some entered)
       × (is_listed store.suffixes entered.domain ≡ true → (entered.domain ≡ HostOnly (domain_text entered.domain)) × (host_of url ≡ Some (domain_text entered.domain)))
   received-put (Err refusal) was_put = absurd (refused-put refusal was_put)
   received-put (Ok cookie) was_put =
@@ -39,35 +39,35 @@ module _ (store : Contents) (url : Parts) (now : Moment) where
       )
 
   -- if a row is expired, a cookie was made and the row had not expired
-  pub received-live : (made : Result Row CookieError) → (received store made url now).reply ≡ Ok ExpiredExisting
-      → (cookie : Row) × (row : Row) × (made ≡ Ok cookie) × (row_of (key_of cookie) store.rows ≡ Some row) × (is_live now row ≡ true)
+  pub received-live : (created : Result Row CookieError) → (received store created url now).reply ≡ Ok ExpiredExisting
+      → (cookie : Row) × (row : Row) × (created ≡ Ok cookie) × (row_of (key_of cookie) store.rows ≡ Some row) × (is_live now row ≡ true)
   received-live (Err refusal) ends = absurd (grind (arith, ends))
   received-live (Ok cookie) ends =
       let (row, held, live) = accept-live store cookie url now ends in (cookie, row, refl, held, live)
 
-  module _ (made : Result Row CookieError) (cookie : Row) (is : made ≡ Ok cookie) (ends : (received store made url now).reply ≡ Ok ExpiredExisting) where
+  module _ (created : Result Row CookieError) (cookie : Row) (is : created ≡ Ok cookie) (ends : (received store created url now).reply ≡ Ok ExpiredExisting) where
     came : (received store (Ok cookie) url now).reply ≡ Ok ExpiredExisting
     came = sym (ap (λ m. (received store m url now).reply) is) ∙ ends
 
     -- the row of its key is expired
-    pub received-ends : (received store made url now).store ≡ record store { rows = changed (has_key (key_of cookie)) ended store.rows }
+    pub received-ends : (received store created url now).store ≡ record store { rows = changed (has_key (key_of cookie)) expired_row store.rows }
     received-ends = ap (λ m. (received store m url now).store) is ∙ accept-ends store cookie url now came
 
     pub received-ended_row : (row : Row) → row_of (key_of cookie) store.rows ≡ Some row
-        → row_of (key_of cookie) (received store made url now).store.rows ≡ Some (ended row)
+        → row_of (key_of cookie) (received store created url now).store.rows ≡ Some (expired_row row)
     received-ended_row row held =
         ap (λ m. row_of (key_of cookie) (received store m url now).store.rows) is
         ∙ accept-ended_row store cookie url now row came held
 
     -- and the rows of all other keys are unchanged
     pub received-other_row : (key : Key) → same_key key (key_of cookie) ≡ false
-        → row_of key (received store made url now).store.rows ≡ row_of key store.rows
+        → row_of key (received store created url now).store.rows ≡ row_of key store.rows
     received-other_row key away =
         ap (λ m. row_of key (received store m url now).store.rows) is ∙ accept-other_row store cookie url now key came away
 
   -- an unexpired HttpOnly row is unchanged for a scheme that is not HTTP, or evicted for an inserted cookie
-  pub received-guarded : (made : Result Row CookieError) (key : Key) (row : Row) → row_of key store.rows ≡ Some row → is_live now row ≡ true
-      → is_out_of_reach row.raw url ≡ true → (row_of key (received store made url now).store.rows ≡ Some row) ⊎ Leaves store made url now key
+  pub received-guarded : (created : Result Row CookieError) (key : Key) (row : Row) → row_of key store.rows ≡ Some row → is_live now row ≡ true
+      → is_out_of_reach row.raw url ≡ true → (row_of key (received store created url now).store.rows ≡ Some row) ⊎ IsEvicted store created url now key
   received-guarded (Err refusal) key row held live out = inl held
   received-guarded (Ok cookie) key row held live out =
       ⊎_elim (λ stays. inl stays) (λ (reply, leaves, gone). inr (cookie, refl, reply, leaves, gone))

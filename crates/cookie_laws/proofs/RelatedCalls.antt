@@ -16,7 +16,7 @@ use Rattle.cookie_laws.specs.Given.{given, is_given}
 use Rattle.cookie_laws.specs.Header.{InHeaderOrder}
 use Rattle.cookie_laws.specs.Rows.{Key, key_of}
 use Rattle.cookie_laws.specs.Runs.{Call, replies, rows_after, store_after}
-use Rattle.cookie_laws.specs.Related.{after_dots, is_related, passes_or_none, concerns, left, replies_to}
+use Rattle.cookie_laws.specs.Related.{after_dots, is_related, passes_or_none, may_affect, calls_related_to, replies_to}
 use Rattle.cookie_laws.proofs.CoveredHosts.{front-ends_with}
 use Rattle.cookie_laws.proofs.Filtered.{filter-within}
 use Rattle.cookie_laws.proofs.HeaderOrder.{same_order}
@@ -32,7 +32,7 @@ related_domains : (url : Parts) → IsByDomain (is_key_related url)
 related_domains url a b same = ap (is_related url) ((bytes_eq-Decides a.domain b.domain).0 same)
 
 -- the calls that concern a URL are those for related domains, and `Clear`
-related_calls : (url : Parts) → IsOfKeys (is_key_related url) (concerns url)
+related_calls : (url : Parts) → IsOfKeys (is_key_related url) (may_affect url)
 related_calls url = record {
   domains = related_domains url;
   calls = λ call key is. ap (passes_or_none (is_key_related url)) is;
@@ -86,28 +86,28 @@ all_related url now (row ∷ rows) = elim (cases_Bool (is_given url now row)) [
 
 -- what is given for a URL depends on the calls for related domains alone
 pub same_given : (url : Parts) (now : Moment) (calls : List Call) (store : Contents)
-    → given url now (rows_after calls store) ≡ given url now (rows_after (left url calls) store)
+    → given url now (rows_after calls store) ≡ given url now (rows_after (calls_related_to url calls) store)
 same_given url now calls store =
     let test = is_key_related url in
     let within = filter-within (λ row. test (key_of row)) (is_given url now) (given-related url now) in
     sym (within (rows_after calls store))
     ∙ ap (λ after. given url now after.rows) (same_stores (related_calls url) calls store)
-    ∙ within (rows_after (left url calls) store)
+    ∙ within (rows_after (calls_related_to url calls) store)
 
 -- so does its order in the header
 pub same_header : (url : Parts) (now : Moment) (calls : List Call) (store : Contents) (cookies : List Row)
-    → InHeaderOrder url now (store_after calls store) cookies → InHeaderOrder url now (store_after (left url calls) store) cookies
+    → InHeaderOrder url now (store_after calls store) cookies → InHeaderOrder url now (store_after (calls_related_to url calls) store) cookies
 same_header url now calls store cookies asked =
     let IsRelated : Row → Type 0 = λ row. is_key_related url (key_of row) ≡ true in
     let after = store_after calls store in
-    let alone = store_after (left url calls) store in
-    let made = ap (λ passing. passing.made) (same_stores (related_calls url) calls store) in
+    let alone = store_after (calls_related_to url calls) store in
+    let created = ap (λ passing. passing.created) (same_stores (related_calls url) calls store) in
     let related = All-from_recursion IsRelated (given url now after.rows) (all_related url now after.rows) in (
       subst (λ rows. IsPermutation rows cookies) (same_given url now calls store) asked.0,
-      same_order (is_key_related url) after.made alone.made made cookies
+      same_order (is_key_related url) after.created alone.created created cookies
           (All-permutation IsRelated (given url now after.rows) cookies asked.0 related) asked.1,
     )
 
 -- so do the replies to them
-pub same_related_replies : (url : Parts) (calls : List Call) (store : Contents) → replies_to (concerns url) calls store ≡ replies (left url calls) store
+pub same_related_replies : (url : Parts) (calls : List Call) (store : Contents) → replies_to (may_affect url) calls store ≡ replies (calls_related_to url calls) store
 same_related_replies url calls store = same_replies (related_calls url) calls store

@@ -2,7 +2,7 @@
 use Rattle.std.proofs.Common.{◌≡◌, Bool, true, false, cond, List, ◌∙◌, refl, sym, ap}
 use Rattle.std.specs.List.{filter, list_any}
 use Rattle.std.proofs.lemmas.Bool.{and_parts, cond_both}
-use Rattle.cookie_parts.specs.Cookie.{Row, ended}
+use Rattle.cookie_parts.specs.Cookie.{Row, expired_row}
 use Rattle.cookie_laws.specs.Rows.{Key, key_of, has_key, in_domain, in_group, row_of, after_last, changed, replaced, removed, placed, put, same_domain, same_key-true}
 use Rattle.cookie_laws.proofs.Filtered.{find-kept, list_any-kept, after_last-kept, after_last-lost, changed-kept, changed-lost, removed-kept, removed-lost}
 
@@ -85,13 +85,13 @@ put-other test rows cookie away =
     (λ _. placed-other test rows cookie away)
 
 -- the row of a passing key is expired
-pub ended-passing : (test : Key → Bool) (key : Key) (rows : List Row) → test key ≡ true → passing test (changed (has_key key) ended rows) ≡ changed (has_key key) ended (passing test rows)
-ended-passing test key rows here =
+pub expired_row-passing : (test : Key → Bool) (key : Key) (rows : List Row) → test key ≡ true → passing test (changed (has_key key) expired_row rows) ≡ changed (has_key key) expired_row (passing test rows)
+expired_row-passing test key rows here =
     let kept = has_key-passes test key true here in
-    changed-kept (λ row. test (key_of row)) (has_key key) ended kept kept rows
+    changed-kept (λ row. test (key_of row)) (has_key key) expired_row kept kept rows
 
 -- the row of a failing key is expired
-pub ended-other : (test : Key → Bool) (key : Key) (rows : List Row) → test key ≡ false → passing test (changed (has_key key) ended rows) ≡ passing test rows
-ended-other test key rows away =
+pub expired_row-other : (test : Key → Bool) (key : Key) (rows : List Row) → test key ≡ false → passing test (changed (has_key key) expired_row rows) ≡ passing test rows
+expired_row-other test key rows away =
     let lost = has_key-passes test key false away in
-    changed-lost (λ row. test (key_of row)) (has_key key) ended lost lost rows
+    changed-lost (λ row. test (key_of row)) (has_key key) expired_row lost lost rows

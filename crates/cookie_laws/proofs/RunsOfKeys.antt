@@ -5,7 +5,7 @@ use Rattle.std.specs.Result.{result_ok}
 use Rattle.std.proofs.lemmas.Bool.{cond-true, cond_both}
 use Rattle.url.specs.Parts.{Parts}
 use Rattle.cookie_words.specs.Moments.{Moment}
-use Rattle.cookie_parts.specs.Cookie.{Row, cookie_at}
+use Rattle.cookie_parts.specs.Cookie.{Row, cookie_from_header}
 use Rattle.cookie_parts.specs.declared.cookie_error.CookieError.{CookieError}
 use Rattle.cookie_laws.specs.Contents.{Contents}
 use Rattle.cookie_laws.specs.Rows.{Key, key_of}
@@ -28,16 +28,16 @@ abbrev passing_step : (Key → Bool) → Step → Step
 passing_step test after = record { reply = after.reply; store = passing_store test after.store }
 
 -- a made cookie whose key passes, or an error
-received-passing : (test : Key → Bool) → IsByDomain test → (store : Contents) (made : Result Row CookieError) (url : Parts) (now : Moment)
-    → ((key : Key) → option_map key_of (result_ok made) ≡ Some key → test key ≡ true)
-    → received (passing_store test store) made url now ≡ passing_outcome test (received store made url now)
+received-passing : (test : Key → Bool) → IsByDomain test → (store : Contents) (created : Result Row CookieError) (url : Parts) (now : Moment)
+    → ((key : Key) → option_map key_of (result_ok created) ≡ Some key → test key ≡ true)
+    → received (passing_store test store) created url now ≡ passing_outcome test (received store created url now)
 received-passing test by_domain store (Ok cookie) url now here = accept-passing test by_domain store cookie url now (here (key_of cookie) refl)
 received-passing test by_domain store (Err refusal) url now here = refl
 
 -- and one whose key does not
-received-other : (test : Key → Bool) → IsByDomain test → (store : Contents) (made : Result Row CookieError) (url : Parts) (now : Moment)
-    → ((key : Key) → option_map key_of (result_ok made) ≡ Some key → test key ≡ false)
-    → passing_store test (received store made url now).store ≡ passing_store test store
+received-other : (test : Key → Bool) → IsByDomain test → (store : Contents) (created : Result Row CookieError) (url : Parts) (now : Moment)
+    → ((key : Key) → option_map key_of (result_ok created) ≡ Some key → test key ≡ false)
+    → passing_store test (received store created url now).store ≡ passing_store test store
 received-other test by_domain store (Ok cookie) url now away = accept-other test by_domain store cookie url now (away (key_of cookie) refl)
 received-other test by_domain store (Err refusal) url now away = refl
 
@@ -45,7 +45,7 @@ received-other test by_domain store (Err refusal) url now away = refl
 step-kept : {test : Key → Bool} {keeps : Call → Bool} → IsOfKeys test keeps → (call : Call) (store : Contents) → keeps call ≡ true
     → step call (passing_store test store) ≡ passing_step test (step call store)
 step-kept {test} {keeps} h (Set text url now) store kept =
-    ap stored (received-passing test h.domains store (cookie_at text url now) url now
+    ap stored (received-passing test h.domains store (cookie_from_header text url now) url now
     (λ key is. sym (h.calls (Set text url now) key is) ∙ kept))
 step-kept {test} {keeps} h (Insert cookie url now) store kept =
     ap stored (accept-passing test h.domains store cookie url now
@@ -54,23 +54,23 @@ step-kept {test} {keeps} h (Remove key) store kept =
     let here : test key ≡ true = sym (h.calls (Remove key) key refl) ∙ kept in
     let told = row_of-passing test key store.rows here in
     let rows = removed-passing test key store.rows here in
-    let made = unmade-passing test key store.made here in
-    λ i. record { reply = Removed (told i); store = record store { rows = sym rows i; made = sym made i } }
+    let created = unmade-passing test key store.created here in
+    λ i. record { reply = Removed (told i); store = record store { rows = sym rows i; created = sym created i } }
 step-kept {test} {keeps} h Clear store kept = refl
 
 -- a call that is not kept changes nothing among them
 step-lost : {test : Key → Bool} {keeps : Call → Bool} → IsOfKeys test keeps → (call : Call) (store : Contents) → keeps call ≡ false
     → passing_store test (step call store).store ≡ passing_store test store
 step-lost {test} {keeps} h (Set text url now) store lost =
-    received-other test h.domains store (cookie_at text url now) url now
+    received-other test h.domains store (cookie_from_header text url now) url now
     (λ key is. sym (h.calls (Set text url now) key is) ∙ lost)
 step-lost {test} {keeps} h (Insert cookie url now) store lost =
     accept-other test h.domains store cookie url now (sym (h.calls (Insert cookie url now) (key_of cookie) refl) ∙ lost)
 step-lost {test} {keeps} h (Remove key) store lost =
     let away : test key ≡ false = sym (h.calls (Remove key) key refl) ∙ lost in
     let rows = removed-other test key store.rows away in
-    let made = unmade-other test key store.made away in
-    λ i. record store { rows = rows i; made = made i }
+    let created = unmade-other test key store.created away in
+    λ i. record store { rows = rows i; created = created i }
 step-lost {test} {keeps} h Clear store lost = let kept = h.clear in cc
 
 -- the rows that pass, after a run, are the rows after the kept calls from those that passed

@@ -60,9 +60,9 @@ keys-count test [] = refl
 keys-count test (row ∷ rows) = grind (arith, keys-count test rows)
 
 -- keys that are counted as the rows are theirs
-pub permutation_from_alike : (rows : List Row) (made : List Key) → CountAlike rows made → IsPermutation (map key_of rows) made
-permutation_from_alike rows made alike = permutation_from_counts (map key_of rows) made (λ test. keys-count test rows ∙ alike test)
+pub permutation_from_alike : (rows : List Row) (created : List Key) → CountAlike rows created → IsPermutation (map key_of rows) created
+permutation_from_alike rows created alike = permutation_from_counts (map key_of rows) created (λ test. keys-count test rows ∙ alike test)
 
 -- and back
-pub alike_from_permutation : (rows : List Row) (made : List Key) → IsPermutation (map key_of rows) made → CountAlike rows made
-alike_from_permutation rows made moved test = sym (keys-count test rows) ∙ sym (permuted-count test (map key_of rows) made moved)
+pub alike_from_permutation : (rows : List Row) (created : List Key) → IsPermutation (map key_of rows) created → CountAlike rows created
+alike_from_permutation rows created moved test = sym (keys-count test rows) ∙ sym (permuted-count test (map key_of rows) created moved)

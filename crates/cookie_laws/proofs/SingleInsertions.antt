@@ -5,17 +5,17 @@ use Rattle.std.proofs.lemmas.Bool.{cond_both, cond-true, and_from, not-true, bot
 use Rattle.url.specs.Parts.{Parts}
 use Rattle.cookie_words.specs.Moments.{Moment}
 use Rattle.cookie_psl.specs.Rules.{RuleList}
-use Rattle.cookie_parts.specs.Cookie.{Row, and_then, ended, is_out_of_reach}
+use Rattle.cookie_parts.specs.Cookie.{Row, and_then, expired_row, is_out_of_reach}
 use Rattle.cookie_parts.specs.Domain.{HostOnly, domain_matches, domain_text, host_is_identical}
 use Rattle.cookie_parts.specs.declared.cookie_error.CookieError.{CookieError}
 use Rattle.cookie_parts.specs.declared.cookie_error.CookieError.TheVariants.{NonHttpScheme, DomainMismatch, PublicSuffix}
 use Rattle.cookie_parts.specs.declared.store_action.StoreAction.{StoreAction}
 use Rattle.cookie_parts.specs.declared.store_action.StoreAction.TheVariants.{Inserted, ExpiredExisting, UpdatedExisting}
-use Rattle.cookie_laws.specs.Contents.{Contents, leaving, without}
+use Rattle.cookie_laws.specs.Contents.{Contents, evicted, without}
 use Rattle.cookie_laws.specs.Rows.{Key, changed, has_key, is_live, key_of, row_of, same_key, same_key-true}
 use Rattle.cookie_laws.specs.Acceptance.{Outcome, IsPut, by_scheme, is_listed, by_list, by_domain, admitted, put_action, reply_at, store_by, outcome_by, entered, accept}
 use Rattle.cookie_laws.proofs.AcceptanceOfKeys.{HasKey, admitted-HasKey}
-use Rattle.cookie_laws.proofs.FoundRows.{row_of-ended, row_of-ended_other, row_of-leaves, row_of-put, row_of-put_other, row_of-stays}
+use Rattle.cookie_laws.proofs.FoundRows.{row_of-expired_row, row_of-ended_other, row_of-leaves, row_of-put, row_of-put_other, row_of-stays}
 
 -- a row whose domain is on the list, if there is one, is for that host alone
 abbrev IsOwnIfListed : Option RuleList → Row → Type 0
@@ -27,12 +27,12 @@ MakesOwn suffixes (Ok cookie) = IsOwnIfListed suffixes cookie
 MakesOwn suffixes (Err refusal) = Unit {0}
 
 -- a step that makes it so, after any other
-and_then-makes : (suffixes : Option RuleList) (made : Result Row CookieError) (next : Row → Result Row CookieError) → ((cookie : Row) → MakesOwn suffixes (next cookie)) → MakesOwn suffixes (and_then made next)
+and_then-makes : (suffixes : Option RuleList) (created : Result Row CookieError) (next : Row → Result Row CookieError) → ((cookie : Row) → MakesOwn suffixes (next cookie)) → MakesOwn suffixes (and_then created next)
 and_then-makes suffixes (Ok cookie) next after = after cookie
 and_then-makes suffixes (Err refusal) next after = tt
 
 -- a step that keeps it so, after one that made it so
-and_then-keeps : (suffixes : Option RuleList) (made : Result Row CookieError) (next : Row → Result Row CookieError) → MakesOwn suffixes made → ((cookie : Row) → IsOwnIfListed suffixes cookie → MakesOwn suffixes (next cookie)) → MakesOwn suffixes (and_then made next)
+and_then-keeps : (suffixes : Option RuleList) (created : Result Row CookieError) (next : Row → Result Row CookieError) → MakesOwn suffixes created → ((cookie : Row) → IsOwnIfListed suffixes cookie → MakesOwn suffixes (next cookie)) → MakesOwn suffixes (and_then created next)
 and_then-keeps suffixes (Ok cookie) next own after = after cookie own
 and_then-keeps suffixes (Err refusal) next own after = tt
 
@@ -60,7 +60,7 @@ admitted-own suffixes url cookie =
 -- after a reply that the cookie was stored, it is the row of its key
 row_of-store_by : (reply : Result StoreAction CookieError) (store : Contents) (cookie : Row) (now : Moment) → IsPut reply → row_of (key_of cookie) (store_by reply store cookie now).rows ≡ Some cookie
 row_of-store_by reply store cookie now (inl new) =
-    let rest = without (leaving store now (key_of cookie)) store in
+    let rest = without (evicted store now (key_of cookie)) store in
     ap (λ r. row_of (key_of cookie) (store_by r store cookie now).rows) new ∙ row_of-put rest.rows cookie
 row_of-store_by reply store cookie now (inr again) =
     ap (λ r. row_of (key_of cookie) (store_by r store cookie now).rows) again ∙ row_of-put store.rows cookie
@@ -71,11 +71,11 @@ refused-put refusal h = ⊎_elim (λ new. grind (arith, new)) (λ again. grind (
 
 -- the admitted cookie, and what holds of it once it is stored
 abbrev EntersAsOwn : Option RuleList → Key → Result Row CookieError → List Row → Type 0
-EntersAsOwn suffixes key made rows = (cookie : Row) × (made ≡ Ok cookie) × (row_of key rows ≡ Some cookie) × IsOwnIfListed suffixes cookie
+EntersAsOwn suffixes key created rows = (cookie : Row) × (created ≡ Ok cookie) × (row_of key rows ≡ Some cookie) × IsOwnIfListed suffixes cookie
 
 -- a cookie of the key that is stored is the row of that key
-entered-put : (key : Key) (made : Result Row CookieError) (url : Parts) (now : Moment) (store : Contents) → HasKey key made → MakesOwn store.suffixes made → IsPut (entered made url now store).reply
-    → EntersAsOwn store.suffixes key made (entered made url now store).store.rows
+entered-put : (key : Key) (created : Result Row CookieError) (url : Parts) (now : Moment) (store : Contents) → HasKey key created → MakesOwn store.suffixes created → IsPut (entered created url now store).reply
+    → EntersAsOwn store.suffixes key created (entered created url now store).store.rows
 entered-put key (Err refusal) url now store same own was_put = absurd (refused-put refusal was_put)
 entered-put key (Ok cookie) url now store same own was_put =
     let reply = reply_at (row_of (key_of cookie) store.rows) cookie url now in
@@ -92,15 +92,15 @@ accept-put store cookie url now was_put =
     (admitted-HasKey store.suffixes url cookie) (admitted-own store.suffixes url cookie) was_put
 
 -- if a cookie of the key expires a row, that is the row of the key, and everything else is unchanged
-entered-ends : (key : Key) (made : Result Row CookieError) (url : Parts) (now : Moment) (store : Contents) → HasKey key made → (entered made url now store).reply ≡ Ok ExpiredExisting
-    → (entered made url now store).store ≡ record store { rows = changed (has_key key) ended store.rows }
+entered-ends : (key : Key) (created : Result Row CookieError) (url : Parts) (now : Moment) (store : Contents) → HasKey key created → (entered created url now store).reply ≡ Ok ExpiredExisting
+    → (entered created url now store).store ≡ record store { rows = changed (has_key key) expired_row store.rows }
 entered-ends key (Err refusal) url now store same ends = absurd (grind (arith, ends))
 entered-ends key (Ok cookie) url now store same ends =
-    ap (λ reply. store_by reply store cookie now) ends ∙ ap {B = Contents} (λ k. record store { rows = changed (has_key k) ended store.rows }) same
+    ap (λ reply. store_by reply store cookie now) ends ∙ ap {B = Contents} (λ k. record store { rows = changed (has_key k) expired_row store.rows }) same
 
 -- the same for any received cookie
 pub accept-ends : (store : Contents) (cookie : Row) (url : Parts) (now : Moment) → (accept store cookie url now).reply ≡ Ok ExpiredExisting
-    → (accept store cookie url now).store ≡ record store { rows = changed (has_key (key_of cookie)) ended store.rows }
+    → (accept store cookie url now).store ≡ record store { rows = changed (has_key (key_of cookie)) expired_row store.rows }
 unfolding accept
 accept-ends store cookie url now ends =
     entered-ends (key_of cookie) (admitted store.suffixes url cookie) url now store (admitted-HasKey store.suffixes url cookie) ends
@@ -120,7 +120,7 @@ reply_at-live None cookie url now ends = absurd (grind (arith, ends, put_action-
 reply_at-live (Some row) cookie url now ends = (row, refl, grind (arith, ends, put_action-not_ended (Some row)))
 
 -- so the row of the cookie's key had not expired
-entered-live : (key : Key) (made : Result Row CookieError) (url : Parts) (now : Moment) (store : Contents) → HasKey key made → (entered made url now store).reply ≡ Ok ExpiredExisting
+entered-live : (key : Key) (created : Result Row CookieError) (url : Parts) (now : Moment) (store : Contents) → HasKey key created → (entered created url now store).reply ≡ Ok ExpiredExisting
     → HasLive now (row_of key store.rows)
 entered-live key (Err refusal) url now store same ends = absurd (grind (arith, ends))
 entered-live key (Ok cookie) url now store same ends =
@@ -136,9 +136,9 @@ accept-live store cookie url now ends =
 
 -- the row that was expired
 pub accept-ended_row : (store : Contents) (cookie : Row) (url : Parts) (now : Moment) (row : Row) → (accept store cookie url now).reply ≡ Ok ExpiredExisting
-    → row_of (key_of cookie) store.rows ≡ Some row → row_of (key_of cookie) (accept store cookie url now).store.rows ≡ Some (ended row)
+    → row_of (key_of cookie) store.rows ≡ Some row → row_of (key_of cookie) (accept store cookie url now).store.rows ≡ Some (expired_row row)
 accept-ended_row store cookie url now row ends held =
-    ap (λ after. row_of (key_of cookie) after.rows) (accept-ends store cookie url now ends) ∙ row_of-ended (key_of cookie) store.rows row held
+    ap (λ after. row_of (key_of cookie) after.rows) (accept-ends store cookie url now ends) ∙ row_of-expired_row (key_of cookie) store.rows row held
 
 -- the row of another key is unchanged
 pub accept-other_row : (store : Contents) (cookie : Row) (url : Parts) (now : Moment) (key : Key) → (accept store cookie url now).reply ≡ Ok ExpiredExisting
@@ -152,8 +152,8 @@ reply_at-guarded row cookie url now live out =
     cond-true (is_live now row && is_out_of_reach row.raw url) _ _ (and_from (is_live now row) (is_out_of_reach row.raw url) live out)
 
 -- so a cookie of its key leaves the store unchanged
-entered-guarded_same : (key : Key) (made : Result Row CookieError) (url : Parts) (now : Moment) (store : Contents) (row : Row) → HasKey key made
-    → row_of key store.rows ≡ Some row → is_live now row ≡ true → is_out_of_reach row.raw url ≡ true → (entered made url now store).store ≡ store
+entered-guarded_same : (key : Key) (created : Result Row CookieError) (url : Parts) (now : Moment) (store : Contents) (row : Row) → HasKey key created
+    → row_of key store.rows ≡ Some row → is_live now row ≡ true → is_out_of_reach row.raw url ≡ true → (entered created url now store).store ≡ store
 entered-guarded_same key (Err refusal) url now store row same held live out = refl
 entered-guarded_same key (Ok cookie) url now store row same held live out =
     let found : row_of (key_of cookie) store.rows ≡ Some row = ap (λ k. row_of k store.rows) same ∙ held in
@@ -170,7 +170,7 @@ accept-guarded_same store cookie url now row held live out =
 -- the row of the key is evicted for a cookie of the other key that is inserted, and is no longer stored
 abbrev LeavesFor : Contents → Moment → Key → Key → Outcome → Type 0
 LeavesFor store now key own outcome =
-    (outcome.reply ≡ Ok Inserted) × (list_any (same_key key) (leaving store now own) ≡ true) × (row_of key outcome.store.rows ≡ None)
+    (outcome.reply ≡ Ok Inserted) × (list_any (same_key key) (evicted store now own) ≡ true) × (row_of key outcome.store.rows ≡ None)
 
 -- the row of the key is unchanged or evicted
 abbrev StaysOrLeaves : Contents → Moment → Key → Key → Outcome → Type 0
@@ -180,7 +180,7 @@ StaysOrLeaves store now key own outcome = (row_of key outcome.store.rows ≡ row
 outcome_by-other : (reply : Result StoreAction CookieError) (store : Contents) (cookie : Row) (now : Moment) (key : Key) → same_key key (key_of cookie) ≡ false
     → StaysOrLeaves store now key (key_of cookie) (outcome_by reply store cookie now)
 outcome_by-other (Ok Inserted) store cookie now key away =
-    let keys = leaving store now (key_of cookie) in
+    let keys = evicted store now (key_of cookie) in
     let rest = without keys store in
     let put_other = row_of-put_other key rest.rows cookie away in
     ⊎_elim (λ leaves. inr (refl, leaves, put_other ∙ row_of-leaves keys key store leaves))
@@ -191,8 +191,8 @@ outcome_by-other (Ok ExpiredExisting) store cookie now key away = inl (row_of-en
 outcome_by-other (Err refusal) store cookie now key away = inl refl
 
 -- the same for an admitted cookie, or an error
-entered-other_key : (own : Key) (made : Result Row CookieError) (url : Parts) (now : Moment) (store : Contents) (key : Key) → HasKey own made → same_key key own ≡ false
-    → StaysOrLeaves store now key own (entered made url now store)
+entered-other_key : (own : Key) (created : Result Row CookieError) (url : Parts) (now : Moment) (store : Contents) (key : Key) → HasKey own created → same_key key own ≡ false
+    → StaysOrLeaves store now key own (entered created url now store)
 entered-other_key own (Err refusal) url now store key same away = inl refl
 entered-other_key own (Ok cookie) url now store key same away =
     let reply = reply_at (row_of (key_of cookie) store.rows) cookie url now in

@@ -7,12 +7,12 @@ use Rattle.std.proofs.lemmas.List.Folds.{list_any-append}
 use Rattle.cookie_words.specs.Moments.{Moment}
 use Rattle.cookie_parts.specs.Cookie.{Row, is_expired}
 use Rattle.cookie_parts.specs.Hosts.{passes}
-use Rattle.cookie_laws.specs.Contents.{Contents, HasMade, beyond, by_turn, has_ended, leaving}
+use Rattle.cookie_laws.specs.Contents.{Contents, HasCreationOrder, over_limit, eviction_order, has_expired, evicted}
 use Rattle.cookie_laws.specs.Rows.{Key, differ, row_of, same_domain, same_domain_equiv, same_key, same_key_equiv}
 use Rattle.cookie_laws.proofs.Filtered.{list_any-kept, none-apart}
-use Rattle.cookie_laws.proofs.LimitedRows.{row-made}
+use Rattle.cookie_laws.proofs.LimitedRows.{row-created}
 use Rattle.cookie_laws.proofs.MadeKeys.{once_from_made}
-use Rattle.cookie_laws.proofs.StoresOfKeys.{beyond-apart, same_key-passes}
+use Rattle.cookie_laws.proofs.StoresOfKeys.{over_limit-apart, same_key-passes}
 
 -- which of two items comes first
 module _ {T : Type 0} where
@@ -65,10 +65,10 @@ none-in_front key (k ∷ ks) back d =
     grind (arith, same_key_equiv.symm key k, apart, none-in_front key ks back rest)
 
 -- so of two of them the one in front comes first
-made_before : (first later : Key) (front between back made : List Key) → made ≡ front ++ first ∷ (between ++ later ∷ back)
-    → differ same_key made ≡ true → comes_first (same_key first) (same_key later) made ≡ true
+made_before : (first later : Key) (front between back created : List Key) → created ≡ front ++ first ∷ (between ++ later ∷ back)
+    → differ same_key created ≡ true → comes_first (same_key first) (same_key later) created ≡ true
 unfolding comes_first
-made_before first later front between back made is d =
+made_before first later front between back created is d =
     let all : (front ++ first ∷ between) ++ later ∷ back ≡ front ++ first ∷ (between ++ later ∷ back) =
     append_assoc front (first ∷ between) (later ∷ back) in
     let none : list_any (same_key later) (front ++ first ∷ between) ≡ false =
@@ -86,12 +86,12 @@ passes-some test None passed = absurd (cc)
 passes-some test (Some x) passed = refl
 
 -- if the later key is evicted, so is the one that comes first in eviction order
-beyond-first : (limit : Option ℕ) (now : Moment) (rows : List Row) (keys : List Key) (first later : Key)
-    → comes_first (same_key first) (same_key later) (by_turn now rows keys) ≡ true
-    → list_any (same_key later) (beyond limit now rows keys) ≡ true → list_any (same_key first) (beyond limit now rows keys) ≡ true
-beyond-first None now rows keys first later comes leaves = absurd (cc)
-beyond-first (Some limit) now rows keys first later comes leaves =
-    first-taken (same_key first) (same_key later) (length keys + 1 - limit) (by_turn now rows keys) comes leaves
+over_limit-first : (limit : Option ℕ) (now : Moment) (rows : List Row) (keys : List Key) (first later : Key)
+    → comes_first (same_key first) (same_key later) (eviction_order now rows keys) ≡ true
+    → list_any (same_key later) (over_limit limit now rows keys) ≡ true → list_any (same_key first) (over_limit limit now rows keys) ≡ true
+over_limit-first None now rows keys first later comes leaves = absurd (cc)
+over_limit-first (Some limit) now rows keys first later comes leaves =
+    first-taken (same_key first) (same_key later) (length keys + 1 - limit) (eviction_order now rows keys) comes leaves
 
 -- a key of which a test is false is not among keys that pass it
 none-passing : (test : Key → Bool) (key : Key) (keys : List Key) → test key ≡ false → list_any (same_key key) (filter test keys) ≡ false
@@ -103,20 +103,20 @@ none-passing test key keys away =
     none-apart (same_key key) test apart keys
 
 -- an evicted key has the domain of the new one
-leaves-near : (store : Contents) (now : Moment) (new key : Key) → list_any (same_key key) (leaving store now new) ≡ true
+leaves-near : (store : Contents) (now : Moment) (new key : Key) → list_any (same_key key) (evicted store now new) ≡ true
     → same_domain new key ≡ true
 leaves-near store now new key leaves =
-    let keys = filter (same_domain new) store.made in
+    let keys = filter (same_domain new) store.created in
     ⊎_elim (λ near. near)
     (λ away.
-    let none = none-passing (same_domain new) key store.made away in
-    let stays = beyond-apart store.limit now store.rows keys (same_key key) none in
-    absurd (both_ways (list_any (same_key key) (leaving store now new)) stays leaves))
+    let none = none-passing (same_domain new) key store.created away in
+    let stays = over_limit-apart store.limit now store.rows keys (same_key key) none in
+    absurd (both_ways (list_any (same_key key) (evicted store now new)) stays leaves))
     (cases_Bool (same_domain new key))
 
 -- the later key is evicted, and has the domain of the first
-module _ (store : Contents) (now : Moment) (new first later : Key) (has : HasMade store) (near : same_domain first later ≡ true)
-    (leaves : list_any (same_key later) (leaving store now new) ≡ true) where
+module _ (store : Contents) (now : Moment) (new first later : Key) (has : HasCreationOrder store) (near : same_domain first later ≡ true)
+    (leaves : list_any (same_key later) (evicted store now new) ≡ true) where
   -- the first is of that domain too
   first-near : same_domain new first ≡ true
   first-near =
@@ -124,42 +124,42 @@ module _ (store : Contents) (now : Moment) (new first later : Key) (has : HasMad
       ∙ leaves-near store now new later leaves
 
   -- if its row has expired, and that of the other has not, it is evicted
-  pub ended_first : has_ended now store.rows first ≡ true → has_ended now store.rows later ≡ false
-      → list_any (same_key first) (leaving store now new) ≡ true
+  pub ended_first : has_expired now store.rows first ≡ true → has_expired now store.rows later ≡ false
+      → list_any (same_key first) (evicted store now new) ≡ true
   ended_first over live =
-      let ended = has_ended now store.rows in
-      let keys = filter (same_domain new) store.made in
+      let expired_row = has_expired now store.rows in
+      let keys = filter (same_domain new) store.created in
       let row : is_some (row_of first store.rows) ≡ true = passes-some (is_expired now) (row_of first store.rows) over in
-      let made : list_any (same_key first) store.made ≡ true = sym (row-made first store (once_from_made store has)) ∙ row in
+      let created : list_any (same_key first) store.created ≡ true = sym (row-created first store (once_from_made store has)) ∙ row in
       let own : list_any (same_key first) keys ≡ true =
-      list_any-kept (same_domain new) (same_key first) (same_key-passes (same_domain new) first true first-near) store.made ∙ made in
-      let some : list_any (same_key first) (filter ended keys) ≡ true =
-      list_any-kept ended (same_key first) (same_key-passes ended first true over) keys ∙ own in
-      let comes = first-alone (same_key first) (same_key later) (filter ended keys) some (none-passing ended later keys live) in
-      beyond-first store.limit now store.rows keys first later
-      (first-before (same_key first) (same_key later) (filter ended keys) (filter (λ key. not (ended key)) keys) comes)
+      list_any-kept (same_domain new) (same_key first) (same_key-passes (same_domain new) first true first-near) store.created ∙ created in
+      let some : list_any (same_key first) (filter expired_row keys) ≡ true =
+      list_any-kept expired_row (same_key first) (same_key-passes expired_row first true over) keys ∙ own in
+      let comes = first-alone (same_key first) (same_key later) (filter expired_row keys) some (none-passing expired_row later keys live) in
+      over_limit-first store.limit now store.rows keys first later
+      (first-before (same_key first) (same_key later) (filter expired_row keys) (filter (λ key. not (expired_row key)) keys) comes)
       leaves
 
   -- if both have expired, or neither has, and it was created first, it is evicted
-  pub made_first : has_ended now store.rows first ≡ has_ended now store.rows later
-      → (front between back : List Key) → store.made ≡ front ++ first ∷ (between ++ later ∷ back)
-      → list_any (same_key first) (leaving store now new) ≡ true
+  pub made_first : has_expired now store.rows first ≡ has_expired now store.rows later
+      → (front between back : List Key) → store.created ≡ front ++ first ∷ (between ++ later ∷ back)
+      → list_any (same_key first) (evicted store now new) ≡ true
   made_first alike front between back is =
       let p = same_key first in
       let q = same_key later in
-      let ended = has_ended now store.rows in
-      let keys = filter (same_domain new) store.made in
+      let expired_row = has_expired now store.rows in
+      let keys = filter (same_domain new) store.created in
       let comes : comes_first p q keys ≡ true =
-      first-filtered p q (same_domain new) (same_key-passes (same_domain new) first true first-near) store.made
-      (made_before first later front between back store.made is has.1) in
-      let turn : comes_first p q (by_turn now store.rows keys) ≡ true =
+      first-filtered p q (same_domain new) (same_key-passes (same_domain new) first true first-near) store.created
+      (made_before first later front between back store.created is has.1) in
+      let turn : comes_first p q (eviction_order now store.rows keys) ≡ true =
       ⊎_elim (λ over.
-      first-before p q (filter ended keys) (filter (λ key. not (ended key)) keys)
-      (first-filtered p q ended (same_key-passes ended first true over) keys comes))
+      first-before p q (filter expired_row keys) (filter (λ key. not (expired_row key)) keys)
+      (first-filtered p q expired_row (same_key-passes expired_row first true over) keys comes))
       (λ live.
-      first-behind p q (filter ended keys) (filter (λ key. not (ended key)) keys)
-      (none-passing ended later keys (sym alike ∙ live))
-      (first-filtered p q (λ key. not (ended key))
-      (same_key-passes (λ key. not (ended key)) first true (ap not live)) keys comes))
-      (cases_Bool (ended first)) in
-      beyond-first store.limit now store.rows keys first later turn leaves
+      first-behind p q (filter expired_row keys) (filter (λ key. not (expired_row key)) keys)
+      (none-passing expired_row later keys (sym alike ∙ live))
+      (first-filtered p q (λ key. not (expired_row key))
+      (same_key-passes (λ key. not (expired_row key)) first true (ap not live)) keys comes))
+      (cases_Bool (expired_row first)) in
+      over_limit-first store.limit now store.rows keys first later turn leaves

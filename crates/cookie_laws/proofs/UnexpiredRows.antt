@@ -8,7 +8,7 @@ use Rattle.url.specs.Parts.{Parts}
 use Rattle.cookie_words.specs.Moments.{Moment, nanoseconds}
 use Rattle.cookie_parts.specs.Cookie.{Row, is_expired}
 use Rattle.cookie_parts.specs.Hosts.{passes}
-use Rattle.cookie_laws.specs.Contents.{Contents, HasMade, has_ended, unexpired}
+use Rattle.cookie_laws.specs.Contents.{Contents, HasCreationOrder, has_expired, unexpired}
 use Rattle.cookie_laws.specs.Given.{given, is_given}
 use Rattle.cookie_laws.specs.Rows.{Key, differ, has_key, is_live, key_of, live_rows, row_of, same_key, same_key_equiv}
 use Rattle.cookie_laws.proofs.CountedKeys.{CountAlike, alike-stays}
@@ -63,19 +63,19 @@ found-own (row ∷ rows) d =
 
 -- so a row has expired if and only if that of its key has
 live-own : (now : Moment) (all rows : List Row) → AllByRecursion (λ r. row_of (key_of r) all ≡ Some r) rows
-    → AllByRecursion (λ r. is_live now r ≡ not (has_ended now all (key_of r))) rows
+    → AllByRecursion (λ r. is_live now r ≡ not (has_expired now all (key_of r))) rows
 live-own now all [] found = tt
 live-own now all (row ∷ rows) found = (ap (λ r. not (passes (is_expired now) r)) (sym found.0), live-own now all rows found.1)
 
 -- the keys are still those of the rows
-pub made-unexpired : (store : Contents) (now : Moment) → HasMade store → HasMade (unexpired now store)
-made-unexpired store now has =
+pub created-unexpired : (store : Contents) (now : Moment) → HasCreationOrder store → HasCreationOrder (unexpired now store)
+created-unexpired store now has =
     let rows = store.rows in
-    let made = store.made in
-    let stays = λ (key : Key). not (has_ended now rows key) in
-    let keys = differ-permutation same_key same_key_equiv.symm made (map key_of rows) (IsPermutation-sym (map key_of rows) made has.0) has.1 in
+    let created = store.created in
+    let stays = λ (key : Key). not (has_expired now rows key) in
+    let keys = differ-permutation same_key same_key_equiv.symm created (map key_of rows) (IsPermutation-sym (map key_of rows) created has.0) has.1 in
     let same = filter-same (is_live now) (λ (row : Row). stays (key_of row)) rows (live-own now rows rows (found-own rows keys)) in
-    let alike = alike-stays rows made (alike_from_permutation rows made has.0) stays in (
-      permutation_from_alike (live_rows now rows) (filter stays made) (subst (λ (left : List Row). CountAlike left (filter stays made)) (sym same) alike),
-      differ-filter same_key stays made has.1,
+    let alike = alike-stays rows created (alike_from_permutation rows created has.0) stays in (
+      permutation_from_alike (live_rows now rows) (filter stays created) (subst (λ (calls_related_to : List Row). CountAlike calls_related_to (filter stays created)) (sym same) alike),
+      differ-filter same_key stays created has.1,
     )

@@ -5,14 +5,14 @@ use Rattle.std.specs.List.{list_any}
 use Rattle.url.specs.Parts.{Parts}
 use Rattle.cookie_words.specs.Moments.{Moment}
 use Rattle.cookie_psl.specs.Rules.{RuleList}
-use Rattle.cookie_parts.specs.Cookie.{Row, and_then, ended, is_expired, is_out_of_reach}
+use Rattle.cookie_parts.specs.Cookie.{Row, and_then, expired_row, is_expired, is_out_of_reach}
 use Rattle.cookie_parts.specs.Domain.{DomainValue, HostOnly, domain_matches, domain_text, host_is_identical, is_public_suffix}
 use Rattle.cookie_parts.specs.Hosts.{passes}
 use Rattle.cookie_parts.specs.declared.cookie_error.CookieError.{CookieError}
 use Rattle.cookie_parts.specs.declared.cookie_error.CookieError.TheVariants.{NonHttpScheme, NonRelativeScheme, DomainMismatch, Expired, Parse, PublicSuffix, UnspecifiedDomain}
 use Rattle.cookie_parts.specs.declared.store_action.StoreAction.{StoreAction}
 use Rattle.cookie_parts.specs.declared.store_action.StoreAction.TheVariants.{Inserted, ExpiredExisting, UpdatedExisting}
-use Rattle.cookie_laws.specs.Contents.{Contents, keep, leaving, without}
+use Rattle.cookie_laws.specs.Contents.{Contents, keep, evicted, without}
 use Rattle.cookie_laws.specs.Rows.{Key, changed, has_key, is_live, key_of, row_of, same_key}
 
 -- the result of an insertion, and the store after it
@@ -64,10 +64,10 @@ reply_at row cookie url now =
 -- the store after each result. Inserted: rows over the limit are evicted, then the cookie is added.
 -- Updated: the row is replaced. ExpiredExisting: the stored row is expired. Error: unchanged
 abbrev pub store_by : Result StoreAction CookieError → Contents → Row → Moment → Contents
-store_by (Ok Inserted) store cookie now = keep (without (leaving store now (key_of cookie)) store) cookie
+store_by (Ok Inserted) store cookie now = keep (without (evicted store now (key_of cookie)) store) cookie
 store_by (Ok UpdatedExisting) store cookie now = keep store cookie
 store_by (Ok ExpiredExisting) store cookie now =
-    record store { rows = changed (has_key (key_of cookie)) ended store.rows }
+    record store { rows = changed (has_key (key_of cookie)) expired_row store.rows }
 store_by (Err refusal) store cookie now = store
 
 -- a result, and the store after it
@@ -101,8 +101,8 @@ MayRefuse UnspecifiedDomain = ⊥
 MayRefuse other = ⊤
 
 -- the row of the key is evicted for a cookie that was made and is inserted
-abbrev pub Leaves : Contents → Result Row CookieError → Parts → Moment → Key → Type 0
-Leaves store made url now key =
-    (cookie : Row) × (made ≡ Ok cookie) × ((received store made url now).reply ≡ Ok Inserted)
-    × IsTrue (list_any (same_key key) (leaving store now (key_of cookie)))
-    × (row_of key (received store made url now).store.rows ≡ None)
+abbrev pub IsEvicted : Contents → Result Row CookieError → Parts → Moment → Key → Type 0
+IsEvicted store created url now key =
+    (cookie : Row) × (created ≡ Ok cookie) × ((received store created url now).reply ≡ Ok Inserted)
+    × IsTrue (list_any (same_key key) (evicted store now (key_of cookie)))
+    × (row_of key (received store created url now).store.rows ≡ None)

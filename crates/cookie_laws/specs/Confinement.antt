@@ -2,7 +2,7 @@
 use Rattle.std.specs.Prelude.{◌≡◌, ℕ, false, List, slice_get, Option, Some, Ok, ◌⊎◌}
 use Rattle.url.specs.Parts.{Parts}
 use Rattle.cookie_psl.specs.Rules.{RuleList, listed}
-use Rattle.cookie_parts.specs.Cookie.{Row, and_then, cookie_at, ended}
+use Rattle.cookie_parts.specs.Cookie.{Row, and_then, cookie_from_header, expired_row}
 use Rattle.cookie_parts.specs.Domain.{Suffix}
 use Rattle.cookie_parts.specs.Hosts.{host_of, passes, Covers}
 use Rattle.cookie_parts.specs.declared.store_action.StoreAction.TheVariants.{Inserted, UpdatedExisting}
@@ -11,27 +11,27 @@ use Rattle.cookie_laws.specs.Contents.{Contents}
 use Rattle.cookie_laws.specs.Runs.{Call, Set, Insert, Remove, Clear, Reply, Stored, replies}
 
 -- the call has this URL, and its cookie is admitted as this cookie
-abbrev pub Brings : Option RuleList → Call → Parts → Row → Type 0
-Brings suffixes (Set text url now) from cookie =
-    (from ≡ url) × (and_then (cookie_at text url now) (admitted suffixes url) ≡ Ok cookie)
-Brings suffixes (Insert given url now) from cookie = (from ≡ url) × (admitted suffixes url given ≡ Ok cookie)
-Brings suffixes (Remove key) from cookie = ⊥
-Brings suffixes Clear from cookie = ⊥
+abbrev pub Offers : Option RuleList → Call → Parts → Row → Type 0
+Offers suffixes (Set text url now) from cookie =
+    (from ≡ url) × (and_then (cookie_from_header text url now) (admitted suffixes url) ≡ Ok cookie)
+Offers suffixes (Insert given url now) from cookie = (from ≡ url) × (admitted suffixes url given ≡ Ok cookie)
+Offers suffixes (Remove key) from cookie = ⊥
+Offers suffixes Clear from cookie = ⊥
 
 -- the reply reports that the call stored a cookie: `Inserted` or `UpdatedExisting`
-abbrev pub SaysPut : Option Reply → Type 0
-SaysPut reply = (reply ≡ Some (Stored (Ok Inserted))) ⊎ (reply ≡ Some (Stored (Ok UpdatedExisting)))
+abbrev pub RepliesStored : Option Reply → Type 0
+RepliesStored reply = (reply ≡ Some (Stored (Ok Inserted))) ⊎ (reply ≡ Some (Stored (Ok UpdatedExisting)))
 
 -- accepted: in the run of these calls from this store, the call at this position has this URL and
 -- stored this cookie
 abbrev pub Accepts : List Call → Contents → ℕ → Parts → Row → Type 0
 Accepts calls store place from cookie =
-    ((call : Call) × (slice_get calls place ≡ Some call) × Brings store.suffixes call from cookie)
-    × SaysPut (slice_get (replies calls store) place)
+    ((call : Call) × (slice_get calls place ≡ Some call) × Offers store.suffixes call from cookie)
+    × RepliesStored (slice_get (replies calls store) place)
 
 -- the cookie is as it was stored, or was expired since
-abbrev pub IsPutOrEnded : Row → Row → Type 0
-IsPutOrEnded accepted cookie = (cookie ≡ accepted) ⊎ (cookie ≡ ended accepted)
+abbrev pub IsPutOrExpired : Row → Row → Type 0
+IsPutOrExpired accepted cookie = (cookie ≡ accepted) ⊎ (cookie ≡ expired_row accepted)
 
 -- both URLs have a host, and the hosts are equal
 abbrev pub HaveOneHost : Parts → Parts → Type 0
@@ -56,7 +56,7 @@ IsShared suffixes cookie a b =
 abbrev pub IsConfined : List Call → Contents → Parts → Row → Type 0
 IsConfined calls store url cookie =
     (place : ℕ) × (from : Parts) × (accepted : Row) × Accepts calls store place from accepted
-    × IsPutOrEnded accepted cookie × (HaveOneHost from url ⊎ IsShared store.suffixes cookie from url)
+    × IsPutOrExpired accepted cookie × (HaveOneHost from url ⊎ IsShared store.suffixes cookie from url)
 
 -- a call of the run accepted exactly this cookie, its expiry included; its URL and this one have
 -- the same host, or share the cookie

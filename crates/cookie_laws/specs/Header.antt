@@ -24,19 +24,19 @@ abbrev pub cookie_string : List Row → List ℕ
 cookie_string [] = []
 cookie_string (cookie ∷ cookies) = pair_text cookie ++ flat_map later_pair cookies
 
--- how many cookies were created before this one; `made` holds the keys in creation order
+-- how many cookies were created before this one; `created` holds the keys in creation order
 abbrev pub creation : List Key → Row → ℕ
-creation made cookie = position_or_len (same_key (key_of cookie)) made
+creation created cookie = position_or_len (same_key (key_of cookie)) created
 
 -- 5.4 step 2: longer paths first, and of equally long ones the cookie that was created first
 abbrev pub header_order : List Key → Row → Row → Ordering
-header_order made a b =
-    ordering_then (nat_cmp (length b.path.text) (length a.path.text)) (nat_cmp (creation made a) (creation made b))
+header_order created a b =
+    ordering_then (nat_cmp (length b.path.text) (length a.path.text)) (nat_cmp (creation created a) (creation created b))
 
 -- 5.4: the cookies of a request, each once, in the order of step 2
 abbrev pub InHeaderOrder : Parts → Moment → Contents → List Row → Type 0
 InHeaderOrder url now store cookies =
-    IsPermutation (given url now store.rows) cookies × IsSorted (header_order store.made) cookies
+    IsPermutation (given url now store.rows) cookies × IsSorted (header_order store.created) cookies
 
 -- 4.2.1: the value of the Cookie header of a request
 abbrev pub IsCookieHeader : Parts → Moment → Contents → List ℕ → Type 0

@@ -3,7 +3,7 @@ use Rattle.std.specs.Prelude.{ℕ, ◌==◌, Bool, true, false, ◌||◌, List, 
 use Rattle.std.specs.List.{list_any}
 use Rattle.std.specs.Result.{result_ok}
 use Rattle.url.specs.Parts.{Parts}
-use Rattle.cookie_parts.specs.Cookie.{Row, cookie_at}
+use Rattle.cookie_parts.specs.Cookie.{Row, cookie_from_header}
 use Rattle.cookie_parts.specs.Domain.{domain_text}
 use Rattle.cookie_parts.specs.Hosts.{host_of, passes}
 use Rattle.cookie_laws.specs.Contents.{Contents}
@@ -21,7 +21,7 @@ is_related url domain = passes (λ host. list_any (bytes_eq domain) (host ∷ af
 
 -- the key that a call is for; `Clear`, and a `Set` whose header value makes no cookie, have none
 abbrev pub call_key : Call → Option Key
-call_key (Set text url now) = option_map key_of (result_ok (cookie_at text url now))
+call_key (Set text url now) = option_map key_of (result_ok (cookie_from_header text url now))
 call_key (Insert cookie url now) = Some (key_of cookie)
 call_key (Remove key) = Some key
 call_key Clear = None
@@ -32,12 +32,12 @@ passes_or_none test None = true
 passes_or_none test (Some x) = test x
 
 -- the call is not unrelated: its key's domain is related to the URL, or it has no key
-abbrev pub concerns : Parts → Call → Bool
-concerns url call = passes_or_none (λ key. is_related url key.domain) (call_key call)
+abbrev pub may_affect : Parts → Call → Bool
+may_affect url call = passes_or_none (λ key. is_related url key.domain) (call_key call)
 
 -- the calls without the unrelated ones
-abbrev pub left : Parts → List Call → List Call
-left url calls = filter (concerns url) calls
+abbrev pub calls_related_to : Parts → List Call → List Call
+calls_related_to url calls = filter (may_affect url) calls
 
 -- the call is `Clear`
 abbrev pub is_clear : Call → Bool

@@ -126,29 +126,29 @@ put_all rows [] = rows
 put_all rows (cookie ∷ cookies) = put_all (put rows cookie) cookies
 
 -- the creation order after a key is stored: a new key comes last, a known one keeps its place
-abbrev pub make : List Key → Key → List Key
-make made key = if list_any (same_key key) made then made else made ++ key ∷ []
+abbrev pub add_created : List Key → Key → List Key
+add_created created key = if list_any (same_key key) created then created else created ++ key ∷ []
 
 -- the creation order after these keys are stored, one after the other
-abbrev pub make_all : List Key → List Key → List Key
-make_all made [] = made
-make_all made (key ∷ keys) = make_all (make made key) keys
+abbrev pub add_all_created : List Key → List Key → List Key
+add_all_created created [] = created
+add_all_created created (key ∷ keys) = add_all_created (add_created created key) keys
 
 -- all of the cookies, or only those that have not expired
 abbrev pub included : Bool → Moment → List Row → List Row
 included include_expired now cookies = if include_expired then cookies else live_rows now cookies
 
 -- rows, and their keys in creation order, oldest first
-pub record Kept : Type 0 where
+pub record RowsInOrder : Type 0 where
   pub rows : List Row
-  pub made : List Key
+  pub created : List Key
 
 -- the rows built from cookies, with or without the expired ones; their creation order is that of
 -- the list
-abbrev pub built : Bool → Moment → List Row → Kept
+abbrev pub built : Bool → Moment → List Row → RowsInOrder
 built include_expired now cookies =
     let taken = included include_expired now cookies in
-    record { rows = put_all [] taken; made = make_all [] (map key_of taken) }
+    record { rows = put_all [] taken; created = add_all_created [] (map key_of taken) }
 
 -- no two items are alike
 abbrev pub differ : {T : Type 0} → (T → T → Bool) → List T → Bool
@@ -156,14 +156,14 @@ differ alike [] = true
 differ alike (x ∷ xs) = not (list_any (alike x) xs) && differ alike xs
 
 -- items that are alike are adjacent: if the next item is not like this one, no later item is
-abbrev pub stand_together : {T : Type 0} → (T → T → Bool) → List T → Bool
-stand_together alike [] = true
-stand_together alike (x ∷ []) = true
-stand_together alike (x ∷ y ∷ ys) =
-    (alike x y || not (list_any (alike x) ys)) && stand_together alike (y ∷ ys)
+abbrev pub are_adjacent : {T : Type 0} → (T → T → Bool) → List T → Bool
+are_adjacent alike [] = true
+are_adjacent alike (x ∷ []) = true
+are_adjacent alike (x ∷ y ∷ ys) =
+    (alike x y || not (list_any (alike x) ys)) && are_adjacent alike (y ∷ ys)
 
 -- keys differ, the rows of a domain are adjacent, and in them those of a path
 abbrev pub are_rows : List Row → Bool
 are_rows rows =
     let keys = map key_of rows in
-    differ same_key keys && (stand_together same_domain keys && stand_together same_group keys)
+    differ same_key keys && (are_adjacent same_domain keys && are_adjacent same_group keys)

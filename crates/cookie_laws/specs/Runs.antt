@@ -2,7 +2,7 @@
 use Rattle.std.specs.Prelude.{◌≡◌, ℕ, List, [], ◌∷◌, Option, Result, Ok, Err, ⊤}
 use Rattle.url.specs.Parts.{Parts}
 use Rattle.cookie_words.specs.Moments.{Moment}
-use Rattle.cookie_parts.specs.Cookie.{Row, cookie_at}
+use Rattle.cookie_parts.specs.Cookie.{Row, cookie_from_header}
 use Rattle.cookie_parts.specs.declared.cookie_error.CookieError.{CookieError}
 use Rattle.cookie_parts.specs.declared.cookie_error.CookieError.TheVariants.{Memory}
 use Rattle.cookie_parts.specs.declared.store_action.StoreAction.{StoreAction}
@@ -39,13 +39,13 @@ stored outcome = record { reply = Stored outcome.reply; store = outcome.store }
 
 -- RFC 6265 5.3: the reply to a call, and the store after it
 abbrev pub step : Call → Contents → Step
-step (Set text url now) store = stored (received store (cookie_at text url now) url now)
+step (Set text url now) store = stored (received store (cookie_from_header text url now) url now)
 step (Insert cookie url now) store = stored (accept store cookie url now)
 step (Remove key) store = record {
   reply = Removed (row_of key store.rows);
-  store = record store { rows = removed (has_key key) store.rows; made = removed (same_key key) store.made };
+  store = record store { rows = removed (has_key key) store.rows; created = removed (same_key key) store.created };
 }
-step Clear store = record { reply = Cleared; store = record store { rows = []; made = [] } }
+step Clear store = record { reply = Cleared; store = record store { rows = []; created = [] } }
 
 -- the replies to a list of calls; each call is on the store that the previous one left
 abbrev pub replies : List Call → Contents → List Reply

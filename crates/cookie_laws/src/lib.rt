@@ -7,17 +7,17 @@
 //! definitions by its contracts, so the laws hold for every store.
 #![tactic(auto)]
 
-ghost use Rattle.cookie_parts.specs.Cookie.{Row, ended, is_out_of_reach};
+ghost use Rattle.cookie_parts.specs.Cookie.{Row, expired_row, is_out_of_reach};
 ghost use Rattle.cookie_parts.specs.Domain.{domain_text, HostOnly};
 ghost use Rattle.cookie_parts.specs.Hosts.{host_of};
 ghost use Rattle.cookie_parts.specs.declared.cookie_error.CookieError.{CookieError};
 ghost use Rattle.cookie_parts.specs.declared.store_action.StoreAction.TheVariants.{ExpiredExisting, Inserted};
-ghost use Rattle.cookie_laws.specs.Acceptance.{admitted, is_listed, received, IsPut, Leaves};
+ghost use Rattle.cookie_laws.specs.Acceptance.{admitted, is_listed, received, IsPut, IsEvicted};
 ghost use Rattle.cookie_laws.specs.Confinement.{IsConfined, IsConfinedAsPut};
-ghost use Rattle.cookie_laws.specs.Contents.{contents_of, has_ended, leaving, unexpired, Contents, HasMade};
+ghost use Rattle.cookie_laws.specs.Contents.{contents_of, has_expired, evicted, unexpired, Contents, HasCreationOrder};
 ghost use Rattle.cookie_laws.specs.Given.{given, is_given};
 ghost use Rattle.cookie_laws.specs.Header.{InHeaderOrder};
-ghost use Rattle.cookie_laws.specs.Related.{concerns, domain_calls, domain_keys, domain_rows, is_of_domain, is_related, left, replies_to};
+ghost use Rattle.cookie_laws.specs.Related.{may_affect, domain_calls, domain_keys, domain_rows, is_of_domain, is_related, calls_related_to, replies_to};
 ghost use Rattle.cookie_laws.specs.Rows.{are_rows, built, changed, has_key, is_live, key_of, row_of, same_domain, same_key, Key};
 ghost use Rattle.cookie_laws.specs.Runs.{Call, replies, rows_after, store_after};
 ghost use Rattle.cookie_psl.specs.Rules.{RuleList};
@@ -30,11 +30,11 @@ ghost use Rattle.url.specs.Parts.{Parts};
 /// given, nor their order in the Cookie header, nor the replies to the other calls.
 pub fn isolated()
     ensures given { (url : Parts) (now : Moment) (calls : List Call) (store : Contents)
-        → given url now (rows_after calls store) ≡ given url now (rows_after (left url calls) store) }
+        → given url now (rows_after calls store) ≡ given url now (rows_after (calls_related_to url calls) store) }
     ensures header { (url : Parts) (now : Moment) (calls : List Call) (store : Contents) (cookies : List Row)
-        → InHeaderOrder url now (store_after calls store) cookies → InHeaderOrder url now (store_after (left url calls) store) cookies }
+        → InHeaderOrder url now (store_after calls store) cookies → InHeaderOrder url now (store_after (calls_related_to url calls) store) cookies }
     ensures replies { (url : Parts) (calls : List Call) (store : Contents)
-        → replies_to (concerns url) calls store ≡ replies (left url calls) store }
+        → replies_to (may_affect url) calls store ≡ replies (calls_related_to url calls) store }
 {}
 
 /// The rows of a domain, their order, their creation order and the replies to the calls for the
@@ -42,43 +42,43 @@ pub fn isolated()
 pub fn per_domain()
     ensures rows { (domain : List ℕ) (calls : List Call) (store : Contents)
         → domain_rows domain (rows_after calls store) ≡ domain_rows domain (rows_after (domain_calls domain calls) store) }
-    ensures made { (domain : List ℕ) (calls : List Call) (store : Contents)
-        → domain_keys domain (store_after calls store).made ≡ domain_keys domain (store_after (domain_calls domain calls) store).made }
+    ensures created { (domain : List ℕ) (calls : List Call) (store : Contents)
+        → domain_keys domain (store_after calls store).created ≡ domain_keys domain (store_after (domain_calls domain calls) store).created }
     ensures replies { (domain : List ℕ) (calls : List Call) (store : Contents)
         → replies_to (is_of_domain domain) calls store ≡ replies (domain_calls domain calls) store }
 {}
 
 /// With a domain limit, a domain has at most `limit` rows after any calls, or at most as many as
 /// before if those were more. After a cookie is inserted, its domain has one row more than before,
-/// but at most `limit`. In a store that is built from cookies the creation order (`made`) holds the
-/// keys of the rows, each once, and calls keep it so.
+/// but at most `limit`. In a store that is built from cookies the creation order (`created`) holds
+/// the keys of the rows, each once, and calls keep it so.
 pub fn limited()
-    ensures rows { (domain : List ℕ) (calls : List Call) (store : Contents) (limit : ℕ) → HasMade store → store.limit ≡ Some limit
+    ensures rows { (domain : List ℕ) (calls : List Call) (store : Contents) (limit : ℕ) → HasCreationOrder store → store.limit ≡ Some limit
         → 0 < limit → length (domain_rows domain (rows_after calls store)) ≤ max limit (length (domain_rows domain store.rows)) }
-    ensures inserted { (store : Contents) (made : Result Row CookieError) (url : Parts) (now : Moment) (cookie : Row) (limit : ℕ)
-        → HasMade store → store.limit ≡ Some limit → 0 < limit
-        → made ≡ Ok cookie → (received store made url now).reply ≡ Ok Inserted
-        → length (domain_rows (domain_text cookie.domain) (received store made url now).store.rows)
+    ensures inserted { (store : Contents) (created : Result Row CookieError) (url : Parts) (now : Moment) (cookie : Row) (limit : ℕ)
+        → HasCreationOrder store → store.limit ≡ Some limit → 0 < limit
+        → created ≡ Ok cookie → (received store created url now).reply ≡ Ok Inserted
+        → length (domain_rows (domain_text cookie.domain) (received store created url now).store.rows)
         ≡ min limit (length (domain_rows (domain_text cookie.domain) store.rows) + 1) }
-    ensures made { (calls : List Call) (store : Contents) → HasMade store → HasMade (store_after calls store) }
+    ensures created { (calls : List Call) (store : Contents) → HasCreationOrder store → HasCreationOrder (store_after calls store) }
     ensures built { (include_expired : Bool) (now : Moment) (cookies : List Row) (suffixes : Option RuleList) (limit : Option ℕ)
-        → HasMade (contents_of (built include_expired now cookies) suffixes limit) }
+        → HasCreationOrder (contents_of (built include_expired now cookies) suffixes limit) }
 {}
 
 /// With a domain limit, rows of a domain are evicted in order: expired ones first, then the others,
 /// in each case those that were created first. So if an unexpired row is evicted, every expired row
 /// of its domain is; and of two rows that have both expired, or both not, the later is evicted only
 /// if the earlier is.
-pub fn leave_in_turn()
-    ensures ended { (store : Contents) (now : Moment) (new first later : Key) → HasMade store → same_domain first later ≡ true
-        → list_any (same_key later) (leaving store now new) ≡ true
-        → has_ended now store.rows first ≡ true → has_ended now store.rows later ≡ false
-        → list_any (same_key first) (leaving store now new) ≡ true }
-    ensures made { (store : Contents) (now : Moment) (new first later : Key) → HasMade store → same_domain first later ≡ true
-        → list_any (same_key later) (leaving store now new) ≡ true
-        → has_ended now store.rows first ≡ has_ended now store.rows later
-        → (front between back : List Key) → store.made ≡ front ++ first ∷ (between ++ later ∷ back)
-        → list_any (same_key first) (leaving store now new) ≡ true }
+pub fn evicted_in_order()
+    ensures expired_row { (store : Contents) (now : Moment) (new first later : Key) → HasCreationOrder store → same_domain first later ≡ true
+        → list_any (same_key later) (evicted store now new) ≡ true
+        → has_expired now store.rows first ≡ true → has_expired now store.rows later ≡ false
+        → list_any (same_key first) (evicted store now new) ≡ true }
+    ensures created { (store : Contents) (now : Moment) (new first later : Key) → HasCreationOrder store → same_domain first later ≡ true
+        → list_any (same_key later) (evicted store now new) ≡ true
+        → has_expired now store.rows first ≡ has_expired now store.rows later
+        → (front between back : List Key) → store.created ≡ front ++ first ∷ (between ++ later ∷ back)
+        → list_any (same_key first) (evicted store now new) ≡ true }
 {}
 
 /// Every cookie given after calls on a store without rows was accepted by one of these calls. That
@@ -94,42 +94,42 @@ pub fn confined()
 {}
 
 /// A cookie that is stored is the row of its key. If its domain is a listed public suffix, it is a
-/// host-only cookie for the host it came from. In this law and the next two `made` is the result of
-/// making the cookie, a cookie or an error; `insert` takes the cookie.
+/// host-only cookie for the host it came from. In this law and the next two `created` is the result
+/// of making the cookie, a cookie or an error; `insert` takes the cookie.
 pub fn listed_is_for_its_host()
-    ensures { (store : Contents) (made : Result Row CookieError) (url : Parts) (now : Moment)
-        → IsPut (received store made url now).reply → (cookie : Row) × (entered : Row)
-        × (made ≡ Ok cookie) × (admitted store.suffixes url cookie ≡ Ok entered)
-        × (row_of (key_of cookie) (received store made url now).store.rows ≡ Some entered)
+    ensures { (store : Contents) (created : Result Row CookieError) (url : Parts) (now : Moment)
+        → IsPut (received store created url now).reply → (cookie : Row) × (entered : Row)
+        × (created ≡ Ok cookie) × (admitted store.suffixes url cookie ≡ Ok entered)
+        × (row_of (key_of cookie) (received store created url now).store.rows ≡ Some entered)
         × (is_listed store.suffixes entered.domain ≡ true → (entered.domain ≡ HostOnly (domain_text entered.domain))
         × (host_of url ≡ Some (domain_text entered.domain))) }
 {}
 
 /// An insertion returns `ExpiredExisting` only if a cookie was made and the row of its key exists
 /// and has not expired. That row is expired, and everything else is unchanged.
-pub fn ends_one_row()
-    ensures live { (store : Contents) (made : Result Row CookieError) (url : Parts) (now : Moment)
-        → (received store made url now).reply ≡ Ok ExpiredExisting → (cookie : Row) × (row : Row)
-        × (made ≡ Ok cookie) × (row_of (key_of cookie) store.rows ≡ Some row) × (is_live now row ≡ true) }
-    ensures store { (store : Contents) (made : Result Row CookieError) (url : Parts) (now : Moment)
-        (cookie : Row) → made ≡ Ok cookie → (received store made url now).reply ≡ Ok ExpiredExisting
-        → (received store made url now).store ≡ record store { rows = changed (has_key (key_of cookie)) ended store.rows } }
-    ensures ends { (store : Contents) (made : Result Row CookieError) (url : Parts) (now : Moment)
-        (cookie row : Row) → made ≡ Ok cookie → (received store made url now).reply ≡ Ok ExpiredExisting
+pub fn expires_one_row()
+    ensures live { (store : Contents) (created : Result Row CookieError) (url : Parts) (now : Moment)
+        → (received store created url now).reply ≡ Ok ExpiredExisting → (cookie : Row) × (row : Row)
+        × (created ≡ Ok cookie) × (row_of (key_of cookie) store.rows ≡ Some row) × (is_live now row ≡ true) }
+    ensures store { (store : Contents) (created : Result Row CookieError) (url : Parts) (now : Moment)
+        (cookie : Row) → created ≡ Ok cookie → (received store created url now).reply ≡ Ok ExpiredExisting
+        → (received store created url now).store ≡ record store { rows = changed (has_key (key_of cookie)) expired_row store.rows } }
+    ensures ends { (store : Contents) (created : Result Row CookieError) (url : Parts) (now : Moment)
+        (cookie row : Row) → created ≡ Ok cookie → (received store created url now).reply ≡ Ok ExpiredExisting
         → row_of (key_of cookie) store.rows ≡ Some row
-        → row_of (key_of cookie) (received store made url now).store.rows ≡ Some (ended row) }
-    ensures others { (store : Contents) (made : Result Row CookieError) (url : Parts) (now : Moment)
-        (cookie : Row) (key : Key) → made ≡ Ok cookie → (received store made url now).reply ≡ Ok ExpiredExisting
+        → row_of (key_of cookie) (received store created url now).store.rows ≡ Some (expired_row row) }
+    ensures others { (store : Contents) (created : Result Row CookieError) (url : Parts) (now : Moment)
+        (cookie : Row) (key : Key) → created ≡ Ok cookie → (received store created url now).reply ≡ Ok ExpiredExisting
         → same_key key (key_of cookie) ≡ false
-        → row_of key (received store made url now).store.rows ≡ row_of key store.rows }
+        → row_of key (received store created url now).store.rows ≡ row_of key store.rows }
 {}
 
 /// No insertion from a scheme that is not HTTP replaces or expires an HttpOnly row that has not
 /// expired. With a domain limit, such a row may be evicted for a cookie that is inserted.
 pub fn guarded()
-    ensures { (store : Contents) (made : Result Row CookieError) (url : Parts) (now : Moment)
+    ensures { (store : Contents) (created : Result Row CookieError) (url : Parts) (now : Moment)
         (key : Key) (row : Row) → row_of key store.rows ≡ Some row → is_live now row ≡ true → is_out_of_reach row.raw url ≡ true
-        → (row_of key (received store made url now).store.rows ≡ Some row) ⊎ Leaves store made url now key }
+        → (row_of key (received store created url now).store.rows ≡ Some row) ⊎ IsEvicted store created url now key }
 {}
 
 /// Building a store from all the rows of a store, in their order, gives the same rows in the same
@@ -147,7 +147,7 @@ pub fn given_is_related()
 /// The cookies of a request have exactly one order in the Cookie header: two lists of them in
 /// header order are equal.
 pub fn one_header_order()
-    ensures { (url : Parts) (now : Moment) (store : Contents) (cookies others : List Row) → are_rows store.rows ≡ true → HasMade store
+    ensures { (url : Parts) (now : Moment) (store : Contents) (cookies others : List Row) → are_rows store.rows ≡ true → HasCreationOrder store
         → InHeaderOrder url now store cookies → InHeaderOrder url now store others → cookies ≡ others }
 {}
 
@@ -156,5 +156,5 @@ pub fn one_header_order()
 pub fn given_without_expired()
     ensures given { (store : Contents) (url : Parts) (now later : Moment) → nanoseconds now ≤ℤ nanoseconds later
         → given url later (unexpired now store).rows ≡ given url later store.rows }
-    ensures made { (store : Contents) (now : Moment) → HasMade store → HasMade (unexpired now store) }
+    ensures created { (store : Contents) (now : Moment) → HasCreationOrder store → HasCreationOrder (unexpired now store) }
 {}

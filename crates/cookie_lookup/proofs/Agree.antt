@@ -8,7 +8,7 @@ use Rattle.std.proofs.lemmas.Slice.Eq.{bytes_eq-Decides}
 use Rattle.cookie_parts.specs.Cookie.{Row}
 use Rattle.cookie_laws.specs.Rows.{differ}
 use Rattle.cookie_lookup.specs.Groups.{PathGroups, DomainGroups}
-use Rattle.cookie_lookup.specs.Seen.{Spot, place_of, under, row_spots, path_spots, domain_spots, at_path, at_domain}
+use Rattle.cookie_lookup.specs.SearchView.{RowPosition, place_of, under, row_positions, path_positions, domain_positions, at_path, at_domain}
 use Rattle.cookie_lookup.proofs.Cuts.{bool_cases}
 
 module _ {X : Type 0} (F : ℕ → List X → ℕ) where
@@ -98,10 +98,10 @@ pub sum_alike : {T : Type 0} (f h : T → ℕ) → ((t : T) → f t ≡ h t) →
 sum_alike f h e [] = refl
 sum_alike f h e (t ∷ ts) = omega (arith, sum_by-cons f t ts, sum_by-cons h t ts, e t, sum_alike f h e ts)
 
-module _ (test : Row → Bool) (f : Spot → ℕ) where
+module _ (test : Row → Bool) (f : RowPosition → ℕ) where
   -- what the rows of a path's group add
   abbrev pub rows_sum : ℕ → ℕ → List Row → ℕ
-  rows_sum d p rows = sum_by f (row_spots test d p 0 rows)
+  rows_sum d p rows = sum_by f (row_positions test d p 0 rows)
 
   path_sum : (d : ℕ) (paths : PathGroups) (text : List ℕ) → sum_by f (at_path test d paths text) ≡ value (rows_sum d) 0 text paths
   path_sum d paths text = go d paths text (place_of text paths) refl ∙ answer_value (rows_sum d) 0 text paths
@@ -110,12 +110,12 @@ module _ (test : Row → Bool) (f : Spot → ℕ) where
       go d paths text None e = rw (at_path, e) refl
       go d paths text (Some p) e = let z : 0 + p ≡ p = omega arith in rw (at_path, e) (sym (ap (λ m. rows_sum d m (under p paths)) z))
 
-  path_total : (d p : ℕ) (paths : PathGroups) → total (rows_sum d) p paths ≡ sum_by f (path_spots test d p paths)
+  path_total : (d p : ℕ) (paths : PathGroups) → total (rows_sum d) p paths ≡ sum_by f (path_positions test d p paths)
   path_total d p [] = refl
-  path_total d p (g ∷ gs) = omega (arith, sum_by-append f (row_spots test d p 0 g.1) (path_spots test d (p + 1) gs), path_total d (p + 1) gs)
+  path_total d p (g ∷ gs) = omega (arith, sum_by-append f (row_positions test d p 0 g.1) (path_positions test d (p + 1) gs), path_total d (p + 1) gs)
 
   pub paths_agree : (d : ℕ) (texts : List (List ℕ)) (paths : PathGroups) → differ bytes_eq texts ≡ true → differ bytes_eq (map (λ g. g.0) paths) ≡ true → Missed (rows_sum d) texts paths
-      → sum_by f (flat_map (at_path test d paths) texts) ≡ sum_by f (path_spots test d 0 paths)
+      → sum_by f (flat_map (at_path test d paths) texts) ≡ sum_by f (path_positions test d 0 paths)
   paths_agree d texts paths t k m =
       sum_flat f (at_path test d paths) texts ∙ sum_alike (λ t. sum_by f (at_path test d paths t)) (λ t. value (rows_sum d) 0 t paths) (path_sum d paths) texts
       ∙ sums_agree (rows_sum d) 0 texts paths t k m ∙ path_total d 0 paths
@@ -133,14 +133,14 @@ module _ (test : Row → Bool) (f : Spot → ℕ) where
 
   -- in each domain the lookups of paths add what all its paths do
   abbrev pub Agree : List (List ℕ) → DomainGroups → Type 0
-  Agree texts groups = AllByRecursion (λ g. (d : ℕ) → paths_sum texts d g.1 ≡ sum_by f (path_spots test d 0 g.1)) groups
+  Agree texts groups = AllByRecursion (λ g. (d : ℕ) → paths_sum texts d g.1 ≡ sum_by f (path_positions test d 0 g.1)) groups
 
-  domain_total : (texts : List (List ℕ)) (d : ℕ) (groups : DomainGroups) → Agree texts groups → total (paths_sum texts) d groups ≡ sum_by f (domain_spots test d groups)
+  domain_total : (texts : List (List ℕ)) (d : ℕ) (groups : DomainGroups) → Agree texts groups → total (paths_sum texts) d groups ≡ sum_by f (domain_positions test d groups)
   domain_total texts d [] a = refl
-  domain_total texts d (g ∷ gs) a = omega (arith, sum_by-append f (path_spots test d 0 g.1) (domain_spots test (d + 1) gs), a.0 d, domain_total texts (d + 1) gs a.1)
+  domain_total texts d (g ∷ gs) a = omega (arith, sum_by-append f (path_positions test d 0 g.1) (domain_positions test (d + 1) gs), a.0 d, domain_total texts (d + 1) gs a.1)
 
   pub domains_agree : (domains texts : List (List ℕ)) (groups : DomainGroups) → differ bytes_eq domains ≡ true → differ bytes_eq (map (λ g. g.0) groups) ≡ true → Missed (paths_sum texts) domains groups → Agree texts groups
-      → sum_by f (flat_map (at_domain test groups texts) domains) ≡ sum_by f (domain_spots test 0 groups)
+      → sum_by f (flat_map (at_domain test groups texts) domains) ≡ sum_by f (domain_positions test 0 groups)
   domains_agree domains texts groups t k m a =
       sum_flat f (at_domain test groups texts) domains ∙ sum_alike (λ t. sum_by f (at_domain test groups texts t)) (λ t. value (paths_sum texts) 0 t groups) (domain_sum texts groups) domains
       ∙ sums_agree (paths_sum texts) 0 domains groups t k m ∙ domain_total texts 0 groups a

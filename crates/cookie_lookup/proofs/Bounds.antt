@@ -8,8 +8,8 @@ use Rattle.url.specs.Parts.{Parts}
 use Rattle.cookie_parts.specs.Cookie.{Row}
 use Rattle.cookie_parts.specs.Hosts.{host_of}
 use Rattle.cookie_lookup.specs.Groups.{PathGroups, DomainGroups, flat_paths, flat, Of, Filled, ArePaths, AreGroups}
-use Rattle.cookie_lookup.specs.Seen.{place_of, how_many_found, domains_found, is_of_domain}
-use Rattle.cookie_lookup.specs.Texts.{domain_texts, dots, slashes, most_domains}
+use Rattle.cookie_lookup.specs.SearchView.{place_of, how_many_found, domains_found, is_of_domain}
+use Rattle.cookie_lookup.specs.Texts.{url_candidate_domains, dots, slashes, most_domains}
 use Rattle.cookie_lookup.proofs.Cuts.{bool_cases}
 use Rattle.cookie_lookup.proofs.PathTexts.{any_append}
 
@@ -82,5 +82,5 @@ counts_alike p q e [] = refl
 counts_alike p q e (t ∷ ts) =
     sum_by-cons (λ y. cond (p y) 1 0) t ts ∙ ap (λ b. cond b 1 0 + count_by p ts) (e t) ∙ ap (λ n. cond (q t) 1 0 + n) (counts_alike p q e ts) ∙ sym (sum_by-cons (λ y. cond (q y) 1 0) t ts)
 
-pub found_are : (url : Parts) (gs : DomainGroups) → AreGroups gs → how_many_found gs (domain_texts url) ≡ domains_found url (flat gs)
-found_are url gs a = counts_alike (λ text. is_some (place_of text gs)) (λ text. list_any (is_of_domain text) (flat gs)) (λ text. found_where text gs a.1) (domain_texts url)
+pub found_are : (url : Parts) (gs : DomainGroups) → AreGroups gs → how_many_found gs (url_candidate_domains url) ≡ domains_found url (flat gs)
+found_are url gs a = counts_alike (λ text. is_some (place_of text gs)) (λ text. list_any (is_of_domain text) (flat gs)) (λ text. found_where text gs a.1) (url_candidate_domains url)

@@ -3,7 +3,7 @@ use Rattle.std.proofs.Common.{◌≡◌, ℕ, ◌+◌, ◌*◌, ◌≤◌, Bool,
 use Rattle.std.specs.Prelude.{is_some}
 use Rattle.std.proofs.lemmas.List.Sums.{sum_by-cons}
 use Rattle.cookie_lookup.specs.Groups.{DomainGroups}
-use Rattle.cookie_lookup.specs.Seen.{place_of, how_many_found}
+use Rattle.cookie_lookup.specs.SearchView.{place_of, how_many_found}
 
 found_cons : (groups : DomainGroups) (text : List ℕ) (texts : List (List ℕ)) → how_many_found groups (text ∷ texts) ≡ how_many_found groups (text ∷ []) + how_many_found groups texts
 found_cons groups text texts =

@@ -6,7 +6,7 @@ use Rattle.std.proofs.lemmas.Str.{IsCharBoundary-after_ascii, IsCharBoundary-end
 use Rattle.std.proofs.lemmas.Bool.Decides.{nat_tests}
 use Rattle.std.proofs.lemmas.List.{drop_more}
 use Rattle.cookie_laws.specs.Related.{after_dots}
-use Rattle.cookie_lookup.specs.Texts.{ends_text, front_texts}
+use Rattle.cookie_lookup.specs.Texts.{ends_candidate, front_texts}
 
 pub bool_cases : (b : Bool) → (b ≡ true) ⊎ (b ≡ false)
 bool_cases true = inl refl
@@ -22,7 +22,7 @@ three false true c h = inl (inr refl)
 three false false c h = inr h
 
 -- a path may be cut where a candidate ends
-pub cut_boundary : (bs : List ℕ) (i : ℕ) → IsUtf8 bs → i < length bs → ends_text bs i ≡ true → IsCharBoundary bs (i + 1)
+pub cut_boundary : (bs : List ℕ) (i : ℕ) → IsUtf8 bs → i < length bs → ends_candidate bs i ≡ true → IsCharBoundary bs (i + 1)
 cut_boundary bs i u l h = elim (three (eqb (i + 1) (length bs)) (eqb (get_or bs i 0) 47) (eqb (get_or bs (i + 1) 0) 47) h) [
   | inl o ↦ elim o [
     | inl e ↦ let m : length bs ≡ i + 1 = grind (arith, nat_tests, e) in subst (IsCharBoundary bs) m (IsCharBoundary-end bs)
@@ -35,10 +35,10 @@ cut_boundary bs i u l h = elim (three (eqb (i + 1) (length bs)) (eqb (get_or bs 
     before_byte bs j u l e = (l, λ k h. absurd (omega (arith, e, h)))
 
 -- where a candidate ends there is one front more
-pub front_more : (bs : List ℕ) (i : ℕ) → ends_text bs i ≡ true → front_texts bs (i + 1) ≡ front_texts bs i ++ take (i + 1) bs ∷ []
+pub front_more : (bs : List ℕ) (i : ℕ) → ends_candidate bs i ≡ true → front_texts bs (i + 1) ≡ front_texts bs i ++ take (i + 1) bs ∷ []
 front_more bs i h = rw (add-one, h) refl
 
-pub front_same : (bs : List ℕ) (i : ℕ) → ends_text bs i ≡ false → front_texts bs (i + 1) ≡ front_texts bs i
+pub front_same : (bs : List ℕ) (i : ℕ) → ends_candidate bs i ≡ false → front_texts bs (i + 1) ≡ front_texts bs i
 front_same bs i h = rw (add-one, h) (append-nil (front_texts bs i))
 
 -- the candidates of the first bytes are the first candidates
@@ -49,7 +49,7 @@ front_prefix bs i (suc m) h = elim (bool_cases (eqb i (suc m))) [
   | inr e ↦
       let less : i ≤ m = grind (arith, nat_tests, e, h) in
       let w = front_prefix bs i m less in
-      let next : List (List ℕ) = if ends_text bs m then take (suc m) bs ∷ [] else [] in
+      let next : List (List ℕ) = if ends_candidate bs m then take (suc m) bs ∷ [] else [] in
       (w.0 ++ next, ap (λ ts. ts ++ next) w.1 ∙ append_assoc (front_texts bs i) w.0 next)
 ]
 

@@ -10,8 +10,8 @@ use Rattle.cookie_parts.specs.Cookie.{Row}
 use Rattle.cookie_parts.specs.Hosts.{host_of}
 use Rattle.cookie_laws.specs.Rows.{differ}
 use Rattle.cookie_lookup.specs.Groups.{PathGroups, DomainGroups, flat_paths, flat, Of, Filled, ArePaths, AreGroups}
-use Rattle.cookie_lookup.specs.Seen.{place_of, under, how_many_found, how_many_paths, paths_at_domain, how_many_pairs_found, is_of_texts, of_host, paths_found}
-use Rattle.cookie_lookup.specs.Texts.{domain_texts, path_texts, related_texts}
+use Rattle.cookie_lookup.specs.SearchView.{place_of, under, how_many_found, how_many_paths, paths_at_domain, how_many_pairs_found, is_of_texts, of_host, paths_found}
+use Rattle.cookie_lookup.specs.Texts.{url_candidate_domains, candidate_paths, candidate_domains}
 use Rattle.cookie_lookup.proofs.Agree.{value, answer, answer_value, sum_alike}
 use Rattle.cookie_lookup.proofs.Bounds.{counted, counts_alike, some_later}
 use Rattle.cookie_lookup.proofs.Cuts.{bool_cases}
@@ -24,12 +24,12 @@ pub found_counted : (groups : DomainGroups) (texts : List (List ℕ)) → how_ma
 found_counted groups texts = counted (λ t. is_some (place_of t groups)) texts
 
 -- the candidates of the host that are found are those of the URL
-pub found_of_host : (groups : DomainGroups) (url : Parts) → of_host (λ host. how_many_found groups (related_texts host)) url ≡ how_many_found groups (domain_texts url)
+pub found_of_host : (groups : DomainGroups) (url : Parts) → of_host (λ host. how_many_found groups (candidate_domains host)) url ≡ how_many_found groups (url_candidate_domains url)
 found_of_host groups url = go (host_of url) refl
   where
-    go : (o : Option (List ℕ)) → host_of url ≡ o → of_host (λ host. how_many_found groups (related_texts host)) url ≡ how_many_found groups (domain_texts url)
-    go None e = rw (of_host, domain_texts, e) refl
-    go (Some host) e = rw (of_host, domain_texts, e) refl
+    go : (o : Option (List ℕ)) → host_of url ≡ o → of_host (λ host. how_many_found groups (candidate_domains host)) url ≡ how_many_found groups (url_candidate_domains url)
+    go None e = rw (of_host, url_candidate_domains, e) refl
+    go (Some host) e = rw (of_host, url_candidate_domains, e) refl
 
 pub paths_counted : (paths : PathGroups) (texts : List (List ℕ)) → how_many_paths paths texts ≤ length texts
 paths_counted paths texts = counted (λ t. is_some (place_of t paths)) texts
@@ -165,8 +165,8 @@ module _ (texts : List (List ℕ)) where
             ∙ counts_alike (λ path. list_any (is_of_texts text path) (flat gs)) all (λ path. sym (split path ∙ rw (not_in_domain text g.0 path g.1 a.0.1.1 e) refl)) texts)
       ]
 
-pub pairs_are : (url : Parts) (gs : DomainGroups) → AreGroups gs → how_many_pairs_found gs (path_texts url.path) (domain_texts url) ≡ paths_found url (flat gs)
+pub pairs_are : (url : Parts) (gs : DomainGroups) → AreGroups gs → how_many_pairs_found gs (candidate_paths url.path) (url_candidate_domains url) ≡ paths_found url (flat gs)
 pairs_are url gs a =
-    let texts = path_texts url.path in
+    let texts = candidate_paths url.path in
     sum_alike (paths_at_domain gs texts) (λ domain. count_by (λ path. list_any (is_of_texts domain path) (flat gs)) texts)
-    (λ text. at_value texts gs text ∙ of_text texts text 0 gs a.0 a.1) (domain_texts url)
+    (λ text. at_value texts gs text ∙ of_text texts text 0 gs a.0 a.1) (url_candidate_domains url)

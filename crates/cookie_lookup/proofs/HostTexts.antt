@@ -9,7 +9,7 @@ use Rattle.std.proofs.lemmas.Slice.Eq.{bytes_eq-Decides}
 use Rattle.std.proofs.lemmas.List.Sums.{sum_by-cons}
 use Rattle.cookie_laws.specs.Related.{after_dots}
 use Rattle.cookie_laws.specs.Rows.{differ}
-use Rattle.cookie_lookup.specs.Texts.{IsRelated, related_texts, dots}
+use Rattle.cookie_lookup.specs.Texts.{IsCandidateDomain, candidate_domains, dots}
 use Rattle.cookie_lookup.proofs.Cuts.{bool_cases}
 
 -- a longer string is another
@@ -29,7 +29,7 @@ dots_differ [] = refl
 dots_differ (b ∷ bs) = grind (arith, nat_tests, dots_differ bs, dots_shorter bs bs (omega arith))
 
 -- so the candidates differ
-pub related_differ : (host : List ℕ) → differ bytes_eq (related_texts host) ≡ true
+pub related_differ : (host : List ℕ) → differ bytes_eq (candidate_domains host) ≡ true
 related_differ host = grind (arith, nat_tests, dots_differ host, dots_shorter host host (omega arith))
 
 pub count_cons : (p : ℕ → Bool) (b : ℕ) (bs : List ℕ) → count_by p (b ∷ bs) ≡ cond (p b) 1 0 + count_by p bs
@@ -40,7 +40,7 @@ length_dots [] = refl
 length_dots (b ∷ bs) = grind (arith, nat_tests, length_dots bs, count_cons (λ x. eqb x 46) b bs)
 
 -- there is one more than there are dots
-pub length_related : (host : List ℕ) → length (related_texts host) ≡ 1 + dots host
+pub length_related : (host : List ℕ) → length (candidate_domains host) ≡ 1 + dots host
 length_related host = grind (arith, length_dots host)
 
 -- what follows a dot of a string is among `after_dots` of it
@@ -69,16 +69,16 @@ after_dots_are text (b ∷ bs) h = elim (bool_cases (eqb b 46)) [
 ]
 
 -- the candidates are those of the definition
-pub related_texts_are : (host text : List ℕ) → Decides (list_any (bytes_eq text) (related_texts host)) (IsRelated host text)
+pub related_texts_are : (host text : List ℕ) → Decides (list_any (bytes_eq text) (candidate_domains host)) (IsCandidateDomain host text)
 related_texts_are host text = (there host text, back host text)
   where
-    there : (host text : List ℕ) → list_any (bytes_eq text) (related_texts host) ≡ true → IsRelated host text
+    there : (host text : List ℕ) → list_any (bytes_eq text) (candidate_domains host) ≡ true → IsCandidateDomain host text
     there host text h = elim (or_cases (bytes_eq text host) (list_any (bytes_eq text) (after_dots host)) h) [
       | inl s ↦ inl ((bytes_eq-Decides text host).0 s)
       | inr l ↦ inr (after_dots_are text host l)
     ]
 
-    back : (host text : List ℕ) → IsRelated host text → list_any (bytes_eq text) (related_texts host) ≡ true
+    back : (host text : List ℕ) → IsCandidateDomain host text → list_any (bytes_eq text) (candidate_domains host) ≡ true
     back host text w = elim w [
       | inl s ↦ or_left (bytes_eq text host) (list_any (bytes_eq text) (after_dots host)) ((bytes_eq-Decides text host).1 s)
       | inr l ↦ or_right (bytes_eq text host) (list_any (bytes_eq text) (after_dots host)) (subst (λ h. list_any (bytes_eq text) (after_dots h) ≡ true) (sym l.1) (after_dots-has text l.0))

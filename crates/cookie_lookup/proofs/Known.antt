@@ -9,17 +9,17 @@ use Rattle.jiff.specs.declared.civil.DateTime.{DateTime}
 use Rattle.cookie_words.specs.Moments.{moment_of}
 use Rattle.cookie_parts.specs.Cookie.{Row}
 use Rattle.cookie_laws.specs.Given.{is_given}
-use Rattle.cookie_lookup.specs.Asked.{is_asked_for, AgreesUnder}
+use Rattle.cookie_lookup.specs.RowFilter.{is_given_under, AgreesUnder}
 use Rattle.cookie_lookup.specs.Groups.{PathGroups, DomainGroups, Filled, ArePaths, AreGroups}
-use Rattle.cookie_lookup.specs.Seen.{Spot, place_of, under, row_spots, at_path, at_domain}
-use Rattle.cookie_lookup.specs.Texts.{path_texts, IsPathText}
+use Rattle.cookie_lookup.specs.SearchView.{RowPosition, place_of, under, row_positions, at_path, at_domain}
+use Rattle.cookie_lookup.specs.Texts.{candidate_paths, IsCandidatePath}
 use Rattle.cookie_lookup.proofs.CoveringTexts.{path_texts_are}
 use Rattle.cookie_lookup.proofs.Cuts.{bool_cases}
-use Rattle.cookie_lookup.proofs.Spots.{domain_some}
+use Rattle.cookie_lookup.proofs.Positions.{domain_some}
 
 module _ (test other : Row → Bool) where
   same_rows : {P : Row → Type 0} → ((row : Row) → P row → test row ≡ other row) → (d p n : ℕ) (rows : List Row) → AllByRecursion P rows
-      → row_spots test d p n rows ≡ row_spots other d p n rows
+      → row_positions test d p n rows ≡ row_positions other d p n rows
   same_rows same d p n [] all = refl
   same_rows same d p n (row ∷ rows) all =
       let next = same_rows same d p (n + 1) rows all.1 in
@@ -31,33 +31,33 @@ module _ (test other : Row → Bool) where
 
   module _ (domain path : List ℕ) (agrees : AgreesUnder domain test other path) (d : ℕ) where
     -- for one path
-    same_group : (text : List ℕ) → IsPathText path text → (paths : PathGroups) → Filled domain paths → (p : ℕ) → Some p ≡ place_of text paths → (m : ℕ)
-        → row_spots test d m 0 (under p paths) ≡ row_spots other d m 0 (under p paths)
+    same_group : (text : List ℕ) → IsCandidatePath path text → (paths : PathGroups) → Filled domain paths → (p : ℕ) → Some p ≡ place_of text paths → (m : ℕ)
+        → row_positions test d m 0 (under p paths) ≡ row_positions other d m 0 (under p paths)
     same_group text is [] all p e m = absurd (cc)
     same_group text is (g ∷ gs) all p e m = elim (bool_cases (bytes_eq text g.0)) [
       | inl s ↦
           let e' = rw s at e in
           let z : p ≡ 0 = cc in
           let same : text ≡ g.0 = (bytes_eq-Decides text g.0).0 s in
-          subst (λ q. row_spots test d m 0 (under q (g ∷ gs)) ≡ row_spots other d m 0 (under q (g ∷ gs))) (sym z)
-          (same_rows (λ row of. agrees row of.0 (subst (IsPathText path) (same ∙ sym of.1) is)) d m 0 g.1 all.0.1)
+          subst (λ q. row_positions test d m 0 (under q (g ∷ gs)) ≡ row_positions other d m 0 (under q (g ∷ gs))) (sym z)
+          (same_rows (λ row of. agrees row of.0 (subst (IsCandidatePath path) (same ∙ sym of.1) is)) d m 0 g.1 all.0.1)
       | inr s ↦ let e' = rw s at e in later g gs m (place_of text gs) p e' (λ q k. same_group text is gs all.1 q k m)
     ]
       where
         later : (g : List ℕ × List Row) (gs : PathGroups) (m : ℕ) (o : Option ℕ) (p : ℕ) → Some p ≡ option_map suc o
-            → ((q : ℕ) → Some q ≡ o → row_spots test d m 0 (under q gs) ≡ row_spots other d m 0 (under q gs))
-            → row_spots test d m 0 (under p (g ∷ gs)) ≡ row_spots other d m 0 (under p (g ∷ gs))
+            → ((q : ℕ) → Some q ≡ o → row_positions test d m 0 (under q gs) ≡ row_positions other d m 0 (under q gs))
+            → row_positions test d m 0 (under p (g ∷ gs)) ≡ row_positions other d m 0 (under p (g ∷ gs))
         later g gs m None p h k = absurd (cc)
         later g gs m (Some q) p h k = let e : p ≡ suc q = cc in rw e (k q refl)
 
-    same_path : (paths : PathGroups) → Filled domain paths → (text : List ℕ) → IsPathText path text → at_path test d paths text ≡ at_path other d paths text
+    same_path : (paths : PathGroups) → Filled domain paths → (text : List ℕ) → IsCandidatePath path text → at_path test d paths text ≡ at_path other d paths text
     same_path paths all text is = by_place (place_of text paths) refl
       where
         by_place : (o : Option ℕ) → o ≡ place_of text paths → at_path test d paths text ≡ at_path other d paths text
         by_place None e = rw (at_path, ← e) refl
         by_place (Some p) e = rw (at_path, ← e) (same_group text is paths all p e p)
 
-    same_paths : (paths : PathGroups) → Filled domain paths → (texts : List (List ℕ)) → ((text : List ℕ) → list_any (bytes_eq text) texts ≡ true → IsPathText path text)
+    same_paths : (paths : PathGroups) → Filled domain paths → (texts : List (List ℕ)) → ((text : List ℕ) → list_any (bytes_eq text) texts ≡ true → IsCandidatePath path text)
         → flat_map (at_path test d paths) texts ≡ flat_map (at_path other d paths) texts
     same_paths paths all [] are = refl
     same_paths paths all (text ∷ texts) are =
@@ -67,9 +67,9 @@ module _ (test other : Row → Bool) where
 
   -- for one domain
   pub same_under : (domain path : List ℕ) → AgreesUnder domain test other path → (groups : DomainGroups) → AreGroups groups → (d : ℕ) → Some d ≡ place_of domain groups
-      → flat_map (at_path test d (under d groups)) (path_texts path) ≡ flat_map (at_path other d (under d groups)) (path_texts path)
+      → flat_map (at_path test d (under d groups)) (candidate_paths path) ≡ flat_map (at_path other d (under d groups)) (candidate_paths path)
   same_under domain path agrees groups are d found =
-      same_paths domain path agrees d (under d groups) (filled groups are.1 d found) (path_texts path) (λ text. (path_texts_are path text).0)
+      same_paths domain path agrees d (under d groups) (filled groups are.1 d found) (candidate_paths path) (λ text. (path_texts_are path text).0)
     where
       filled : (groups : DomainGroups) → AllByRecursion (λ g. (0 < length g.1) × ArePaths g.0 g.1) groups → (d : ℕ) → Some d ≡ place_of domain groups → Filled domain (under d groups)
       filled [] all d e = absurd (cc)
@@ -89,18 +89,18 @@ module _ (test other : Row → Bool) where
 
   -- what a lookup of a domain finds
   pub known_domain : (domain path : List ℕ) → AgreesUnder domain test other path → (groups : DomainGroups) → AreGroups groups → (d : ℕ) → Some d ≡ place_of domain groups
-      → flat_map (at_path test d (under d groups)) (path_texts path) ≡ at_domain other groups (path_texts path) domain
+      → flat_map (at_path test d (under d groups)) (candidate_paths path) ≡ at_domain other groups (candidate_paths path) domain
   known_domain domain path agrees groups are d found =
-      same_under domain path agrees groups are d found ∙ sym (domain_some other groups (path_texts path) domain d found)
+      same_under domain path agrees groups are d found ∙ sym (domain_some other groups (candidate_paths path) domain d found)
 
 -- the tests left under a candidate domain find the given rows there
 pub known_look_up : (host_only suffix : Bool) (text : List ℕ) (url asked_url : Parts) (now asked_now : DateTime) → asked_url ≡ url → asked_now ≡ now
-    → AgreesUnder text (is_asked_for host_only suffix url (moment_of now)) (is_given url (moment_of now)) url.path
+    → AgreesUnder text (is_given_under host_only suffix url (moment_of now)) (is_given url (moment_of now)) url.path
     → (groups asked_groups : DomainGroups) → AreGroups groups → asked_groups ≡ groups → (d : ℕ) → Some d ≡ place_of text groups
-    → flat_map (at_path (is_asked_for host_only suffix asked_url (moment_of asked_now)) d (under d asked_groups)) (path_texts asked_url.path)
-    ≡ at_domain (is_given url (moment_of now)) groups (path_texts url.path) text
+    → flat_map (at_path (is_given_under host_only suffix asked_url (moment_of asked_now)) d (under d asked_groups)) (candidate_paths asked_url.path)
+    ≡ at_domain (is_given url (moment_of now)) groups (candidate_paths url.path) text
 known_look_up host_only suffix text url asked_url now asked_now same_url same_now agrees groups asked_groups are same_groups d found =
-    let look : Parts → DateTime → DomainGroups → List Spot =
-    λ u m gs. flat_map (at_path (is_asked_for host_only suffix u (moment_of m)) d (under d gs)) (path_texts u.path) in
+    let look : Parts → DateTime → DomainGroups → List RowPosition =
+    λ u m gs. flat_map (at_path (is_given_under host_only suffix u (moment_of m)) d (under d gs)) (candidate_paths u.path) in
     ap (λ u. look u asked_now asked_groups) same_url ∙ ap (λ m. look url m asked_groups) same_now ∙ ap (λ gs. look url now gs) same_groups
-    ∙ known_domain (is_asked_for host_only suffix url (moment_of now)) (is_given url (moment_of now)) text url.path agrees groups are d found
+    ∙ known_domain (is_given_under host_only suffix url (moment_of now)) (is_given url (moment_of now)) text url.path agrees groups are d found

@@ -1,5 +1,5 @@
 pub mod Agree
-pub mod AskedRows
+pub mod RowFilters
 pub mod Bounds
 pub mod Counts
 pub mod CoveringTexts
@@ -13,7 +13,7 @@ pub mod Order
 pub mod PathTexts
 pub mod RelatedRows
 pub mod Results
-pub mod Spots
+pub mod Positions
 pub mod Steps
 pub mod SuffixTexts
 pub mod Whole

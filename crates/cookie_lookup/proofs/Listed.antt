@@ -9,13 +9,13 @@ use Rattle.std.proofs.lemmas.Option.{slice_get_cases}
 use Rattle.cookie_parts.specs.Cookie.{Row}
 use Rattle.cookie_laws.specs.Rows.{differ}
 use Rattle.cookie_lookup.specs.Groups.{PathGroups, DomainGroups, ArePaths, AreGroups}
-use Rattle.cookie_lookup.specs.Seen.{Spot, place_of, under, at_domain, at_path, how_many_found}
-use Rattle.cookie_lookup.specs.Spots.{SameSpots}
+use Rattle.cookie_lookup.specs.SearchView.{RowPosition, place_of, under, at_domain, at_path, how_many_found}
+use Rattle.cookie_lookup.specs.Positions.{SamePositions}
 use Rattle.cookie_lookup.proofs.Agree.{sum_flat, sum_alike}
-use Rattle.cookie_lookup.specs.Texts.{path_texts, slashes}
+use Rattle.cookie_lookup.specs.Texts.{candidate_paths, slashes}
 use Rattle.cookie_lookup.proofs.Cuts.{bool_cases}
 use Rattle.cookie_lookup.proofs.PathTexts.{length_paths, path_differ}
-use Rattle.cookie_lookup.proofs.Spots.{drop_at, some_given}
+use Rattle.cookie_lookup.proofs.Positions.{drop_at, some_given}
 
 no_sum : (ts : List (List ℕ)) → sum_by (λ _. 0) ts ≡ 0
 no_sum [] = refl
@@ -127,7 +127,7 @@ paths_differ groups are d = walk groups are.1 d
 
 module _ (test : Row → Bool) (d : ℕ) (paths : PathGroups) (cs : List (List ℕ)) (c : differ bytes_eq cs ≡ true) (k : differ bytes_eq (map (λ p. p.0) paths) ≡ true) where
   -- lookups of the stored candidates find what lookups of all the candidates do
-  pub listed_spots : SameSpots (flat_map (at_path test d paths) (filter (λ t. list_any (bytes_eq t) cs) (map (λ p. p.0) paths))) (flat_map (at_path test d paths) cs)
+  pub listed_spots : SamePositions (flat_map (at_path test d paths) (filter (λ t. list_any (bytes_eq t) cs) (map (λ p. p.0) paths))) (flat_map (at_path test d paths) cs)
   listed_spots f =
       sum_flat f (at_path test d paths) (filter (λ t. list_any (bytes_eq t) cs) (map (λ p. p.0) paths))
       ∙ shared_all (λ t. sum_by f (at_path test d paths t)) cs (map (λ p. p.0) paths) c k (λ t none. ap (sum_by f) (nothing t (no_place t paths none)))
@@ -138,7 +138,7 @@ module _ (test : Row → Bool) (d : ℕ) (paths : PathGroups) (cs : List (List �
 
 -- the same of domains
 module _ (test : Row → Bool) (groups : DomainGroups) (texts cs : List (List ℕ)) (c : differ bytes_eq cs ≡ true) (k : differ bytes_eq (map (λ g. g.0) groups) ≡ true) where
-  pub listed_domain_spots : SameSpots (flat_map (at_domain test groups texts) (filter (λ t. list_any (bytes_eq t) cs) (map (λ g. g.0) groups))) (flat_map (at_domain test groups texts) cs)
+  pub listed_domain_spots : SamePositions (flat_map (at_domain test groups texts) (filter (λ t. list_any (bytes_eq t) cs) (map (λ g. g.0) groups))) (flat_map (at_domain test groups texts) cs)
   listed_domain_spots f =
       sum_flat f (at_domain test groups texts) (filter (λ t. list_any (bytes_eq t) cs) (map (λ g. g.0) groups))
       ∙ shared_all (λ t. sum_by f (at_domain test groups texts t)) cs (map (λ g. g.0) groups) c k (λ t none. ap (sum_by f) (nothing t (no_place t groups none)))
@@ -176,20 +176,20 @@ module _ (p : List ℕ → Bool) (ks : List (List ℕ)) where
     filter_past : p t ≡ false → filter p (drop n ks) ≡ filter p (drop (n + 1) ks)
     filter_past e = ap (filter p) (drop_at ks n t here) ∙ rw e refl
 
-    module _ (f : List ℕ → List Spot) (passes : p t ≡ true) where
-      pub same_pushed : (all spots new : List Spot) → SameSpots (spots ++ flat_map f (filter p (drop n ks))) all → SameSpots new (spots ++ f t)
-          → SameSpots (new ++ flat_map f (filter p (drop (n + 1) ks))) all
-      same_pushed all spots new so_far e = λ s.
+    module _ (f : List ℕ → List RowPosition) (passes : p t ≡ true) where
+      pub same_pushed : (all positions new : List RowPosition) → SamePositions (positions ++ flat_map f (filter p (drop n ks))) all → SamePositions new (positions ++ f t)
+          → SamePositions (new ++ flat_map f (filter p (drop (n + 1) ks))) all
+      same_pushed all positions new so_far e = λ s.
           let left = flat_map f (filter p (drop n ks)) in
           let more = flat_map f (filter p (drop (n + 1) ks)) in
           let split : sum_by s left ≡ sum_by s (f t) + sum_by s more = ap (λ ts. sum_by s (flat_map f ts)) (filter_at passes) ∙ sum_by-append s (f t) more in
-          omega (arith, e s, so_far s, split, sum_by-append s new more, sum_by-append s spots (f t), sum_by-append s spots left)
+          omega (arith, e s, so_far s, split, sum_by-append s new more, sum_by-append s positions (f t), sum_by-append s positions left)
 
-      pub text_pushed : (all spots new : List Spot) → spots ++ flat_map f (filter p (drop n ks)) ≡ all → new ≡ spots ++ f t
+      pub text_pushed : (all positions new : List RowPosition) → positions ++ flat_map f (filter p (drop n ks)) ≡ all → new ≡ positions ++ f t
           → new ++ flat_map f (filter p (drop (n + 1) ks)) ≡ all
-      text_pushed all spots new so_far e =
-          ap (λ s. s ++ flat_map f (filter p (drop (n + 1) ks))) e ∙ append_assoc spots (f t) (flat_map f (filter p (drop (n + 1) ks)))
-          ∙ ap (λ ts. spots ++ flat_map f ts) (sym (filter_at passes)) ∙ so_far
+      text_pushed all positions new so_far e =
+          ap (λ s. s ++ flat_map f (filter p (drop (n + 1) ks))) e ∙ append_assoc positions (f t) (flat_map f (filter p (drop (n + 1) ks)))
+          ∙ ap (λ ts. positions ++ flat_map f ts) (sym (filter_at passes)) ∙ so_far
 
       pub text_gives : f t ≢ [] → flat_map f (filter p ks) ≢ []
       text_gives some none =
@@ -215,28 +215,28 @@ length_texts [] = refl
 length_texts (g ∷ gs) = omega (arith, length_texts gs)
 
 -- at most as many of them are looked up as the bound says
-pub listed_most : (path : List ℕ) (ks : List (List ℕ)) → differ bytes_eq ks ≡ true → length (filter (λ t. list_any (bytes_eq t) (path_texts path)) ks) ≤ 1 + 2 * slashes path
-listed_most path ks k = omega (arith, shared_most (path_texts path) ks (path_differ path) k, length_paths path)
+pub listed_most : (path : List ℕ) (ks : List (List ℕ)) → differ bytes_eq ks ≡ true → length (filter (λ t. list_any (bytes_eq t) (candidate_paths path)) ks) ≤ 1 + 2 * slashes path
+listed_most path ks k = omega (arith, shared_most (candidate_paths path) ks (path_differ path) k, length_paths path)
 
 -- positions in any order
 
-pub same_spots : (xs ys : List Spot) → xs ≡ ys → SameSpots xs ys
+pub same_spots : (xs ys : List RowPosition) → xs ≡ ys → SamePositions xs ys
 same_spots xs ys e = λ f. ap (sum_by f) e
 
-pub same_after : (new old xs ys : List Spot) → new ≡ old ++ xs → SameSpots xs ys → SameSpots new (old ++ ys)
+pub same_after : (new old xs ys : List RowPosition) → new ≡ old ++ xs → SamePositions xs ys → SamePositions new (old ++ ys)
 same_after new old xs ys e same = λ f. ap (sum_by f) e ∙ sum_by-append f old xs ∙ ap (λ n. sum_by f old + n) (same f) ∙ sym (sum_by-append f old ys)
 
 -- if one has a position, so has the other
-pub some_same : (xs ys : List Spot) → SameSpots xs ys → xs ≢ [] → ys ≢ []
+pub some_same : (xs ys : List RowPosition) → SamePositions xs ys → xs ≢ [] → ys ≢ []
 some_same xs ys same some none = some (nothing xs (same (λ _. 1) ∙ ap (sum_by (λ _. 1)) none))
   where
-    nothing : (xs : List Spot) → sum_by (λ _. 1) xs ≡ 0 → xs ≡ []
+    nothing : (xs : List RowPosition) → sum_by (λ _. 1) xs ≡ 0 → xs ≡ []
     nothing [] z = refl
-    nothing (x ∷ xs) z = absurd (omega (arith, z, sum_by-cons (λ (_ : Spot). 1) x xs))
+    nothing (x ∷ xs) z = absurd (omega (arith, z, sum_by-cons (λ (_ : RowPosition). 1) x xs))
 
-pub same_more : (new old xs ys : List Spot) → SameSpots new (old ++ xs) → SameSpots (new ++ ys) (old ++ (xs ++ ys))
+pub same_more : (new old xs ys : List RowPosition) → SamePositions new (old ++ xs) → SamePositions (new ++ ys) (old ++ (xs ++ ys))
 same_more new old xs ys same = λ f.
     omega (arith, same f, sum_by-append f new ys, sum_by-append f old xs, sum_by-append f old (xs ++ ys), sum_by-append f xs ys)
 
-pub same_added : (old xs ys : List Spot) → SameSpots xs ys → SameSpots (old ++ xs) (old ++ ys)
+pub same_added : (old xs ys : List RowPosition) → SamePositions xs ys → SamePositions (old ++ xs) (old ++ ys)
 same_added old xs ys same = λ f. omega (arith, same f, sum_by-append f old xs, sum_by-append f old ys)

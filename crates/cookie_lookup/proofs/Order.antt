@@ -10,16 +10,16 @@ use Rattle.std.proofs.lemmas.Cmp.{nat_cmp_total, then_total, on_total}
 use Rattle.std.proofs.lemmas.List.Sorted.{ranks_by, sorted_far, sum_by-IsPermutation}
 use Rattle.std.proofs.lemmas.List.Sums.{sum_by-cons}
 use Rattle.std.proofs.lemmas.Bool.Decides.{nat_tests}
-use Rattle.cookie_lookup.specs.Seen.{Spot}
+use Rattle.cookie_lookup.specs.SearchView.{RowPosition}
 
-abbrev pub spot_cmp : Spot → Spot → Ordering
+abbrev pub spot_cmp : RowPosition → RowPosition → Ordering
 spot_cmp a b = ordering_then (ordering_then (nat_cmp a.0 b.0) (nat_cmp a.1 b.1)) (nat_cmp a.2 b.2)
 
-abbrev pub stands_before : Spot → Spot → Bool
+abbrev pub stands_before : RowPosition → RowPosition → Bool
 stands_before a b = is_lt (spot_cmp a b)
 
 spots_total : IsTotalOrder spot_cmp
-spots_total = then_total (then_total (on_total (λ (s : Spot). s.0) nat_cmp_total) (on_total (λ (s : Spot). s.1) nat_cmp_total)) (on_total (λ (s : Spot). s.2) nat_cmp_total)
+spots_total = then_total (then_total (on_total (λ (s : RowPosition). s.0) nat_cmp_total) (on_total (λ (s : RowPosition). s.1) nat_cmp_total)) (on_total (λ (s : RowPosition). s.2) nat_cmp_total)
 
 pub spots_order : IsStrictWeakOrder stands_before
 spots_order = ranks_by spots_total (λ s. s)
@@ -33,13 +33,13 @@ in_tests false true false true false false = refl
 in_tests false true false false n g = refl
 in_tests false false m f n g = refl
 
-pub stands_tests : (a b : Spot) → stands_before a b ≡ (ltb a.0 b.0 || (eqb a.0 b.0 && (ltb a.1 b.1 || (eqb a.1 b.1 && ltb a.2 b.2))))
+pub stands_tests : (a b : RowPosition) → stands_before a b ≡ (ltb a.0 b.0 || (eqb a.0 b.0 && (ltb a.1 b.1 || (eqb a.1 b.1 && ltb a.2 b.2))))
 stands_tests a b = in_tests (ltb a.0 b.0) (eqb a.0 b.0) (ltb a.1 b.1) (eqb a.1 b.1) (ltb a.2 b.2) (eqb a.2 b.2)
 
-same_spot : (x y z x' y' z' : ℕ) → x ≡ x' → y ≡ y' → z ≡ z' → ◌≡◌ {A = Spot} (x, y, z) (x', y', z')
+same_spot : (x y z x' y' z' : ℕ) → x ≡ x' → y ≡ y' → z ≡ z' → ◌≡◌ {A = RowPosition} (x, y, z) (x', y', z')
 same_spot x y z x' y' z' e f g = rw (e, f, g) refl
 
-pub neither_before : (a b : Spot) → stands_before a b ≡ false → stands_before b a ≡ false → a ≡ b
+pub neither_before : (a b : RowPosition) → stands_before a b ≡ false → stands_before b a ≡ false → a ≡ b
 neither_before a b h k =
     let t = sym (stands_tests a b) ∙ h in
     let u = sym (stands_tests b a) ∙ k in
@@ -50,37 +50,37 @@ neither_before a b h k =
 
 -- ascending lists
 
-abbrev pub Ascends : List Spot → Type 0
+abbrev pub Ascends : List RowPosition → Type 0
 Ascends [] = Unit {0}
 Ascends (x ∷ xs) = AllByRecursion (λ y. stands_before y x ≡ false) xs × Ascends xs
 
-all_by_index : (P : Spot → Type 0) (xs : List Spot) → ((j : ℕ) (d : Spot) → j < length xs → P (get_or xs j d)) → AllByRecursion P xs
+all_by_index : (P : RowPosition → Type 0) (xs : List RowPosition) → ((j : ℕ) (d : RowPosition) → j < length xs → P (get_or xs j d)) → AllByRecursion P xs
 all_by_index P [] h = tt
 all_by_index P (x ∷ xs) h = (h 0 x (omega arith), all_by_index P xs (λ j d l. h (suc j) d (omega arith)))
 
-ascends_by_index : (xs : List Spot) → ((i j : ℕ) (d : Spot) → i ≤ j → j < length xs → stands_before (get_or xs j d) (get_or xs i d) ≡ false) → Ascends xs
+ascends_by_index : (xs : List RowPosition) → ((i j : ℕ) (d : RowPosition) → i ≤ j → j < length xs → stands_before (get_or xs j d) (get_or xs i d) ≡ false) → Ascends xs
 ascends_by_index [] h = tt
 ascends_by_index (x ∷ xs) h = (
   all_by_index (λ y. stands_before y x ≡ false) xs (λ j d l. h 0 (suc j) d (omega arith) (omega arith)),
   ascends_by_index xs (λ i j d l m. h (suc i) (suc j) d (omega arith) (omega arith)),
 )
 
-pub ascends_sorted : (xs : List Spot) → IsSortedBy stands_before xs → Ascends xs
+pub ascends_sorted : (xs : List RowPosition) → IsSortedBy stands_before xs → Ascends xs
 ascends_sorted xs up = ascends_by_index xs (λ i j d l m. sorted_far stands_before spots_order xs up i j d l m)
 
 -- lists with the same elements
 
-abbrev pub SameSums : List Spot → List Spot → Type 0
-SameSums xs ys = (f : Spot → ℕ) → sum_by f xs ≡ sum_by f ys
+abbrev pub SameSums : List RowPosition → List RowPosition → Type 0
+SameSums xs ys = (f : RowPosition → ℕ) → sum_by f xs ≡ sum_by f ys
 
 -- the elements before x are none
-none_before : (x : Spot) (xs : List Spot) → AllByRecursion (λ y. stands_before y x ≡ false) xs → sum_by (λ y. cond (stands_before y x) 1 0) xs ≡ 0
+none_before : (x : RowPosition) (xs : List RowPosition) → AllByRecursion (λ y. stands_before y x ≡ false) xs → sum_by (λ y. cond (stands_before y x) 1 0) xs ≡ 0
 none_before x [] h = refl
 none_before x (y ∷ ys) h = sum_by-cons (λ y. cond (stands_before y x) 1 0) y ys ∙ rw (h.0, none_before x ys h.1) (omega arith)
 
-first_is_least : (x y : Spot) (xs ys : List Spot) → SameSums (x ∷ xs) (y ∷ ys) → Ascends (x ∷ xs) → stands_before y x ≡ false
+first_is_least : (x y : RowPosition) (xs ys : List RowPosition) → SameSums (x ∷ xs) (y ∷ ys) → Ascends (x ∷ xs) → stands_before y x ≡ false
 first_is_least x y xs ys s a =
-    let f : Spot → ℕ = λ z. cond (stands_before z x) 1 0 in
+    let f : RowPosition → ℕ = λ z. cond (stands_before z x) 1 0 in
     let self : stands_before x x ≡ false = grind (arith, nat_tests, stands_tests x x) in
     let none : sum_by f (x ∷ xs) ≡ 0 = none_before x (x ∷ xs) (self, a.0) in
     let parts : sum_by f (y ∷ ys) ≡ cond (stands_before y x) 1 0 + sum_by f ys = sum_by-cons f y ys in
@@ -92,10 +92,10 @@ first_is_least x y xs ys s a =
     is_false true h = absurd (omega arith)
     is_false false h = refl
 
-pub ascending_same : (xs ys : List Spot) → SameSums xs ys → Ascends xs → Ascends ys → xs ≡ ys
+pub ascending_same : (xs ys : List RowPosition) → SameSums xs ys → Ascends xs → Ascends ys → xs ≡ ys
 ascending_same [] [] s a b = refl
-ascending_same [] (y ∷ ys) s a b = absurd (omega (arith, s (λ _. 1), sum_by-cons (λ (_ : Spot). 1) y ys))
-ascending_same (x ∷ xs) [] s a b = absurd (omega (arith, s (λ _. 1), sum_by-cons (λ (_ : Spot). 1) x xs))
+ascending_same [] (y ∷ ys) s a b = absurd (omega (arith, s (λ _. 1), sum_by-cons (λ (_ : RowPosition). 1) y ys))
+ascending_same (x ∷ xs) [] s a b = absurd (omega (arith, s (λ _. 1), sum_by-cons (λ (_ : RowPosition). 1) x xs))
 ascending_same (x ∷ xs) (y ∷ ys) s a b =
     let same : x ≡ y = neither_before x y (first_is_least y x ys xs (λ f. sym (s f)) b) (first_is_least x y xs ys s a) in
     let rest : xs ≡ ys = ascending_same xs ys
@@ -103,21 +103,21 @@ ascending_same (x ∷ xs) (y ∷ ys) s a b =
     rw (same, rest) refl
 
 -- a sort of a list with the same elements as an ascending one
-pub sorted_is : (unsorted sorted all : List Spot) → SameSums unsorted all → Ascends all → IsPermutation unsorted sorted → IsSortedBy stands_before sorted → sorted ≡ all
+pub sorted_is : (unsorted sorted all : List RowPosition) → SameSums unsorted all → Ascends all → IsPermutation unsorted sorted → IsSortedBy stands_before sorted → sorted ≡ all
 sorted_is unsorted sorted all s a p up =
     ascending_same sorted all (λ f. sum_by-IsPermutation f unsorted sorted p ∙ s f) (ascends_sorted sorted up) a
 
 -- joined
 
-pub all_append : (P : Spot → Type 0) (xs ys : List Spot) → AllByRecursion P xs → AllByRecursion P ys → AllByRecursion P (xs ++ ys)
+pub all_append : (P : RowPosition → Type 0) (xs ys : List RowPosition) → AllByRecursion P xs → AllByRecursion P ys → AllByRecursion P (xs ++ ys)
 all_append P [] ys a b = b
 all_append P (x ∷ xs) ys a b = (a.0, all_append P xs ys a.1 b)
 
-pub all_weaker : (P Q : Spot → Type 0) → ((x : Spot) → P x → Q x) → (xs : List Spot) → AllByRecursion P xs → AllByRecursion Q xs
+pub all_weaker : (P Q : RowPosition → Type 0) → ((x : RowPosition) → P x → Q x) → (xs : List RowPosition) → AllByRecursion P xs → AllByRecursion Q xs
 all_weaker P Q w [] a = tt
 all_weaker P Q w (x ∷ xs) a = (w x a.0, all_weaker P Q w xs a.1)
 
-pub ascends_append : (P Q : Spot → Type 0) → ((x y : Spot) → P x → Q y → stands_before y x ≡ false) → (xs ys : List Spot)
+pub ascends_append : (P Q : RowPosition → Type 0) → ((x y : RowPosition) → P x → Q y → stands_before y x ≡ false) → (xs ys : List RowPosition)
     → AllByRecursion P xs → AllByRecursion Q ys → Ascends xs → Ascends ys → Ascends (xs ++ ys)
 ascends_append P Q w [] ys p q a b = b
 ascends_append P Q w (x ∷ xs) ys p q a b = (

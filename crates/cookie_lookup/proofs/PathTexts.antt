@@ -8,7 +8,7 @@ use Rattle.std.proofs.lemmas.Slice.Eq.{bytes_eq-Decides}
 use Rattle.std.proofs.lemmas.List.Sums.{count_by_more_yes, count_by_more_no}
 use Rattle.std.proofs.lemmas.List.{get_or_past}
 use Rattle.cookie_laws.specs.Rows.{differ}
-use Rattle.cookie_lookup.specs.Texts.{ends_text, front_texts, path_texts, slashes}
+use Rattle.cookie_lookup.specs.Texts.{ends_candidate, front_texts, candidate_paths, slashes}
 use Rattle.cookie_lookup.proofs.Cuts.{bool_cases}
 use Rattle.cookie_lookup.proofs.HostTexts.{longer}
 
@@ -34,19 +34,19 @@ length_take_is (suc n) (b ∷ bs) h = omega (arith, length_take_is n bs (omega a
 
 fronts_short : (r t : List ℕ) (m : ℕ) → m < length t → list_any (bytes_eq t) (front_texts r m) ≡ false
 fronts_short r t zero h = refl
-fronts_short r t (suc m) h = elim (bool_cases (ends_text r m)) [
+fronts_short r t (suc m) h = elim (bool_cases (ends_candidate r m)) [
   | inl e ↦ rw (e, any_append (bytes_eq t) (front_texts r m) (take (suc m) r ∷ [])) (grind (arith, nat_tests, fronts_short r t m (omega arith), longer (take (suc m) r) t (omega (arith, length_take_le (suc m) r))))
   | inr e ↦ rw (e, any_append (bytes_eq t) (front_texts r m) []) (grind (arith, nat_tests, fronts_short r t m (omega arith)))
 ]
 
 fronts_differ : (r : List ℕ) (m : ℕ) → m ≤ length r → differ bytes_eq (front_texts r m) ≡ true
 fronts_differ r zero h = refl
-fronts_differ r (suc m) h = elim (bool_cases (ends_text r m)) [
+fronts_differ r (suc m) h = elim (bool_cases (ends_candidate r m)) [
   | inl e ↦ rw e (differ_push (front_texts r m) (take (suc m) r) (fronts_differ r m (omega arith)) (fronts_short r (take (suc m) r) m (omega (arith, length_take_is (suc m) r h))))
   | inr e ↦ rw e (subst (λ ts. differ bytes_eq ts ≡ true) (sym (append-nil (front_texts r m))) (fronts_differ r m (omega arith)))
 ]
 
-pub path_differ : (r : List ℕ) → differ bytes_eq (path_texts r) ≡ true
+pub path_differ : (r : List ℕ) → differ bytes_eq (candidate_paths r) ≡ true
 path_differ r = elim (bool_cases (starts_with eqb r (47 ∷ []))) [
   | inl e ↦ rw e (fronts_differ r (length r) (omega arith))
   | inr e ↦ rw e refl
@@ -96,7 +96,7 @@ none_past : (r : List ℕ) → slashes_to r (suc (length r)) ≡ slashes_to r (l
 unfolding slashes_to slash_at
 none_past r = rw (get_or_past r (length r) 0 (omega arith)) (omega arith)
 
-pub length_paths : (r : List ℕ) → length (path_texts r) ≤ 1 + 2 * slashes r
+pub length_paths : (r : List ℕ) → length (candidate_paths r) ≤ 1 + 2 * slashes r
 unfolding end_at
 length_paths r = elim (bool_cases (starts_with eqb r (47 ∷ []))) [
   | inl e ↦ rw e (

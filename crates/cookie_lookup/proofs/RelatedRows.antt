@@ -9,15 +9,15 @@ use Rattle.cookie_parts.specs.Hosts.{host_of, passes}
 use Rattle.cookie_parts.specs.Path.{covers_path}
 use Rattle.cookie_laws.specs.Given.{is_given}
 use Rattle.cookie_laws.specs.Related.{is_related}
-use Rattle.cookie_lookup.specs.Texts.{related_texts, domain_texts}
+use Rattle.cookie_lookup.specs.Texts.{candidate_domains, url_candidate_domains}
 
 -- a related domain is a candidate of the URL
-pub related_among : (url : Parts) (domain : List ℕ) → is_related url domain ≡ true → list_any (bytes_eq domain) (domain_texts url) ≡ true
+pub related_among : (url : Parts) (domain : List ℕ) → is_related url domain ≡ true → list_any (bytes_eq domain) (url_candidate_domains url) ≡ true
 related_among url domain is = go (host_of url) refl is
   where
-    go : (host : Option (List ℕ)) → host_of url ≡ host → passes (λ h. list_any (bytes_eq domain) (related_texts h)) host ≡ true → list_any (bytes_eq domain) (domain_texts url) ≡ true
+    go : (host : Option (List ℕ)) → host_of url ≡ host → passes (λ h. list_any (bytes_eq domain) (candidate_domains h)) host ≡ true → list_any (bytes_eq domain) (url_candidate_domains url) ≡ true
     go None e is = cc
-    go (Some host) e is = rw (domain_texts, e) is
+    go (Some host) e is = rw (url_candidate_domains, e) is
 
 -- its path passes the test of the URL's path, and begins with a slash
 pub given_path : (url : Parts) (now : Moment) (row : Row) → is_given url now row ≡ true

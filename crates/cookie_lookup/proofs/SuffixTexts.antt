@@ -7,7 +7,7 @@ use Rattle.std.proofs.Math.Seq.{get_or-append_seam}
 use Rattle.std.proofs.lemmas.Bool.{and_parts, or_cases}
 use Rattle.std.proofs.lemmas.Bool.Decides.{nat_tests, Decides-eqb}
 use Rattle.std.proofs.lemmas.Slice.Eq.{ends_is}
-use Rattle.cookie_lookup.specs.Texts.{is_domain_text, related_texts, IsRelated}
+use Rattle.cookie_lookup.specs.Texts.{is_candidate_domain, candidate_domains, IsCandidateDomain}
 use Rattle.cookie_lookup.proofs.CoveringTexts.{take_next}
 use Rattle.cookie_lookup.proofs.Cuts.{after_byte, bool_cases}
 use Rattle.cookie_lookup.proofs.HostTexts.{related_texts_are}
@@ -23,7 +23,7 @@ with_dot host front text e = e ∙ sym (append_assoc front (46 ∷ []) text)
 ends : (host front text : List ℕ) → host ≡ front ++ text → ends_with nat_eq host text ≡ true
 ends host front text e = (ends_is Decides-eqb host text (ends_with nat_eq host text) refl).1 front e
 
-holds : (host text : List ℕ) → IsRelated host text → is_domain_text host text ≡ true
+holds : (host text : List ℕ) → IsCandidateDomain host text → is_candidate_domain host text ≡ true
 holds host text w = elim w [
   | inl same ↦
       let long : length text ≡ length host = ap length same in
@@ -37,7 +37,7 @@ holds host text w = elim w [
       (inr (grind (arith, nat_tests, long), grind (arith, nat_tests, dot))) (ends host (f.0 ++ 46 ∷ []) text (with_dot host f.0 text f.1))
 ]
 
-related : (host text : List ℕ) → is_domain_text host text ≡ true → IsRelated host text
+related : (host text : List ℕ) → is_candidate_domain host text ≡ true → IsCandidateDomain host text
 related host text t =
     let both : (((eqb (length text) (length host)) || nat_lt (length text) (length host) && eqb (get_or host (length host - length text - 1) 0) 46) ≡ true) × (ends_with nat_eq host text ≡ true) =
     and_parts ((eqb (length text) (length host)) || nat_lt (length text) (length host) && eqb (get_or host (length host - length text - 1) 0) 46) (ends_with nat_eq host text) t in
@@ -58,24 +58,24 @@ related host text t =
     ]
 
 -- the test decides whether a domain is a candidate
-pub domain_text_is : (host text : List ℕ) → is_domain_text host text ≡ list_any (bytes_eq text) (related_texts host)
-domain_text_is host text = elim (bool_cases (list_any (bytes_eq text) (related_texts host))) [
+pub domain_text_is : (host text : List ℕ) → is_candidate_domain host text ≡ list_any (bytes_eq text) (candidate_domains host)
+domain_text_is host text = elim (bool_cases (list_any (bytes_eq text) (candidate_domains host))) [
   | inl e ↦ rw e (holds host text ((related_texts_are host text).0 e))
-  | inr e ↦ elim (bool_cases (is_domain_text host text)) [
+  | inr e ↦ elim (bool_cases (is_candidate_domain host text)) [
     | inl t ↦ let among = (related_texts_are host text).1 (related host text t) in absurd (cc)
     | inr t ↦ t ∙ sym e
   ]
 ]
 
-pub domain_text_by : (host text bytes other : List ℕ) → bytes ≡ host → other ≡ text → is_domain_text bytes other ≡ list_any (bytes_eq text) (related_texts host)
-domain_text_by host text bytes other b o = ap (λ x. is_domain_text x other) b ∙ ap (is_domain_text host) o ∙ domain_text_is host text
+pub domain_text_by : (host text bytes other : List ℕ) → bytes ≡ host → other ≡ text → is_candidate_domain bytes other ≡ list_any (bytes_eq text) (candidate_domains host)
+domain_text_by host text bytes other b o = ap (λ x. is_candidate_domain x other) b ∙ ap (is_candidate_domain host) o ∙ domain_text_is host text
 
 drop_front : (p rest : List ℕ) → drop (length p) (p ++ rest) ≡ rest
 drop_front [] rest = refl
 drop_front (b ∷ p) rest = drop_front p rest
 
 -- the host ends with it
-pub suffix_text : (host text : List ℕ) → IsRelated host text → drop (length host - length text) host ≡ text
+pub suffix_text : (host text : List ℕ) → IsCandidateDomain host text → drop (length host - length text) host ≡ text
 suffix_text host text w = elim w [
   | inl same ↦ let none : length host - length text ≡ 0 = omega (arith, ap length same) in ap (λ n. drop n host) none ∙ sym same
   | inr f ↦
@@ -84,7 +84,7 @@ suffix_text host text w = elim w [
 ]
 
 -- and is cut before it
-pub suffix_boundary : (host text : List ℕ) → IsUtf8 host → IsRelated host text → (0 < length host - length text) → IsCharBoundary host (length host - length text)
+pub suffix_boundary : (host text : List ℕ) → IsUtf8 host → IsCandidateDomain host text → (0 < length host - length text) → IsCharBoundary host (length host - length text)
 suffix_boundary host text u w more = elim w [
   | inl same ↦ absurd (omega (arith, more, ap length same))
   | inr f ↦
@@ -94,7 +94,7 @@ suffix_boundary host text u w more = elim w [
       subst (IsCharBoundary host) at (after_byte host (length f.0) 46 u (omega (arith, long)) dot (lit< tt))
 ]
 
-pub suffix_short : (host text : List ℕ) → IsRelated host text → (length text ≤ length host)
+pub suffix_short : (host text : List ℕ) → IsCandidateDomain host text → (length text ≤ length host)
 suffix_short host text w = elim w [
   | inl same ↦ omega (arith, ap length same)
   | inr f ↦ omega (arith, ap length f.1, length-append f.0 (46 ∷ text))

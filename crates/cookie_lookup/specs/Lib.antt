@@ -1,5 +1,5 @@
-pub mod Asked
+pub mod RowFilter
 pub mod Groups
-pub mod Seen
-pub mod Spots
+pub mod SearchView
+pub mod Positions
 pub mod Texts

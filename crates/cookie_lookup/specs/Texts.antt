@@ -6,46 +6,46 @@ use Rattle.cookie_parts.specs.Hosts.{host_of}
 use Rattle.cookie_laws.specs.Related.{after_dots}
 
 -- 5.1.3: a domain that covers a host is the host, or follows one of its dots
-abbrev pub IsRelated : List ℕ → List ℕ → Type 0
-IsRelated host text = (text ≡ host) ⊎ ((front : List ℕ) × (host ≡ front ++ 46 ∷ text))
+abbrev pub IsCandidateDomain : List ℕ → List ℕ → Type 0
+IsCandidateDomain host text = (text ≡ host) ⊎ ((front : List ℕ) × (host ≡ front ++ 46 ∷ text))
 
 -- the candidate domains of a host, longest first
-abbrev pub related_texts : List ℕ → List (List ℕ)
-related_texts host = host ∷ after_dots host
+abbrev pub candidate_domains : List ℕ → List (List ℕ)
+candidate_domains host = host ∷ after_dots host
 
 -- the candidate domains of a URL; none without a host
-abbrev pub domain_texts : Parts → List (List ℕ)
-domain_texts url = elim (host_of url) [ None ↦ [] | Some host ↦ related_texts host ]
+abbrev pub url_candidate_domains : Parts → List (List ℕ)
+url_candidate_domains url = elim (host_of url) [ None ↦ [] | Some host ↦ candidate_domains host ]
 
 -- the domain is a candidate of the host, tested without listing the candidates
-abbrev pub is_domain_text : List ℕ → List ℕ → Bool
-is_domain_text host text =
+abbrev pub is_candidate_domain : List ℕ → List ℕ → Bool
+is_candidate_domain host text =
     ((length text == length host) || nat_lt (length text) (length host) && (slice_index host (length host - length text - 1) == 46))
     && ends_with nat_eq host text
 
 -- 5.1.4: a path that path-matches begins with `/`, and is the request path, or the part before one
 -- of its slashes, or the part that ends with one
-abbrev pub IsPathText : List ℕ → List ℕ → Type 0
-IsPathText path text = (starts_with nat_eq text (47 ∷ []) ≡ true)
+abbrev pub IsCandidatePath : List ℕ → List ℕ → Type 0
+IsCandidatePath path text = (starts_with nat_eq text (47 ∷ []) ≡ true)
     × ((text ≡ path) ⊎ ((front : List ℕ) × (rest : List ℕ) × (path ≡ front ++ 47 ∷ rest) × ((text ≡ front) ⊎ (text ≡ front ++ 47 ∷ []))))
 
 -- the byte at this position is the last one, or a slash, or followed by a slash
-abbrev pub ends_text : List ℕ → ℕ → Bool
-ends_text path at = at + 1 == length path || slice_index path at == 47 || slice_index path (at + 1) == 47
+abbrev pub ends_candidate : List ℕ → ℕ → Bool
+ends_candidate path at = at + 1 == length path || slice_index path at == 47 || slice_index path (at + 1) == 47
 
--- the starts of a path that end, by `ends_text`, at one of its first bytes, shortest first
+-- the starts of a path that end, by `ends_candidate`, at one of its first bytes, shortest first
 abbrev pub front_texts : List ℕ → ℕ → List (List ℕ)
 front_texts path zero = []
-front_texts path (suc at) = front_texts path at ++ (if ends_text path at then take (suc at) path ∷ [] else [])
+front_texts path (suc at) = front_texts path at ++ (if ends_candidate path at then take (suc at) path ∷ [] else [])
 
 -- the candidate paths of a request path, shortest first; none if it does not begin with a slash
-abbrev pub path_texts : List ℕ → List (List ℕ)
-path_texts path = if starts_with nat_eq path (47 ∷ []) then front_texts path (length path) else []
+abbrev pub candidate_paths : List ℕ → List (List ℕ)
+candidate_paths path = if starts_with nat_eq path (47 ∷ []) then front_texts path (length path) else []
 
 -- the path is a candidate of the request path, tested without listing the candidates
-abbrev pub is_path_text : List ℕ → List ℕ → Bool
-is_path_text path text =
-    starts_with nat_eq text (47 ∷ []) && nat_le (length text) (length path) && ends_text path (length text - 1)
+abbrev pub is_candidate_path : List ℕ → List ℕ → Bool
+is_candidate_path path text =
+    starts_with nat_eq text (47 ∷ []) && nat_le (length text) (length path) && ends_candidate path (length text - 1)
     && starts_with nat_eq path text
 
 -- how many dots there are

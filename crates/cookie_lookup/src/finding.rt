@@ -3,15 +3,15 @@ ghost use Rattle.std.specs.List.{flat_map};
 ghost use Rattle.std.specs.Prelude.{◌≡◌, ◌≢◌, ◌≤◌, ◌<◌, ◌+◌, ◌*◌, ◌^◌, [], ◌++◌, ◌∷◌, length, IfOk, OnErr, OnOk, Some};
 ghost use Rattle.cookie_words.specs.Moments.{moment_of};
 ghost use Rattle.cookie_laws.specs.Given.{is_given};
-ghost use Rattle.cookie_lookup.specs.Asked.{is_asked_for};
-ghost use Rattle.cookie_lookup.specs.Seen.{at_domain, at_path, given_spots, how_many_found, how_many_pairs_found, of_host, paths_at_domain, row_spots, rows_in, under};
-ghost use Rattle.cookie_lookup.specs.Spots.{SameSpots};
-ghost use Rattle.cookie_lookup.specs.Texts.{domain_texts, dots, ends_text, most_domains, most_paths, path_texts, related_texts, IsRelated};
+ghost use Rattle.cookie_lookup.specs.RowFilter.{is_given_under};
+ghost use Rattle.cookie_lookup.specs.SearchView.{at_domain, at_path, given_positions, how_many_found, how_many_pairs_found, of_host, paths_at_domain, row_positions, rows_in, under};
+ghost use Rattle.cookie_lookup.specs.Positions.{SamePositions};
+ghost use Rattle.cookie_lookup.specs.Texts.{url_candidate_domains, dots, ends_candidate, most_domains, most_paths, candidate_paths, candidate_domains, IsCandidateDomain};
 ghost use Rattle.cookie_parts.specs.Hosts.{host_of, is_host_name};
 
-use crate::asked::Asked;
 use crate::laws;
 use crate::listing::{ByListing, ByLookup, DomainSearch, PathSearch};
+use crate::row_filter::RowFilter;
 use crate::search::{ListedSearch, Search};
 use cookie_parts::utils::is_host_name;
 use jiff::civil::DateTime;
@@ -36,17 +36,17 @@ pub fn found<S: Search>(
     url: &Url,
     now: DateTime,
 ) -> Result<Vec<(usize, usize, usize)>, AllocError>
-    requires domains { (S.seen search.old).domains ≡ 0 }
-    requires paths { (S.seen search.old).paths ≡ 0 }
-    ensures spots { IfOk result (λ spots. spots.items ≡ given_spots url.now (moment_of now) (S.seen search.old).groups) }
-    ensures groups { (S.seen search.new).groups ≡ (S.seen search.old).groups }
-    ensures domains { (S.seen search.new).domains ≤ most_domains url.now }
-    ensures paths { (S.seen search.new).paths
-        ≤ how_many_found (S.seen search.old).groups (domain_texts url.now) * most_paths url.now }
-    ensures every_domain { OnOk result ((S.seen search.new).domains ≡ most_domains url.now) }
+    requires domains { (S.view_of search.old).domains ≡ 0 }
+    requires paths { (S.view_of search.old).paths ≡ 0 }
+    ensures positions { IfOk result (λ positions. positions.items ≡ given_positions url.now (moment_of now) (S.view_of search.old).groups) }
+    ensures groups { (S.view_of search.new).groups ≡ (S.view_of search.old).groups }
+    ensures domains { (S.view_of search.new).domains ≤ most_domains url.now }
+    ensures paths { (S.view_of search.new).paths
+        ≤ how_many_found (S.view_of search.old).groups (url_candidate_domains url.now) * most_paths url.now }
+    ensures every_domain { OnOk result ((S.view_of search.new).domains ≡ most_domains url.now) }
     ensures every_path { OnOk result
-        (how_many_pairs_found (S.seen search.old).groups (path_texts url.now.path) (domain_texts url.now) ≤ (S.seen search.new).paths) }
-    ensures memory { OnErr result (given_spots url.now (moment_of now) (S.seen search.old).groups ≢ []) }
+        (how_many_pairs_found (S.view_of search.old).groups (candidate_paths url.now.path) (url_candidate_domains url.now) ≤ (S.view_of search.new).paths) }
+    ensures memory { OnErr result (given_positions url.now (moment_of now) (S.view_of search.old).groups ≢ []) }
 {
     found_by::<S, ByLookup>(alloc, search, url, now)
 }
@@ -68,17 +68,17 @@ pub fn found_listed<S: ListedSearch>(
     url: &Url,
     now: DateTime,
 ) -> Result<Vec<(usize, usize, usize)>, AllocError>
-    requires domains { (S.seen search.old).domains ≡ 0 }
-    requires paths { (S.seen search.old).paths ≡ 0 }
-    ensures spots { IfOk result (λ spots. spots.items ≡ given_spots url.now (moment_of now) (S.seen search.old).groups) }
-    ensures groups { (S.seen search.new).groups ≡ (S.seen search.old).groups }
-    ensures domains { (S.seen search.new).domains ≤ most_domains url.now }
-    ensures paths { (S.seen search.new).paths
-        ≤ how_many_found (S.seen search.old).groups (domain_texts url.now) * most_paths url.now }
-    ensures every_domain { OnOk result (how_many_found (S.seen search.old).groups (domain_texts url.now) ≤ (S.seen search.new).domains) }
+    requires domains { (S.view_of search.old).domains ≡ 0 }
+    requires paths { (S.view_of search.old).paths ≡ 0 }
+    ensures positions { IfOk result (λ positions. positions.items ≡ given_positions url.now (moment_of now) (S.view_of search.old).groups) }
+    ensures groups { (S.view_of search.new).groups ≡ (S.view_of search.old).groups }
+    ensures domains { (S.view_of search.new).domains ≤ most_domains url.now }
+    ensures paths { (S.view_of search.new).paths
+        ≤ how_many_found (S.view_of search.old).groups (url_candidate_domains url.now) * most_paths url.now }
+    ensures every_domain { OnOk result (how_many_found (S.view_of search.old).groups (url_candidate_domains url.now) ≤ (S.view_of search.new).domains) }
     ensures every_path { OnOk result
-        (how_many_pairs_found (S.seen search.old).groups (path_texts url.now.path) (domain_texts url.now) ≤ (S.seen search.new).paths) }
-    ensures memory { OnErr result (given_spots url.now (moment_of now) (S.seen search.old).groups ≢ []) }
+        (how_many_pairs_found (S.view_of search.old).groups (candidate_paths url.now.path) (url_candidate_domains url.now) ≤ (S.view_of search.new).paths) }
+    ensures memory { OnErr result (given_positions url.now (moment_of now) (S.view_of search.old).groups ≢ []) }
 {
     found_by::<S, ByListing>(alloc, search, url, now)
 }
@@ -90,30 +90,30 @@ fn found_by<S: Search, D: DomainSearch<S>>(
     url: &Url,
     now: DateTime,
 ) -> Result<Vec<(usize, usize, usize)>, AllocError>
-    requires domains { (S.seen search.old).domains ≡ 0 }
-    requires paths { (S.seen search.old).paths ≡ 0 }
-    ensures spots { IfOk result (λ spots. spots.items ≡ given_spots url.now (moment_of now) (S.seen search.old).groups) }
-    ensures groups { (S.seen search.new).groups ≡ (S.seen search.old).groups }
-    ensures domains { (S.seen search.new).domains ≤ most_domains url.now }
-    ensures paths { (S.seen search.new).paths
-        ≤ how_many_found (S.seen search.old).groups (domain_texts url.now) * most_paths url.now }
-    ensures every_domain { OnOk result (of_host (D.fewest (S.seen search.old).groups) url.now ≤ (S.seen search.new).domains) }
+    requires domains { (S.view_of search.old).domains ≡ 0 }
+    requires paths { (S.view_of search.old).paths ≡ 0 }
+    ensures positions { IfOk result (λ positions. positions.items ≡ given_positions url.now (moment_of now) (S.view_of search.old).groups) }
+    ensures groups { (S.view_of search.new).groups ≡ (S.view_of search.old).groups }
+    ensures domains { (S.view_of search.new).domains ≤ most_domains url.now }
+    ensures paths { (S.view_of search.new).paths
+        ≤ how_many_found (S.view_of search.old).groups (url_candidate_domains url.now) * most_paths url.now }
+    ensures every_domain { OnOk result (of_host (D.fewest (S.view_of search.old).groups) url.now ≤ (S.view_of search.new).domains) }
     ensures every_path { OnOk result
-        (how_many_pairs_found (S.seen search.old).groups (path_texts url.now.path) (domain_texts url.now) ≤ (S.seen search.new).paths) }
-    ensures memory { OnErr result (given_spots url.now (moment_of now) (S.seen search.old).groups ≢ []) }
+        (how_many_pairs_found (S.view_of search.old).groups (candidate_paths url.now.path) (url_candidate_domains url.now) ≤ (S.view_of search.new).paths) }
+    ensures memory { OnErr result (given_positions url.now (moment_of now) (S.view_of search.old).groups ≢ []) }
 {
     // for the checker: rows outside the candidate domains and paths are never given
     laws::looked_up();
-    let mut spots = Vec::new(alloc);
+    let mut positions = Vec::new(alloc);
     if let Some(host) = url.host_str() {
         // for the checker: naming these strings bounds their lengths, so that the counts cannot
         // overflow
         let _ = host.as_bytes();
         let _ = url.path().as_bytes();
-        D::push_domains(search, host, url, now, &mut spots)?;
-        spots.sort_unstable();
+        D::push_domains(search, host, url, now, &mut positions)?;
+        positions.sort_unstable();
     }
-    Ok(spots)
+    Ok(positions)
 }
 
 // Adds the positions under the candidate domains, longest first, each by a lookup.
@@ -122,29 +122,37 @@ pub(crate) fn push_domains<S: Search, P: PathSearch<S>>(
     host: &str,
     url: &Url,
     now: DateTime,
-    spots: &mut Vec<(usize, usize, usize)>,
+    positions: &mut Vec<(usize, usize, usize)>,
 ) -> Result<(), AllocError>
     requires host { host_of url.now ≡ Some host.now }
-    requires domains { (S.seen search.old).domains + (1 + dots host.now) < 2 ^ 128 }
-    requires paths { (S.seen search.old).paths + (1 + dots host.now) * most_paths url.now < 2 ^ 128 }
-    ensures spots { OnOk result (SameSpots spots.new.items (spots.old.items
-        ++ flat_map (at_domain (is_given url.now (moment_of now)) (S.seen search.old).groups (path_texts url.now.path)) (related_texts host.now))) }
-    ensures groups { (S.seen search.new).groups ≡ (S.seen search.old).groups }
-    ensures domains { (S.seen search.new).domains ≤ (S.seen search.old).domains + (1 + dots host.now) }
-    ensures paths { (S.seen search.new).paths
-        ≤ (S.seen search.old).paths + how_many_found (S.seen search.old).groups (related_texts host.now) * most_paths url.now }
-    ensures every_domain { OnOk result ((S.seen search.new).domains ≡ (S.seen search.old).domains + (1 + dots host.now)) }
-    ensures every_path { OnOk result ((S.seen search.old).paths
-        + how_many_pairs_found (S.seen search.old).groups (path_texts url.now.path) (related_texts host.now) ≤ (S.seen search.new).paths) }
+    requires domains { (S.view_of search.old).domains + (1 + dots host.now) < 2 ^ 128 }
+    requires paths { (S.view_of search.old).paths + (1 + dots host.now) * most_paths url.now < 2 ^ 128 }
+    ensures positions { OnOk result (SamePositions positions.new.items (positions.old.items
+        ++ flat_map (at_domain (is_given url.now (moment_of now)) (S.view_of search.old).groups (candidate_paths url.now.path)) (candidate_domains host.now))) }
+    ensures groups { (S.view_of search.new).groups ≡ (S.view_of search.old).groups }
+    ensures domains { (S.view_of search.new).domains ≤ (S.view_of search.old).domains + (1 + dots host.now) }
+    ensures paths { (S.view_of search.new).paths
+        ≤ (S.view_of search.old).paths + how_many_found (S.view_of search.old).groups (candidate_domains host.now) * most_paths url.now }
+    ensures every_domain { OnOk result ((S.view_of search.new).domains ≡ (S.view_of search.old).domains + (1 + dots host.now)) }
+    ensures every_path { OnOk result ((S.view_of search.old).paths
+        + how_many_pairs_found (S.view_of search.old).groups (candidate_paths url.now.path) (candidate_domains host.now) ≤ (S.view_of search.new).paths) }
     ensures memory { OnErr result
-        (flat_map (at_domain (is_given url.now (moment_of now)) (S.seen search.old).groups (path_texts url.now.path)) (related_texts host.now) ≢ []) }
+        (flat_map (at_domain (is_given url.now (moment_of now)) (S.view_of search.old).groups (candidate_paths url.now.path)) (candidate_domains host.now) ≢ []) }
 {
     let host_is_name = is_host_name(host);
-    push_domain::<S, P>(search, host, host, host_is_name, url, now, spots)?;
+    push_domain::<S, P>(search, host, host, host_is_name, url, now, positions)?;
     let bytes = host.as_bytes();
     for at in 0..bytes.len() {
         if bytes[at] == b'.' {
-            push_domain::<S, P>(search, &host[at + 1..], host, host_is_name, url, now, spots)?;
+            push_domain::<S, P>(
+                search,
+                &host[at + 1..],
+                host,
+                host_is_name,
+                url,
+                now,
+                positions,
+            )?;
         }
     }
     Ok(())
@@ -158,28 +166,28 @@ pub(crate) fn push_domain<S: Search, P: PathSearch<S>>(
     host_is_name: bool,
     url: &Url,
     now: DateTime,
-    spots: &mut Vec<(usize, usize, usize)>,
+    positions: &mut Vec<(usize, usize, usize)>,
 ) -> Result<(), AllocError>
     requires host { host_of url.now ≡ Some host.now }
     requires name { host_is_name ≡ is_host_name host.now }
-    requires related { IsRelated host.now text.now }
-    requires domains { (S.seen search.old).domains + 1 < 2 ^ 128 }
-    requires paths { (S.seen search.old).paths + most_paths url.now < 2 ^ 128 }
-    ensures spots { OnOk result (SameSpots spots.new.items (spots.old.items
-        ++ at_domain (is_given url.now (moment_of now)) (S.seen search.old).groups (path_texts url.now.path) text.now)) }
-    ensures groups { (S.seen search.new).groups ≡ (S.seen search.old).groups }
-    ensures domains { (S.seen search.new).domains ≡ (S.seen search.old).domains + 1 }
-    ensures paths { (S.seen search.new).paths
-        ≤ (S.seen search.old).paths + how_many_found (S.seen search.old).groups (text.now ∷ []) * most_paths url.now }
-    ensures every_path { OnOk result ((S.seen search.old).paths
-        + paths_at_domain (S.seen search.old).groups (path_texts url.now.path) text.now ≤ (S.seen search.new).paths) }
+    requires related { IsCandidateDomain host.now text.now }
+    requires domains { (S.view_of search.old).domains + 1 < 2 ^ 128 }
+    requires paths { (S.view_of search.old).paths + most_paths url.now < 2 ^ 128 }
+    ensures positions { OnOk result (SamePositions positions.new.items (positions.old.items
+        ++ at_domain (is_given url.now (moment_of now)) (S.view_of search.old).groups (candidate_paths url.now.path) text.now)) }
+    ensures groups { (S.view_of search.new).groups ≡ (S.view_of search.old).groups }
+    ensures domains { (S.view_of search.new).domains ≡ (S.view_of search.old).domains + 1 }
+    ensures paths { (S.view_of search.new).paths
+        ≤ (S.view_of search.old).paths + how_many_found (S.view_of search.old).groups (text.now ∷ []) * most_paths url.now }
+    ensures every_path { OnOk result ((S.view_of search.old).paths
+        + paths_at_domain (S.view_of search.old).groups (candidate_paths url.now.path) text.now ≤ (S.view_of search.new).paths) }
     ensures memory { OnErr result
-        (at_domain (is_given url.now (moment_of now)) (S.seen search.old).groups (path_texts url.now.path) text.now ≢ []) }
+        (at_domain (is_given url.now (moment_of now)) (S.view_of search.old).groups (candidate_paths url.now.path) text.now ≢ []) }
 {
     match search.domain(text) {
         Some(domain) => {
-            let asked = Asked::under(text, host, host_is_name, url, now);
-            P::push_paths(search, domain, &asked, spots)
+            let row_filter = RowFilter::under(text, host, host_is_name, url, now);
+            P::push_paths(search, domain, &row_filter, positions)
         }
         None => Ok(()),
     }
@@ -189,26 +197,26 @@ pub(crate) fn push_domain<S: Search, P: PathSearch<S>>(
 pub(crate) fn push_paths<S: Search>(
     search: &mut S,
     domain: usize,
-    asked: &Asked<'_>,
-    spots: &mut Vec<(usize, usize, usize)>,
+    row_filter: &RowFilter<'_>,
+    positions: &mut Vec<(usize, usize, usize)>,
 ) -> Result<(), AllocError>
-    requires room { (S.seen search.old).paths + most_paths asked.now.url.now < 2 ^ 128 }
-    requires domain { domain < length (S.seen search.old).groups }
-    ensures spots { OnOk result (spots.new.items ≡ spots.old.items
-        ++ flat_map (at_path (is_asked_for asked.now.host_only asked.now.suffix asked.now.url.now (moment_of asked.now.moment)) domain (under domain (S.seen search.old).groups)) (path_texts asked.now.url.now.path)) }
-    ensures groups { (S.seen search.new).groups ≡ (S.seen search.old).groups }
-    ensures domains { (S.seen search.new).domains ≡ (S.seen search.old).domains }
-    ensures paths { (S.seen search.new).paths ≤ (S.seen search.old).paths + most_paths asked.now.url.now }
-    ensures every_path { OnOk result ((S.seen search.new).paths ≡ (S.seen search.old).paths + length (path_texts asked.now.url.now.path)) }
+    requires room { (S.view_of search.old).paths + most_paths row_filter.now.url.now < 2 ^ 128 }
+    requires domain { domain < length (S.view_of search.old).groups }
+    ensures positions { OnOk result (positions.new.items ≡ positions.old.items
+        ++ flat_map (at_path (is_given_under row_filter.now.host_only row_filter.now.suffix row_filter.now.url.now (moment_of row_filter.now.time)) domain (under domain (S.view_of search.old).groups)) (candidate_paths row_filter.now.url.now.path)) }
+    ensures groups { (S.view_of search.new).groups ≡ (S.view_of search.old).groups }
+    ensures domains { (S.view_of search.new).domains ≡ (S.view_of search.old).domains }
+    ensures paths { (S.view_of search.new).paths ≤ (S.view_of search.old).paths + most_paths row_filter.now.url.now }
+    ensures every_path { OnOk result ((S.view_of search.new).paths ≡ (S.view_of search.old).paths + length (candidate_paths row_filter.now.url.now.path)) }
     ensures memory { OnErr result
-        (flat_map (at_path (is_asked_for asked.now.host_only asked.now.suffix asked.now.url.now (moment_of asked.now.moment)) domain (under domain (S.seen search.old).groups)) (path_texts asked.now.url.now.path) ≢ []) }
+        (flat_map (at_path (is_given_under row_filter.now.host_only row_filter.now.suffix row_filter.now.url.now (moment_of row_filter.now.time)) domain (under domain (S.view_of search.old).groups)) (candidate_paths row_filter.now.url.now.path) ≢ []) }
 {
-    let path = asked.url.path();
+    let path = row_filter.url.path();
     let bytes = path.as_bytes();
     if bytes.starts_with(b"/") {
         for at in 0..bytes.len() {
-            if ends_text(bytes, at) {
-                push_path(search, domain, &path[..at + 1], asked, spots)?;
+            if ends_candidate(bytes, at) {
+                push_path(search, domain, &path[..at + 1], row_filter, positions)?;
             }
         }
     }
@@ -216,9 +224,9 @@ pub(crate) fn push_paths<S: Search>(
 }
 
 // Whether the byte at `at` is the last one, or a slash, or followed by a slash.
-pub(crate) fn ends_text(path: &[u8], at: usize) -> bool
+pub(crate) fn ends_candidate(path: &[u8], at: usize) -> bool
     requires { at < length path.now }
-    ensures { result ≡ ends_text path.now at }
+    ensures { result ≡ ends_candidate path.now at }
 {
     at + 1 == path.len() || path[at] == b'/' || path[at + 1] == b'/'
 }
@@ -228,21 +236,21 @@ pub(crate) fn push_path<S: Search>(
     search: &mut S,
     domain: usize,
     text: &str,
-    asked: &Asked<'_>,
-    spots: &mut Vec<(usize, usize, usize)>,
+    row_filter: &RowFilter<'_>,
+    positions: &mut Vec<(usize, usize, usize)>,
 ) -> Result<(), AllocError>
-    requires room { (S.seen search.old).paths + 1 < 2 ^ 128 }
-    requires domain { domain < length (S.seen search.old).groups }
-    ensures spots { OnOk result (spots.new.items ≡ spots.old.items
-        ++ at_path (is_asked_for asked.now.host_only asked.now.suffix asked.now.url.now (moment_of asked.now.moment)) domain (under domain (S.seen search.old).groups) text.now) }
-    ensures groups { (S.seen search.new).groups ≡ (S.seen search.old).groups }
-    ensures domains { (S.seen search.new).domains ≡ (S.seen search.old).domains }
-    ensures paths { (S.seen search.new).paths ≡ (S.seen search.old).paths + 1 }
+    requires room { (S.view_of search.old).paths + 1 < 2 ^ 128 }
+    requires domain { domain < length (S.view_of search.old).groups }
+    ensures positions { OnOk result (positions.new.items ≡ positions.old.items
+        ++ at_path (is_given_under row_filter.now.host_only row_filter.now.suffix row_filter.now.url.now (moment_of row_filter.now.time)) domain (under domain (S.view_of search.old).groups) text.now) }
+    ensures groups { (S.view_of search.new).groups ≡ (S.view_of search.old).groups }
+    ensures domains { (S.view_of search.new).domains ≡ (S.view_of search.old).domains }
+    ensures paths { (S.view_of search.new).paths ≡ (S.view_of search.old).paths + 1 }
     ensures memory { OnErr result
-        (at_path (is_asked_for asked.now.host_only asked.now.suffix asked.now.url.now (moment_of asked.now.moment)) domain (under domain (S.seen search.old).groups) text.now ≢ []) }
+        (at_path (is_given_under row_filter.now.host_only row_filter.now.suffix row_filter.now.url.now (moment_of row_filter.now.time)) domain (under domain (S.view_of search.old).groups) text.now ≢ []) }
 {
     match search.path(domain, text) {
-        Some(path) => push_rows(search, domain, path, asked, spots),
+        Some(path) => push_rows(search, domain, path, row_filter, positions),
         None => Ok(()),
     }
 }
@@ -252,18 +260,18 @@ fn push_rows<S: Search>(
     search: &S,
     domain: usize,
     path: usize,
-    asked: &Asked<'_>,
-    spots: &mut Vec<(usize, usize, usize)>,
+    row_filter: &RowFilter<'_>,
+    positions: &mut Vec<(usize, usize, usize)>,
 ) -> Result<(), AllocError>
-    ensures spots { OnOk result (spots.new.items ≡ spots.old.items
-        ++ row_spots (is_asked_for asked.now.host_only asked.now.suffix asked.now.url.now (moment_of asked.now.moment)) domain path 0 (rows_in (S.seen search.now).current)) }
+    ensures positions { OnOk result (positions.new.items ≡ positions.old.items
+        ++ row_positions (is_given_under row_filter.now.host_only row_filter.now.suffix row_filter.now.url.now (moment_of row_filter.now.time)) domain path 0 (rows_in (S.view_of search.now).current)) }
     ensures memory { OnErr result
-        (row_spots (is_asked_for asked.now.host_only asked.now.suffix asked.now.url.now (moment_of asked.now.moment)) domain path 0 (rows_in (S.seen search.now).current) ≢ []) }
+        (row_positions (is_given_under row_filter.now.host_only row_filter.now.suffix row_filter.now.url.now (moment_of row_filter.now.time)) domain path 0 (rows_in (S.view_of search.now).current) ≢ []) }
 {
     let mut row = 0;
     while let Some(cookie) = search.cookie(row) {
-        if asked.gives(cookie) {
-            push_spot(spots, (domain, path, row))?;
+        if row_filter.gives(cookie) {
+            push_position(positions, (domain, path, row))?;
         }
         row += 1;
     }
@@ -271,15 +279,15 @@ fn push_rows<S: Search>(
 }
 
 // Adds a position. The first allocates room for 32 at once.
-fn push_spot(
-    spots: &mut Vec<(usize, usize, usize)>,
-    spot: (usize, usize, usize),
+fn push_position(
+    positions: &mut Vec<(usize, usize, usize)>,
+    row_position: (usize, usize, usize),
 ) -> Result<(), AllocError>
-    ensures { OnOk result (spots.new.items ≡ spots.old.items ++ spot ∷ []) }
+    ensures { OnOk result (positions.new.items ≡ positions.old.items ++ row_position ∷ []) }
 {
-    if spots.is_empty() {
-        spots.reserve_exact(32)?;
+    if positions.is_empty() {
+        positions.reserve_exact(32)?;
     }
-    spots.push(spot)?;
+    positions.push(row_position)?;
     Ok(())
 }

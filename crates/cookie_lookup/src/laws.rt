@@ -9,23 +9,23 @@ ghost use Rattle.cookie_parts.specs.Domain.{domain_text};
 ghost use Rattle.cookie_laws.specs.Given.{given, is_given};
 ghost use Rattle.cookie_laws.specs.Rows.{differ};
 ghost use Rattle.cookie_lookup.specs.Groups.{flat, AreGroups, DomainGroups};
-ghost use Rattle.cookie_lookup.specs.Seen.{domains_found, given_spots, how_many_found, how_many_pairs_found, paths_found, rows_at};
-ghost use Rattle.cookie_lookup.specs.Texts.{domain_texts, dots, path_texts, related_texts, slashes, IsPathText, IsRelated};
+ghost use Rattle.cookie_lookup.specs.SearchView.{domains_found, given_positions, how_many_found, how_many_pairs_found, paths_found, rows_at};
+ghost use Rattle.cookie_lookup.specs.Texts.{url_candidate_domains, dots, candidate_paths, candidate_domains, slashes, IsCandidatePath, IsCandidateDomain};
 ghost use Rattle.url.specs.Parts.{Parts};
 
-/// The candidate domains and paths are exactly those that the definitions `IsRelated` and
-/// `IsPathText` describe. They differ, and there are at most as many as the bounds state. The
+/// The candidate domains and paths are exactly those that the definitions `IsCandidateDomain` and
+/// `IsCandidatePath` describe. They differ, and there are at most as many as the bounds state. The
 /// domain and the path of a cookie given for a URL are among them.
 pub fn looked_up()
-    ensures domains { (host text : List ℕ) → Decides (list_any (bytes_eq text) (related_texts host)) (IsRelated host text) }
-    ensures paths { (path text : List ℕ) → Decides (list_any (bytes_eq text) (path_texts path)) (IsPathText path text) }
-    ensures domains_differ { (host : List ℕ) → differ bytes_eq (related_texts host) ≡ true }
-    ensures paths_differ { (path : List ℕ) → differ bytes_eq (path_texts path) ≡ true }
-    ensures most_domains { (host : List ℕ) → length (related_texts host) ≡ 1 + dots host }
-    ensures most_paths { (path : List ℕ) → length (path_texts path) ≤ 1 + 2 * slashes path }
+    ensures domains { (host text : List ℕ) → Decides (list_any (bytes_eq text) (candidate_domains host)) (IsCandidateDomain host text) }
+    ensures paths { (path text : List ℕ) → Decides (list_any (bytes_eq text) (candidate_paths path)) (IsCandidatePath path text) }
+    ensures domains_differ { (host : List ℕ) → differ bytes_eq (candidate_domains host) ≡ true }
+    ensures paths_differ { (path : List ℕ) → differ bytes_eq (candidate_paths path) ≡ true }
+    ensures most_domains { (host : List ℕ) → length (candidate_domains host) ≡ 1 + dots host }
+    ensures most_paths { (path : List ℕ) → length (candidate_paths path) ≤ 1 + 2 * slashes path }
     ensures given { (url : Parts) (now : Moment) (row : Row) → is_given url now row ≡ true
-        → (list_any (bytes_eq (domain_text row.domain)) (domain_texts url) ≡ true)
-        × (list_any (bytes_eq row.path.text) (path_texts url.path) ≡ true) }
+        → (list_any (bytes_eq (domain_text row.domain)) (url_candidate_domains url) ≡ true)
+        × (list_any (bytes_eq row.path.text) (candidate_paths url.path) ≡ true) }
 {
     cookie_parts::laws::path_match_is_tested();
     cookie_laws::given_is_related();
@@ -35,13 +35,13 @@ pub fn looked_up()
 /// row for each position. As many candidate domains have a group as are the domain of a row; as
 /// many pairs of a candidate domain and a candidate path have a group as are the domain and path of
 /// a row.
-pub fn rows_at_spots()
+pub fn rows_at_positions()
     ensures rows { (url : Parts) (now : Moment) (groups : DomainGroups)
-        → flat_map (rows_at groups) (given_spots url now groups) ≡ given url now (flat groups) }
+        → flat_map (rows_at groups) (given_positions url now groups) ≡ given url now (flat groups) }
     ensures count { (url : Parts) (now : Moment) (groups : DomainGroups)
-        → length (given_spots url now groups) ≡ length (given url now (flat groups)) }
+        → length (given_positions url now groups) ≡ length (given url now (flat groups)) }
     ensures found { (url : Parts) (groups : DomainGroups) → AreGroups groups
-        → how_many_found groups (domain_texts url) ≡ domains_found url (flat groups) }
+        → how_many_found groups (url_candidate_domains url) ≡ domains_found url (flat groups) }
     ensures pairs_found { (url : Parts) (groups : DomainGroups) → AreGroups groups
-        → how_many_pairs_found groups (path_texts url.path) (domain_texts url) ≡ paths_found url (flat groups) }
+        → how_many_pairs_found groups (candidate_paths url.path) (url_candidate_domains url) ≡ paths_found url (flat groups) }
 {}

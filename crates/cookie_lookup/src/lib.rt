@@ -8,11 +8,11 @@
 //! `found_listed` may walk over the stored domains or paths instead if they are few.
 #![tactic(auto)]
 
-mod asked;
 mod finding;
 pub mod laws;
 mod listing;
 mod lookups;
+mod row_filter;
 mod search;
 
 pub use finding::{found, found_listed};

@@ -4,15 +4,15 @@ ghost use Rattle.std.specs.List.{flat_map, list_any};
 ghost use Rattle.std.specs.Prelude.{◌≡◌, ◌≢◌, ◌≤◌, ◌<◌, ◌+◌, ◌*◌, ◌^◌, ℕ, [], ◌++◌, bytes_eq, false, filter, length, map, slice_get, true, IfNone, IfSome, List, OnErr, OnOk, Some};
 ghost use Rattle.cookie_words.specs.Moments.{moment_of};
 ghost use Rattle.cookie_laws.specs.Given.{is_given};
-ghost use Rattle.cookie_lookup.specs.Asked.{is_asked_for};
+ghost use Rattle.cookie_lookup.specs.RowFilter.{is_given_under};
 ghost use Rattle.cookie_lookup.specs.Groups.{DomainGroups};
-ghost use Rattle.cookie_lookup.specs.Seen.{at_domain, at_path, how_many_found, how_many_pairs_found, how_many_paths, under};
-ghost use Rattle.cookie_lookup.specs.Spots.{SameSpots};
-ghost use Rattle.cookie_lookup.specs.Texts.{dots, is_domain_text, is_path_text, most_paths, path_texts, related_texts};
+ghost use Rattle.cookie_lookup.specs.SearchView.{at_domain, at_path, how_many_found, how_many_pairs_found, how_many_paths, under};
+ghost use Rattle.cookie_lookup.specs.Positions.{SamePositions};
+ghost use Rattle.cookie_lookup.specs.Texts.{dots, is_candidate_domain, is_candidate_path, most_paths, candidate_paths, candidate_domains};
 ghost use Rattle.cookie_parts.specs.Hosts.{host_of};
 
-use crate::asked::Asked;
-use crate::finding::{ends_text, push_domain, push_domains, push_path, push_paths};
+use crate::finding::{ends_candidate, push_domain, push_domains, push_path, push_paths};
+use crate::row_filter::RowFilter;
 use crate::search::{ListedSearch, Search};
 use cookie_parts::utils::is_host_name;
 use jiff::civil::DateTime;
@@ -30,23 +30,23 @@ pub(crate) trait DomainSearch<S: Search> {
         host: &str,
         url: &Url,
         now: DateTime,
-        spots: &mut Vec<(usize, usize, usize)>,
+        positions: &mut Vec<(usize, usize, usize)>,
     ) -> Result<(), AllocError>
         requires host { host_of url.now ≡ Some host.now }
-        requires domains { (S.seen search.old).domains + (1 + dots host.now) < 2 ^ 128 }
-        requires paths { (S.seen search.old).paths + (1 + dots host.now) * most_paths url.now < 2 ^ 128 }
-        ensures spots { OnOk result (SameSpots spots.new.items (spots.old.items
-            ++ flat_map (at_domain (is_given url.now (moment_of now)) (S.seen search.old).groups (path_texts url.now.path)) (related_texts host.now))) }
-        ensures groups { (S.seen search.new).groups ≡ (S.seen search.old).groups }
-        ensures domains { (S.seen search.new).domains ≤ (S.seen search.old).domains + (1 + dots host.now) }
-        ensures paths { (S.seen search.new).paths
-            ≤ (S.seen search.old).paths + how_many_found (S.seen search.old).groups (related_texts host.now) * most_paths url.now }
+        requires domains { (S.view_of search.old).domains + (1 + dots host.now) < 2 ^ 128 }
+        requires paths { (S.view_of search.old).paths + (1 + dots host.now) * most_paths url.now < 2 ^ 128 }
+        ensures positions { OnOk result (SamePositions positions.new.items (positions.old.items
+            ++ flat_map (at_domain (is_given url.now (moment_of now)) (S.view_of search.old).groups (candidate_paths url.now.path)) (candidate_domains host.now))) }
+        ensures groups { (S.view_of search.new).groups ≡ (S.view_of search.old).groups }
+        ensures domains { (S.view_of search.new).domains ≤ (S.view_of search.old).domains + (1 + dots host.now) }
+        ensures paths { (S.view_of search.new).paths
+            ≤ (S.view_of search.old).paths + how_many_found (S.view_of search.old).groups (candidate_domains host.now) * most_paths url.now }
         ensures every_domain { OnOk result
-            ((S.seen search.old).domains + fewest (S.seen search.old).groups host.now ≤ (S.seen search.new).domains) }
-        ensures every_path { OnOk result ((S.seen search.old).paths
-            + how_many_pairs_found (S.seen search.old).groups (path_texts url.now.path) (related_texts host.now) ≤ (S.seen search.new).paths) }
+            ((S.view_of search.old).domains + fewest (S.view_of search.old).groups host.now ≤ (S.view_of search.new).domains) }
+        ensures every_path { OnOk result ((S.view_of search.old).paths
+            + how_many_pairs_found (S.view_of search.old).groups (candidate_paths url.now.path) (candidate_domains host.now) ≤ (S.view_of search.new).paths) }
         ensures memory { OnErr result
-            (flat_map (at_domain (is_given url.now (moment_of now)) (S.seen search.old).groups (path_texts url.now.path)) (related_texts host.now) ≢ []) };
+            (flat_map (at_domain (is_given url.now (moment_of now)) (S.view_of search.old).groups (candidate_paths url.now.path)) (candidate_domains host.now) ≢ []) };
 }
 
 // How the paths of a domain are searched.
@@ -55,20 +55,20 @@ pub(crate) trait PathSearch<S: Search> {
     fn push_paths(
         search: &mut S,
         domain: usize,
-        asked: &Asked<'_>,
-        spots: &mut Vec<(usize, usize, usize)>,
+        row_filter: &RowFilter<'_>,
+        positions: &mut Vec<(usize, usize, usize)>,
     ) -> Result<(), AllocError>
-        requires room { (S.seen search.old).paths + most_paths asked.now.url.now < 2 ^ 128 }
-        requires domain { domain < length (S.seen search.old).groups }
-        ensures spots { OnOk result (SameSpots spots.new.items (spots.old.items
-            ++ flat_map (at_path (is_asked_for asked.now.host_only asked.now.suffix asked.now.url.now (moment_of asked.now.moment)) domain (under domain (S.seen search.old).groups)) (path_texts asked.now.url.now.path))) }
-        ensures groups { (S.seen search.new).groups ≡ (S.seen search.old).groups }
-        ensures domains { (S.seen search.new).domains ≡ (S.seen search.old).domains }
-        ensures paths { (S.seen search.new).paths ≤ (S.seen search.old).paths + most_paths asked.now.url.now }
-        ensures every_path { OnOk result ((S.seen search.old).paths
-            + how_many_paths (under domain (S.seen search.old).groups) (path_texts asked.now.url.now.path) ≤ (S.seen search.new).paths) }
+        requires room { (S.view_of search.old).paths + most_paths row_filter.now.url.now < 2 ^ 128 }
+        requires domain { domain < length (S.view_of search.old).groups }
+        ensures positions { OnOk result (SamePositions positions.new.items (positions.old.items
+            ++ flat_map (at_path (is_given_under row_filter.now.host_only row_filter.now.suffix row_filter.now.url.now (moment_of row_filter.now.time)) domain (under domain (S.view_of search.old).groups)) (candidate_paths row_filter.now.url.now.path))) }
+        ensures groups { (S.view_of search.new).groups ≡ (S.view_of search.old).groups }
+        ensures domains { (S.view_of search.new).domains ≡ (S.view_of search.old).domains }
+        ensures paths { (S.view_of search.new).paths ≤ (S.view_of search.old).paths + most_paths row_filter.now.url.now }
+        ensures every_path { OnOk result ((S.view_of search.old).paths
+            + how_many_paths (under domain (S.view_of search.old).groups) (candidate_paths row_filter.now.url.now.path) ≤ (S.view_of search.new).paths) }
         ensures memory { OnErr result
-            (flat_map (at_path (is_asked_for asked.now.host_only asked.now.suffix asked.now.url.now (moment_of asked.now.moment)) domain (under domain (S.seen search.old).groups)) (path_texts asked.now.url.now.path) ≢ []) };
+            (flat_map (at_path (is_given_under row_filter.now.host_only row_filter.now.suffix row_filter.now.url.now (moment_of row_filter.now.time)) domain (under domain (S.view_of search.old).groups)) (candidate_paths row_filter.now.url.now.path) ≢ []) };
 }
 
 // Looks up each candidate.
@@ -78,10 +78,10 @@ impl<S: Search> PathSearch<S> for ByLookup {
     fn push_paths(
         search: &mut S,
         domain: usize,
-        asked: &Asked<'_>,
-        spots: &mut Vec<(usize, usize, usize)>,
+        row_filter: &RowFilter<'_>,
+        positions: &mut Vec<(usize, usize, usize)>,
     ) -> Result<(), AllocError> {
-        push_paths(search, domain, asked, spots)
+        push_paths(search, domain, row_filter, positions)
     }
 }
 
@@ -93,9 +93,9 @@ impl<S: Search> DomainSearch<S> for ByLookup {
         host: &str,
         url: &Url,
         now: DateTime,
-        spots: &mut Vec<(usize, usize, usize)>,
+        positions: &mut Vec<(usize, usize, usize)>,
     ) -> Result<(), AllocError> {
-        push_domains::<S, ByLookup>(search, host, url, now, spots)
+        push_domains::<S, ByLookup>(search, host, url, now, positions)
     }
 }
 
@@ -110,33 +110,33 @@ impl<S: ListedSearch> PathSearch<S> for ByListing {
     fn push_paths(
         search: &mut S,
         domain: usize,
-        asked: &Asked<'_>,
-        spots: &mut Vec<(usize, usize, usize)>,
+        row_filter: &RowFilter<'_>,
+        positions: &mut Vec<(usize, usize, usize)>,
     ) -> Result<(), AllocError> {
         let count = search.path_count(domain);
-        if are_few_paths(count, asked.url.path().len()) {
-            push_listed(search, domain, count, asked, spots)
+        if are_few_paths(count, row_filter.url.path().len()) {
+            push_listed(search, domain, count, row_filter, positions)
         } else {
-            push_paths(search, domain, asked, spots)
+            push_paths(search, domain, row_filter, positions)
         }
     }
 }
 
 impl<S: ListedSearch> DomainSearch<S> for ByListing {
-    ghost fewest = { λ groups host. how_many_found groups (related_texts host) };
+    ghost fewest = { λ groups host. how_many_found groups (candidate_domains host) };
 
     fn push_domains(
         search: &mut S,
         host: &str,
         url: &Url,
         now: DateTime,
-        spots: &mut Vec<(usize, usize, usize)>,
+        positions: &mut Vec<(usize, usize, usize)>,
     ) -> Result<(), AllocError> {
         let count = search.domain_count();
         if are_few_domains(count, host.len()) {
-            push_listed_domains(search, count, host, url, now, spots)
+            push_listed_domains(search, count, host, url, now, positions)
         } else {
-            push_domains::<S, ByListing>(search, host, url, now, spots)
+            push_domains::<S, ByListing>(search, host, url, now, positions)
         }
     }
 }
@@ -158,29 +158,29 @@ fn push_listed_domains<S: ListedSearch>(
     host: &str,
     url: &Url,
     now: DateTime,
-    spots: &mut Vec<(usize, usize, usize)>,
+    positions: &mut Vec<(usize, usize, usize)>,
 ) -> Result<(), AllocError>
-    requires count { count ≡ length (S.seen search.old).groups }
+    requires count { count ≡ length (S.view_of search.old).groups }
     requires host { host_of url.now ≡ Some host.now }
-    requires domains { (S.seen search.old).domains + (1 + dots host.now) < 2 ^ 128 }
-    requires paths { (S.seen search.old).paths + (1 + dots host.now) * most_paths url.now < 2 ^ 128 }
-    ensures spots { OnOk result (SameSpots spots.new.items (spots.old.items
-        ++ flat_map (at_domain (is_given url.now (moment_of now)) (S.seen search.old).groups (path_texts url.now.path)) (related_texts host.now))) }
-    ensures groups { (S.seen search.new).groups ≡ (S.seen search.old).groups }
-    ensures domains { (S.seen search.new).domains ≤ (S.seen search.old).domains + (1 + dots host.now) }
-    ensures paths { (S.seen search.new).paths
-        ≤ (S.seen search.old).paths + how_many_found (S.seen search.old).groups (related_texts host.now) * most_paths url.now }
+    requires domains { (S.view_of search.old).domains + (1 + dots host.now) < 2 ^ 128 }
+    requires paths { (S.view_of search.old).paths + (1 + dots host.now) * most_paths url.now < 2 ^ 128 }
+    ensures positions { OnOk result (SamePositions positions.new.items (positions.old.items
+        ++ flat_map (at_domain (is_given url.now (moment_of now)) (S.view_of search.old).groups (candidate_paths url.now.path)) (candidate_domains host.now))) }
+    ensures groups { (S.view_of search.new).groups ≡ (S.view_of search.old).groups }
+    ensures domains { (S.view_of search.new).domains ≤ (S.view_of search.old).domains + (1 + dots host.now) }
+    ensures paths { (S.view_of search.new).paths
+        ≤ (S.view_of search.old).paths + how_many_found (S.view_of search.old).groups (candidate_domains host.now) * most_paths url.now }
     ensures every_domain { OnOk result
-        ((S.seen search.old).domains + how_many_found (S.seen search.old).groups (related_texts host.now) ≤ (S.seen search.new).domains) }
-    ensures every_path { OnOk result ((S.seen search.old).paths
-        + how_many_pairs_found (S.seen search.old).groups (path_texts url.now.path) (related_texts host.now) ≤ (S.seen search.new).paths) }
+        ((S.view_of search.old).domains + how_many_found (S.view_of search.old).groups (candidate_domains host.now) ≤ (S.view_of search.new).domains) }
+    ensures every_path { OnOk result ((S.view_of search.old).paths
+        + how_many_pairs_found (S.view_of search.old).groups (candidate_paths url.now.path) (candidate_domains host.now) ≤ (S.view_of search.new).paths) }
     ensures memory { OnErr result
-        (flat_map (at_domain (is_given url.now (moment_of now)) (S.seen search.old).groups (path_texts url.now.path)) (related_texts host.now) ≢ []) }
+        (flat_map (at_domain (is_given url.now (moment_of now)) (S.view_of search.old).groups (candidate_paths url.now.path)) (candidate_domains host.now) ≢ []) }
 {
     let host_is_name = is_host_name(host);
     for place in 0..count {
         if let Some(text) = suffix_at(search, place, host) {
-            push_domain::<S, ByListing>(search, text, host, host_is_name, url, now, spots)?;
+            push_domain::<S, ByListing>(search, text, host, host_is_name, url, now, positions)?;
         }
     }
     Ok(())
@@ -188,15 +188,15 @@ fn push_listed_domains<S: ListedSearch>(
 
 // Returns the end of the host that is the domain at `place`, if that is a candidate.
 fn suffix_at<'a, S: ListedSearch>(search: &S, place: usize, host: &'a str) -> Option<&'a str>
-    ensures suffix { IfSome result (λ suffix. Some suffix.now ≡ slice_get (map (λ g. g.0) (S.seen search.now).groups) place) }
-    ensures is { IfSome result (λ suffix. list_any (bytes_eq suffix.now) (related_texts host.now) ≡ true) }
-    ensures none { IfNone result ((text : List ℕ) → Some text ≡ slice_get (map (λ g. g.0) (S.seen search.now).groups) place
-        → list_any (bytes_eq text) (related_texts host.now) ≡ false) }
+    ensures suffix { IfSome result (λ suffix. Some suffix.now ≡ slice_get (map (λ g. g.0) (S.view_of search.now).groups) place) }
+    ensures is { IfSome result (λ suffix. list_any (bytes_eq suffix.now) (candidate_domains host.now) ≡ true) }
+    ensures none { IfNone result ((text : List ℕ) → Some text ≡ slice_get (map (λ g. g.0) (S.view_of search.now).groups) place
+        → list_any (bytes_eq text) (candidate_domains host.now) ≡ false) }
 {
     let bytes = host.as_bytes();
     match search.domain_text(place) {
         Some(text) => {
-            if is_domain_text(text.as_bytes(), bytes) {
+            if is_candidate_domain(text.as_bytes(), bytes) {
                 Some(&host[host.len() - text.len()..])
             } else {
                 None
@@ -208,8 +208,8 @@ fn suffix_at<'a, S: ListedSearch>(search: &S, place: usize, host: &'a str) -> Op
 
 // Whether the domain is a candidate. Bytes are compared last, and so only if the length allows a
 // match.
-fn is_domain_text(text: &[u8], host: &[u8]) -> bool
-    ensures { result ≡ is_domain_text host.now text.now }
+fn is_candidate_domain(text: &[u8], host: &[u8]) -> bool
+    ensures { result ≡ is_candidate_domain host.now text.now }
 {
     (text.len() == host.len()
         || text.len() < host.len() && host[host.len() - text.len() - 1] == b'.')
@@ -221,28 +221,28 @@ fn push_listed<S: ListedSearch>(
     search: &mut S,
     domain: usize,
     count: usize,
-    asked: &Asked<'_>,
-    spots: &mut Vec<(usize, usize, usize)>,
+    row_filter: &RowFilter<'_>,
+    positions: &mut Vec<(usize, usize, usize)>,
 ) -> Result<(), AllocError>
-    requires room { (S.seen search.old).paths + most_paths asked.now.url.now < 2 ^ 128 }
-    requires domain { domain < length (S.seen search.old).groups }
-    requires count { count ≡ length (under domain (S.seen search.old).groups) }
-    ensures spots { OnOk result (spots.new.items ≡ spots.old.items
-        ++ flat_map (at_path (is_asked_for asked.now.host_only asked.now.suffix asked.now.url.now (moment_of asked.now.moment)) domain (under domain (S.seen search.old).groups))
-        (filter (λ text. list_any (bytes_eq text) (path_texts asked.now.url.now.path)) (map (λ p. p.0) (under domain (S.seen search.old).groups)))) }
-    ensures groups { (S.seen search.new).groups ≡ (S.seen search.old).groups }
-    ensures domains { (S.seen search.new).domains ≡ (S.seen search.old).domains }
-    ensures paths { (S.seen search.new).paths ≤ (S.seen search.old).paths + most_paths asked.now.url.now }
-    ensures every_path { OnOk result ((S.seen search.new).paths ≡ (S.seen search.old).paths
-        + length (filter (λ text. list_any (bytes_eq text) (path_texts asked.now.url.now.path)) (map (λ p. p.0) (under domain (S.seen search.old).groups)))) }
+    requires room { (S.view_of search.old).paths + most_paths row_filter.now.url.now < 2 ^ 128 }
+    requires domain { domain < length (S.view_of search.old).groups }
+    requires count { count ≡ length (under domain (S.view_of search.old).groups) }
+    ensures positions { OnOk result (positions.new.items ≡ positions.old.items
+        ++ flat_map (at_path (is_given_under row_filter.now.host_only row_filter.now.suffix row_filter.now.url.now (moment_of row_filter.now.time)) domain (under domain (S.view_of search.old).groups))
+        (filter (λ text. list_any (bytes_eq text) (candidate_paths row_filter.now.url.now.path)) (map (λ p. p.0) (under domain (S.view_of search.old).groups)))) }
+    ensures groups { (S.view_of search.new).groups ≡ (S.view_of search.old).groups }
+    ensures domains { (S.view_of search.new).domains ≡ (S.view_of search.old).domains }
+    ensures paths { (S.view_of search.new).paths ≤ (S.view_of search.old).paths + most_paths row_filter.now.url.now }
+    ensures every_path { OnOk result ((S.view_of search.new).paths ≡ (S.view_of search.old).paths
+        + length (filter (λ text. list_any (bytes_eq text) (candidate_paths row_filter.now.url.now.path)) (map (λ p. p.0) (under domain (S.view_of search.old).groups)))) }
     ensures memory { OnErr result
-        (flat_map (at_path (is_asked_for asked.now.host_only asked.now.suffix asked.now.url.now (moment_of asked.now.moment)) domain (under domain (S.seen search.old).groups))
-        (filter (λ text. list_any (bytes_eq text) (path_texts asked.now.url.now.path)) (map (λ p. p.0) (under domain (S.seen search.old).groups))) ≢ []) }
+        (flat_map (at_path (is_given_under row_filter.now.host_only row_filter.now.suffix row_filter.now.url.now (moment_of row_filter.now.time)) domain (under domain (S.view_of search.old).groups))
+        (filter (λ text. list_any (bytes_eq text) (candidate_paths row_filter.now.url.now.path)) (map (λ p. p.0) (under domain (S.view_of search.old).groups))) ≢ []) }
 {
-    let path = asked.url.path();
+    let path = row_filter.url.path();
     for place in 0..count {
         if let Some(front) = front_at(search, domain, place, path) {
-            push_path(search, domain, front, asked, spots)?;
+            push_path(search, domain, front, row_filter, positions)?;
         }
     }
     Ok(())
@@ -255,15 +255,15 @@ fn front_at<'a, S: ListedSearch>(
     place: usize,
     path: &'a str,
 ) -> Option<&'a str>
-    ensures front { IfSome result (λ front. Some front.now ≡ slice_get (map (λ p. p.0) (under domain (S.seen search.now).groups)) place) }
-    ensures is { IfSome result (λ front. list_any (bytes_eq front.now) (path_texts path.now) ≡ true) }
-    ensures none { IfNone result ((text : List ℕ) → Some text ≡ slice_get (map (λ p. p.0) (under domain (S.seen search.now).groups)) place
-        → list_any (bytes_eq text) (path_texts path.now) ≡ false) }
+    ensures front { IfSome result (λ front. Some front.now ≡ slice_get (map (λ p. p.0) (under domain (S.view_of search.now).groups)) place) }
+    ensures is { IfSome result (λ front. list_any (bytes_eq front.now) (candidate_paths path.now) ≡ true) }
+    ensures none { IfNone result ((text : List ℕ) → Some text ≡ slice_get (map (λ p. p.0) (under domain (S.view_of search.now).groups)) place
+        → list_any (bytes_eq text) (candidate_paths path.now) ≡ false) }
 {
     let bytes = path.as_bytes();
     match search.path_text(domain, place) {
         Some(text) => {
-            if is_path_text(text.as_bytes(), bytes) {
+            if is_candidate_path(text.as_bytes(), bytes) {
                 Some(&path[..text.len()])
             } else {
                 None
@@ -275,11 +275,11 @@ fn front_at<'a, S: ListedSearch>(
 
 // Whether the path is a candidate. Bytes are compared last, and so only if the length allows a
 // match.
-fn is_path_text(text: &[u8], path: &[u8]) -> bool
-    ensures { result ≡ is_path_text path.now text.now }
+fn is_candidate_path(text: &[u8], path: &[u8]) -> bool
+    ensures { result ≡ is_candidate_path path.now text.now }
 {
     text.starts_with(b"/")
         && text.len() <= path.len()
-        && ends_text(path, text.len() - 1)
+        && ends_candidate(path, text.len() - 1)
         && path.starts_with(text)
 }

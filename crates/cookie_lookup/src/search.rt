@@ -1,58 +1,58 @@
 //! The interface of a store that can be searched.
 ghost use Rattle.std.specs.Prelude.{◌≡◌, ◌<◌, ◌+◌, ◌^◌, length, map, option_map, slice_get, IfSome};
 ghost use Rattle.cookie_lookup.specs.Groups.{AreGroups};
-ghost use Rattle.cookie_lookup.specs.Seen.{Seen, now_at, place_of, rows_in, under};
+ghost use Rattle.cookie_lookup.specs.SearchView.{SearchView, now_at, place_of, rows_in, under};
 
 use cookie_parts::Cookie;
 
 /// A store of rows in groups by domain, and within a domain by path, each found by a lookup.
 ///
-/// `seen` is what contracts know of it: the groups, the number of domain and path lookups so far,
-/// and the rows of the current group, the path group that was found last.
+/// `view_of` is what contracts know of it: the groups, the number of domain and path lookups so
+/// far, and the rows of the current group, the path group that was found last.
 pub trait Search {
-    ghost seen: { Self → Seen };
+    ghost view_of: { Self → SearchView };
 
     /// Returns the position of the domain's group.
     fn domain(&mut self, text: &str) -> Option<usize>
-        requires { (seen self.old).domains + 1 < 2 ^ 128 }
-        ensures answer { result ≡ place_of text.now (seen self.old).groups }
-        ensures seen { seen self.new ≡ record (seen self.old) { domains = (seen self.old).domains + 1 } };
+        requires { (view_of self.old).domains + 1 < 2 ^ 128 }
+        ensures answer { result ≡ place_of text.now (view_of self.old).groups }
+        ensures view_of { view_of self.new ≡ record (view_of self.old) { domains = (view_of self.old).domains + 1 } };
 
     /// Returns the position of the path's group in the domain at position `domain`. If it is found,
     /// it becomes the current group.
     fn path(&mut self, domain: usize, text: &str) -> Option<usize>
-        requires room { (seen self.old).paths + 1 < 2 ^ 128 }
-        requires domain { domain < length (seen self.old).groups }
-        ensures answer { result ≡ place_of text.now (under domain (seen self.old).groups) }
-        ensures seen { seen self.new ≡ record (seen self.old) {
-          paths = (seen self.old).paths + 1;
-          current = now_at result (under domain (seen self.old).groups) (seen self.old).current;
+        requires room { (view_of self.old).paths + 1 < 2 ^ 128 }
+        requires domain { domain < length (view_of self.old).groups }
+        ensures answer { result ≡ place_of text.now (under domain (view_of self.old).groups) }
+        ensures view_of { view_of self.new ≡ record (view_of self.old) {
+          paths = (view_of self.old).paths + 1;
+          current = now_at result (under domain (view_of self.old).groups) (view_of self.old).current;
         } };
 
     /// Returns the cookie at a position of the current group.
     fn cookie(&self, row: usize) -> Option<&Cookie<'static>>
-        ensures cookie { option_map (λ c. c.now) result ≡ slice_get (rows_in (seen self.now).current) row }
+        ensures cookie { option_map (λ c. c.now) result ≡ slice_get (rows_in (view_of self.now).current) row }
         ensures room { IfSome result (λ _. row + 1 < 2 ^ 64) };
 
-    ghost are_groups: { (s : Self) → AreGroups (seen s).groups };
+    ghost are_groups: { (s : Self) → AreGroups (view_of s).groups };
 }
 
 /// A store that can also list its domains, and the paths of each domain.
 pub trait ListedSearch: Search {
     /// Returns the number of domains.
     fn domain_count(&self) -> usize
-        ensures { result ≡ length (Self.seen self.now).groups };
+        ensures { result ≡ length (Self.view_of self.now).groups };
 
     /// Returns the domain at a position.
     fn domain_text(&self, domain: usize) -> Option<&str>
-        ensures { option_map (λ text. text.now) result ≡ slice_get (map (λ g. g.0) (Self.seen self.now).groups) domain };
+        ensures { option_map (λ text. text.now) result ≡ slice_get (map (λ g. g.0) (Self.view_of self.now).groups) domain };
 
     /// Returns the number of paths of the domain at position `domain`.
     fn path_count(&self, domain: usize) -> usize
-        ensures { result ≡ length (under domain (Self.seen self.now).groups) };
+        ensures { result ≡ length (under domain (Self.view_of self.now).groups) };
 
     /// Returns the path at position `path` of the domain at position `domain`.
     fn path_text(&self, domain: usize, path: usize) -> Option<&str>
         ensures { option_map (λ text. text.now) result
-            ≡ slice_get (map (λ p. p.0) (under domain (Self.seen self.now).groups)) path };
+            ≡ slice_get (map (λ p. p.0) (under domain (Self.view_of self.now).groups)) path };
 }

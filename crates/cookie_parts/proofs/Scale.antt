@@ -6,7 +6,7 @@ use Rattle.std.proofs.lemmas.Int.{ints}
 use Rattle.jiff_core.specs.declared.civil.datetime.DateTime.{DateTime}
 use Rattle.jiff_core.specs.DateTime.{civil_nanos}
 use Rattle.cookie_words.specs.Moments.{Moment, moment_at, moment_of, nanoseconds}
-use Rattle.cookie_parts.specs.Expiry.{Expiry, AtUtc, SessionEnd, by_latest, is_by, latest}
+use Rattle.cookie_parts.specs.Expiry.{Expiry, AtUtc, SessionEnd, capped_at_latest, has_passed, latest}
 
 -- a `DateTime` is the time at its nanoseconds from the epoch
 abbrev pub IsScale : Type 0
@@ -34,9 +34,9 @@ pub same_nanos : (d : DateTime) → civil_nanos d ≡ nanoseconds (moment_of d)
 unfolding civil_nanos nanoseconds
 same_nanos d = refl
 
--- the earlier of a time and `latest` is `by_latest`
+-- the earlier of a time and `latest` is `capped_at_latest`
 pub no_later_moment : IsScale → (moment most : DateTime) → moment_of most ≡ latest
-    → moment_of (ord_min (on civil_nanos int_cmp) moment most) ≡ by_latest (nanoseconds (moment_of moment))
+    → moment_of (ord_min (on civil_nanos int_cmp) moment most) ≡ capped_at_latest (nanoseconds (moment_of moment))
 no_later_moment scale moment most e =
     let less : DateTime = ord_min (on civil_nanos int_cmp) moment most in
     sym (scale less)
@@ -52,8 +52,8 @@ holds : (test : Bool) → T test → test ≡ true
 holds true t = refl
 holds false t = absurd t
 
--- beyond the last time of the library, `by_latest` is `latest`
-pub beyond_all : IsScale → (most : DateTime) (n : ℤ) → moment_of most ≡ latest → civil_nanos most <ℤ n → latest ≡ by_latest n
+-- beyond the last time of the library, `capped_at_latest` is `latest`
+pub beyond_all : IsScale → (most : DateTime) (n : ℤ) → moment_of most ≡ latest → civil_nanos most <ℤ n → latest ≡ capped_at_latest n
 unfolding civil_nanos nanoseconds
 beyond_all scale most n e h =
     let chosen = chosen_by (int_lt (nanoseconds (moment_of most)) n) (nanoseconds (moment_of most)) n (holds (int_lt (civil_nanos most) n) h.lt) in
@@ -64,6 +64,6 @@ le_later : (a b c : ℤ) → b ≤ℤ c → is_le (int_cmp a b) ≡ true → is_
 le_later a b c h k = grind (arith, ints)
 
 -- what has expired at a time has expired at every later time
-pub is_by_later : (end : Expiry) (moment later : Moment) → nanoseconds moment ≤ℤ nanoseconds later → is_by moment end ≡ true → is_by later end ≡ true
+pub is_by_later : (end : Expiry) (moment later : Moment) → nanoseconds moment ≤ℤ nanoseconds later → has_passed moment end ≡ true → has_passed later end ≡ true
 is_by_later (AtUtc end) moment later h k = le_later (nanoseconds end) (nanoseconds moment) (nanoseconds later) h k
 is_by_later SessionEnd moment later h k = k

@@ -5,13 +5,13 @@ use Rattle.std.specs.Result.{result_map_both}
 use Rattle.url.specs.Parts.{Parts}
 use Rattle.cookie_words.specs.Moments.{Moment, epoch}
 use Rattle.cookie_words.specs.Texts.{without_dot}
-use Rattle.cookie_raw.specs.Raw.{Raw, Ending, At, pair}
+use Rattle.cookie_raw.specs.Raw.{Raw, ExpiresValue, At, pair}
 use Rattle.cookie_raw.specs.SameParts.{same_parts, same_parts_equiv}
 use Rattle.cookie_raw.specs.Reading.{reading}
 use Rattle.cookie_raw.specs.declared.parse.RawCookieParseError.{RawCookieParseError}
 use Rattle.cookie_parts.specs.Domain.{DomainValue, domain_matches, domain_from_attribute, same_domain, same_domain_equiv}
 use Rattle.cookie_parts.specs.Domain as Domain
-use Rattle.cookie_parts.specs.Expiry.{Expiry, AtUtc, SessionEnd, expiry_of, is_by, same_expiry, same_expiry_equiv}
+use Rattle.cookie_parts.specs.Expiry.{Expiry, AtUtc, SessionEnd, expiry_of, has_passed, same_expiry, same_expiry_equiv}
 use Rattle.cookie_parts.specs.Hosts.{host_of, is_http_scheme, is_secure}
 use Rattle.cookie_parts.specs.Path.{PathValue, path_matches, path_or_default, same_path, same_path_equiv}
 use Rattle.cookie_parts.specs.declared.cookie_error.CookieError.{CookieError}
@@ -25,21 +25,21 @@ pub record Row : Type 0 where
   pub expires : Expiry
 
 -- 5.3 step 6, empty domain-attribute: a host-only cookie for the canonicalized request-host
-abbrev pub host_alone : Option (List ℕ) → Result DomainValue CookieError
-host_alone None = Err NonRelativeScheme
-host_alone (Some host) = Ok (Domain.HostOnly host)
+abbrev pub host_only_domain : Option (List ℕ) → Result DomainValue CookieError
+host_only_domain None = Err NonRelativeScheme
+host_only_domain (Some host) = Ok (Domain.HostOnly host)
 
 -- 5.3 step 6: the domain, if the request-host domain-matches it
 abbrev pub if_matching : DomainValue → Parts → Result DomainValue CookieError
 if_matching domain url = if domain_matches domain url then Ok domain else Err DomainMismatch
 
 -- 5.3 step 6: the domain of a cookie received from the URL, by its Domain attribute; `Parse` if that is not a valid domain
-abbrev pub domain_at : Option DomainValue → Parts → Result DomainValue CookieError
-domain_at None url = Err Parse
-domain_at (Some (Domain.HostOnly d)) url = if_matching (Domain.HostOnly d) url
-domain_at (Some (Domain.Suffix d)) url = if_matching (Domain.Suffix d) url
-domain_at (Some Domain.NotPresent) url = host_alone (host_of url)
-domain_at (Some Domain.Empty) url = host_alone (host_of url)
+abbrev pub domain_for : Option DomainValue → Parts → Result DomainValue CookieError
+domain_for None url = Err Parse
+domain_for (Some (Domain.HostOnly d)) url = if_matching (Domain.HostOnly d) url
+domain_for (Some (Domain.Suffix d)) url = if_matching (Domain.Suffix d) url
+domain_for (Some Domain.NotPresent) url = host_only_domain (host_of url)
+domain_for (Some Domain.Empty) url = host_only_domain (host_of url)
 
 -- the next step applied to the value of the first, or the error of the first
 abbrev pub and_then : {S T E : Type 0} → Result S E → (S → Result T E) → Result T E
@@ -62,7 +62,7 @@ is_out_of_reach raw url = is_http_only raw && not (is_http_scheme url)
 unfoldable pub cookie_of : Raw → Parts → Moment → Result Row CookieError
 cookie_of raw url now =
     if is_out_of_reach raw url then Err NonHttpScheme
-    else and_then (domain_at (domain_from_attribute raw.domain) url) (λ domain. Ok (record {
+    else and_then (domain_for (domain_from_attribute raw.domain) url) (λ domain. Ok (record {
       raw = raw;
       domain = domain;
       path = path_or_default raw.path url;
@@ -74,23 +74,23 @@ abbrev pub raw_cookie : List ℕ → Result Raw CookieError
 raw_cookie text = result_map_both (λ raw. raw) (λ _. Parse) (reading text)
 
 -- the error of a raw cookie, if one is known before the domain is converted to ASCII and the path is copied
-abbrev pub early_refusal : Raw → Parts → Option CookieError
-early_refusal raw url =
+abbrev pub early_error : Raw → Parts → Option CookieError
+early_error raw url =
     if is_out_of_reach raw url then Some NonHttpScheme
     else (if is_none raw.domain && is_none (host_of url) then Some NonRelativeScheme else None)
 
 -- the same for the parse result of a Set-Cookie header value
 abbrev pub early : Result Raw RawCookieParseError → Parts → Option CookieError
-early (Ok raw) url = early_refusal raw url
+early (Ok raw) url = early_error raw url
 early (Err refusal) url = Some Parse
 
 -- 5.2 and 5.3: the cookie of a Set-Cookie header value received from the URL at `now`, or the error
-abbrev pub cookie_at : List ℕ → Parts → Moment → Result Row CookieError
-cookie_at text url now = and_then (raw_cookie text) (λ raw. cookie_of raw url now)
+abbrev pub cookie_from_header : List ℕ → Parts → Moment → Result Row CookieError
+cookie_from_header text url now = and_then (raw_cookie text) (λ raw. cookie_of raw url now)
 
 -- the cookie has expired at `now`
 abbrev pub is_expired : Moment → Row → Bool
-is_expired now cookie = is_by now cookie.expires
+is_expired now cookie = has_passed now cookie.expires
 
 -- 5.4: the cookie matches the URL: domain-match, path-match, secure-only-flag, http-only-flag
 abbrev pub cookie_matches : Row → Parts → Bool
@@ -104,8 +104,8 @@ is_persistent (AtUtc end) = true
 is_persistent SessionEnd = false
 
 -- the cookie, expired at the epoch
-abbrev pub ended : Row → Row
-ended cookie = record cookie { expires = AtUtc epoch }
+abbrev pub expired_row : Row → Row
+expired_row cookie = record cookie { expires = AtUtc epoch }
 
 -- the same raw cookie, domain, path and expiry
 abbrev pub same_cookie : Row → Row → Bool
@@ -120,23 +120,23 @@ same_cookie_equiv =
     (and_equiv (on_equiv (λ c. c.domain) same_domain_equiv) (on_equiv (λ c. c.expires) same_expiry_equiv))
 
 -- the Expires attribute of a persistent cookie
-abbrev pub said_end : Expiry → Option Ending
-said_end (AtUtc end) = Some (At end)
-said_end SessionEnd = None
+abbrev pub expires_attribute : Expiry → Option ExpiresValue
+expires_attribute (AtUtc end) = Some (At end)
+expires_attribute SessionEnd = None
 
 -- the Domain attribute of a domain cookie
-abbrev pub said_domain : DomainValue → Option (List ℕ)
-said_domain (Domain.Suffix d) = Some (without_dot d)
-said_domain other = None
+abbrev pub domain_attribute : DomainValue → Option (List ℕ)
+domain_attribute (Domain.Suffix d) = Some (without_dot d)
+domain_attribute other = None
 
 -- the Path attribute, if one set the path
-abbrev pub said_path : PathValue → Option (List ℕ)
-said_path path = if path.is_from_attribute then Some path.text else None
+abbrev pub path_attribute : PathValue → Option (List ℕ)
+path_attribute path = if path.is_from_attribute then Some path.text else None
 
 -- a cookie as a raw cookie: name, value, and Domain, Path and Expires where it has them
-abbrev pub said : Row → Raw
-said cookie = record (pair cookie.raw.name cookie.raw.value) {
-  domain = said_domain cookie.domain;
-  path = said_path cookie.path;
-  expires = said_end cookie.expires;
+abbrev pub to_raw : Row → Raw
+to_raw cookie = record (pair cookie.raw.name cookie.raw.value) {
+  domain = domain_attribute cookie.domain;
+  path = path_attribute cookie.path;
+  expires = expires_attribute cookie.expires;
 }

@@ -64,38 +64,38 @@ text_if_any NotPresent = None
 text_if_any Empty = None
 
 -- the domain equals this host
-abbrev pub names_host : DomainValue → List ℕ → Bool
-names_host domain host = passes (λ text. bytes_eq text host) (text_if_any domain)
+abbrev pub equals_host : DomainValue → List ℕ → Bool
+equals_host domain host = passes (λ text. bytes_eq text host) (text_if_any domain)
 
 -- the URL has a host, and the domain equals it
 abbrev pub host_is_identical : DomainValue → Parts → Bool
-host_is_identical domain url = passes (names_host domain) (host_of url)
+host_is_identical domain url = passes (equals_host domain) (host_of url)
 
 -- the domain, trimmed of white space and converted to ASCII by UTS #46; `None` if it is not valid
 unfoldable pub ascii_of : List ℕ → Option (List ℕ)
 ascii_of text = domain_to_ascii EMPTY (trim text)
 
 -- `Empty` for the empty string and a single dot, else `Suffix` without one leading dot
-abbrev pub suffix_from : List ℕ → DomainValue
-suffix_from ascii =
+abbrev pub suffix_without_dot : List ℕ → DomainValue
+suffix_without_dot ascii =
     if (length ascii == 0) || bytes_eq ascii (codes ".") then Empty else Suffix (without_dot ascii)
 
 -- the domain of a string; `None` if it is not valid
 abbrev pub domain_from_text : List ℕ → Option DomainValue
-domain_from_text text = option_map suffix_from (ascii_of text)
+domain_from_text text = option_map suffix_without_dot (ascii_of text)
 
 -- the string is a valid domain, and that matches the URL
 abbrev pub text_matches : List ℕ → Parts → Bool
 text_matches text url = passes (λ domain. domain_matches domain url) (domain_from_text text)
 
 -- `Empty` for the empty string, else `Suffix`; the leading dot was dropped when the attribute was parsed
-abbrev pub suffix_of : List ℕ → DomainValue
-suffix_of ascii = if length ascii == 0 then Empty else Suffix ascii
+abbrev pub suffix_or_empty : List ℕ → DomainValue
+suffix_or_empty ascii = if length ascii == 0 then Empty else Suffix ascii
 
 -- the domain of a Domain attribute, `NotPresent` without one; `None` if it is not valid
 abbrev pub domain_from_attribute : Option (List ℕ) → Option DomainValue
 domain_from_attribute None = Some NotPresent
-domain_from_attribute (Some text) = option_map suffix_of (ascii_of text)
+domain_from_attribute (Some text) = option_map suffix_or_empty (ascii_of text)
 
 -- the domain is a public suffix by the rules
 abbrev pub is_public_suffix : RuleList → DomainValue → Bool

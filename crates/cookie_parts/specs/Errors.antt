@@ -9,45 +9,45 @@ use Rattle.cookie_forms.specs.declared.error.SavedError.TheVariants as Saved
 use Rattle.cookie_parts.specs.declared.cookie_error.CookieError.{CookieError}
 use Rattle.cookie_parts.specs.declared.cookie_error.CookieError.TheVariants.{NonHttpScheme, NonRelativeScheme, DomainMismatch, Expired, Parse, PublicSuffix, UnspecifiedDomain, Memory}
 use Rattle.cookie_parts.specs.declared.error.Error.{Error}
-use Rattle.cookie_parts.specs.declared.error.Error.TheVariants as Fault
+use Rattle.cookie_parts.specs.declared.error.Error.TheVariants as ErrorCase
 
 -- the message of an error about one cookie
-abbrev pub error_text : CookieError → List ℕ
-error_text NonHttpScheme = codes "request-uri is not an http scheme but HttpOnly attribute set"
-error_text NonRelativeScheme = codes "request-uri is not a relative scheme; cannot determine host"
-error_text DomainMismatch = codes "request-uri does not domain-match the cookie"
-error_text Expired = codes "attempted to utilize an Expired Cookie"
-error_text Parse = codes "unable to parse string as cookie::Cookie"
-error_text PublicSuffix = codes "domain-attribute value is a public suffix"
-error_text UnspecifiedDomain = codes "domain-attribute is not specified"
-error_text Memory = codes "out of memory"
+abbrev pub cookie_error_text : CookieError → List ℕ
+cookie_error_text NonHttpScheme = codes "request-uri is not an http scheme but HttpOnly attribute set"
+cookie_error_text NonRelativeScheme = codes "request-uri is not a relative scheme; cannot determine host"
+cookie_error_text DomainMismatch = codes "request-uri does not domain-match the cookie"
+cookie_error_text Expired = codes "attempted to utilize an Expired Cookie"
+cookie_error_text Parse = codes "unable to parse string as cookie::Cookie"
+cookie_error_text PublicSuffix = codes "domain-attribute value is a public suffix"
+cookie_error_text UnspecifiedDomain = codes "domain-attribute is not specified"
+cookie_error_text Memory = codes "out of memory"
 
 -- the message of an error of other calls; those of `idna`, saved forms and the caller have their own
-abbrev pub fault_text : Error → List ℕ
-fault_text (Fault.Cookie refusal) = error_text refusal
-fault_text (Fault.Idna errors) = errors_text errors.fault
-fault_text Fault.Io = codes "a read or a write failed"
-fault_text (Fault.Saved fault) = saved_error_text fault
-fault_text (Fault.Other text) = string_bytes text
-fault_text Fault.Memory = codes "out of memory"
-fault_text Fault.NotUtf8 = codes "a text is not UTF-8"
+abbrev pub store_error_text : Error → List ℕ
+store_error_text (ErrorCase.Cookie refusal) = cookie_error_text refusal
+store_error_text (ErrorCase.Idna errors) = errors_text errors.fault
+store_error_text ErrorCase.Io = codes "a read or a write failed"
+store_error_text (ErrorCase.Saved fault) = saved_error_text fault
+store_error_text (ErrorCase.Other text) = string_bytes text
+store_error_text ErrorCase.Memory = codes "out of memory"
+store_error_text ErrorCase.NotUtf8 = codes "a text is not UTF-8"
 
 -- the same if printed with a width or other options, which have no effect; not specified for `Idna`
-abbrev pub styled_fault_text : Error → Option (List ℕ)
-styled_fault_text (Fault.Idna errors) = None
-styled_fault_text other = Some (fault_text other)
+abbrev pub styled_error_text : Error → Option (List ℕ)
+styled_error_text (ErrorCase.Idna errors) = None
+styled_error_text other = Some (store_error_text other)
 
 -- the conversion from `CookieError`: out of memory is `Memory`, not `Cookie`
-abbrev pub fault_of_refusal : CookieError → Error
-fault_of_refusal Memory = Fault.Memory
-fault_of_refusal refusal = Fault.Cookie refusal
+abbrev pub error_from_cookie : CookieError → Error
+error_from_cookie Memory = ErrorCase.Memory
+error_from_cookie refusal = ErrorCase.Cookie refusal
 
 -- the conversion from `idna::Errors`: out of memory is `Memory`, not `Idna`
-abbrev pub fault_of_idna : Errors → Error
-fault_of_idna Idna.Invalid = Fault.Idna (record { fault = Idna.Invalid })
-fault_of_idna Idna.OutOfMemory = Fault.Memory
+abbrev pub error_from_idna : Errors → Error
+error_from_idna Idna.Invalid = ErrorCase.Idna (record { fault = Idna.Invalid })
+error_from_idna Idna.OutOfMemory = ErrorCase.Memory
 
 -- the conversion from `SavedError`: out of memory is `Memory`, not `Saved`
-abbrev pub fault_of_saved : SavedError → Error
-fault_of_saved Saved.Memory = Fault.Memory
-fault_of_saved fault = Fault.Saved fault
+abbrev pub error_from_saved : SavedError → Error
+error_from_saved Saved.Memory = ErrorCase.Memory
+error_from_saved fault = ErrorCase.Saved fault

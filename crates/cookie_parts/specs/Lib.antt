@@ -4,6 +4,6 @@ pub mod Errors
 pub mod Expiry
 pub mod Hosts
 pub mod Outcomes
-pub mod Passage
+pub mod SavedConversion
 pub mod Path
 pub mod Views

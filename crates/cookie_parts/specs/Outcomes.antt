@@ -9,24 +9,24 @@ use Rattle.cookie_parts.specs.declared.cookie_domain.CookieDomain.{CookieDomain}
 use Rattle.cookie_parts.specs.declared.cookie_error.CookieError.{CookieError}
 use Rattle.cookie_parts.specs.declared.cookie_error.CookieError.TheVariants.{Memory}
 use Rattle.cookie_parts.specs.declared.error.Error.{Error}
-use Rattle.cookie_parts.specs.declared.error.Error.TheVariants as Fault
+use Rattle.cookie_parts.specs.declared.error.Error.TheVariants as ErrorCase
 
 -- the result, with its value seen by `view`, is the answer, error included, unless it is `Memory`
-abbrev pub Gives : {T U : Type 0} → (T → U) → Result T CookieError → Result U CookieError → Type 0
-Gives view (Ok value) answer = answer ≡ Ok (view value)
-Gives view (Err Memory) answer = ⊤
-Gives view (Err refusal) answer = answer ≡ Err refusal
+abbrev pub ReturnsOrMemory : {T U : Type 0} → (T → U) → Result T CookieError → Result U CookieError → Type 0
+ReturnsOrMemory view (Ok value) answer = answer ≡ Ok (view value)
+ReturnsOrMemory view (Err Memory) answer = ⊤
+ReturnsOrMemory view (Err refusal) answer = answer ≡ Err refusal
 
 -- the result is the domain, or `Idna` if there is none, unless it is `Memory`
-abbrev pub GivesDomain : Result CookieDomain Error → Option DomainValue → Type 0
-GivesDomain (Ok domain) answer = answer ≡ Some (domain_value domain)
-GivesDomain (Err (Fault.Idna fault)) answer = answer ≡ None
-GivesDomain (Err Fault.Memory) answer = ⊤
-GivesDomain (Err other) answer = ⊥
+abbrev pub ReturnsDomain : Result CookieDomain Error → Option DomainValue → Type 0
+ReturnsDomain (Ok domain) answer = answer ≡ Some (domain_value domain)
+ReturnsDomain (Err (ErrorCase.Idna fault)) answer = answer ≡ None
+ReturnsDomain (Err ErrorCase.Memory) answer = ⊤
+ReturnsDomain (Err other) answer = ⊥
 
 -- the same for a domain name in ASCII
-abbrev pub GivesAscii : Result (CowStr Global) Error → Option (List ℕ) → Type 0
-GivesAscii (Ok text) answer = answer ≡ Some (cow_str_bytes text)
-GivesAscii (Err (Fault.Idna fault)) answer = answer ≡ None
-GivesAscii (Err Fault.Memory) answer = ⊤
-GivesAscii (Err other) answer = ⊥
+abbrev pub ReturnsAscii : Result (CowStr Global) Error → Option (List ℕ) → Type 0
+ReturnsAscii (Ok text) answer = answer ≡ Some (cow_str_bytes text)
+ReturnsAscii (Err (ErrorCase.Idna fault)) answer = answer ≡ None
+ReturnsAscii (Err ErrorCase.Memory) answer = ⊤
+ReturnsAscii (Err other) answer = ⊥

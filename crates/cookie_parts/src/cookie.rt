@@ -3,11 +3,11 @@ ghost use Rattle.std.specs.Prelude.{◌≡◌, ◌&&◌, false, is_none, true, u
 ghost use Rattle.std.specs.Option.{option_or};
 ghost use Rattle.cookie_words.specs.Moments.{moment_of};
 ghost use Rattle.cookie_raw.specs.Reading.{reading};
-ghost use Rattle.cookie_parts.specs.Cookie.{cookie_at, cookie_matches, cookie_of, domain_at, early, early_refusal, ended, is_expired, is_out_of_reach, is_persistent, said, said_domain, said_end, said_path};
+ghost use Rattle.cookie_parts.specs.Cookie.{cookie_from_header, cookie_matches, cookie_of, domain_for, early, early_error, expired_row, is_expired, is_out_of_reach, is_persistent, to_raw, domain_attribute, expires_attribute, path_attribute};
 ghost use Rattle.cookie_parts.specs.Domain.{domain_from_attribute};
 ghost use Rattle.cookie_parts.specs.Expiry.{expiry_of};
 ghost use Rattle.cookie_parts.specs.Hosts.{host_of};
-ghost use Rattle.cookie_parts.specs.Outcomes.{Gives};
+ghost use Rattle.cookie_parts.specs.Outcomes.{ReturnsOrMemory};
 ghost use Rattle.cookie_parts.specs.Path.{path_or_default};
 ghost use Rattle.cookie_parts.specs.Views.{domain_value, expiry_value};
 
@@ -65,7 +65,7 @@ impl<'a> Cookie<'a> {
     /// - `Memory`: out of memory. Never returned in place of the first `Parse`, `NonHttpScheme`, or
     ///   `NonRelativeScheme` without a Domain attribute.
     pub fn parse(alloc: Global, text: &'a str, url: &Url, now: DateTime) -> CookieResult<'a>
-        ensures value { Gives (λ cookie. cookie) result (cookie_at text.now url.now (moment_of now)) }
+        ensures value { ReturnsOrMemory (λ cookie. cookie) result (cookie_from_header text.now url.now (moment_of now)) }
         ensures early { (refusal : CookieError) → early (reading text.now) url.now ≡ Some refusal → result ≡ Err refusal }
     {
         match RawCookie::parse(text) {
@@ -92,10 +92,10 @@ impl<'a> Cookie<'a> {
         url: &Url,
         now: DateTime,
     ) -> CookieResult<'a>
-        ensures value { Gives (λ cookie. cookie) result (cookie_of raw.now url.now (moment_of now)) }
-        ensures early { (refusal : CookieError) → early_refusal raw.now url.now ≡ Some refusal → result ≡ Err refusal }
+        ensures value { ReturnsOrMemory (λ cookie. cookie) result (cookie_of raw.now url.now (moment_of now)) }
+        ensures early { (refusal : CookieError) → early_error raw.now url.now ≡ Some refusal → result ≡ Err refusal }
     {
-        if let Some(refusal) = early_refusal(raw, url) {
+        if let Some(refusal) = early_error(raw, url) {
             return Err(refusal);
         }
         match raw.clone() {
@@ -112,14 +112,14 @@ impl<'a> Cookie<'a> {
         url: &Url,
         now: DateTime,
     ) -> CookieResult<'a>
-        ensures value { Gives (λ cookie. cookie) result (cookie_of raw.entry url.now (moment_of now)) }
-        ensures early { (refusal : CookieError) → early_refusal raw.entry url.now ≡ Some refusal → result ≡ Err refusal }
+        ensures value { ReturnsOrMemory (λ cookie. cookie) result (cookie_of raw.entry url.now (moment_of now)) }
+        ensures early { (refusal : CookieError) → early_error raw.entry url.now ≡ Some refusal → result ≡ Err refusal }
     {
         if is_out_of_reach(&raw, url) {
             return Err(CookieError::NonHttpScheme);
         }
-        let domain = domain_at(alloc, &raw, url)?;
-        let path = path_at(alloc, &raw, url)?;
+        let domain = domain_for(alloc, &raw, url)?;
+        let path = path_for(alloc, &raw, url)?;
         let expires = expiry_at(&raw, now);
         Ok(Cookie {
             raw,
@@ -181,7 +181,7 @@ impl<'a> Cookie<'a> {
 
     /// Expires the cookie: sets its expiry to 1970-01-01T00:00:00.
     pub fn expire(&mut self)
-        ensures { self.new ≡ ended self.old }
+        ensures { self.new ≡ expired_row self.old }
     {
         self.expires = CookieExpiration::AtUtc(epoch());
     }
@@ -223,9 +223,9 @@ impl<'a> Cookie<'a> {
     /// The result has the name and value, Expires for a persistent cookie, Path if a Path attribute
     /// set it, and Domain for a domain cookie. All other attributes are dropped.
     pub fn into_raw(self, alloc: Global) -> Result<RawCookie<'static>, AllocError>
-        ensures { IfOk result (λ raw. raw ≡ said self.entry) }
+        ensures { IfOk result (λ raw. raw ≡ to_raw self.entry) }
     {
-        said(alloc, self)
+        to_raw(alloc, self)
     }
 }
 
@@ -261,8 +261,8 @@ impl<'a> PartialEq for Cookie<'a> {
 }
 
 // The raw cookie of `Cookie::into_raw`.
-fn said(alloc: Global, cookie: Cookie<'_>) -> Result<RawCookie<'static>, AllocError>
-    ensures { IfOk result (λ raw. raw ≡ said cookie.entry) }
+fn to_raw(alloc: Global, cookie: Cookie<'_>) -> Result<RawCookie<'static>, AllocError>
+    ensures { IfOk result (λ raw. raw ≡ to_raw cookie.entry) }
 {
     let Cookie {
         raw,
@@ -278,7 +278,7 @@ fn said(alloc: Global, cookie: Cookie<'_>) -> Result<RawCookie<'static>, AllocEr
 
 // Adds Expires for a persistent cookie.
 fn with_end(builder: RawCookieBuilder, expires: CookieExpiration) -> RawCookieBuilder
-    ensures { result ≡ record builder { expires = option_or (said_end (expiry_value expires)) builder.expires } }
+    ensures { result ≡ record builder { expires = option_or (expires_attribute (expiry_value expires)) builder.expires } }
 {
     match expires {
         CookieExpiration::AtUtc(end) => builder.expires(Expiration::DateTime(end)),
@@ -288,7 +288,7 @@ fn with_end(builder: RawCookieBuilder, expires: CookieExpiration) -> RawCookieBu
 
 // Adds Path if a Path attribute set it.
 fn with_path(builder: RawCookieBuilder, path: CookiePath) -> RawCookieBuilder
-    ensures { result ≡ record builder { path = option_or (said_path path) builder.path } }
+    ensures { result ≡ record builder { path = option_or (path_attribute path) builder.path } }
 {
     if path.is_from_path_attr() {
         builder.path(path.into_string())
@@ -299,7 +299,7 @@ fn with_path(builder: RawCookieBuilder, path: CookiePath) -> RawCookieBuilder
 
 // Adds Domain for a domain cookie.
 fn with_domain(builder: RawCookieBuilder, domain: CookieDomain) -> RawCookieBuilder
-    ensures { result ≡ record builder { domain = option_or (said_domain (domain_value domain)) builder.domain } }
+    ensures { result ≡ record builder { domain = option_or (domain_attribute (domain_value domain)) builder.domain } }
 {
     match domain {
         CookieDomain::Suffix(domain) => builder.domain(domain),
@@ -322,8 +322,8 @@ fn is_out_of_reach(raw: &RawCookie<'_>, url: &Url) -> bool
 }
 
 // The error, if one can be found without allocating.
-fn early_refusal(raw: &RawCookie<'_>, url: &Url) -> Option<CookieError>
-    ensures { result ≡ early_refusal raw.now url.now }
+fn early_error(raw: &RawCookie<'_>, url: &Url) -> Option<CookieError>
+    ensures { result ≡ early_error raw.now url.now }
 {
     if is_out_of_reach(raw, url) {
         Some(CookieError::NonHttpScheme)
@@ -346,8 +346,8 @@ fn expiry_at(raw: &RawCookie<'_>, now: DateTime) -> CookieExpiration
 }
 
 // The Domain attribute if it matches the URL, or a host-only domain, RFC 6265 5.3 step 6.
-fn domain_at(alloc: Global, raw: &RawCookie<'_>, url: &Url) -> Result<CookieDomain, CookieError>
-    ensures value { Gives domain_value result (domain_at (domain_from_attribute raw.now.domain) url.now) }
+fn domain_for(alloc: Global, raw: &RawCookie<'_>, url: &Url) -> Result<CookieDomain, CookieError>
+    ensures value { ReturnsOrMemory domain_value result (domain_for (domain_from_attribute raw.now.domain) url.now) }
     ensures early { is_none raw.now.domain && is_none (host_of url.now) ≡ true → result ≡ Err CookieError.NonRelativeScheme }
 {
     match CookieDomain::try_from_raw(alloc, raw) {
@@ -365,7 +365,7 @@ fn domain_at(alloc: Global, raw: &RawCookie<'_>, url: &Url) -> Result<CookieDoma
 }
 
 // The Path attribute if it begins with `/`, else the default-path, RFC 6265 5.2.4.
-fn path_at(alloc: Global, raw: &RawCookie<'_>, url: &Url) -> Result<CookiePath, CookieError>
+fn path_for(alloc: Global, raw: &RawCookie<'_>, url: &Url) -> Result<CookiePath, CookieError>
     ensures { MatchResult result (λ path. path ≡ path_or_default raw.now.path url.now) (λ refusal. refusal ≡ CookieError.Memory) }
 {
     let chosen = match raw.path() {

@@ -3,11 +3,11 @@ ghost use Rattle.std.specs.Prelude.{◌≡◌, ◌↔◌, ◌∷◌, Err, IfOk, 
 ghost use Rattle.std.specs.List.{ends_with};
 ghost use Rattle.std.specs.Option.{option_copied};
 ghost use Rattle.cookie_psl.specs.Rules.{listed};
-ghost use Rattle.cookie_parts.specs.Cookie.{host_alone};
+ghost use Rattle.cookie_parts.specs.Cookie.{host_only_domain};
 ghost use Rattle.cookie_parts.specs.Domain as Domain;
 ghost use Rattle.cookie_parts.specs.Domain.{ascii_of, compare_domains, domain_from_attribute, domain_from_text, domain_matches, domain_text, host_is_identical, is_public_suffix, text_if_any, text_matches, IsForHost};
 ghost use Rattle.cookie_parts.specs.Hosts.{covers, host_of};
-ghost use Rattle.cookie_parts.specs.Outcomes.{Gives, GivesAscii, GivesDomain};
+ghost use Rattle.cookie_parts.specs.Outcomes.{ReturnsOrMemory, ReturnsAscii, ReturnsDomain};
 ghost use Rattle.cookie_parts.specs.Views.{domain_value};
 
 use crate::utils::is_host_name;
@@ -60,7 +60,7 @@ impl CookieDomain {
     /// - `NonRelativeScheme`: `url` has no host.
     /// - `Memory`: out of memory.
     pub fn host_only(alloc: Global, url: &Url) -> Result<CookieDomain, CookieError>
-        ensures value { Gives domain_value result (host_alone (host_of url.now)) }
+        ensures value { ReturnsOrMemory domain_value result (host_only_domain (host_of url.now)) }
         ensures without_host { host_of url.now ≡ None → result ≡ Err CookieError.NonRelativeScheme }
         ensures matches { IfOk result (λ domain. IsTrue (domain_matches (domain_value domain) url.now)) }
     {
@@ -82,7 +82,7 @@ impl CookieDomain {
     /// - `Idna`: `domain` is not a valid domain name.
     /// - `Memory`: out of memory.
     pub fn try_from_str(alloc: Global, domain: &str) -> Result<CookieDomain, Error>
-        ensures { GivesDomain result (domain_from_text domain.now) }
+        ensures { ReturnsDomain result (domain_from_text domain.now) }
     {
         let ascii = to_ascii(alloc, domain)?;
         let ascii = ascii.as_str();
@@ -103,7 +103,7 @@ impl CookieDomain {
     ///
     /// Without a Domain attribute there is no error.
     pub fn try_from_raw(alloc: Global, cookie: &RawCookie<'_>) -> Result<CookieDomain, Error>
-        ensures value { GivesDomain result (domain_from_attribute cookie.now.domain) }
+        ensures value { ReturnsDomain result (domain_from_attribute cookie.now.domain) }
         ensures without_domain { cookie.now.domain ≡ None → IsOk result }
     {
         let Some(domain) = cookie.domain() else {
@@ -206,7 +206,7 @@ pub fn is_match(alloc: Global, domain: &str, url: &Url) -> Result<bool, AllocErr
 // Trims white space and converts to ASCII by UTS #46.
 #[tactic(auto, unfolding(crate::specs::Domain::ascii_of))]
 fn to_ascii(alloc: Global, domain: &str) -> Result<CowStr<'_>, Error>
-    ensures { GivesAscii result (ascii_of domain.now) }
+    ensures { ReturnsAscii result (ascii_of domain.now) }
 {
     let domain = domain.trim().as_bytes();
     Ok(domain_to_ascii_cow(alloc, domain, AsciiDenyList::EMPTY)?)
@@ -214,7 +214,7 @@ fn to_ascii(alloc: Global, domain: &str) -> Result<CowStr<'_>, Error>
 
 // The domain of a domain cookie, copied.
 fn suffix(alloc: Global, domain: &str) -> Result<CookieDomain, Error>
-    ensures { GivesDomain result (Some (Domain.Suffix domain.now)) }
+    ensures { ReturnsDomain result (Some (Domain.Suffix domain.now)) }
 {
     Ok(CookieDomain::Suffix(String::from_str(alloc, domain)?))
 }

@@ -1,6 +1,6 @@
 //! Why a cookie was rejected.
 ghost use Rattle.std.specs.Prelude.{◌≡◌};
-ghost use Rattle.cookie_parts.specs.Errors.{error_text};
+ghost use Rattle.cookie_parts.specs.Errors.{cookie_error_text};
 
 use cookie_raw::RawCookieParseError;
 use std::fmt;
@@ -31,7 +31,7 @@ pub enum CookieError {
 impl CookieError {
     /// Returns the error message.
     pub fn text(&self) -> &'static str
-        ensures { result.now ≡ error_text self.now }
+        ensures { result.now ≡ cookie_error_text self.now }
     {
         match self {
             CookieError::NonHttpScheme =>
@@ -51,9 +51,9 @@ impl CookieError {
 impl fmt::Display for CookieError {
     ghost use Rattle.std.specs.Prelude.{Some};
 
-    ghost output = { λ e. Some (error_text e) };
+    ghost output = { λ e. Some (cookie_error_text e) };
 
-    ghost styled_output = { λ e _. Some (error_text e) };
+    ghost styled_output = { λ e _. Some (cookie_error_text e) };
 
     fn fmt<W: fmt::Write>(&self, f: &mut fmt::Formatter<W>) -> fmt::Result {
         f.write_str(self.text())

@@ -3,12 +3,12 @@ ghost use Rattle.std.specs.Prelude.{◌≡◌, min, pos, ◌+ℤ◌, ◌≤ℤ�
 ghost use Rattle.jiff.specs.Words.{signed_nanos};
 ghost use Rattle.cookie_words.specs.Moments.{epoch, moment_of, nanoseconds, Moment};
 ghost use Rattle.cookie_raw.specs.Reading.{of_seconds};
-ghost use Rattle.cookie_raw.specs.Views.{ending};
-ghost use Rattle.cookie_parts.specs.Expiry.{at_moment, by_latest, is_by, latest, of_age, of_ending};
+ghost use Rattle.cookie_raw.specs.Views.{expires_value};
+ghost use Rattle.cookie_parts.specs.Expiry.{expiry_at_time, capped_at_latest, has_passed, latest, expiry_of_max_age, expiry_of_expires};
 ghost use Rattle.cookie_parts.specs.Views.{expiry_value};
 
 use cookie_raw::Expiration;
-use cookie_words::moments_are_on_the_scale;
+use cookie_words::moments_round_trip;
 use jiff::SignedDuration;
 use jiff::civil::{DateTime, date};
 
@@ -26,7 +26,7 @@ impl CookieExpiration {
     ///
     /// For 0 seconds it is 1970-01-01T00:00:00.
     pub fn from_secs(secs: u64, now: DateTime) -> CookieExpiration
-        ensures { expiry_value result ≡ of_age (of_seconds (min secs 9_223_372_036_854_775_807)) (moment_of now) }
+        ensures { expiry_value result ≡ expiry_of_max_age (of_seconds (min secs 9_223_372_036_854_775_807)) (moment_of now) }
     {
         let secs = i64::try_from(secs).unwrap_or(i64::MAX);
         CookieExpiration::from_duration(SignedDuration::from_secs(secs), now)
@@ -36,7 +36,7 @@ impl CookieExpiration {
     ///
     /// For a duration of zero or less it is 1970-01-01T00:00:00.
     pub fn from_duration(duration: SignedDuration, now: DateTime) -> CookieExpiration
-        ensures { expiry_value result ≡ of_age (signed_nanos duration) (moment_of now) }
+        ensures { expiry_value result ≡ expiry_of_max_age (signed_nanos duration) (moment_of now) }
     {
         if duration <= SignedDuration::ZERO {
             return CookieExpiration::AtUtc(epoch());
@@ -46,14 +46,14 @@ impl CookieExpiration {
 
     /// Returns the expiry at `moment`, at most 9999-12-31T23:59:59.
     pub fn from_moment(moment: DateTime) -> CookieExpiration
-        ensures { expiry_value result ≡ at_moment (moment_of moment) }
+        ensures { expiry_value result ≡ expiry_at_time (moment_of moment) }
     {
-        CookieExpiration::AtUtc(no_later(moment))
+        CookieExpiration::AtUtc(cap_at_latest(moment))
     }
 
     /// Converts the value of an Expires attribute; its time is taken unchanged.
     pub fn from_expiration(expiration: Expiration) -> CookieExpiration
-        ensures { expiry_value result ≡ of_ending (ending expiration) }
+        ensures { expiry_value result ≡ expiry_of_expires (expires_value expiration) }
     {
         match expiration {
             Expiration::DateTime(moment) => CookieExpiration::AtUtc(moment),
@@ -63,16 +63,16 @@ impl CookieExpiration {
 
     /// Returns whether the expiry is `now` or earlier. A session cookie has never expired.
     pub fn is_expired(&self, now: DateTime) -> bool
-        ensures { result ≡ is_by (moment_of now) (expiry_value self.now) }
+        ensures { result ≡ has_passed (moment_of now) (expiry_value self.now) }
     {
         self.expires_by(&now)
     }
 
     /// Returns whether the expiry is `moment` or earlier. If so, it is for every later time too.
     pub fn expires_by(&self, moment: &DateTime) -> bool
-        ensures value { result ≡ is_by (moment_of moment.now) (expiry_value self.now) }
+        ensures value { result ≡ has_passed (moment_of moment.now) (expiry_value self.now) }
         ensures later { (later : Moment) → nanoseconds (moment_of moment.now) ≤ℤ nanoseconds later
-            → IsTrue result → IsTrue (is_by later (expiry_value self.now)) }
+            → IsTrue result → IsTrue (has_passed later (expiry_value self.now)) }
     {
         match self {
             CookieExpiration::AtUtc(end) => end <= moment,
@@ -135,21 +135,21 @@ fn latest() -> DateTime
 }
 
 // The time, at most `latest`.
-fn no_later(moment: DateTime) -> DateTime
-    ensures { moment_of result ≡ by_latest (nanoseconds (moment_of moment)) }
+fn cap_at_latest(moment: DateTime) -> DateTime
+    ensures { moment_of result ≡ capped_at_latest (nanoseconds (moment_of moment)) }
 {
     // for the checker: the nanoseconds since the epoch determine a `DateTime`
-    moments_are_on_the_scale();
+    moments_round_trip();
     moment.min(latest())
 }
 
 // The time `duration` after `now`, at most `latest`.
 fn after(now: DateTime, duration: SignedDuration) -> DateTime
     requires { pos 0 <ℤ signed_nanos duration }
-    ensures { moment_of result ≡ by_latest (nanoseconds (moment_of now) +ℤ signed_nanos duration) }
+    ensures { moment_of result ≡ capped_at_latest (nanoseconds (moment_of now) +ℤ signed_nanos duration) }
 {
     // for the checker: the nanoseconds since the epoch determine a `DateTime`
-    moments_are_on_the_scale();
+    moments_round_trip();
     match now.checked_add(duration) {
         Ok(end) => end.min(latest()),
         Err(_) => latest(),

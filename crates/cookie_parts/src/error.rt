@@ -1,4 +1,4 @@
-//! The error of calls that are not about a single cookie.
+//! The error of saving, loading and building stores, and of parsing a domain.
 use crate::CookieError;
 use cookie_forms::SavedError;
 use std::alloc::{AllocError, AllocFailed};
@@ -33,7 +33,7 @@ impl fmt::Display for IdnaErrors {
 
 impl std::error::Error for IdnaErrors {}
 
-/// The error of calls that are not about a single cookie.
+/// The error of saving, loading and building stores, and of parsing a domain.
 #[derive(Debug, PartialEq, Eq, Drop)]
 pub enum Error {
     /// A cookie was rejected.
@@ -54,11 +54,11 @@ pub enum Error {
 
 impl fmt::Display for Error {
     ghost use Rattle.std.specs.Prelude.{Some};
-    ghost use Rattle.cookie_parts.specs.Errors.{fault_text, styled_fault_text};
+    ghost use Rattle.cookie_parts.specs.Errors.{store_error_text, styled_error_text};
 
-    ghost output = { λ e. Some (fault_text e) };
+    ghost output = { λ e. Some (store_error_text e) };
 
-    ghost styled_output = { λ e _. styled_fault_text e };
+    ghost styled_output = { λ e _. styled_error_text e };
 
     fn fmt<W: fmt::Write>(&self, f: &mut fmt::Formatter<W>) -> fmt::Result {
         match self {
@@ -78,9 +78,9 @@ impl std::error::Error for Error {}
 /// Converts to `Memory` if out of memory, else to `Cookie`.
 impl From<CookieError> for Error {
     ghost use Rattle.std.specs.Prelude.{◌≡◌};
-    ghost use Rattle.cookie_parts.specs.Errors.{fault_of_refusal};
+    ghost use Rattle.cookie_parts.specs.Errors.{error_from_cookie};
 
-    ghost from_gives = { λ refusal e. e ≡ fault_of_refusal refusal };
+    ghost from_gives = { λ refusal e. e ≡ error_from_cookie refusal };
 
     fn from(refusal: CookieError) -> Error {
         match refusal {
@@ -93,9 +93,9 @@ impl From<CookieError> for Error {
 /// Converts to `Memory` if out of memory, else to `Idna`.
 impl From<idna::Errors> for Error {
     ghost use Rattle.std.specs.Prelude.{◌≡◌};
-    ghost use Rattle.cookie_parts.specs.Errors.{fault_of_idna};
+    ghost use Rattle.cookie_parts.specs.Errors.{error_from_idna};
 
-    ghost from_gives = { λ fault e. e ≡ fault_of_idna fault };
+    ghost from_gives = { λ fault e. e ≡ error_from_idna fault };
 
     fn from(fault: idna::Errors) -> Error {
         match fault {
@@ -108,9 +108,9 @@ impl From<idna::Errors> for Error {
 /// Converts to `Memory` if out of memory, else to `Saved`.
 impl From<SavedError> for Error {
     ghost use Rattle.std.specs.Prelude.{◌≡◌};
-    ghost use Rattle.cookie_parts.specs.Errors.{fault_of_saved};
+    ghost use Rattle.cookie_parts.specs.Errors.{error_from_saved};
 
-    ghost from_gives = { λ fault e. e ≡ fault_of_saved fault };
+    ghost from_gives = { λ fault e. e ≡ error_from_saved fault };
 
     fn from(fault: SavedError) -> Error {
         match fault {
@@ -122,9 +122,9 @@ impl From<SavedError> for Error {
 
 impl From<AllocError> for Error {
     ghost use Rattle.std.specs.Prelude.{◌≡◌};
-    ghost use Rattle.cookie_parts.specs.declared.error.Error.TheVariants as Fault;
+    ghost use Rattle.cookie_parts.specs.declared.error.Error.TheVariants as ErrorCase;
 
-    ghost from_gives = { λ _ e. e ≡ Fault.Memory };
+    ghost from_gives = { λ _ e. e ≡ ErrorCase.Memory };
 
     fn from(_error: AllocError) -> Error {
         Error::Memory
@@ -133,14 +133,14 @@ impl From<AllocError> for Error {
 
 impl<T: Drop> From<AllocFailed<T>> for Error {
     ghost use Rattle.std.specs.Prelude.{◌≡◌};
-    ghost use Rattle.cookie_parts.specs.declared.error.Error.TheVariants as Fault;
+    ghost use Rattle.cookie_parts.specs.declared.error.Error.TheVariants as ErrorCase;
 
-    ghost from_gives = { λ _ e. e ≡ Fault.Memory };
+    ghost from_gives = { λ _ e. e ≡ ErrorCase.Memory };
 
     fn from(_error: AllocFailed<T>) -> Error {
         Error::Memory
     }
 }
 
-/// The result of calls that are not about a single cookie.
+/// The result of such a call.
 pub type StoreResult<T> = Result<T, Error>;

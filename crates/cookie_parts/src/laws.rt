@@ -3,7 +3,7 @@ ghost use Rattle.std.specs.Prelude.{◌≡◌, ◌↔◌, ℕ, IsTrue, List, Ok}
 ghost use Rattle.cookie_raw.specs.CookieText.{cookie_text};
 ghost use Rattle.cookie_raw.specs.Reading.{reading};
 ghost use Rattle.cookie_parts.specs.Cookie.{Row};
-ghost use Rattle.cookie_parts.specs.Passage.{cookie_of_saved, saved_of};
+ghost use Rattle.cookie_parts.specs.SavedConversion.{cookie_of_saved, saved_of};
 ghost use Rattle.cookie_parts.specs.Path.{covers_path, CoversPath};
 
 /// The computable test `covers_path` agrees with the path-match of RFC 6265 5.1.4.
@@ -13,6 +13,6 @@ pub fn path_match_is_tested()
 
 /// A cookie is unchanged by saving and loading if its raw cookie is unchanged by printing and
 /// parsing.
-pub fn comes_back()
+pub fn survives_saving()
     ensures { (cookie : Row) → reading (cookie_text cookie.raw) ≡ Ok cookie.raw → cookie_of_saved (saved_of cookie) ≡ Ok cookie }
 {}

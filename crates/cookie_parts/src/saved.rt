@@ -1,7 +1,7 @@
 //! Conversion between a cookie and its saved form.
 ghost use Rattle.std.specs.Prelude.{◌≡◌, ◌⊎◌, Err, IfErr, IfOk, IsSome, Ok, OnErr};
 ghost use Rattle.cookie_parts.specs.Domain.{text_if_any};
-ghost use Rattle.cookie_parts.specs.Passage.{cookie_of_saved, domain_of_saved, end_of_saved, saved_domain, saved_end, saved_of};
+ghost use Rattle.cookie_parts.specs.SavedConversion.{cookie_of_saved, domain_of_saved, expires_of_saved, saved_domain, saved_expires, saved_of};
 ghost use Rattle.cookie_parts.specs.Views.{domain_value, expiry_value};
 ghost use Rattle.cookie_forms.specs.Saved.{domain_view, expiry_view, saved_view};
 
@@ -89,7 +89,7 @@ fn domain_of_saved(saved: SavedDomain) -> CookieDomain
 
 // The saved form of the expiry.
 fn saved_expiry(expires: CookieExpiration) -> SavedExpiry
-    ensures { expiry_view result ≡ saved_end (expiry_value expires) }
+    ensures { expiry_view result ≡ saved_expires (expiry_value expires) }
 {
     match expires {
         CookieExpiration::AtUtc(end) => SavedExpiry::AtUtc(end),
@@ -99,7 +99,7 @@ fn saved_expiry(expires: CookieExpiration) -> SavedExpiry
 
 // The expiry of its saved form.
 fn expiry_of_saved(saved: SavedExpiry) -> CookieExpiration
-    ensures { expiry_value result ≡ end_of_saved (expiry_view saved) }
+    ensures { expiry_value result ≡ expires_of_saved (expiry_view saved) }
 {
     match saved {
         SavedExpiry::AtUtc(end) => CookieExpiration::AtUtc(end),

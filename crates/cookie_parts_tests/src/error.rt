@@ -70,7 +70,7 @@ const SAVED: &[(SavedError, &str)] = &[
 ];
 
 // The expected conversion: out of memory is `Memory`, not `Saved`.
-fn fault_of_saved(fault: &SavedError) -> Error {
+fn error_from_saved(fault: &SavedError) -> Error {
     match fault {
         SavedError::Memory => Error::Memory,
         fault => Error::Saved(*fault),
@@ -80,7 +80,7 @@ fn fault_of_saved(fault: &SavedError) -> Error {
 #[test]
 fn a_fault_of_a_saved_form_is_a_fault(rt: HostRuntime) {
     for (fault, wanted) in SAVED {
-        is_equal(&rt, Error::from(*fault), fault_of_saved(fault), fault);
+        is_equal(&rt, Error::from(*fault), error_from_saved(fault), fault);
         is_told(&rt, rt.alloc(), Error::from(*fault), wanted);
     }
 }

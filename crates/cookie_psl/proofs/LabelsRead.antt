@@ -1,10 +1,10 @@
 -- Parsing the labels of a rule one by one.
 use Rattle.std.proofs.Common.{◌≡◌, ℕ, ◌<◌, zero, suc, List, [], ◌∷◌, ◌++◌, length, get_or, Option, Some, None, Err, refl, ap, sym, ◌∙◌, arith}
 use Rattle.cookie_words.specs.Steps.{◌>>=◌}
-use Rattle.cookie_psl.specs.ReadRules.{Gives}
+use Rattle.cookie_psl.specs.ParsedRules.{ParsesOrMemory}
 use Rattle.cookie_psl.specs.Reading.{label_from, labels_from}
-use Rattle.cookie_psl.specs.declared.reading.LineFault.{LineFault}
-use Rattle.cookie_psl.specs.declared.reading.LineFault.TheVariants.{Bad, Memory}
+use Rattle.cookie_psl.specs.declared.reading.LineError.{LineError}
+use Rattle.cookie_psl.specs.declared.reading.LineError.TheVariants.{Bad, Memory}
 
 -- one more parsed label after the others
 abbrev and_label : Option (List (Option (List ℕ))) → Option (Option (List ℕ)) → Option (List (Option (List ℕ)))
@@ -57,7 +57,7 @@ labels_from-bad (first ∷ texts) (suc k) text within at bad =
     rw later (before_bad (label_from first))
 
 -- what makes a part malformed makes the whole malformed
-pub Gives-err : {T U V W : Type 0} (seen : T → U) (view : V → W) (fault : LineFault) (part : Option U) (whole : Option W)
-    → Gives seen (Err fault) part → (part ≡ None → whole ≡ None) → Gives view (Err fault) whole
-Gives-err seen view Bad part whole given bad = bad given
-Gives-err seen view Memory part whole given bad = tt
+pub ParsesOrMemory-err : {T U V W : Type 0} (seen : T → U) (view : V → W) (fault : LineError) (part : Option U) (whole : Option W)
+    → ParsesOrMemory seen (Err fault) part → (part ≡ None → whole ≡ None) → ParsesOrMemory view (Err fault) whole
+ParsesOrMemory-err seen view Bad part whole given bad = bad given
+ParsesOrMemory-err seen view Memory part whole given bad = tt

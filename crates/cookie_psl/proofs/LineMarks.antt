@@ -2,7 +2,7 @@
 use Rattle.std.proofs.Common.{◌≡◌, ◌≢◌, ℕ, true, false, List, [], ◌∷◌, codes, nat_eq, refl, ap, sym}
 use Rattle.std.specs.List.{starts_with}
 use Rattle.std.proofs.lemmas.Bool.{ne_eqb}
-use Rattle.cookie_psl.specs.ReadRules.{marked_rule}
+use Rattle.cookie_psl.specs.ParsedRules.{marked_rule}
 use Rattle.cookie_psl.specs.Reading.{rule_from}
 
 -- a string without the mark does not begin with it

@@ -10,7 +10,7 @@ use Rattle.std.proofs.lemmas.List.Folds.{list_any-append}
 use Rattle.std.proofs.lemmas.List.FromFn.{get_or-enumerate_from, length-enumerate_from}
 use Rattle.std.proofs.lemmas.Simd.{map-map}
 use Rattle.std.proofs.Math.Seq.{drop-cons}
-use Rattle.cookie_psl.specs.Lists.{GivesList, TakesLine, with_rule}
+use Rattle.cookie_psl.specs.Lists.{ParsesList, AddsLine, with_rule}
 use Rattle.cookie_psl.specs.declared.error.ListError.{ListError}
 use Rattle.cookie_psl.specs.declared.error.ListError.TheVariants.{BadRule, Memory}
 use Rattle.cookie_psl.specs.Reading.{line_rule, rules_of, with_line}
@@ -137,6 +137,6 @@ bad_next walked place line lines rules so_far more next good bad =
 
 -- the error for a line that was not added
 pub not_taken : (error : ListError) (said : Option (Option Rule)) (number : ℕ) (old new : RuleList) (answer : Result RuleList ℕ)
-    → TakesLine {T = ⊤} (Err error) said number old new → (said ≡ None → answer ≡ Err number) → GivesList (Err error) answer
+    → AddsLine {T = ⊤} (Err error) said number old new → (said ≡ None → answer ≡ Err number) → ParsesList (Err error) answer
 not_taken (BadRule line) said number old new answer (bad, e) first = first bad ∙ ap (λ n. Err n) (sym e)
 not_taken Memory said number old new answer h first = tt

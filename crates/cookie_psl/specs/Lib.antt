@@ -1,6 +1,6 @@
 pub mod Errors
 pub mod Lists
-pub mod ReadRules
+pub mod ParsedRules
 pub mod Reading
 pub mod Rules
 pub mod Tree

@@ -6,10 +6,10 @@ use Rattle.cookie_psl.specs.declared.error.ListError.TheVariants.{BadRule, Memor
 use Rattle.cookie_psl.specs.declared.list.List.{List}
 
 -- unless out of memory: a list with the rules of the string, or the number of its first malformed line
-abbrev pub GivesList : Result List ListError → Result RuleList ℕ → Type 0
-GivesList (Ok list) answer = (rules : RuleList) × (answer ≡ Ok rules) × SameRules list rules
-GivesList (Err (BadRule line)) answer = answer ≡ Err line
-GivesList (Err Memory) answer = ⊤
+abbrev pub ParsesList : Result List ListError → Result RuleList ℕ → Type 0
+ParsesList (Ok list) answer = (rules : RuleList) × (answer ≡ Ok rules) × SameRules list rules
+ParsesList (Err (BadRule line)) answer = answer ≡ Err line
+ParsesList (Err Memory) answer = ⊤
 
 -- the rules and one more, if there is one
 abbrev pub with_rule : Option Rule → RuleList → RuleList
@@ -17,7 +17,7 @@ with_rule None rules = rules
 with_rule (Some rule) rules = rule ∷ rules
 
 -- unless out of memory: the rules and that of the line, or the line's number if it is malformed
-abbrev pub TakesLine : {T : Type 0} → Result T ListError → Option (Option Rule) → ℕ → RuleList → RuleList → Type 0
-TakesLine (Ok _) answer number old new = (read : Option Rule) × (answer ≡ Some read) × SameRules new (with_rule read old)
-TakesLine (Err (BadRule line)) answer number old new = (answer ≡ None) × (line ≡ number)
-TakesLine (Err Memory) answer number old new = ⊤
+abbrev pub AddsLine : {T : Type 0} → Result T ListError → Option (Option Rule) → ℕ → RuleList → RuleList → Type 0
+AddsLine (Ok _) answer number old new = (read : Option Rule) × (answer ≡ Some read) × SameRules new (with_rule read old)
+AddsLine (Err (BadRule line)) answer number old new = (answer ≡ None) × (line ≡ number)
+AddsLine (Err Memory) answer number old new = ⊤

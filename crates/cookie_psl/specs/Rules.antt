@@ -90,13 +90,13 @@ suffix_of rules domain =
     else Some (record { text = last_labels found.count bare ++ drop (length bare) domain; is_known = found.is_known })
 
 -- the suffix is the whole string, and a rule of the list matched
-abbrev pub is_whole : List ℕ → Option SuffixValue → Bool
-is_whole text None = false
-is_whole text (Some suffix) = suffix.is_known && bytes_eq suffix.text text
+abbrev pub is_known_and_whole : List ℕ → Option SuffixValue → Bool
+is_known_and_whole text None = false
+is_known_and_whole text (Some suffix) = suffix.is_known && bytes_eq suffix.text text
 
 -- the domain is a public suffix under the rules
 unfoldable pub listed : RuleList → List ℕ → Bool
-listed rules text = is_whole text (suffix_of rules text)
+listed rules text = is_known_and_whole text (suffix_of rules text)
 
 -- lists that hold the same rules, in any order and however often
 abbrev pub SameRules : RuleList → RuleList → Type 0

@@ -1,12 +1,12 @@
 //! A public suffix list in the format of publicsuffix.org.
 ghost use Rattle.std.specs.Prelude.{◌≡◌, ◌∷◌, [], option_map, IfOk, IfSome};
 ghost use Rattle.std.specs.Str.Iter.{HasSubslice};
-ghost use Rattle.cookie_psl.specs.Lists.{GivesList, TakesLine};
+ghost use Rattle.cookie_psl.specs.Lists.{ParsesList, AddsLine};
 ghost use Rattle.cookie_psl.specs.Reading.{line_rule, rules_from};
 ghost use Rattle.cookie_psl.specs.Rules.{default_rule, suffix_of, SameRules};
 ghost use Rattle.cookie_psl.specs.Views.{suffix_value};
 
-use crate::reading::{LineFault, read_line};
+use crate::reading::{LineError, read_line};
 use crate::suffix::{bare, suffix_by};
 use crate::tree::Node;
 use crate::{ListError, Suffix, tree};
@@ -64,7 +64,7 @@ impl List {
     /// - `BadRule`: a line is malformed; the error has its number.
     /// - `Memory`: out of memory.
     pub fn from_text(alloc: Global, text: &str) -> Result<List, ListError>
-        ensures { GivesList result (rules_from text.now) }
+        ensures { ParsesList result (rules_from text.now) }
     {
         let mut list = List::new(alloc);
         for (index, line) in text.split('\n').enumerate() {
@@ -101,7 +101,7 @@ impl List {
 
     // Adds the rule of line `number`, if it has one.
     fn take(&mut self, alloc: Global, line: &str, number: usize) -> Result<(), ListError>
-        ensures { TakesLine result (line_rule line.now) number self.old self.new }
+        ensures { AddsLine result (line_rule line.now) number self.old self.new }
     {
         match read_line(alloc, line) {
             Ok(Some(rule)) => match tree::add(
@@ -114,8 +114,8 @@ impl List {
                 Err(_) => Err(ListError::Memory),
             },
             Ok(None) => Ok(()),
-            Err(LineFault::Bad) => Err(ListError::BadRule { line: number }),
-            Err(LineFault::Memory) => Err(ListError::Memory),
+            Err(LineError::Bad) => Err(ListError::BadRule { line: number }),
+            Err(LineError::Memory) => Err(ListError::Memory),
         }
     }
 }

@@ -1,18 +1,18 @@
 //! Parsing the lines of a public suffix list.
 ghost use Rattle.std.specs.Prelude.{◌≡◌};
 ghost use Rattle.cookie_words.specs.Texts.{pieces};
-ghost use Rattle.cookie_psl.specs.ReadRules.{label_text, label_texts, marked_rule, rule_view, Gives, GivesLine};
+ghost use Rattle.cookie_psl.specs.ParsedRules.{label_text, label_texts, marked_rule, rule_view, ParsesOrMemory, ParsesLine};
 ghost use Rattle.cookie_psl.specs.Reading.{label_from, labels_from, line_rule, read_part, rule_from};
 
 use idna::{Errors, domain_to_ascii};
 use std::alloc::{AllocFailed, Global};
 
 /// The most labels of a rule.
-const MOST_LABELS: usize = 127;
+const MAX_LABELS: usize = 127;
 
 /// The rule of a line.
 #[derive(Drop)]
-pub(crate) struct ReadRule {
+pub(crate) struct ParsedRule {
     /// Its labels from first to last; `None` is the label `*`.
     pub(crate) labels: Vec<Option<String>>,
     /// Whether it is an exception rule.
@@ -21,40 +21,40 @@ pub(crate) struct ReadRule {
 
 /// The error of parsing a line.
 #[derive(Clone, Copy, Debug)]
-pub(crate) enum LineFault {
+pub(crate) enum LineError {
     /// The line is malformed.
     Bad,
     /// Out of memory.
     Memory,
 }
 
-impl From<Errors> for LineFault {
-    ghost use Rattle.cookie_psl.specs.ReadRules.{label_fault};
+impl From<Errors> for LineError {
+    ghost use Rattle.cookie_psl.specs.ParsedRules.{label_error};
 
-    ghost from_gives = { λ error fault. fault ≡ label_fault error };
+    ghost from_gives = { λ error fault. fault ≡ label_error error };
 
-    fn from(error: Errors) -> LineFault {
+    fn from(error: Errors) -> LineError {
         match error {
-            Errors::Invalid => LineFault::Bad,
-            Errors::OutOfMemory => LineFault::Memory,
+            Errors::Invalid => LineError::Bad,
+            Errors::OutOfMemory => LineError::Memory,
         }
     }
 }
 
-impl<T: Drop> From<AllocFailed<T>> for LineFault {
-    ghost use Rattle.cookie_psl.specs.declared.reading.LineFault.TheVariants.{Memory};
+impl<T: Drop> From<AllocFailed<T>> for LineError {
+    ghost use Rattle.cookie_psl.specs.declared.reading.LineError.TheVariants.{Memory};
 
     ghost from_gives = { λ _ fault. fault ≡ Memory };
 
-    fn from(_error: AllocFailed<T>) -> LineFault {
-        LineFault::Memory
+    fn from(_error: AllocFailed<T>) -> LineError {
+        LineError::Memory
     }
 }
 
 /// Parses a line and returns its rule, or `None` if it is empty or a comment.
 #[tactic(auto, unfolding(crate::specs::Reading::line_rule))]
-pub(crate) fn read_line(alloc: Global, line: &str) -> Result<Option<ReadRule>, LineFault>
-    ensures { GivesLine result (line_rule line.now) }
+pub(crate) fn read_line(alloc: Global, line: &str) -> Result<Option<ParsedRule>, LineError>
+    ensures { ParsesLine result (line_rule line.now) }
 {
     let part = read_part(line);
     if part.is_empty() || part.starts_with("//") {
@@ -74,8 +74,8 @@ fn read_part(line: &str) -> &str
 }
 
 // Parses a rule; a leading `!` marks an exception.
-fn read_marked(alloc: Global, part: &str) -> Result<ReadRule, LineFault>
-    ensures { Gives rule_view result (marked_rule part.now) }
+fn read_marked(alloc: Global, part: &str) -> Result<ParsedRule, LineError>
+    ensures { ParsesOrMemory rule_view result (marked_rule part.now) }
 {
     match part.strip_prefix('!') {
         Some(text) => read_rule(alloc, text, true),
@@ -85,22 +85,22 @@ fn read_marked(alloc: Global, part: &str) -> Result<ReadRule, LineFault>
 
 // Parses a rule without its mark `!`.
 #[tactic(auto, unfolding(crate::specs::Reading::rule_from))]
-fn read_rule(alloc: Global, text: &str, is_exception: bool) -> Result<ReadRule, LineFault>
-    ensures { Gives rule_view result (rule_from is_exception text.now) }
+fn read_rule(alloc: Global, text: &str, is_exception: bool) -> Result<ParsedRule, LineError>
+    ensures { ParsesOrMemory rule_view result (rule_from is_exception text.now) }
 {
     let labels = read_labels(alloc, text)?;
-    if labels.len() > MOST_LABELS || is_exception && labels.len() == 1 {
-        return Err(LineFault::Bad);
+    if labels.len() > MAX_LABELS || is_exception && labels.len() == 1 {
+        return Err(LineError::Bad);
     }
-    Ok(ReadRule {
+    Ok(ParsedRule {
         labels,
         is_exception,
     })
 }
 
 // Parses all labels of a rule.
-fn read_labels(alloc: Global, text: &str) -> Result<Vec<Option<String>>, LineFault>
-    ensures { Gives label_texts result (labels_from (pieces 46 text.now)) }
+fn read_labels(alloc: Global, text: &str) -> Result<Vec<Option<String>>, LineError>
+    ensures { ParsesOrMemory label_texts result (labels_from (pieces 46 text.now)) }
 {
     let mut labels = Vec::new(alloc);
     for label in text.split('.') {
@@ -111,15 +111,15 @@ fn read_labels(alloc: Global, text: &str) -> Result<Vec<Option<String>>, LineFau
 
 // Converts a label to ASCII. `None` is the label `*`.
 #[tactic(auto, unfolding(crate::specs::Reading::label_from))]
-fn read_label(alloc: Global, label: &str) -> Result<Option<String>, LineFault>
-    ensures { Gives label_text result (label_from label.now) }
+fn read_label(alloc: Global, label: &str) -> Result<Option<String>, LineError>
+    ensures { ParsesOrMemory label_text result (label_from label.now) }
 {
     if label == "*" {
         return Ok(None);
     }
     let ascii = domain_to_ascii(alloc, label)?;
     if ascii.is_empty() || ascii.as_bytes().contains(&b'.') {
-        return Err(LineFault::Bad);
+        return Err(LineError::Bad);
     }
     Ok(Some(ascii))
 }

@@ -42,7 +42,7 @@ pub(crate) fn suffix_by(
     if bare(domain).is_empty() {
         return None;
     }
-    let (count, is_known) = chosen(exception, rule);
+    let (count, is_known) = prevailing_count(exception, rule);
     Some(Suffix {
         text: from_labels(domain, count),
         is_known,
@@ -57,7 +57,7 @@ pub(crate) fn bare(domain: &str) -> &str
 }
 
 // Returns the number of labels of the suffix, and whether a rule of the list matched.
-fn chosen(exception: Option<usize>, rule: Option<usize>) -> (usize, bool)
+fn prevailing_count(exception: Option<usize>, rule: Option<usize>) -> (usize, bool)
     ensures count { result.0 ≡ (by_exception exception (by_rule rule)).count }
     ensures is_known { result.1 ≡ (by_exception exception (by_rule rule)).is_known }
 {

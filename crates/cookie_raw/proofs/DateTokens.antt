@@ -6,7 +6,7 @@ use Rattle.std.specs.List.{cons_option}
 use Rattle.std.proofs.lemmas.Bool.{and_parts}
 use Rattle.std.proofs.lemmas.List.{append-nil, map-append}
 use Rattle.std.proofs.lemmas.List.Elements.{filter_map-append}
-use Rattle.cookie_raw.specs.CookieDate.{Clock, DateParts, first, first_of, without_first, time_of, day_of, month_of, year_of, parts_of}
+use Rattle.cookie_raw.specs.CookieDate.{TimeParts, DateParts, first, first_of, without_first, time_of, day_of, month_of, year_of, parts_of}
 use Rattle.cookie_raw.specs.DateSteps.{with_token}
 use Rattle.cookie_raw.proofs.DateForms.{month_is_no_other}
 
@@ -62,16 +62,16 @@ without_first-unless_taken form true before token =
 without_first-unless_taken form false before token = without_first-push form before token
 
 -- the parts of a date
-abbrev parts : Option Clock → Option ℕ → Option ℕ → Option ℕ → DateParts
+abbrev parts : Option TimeParts → Option ℕ → Option ℕ → Option ℕ → DateParts
 parts time day month year = record { time = time; day = day; month = month; year = year }
 
 -- parts that are equal one by one
-same_parts : {time time_too : Option Clock} {day day_too month month_too year year_too : Option ℕ}
+same_parts : {time time_too : Option TimeParts} {day day_too month month_too year year_too : Option ℕ}
     → time ≡ time_too → day ≡ day_too → month ≡ month_too → year ≡ year_too → parts time day month year ≡ parts time_too day_too month_too year_too
 same_parts e f g h = cc
 
 -- at most one part is set, since a month has no other form
-one_part_is_new : (time time_new : Option Clock) (day day_new month month_new year year_new : Option ℕ) (is_time is_day is_month is_year : Bool)
+one_part_is_new : (time time_new : Option TimeParts) (day day_new month month_new year year_new : Option ℕ) (is_time is_day is_month is_year : Bool)
     → (is_month ≡ true → (is_time ≡ false) × (is_day ≡ false) × (is_year ≡ false))
     → parts (if is_time then time_new else time) (if is_time then day else (if is_day then day_new else day))
     (if is_month then month_new else month) (if is_time || is_day then year else (if is_year then year_new else year))

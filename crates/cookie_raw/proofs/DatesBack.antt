@@ -5,15 +5,15 @@ use Rattle.std.proofs.lemmas.Bool.{false≢true, cond-true, and_parts, and_from,
 use Rattle.jiff_core.specs.Calendar.{days_in_month, days_from_civil, weekday_number}
 use Rattle.jiff_core.proofs.CalendarLemmas.{days_in_month_bounds, weekday_number_bound}
 use Rattle.cookie_words.specs.Moments.{Moment, is_within, is_day, is_time, moment_of_fields}
-use Rattle.cookie_raw.specs.CookieDate.{Clock, tokens, time_of, month_names, parts_of, moment_of_parts, cookie_date}
-use Rattle.cookie_raw.specs.CookieText.{day_names, two_digits, four_digits, date_text}
+use Rattle.cookie_raw.specs.CookieDate.{TimeParts, tokens, time_of, month_names, parts_of, moment_of_parts, cookie_date}
+use Rattle.cookie_raw.specs.CookieText.{day_names, two_digits, four_digits, rfc1123_date}
 use Rattle.cookie_raw.specs.PlainCookie.{is_plain_moment, is_plain_text}
 use Rattle.cookie_raw.proofs.PlainDates.{words_are_plain}
 use Rattle.cookie_raw.proofs.PrintedWords.{date_of_words, as_words, date_tokens, day_name_is_word, month_name_is_word, two_digits_are_word, four_digits_are_word, clock_is_word}
 use Rattle.cookie_raw.proofs.PrintedTokens.{IsUnread, IsDay, IsMonth, IsYear, clock_text, day_name_unread, two_digits_are_day, month_name_is_month, four_digits_are_year, clock_back}
 
 -- the parts that the tokens of a printed date give
-token_parts : (weekday day_token month_token year_token clock_token rest : List ℕ) (day month year : ℕ) (clock : Clock)
+token_parts : (weekday day_token month_token year_token clock_token rest : List ℕ) (day month year : ℕ) (clock : TimeParts)
     → IsUnread weekday → IsDay day_token day → IsMonth month_token month → IsYear year_token year → time_of clock_token ≡ Some clock
     → parts_of (weekday ∷ day_token ∷ month_token ∷ year_token ∷ clock_token ∷ rest ∷ [])
     ≡ record { time = Some clock; day = Some day; month = Some month; year = Some year }
@@ -79,15 +79,15 @@ small_parts year month day hour minute second h k l =
     }
 
 -- the words of a printed date
-printed_words : (year month day hour minute second : ℕ) → date_text (moment_of_fields year month day hour minute second 0)
+printed_words : (year month day hour minute second : ℕ) → rfc1123_date (moment_of_fields year month day hour minute second 0)
     ≡ date_of_words (weekday_of year month day) (two_digits day) (get_or month_names (month - 1) []) (four_digits year) (clock_text hour minute second)
-unfolding date_text
+unfolding rfc1123_date
 printed_words year month day hour minute second =
     as_words (weekday_of year month day) (two_digits day) (get_or month_names (month - 1) []) (four_digits year) (two_digits hour) (two_digits minute) (two_digits second)
 
 -- the parts that the tokens of a printed date give
 printed_parts : (year month day hour minute second : ℕ) → HasSmallParts year month day hour minute second
-    → parts_of (tokens (date_text (moment_of_fields year month day hour minute second 0)))
+    → parts_of (tokens (rfc1123_date (moment_of_fields year month day hour minute second 0)))
     ≡ record { time = Some (record { hour = hour; minute = minute; second = second }); day = Some day; month = Some month; year = Some year }
 printed_parts year month day hour minute second small =
     let weekday = weekday_number_bound (days_from_civil (pos year) month day) in
@@ -113,14 +113,14 @@ moment_from_parts year month day hour minute second h k l =
     (and_from (nat_le 1601 year) (is_day (pos year) month day) (le-leb 1601 year h) k) l)
 
 -- the printed date of a time in whole seconds parses as that time
-seconds_back : HoldsInSeconds (λ moment. cookie_date (date_text moment) ≡ Some moment)
+seconds_back : HoldsInSeconds (λ moment. cookie_date (rfc1123_date moment) ≡ Some moment)
 seconds_back year month day hour minute second h k l =
     let small = small_parts year month day hour minute second h k l in
     ap moment_of_parts (printed_parts year month day hour minute second small)
     ∙ moment_from_parts year month day hour minute second small.first_year k l
 
 -- and is a plain string
-seconds_are_plain : HoldsInSeconds (λ moment. is_plain_text (date_text moment) ≡ true)
+seconds_are_plain : HoldsInSeconds (λ moment. is_plain_text (rfc1123_date moment) ≡ true)
 seconds_are_plain year month day hour minute second h k l =
     let small = small_parts year month day hour minute second h k l in
     rw (printed_words year month day hour minute second)
@@ -128,9 +128,9 @@ seconds_are_plain year month day hour minute second h k l =
     (omega arith) (omega arith) (omega arith) (omega arith) (omega arith) (omega arith))
 
 -- the printed date of a plain time parses as that time
-pub date_back : (moment : Moment) → is_plain_moment moment ≡ true → cookie_date (date_text moment) ≡ Some moment
-date_back moment h = of_plain (λ m. cookie_date (date_text m) ≡ Some m) seconds_back moment h
+pub date_back : (moment : Moment) → is_plain_moment moment ≡ true → cookie_date (rfc1123_date moment) ≡ Some moment
+date_back moment h = of_plain (λ m. cookie_date (rfc1123_date m) ≡ Some m) seconds_back moment h
 
 -- and is a plain string
-pub date_is_plain : (moment : Moment) → is_plain_moment moment ≡ true → is_plain_text (date_text moment) ≡ true
-date_is_plain moment h = of_plain (λ m. is_plain_text (date_text m) ≡ true) seconds_are_plain moment h
+pub date_is_plain : (moment : Moment) → is_plain_moment moment ≡ true → is_plain_text (rfc1123_date moment) ≡ true
+date_is_plain moment h = of_plain (λ m. is_plain_text (rfc1123_date m) ≡ true) seconds_are_plain moment h

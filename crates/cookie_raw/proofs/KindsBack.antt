@@ -6,10 +6,10 @@ use Rattle.std.proofs.Math.Utf8.{encode}
 use Rattle.std.proofs.lemmas.Bool.{and_parts, false≢true}
 use Rattle.cookie_words.specs.Moments.{Moment, is_day, is_time}
 use Rattle.cookie_words.specs.Texts.{without_dot}
-use Rattle.cookie_raw.specs.CookieText.{site_text, date_text, age_text, has_four_digits, ending_text}
-use Rattle.cookie_raw.specs.PlainCookie.{is_plain_age, is_plain_year, is_plain_moment, is_plain_ending}
-use Rattle.cookie_raw.specs.Raw.{Ending, At, Session}
-use Rattle.cookie_raw.specs.Reading.{is_named, value_of, expires_from, max_age_from, domain_from, path_from, secure_from, http_only_from, site_of, same_site_from, last, last_given, piece_gives}
+use Rattle.cookie_raw.specs.CookieText.{site_text, rfc1123_date, age_text, has_four_digits, expires_text}
+use Rattle.cookie_raw.specs.PlainCookie.{is_plain_age, is_plain_year, is_plain_moment, is_plain_expires}
+use Rattle.cookie_raw.specs.Raw.{ExpiresValue, At, Session}
+use Rattle.cookie_raw.specs.Reading.{is_named, value_of, expires_from, max_age_from, domain_from, path_from, secure_from, http_only_from, site_of, same_site_from, last, last_accepted, accepted_value}
 use Rattle.cookie_raw.specs.declared.same_site.SameSite.{SameSite}
 use Rattle.cookie_raw.specs.declared.same_site.SameSite.TheVariants as same_site
 use Rattle.cookie_raw.proofs.AgesBack.{age_back, age_is_plain}
@@ -30,29 +30,29 @@ pieces_named kind (attribute ∷ more) =
 
 -- the value of a piece depends on its name
 said_by_name : {T : Type 0} (from : List ℕ → List ℕ → Option T) (name piece : List ℕ) → IsPiece name piece
-    → piece_gives from piece ≡ from name (value_of piece)
+    → accepted_value from piece ≡ from name (value_of piece)
 said_by_name from name piece h = ap (λ n. from n (value_of piece)) h.named
 
 -- one more attribute, of this kind or another
 one_more : {T : Type 0} (kind : List ℕ) (from : List ℕ → List ℕ → Option T) → TakesOnly kind from
     → (name : List ℕ) (piece : Option (List ℕ)) (rest : List (List ℕ)) (of_kind : List (Option (List ℕ))) (is_kind : Bool)
     → is_named kind name ≡ is_kind → IfSome piece (IsPiece name)
-    → filter_map (piece_gives from) rest ≡ filter_map (option_and_then (piece_gives from)) of_kind
-    → filter_map (piece_gives from) (cons_option piece rest)
-    ≡ filter_map (option_and_then (piece_gives from)) (if is_kind then piece ∷ of_kind else of_kind)
+    → filter_map (accepted_value from) rest ≡ filter_map (option_and_then (accepted_value from)) of_kind
+    → filter_map (accepted_value from) (cons_option piece rest)
+    ≡ filter_map (option_and_then (accepted_value from)) (if is_kind then piece ∷ of_kind else of_kind)
 one_more kind from only name None rest of_kind true e h same = same
 one_more kind from only name None rest of_kind false e h same = same
-one_more kind from only name (Some piece) rest of_kind true e h same = ap (cons_option (piece_gives from piece)) same
+one_more kind from only name (Some piece) rest of_kind true e h same = ap (cons_option (accepted_value from piece)) same
 one_more kind from only name (Some piece) rest of_kind false e h same =
-    ap (λ given. cons_option given (filter_map (piece_gives from) rest))
+    ap (λ given. cons_option given (filter_map (accepted_value from) rest))
     (said_by_name from name piece h ∙ only name (value_of piece) e)
     ∙ same
 
 -- only the attributes of its name give a kind its value
 given_by_name : {T : Type 0} (kind : List ℕ) (from : List ℕ → List ℕ → Option T) → TakesOnly kind from
     → (attributes : List Attribute) → AllByRecursion IsWellPrinted attributes
-    → filter_map (piece_gives from) (present attributes)
-    ≡ filter_map (option_and_then (piece_gives from)) (pieces_named kind attributes)
+    → filter_map (accepted_value from) (present attributes)
+    ≡ filter_map (option_and_then (accepted_value from)) (pieces_named kind attributes)
 given_by_name kind from only [] h = refl
 given_by_name kind from only (attribute ∷ more) h =
     one_more kind from only attribute.name attribute.piece (present more) (pieces_named kind more)
@@ -68,15 +68,15 @@ last_of_one (Some x) = refl
 pub one_decides : {T : Type 0} (kind : List ℕ) (from : List ℕ → List ℕ → Option T) → TakesOnly kind from
     → (attributes : List Attribute) → AllByRecursion IsWellPrinted attributes
     → (piece : Option (List ℕ)) → pieces_named kind attributes ≡ piece ∷ []
-    → last_given from (present attributes) ≡ option_and_then (piece_gives from) piece
+    → last_accepted from (present attributes) ≡ option_and_then (accepted_value from) piece
 one_decides kind from only attributes h piece e =
-    ap last (given_by_name kind from only attributes h ∙ ap (filter_map (option_and_then (piece_gives from))) e)
-    ∙ last_of_one (option_and_then (piece_gives from) piece)
+    ap last (given_by_name kind from only attributes h ∙ ap (filter_map (option_and_then (accepted_value from))) e)
+    ∙ last_of_one (option_and_then (accepted_value from) piece)
 
 -- the value of a printed attribute
 value_given : {T : Type 0} (from : List ℕ → List ℕ → Option T) (name : List ℕ) (value : Option (List ℕ)) → IsLabel name
     → IfSome value IsPlainText
-    → option_and_then (piece_gives from) (value_attribute name value).piece ≡ option_and_then (from name) value
+    → option_and_then (accepted_value from) (value_attribute name value).piece ≡ option_and_then (from name) value
 value_given from name None label plain = refl
 value_given from name (Some v) label plain =
     said_by_name from name (32 ∷ (name ++ 61 ∷ v)) (value_is_piece name v label plain)
@@ -84,7 +84,7 @@ value_given from name (Some v) label plain =
 
 -- HttpOnly, true or absent
 pub http_only_back : (http_only : Option Bool) → unwrap_or http_only true ≡ true
-    → option_and_then (piece_gives http_only_from) (flag_attribute (codes "HttpOnly") (unwrap_or http_only false)).piece ≡ http_only
+    → option_and_then (accepted_value http_only_from) (flag_attribute (codes "HttpOnly") (unwrap_or http_only false)).piece ≡ http_only
 http_only_back None h = refl
 http_only_back (Some true) h =
     said_by_name http_only_from (codes "HttpOnly") (32 ∷ codes "HttpOnly") (flag_is_piece (codes "HttpOnly") label-http_only)
@@ -93,7 +93,7 @@ http_only_back (Some false) h = absurd (false≢true h)
 -- Secure, true if SameSite is `None`
 pub secure_back : (secure : Option Bool) (for_all : Bool) → unwrap_or secure true ≡ true
     → (not for_all || unwrap_or secure false) ≡ true
-    → option_and_then (piece_gives secure_from) (flag_attribute (codes "Secure") (unwrap_or secure for_all)).piece ≡ secure
+    → option_and_then (accepted_value secure_from) (flag_attribute (codes "Secure") (unwrap_or secure for_all)).piece ≡ secure
 secure_back None true h k = absurd (false≢true k)
 secure_back None false h k = refl
 secure_back (Some true) for_all h k =
@@ -118,7 +118,7 @@ site_read (Some same_site.None) = refl
 
 -- SameSite
 pub same_site_back : (site : Option SameSite)
-    → option_and_then (piece_gives same_site_from) (value_attribute (codes "SameSite") (option_map site_text site)).piece ≡ site
+    → option_and_then (accepted_value same_site_from) (value_attribute (codes "SameSite") (option_map site_text site)).piece ≡ site
 same_site_back site =
     value_given same_site_from (codes "SameSite") (option_map site_text site) label-same_site (site_is_plain site)
     ∙ site_read site
@@ -130,7 +130,7 @@ path_read (Some p) = refl
 
 -- Path
 pub path_back : (path : Option (List ℕ)) → IfSome path IsPlainText
-    → option_and_then (piece_gives path_from) (value_attribute (codes "Path") path).piece ≡ path
+    → option_and_then (accepted_value path_from) (value_attribute (codes "Path") path).piece ≡ path
 path_back path plain = value_given path_from (codes "Path") path label-path plain ∙ path_read path
 
 -- a plain domain is a plain string
@@ -146,7 +146,7 @@ domain_read (Some d) plain = rw plain.is_there (ap Some plain.without_dot)
 
 -- Domain
 pub domain_back : (domain : Option (List ℕ)) → IfSome domain IsPlainDomain
-    → option_map without_dot (option_and_then (piece_gives domain_from) (value_attribute (codes "Domain") domain).piece)
+    → option_map without_dot (option_and_then (accepted_value domain_from) (value_attribute (codes "Domain") domain).piece)
     ≡ domain
 domain_back domain plain =
     ap (option_map without_dot) (value_given domain_from (codes "Domain") domain label-domain (domain_is_plain domain plain))
@@ -166,7 +166,7 @@ age_read (Some a) plain = age_back a plain
 
 -- Max-Age
 pub max_age_back : (age : Option ℤ) → IfSome age (λ a. is_plain_age a ≡ true)
-    → option_and_then (piece_gives max_age_from) (value_attribute (codes "Max-Age") (option_map age_text age)).piece ≡ age
+    → option_and_then (accepted_value max_age_from) (value_attribute (codes "Max-Age") (option_map age_text age)).piece ≡ age
 max_age_back age plain =
     value_given max_age_from (codes "Max-Age") (option_map age_text age) label-max_age (age_text_is_plain age plain)
     ∙ age_read age plain
@@ -177,7 +177,7 @@ year_is_written (pos year) h = (and_parts (nat_le 1601 year) (nat_le year 9999) 
 year_is_written (negsuc year) h = h
 
 -- so a plain time is printed
-moment_is_written : (moment : Moment) → is_plain_moment moment ≡ true → ending_text (At moment) ≡ Some (date_text moment)
+moment_is_written : (moment : Moment) → is_plain_moment moment ≡ true → expires_text (At moment) ≡ Some (rfc1123_date moment)
 moment_is_written moment h =
     let on_clock = and_parts _ (moment.nanosecond == 0) h in
     let on_calendar = and_parts _ (is_time moment.hour moment.minute moment.second) on_clock.0 in
@@ -185,27 +185,27 @@ moment_is_written moment h =
     rw (year_is_written moment.year year.0)
 
 -- a plain Expires is printed as a plain string
-pub ending_is_plain : (ending : Option Ending) → IfSome ending (λ e. is_plain_ending e ≡ true)
-    → IfSome (option_and_then ending_text ending) IsPlainText
+pub ending_is_plain : (expires_value : Option ExpiresValue) → IfSome expires_value (λ e. is_plain_expires e ≡ true)
+    → IfSome (option_and_then expires_text expires_value) IsPlainText
 ending_is_plain None plain = tt
 ending_is_plain (Some (At moment)) plain =
-    rw (moment_is_written moment plain) (plain_text (date_text moment) (date_is_plain moment plain))
+    rw (moment_is_written moment plain) (plain_text (rfc1123_date moment) (date_is_plain moment plain))
 ending_is_plain (Some Session) plain = absurd (false≢true plain)
 
 -- and parses as that Expires
-ending_read : (ending : Option Ending) → IfSome ending (λ e. is_plain_ending e ≡ true)
-    → option_and_then (expires_from (codes "Expires")) (option_and_then ending_text ending) ≡ ending
+ending_read : (expires_value : Option ExpiresValue) → IfSome expires_value (λ e. is_plain_expires e ≡ true)
+    → option_and_then (expires_from (codes "Expires")) (option_and_then expires_text expires_value) ≡ expires_value
 ending_read None plain = refl
 ending_read (Some (At moment)) plain =
     rw (moment_is_written moment plain) (ap (option_map At) (date_back moment plain))
 ending_read (Some Session) plain = absurd (false≢true plain)
 
 -- Expires
-pub expires_back : (ending : Option Ending) → IfSome ending (λ e. is_plain_ending e ≡ true)
-    → option_and_then (piece_gives expires_from)
-    (value_attribute (codes "Expires") (option_and_then ending_text ending)).piece
-    ≡ ending
-expires_back ending plain =
-    value_given expires_from (codes "Expires") (option_and_then ending_text ending) label-expires
-    (ending_is_plain ending plain)
-    ∙ ending_read ending plain
+pub expires_back : (expires_value : Option ExpiresValue) → IfSome expires_value (λ e. is_plain_expires e ≡ true)
+    → option_and_then (accepted_value expires_from)
+    (value_attribute (codes "Expires") (option_and_then expires_text expires_value)).piece
+    ≡ expires_value
+expires_back expires_value plain =
+    value_given expires_from (codes "Expires") (option_and_then expires_text expires_value) label-expires
+    (ending_is_plain expires_value plain)
+    ∙ ending_read expires_value plain

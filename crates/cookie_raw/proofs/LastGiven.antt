@@ -5,7 +5,7 @@ use Rattle.std.specs.List.{filter_map, cons_option}
 use Rattle.std.specs.Option.{option_or}
 use Rattle.std.proofs.lemmas.List.{map-append, append-nil}
 use Rattle.std.proofs.lemmas.List.Elements.{filter_map-append}
-use Rattle.cookie_raw.specs.Reading.{last, last_given, piece_gives}
+use Rattle.cookie_raw.specs.Reading.{last, last_accepted, accepted_value}
 
 last-push : {T : Type 0} (xs : List T) (x : T) → last (xs ++ x ∷ []) ≡ Some x
 last-push [] x = refl
@@ -18,11 +18,11 @@ last-cons_option xs None = ap last (append-nil xs)
 last-cons_option xs (Some x) = last-push xs x
 
 -- the last accepted attribute, with one more
-pub last_given-push : {T : Type 0} (from : List ℕ → List ℕ → Option T) (before : List (Bor (List ℕ))) (piece : Bor (List ℕ))
-    → last_given from (map (λ x. x.now) (before ++ piece ∷ []))
-    ≡ option_or (piece_gives from piece.now) (last_given from (map (λ x. x.now) before))
-last_given-push from before piece =
+pub last_accepted-push : {T : Type 0} (from : List ℕ → List ℕ → Option T) (before : List (Bor (List ℕ))) (piece : Bor (List ℕ))
+    → last_accepted from (map (λ x. x.now) (before ++ piece ∷ []))
+    ≡ option_or (accepted_value from piece.now) (last_accepted from (map (λ x. x.now) before))
+last_accepted-push from before piece =
     let pieces = map (λ (x : Bor (List ℕ)). x.now) before in
-    ap (last_given from) (map-append (λ (x : Bor (List ℕ)). x.now) before (piece ∷ []))
-    ∙ ap last (filter_map-append (piece_gives from) pieces (piece.now ∷ []))
-    ∙ last-cons_option (filter_map (piece_gives from) pieces) (piece_gives from piece.now)
+    ap (last_accepted from) (map-append (λ (x : Bor (List ℕ)). x.now) before (piece ∷ []))
+    ∙ ap last (filter_map-append (accepted_value from) pieces (piece.now ∷ []))
+    ∙ last-cons_option (filter_map (accepted_value from) pieces) (accepted_value from piece.now)

@@ -7,7 +7,7 @@ use Rattle.std.proofs.lemmas.Bool.{and_parts, not-true, eqb-true, true≢false}
 use Rattle.std.proofs.lemmas.Slice.Eq.{bytes_eq-Decides}
 use Rattle.cookie_words.specs.Texts.{without_dot}
 use Rattle.cookie_raw.specs.CookieText.{is_for_all_sites}
-use Rattle.cookie_raw.specs.PlainCookie.{if_there, is_plain_text, is_plain_name, is_plain_domain, is_plain_age, is_plain_ending, is_plain}
+use Rattle.cookie_raw.specs.PlainCookie.{if_present, is_plain_text, is_plain_name, is_plain_domain, is_plain_age, is_plain_expires, is_plain}
 use Rattle.cookie_raw.specs.Raw.{Raw}
 use Rattle.cookie_raw.specs.Reading.{is_equals, is_semicolon}
 
@@ -76,7 +76,7 @@ plain_domain domain h =
 
 -- a test of an optional part implies its property
 where_there : {T : Type 0} (test : T → Bool) (P : T → Type 0) (part : Option T) → ((x : T) → test x ≡ true → P x)
-    → if_there test part ≡ true → IfSome part P
+    → if_present test part ≡ true → IfSome part P
 where_there test P None says h = tt
 where_there test P (Some x) says h = says x h
 
@@ -90,19 +90,19 @@ pub record IsPlain (cookie : Raw) : Type 0 where
   pub http_only : unwrap_or cookie.http_only true ≡ true
   pub same_site : (not (is_for_all_sites cookie.same_site) || unwrap_or cookie.secure false) ≡ true
   pub max_age : IfSome cookie.max_age (λ age. is_plain_age age ≡ true)
-  pub expires : IfSome cookie.expires (λ ending. is_plain_ending ending ≡ true)
+  pub expires : IfSome cookie.expires (λ expires_value. is_plain_expires expires_value ≡ true)
 
 -- `is_plain` implies them
 pub plain_cookie : (cookie : Raw) → IsTrue (is_plain cookie) → IsPlain cookie
 unfolding is_plain
 plain_cookie cookie h =
-    let to_expires = and_parts _ (if_there is_plain_ending cookie.expires) h in
-    let to_max_age = and_parts _ (if_there is_plain_age cookie.max_age) to_expires.0 in
+    let to_expires = and_parts _ (if_present is_plain_expires cookie.expires) h in
+    let to_max_age = and_parts _ (if_present is_plain_age cookie.max_age) to_expires.0 in
     let to_same_site = and_parts _ (not (is_for_all_sites cookie.same_site) || unwrap_or cookie.secure false) to_max_age.0 in
     let to_http_only = and_parts _ (unwrap_or cookie.http_only true) to_same_site.0 in
     let to_secure = and_parts _ (unwrap_or cookie.secure true) to_http_only.0 in
-    let to_path = and_parts _ (if_there is_plain_text cookie.path) to_secure.0 in
-    let to_domain = and_parts _ (if_there is_plain_domain cookie.domain) to_path.0 in
+    let to_path = and_parts _ (if_present is_plain_text cookie.path) to_secure.0 in
+    let to_domain = and_parts _ (if_present is_plain_domain cookie.domain) to_path.0 in
     let to_value = and_parts (is_plain_name cookie.name) (is_plain_text cookie.value) to_domain.0 in
     record {
       name = plain_name cookie.name to_value.0;
@@ -113,5 +113,5 @@ plain_cookie cookie h =
       http_only = to_http_only.1;
       same_site = to_same_site.1;
       max_age = where_there is_plain_age _ cookie.max_age (λ age passes. passes) to_max_age.1;
-      expires = where_there is_plain_ending _ cookie.expires (λ ending passes. passes) to_expires.1;
+      expires = where_there is_plain_expires _ cookie.expires (λ expires_value passes. passes) to_expires.1;
     }

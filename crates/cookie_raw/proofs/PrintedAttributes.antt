@@ -4,7 +4,7 @@ use Rattle.std.specs.List.{list_any}
 use Rattle.std.specs.Str.{trim, trim_start, trim_end, chars}
 use Rattle.std.proofs.Math.Utf8.{encode}
 use Rattle.std.proofs.lemmas.List.Folds.{list_any-append}
-use Rattle.cookie_raw.specs.CookieText.{flag, optional, site_text, age_text, ending_text, is_for_all_sites, cookie_text}
+use Rattle.cookie_raw.specs.CookieText.{flag, optional, site_text, age_text, expires_text, is_for_all_sites, cookie_text}
 use Rattle.cookie_raw.specs.Raw.{Raw}
 use Rattle.cookie_raw.specs.Reading.{is_equals, is_semicolon, value_of}
 use Rattle.cookie_raw.proofs.JoinedPieces.{Attribute, IsPiece, IsWellPrinted, behind_semicolon, joined, before_at, after_at, before_none}
@@ -31,7 +31,7 @@ printed cookie =
     ∷ value_attribute (codes "Path") cookie.path
     ∷ value_attribute (codes "Domain") cookie.domain
     ∷ value_attribute (codes "Max-Age") (option_map age_text cookie.max_age)
-    ∷ value_attribute (codes "Expires") (option_and_then ending_text cookie.expires)
+    ∷ value_attribute (codes "Expires") (option_and_then expires_text cookie.expires)
     ∷ []
 
 -- a flag is printed after a `;`
@@ -62,7 +62,7 @@ text_is_joined cookie =
     (optional (codes "; Path=") cookie.path)
     (optional (codes "; Domain=") cookie.domain)
     (optional (codes "; Max-Age=") (option_map age_text cookie.max_age))
-    (optional (codes "; Expires=") (option_and_then ending_text cookie.expires))
+    (optional (codes "; Expires=") (option_and_then expires_text cookie.expires))
     ∙ rw (
       flag_text (codes "HttpOnly"),
       value_text (codes "SameSite"),

@@ -4,10 +4,10 @@ use Rattle.std.specs.List.{AllByRecursion, list_any}
 use Rattle.std.specs.Str.{trim}
 use Rattle.std.proofs.lemmas.List.Folds.{list_any-append}
 use Rattle.cookie_words.specs.Texts.{without_dot}
-use Rattle.cookie_raw.specs.CookieText.{site_text, age_text, ending_text, is_for_all_sites, cookie_text}
+use Rattle.cookie_raw.specs.CookieText.{site_text, age_text, expires_text, is_for_all_sites, cookie_text}
 use Rattle.cookie_raw.specs.PlainCookie.{is_plain}
 use Rattle.cookie_raw.specs.Raw.{Raw}
-use Rattle.cookie_raw.specs.Reading.{is_equals, is_semicolon, pair_of, attributes, has_equals, name_of, value_of, expires_from, max_age_from, domain_from, path_from, secure_from, http_only_from, same_site_from, piece_gives, last_given, reading}
+use Rattle.cookie_raw.specs.Reading.{is_equals, is_semicolon, pair_of, attributes, has_equals, name_of, value_of, expires_from, max_age_from, domain_from, path_from, secure_from, http_only_from, same_site_from, accepted_value, last_accepted, reading}
 use Rattle.cookie_raw.proofs.JoinedPieces.{IsWellPrinted, joined, present, pair_of_joined, attributes_of_joined, before_at, after_at}
 use Rattle.cookie_raw.proofs.KindsBack.{TakesOnly, pieces_named, one_decides, http_only_back, secure_back, site_is_plain, same_site_back, path_back, domain_is_plain, domain_back, age_text_is_plain, max_age_back, ending_is_plain, expires_back}
 use Rattle.cookie_raw.proofs.PlainParts.{IsPlain, plain_cookie}
@@ -26,26 +26,26 @@ well_printed cookie plain =
     let domain = value_is_well_printed (codes "Domain") cookie.domain label-domain plain_domain in
     let plain_age = age_text_is_plain cookie.max_age plain.max_age in
     let max_age = value_is_well_printed (codes "Max-Age") (option_map age_text cookie.max_age) label-max_age plain_age in
-    let date = option_and_then ending_text cookie.expires in
+    let date = option_and_then expires_text cookie.expires in
     let expires = value_is_well_printed (codes "Expires") date label-expires (ending_is_plain cookie.expires plain.expires) in
     (http_only, (same_site, (secure, (path, (domain, (max_age, (expires, tt)))))))
 
 -- of a plain cookie's attributes, the one of a name gives its kind the value
 decided : {T : Type 0} (cookie : Raw) → IsPlain cookie → (kind : List ℕ) (from : List ℕ → List ℕ → Option T) → TakesOnly kind from
     → (piece : Option (List ℕ)) → pieces_named kind (printed cookie) ≡ piece ∷ []
-    → last_given from (present (printed cookie)) ≡ option_and_then (piece_gives from) piece
+    → last_accepted from (present (printed cookie)) ≡ option_and_then (accepted_value from) piece
 decided cookie plain kind from only piece e =
     one_decides kind from only (printed cookie) (well_printed cookie plain) piece e
 
 -- the attributes give the parts of the cookie
 record GiveParts (cookie : Raw) (attributes : List (List ℕ)) : Type 0 where
-  domain : option_map without_dot (last_given domain_from attributes) ≡ cookie.domain
-  path : last_given path_from attributes ≡ cookie.path
-  secure : last_given secure_from attributes ≡ cookie.secure
-  http_only : last_given http_only_from attributes ≡ cookie.http_only
-  same_site : last_given same_site_from attributes ≡ cookie.same_site
-  max_age : last_given max_age_from attributes ≡ cookie.max_age
-  expires : last_given expires_from attributes ≡ cookie.expires
+  domain : option_map without_dot (last_accepted domain_from attributes) ≡ cookie.domain
+  path : last_accepted path_from attributes ≡ cookie.path
+  secure : last_accepted secure_from attributes ≡ cookie.secure
+  http_only : last_accepted http_only_from attributes ≡ cookie.http_only
+  same_site : last_accepted same_site_from attributes ≡ cookie.same_site
+  max_age : last_accepted max_age_from attributes ≡ cookie.max_age
+  expires : last_accepted expires_from attributes ≡ cookie.expires
 
 -- the printed attributes of a plain cookie give its parts
 parts_back : (cookie : Raw) → IsPlain cookie → GiveParts cookie (present (printed cookie))

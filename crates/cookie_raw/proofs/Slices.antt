@@ -9,7 +9,7 @@ use Rattle.std.proofs.lemmas.List.{append-nil}
 use Rattle.std.proofs.lemmas.List.Elements.{All-drop, recursion_from_All}
 use Rattle.cookie_words.specs.Texts.{pieces}
 use Rattle.cookie_words.specs.Texts.{without_dot}
-use Rattle.cookie_raw.specs.Reading.{is_equals, pair_of, attributes, name_of, value_of, last, last_given, piece_gives, domain_from, path_from}
+use Rattle.cookie_raw.specs.Reading.{is_equals, pair_of, attributes, name_of, value_of, last, last_accepted, accepted_value, domain_from, path_from}
 use Rattle.cookie_raw.proofs.Parts.{IsPart, itself_is_slice, slice_of_slice, before_is_part, after_is_part, pieces_are_parts, trim_is_part}
 
 -- the name of a part of a string
@@ -56,11 +56,11 @@ onto_slices text (Some v) more h rest = (h, rest)
 
 -- the values that the parts of a string give
 given_are_slices : (text : List ℕ) (from : List ℕ → List ℕ → Option (List ℕ)) (parts : List (List ℕ)) → GivesValue from
-    → AllByRecursion (IsPart text) parts → AllByRecursion (HasSubslice text) (filter_map (piece_gives from) parts)
+    → AllByRecursion (IsPart text) parts → AllByRecursion (HasSubslice text) (filter_map (accepted_value from) parts)
 given_are_slices text from [] gives h = tt
 given_are_slices text from (part ∷ parts) gives h =
-    onto_slices text (piece_gives from part) (filter_map (piece_gives from) parts)
-    (slice_where_given text (value_of part) (piece_gives from part) (value_is_slice text part h.0) (gives (name_of part) (value_of part)))
+    onto_slices text (accepted_value from part) (filter_map (accepted_value from) parts)
+    (slice_where_given text (value_of part) (accepted_value from part) (value_is_slice text part h.0) (gives (name_of part) (value_of part)))
     (given_are_slices text from parts gives h.1)
 
 -- the last of a list of slices
@@ -71,10 +71,10 @@ last_is_slice text (x ∷ y ∷ ys) h = last_is_slice text (y ∷ ys) h.1
 
 -- the value of the last accepted attribute
 last_given_is_slice : (text : List ℕ) (from : List ℕ → List ℕ → Option (List ℕ)) → GivesValue from → IsUtf8 text
-    → IfSome (last_given from (attributes text)) (HasSubslice text)
+    → IfSome (last_accepted from (attributes text)) (HasSubslice text)
 last_given_is_slice text from gives utf8 =
     let parts = All-drop (IsPart text) 1 (pieces 59 text) (pieces_are_parts 59 (length text) text (lit< tt) (omega arith) utf8) in
-    last_is_slice text (filter_map (piece_gives from) (attributes text))
+    last_is_slice text (filter_map (accepted_value from) (attributes text))
     (given_are_slices text from (attributes text) gives (recursion_from_All (IsPart text) (attributes text) parts))
 
 -- a string with or without its first byte
@@ -95,11 +95,11 @@ slice_without_dot text (Some d) h = slice_of_slice text d (without_dot d) h (wit
 
 -- the Domain attribute
 pub domain_is_slice : (text : List ℕ) → IsUtf8 text
-    → IfSome (option_map without_dot (last_given domain_from (attributes text))) (HasSubslice text)
+    → IfSome (option_map without_dot (last_accepted domain_from (attributes text))) (HasSubslice text)
 domain_is_slice text utf8 =
-    slice_without_dot text (last_given domain_from (attributes text))
+    slice_without_dot text (last_accepted domain_from (attributes text))
     (last_given_is_slice text domain_from (λ name value. given_under _ value) utf8)
 
 -- the Path attribute
-pub path_is_slice : (text : List ℕ) → IsUtf8 text → IfSome (last_given path_from (attributes text)) (HasSubslice text)
+pub path_is_slice : (text : List ℕ) → IsUtf8 text → IfSome (last_accepted path_from (attributes text)) (HasSubslice text)
 path_is_slice text utf8 = last_given_is_slice text path_from (λ name value. given_under _ value) utf8

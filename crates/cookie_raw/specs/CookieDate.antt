@@ -27,13 +27,13 @@ unfoldable pub after_colon : List ℕ → Option (List ℕ)
 after_colon text = if starts_with nat_eq text (codes ":") then Some (drop 1 text) else None
 
 -- the `time` of a date, which may be out of range
-pub record Clock : Type 0 where
+pub record TimeParts : Type 0 where
   pub hour : ℕ
   pub minute : ℕ
   pub second : ℕ
 
 -- `time`: three numbers of one or two digits, separated by `:`
-unfoldable pub time_of : List ℕ → Option Clock
+unfoldable pub time_of : List ℕ → Option TimeParts
 time_of token = do
   hour ← number_at 1 2 token
   minutes ← after_colon hour.1
@@ -80,7 +80,7 @@ without_first form (token ∷ tokens) = if is_some (form token) then tokens else
 
 -- the parts of a date, as its tokens give them
 pub record DateParts : Type 0 where
-  pub time : Option Clock
+  pub time : Option TimeParts
   pub day : Option ℕ
   pub month : Option ℕ
   pub year : Option ℕ

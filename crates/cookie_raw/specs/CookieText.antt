@@ -4,7 +4,7 @@ use Rattle.std.specs.Fmt.{signed_decimal}
 use Rattle.jiff_core.specs.Calendar.{days_from_civil, weekday_number}
 use Rattle.cookie_words.specs.Moments.{Moment}
 use Rattle.cookie_raw.specs.CookieDate.{month_names}
-use Rattle.cookie_raw.specs.Raw.{Raw, Ending, At, Session}
+use Rattle.cookie_raw.specs.Raw.{Raw, ExpiresValue, At, Session}
 use Rattle.cookie_raw.specs.declared.same_site.SameSite.{SameSite}
 use Rattle.cookie_raw.specs.declared.same_site.SameSite.TheVariants as same_site
 
@@ -33,8 +33,8 @@ day_names =
     codes "Mon" ∷ codes "Tue" ∷ codes "Wed" ∷ codes "Thu" ∷ codes "Fri" ∷ codes "Sat" ∷ codes "Sun" ∷ []
 
 -- `Tue, 03 Aug 2100 00:38:37 GMT`, the date format of RFC 1123
-unfoldable pub date_text : Moment → List ℕ
-date_text moment =
+unfoldable pub rfc1123_date : Moment → List ℕ
+rfc1123_date moment =
     get_or day_names (weekday_number (days_from_civil moment.year moment.month moment.day)) []
     ++ codes ", " ++ two_digits moment.day
     ++ codes " " ++ get_or month_names (moment.month - 1) []
@@ -50,9 +50,9 @@ has_four_digits (pos year) = nat_le year 9999
 has_four_digits (negsuc year) = false
 
 -- the value of Expires, if it is a time whose year has four digits
-abbrev pub ending_text : Ending → Option (List ℕ)
-ending_text (At moment) = if has_four_digits moment.year then Some (date_text moment) else None
-ending_text Session = None
+abbrev pub expires_text : ExpiresValue → Option (List ℕ)
+expires_text (At moment) = if has_four_digits moment.year then Some (rfc1123_date moment) else None
+expires_text Session = None
 
 -- a Max-Age in whole seconds, the fraction cut off
 abbrev pub age_text : ℤ → List ℕ
@@ -81,4 +81,4 @@ cookie_text cookie =
     ++ optional (codes "; Path=") cookie.path
     ++ optional (codes "; Domain=") cookie.domain
     ++ optional (codes "; Max-Age=") (option_map age_text cookie.max_age)
-    ++ optional (codes "; Expires=") (option_and_then ending_text cookie.expires)
+    ++ optional (codes "; Expires=") (option_and_then expires_text cookie.expires)

@@ -4,13 +4,13 @@ use Rattle.std.specs.List.{list_any, starts_with}
 use Rattle.std.specs.Str.{trim}
 use Rattle.cookie_words.specs.Moments.{Moment, is_within, is_day, is_time}
 use Rattle.cookie_raw.specs.CookieText.{is_for_all_sites}
-use Rattle.cookie_raw.specs.Raw.{Raw, Ending, At, Session}
+use Rattle.cookie_raw.specs.Raw.{Raw, ExpiresValue, At, Session}
 use Rattle.cookie_raw.specs.Reading.{is_equals, is_semicolon}
 
 -- the part is absent or passes the test
-abbrev pub if_there : {T : Type 0} → (T → Bool) → Option T → Bool
-if_there test None = true
-if_there test (Some part) = test part
+abbrev pub if_present : {T : Type 0} → (T → Bool) → Option T → Bool
+if_present test None = true
+if_present test (Some part) = test part
 
 -- has no `;`, and no white space at either end
 unfoldable pub is_plain_text : List ℕ → Bool
@@ -43,15 +43,15 @@ is_plain_moment moment =
     && is_time moment.hour moment.minute moment.second && (moment.nanosecond == 0)
 
 -- an Expires attribute that prints as a time and parses as the same time
-abbrev pub is_plain_ending : Ending → Bool
-is_plain_ending (At moment) = is_plain_moment moment
-is_plain_ending Session = false
+abbrev pub is_plain_expires : ExpiresValue → Bool
+is_plain_expires (At moment) = is_plain_moment moment
+is_plain_expires Session = false
 
 -- all parts are plain, no flag is set to false, and Secure is set if SameSite is `None`
 unfoldable pub is_plain : Raw → Bool
 is_plain cookie =
     is_plain_name cookie.name && is_plain_text cookie.value
-    && if_there is_plain_domain cookie.domain && if_there is_plain_text cookie.path
+    && if_present is_plain_domain cookie.domain && if_present is_plain_text cookie.path
     && unwrap_or cookie.secure true && unwrap_or cookie.http_only true
     && (not (is_for_all_sites cookie.same_site) || unwrap_or cookie.secure false)
-    && if_there is_plain_age cookie.max_age && if_there is_plain_ending cookie.expires
+    && if_present is_plain_age cookie.max_age && if_present is_plain_expires cookie.expires

@@ -4,9 +4,9 @@ use Rattle.cookie_words.specs.Moments.{Moment}
 use Rattle.cookie_raw.specs.declared.same_site.SameSite.{SameSite}
 
 -- the Expires attribute: a time, or the end of the session
-pub data Ending : Type 0 where
-  At : Moment → Ending
-  Session : Ending
+pub data ExpiresValue : Type 0 where
+  At : Moment → ExpiresValue
+  Session : ExpiresValue
 
 -- None if the attribute is absent
 pub record Raw : Type 0 where
@@ -21,7 +21,7 @@ pub record Raw : Type 0 where
   pub same_site : Option SameSite
   -- in nanoseconds
   pub max_age : Option ℤ
-  pub expires : Option Ending
+  pub expires : Option ExpiresValue
 
 -- a cookie with a name and a value, and no attributes
 abbrev pub pair : List ℕ → List ℕ → Raw

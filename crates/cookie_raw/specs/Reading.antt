@@ -6,7 +6,7 @@ use Rattle.std.specs.Str.{trim, str_eq_ignore_ascii_case}
 use Rattle.std.specs.Str.Parse.{digits_value}
 use Rattle.cookie_words.specs.Texts.{pieces, without_dot}
 use Rattle.cookie_raw.specs.CookieDate.{cookie_date}
-use Rattle.cookie_raw.specs.Raw.{Raw, Ending, At}
+use Rattle.cookie_raw.specs.Raw.{Raw, ExpiresValue, At}
 use Rattle.cookie_raw.specs.declared.parse.RawCookieParseError.{RawCookieParseError}
 use Rattle.cookie_raw.specs.declared.parse.RawCookieParseError.TheVariants.{MissingPair, EmptyName}
 use Rattle.cookie_raw.specs.declared.same_site.SameSite.{SameSite}
@@ -50,7 +50,7 @@ abbrev pub is_named : List ℕ → List ℕ → Bool
 is_named name attribute = str_eq_ignore_ascii_case attribute name
 
 -- 5.2.1: Expires, ignored if its value is not a cookie-date
-abbrev pub expires_from : List ℕ → List ℕ → Option Ending
+abbrev pub expires_from : List ℕ → List ℕ → Option ExpiresValue
 expires_from name value = if is_named (codes "Expires") name then option_map At (cookie_date value) else None
 
 -- seconds in nanoseconds
@@ -97,8 +97,8 @@ abbrev pub same_site_from : List ℕ → List ℕ → Option SameSite
 same_site_from name value = if is_named (codes "SameSite") name then site_of value else None
 
 -- the value of an attribute of one kind, if it is of that kind and its value is accepted
-abbrev pub piece_gives : {T : Type 0} → (List ℕ → List ℕ → Option T) → List ℕ → Option T
-piece_gives from piece = from (name_of piece) (value_of piece)
+abbrev pub accepted_value : {T : Type 0} → (List ℕ → List ℕ → Option T) → List ℕ → Option T
+accepted_value from piece = from (name_of piece) (value_of piece)
 
 -- the last element, if there is one
 abbrev pub last : {T : Type 0} → List T → Option T
@@ -107,8 +107,8 @@ last (x ∷ []) = Some x
 last (x ∷ y ∷ ys) = last (y ∷ ys)
 
 -- 5.3: of the attributes of one kind, the last accepted one counts
-abbrev pub last_given : {T : Type 0} → (List ℕ → List ℕ → Option T) → List (List ℕ) → Option T
-last_given from attributes = last (filter_map (piece_gives from) attributes)
+abbrev pub last_accepted : {T : Type 0} → (List ℕ → List ℕ → Option T) → List (List ℕ) → Option T
+last_accepted from attributes = last (filter_map (accepted_value from) attributes)
 
 -- 5.2: the cookie of a header value, or why the header is ignored
 abbrev pub reading : List ℕ → Result Raw RawCookieParseError
@@ -118,11 +118,11 @@ reading text =
     else Ok (record {
       name = name_of (pair_of text);
       value = value_of (pair_of text);
-      domain = option_map without_dot (last_given domain_from (attributes text));
-      path = last_given path_from (attributes text);
-      secure = last_given secure_from (attributes text);
-      http_only = last_given http_only_from (attributes text);
-      same_site = last_given same_site_from (attributes text);
-      max_age = last_given max_age_from (attributes text);
-      expires = last_given expires_from (attributes text);
+      domain = option_map without_dot (last_accepted domain_from (attributes text));
+      path = last_accepted path_from (attributes text);
+      secure = last_accepted secure_from (attributes text);
+      http_only = last_accepted http_only_from (attributes text);
+      same_site = last_accepted same_site_from (attributes text);
+      max_age = last_accepted max_age_from (attributes text);
+      expires = last_accepted expires_from (attributes text);
     }))

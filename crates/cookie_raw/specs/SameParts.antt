@@ -7,7 +7,7 @@ use Rattle.std.specs.Option.{option_eq}
 use Rattle.std.specs.Ordering.{int_eq, on}
 use Rattle.cookie_words.specs.Moments.{nanoseconds}
 use Rattle.cookie_raw.specs.CookieText.{site_text}
-use Rattle.cookie_raw.specs.Raw.{Raw, Ending, At, Session}
+use Rattle.cookie_raw.specs.Raw.{Raw, ExpiresValue, At, Session}
 use Rattle.cookie_raw.specs.declared.same_site.SameSite.{SameSite}
 
 abbrev same_text : List ℕ → List ℕ → Bool
@@ -18,13 +18,13 @@ abbrev pub same_site : SameSite → SameSite → Bool
 same_site = on site_text same_text
 
 -- the time of Expires in nanoseconds, if it is one
-abbrev pub end_on_scale : Ending → Option ℤ
-end_on_scale (At moment) = Some (nanoseconds moment)
-end_on_scale Session = None
+abbrev pub expires_nanoseconds : ExpiresValue → Option ℤ
+expires_nanoseconds (At moment) = Some (nanoseconds moment)
+expires_nanoseconds Session = None
 
 -- both the same time, or both the end of the session
-abbrev pub same_ending : Ending → Ending → Bool
-same_ending = on end_on_scale (option_eq int_eq)
+abbrev pub same_expires : ExpiresValue → ExpiresValue → Bool
+same_expires = on expires_nanoseconds (option_eq int_eq)
 
 -- the same name, value, domain and path
 abbrev pub same_texts : Raw → Raw → Bool
@@ -37,7 +37,7 @@ abbrev pub same_attributes : Raw → Raw → Bool
 same_attributes a b =
     option_eq beq a.secure b.secure && (option_eq beq a.http_only b.http_only
     && (option_eq same_site a.same_site b.same_site
-    && (option_eq int_eq a.max_age b.max_age && option_eq same_ending a.expires b.expires)))
+    && (option_eq int_eq a.max_age b.max_age && option_eq same_expires a.expires b.expires)))
 
 -- the same in all parts
 abbrev pub same_parts : Raw → Raw → Bool
@@ -55,7 +55,7 @@ same_attributes_equiv =
     (and_equiv (on_equiv (λ c. c.http_only) (options_equiv bool_eq_equiv))
     (and_equiv (on_equiv (λ c. c.same_site) (options_equiv (on_texts_equal site_text)))
     (and_equiv (on_equiv (λ c. c.max_age) (options_equiv int_eq_equiv))
-    (on_equiv (λ c. c.expires) (options_equiv (on_equiv end_on_scale (options_equiv int_eq_equiv)))))))
+    (on_equiv (λ c. c.expires) (options_equiv (on_equiv expires_nanoseconds (options_equiv int_eq_equiv)))))))
 
 -- it is an equivalence
 pub same_parts_equiv : IsEquivalence same_parts

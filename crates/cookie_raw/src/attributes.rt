@@ -5,8 +5,8 @@ ghost use Rattle.std.specs.List.{list_all};
 ghost use Rattle.std.specs.Str.Parse.{digits_value};
 ghost use Rattle.std.specs.Option.{option_copied, option_or};
 ghost use Rattle.jiff.specs.Words.{signed_nanos};
-ghost use Rattle.cookie_raw.specs.Reading.{age_of, attributes_after, domain_from, expires_from, http_only_from, is_named, last_given, max_age_from, name_of, path_from, piece_gives, same_site_from, secure_from, site_of, value_of};
-ghost use Rattle.cookie_raw.specs.Views.{ending};
+ghost use Rattle.cookie_raw.specs.Reading.{age_of, attributes_after, domain_from, expires_from, http_only_from, is_named, last_accepted, max_age_from, name_of, path_from, accepted_value, same_site_from, secure_from, site_of, value_of};
+ghost use Rattle.cookie_raw.specs.Views.{expires_value};
 
 use crate::raw_cookie::name_and_value;
 use crate::{Expiration, SameSite, read_date};
@@ -147,7 +147,7 @@ fn read_max_age(name: &str, value: &str) -> Option<SignedDuration>
 
 // Returns the value of an Expires attribute, if it is a cookie-date.
 fn read_expires(name: &str, value: &str) -> Option<Expiration>
-    ensures { option_map ending result ≡ expires_from name.now value.now }
+    ensures { option_map expires_value result ≡ expires_from name.now value.now }
 {
     if name.eq_ignore_ascii_case("Expires") {
         read_date(value).map(Expiration::DateTime)
@@ -161,13 +161,13 @@ impl<'a> Attributes<'a> {
     ///
     /// If attributes of one name are repeated, the last one with an accepted value counts.
     pub(crate) fn of(rest: Option<&'a str>) -> Attributes<'a>
-        ensures domain { option_copied result.domain ≡ last_given domain_from (attributes_after (option_copied rest.entry)) }
-        ensures path { option_copied result.path ≡ last_given path_from (attributes_after (option_copied rest.entry)) }
-        ensures secure { result.secure ≡ last_given secure_from (attributes_after (option_copied rest.entry)) }
-        ensures http_only { result.http_only ≡ last_given http_only_from (attributes_after (option_copied rest.entry)) }
-        ensures same_site { result.same_site ≡ last_given same_site_from (attributes_after (option_copied rest.entry)) }
-        ensures max_age { option_map signed_nanos result.max_age ≡ last_given max_age_from (attributes_after (option_copied rest.entry)) }
-        ensures expires { option_map ending result.expires ≡ last_given expires_from (attributes_after (option_copied rest.entry)) }
+        ensures domain { option_copied result.domain ≡ last_accepted domain_from (attributes_after (option_copied rest.entry)) }
+        ensures path { option_copied result.path ≡ last_accepted path_from (attributes_after (option_copied rest.entry)) }
+        ensures secure { result.secure ≡ last_accepted secure_from (attributes_after (option_copied rest.entry)) }
+        ensures http_only { result.http_only ≡ last_accepted http_only_from (attributes_after (option_copied rest.entry)) }
+        ensures same_site { result.same_site ≡ last_accepted same_site_from (attributes_after (option_copied rest.entry)) }
+        ensures max_age { option_map signed_nanos result.max_age ≡ last_accepted max_age_from (attributes_after (option_copied rest.entry)) }
+        ensures expires { option_map expires_value result.expires ≡ last_accepted expires_from (attributes_after (option_copied rest.entry)) }
     {
         let mut found = Attributes::default();
         let Some(text) = rest else {
@@ -182,16 +182,16 @@ impl<'a> Attributes<'a> {
     // Adds one attribute, if it is known and its value accepted.
     fn take(&mut self, piece: &'a str)
         ensures domain { option_copied self.new.domain
-            ≡ option_or (piece_gives domain_from piece.now) (option_copied self.old.domain) }
+            ≡ option_or (accepted_value domain_from piece.now) (option_copied self.old.domain) }
         ensures path { option_copied self.new.path
-            ≡ option_or (piece_gives path_from piece.now) (option_copied self.old.path) }
-        ensures secure { self.new.secure ≡ option_or (piece_gives secure_from piece.now) self.old.secure }
-        ensures http_only { self.new.http_only ≡ option_or (piece_gives http_only_from piece.now) self.old.http_only }
-        ensures same_site { self.new.same_site ≡ option_or (piece_gives same_site_from piece.now) self.old.same_site }
+            ≡ option_or (accepted_value path_from piece.now) (option_copied self.old.path) }
+        ensures secure { self.new.secure ≡ option_or (accepted_value secure_from piece.now) self.old.secure }
+        ensures http_only { self.new.http_only ≡ option_or (accepted_value http_only_from piece.now) self.old.http_only }
+        ensures same_site { self.new.same_site ≡ option_or (accepted_value same_site_from piece.now) self.old.same_site }
         ensures max_age { option_map signed_nanos self.new.max_age
-            ≡ option_or (piece_gives max_age_from piece.now) (option_map signed_nanos self.old.max_age) }
-        ensures expires { option_map ending self.new.expires
-            ≡ option_or (piece_gives expires_from piece.now) (option_map ending self.old.expires) }
+            ≡ option_or (accepted_value max_age_from piece.now) (option_map signed_nanos self.old.max_age) }
+        ensures expires { option_map expires_value self.new.expires
+            ≡ option_or (accepted_value expires_from piece.now) (option_map expires_value self.old.expires) }
     {
         let (name, value) = attribute_name_and_value(piece);
         self.domain = read_domain(name, value).or(self.domain);

@@ -3,7 +3,7 @@ ghost use Rattle.std.specs.Prelude.{◌≡◌, Some, string_bytes};
 ghost use Rattle.cookie_words.specs.Texts.{without_dot};
 ghost use Rattle.jiff.specs.Words.{signed_nanos};
 ghost use Rattle.cookie_raw.specs.Raw.{pair};
-ghost use Rattle.cookie_raw.specs.Views.{ending};
+ghost use Rattle.cookie_raw.specs.Views.{expires_value};
 
 use crate::max_age::MaxAge;
 use crate::{Expiration, RawCookie, SameSite};
@@ -69,7 +69,7 @@ impl RawCookieBuilder {
 
     /// Sets the Expires attribute.
     pub fn expires(self, expires: Expiration) -> RawCookieBuilder
-        ensures { result ≡ record self { expires = Some (ending expires) } }
+        ensures { result ≡ record self { expires = Some (expires_value expires) } }
     {
         let cookie = RawCookie {
             expires: Some(expires),

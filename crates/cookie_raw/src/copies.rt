@@ -1,8 +1,8 @@
 //! Cloning and comparing raw cookies.
 ghost use Rattle.std.specs.Prelude.{◌≡◌, option_map};
 ghost use Rattle.std.specs.Option.{option_eq};
-ghost use Rattle.cookie_raw.specs.SameParts.{same_attributes, same_ending, same_texts};
-ghost use Rattle.cookie_raw.specs.Views.{ending};
+ghost use Rattle.cookie_raw.specs.SameParts.{same_attributes, same_expires, same_texts};
+ghost use Rattle.cookie_raw.specs.Views.{expires_value};
 
 use crate::{Expiration, RawCookie};
 use std::alloc::AllocError;
@@ -63,11 +63,11 @@ fn has_same_attributes(cookie: &RawCookie<'_>, other: &RawCookie<'_>) -> bool
         && cookie.http_only == other.http_only
         && cookie.same_site == other.same_site
         && cookie.max_age() == other.max_age()
-        && has_same_end(cookie.expires, other.expires)
+        && has_same_expires(cookie.expires, other.expires)
 }
 
-fn has_same_end(expires: Option<Expiration>, other: Option<Expiration>) -> bool
-    ensures { result ≡ option_eq same_ending (option_map ending expires) (option_map ending other) }
+fn has_same_expires(expires: Option<Expiration>, other: Option<Expiration>) -> bool
+    ensures { result ≡ option_eq same_expires (option_map expires_value expires) (option_map expires_value other) }
 {
     expires == other
 }

@@ -124,9 +124,9 @@ struct TimeOfDay {
 
 impl Model for TimeOfDay {
     ghost use Rattle.std.specs.Prelude.{◌<◌};
-    ghost use Rattle.cookie_raw.specs.CookieDate.{Clock};
+    ghost use Rattle.cookie_raw.specs.CookieDate.{TimeParts};
 
-    ghost Value = { Clock };
+    ghost Value = { TimeParts };
 
     ghost view = { λ time. record { hour = time.hour; minute = time.minute; second = time.second } };
 

@@ -4,8 +4,8 @@ ghost use Rattle.std.specs.List.{list_any};
 ghost use Rattle.std.specs.Option.{option_copied};
 ghost use Rattle.jiff.specs.Words.{signed_nanos};
 ghost use Rattle.cookie_words.specs.Moments.{moment_of};
-ghost use Rattle.cookie_raw.specs.PlainCookie.{if_there, is_plain, is_plain_age, is_plain_domain, is_plain_ending, is_plain_moment, is_plain_name, is_plain_text};
-ghost use Rattle.cookie_raw.specs.Views.{ending};
+ghost use Rattle.cookie_raw.specs.PlainCookie.{if_present, is_plain, is_plain_age, is_plain_domain, is_plain_expires, is_plain_moment, is_plain_name, is_plain_text};
+ghost use Rattle.cookie_raw.specs.Views.{expires_value};
 
 use crate::printing::is_for_all_sites;
 use crate::{Expiration, RawCookie};
@@ -53,8 +53,8 @@ fn is_plain_moment(date: DateTime) -> bool
     date.year() >= 1601 && date.subsec_nanosecond() == 0
 }
 
-fn is_plain_ending(expires: Expiration) -> bool
-    ensures { result ≡ is_plain_ending (ending expires) }
+fn is_plain_expires(expires: Expiration) -> bool
+    ensures { result ≡ is_plain_expires (expires_value expires) }
 {
     match expires {
         Expiration::DateTime(date) => is_plain_moment(date),
@@ -63,27 +63,27 @@ fn is_plain_ending(expires: Expiration) -> bool
 }
 
 fn has_plain_domain(domain: Option<&str>) -> bool
-    ensures { result ≡ if_there is_plain_domain (option_copied domain.entry) }
+    ensures { result ≡ if_present is_plain_domain (option_copied domain.entry) }
 {
     domain.is_none_or(is_plain_domain)
 }
 
 fn has_plain_path(path: Option<&str>) -> bool
-    ensures { result ≡ if_there is_plain_text (option_copied path.entry) }
+    ensures { result ≡ if_present is_plain_text (option_copied path.entry) }
 {
     path.is_none_or(is_plain_text)
 }
 
 fn has_plain_age(age: Option<SignedDuration>) -> bool
-    ensures { result ≡ if_there is_plain_age (option_map signed_nanos age) }
+    ensures { result ≡ if_present is_plain_age (option_map signed_nanos age) }
 {
     age.is_none_or(is_plain_age)
 }
 
-fn has_plain_ending(expires: Option<Expiration>) -> bool
-    ensures { result ≡ if_there is_plain_ending (option_map ending expires) }
+fn has_plain_expires(expires: Option<Expiration>) -> bool
+    ensures { result ≡ if_present is_plain_expires (option_map expires_value expires) }
 {
-    expires.is_none_or(is_plain_ending)
+    expires.is_none_or(is_plain_expires)
 }
 
 impl<'a> RawCookie<'a> {
@@ -109,6 +109,6 @@ impl<'a> RawCookie<'a> {
             && self.http_only().unwrap_or(true)
             && (!is_for_all_sites(self.same_site()) || self.secure().unwrap_or(false))
             && has_plain_age(self.max_age())
-            && has_plain_ending(self.expires())
+            && has_plain_expires(self.expires())
     }
 }

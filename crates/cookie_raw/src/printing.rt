@@ -5,9 +5,9 @@ ghost use Rattle.std.specs.Option.{option_copied};
 ghost use Rattle.jiff.specs.Words.{signed_nanos, monday_zero, weekday_of, IsBetween};
 ghost use Rattle.cookie_words.specs.Moments.{moment_of};
 ghost use Rattle.cookie_raw.specs.CookieDate.{month_names};
-ghost use Rattle.cookie_raw.specs.CookieText.{age_text, cookie_text, date_text, day_names, ending_text, flag, four_digits, is_for_all_sites, optional, site_text, two_digits, WritesNothing};
+ghost use Rattle.cookie_raw.specs.CookieText.{age_text, cookie_text, rfc1123_date, day_names, expires_text, flag, four_digits, is_for_all_sites, optional, site_text, two_digits, WritesNothing};
 ghost use Rattle.cookie_raw.specs.Raw.{At};
-ghost use Rattle.cookie_raw.specs.Views.{ending};
+ghost use Rattle.cookie_raw.specs.Views.{expires_value};
 
 use crate::{Expiration, RawCookie, SameSite};
 use itoa::Buffer;
@@ -130,8 +130,8 @@ fn write_clock<W: fmt::Write>(f: &mut fmt::Formatter<W>, date: DateTime) -> fmt:
 // Writes the date and time, as `Tue, 03 Aug 2100 00:38:37 GMT`.
 fn write_date<W: fmt::Write>(f: &mut fmt::Formatter<W>, date: DateTime) -> fmt::Result
     requires { pos 0 ≤ℤ date.date.year }
-    ensures writes { WritesOnOk W.write_str_gives f.old result (date_text (moment_of date)) f.new }
-    ensures styled { WritesStyledOnOk W.write_str_gives f.old result (date_text (moment_of date)) f.new }
+    ensures writes { WritesOnOk W.write_str_gives f.old result (rfc1123_date (moment_of date)) f.new }
+    ensures styled { WritesStyledOnOk W.write_str_gives f.old result (rfc1123_date (moment_of date)) f.new }
 {
     write_day(f, date)?;
     f.write_str(" ")?;
@@ -208,10 +208,10 @@ fn write_age<W: fmt::Write>(f: &mut fmt::Formatter<W>, age: Option<SignedDuratio
 #[tactic(auto, using(crate::proofs::StyledWrites::styled_two))]
 fn write_moment<W: fmt::Write>(f: &mut fmt::Formatter<W>, date: DateTime) -> fmt::Result
     ensures writes { WritesOnOk W.write_str_gives f.old result
-        (optional (codes "; Expires=") (ending_text (At (moment_of date)))) f.new }
+        (optional (codes "; Expires=") (expires_text (At (moment_of date)))) f.new }
     ensures styled { WritesStyledOnOk W.write_str_gives f.old result
-        (optional (codes "; Expires=") (ending_text (At (moment_of date)))) f.new }
-    ensures idle { ending_text (At (moment_of date)) ≡ None → WritesNothing f.old result f.new }
+        (optional (codes "; Expires=") (expires_text (At (moment_of date)))) f.new }
+    ensures idle { expires_text (At (moment_of date)) ≡ None → WritesNothing f.old result f.new }
 {
     if date.year() < 0 {
         return Ok(());
@@ -220,12 +220,12 @@ fn write_moment<W: fmt::Write>(f: &mut fmt::Formatter<W>, date: DateTime) -> fmt
     write_date(f, date)
 }
 
-fn write_ending<W: fmt::Write>(f: &mut fmt::Formatter<W>, expires: Expiration) -> fmt::Result
+fn write_expiration<W: fmt::Write>(f: &mut fmt::Formatter<W>, expires: Expiration) -> fmt::Result
     ensures writes { WritesOnOk W.write_str_gives f.old result
-        (optional (codes "; Expires=") (ending_text (ending expires))) f.new }
+        (optional (codes "; Expires=") (expires_text (expires_value expires))) f.new }
     ensures styled { WritesStyledOnOk W.write_str_gives f.old result
-        (optional (codes "; Expires=") (ending_text (ending expires))) f.new }
-    ensures idle { ending_text (ending expires) ≡ None → WritesNothing f.old result f.new }
+        (optional (codes "; Expires=") (expires_text (expires_value expires))) f.new }
+    ensures idle { expires_text (expires_value expires) ≡ None → WritesNothing f.old result f.new }
 {
     match expires {
         Expiration::DateTime(date) => write_moment(f, date),
@@ -238,13 +238,13 @@ fn write_expires<W: fmt::Write>(
     expires: Option<Expiration>,
 ) -> fmt::Result
     ensures writes { WritesOnOk W.write_str_gives f.old result
-        (optional (codes "; Expires=") (option_and_then ending_text (option_map ending expires))) f.new }
+        (optional (codes "; Expires=") (option_and_then expires_text (option_map expires_value expires))) f.new }
     ensures styled { WritesStyledOnOk W.write_str_gives f.old result
-        (optional (codes "; Expires=") (option_and_then ending_text (option_map ending expires))) f.new }
-    ensures idle { option_and_then ending_text (option_map ending expires) ≡ None → WritesNothing f.old result f.new }
+        (optional (codes "; Expires=") (option_and_then expires_text (option_map expires_value expires))) f.new }
+    ensures idle { option_and_then expires_text (option_map expires_value expires) ≡ None → WritesNothing f.old result f.new }
 {
     match expires {
-        Some(expires) => write_ending(f, expires),
+        Some(expires) => write_expiration(f, expires),
         None => Ok(()),
     }
 }

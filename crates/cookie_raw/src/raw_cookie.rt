@@ -5,7 +5,7 @@ ghost use Rattle.std.specs.Option.{option_copied};
 ghost use Rattle.jiff.specs.Words.{signed_nanos};
 ghost use Rattle.cookie_raw.specs.Reading.{reading, pair_of, attributes, attributes_after, has_equals, name_of, value_of};
 ghost use Rattle.cookie_raw.specs.Slices.{HasSlices};
-ghost use Rattle.cookie_raw.specs.Views.{ending};
+ghost use Rattle.cookie_raw.specs.Views.{expires_value};
 
 use crate::attributes::Attributes;
 use crate::max_age::MaxAge;
@@ -39,7 +39,7 @@ impl<'a> Model for RawCookie<'a> {
     ghost use Rattle.std.specs.Cow.{cow_str_bytes};
     ghost use Rattle.cookie_words.specs.Texts.{without_dot};
     ghost use Rattle.cookie_raw.specs.Raw.{Raw};
-    ghost use Rattle.cookie_raw.specs.Views.{ending, max_age_nanos};
+    ghost use Rattle.cookie_raw.specs.Views.{expires_value, max_age_nanos};
 
     ghost Value = { Raw };
 
@@ -52,7 +52,7 @@ impl<'a> Model for RawCookie<'a> {
       http_only = c.http_only;
       same_site = c.same_site;
       max_age = max_age_nanos c.max_age;
-      expires = option_map ending c.expires;
+      expires = option_map expires_value c.expires;
     } };
 }
 
@@ -79,7 +79,7 @@ pub(crate) fn name_and_value(pair: &str) -> Option<(&str, &str)>
 }
 
 // Wraps an optional borrowed part.
-fn lent<'a>(part: Option<&'a str>) -> Option<CowStr<'a>>
+fn borrowed_part<'a>(part: Option<&'a str>) -> Option<CowStr<'a>>
     ensures { option_map cow_str_bytes result ≡ option_copied part.entry }
 {
     match part {
@@ -96,7 +96,7 @@ fn owned(alloc: Global, part: CowStr<'_>) -> Result<CowStr<'static>, AllocError>
 }
 
 // Makes an optional part owned.
-fn owned_part(
+fn opt_into_owned(
     alloc: Global,
     part: Option<CowStr<'_>>,
 ) -> Result<Option<CowStr<'static>>, AllocError>
@@ -135,8 +135,8 @@ impl<'a> RawCookie<'a> {
         Ok(RawCookie {
             name: CowStr::Borrowed(name),
             value: CowStr::Borrowed(value),
-            domain: lent(attributes.domain),
-            path: lent(attributes.path),
+            domain: borrowed_part(attributes.domain),
+            path: borrowed_part(attributes.path),
             secure: attributes.secure,
             http_only: attributes.http_only,
             same_site: attributes.same_site,
@@ -219,7 +219,7 @@ impl<'a> RawCookie<'a> {
 
     /// Returns the Expires attribute.
     pub fn expires(&self) -> Option<Expiration>
-        ensures { option_map ending result ≡ self.now.expires }
+        ensures { option_map expires_value result ≡ self.now.expires }
     {
         self.expires
     }
@@ -231,8 +231,8 @@ impl<'a> RawCookie<'a> {
         Ok(RawCookie {
             name: owned(alloc, self.name)?,
             value: owned(alloc, self.value)?,
-            domain: owned_part(alloc, self.domain)?,
-            path: owned_part(alloc, self.path)?,
+            domain: opt_into_owned(alloc, self.domain)?,
+            path: opt_into_owned(alloc, self.path)?,
             secure: self.secure,
             http_only: self.http_only,
             same_site: self.same_site,

@@ -10,7 +10,7 @@ use Rattle.std.proofs.lemmas.Option.{option_and_then_some, same_Some, cond_some}
 use Rattle.std.proofs.lemmas.List.{append_assoc, take-append-drop, get_or_append_left}
 use Rattle.std.proofs.lemmas.List.Sums.{passes_at_first, position_or_len_is, AllPass-from_list_all}
 use Rattle.std.proofs.Math.Seq.{drop-cons, take-append_seam, drop-append-add, get_or-append_seam}
-use Rattle.cookie_ron.specs.Grammar.{escaped_by, Numbers, StandsFor}
+use Rattle.cookie_ron.specs.Grammar.{escaped_by, HasHexValue, StandsFor}
 use Rattle.cookie_ron.specs.Reading.{hex_value, byte_at, code_of, brace_in, in_braces, code_at, escape_at, char_at}
 use Rattle.cookie_ron.proofs.Fronts.{Front, Takes}
 
@@ -27,25 +27,25 @@ is_same c d h = (Decides-eqb c d).0 h
 
 -- ---- hexadecimal digits
 
-hex_sound : (digits : List ℕ) (value : ℕ) → hex_value digits ≡ Some value → Numbers value digits
+hex_sound : (digits : List ℕ) (value : ℕ) → hex_value digits ≡ Some value → HasHexValue value digits
 hex_sound digits value e =
     let h = if_some (list_all is_ascii_hexdigit digits) (Some (digits_value 16 digits)) value e in
     (h.0, same_Some (digits_value 16 digits) value h.1)
 
-hex_complete : (digits : List ℕ) (value : ℕ) → Numbers value digits → hex_value digits ≡ Some value
+hex_complete : (digits : List ℕ) (value : ℕ) → HasHexValue value digits → hex_value digits ≡ Some value
 hex_complete digits value (all, is) = rw all (ap Some is)
 
 -- ---- two hexadecimal digits
 
 byte_sound : (s rest : List ℕ) (c : ℕ) → byte_at s ≡ Some (c, rest)
-    → (digits : List ℕ) × (s ≡ digits ++ rest) × (length digits ≡ 2) × Numbers c digits
+    → (digits : List ℕ) × (s ≡ digits ++ rest) × (length digits ≡ 2) × HasHexValue c digits
 byte_sound [] rest c e = cc
 byte_sound (a ∷ []) rest c e = cc
 byte_sound (a ∷ b ∷ s) rest c e =
     let h = map_some (λ value. (value, s)) (hex_value (a ∷ b ∷ [])) (c, rest) e in
-    (a ∷ b ∷ [], ap (λ p. a ∷ b ∷ p.1) h.2, refl, subst (λ v. Numbers v (a ∷ b ∷ [])) (ap (λ p. p.0) h.2) (hex_sound (a ∷ b ∷ []) h.0 h.1))
+    (a ∷ b ∷ [], ap (λ p. a ∷ b ∷ p.1) h.2, refl, subst (λ v. HasHexValue v (a ∷ b ∷ [])) (ap (λ p. p.0) h.2) (hex_sound (a ∷ b ∷ []) h.0 h.1))
 
-byte_complete : (digits rest : List ℕ) (c : ℕ) → length digits ≡ 2 → Numbers c digits → byte_at (digits ++ rest) ≡ Some (c, rest)
+byte_complete : (digits rest : List ℕ) (c : ℕ) → length digits ≡ 2 → HasHexValue c digits → byte_at (digits ++ rest) ≡ Some (c, rest)
 byte_complete [] rest c two is = cc
 byte_complete (a ∷ []) rest c two is = absurd (omega (arith, two))
 byte_complete (a ∷ b ∷ []) rest c two is = ap (option_map (λ value. (value, rest))) (hex_complete (a ∷ b ∷ []) c is)
@@ -92,7 +92,7 @@ brace_complete digits rest all =
 -- ---- one to six hexadecimal digits in braces
 
 code_of_sound : (digits : List ℕ) (c : ℕ) → code_of digits ≡ Some c
-    → (1 ≤ length digits) × (length digits ≤ 6) × Numbers c digits × IsScalar c
+    → (1 ≤ length digits) × (length digits ≤ 6) × HasHexValue c digits × IsScalar c
 code_of_sound digits c e =
     let few = if_some (nat_le 1 (length digits) && nat_le (length digits) 6) _ c e in
     let from : 1 ≤ length digits = grind (arith, nat_tests, few.0) in
@@ -100,16 +100,16 @@ code_of_sound digits c e =
     option_and_then_some _ (hex_value digits) c few.1 (λ value is e1.
     let one = if_some (scalar value) (Some value) c e1 in
     let same = same_Some value c one.1 in
-    (from, to, subst (λ v. Numbers v digits) same (hex_sound digits value is), subst (λ v. scalar v ≡ true) same one.0))
+    (from, to, subst (λ v. HasHexValue v digits) same (hex_sound digits value is), subst (λ v. scalar v ≡ true) same one.0))
 
-code_of_complete : (digits : List ℕ) (c : ℕ) → 1 ≤ length digits → length digits ≤ 6 → Numbers c digits → IsScalar c → code_of digits ≡ Some c
+code_of_complete : (digits : List ℕ) (c : ℕ) → 1 ≤ length digits → length digits ≤ 6 → HasHexValue c digits → IsScalar c → code_of digits ≡ Some c
 code_of_complete digits c from to is scalar_c =
     let low : nat_le 1 (length digits) ≡ true = grind (arith, nat_tests) in
     let high : nat_le (length digits) 6 ≡ true = grind (arith, nat_tests) in
     rw (low, high, hex_complete digits c is, scalar_c) refl
 
 code_sound : (s rest : List ℕ) (c : ℕ) → code_at s ≡ Some (c, rest)
-    → (digits : List ℕ) × (s ≡ 123 ∷ (digits ++ 125 ∷ rest)) × (1 ≤ length digits) × (length digits ≤ 6) × Numbers c digits × IsScalar c
+    → (digits : List ℕ) × (s ≡ 123 ∷ (digits ++ 125 ∷ rest)) × (1 ≤ length digits) × (length digits ≤ 6) × HasHexValue c digits × IsScalar c
 unfolding in_braces
 code_sound [] rest c e = cc
 code_sound (h ∷ s) rest c e =
@@ -129,7 +129,7 @@ code_sound (h ∷ s) rest c e =
       told.3,
     ))
 
-code_complete : (digits rest : List ℕ) (c : ℕ) → 1 ≤ length digits → length digits ≤ 6 → Numbers c digits → IsScalar c
+code_complete : (digits rest : List ℕ) (c : ℕ) → 1 ≤ length digits → length digits ≤ 6 → HasHexValue c digits → IsScalar c
     → code_at (123 ∷ (digits ++ 125 ∷ rest)) ≡ Some (c, rest)
 unfolding in_braces
 code_complete digits rest c from to is scalar_c =

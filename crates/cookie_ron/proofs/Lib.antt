@@ -15,4 +15,4 @@ mod PrintedLists
 mod Says
 pub mod SignFronts
 pub mod TextFronts
-pub mod Told
+pub mod RonResults

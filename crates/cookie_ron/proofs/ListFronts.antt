@@ -3,8 +3,8 @@ use Rattle.std.proofs.Common.{◌≡◌, ℕ, zero, suc, ◌<◌, ◌≤◌, Lis
 use Rattle.std.proofs.lemmas.Option.{option_and_then_some, same_Some}
 use Rattle.std.proofs.lemmas.List.{append_assoc, append-nil}
 use Rattle.cookie_forms.specs.Saved.{Parts}
-use Rattle.cookie_ron.specs.Grammar.{Sign, Close, Cookie, Cookies, IsList}
-use Rattle.cookie_ron.specs.Reading.{drop_blanks, sign_at, either, onto, behind_cookie, cookie_at, cookies_at, if_empty, list_at}
+use Rattle.cookie_ron.specs.Grammar.{Token, Close, Cookie, Cookies, IsList}
+use Rattle.cookie_ron.specs.Reading.{drop_blanks, token_at, either, onto, behind_cookie, cookie_at, cookies_at, if_empty, list_at}
 use Rattle.cookie_ron.proofs.Onto.{onto_both}
 use Rattle.cookie_ron.proofs.Fronts.{Front, joined, front_of, front_shorter, front_no_longer}
 use Rattle.cookie_ron.proofs.SignFronts.{blanks_front, blanks_over, sign_front, sign_takes, sign_misses}
@@ -12,17 +12,17 @@ use Rattle.cookie_ron.proofs.CharFronts.{map_some}
 use Rattle.cookie_ron.proofs.FieldFronts.{either_cases, cookie_front, cookie_takes, cookie_misses}
 
 -- a token is not empty
-sign_fits : (c : ℕ) (s : List ℕ) → Sign (c ∷ []) s → 0 < length s
+sign_fits : (c : ℕ) (s : List ℕ) → Token (c ∷ []) s → 0 < length s
 sign_fits c s (x, y, e, blanks, is) = omega (arith, ap length e, length-append x y, ap length is)
 
-sign_shorter : (c : ℕ) (s rest : List ℕ) → sign_at (c ∷ []) s ≡ Some rest → length rest < length s
+sign_shorter : (c : ℕ) (s rest : List ℕ) → token_at (c ∷ []) s ≡ Some rest → length rest < length s
 sign_shorter c s rest e = let f = sign_front {s = s} {rest = rest} (c ∷ []) e in front_shorter f (sign_fits c f.front f.holds)
 
 cookie_no_longer : (s rest : List ℕ) (p : Parts (List ℕ)) → cookie_at s ≡ Some (p, rest) → length rest ≤ length s
 cookie_no_longer s rest p e = front_no_longer (cookie_front {s = s} {rest = rest} {p = p} e)
 
 -- the rest after a cookie and a comma is shorter
-pub turn_shorter : (s r t : List ℕ) (p : Parts (List ℕ)) → cookie_at s ≡ Some (p, r) → sign_at (codes ",") r ≡ Some t → length t < length s
+pub turn_shorter : (s r t : List ℕ) (p : Parts (List ℕ)) → cookie_at s ≡ Some (p, r) → token_at (codes ",") r ≡ Some t → length t < length s
 turn_shorter s r t p cookie_is comma_is = omega (arith, sign_shorter 44 r t comma_is, cookie_no_longer s r p cookie_is)
 
 -- ---- the bound on the characters left is large enough
@@ -41,25 +41,25 @@ same_cookies : (f g : List ℕ → Read) (s : List ℕ) (o : Option (Parts (List
 same_cookies f g s None e same = refl
 same_cookies f g s (Some (p, r)) e same =
     ap (onto (p ∷ []))
-    (same_either f g (sign_at (codes ",") r) _ (λ t comma_is. same t (turn_shorter s r t p e comma_is)))
+    (same_either f g (token_at (codes ",") r) _ (λ t comma_is. same t (turn_shorter s r t p e comma_is)))
 
 cookies_fuel : (n m : ℕ) (s : List ℕ) → length s < n → length s < m → cookies_at n s ≡ cookies_at m s
 cookies_fuel zero m s below above = absurd (omega (arith, below))
 cookies_fuel (suc n) zero s below above = absurd (omega (arith, above))
 cookies_fuel (suc n) (suc m) s below above =
-    ap (either (sign_at (codes "]") s) (λ rest. Some ([], rest)))
+    ap (either (token_at (codes "]") s) (λ rest. Some ([], rest)))
     (same_cookies (λ t. cookies_at n t) (λ t. cookies_at m t) s (cookie_at s) refl
     (λ t shorter. cookies_fuel n m t (omega (arith, shorter, below)) (omega (arith, shorter, above))))
 
 -- what is read from a cookie, a comma and what follows
-one_more : (s r t : List ℕ) (p : Parts (List ℕ)) (more : List ℕ → Read) → sign_at (codes "]") s ≡ None → cookie_at s ≡ Some (p, r) → sign_at (codes ",") r ≡ Some t
-    → either (sign_at (codes "]") s) (λ rest. Some ([], rest)) (option_and_then (λ first. onto (first.0 ∷ []) (behind_cookie more first.1)) (cookie_at s))
+one_more : (s r t : List ℕ) (p : Parts (List ℕ)) (more : List ℕ → Read) → token_at (codes "]") s ≡ None → cookie_at s ≡ Some (p, r) → token_at (codes ",") r ≡ Some t
+    → either (token_at (codes "]") s) (λ rest. Some ([], rest)) (option_and_then (λ first. onto (first.0 ∷ []) (behind_cookie more first.1)) (cookie_at s))
     ≡ onto (p ∷ []) (more t)
 one_more s r t p more no_bracket cookie_is comma_is = rw (no_bracket, cookie_is, comma_is) refl
 
 -- one more cookie has been read
 pub cookies_turn : (front entries : List (Parts (List ℕ))) (s r t : List ℕ) (p : Parts (List ℕ))
-    → sign_at (codes "]") s ≡ None → cookie_at s ≡ Some (p, r) → sign_at (codes ",") r ≡ Some t → entries ≡ front ++ p ∷ []
+    → token_at (codes "]") s ≡ None → cookie_at s ≡ Some (p, r) → token_at (codes ",") r ≡ Some t → entries ≡ front ++ p ∷ []
     → onto front (cookies_at (suc (length s)) s) ≡ onto entries (cookies_at (suc (length t)) t)
 cookies_turn front entries s r t p no_bracket cookie_is comma_is is =
     ap (onto front) (one_more s r t p (λ rest. cookies_at (length s) rest) no_bracket cookie_is comma_is)
@@ -82,7 +82,7 @@ some_cookie front None (Some p) more rest none e = with_one front p.0 (more p) r
 
 -- ---- cookies
 
-more_front : {s r t rest : List ℕ} (p : Parts (List ℕ)) (ps : List (Parts (List ℕ))) → Front (Cookie p) s r → Front (Sign (codes ",")) r t → Front (Cookies ps) t rest
+more_front : {s r t rest : List ℕ} (p : Parts (List ℕ)) (ps : List (Parts (List ℕ))) → Front (Cookie p) s r → Front (Token (codes ",")) r t → Front (Cookies ps) t rest
     → Front (Cookies (p ∷ ps)) s rest
 more_front p [] first comma more =
     let closing : Front (Close (codes "]")) _ _ = front_of (λ x h. inr h) (joined comma more) in joined first closing
@@ -91,20 +91,20 @@ more_front p (q ∷ ps) first comma more = joined first (joined comma more)
 cookies_front : (n : ℕ) (s rest : List ℕ) (ps : List (Parts (List ℕ))) → cookies_at n s ≡ Some (ps, rest) → Front (Cookies ps) s rest
 cookies_front zero s rest ps e = cc
 cookies_front (suc n) s rest ps e =
-    either_cases (sign_at (codes "]") s) _ _ (ps, rest) e
+    either_cases (token_at (codes "]") s) _ _ (ps, rest) e
     (λ t is e1. subst (λ q. Front (Cookies q.0) s q.1) (same_Some ([], t) (ps, rest) e1) (sign_front (codes "]") is)) (λ e1.
     option_and_then_some _ (cookie_at s) (ps, rest) e1 (λ first cookie_is e2.
     let h = map_some (λ read. (first.0 ∷ read.0, read.1)) (behind_cookie (λ t. cookies_at n t) first.1) (ps, rest) e2 in
     subst (λ q. Front (Cookies q.0) s q.1) h.2
-    (either_cases (sign_at (codes ",") first.1) _ _ h.0 h.1
+    (either_cases (token_at (codes ",") first.1) _ _ h.0 h.1
     (λ t comma_is e3. more_front first.0 h.0.0 (cookie_front cookie_is) (sign_front (codes ",") comma_is) (cookies_front n t h.0.1 h.0.0 e3))
     (λ e3.
-    let end = map_some (λ t. ([], t)) (sign_at (codes "]") first.1) h.0 e3 in
+    let end = map_some (λ t. ([], t)) (token_at (codes "]") first.1) h.0 e3 in
     subst (λ q. Front (Cookies (first.0 ∷ q.0)) s q.1) end.2
     (joined (cookie_front cookie_is) (front_of (λ x h. inl h) (sign_front (codes "]") end.1)))))))
 
 -- a cookie and the closing bracket, without a comma
-alone_over : (p : Parts (List ℕ)) (n : ℕ) (x y rest : List ℕ) → Cookie p x → Sign (codes "]") y
+alone_over : (p : Parts (List ℕ)) (n : ℕ) (x y rest : List ℕ) → Cookie p x → Token (codes "]") y
     → cookies_at (suc n) (x ++ (y ++ rest)) ≡ Some (p ∷ [], rest)
 alone_over p n x y rest cookie bracket =
     rw (
@@ -115,7 +115,7 @@ alone_over p n x y rest cookie bracket =
     ) refl
 
 -- a cookie, a comma and what follows
-comma_over : (p : Parts (List ℕ)) (ps : List (Parts (List ℕ))) (n : ℕ) (x y behind rest : List ℕ) → Cookie p x → Sign (codes ",") y
+comma_over : (p : Parts (List ℕ)) (ps : List (Parts (List ℕ))) (n : ℕ) (x y behind rest : List ℕ) → Cookie p x → Token (codes ",") y
     → cookies_at n behind ≡ Some (ps, rest) → cookies_at (suc n) (x ++ (y ++ behind)) ≡ Some (p ∷ ps, rest)
 comma_over p ps n x y behind rest cookie comma more =
     one_more (x ++ (y ++ behind)) (y ++ behind) behind p (λ t. cookies_at n t)
@@ -159,7 +159,7 @@ all_read a b (c ∷ cs) e = cc
 pub list_front : (s : List ℕ) (ps : List (Parts (List ℕ))) → list_at s ≡ Some ps → IsList ps s
 unfolding list_at
 list_front s ps e =
-    option_and_then_some _ (sign_at (codes "[") s) ps e (λ cookies open_is e1.
+    option_and_then_some _ (token_at (codes "[") s) ps e (λ cookies open_is e1.
     option_and_then_some _ (cookies_at (suc (length cookies)) cookies) ps e1 (λ read cookies_are e2.
     let end = all_read read.0 ps (drop_blanks read.1) e2 in
     let blanks = blanks_front read.1 in
@@ -176,7 +176,7 @@ list_front s ps e =
 pub list_read : (s : List ℕ) (ps : List (Parts (List ℕ))) → IsList ps s → list_at s ≡ Some ps
 unfolding list_at
 list_read s ps (x, y, e, opening, (x', y', e', inside, blanks)) =
-    let bracket : sign_at (codes "[") s ≡ Some y = ap (λ t. sign_at (codes "[") t) e ∙ (sign_takes (codes "[") refl).at x y opening in
+    let bracket : token_at (codes "[") s ≡ Some y = ap (λ t. token_at (codes "[") t) e ∙ (sign_takes (codes "[") refl).at x y opening in
     let cookies : cookies_at (suc (length y)) y ≡ Some (ps, y') =
     ap (λ t. cookies_at (suc (length t)) t) e' ∙ cookies_over ps (suc (length (x' ++ y'))) x' y' inside (omega arith) in
     let nothing : drop_blanks y' ≡ [] = ap drop_blanks (sym (append-nil y')) ∙ blanks_over y' [] blanks refl in

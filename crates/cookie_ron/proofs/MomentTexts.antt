@@ -29,10 +29,10 @@ four : (n : ℕ) → n < 10_000 → IsUtf8 (four_digits n)
 four n small = IsUtf8-append (two_digits (n / 100)) (two_digits (n % 100)) (two (n / 100) (omega arith)) (two (n % 100) (omega arith))
 
 -- three strings with a separator between them
-three : (a b c sign : List ℕ) → IsUtf8 a → IsUtf8 b → IsUtf8 c → IsUtf8 sign → IsUtf8 (a ++ sign ++ b ++ sign ++ c)
-three a b c sign is_a is_b is_c is_sign =
-    IsUtf8-append (a ++ sign ++ b ++ sign) c
-    (IsUtf8-append (a ++ sign ++ b) sign (IsUtf8-append (a ++ sign) b (IsUtf8-append a sign is_a is_sign) is_b) is_sign) is_c
+three : (a b c token : List ℕ) → IsUtf8 a → IsUtf8 b → IsUtf8 c → IsUtf8 token → IsUtf8 (a ++ token ++ b ++ token ++ c)
+three a b c token is_a is_b is_c is_sign =
+    IsUtf8-append (a ++ token ++ b ++ token) c
+    (IsUtf8-append (a ++ token ++ b) token (IsUtf8-append (a ++ token) b (IsUtf8-append a token is_a is_sign) is_b) is_sign) is_c
 
 fields_utf8 : (year month day hour minute second : ℕ) → year < 10_000 → month < 100 → day < 100 → hour < 100 → minute < 100 → second < 100
     → IsUtf8 (date_text year month day ++ codes "T" ++ clock_text hour minute second ++ codes "Z")

@@ -2,20 +2,20 @@
 use Rattle.std.proofs.Common.{◌≡◌, ℕ, List, Option, Some, None, Result, Ok, Err, inl, inr, sym, ap, ◌∙◌}
 use Rattle.std.specs.Str.{chars}
 use Rattle.cookie_words.specs.Moments.{Moment}
-use Rattle.cookie_forms.specs.ReadTrees.{all_with_moment}
+use Rattle.cookie_forms.specs.FromJson.{all_with_parsed_expiry}
 use Rattle.cookie_forms.specs.Saved.{Parts}
 use Rattle.cookie_forms.specs.declared.error.SavedError.{SavedError}
 use Rattle.cookie_ron.specs.Grammar.{IsList}
-use Rattle.cookie_ron.specs.RonLists.{SaysRon}
+use Rattle.cookie_ron.specs.RonLists.{RonParsesTo}
 
 module _ (one : (parts others : List (Parts (List ℕ))) (text : List ℕ) → IsList parts text → IsList others text → parts ≡ others) where
   -- if an input is two lists, their expiries are parsed alike
   same_moments : (text : List ℕ) (parts others : List (Parts (List ℕ))) (a b : Option (List (Parts Moment)))
-      → IsList parts (chars text) → all_with_moment parts ≡ a → IsList others (chars text) → all_with_moment others ≡ b → a ≡ b
+      → IsList parts (chars text) → all_with_parsed_expiry parts ≡ a → IsList others (chars text) → all_with_parsed_expiry others ≡ b → a ≡ b
   same_moments text parts others a b is reads are read =
-      sym reads ∙ ap all_with_moment (one parts others (chars text) is are) ∙ read
+      sym reads ∙ ap all_with_parsed_expiry (one parts others (chars text) is are) ∙ read
 
-  pub one_answer : (text : List ℕ) (answer other : Result (List (Parts Moment)) SavedError) → SaysRon text answer → SaysRon text other
+  pub one_answer : (text : List ℕ) (answer other : Result (List (Parts Moment)) SavedError) → RonParsesTo text answer → RonParsesTo text other
       → answer ≡ other
   one_answer text (Ok list) (Ok lists) (parts, is, reads) (others, are, read) =
       let some = same_moments text parts others (Some list) (Some lists) is reads are read in

@@ -13,7 +13,7 @@ use Rattle.std.specs.Str.Parse.{AllDigits, digits_value}
 use Rattle.cookie_ron.specs.Grammar.{StandsFor, StandFor, Text, escaped_by, is_blank}
 use Rattle.cookie_ron.specs.Printed.{printed_char, quoted}
 use Rattle.cookie_ron.proofs.Bools.{both_false, both_true}
-use Rattle.cookie_ron.proofs.Says.{Says, both, ascii_chars, ascii_utf8, just, sign}
+use Rattle.cookie_ron.proofs.Says.{Says, both, ascii_chars, ascii_utf8, just, token}
 
 -- one of two strings, by a test
 choose : (P : List ℕ → Type 0) (test : Bool) (a b : List ℕ) → (test ≡ true → P a) → (test ≡ false → P b) → P (if test then a else b)
@@ -121,7 +121,7 @@ stand_for (c ∷ cs) h =
 pub text_in_quotes : (blanks text : List ℕ) → list_all is_blank blanks ≡ true → list_all is_ascii (blanks ++ codes "\"") ≡ true → IsUtf8 text
     → Says (Text text) (blanks ++ quoted text)
 text_in_quotes blanks text b low u =
-    let whole = both (sign blanks (codes "\"") b low) (both (stand_for (chars text) (scalars-chars text u)) (just (codes "\"") refl)) in
+    let whole = both (token blanks (codes "\"") b low) (both (stand_for (chars text) (scalars-chars text u)) (just (codes "\"") refl)) in
     let said : Says (Text text) ((blanks ++ codes "\"") ++ (flat_map printed_char (chars text) ++ codes "\"")) =
     record { utf8 = whole.utf8; says = (chars text, sym (encodes-chars text u), whole.says) } in
     subst (Says (Text text)) (append_assoc blanks (codes "\"") (flat_map printed_char (chars text) ++ codes "\"")) said

@@ -4,25 +4,25 @@ use Rattle.std.proofs.lemmas.Str.{IsUtf8-string_bytes, IsUtf8-nil, chars-nil}
 use Rattle.std.specs.Str.{IsUtf8, chars}
 use Rattle.cookie_forms.specs.MomentText.{moment_text}
 use Rattle.cookie_forms.specs.Saved.{Parts, domain_view, expiry_view, saved_view}
-use Rattle.cookie_forms.specs.WrittenTrees.{with_text}
+use Rattle.cookie_forms.specs.ToJson.{with_expiry_text}
 use Rattle.cookie_forms.specs.declared.saved.Saved.{Saved}
 use Rattle.cookie_forms.specs.declared.saved.SavedDomain.{SavedDomain}
 use Rattle.cookie_forms.specs.declared.saved.SavedDomain.TheVariants as Kind
 use Rattle.cookie_forms.specs.declared.saved.SavedExpiry.{SavedExpiry}
 use Rattle.cookie_forms.specs.declared.saved.SavedExpiry.TheVariants as Expiry
-use Rattle.cookie_ron.specs.Grammar.{Blanks, Flag, Argument, PathPair, DomainValue, Ends, Cookie, Cookies, IsList}
-use Rattle.cookie_ron.specs.Printed.{quoted, printed_flag, printed_path, printed_domain, printed_end, printed_cookie, printed_list}
+use Rattle.cookie_ron.specs.Grammar.{Blanks, Flag, Argument, PathPair, DomainForm, ExpiryForm, Cookie, Cookies, IsList}
+use Rattle.cookie_ron.specs.Printed.{quoted, printed_flag, printed_path, printed_domain, printed_expiry, printed_cookie, printed_list}
 use Rattle.cookie_ron.proofs.MomentTexts.{moment_utf8}
 use Rattle.cookie_ron.proofs.PrintedChars.{text_in_quotes}
-use Rattle.cookie_ron.proofs.Says.{Says, ascii_chars, ascii_utf8, both, close, close_comma, sign}
+use Rattle.cookie_ron.proofs.Says.{Says, ascii_chars, ascii_utf8, both, close, close_comma, token}
 
 -- a string in parentheses
 argument : (text : List ℕ) → IsUtf8 text → Says (Argument text) (codes "(" ++ (quoted text ++ codes ")"))
-argument text u = both (sign [] (codes "(") refl refl) (both (text_in_quotes [] text refl refl u) (close (sign [] (codes ")") refl refl)))
+argument text u = both (token [] (codes "(") refl refl) (both (text_in_quotes [] text refl refl u) (close (token [] (codes ")") refl refl)))
 
 flag : (b : Bool) → Says (Flag b) (codes " " ++ printed_flag b)
-flag true = sign (codes " ") (codes "true") refl refl
-flag false = sign (codes " ") (codes "false") refl refl
+flag true = token (codes " ") (codes "true") refl refl
+flag false = token (codes " ") (codes "false") refl refl
 
 in_row : (a b c d : List ℕ) → a ++ b ++ c ++ d ≡ a ++ (b ++ (c ++ d))
 in_row a b c d = simp append_assoc
@@ -30,18 +30,18 @@ in_row a b c d = simp append_assoc
 path_pair : (text : List ℕ) (b : Bool) → IsUtf8 text → Says (PathPair text b) (codes " " ++ printed_path text b)
 path_pair text b u =
     let said : Says (PathPair text b) (codes " (" ++ (quoted text ++ (codes "," ++ ((codes " " ++ printed_flag b) ++ codes ")")))) =
-    both (sign (codes " ") (codes "(") refl refl) (both (text_in_quotes [] text refl refl u) (both (sign [] (codes ",") refl refl) (both (flag b) (close (sign [] (codes ")") refl refl))))) in
+    both (token (codes " ") (codes "(") refl refl) (both (text_in_quotes [] text refl refl u) (both (token [] (codes ",") refl refl) (both (flag b) (close (token [] (codes ")") refl refl))))) in
     subst (λ s. Says (PathPair text b) (codes " (" ++ s)) (sym (in_row (quoted text) (codes ", ") (printed_flag b) (codes ")"))) said
 
-domain : (d : SavedDomain) → Says (DomainValue (domain_view d)) (codes " " ++ printed_domain (domain_view d))
-domain (Kind.HostOnly text) = both (sign (codes " ") (codes "HostOnly") refl refl) (argument (string_bytes text) (IsUtf8-string_bytes text))
-domain (Kind.Suffix text) = both (sign (codes " ") (codes "Suffix") refl refl) (argument (string_bytes text) (IsUtf8-string_bytes text))
-domain Kind.NotPresent = sign (codes " ") (codes "NotPresent") refl refl
-domain Kind.Empty = sign (codes " ") (codes "Empty") refl refl
+domain : (d : SavedDomain) → Says (DomainForm (domain_view d)) (codes " " ++ printed_domain (domain_view d))
+domain (Kind.HostOnly text) = both (token (codes " ") (codes "HostOnly") refl refl) (argument (string_bytes text) (IsUtf8-string_bytes text))
+domain (Kind.Suffix text) = both (token (codes " ") (codes "Suffix") refl refl) (argument (string_bytes text) (IsUtf8-string_bytes text))
+domain Kind.NotPresent = token (codes " ") (codes "NotPresent") refl refl
+domain Kind.Empty = token (codes " ") (codes "Empty") refl refl
 
-end : (e : SavedExpiry) → Says (Ends (option_map moment_text (expiry_view e))) (codes " " ++ printed_end (option_map moment_text (expiry_view e)))
-end (Expiry.AtUtc time) = both (sign (codes " ") (codes "AtUtc") refl refl) (argument _ (moment_utf8 time))
-end Expiry.SessionEnd = sign (codes " ") (codes "SessionEnd") refl refl
+end : (e : SavedExpiry) → Says (ExpiryForm (option_map moment_text (expiry_view e))) (codes " " ++ printed_expiry (option_map moment_text (expiry_view e)))
+end (Expiry.AtUtc time) = both (token (codes " ") (codes "AtUtc") refl refl) (argument _ (moment_utf8 time))
+end Expiry.SessionEnd = token (codes " ") (codes "SessionEnd") refl refl
 
 -- a cookie, from the line feed before its parentheses to their end
 abbrev body : Parts (List ℕ) → List ℕ
@@ -50,7 +50,7 @@ body p =
     ++ (codes "        raw_cookie: " ++ (quoted p.raw_cookie ++ (codes ",\n"
     ++ (codes "        path: " ++ (printed_path p.path p.from_attr ++ (codes ",\n"
     ++ (codes "        domain: " ++ (printed_domain p.domain ++ (codes ",\n"
-    ++ (codes "        expires: " ++ (printed_end p.ends ++ (codes ",\n"
+    ++ (codes "        expires: " ++ (printed_expiry p.ends ++ (codes ",\n"
     ++ codes "    )"))))))))))))
 
 -- the lines of four fields
@@ -62,19 +62,19 @@ lines head name1 value1 name2 value2 name3 value3 name4 value4 stop foot comma =
 body_is : (p : Parts (List ℕ)) → codes "\n" ++ printed_cookie p ≡ body p ++ codes ",\n"
 body_is p =
     lines (codes "\n    (\n") (codes "        raw_cookie: ") (quoted p.raw_cookie) (codes "        path: ") (printed_path p.path p.from_attr)
-    (codes "        domain: ") (printed_domain p.domain) (codes "        expires: ") (printed_end p.ends) (codes ",\n") (codes "    )") (codes ",\n")
+    (codes "        domain: ") (printed_domain p.domain) (codes "        expires: ") (printed_expiry p.ends) (codes ",\n") (codes "    )") (codes ",\n")
 
-cookie : (s : Saved) → Says (Cookie (with_text (saved_view s))) (body (with_text (saved_view s)))
+cookie : (s : Saved) → Says (Cookie (with_expiry_text (saved_view s))) (body (with_expiry_text (saved_view s)))
 cookie s =
-    both (sign (codes "\n    ") (codes "(") refl refl)
-    (both (both (sign (codes "\n        ") (codes "raw_cookie") refl refl) (both (sign [] (codes ":") refl refl) (text_in_quotes (codes " ") (string_bytes s.raw_cookie) refl refl (IsUtf8-string_bytes s.raw_cookie))))
-    (both (sign [] (codes ",") refl refl)
-    (both (both (sign (codes "\n        ") (codes "path") refl refl) (both (sign [] (codes ":") refl refl) (path_pair (string_bytes s.path) s.from_attr (IsUtf8-string_bytes s.path))))
-    (both (sign [] (codes ",") refl refl)
-    (both (both (sign (codes "\n        ") (codes "domain") refl refl) (both (sign [] (codes ":") refl refl) (domain s.domain)))
-    (both (sign [] (codes ",") refl refl)
-    (both (both (sign (codes "\n        ") (codes "expires") refl refl) (both (sign [] (codes ":") refl refl) (end s.expires)))
-    (close_comma (both (sign [] (codes ",") refl refl) (sign (codes "\n    ") (codes ")") refl refl))))))))))
+    both (token (codes "\n    ") (codes "(") refl refl)
+    (both (both (token (codes "\n        ") (codes "raw_cookie") refl refl) (both (token [] (codes ":") refl refl) (text_in_quotes (codes " ") (string_bytes s.raw_cookie) refl refl (IsUtf8-string_bytes s.raw_cookie))))
+    (both (token [] (codes ",") refl refl)
+    (both (both (token (codes "\n        ") (codes "path") refl refl) (both (token [] (codes ":") refl refl) (path_pair (string_bytes s.path) s.from_attr (IsUtf8-string_bytes s.path))))
+    (both (token [] (codes ",") refl refl)
+    (both (both (token (codes "\n        ") (codes "domain") refl refl) (both (token [] (codes ":") refl refl) (domain s.domain)))
+    (both (token [] (codes ",") refl refl)
+    (both (both (token (codes "\n        ") (codes "expires") refl refl) (both (token [] (codes ":") refl refl) (end s.expires)))
+    (close_comma (both (token [] (codes ",") refl refl) (token (codes "\n    ") (codes ")") refl refl))))))))))
 
 -- a cookie and what follows it
 step : (p : Parts (List ℕ)) (rest : List ℕ)
@@ -85,15 +85,15 @@ step p rest =
     ∙ append_assoc (body p) (codes ",\n") (rest ++ codes "]")
 
 abbrev parts : List Saved → List (Parts (List ℕ))
-parts list = map with_text (map saved_view list)
+parts list = map with_expiry_text (map saved_view list)
 
 cookies : (s : Saved) (list : List Saved) → Says (Cookies (parts (s ∷ list))) (codes "\n" ++ (flat_map printed_cookie (parts (s ∷ list)) ++ codes "]"))
 cookies s [] =
-    subst (Says (Cookies (parts (s ∷ [])))) (sym (step (with_text (saved_view s)) []))
-    (both (cookie s) (close_comma (both (sign [] (codes ",") refl refl) (sign (codes "\n") (codes "]") refl refl))))
+    subst (Says (Cookies (parts (s ∷ [])))) (sym (step (with_expiry_text (saved_view s)) []))
+    (both (cookie s) (close_comma (both (token [] (codes ",") refl refl) (token (codes "\n") (codes "]") refl refl))))
 cookies s (t ∷ list) =
-    subst (Says (Cookies (parts (s ∷ t ∷ list)))) (sym (step (with_text (saved_view s)) (flat_map printed_cookie (parts (t ∷ list)))))
-    (both (cookie s) (both (sign [] (codes ",") refl refl) (cookies t list)))
+    subst (Says (Cookies (parts (s ∷ t ∷ list)))) (sym (step (with_expiry_text (saved_view s)) (flat_map printed_cookie (parts (t ∷ list)))))
+    (both (cookie s) (both (token [] (codes ",") refl refl) (cookies t list)))
 
 no_blanks : Says Blanks []
 no_blanks = record { utf8 = IsUtf8-nil; says = rw chars-nil refl }
@@ -103,13 +103,13 @@ line_feed = record { utf8 = ascii_utf8 (10 ∷ []) refl; says = rw (ascii_chars 
 
 -- a printed list, blanks after it allowed; the strings of saved cookies are UTF-8
 said : (list : List Saved) {blanks : List ℕ} → Says Blanks blanks → Says (IsList (parts list)) (printed_list (parts list) ++ blanks)
-said [] blanks = both (sign [] (codes "[") refl refl) (both (sign [] (codes "]") refl refl) blanks)
-said (s ∷ list) blanks = both (sign [] (codes "[") refl refl) (both (cookies s list) blanks)
+said [] blanks = both (token [] (codes "[") refl refl) (both (token [] (codes "]") refl refl) blanks)
+said (s ∷ list) blanks = both (token [] (codes "[") refl refl) (both (cookies s list) blanks)
 
-pub printed_is_list : (list : List Saved) → IsList (map with_text (map saved_view list)) (chars (printed_list (map with_text (map saved_view list))))
+pub printed_is_list : (list : List Saved) → IsList (map with_expiry_text (map saved_view list)) (chars (printed_list (map with_expiry_text (map saved_view list))))
 printed_is_list list = subst (λ text. IsList (parts list) (chars text)) (append-nil _) (said list no_blanks).says
 
 -- the same with a line feed after it
 pub line_is_list : (list : List Saved)
-    → IsList (map with_text (map saved_view list)) (chars (printed_list (map with_text (map saved_view list)) ++ 10 ∷ []))
+    → IsList (map with_expiry_text (map saved_view list)) (chars (printed_list (map with_expiry_text (map saved_view list)) ++ 10 ∷ []))
 line_is_list list = (said list line_feed).says

@@ -7,7 +7,7 @@ use Rattle.std.specs.Char.{is_ascii}
 use Rattle.std.specs.List.{list_all}
 use Rattle.std.specs.Str.{IsAscii, IsUtf8, chars}
 use Rattle.cookie_ron.proofs.Bools.{both_true}
-use Rattle.cookie_ron.specs.Grammar.{◌▸◌, Just, Sign, Close, is_blank}
+use Rattle.cookie_ron.specs.Grammar.{◌▸◌, Exactly, Token, Close, is_blank}
 
 -- the bytes are UTF-8, and their characters are of the rule
 pub record Says (P : List ℕ → Type 0) (bs : List ℕ) : Type 0 where
@@ -37,19 +37,19 @@ ascii_utf8 bs h = IsUtf8-from_ascii bs (all_below bs h)
 pub ascii_chars : (bs : List ℕ) → list_all is_ascii bs ≡ true → chars bs ≡ bs
 ascii_chars bs h = chars-IsAscii bs (all_below bs h)
 
-pub just : (text : List ℕ) → list_all is_ascii text ≡ true → Says (Just text) text
+pub just : (text : List ℕ) → list_all is_ascii text ≡ true → Says (Exactly text) text
 just text h = record { utf8 = ascii_utf8 text h; says = ascii_chars text h }
 
-pub sign : (blanks text : List ℕ) → list_all is_blank blanks ≡ true → list_all is_ascii (blanks ++ text) ≡ true
-    → Says (Sign text) (blanks ++ text)
-sign blanks text b h = record {
+pub token : (blanks text : List ℕ) → list_all is_blank blanks ≡ true → list_all is_ascii (blanks ++ text) ≡ true
+    → Says (Token text) (blanks ++ text)
+token blanks text b h = record {
   utf8 = ascii_utf8 (blanks ++ text) h;
   says = (blanks, text, ascii_chars (blanks ++ text) h, b, refl);
 }
 
-pub close : {text bs : List ℕ} → Says (Sign text) bs → Says (Close text) bs
+pub close : {text bs : List ℕ} → Says (Token text) bs → Says (Close text) bs
 close s = record { utf8 = s.utf8; says = inl s.says }
 
 -- a closing token with a comma before it
-pub close_comma : {text bs : List ℕ} → Says (Sign (codes ",") ▸ Sign text) bs → Says (Close text) bs
+pub close_comma : {text bs : List ℕ} → Says (Token (codes ",") ▸ Token text) bs → Says (Close text) bs
 close_comma s = record { utf8 = s.utf8; says = inr s.says }

@@ -4,8 +4,8 @@ use Rattle.std.proofs.Common.{◌≡◌, ℕ, ◌<◌, length, drop, arith, List
 use Rattle.std.specs.List.{list_all}
 use Rattle.std.proofs.lemmas.Bool.Decides.{Decides-eqb}
 use Rattle.std.proofs.lemmas.List.{append_assoc}
-use Rattle.cookie_ron.specs.Grammar.{is_blank, Blanks, Sign, Close}
-use Rattle.cookie_ron.specs.Reading.{drop_blanks, behind, sign_at, either, close_at}
+use Rattle.cookie_ron.specs.Grammar.{is_blank, Blanks, Token, Close}
+use Rattle.cookie_ron.specs.Reading.{drop_blanks, behind, token_at, either, close_at}
 use Rattle.cookie_ron.proofs.Fronts.{Front, Takes, Misses, joined, front_here, here, there}
 
 -- the token is not empty and does not begin with a blank
@@ -47,7 +47,7 @@ same_if : {A : Type 0} (b : Bool) (o : Option A) (r : A) → (if b then o else N
 same_if true o r e = (refl, e)
 same_if false o r e = cc
 
-pub behind_front : (sign s rest : List ℕ) → behind sign s ≡ Some rest → s ≡ sign ++ rest
+pub behind_front : (token s rest : List ℕ) → behind token s ≡ Some rest → s ≡ token ++ rest
 behind_front [] s rest e = cc
 behind_front (c ∷ cs) [] rest e = cc
 behind_front (c ∷ cs) (d ∷ s) rest e =
@@ -57,7 +57,7 @@ behind_front (c ∷ cs) (d ∷ s) rest e =
 eq_self : (c : ℕ) → (c == c) ≡ true
 eq_self c = (Decides-eqb c c).1 refl
 
-pub behind_over : (sign rest : List ℕ) → behind sign (sign ++ rest) ≡ Some rest
+pub behind_over : (token rest : List ℕ) → behind token (token ++ rest) ≡ Some rest
 behind_over [] rest = refl
 behind_over (c ∷ cs) rest = rw (eq_self c) (behind_over cs rest)
 
@@ -72,31 +72,31 @@ behind_apart (a ∷ cs) (b ∷ bs) rest h = apart_one (b == a) (is_apart cs bs) 
 
 -- ---- a token
 
-pub sign_front : {s rest : List ℕ} (sign : List ℕ) → sign_at sign s ≡ Some rest → Front (Sign sign) s rest
-sign_front {s} {rest} sign e = joined (blanks_front s) (front_here sign rest (behind_front sign (drop_blanks s) rest e) refl refl)
+pub sign_front : {s rest : List ℕ} (token : List ℕ) → token_at token s ≡ Some rest → Front (Token token) s rest
+sign_front {s} {rest} token e = joined (blanks_front s) (front_here token rest (behind_front token (drop_blanks s) rest e) refl refl)
 
 stays : (b : Bool) (this rest : List ℕ) → not b ≡ true → (if b then rest else this) ≡ this
 stays true this rest h = absurd (true≢false (sym h))
 stays false this rest h = refl
 
-solid_stays : (sign rest : List ℕ) → is_solid sign ≡ true → drop_blanks (sign ++ rest) ≡ sign ++ rest
+solid_stays : (token rest : List ℕ) → is_solid token ≡ true → drop_blanks (token ++ rest) ≡ token ++ rest
 solid_stays [] rest h = cc
 solid_stays (c ∷ cs) rest h = stays (is_blank c) (c ∷ (cs ++ rest)) _ h
 
-sign_over : (sign x y front rest : List ℕ) → is_solid sign ≡ true → front ≡ x ++ y → Blanks x → y ≡ sign → drop_blanks (front ++ rest) ≡ sign ++ rest
-sign_over sign x y front rest solid e blanks is =
+sign_over : (token x y front rest : List ℕ) → is_solid token ≡ true → front ≡ x ++ y → Blanks x → y ≡ token → drop_blanks (front ++ rest) ≡ token ++ rest
+sign_over token x y front rest solid e blanks is =
     ap (λ f. drop_blanks (f ++ rest)) (e ∙ ap (λ t. x ++ t) is)
-    ∙ ap drop_blanks (append_assoc x sign rest)
-    ∙ blanks_over x (sign ++ rest) blanks (solid_stays sign rest solid)
+    ∙ ap drop_blanks (append_assoc x token rest)
+    ∙ blanks_over x (token ++ rest) blanks (solid_stays token rest solid)
 
-pub sign_takes : (sign : List ℕ) → is_solid sign ≡ true → Takes (Sign sign) (λ s. sign_at sign s) (λ r. r)
-sign_takes sign solid = record {
+pub sign_takes : (token : List ℕ) → is_solid token ≡ true → Takes (Token token) (λ s. token_at token s) (λ r. r)
+sign_takes token solid = record {
   at = λ front rest (x, y, e, blanks, is).
-      ap (behind sign) (sign_over sign x y front rest solid e blanks is) ∙ behind_over sign rest;
+      ap (behind token) (sign_over token x y front rest solid e blanks is) ∙ behind_over token rest;
 }
 
 -- another token is there
-pub sign_misses : (a b : List ℕ) → is_solid b ≡ true → is_apart a b ≡ true → Misses (Sign b) (λ s. sign_at a s)
+pub sign_misses : (a b : List ℕ) → is_solid b ≡ true → is_apart a b ≡ true → Misses (Token b) (λ s. token_at a s)
 sign_misses a b solid apart = record {
   at = λ front rest (x, y, e, blanks, is).
       ap (behind a) (sign_over b x y front rest solid e blanks is) ∙ behind_apart a b rest apart;
@@ -104,26 +104,26 @@ sign_misses a b solid apart = record {
 
 -- ---- a closing token
 
-close_cases : {s rest : List ℕ} (sign : List ℕ) (o : Option (List ℕ)) → sign_at (codes ",") s ≡ o
-    → either o (λ r. sign_at sign r) (sign_at sign s) ≡ Some rest → Front (Close sign) s rest
-close_cases sign None there e =
-    let f = sign_front sign e in record { front = f.front; is = f.is; holds = inl f.holds }
-close_cases sign (Some r) comma e =
-    let f = joined (sign_front (codes ",") comma) (sign_front sign e) in record { front = f.front; is = f.is; holds = inr f.holds }
+close_cases : {s rest : List ℕ} (token : List ℕ) (o : Option (List ℕ)) → token_at (codes ",") s ≡ o
+    → either o (λ r. token_at token r) (token_at token s) ≡ Some rest → Front (Close token) s rest
+close_cases token None there e =
+    let f = sign_front token e in record { front = f.front; is = f.is; holds = inl f.holds }
+close_cases token (Some r) comma e =
+    let f = joined (sign_front (codes ",") comma) (sign_front token e) in record { front = f.front; is = f.is; holds = inr f.holds }
 
-pub close_front : {s rest : List ℕ} (sign : List ℕ) → close_at sign s ≡ Some rest → Front (Close sign) s rest
-close_front {s} sign e = close_cases sign (sign_at (codes ",") s) refl e
+pub close_front : {s rest : List ℕ} (token : List ℕ) → close_at token s ≡ Some rest → Front (Close token) s rest
+close_front {s} token e = close_cases token (token_at (codes ",") s) refl e
 
-pub close_takes : (sign : List ℕ) → is_solid sign ≡ true → is_apart (codes ",") sign ≡ true → Takes (Close sign) (λ s. close_at sign s) (λ r. r)
-close_takes sign solid apart = record {
+pub close_takes : (token : List ℕ) → is_solid token ≡ true → is_apart (codes ",") token ≡ true → Takes (Close token) (λ s. close_at token s) (λ r. r)
+close_takes token solid apart = record {
   at = λ front rest closes.
       elim closes [
-        | inl alone ↦ (there (λ r. sign_at sign r) (λ s. sign_at sign s) (sign_misses (codes ",") sign solid apart) (sign_takes sign solid)).at front rest alone
-        | inr behind_comma ↦ (here (λ r. sign_at sign r) (λ s. sign_at sign s) (sign_takes (codes ",") refl) (sign_takes sign solid)).at front rest behind_comma
+        | inl alone ↦ (there (λ r. token_at token r) (λ s. token_at token s) (sign_misses (codes ",") token solid apart) (sign_takes token solid)).at front rest alone
+        | inr behind_comma ↦ (here (λ r. token_at token r) (λ s. token_at token s) (sign_takes (codes ",") refl) (sign_takes token solid)).at front rest behind_comma
       ];
 }
 
 -- a token that goes on after the end of the input
-pub behind_end : (sign s : List ℕ) (i : ℕ) → i < length sign → length s ≡ 0 → behind (drop i sign) s ≡ None
-behind_end sign [] i lt none = ap (λ t. behind t []) (drop-cons sign i 0 lt)
-behind_end sign (c ∷ s) i lt none = absurd (omega (arith, none))
+pub behind_end : (token s : List ℕ) (i : ℕ) → i < length token → length s ≡ 0 → behind (drop i token) s ≡ None
+behind_end token [] i lt none = ap (λ t. behind t []) (drop-cons token i 0 lt)
+behind_end token (c ∷ s) i lt none = absurd (omega (arith, none))

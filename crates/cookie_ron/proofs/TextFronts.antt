@@ -5,8 +5,8 @@ use Rattle.std.specs.List.{AllZip}
 use Rattle.std.specs.Str.{encode_utf8_all}
 use Rattle.std.proofs.lemmas.Option.{option_and_then_some}
 use Rattle.std.proofs.lemmas.List.{append_assoc}
-use Rattle.cookie_ron.specs.Grammar.{◌▸◌, Just, StandsFor, StandFor, Text}
-use Rattle.cookie_ron.specs.Reading.{behind, sign_at, char_at, onto, chars_behind, chars_at, text_at}
+use Rattle.cookie_ron.specs.Grammar.{◌▸◌, Exactly, StandsFor, StandFor, Text}
+use Rattle.cookie_ron.specs.Reading.{behind, token_at, char_at, onto, chars_behind, chars_at, text_at}
 use Rattle.cookie_ron.proofs.Onto.{onto_both}
 use Rattle.cookie_ron.proofs.Fronts.{Front, Takes, joined, front_of, front_shorter, chain}
 use Rattle.cookie_ron.proofs.SignFronts.{behind_front, sign_front, sign_takes}
@@ -48,7 +48,7 @@ chars_turn front text s rest c e is =
 -- ---- the characters
 
 abbrev Chars : List ℕ → List ℕ → Type 0
-Chars cs = StandFor cs ▸ Just (codes "\"")
+Chars cs = StandFor cs ▸ Exactly (codes "\"")
 
 chars_more : (c : ℕ) (cs : List ℕ) (s : List ℕ) → (StandsFor c ▸ Chars cs) s → Chars (c ∷ cs) s
 chars_more c cs s (x, y, e, this, (x', y', e', (parts, is, all), quote)) =
@@ -108,7 +108,7 @@ chars_takes cs = record {
 pub text_front : {s text rest : List ℕ} → text_at s ≡ Some (text, rest) → Front (Text text) s rest
 unfolding text_at
 text_front {s} {text} {rest} e =
-    option_and_then_some _ (sign_at (codes "\"") s) (text, rest) e (λ r quote e1.
+    option_and_then_some _ (token_at (codes "\"") s) (text, rest) e (λ r quote e1.
     let m = chars_front (suc (length r)) r text rest e1 in
     let f = joined (sign_front (codes "\"") quote) m.2 in
     record { front = f.front; is = f.is; holds = (m.0, m.1, f.holds) })

@@ -12,8 +12,8 @@ abbrev pub ◌▸◌ : (List ℕ → Type 0) → (List ℕ → Type 0) → List 
 (P ▸ Q) s = (x y : List ℕ) × (s ≡ x ++ y) × P x × Q y
 
 -- exactly these characters
-abbrev pub Just : List ℕ → List ℕ → Type 0
-Just text s = s ≡ text
+abbrev pub Exactly : List ℕ → List ℕ → Type 0
+Exactly text s = s ≡ text
 
 -- a space, a tab, a line feed or a carriage return
 abbrev pub is_blank : ℕ → Bool
@@ -24,12 +24,12 @@ abbrev pub Blanks : List ℕ → Type 0
 Blanks s = list_all is_blank s ≡ true
 
 -- a token, with any blanks before it
-abbrev pub Sign : List ℕ → List ℕ → Type 0
-Sign sign = Blanks ▸ Just sign
+abbrev pub Token : List ℕ → List ℕ → Type 0
+Token token = Blanks ▸ Exactly token
 
 -- a closing token, with an optional comma before it
 abbrev pub Close : List ℕ → List ℕ → Type 0
-Close sign s = Sign sign s ⊎ (Sign (codes ",") ▸ Sign sign) s
+Close token s = Token token s ⊎ (Token (codes ",") ▸ Token token) s
 
 -- the character of a one-letter escape
 abbrev pub escaped_by : ℕ → Option ℕ
@@ -41,30 +41,30 @@ escaped_by letter =
     else (if letter == byte "0" then Some 0 else None))))
 
 -- the character itself, if it is neither a quote nor a backslash
-abbrev pub IsPlain : ℕ → List ℕ → Type 0
-IsPlain c s = (s ≡ c ∷ []) × (c ≢ byte "\"") × (c ≢ byte "\\")
+abbrev pub IsUnescaped : ℕ → List ℕ → Type 0
+IsUnescaped c s = (s ≡ c ∷ []) × (c ≢ byte "\"") × (c ≢ byte "\\")
 
 -- the character as a one-letter escape: a backslash and a letter
-abbrev pub IsShort : ℕ → List ℕ → Type 0
-IsShort c s = (letter : ℕ) × (s ≡ codes "\\" ++ letter ∷ []) × (escaped_by letter ≡ Some c)
+abbrev pub IsLetterEscape : ℕ → List ℕ → Type 0
+IsLetterEscape c s = (letter : ℕ) × (s ≡ codes "\\" ++ letter ∷ []) × (escaped_by letter ≡ Some c)
 
 -- hexadecimal digits, of either case, whose value is c
-abbrev pub Numbers : ℕ → List ℕ → Type 0
-Numbers c digits = (list_all is_ascii_hexdigit digits ≡ true) × (digits_value 16 digits ≡ c)
+abbrev pub HasHexValue : ℕ → List ℕ → Type 0
+HasHexValue c digits = (list_all is_ascii_hexdigit digits ≡ true) × (digits_value 16 digits ≡ c)
 
 -- the character as `\x` and two hexadecimal digits
-abbrev pub IsByte : ℕ → List ℕ → Type 0
-IsByte c s = (digits : List ℕ) × (s ≡ codes "\\x" ++ digits) × (length digits ≡ 2) × Numbers c digits
+abbrev pub IsByteEscape : ℕ → List ℕ → Type 0
+IsByteEscape c s = (digits : List ℕ) × (s ≡ codes "\\x" ++ digits) × (length digits ≡ 2) × HasHexValue c digits
 
 -- the character as `\u{`, one to six hexadecimal digits and `}`, whose value is a Unicode scalar value
-abbrev pub IsCode : ℕ → List ℕ → Type 0
-IsCode c s =
+abbrev pub IsUnicodeEscape : ℕ → List ℕ → Type 0
+IsUnicodeEscape c s =
     (digits : List ℕ) × (s ≡ codes "\\u{" ++ digits ++ codes "}")
-    × (1 ≤ length digits) × (length digits ≤ 6) × Numbers c digits × IsScalar c
+    × (1 ≤ length digits) × (length digits ≤ 6) × HasHexValue c digits × IsScalar c
 
 -- a character of a string, as itself or as an escape
 abbrev pub StandsFor : ℕ → List ℕ → Type 0
-StandsFor c s = IsPlain c s ⊎ IsShort c s ⊎ IsByte c s ⊎ IsCode c s
+StandsFor c s = IsUnescaped c s ⊎ IsLetterEscape c s ⊎ IsByteEscape c s ⊎ IsUnicodeEscape c s
 
 -- the characters of a string, one after the other
 abbrev pub StandFor : List ℕ → List ℕ → Type 0
@@ -72,52 +72,52 @@ StandFor cs s = (parts : List (List ℕ)) × (s ≡ flat_map (λ part. part) par
 
 -- a quoted string
 abbrev pub Text : List ℕ → List ℕ → Type 0
-Text text s = (cs : List ℕ) × (text ≡ encode_utf8_all cs) × (Sign (codes "\"") ▸ StandFor cs ▸ Just (codes "\"")) s
+Text text s = (cs : List ℕ) × (text ≡ encode_utf8_all cs) × (Token (codes "\"") ▸ StandFor cs ▸ Exactly (codes "\"")) s
 
 -- `true` or `false`
 abbrev pub Flag : Bool → List ℕ → Type 0
-Flag flag = Sign (if flag then codes "true" else codes "false")
+Flag flag = Token (if flag then codes "true" else codes "false")
 
 -- a string in parentheses
 abbrev pub Argument : List ℕ → List ℕ → Type 0
-Argument text = Sign (codes "(") ▸ Text text ▸ Close (codes ")")
+Argument text = Token (codes "(") ▸ Text text ▸ Close (codes ")")
 
 -- a path, and whether a Path attribute set it, in parentheses
 abbrev pub PathPair : List ℕ → Bool → List ℕ → Type 0
-PathPair path from_attr = Sign (codes "(") ▸ Text path ▸ Sign (codes ",") ▸ Flag from_attr ▸ Close (codes ")")
+PathPair path from_attr = Token (codes "(") ▸ Text path ▸ Token (codes ",") ▸ Flag from_attr ▸ Close (codes ")")
 
 -- a domain: its kind, with its string if it has one
-abbrev pub DomainValue : Domain → List ℕ → Type 0
-DomainValue (host_only text) = Sign (codes "HostOnly") ▸ Argument text
-DomainValue (suffix text) = Sign (codes "Suffix") ▸ Argument text
-DomainValue not_present = Sign (codes "NotPresent")
-DomainValue empty = Sign (codes "Empty")
+abbrev pub DomainForm : Domain → List ℕ → Type 0
+DomainForm (host_only text) = Token (codes "HostOnly") ▸ Argument text
+DomainForm (suffix text) = Token (codes "Suffix") ▸ Argument text
+DomainForm not_present = Token (codes "NotPresent")
+DomainForm empty = Token (codes "Empty")
 
 -- an expiry: the string of its time, or `SessionEnd`
-abbrev pub Ends : Option (List ℕ) → List ℕ → Type 0
-Ends (Some text) = Sign (codes "AtUtc") ▸ Argument text
-Ends None = Sign (codes "SessionEnd")
+abbrev pub ExpiryForm : Option (List ℕ) → List ℕ → Type 0
+ExpiryForm (Some text) = Token (codes "AtUtc") ▸ Argument text
+ExpiryForm None = Token (codes "SessionEnd")
 
 -- a field: its name, a colon and its value
 abbrev pub Field : List ℕ → (List ℕ → Type 0) → List ℕ → Type 0
-Field name value = Sign name ▸ Sign (codes ":") ▸ value
+Field name value = Token name ▸ Token (codes ":") ▸ value
 
 -- a saved cookie
 abbrev pub Cookie : Parts (List ℕ) → List ℕ → Type 0
 Cookie p =
-    Sign (codes "(")
-    ▸ Field (codes "raw_cookie") (Text p.raw_cookie) ▸ Sign (codes ",")
-    ▸ Field (codes "path") (PathPair p.path p.from_attr) ▸ Sign (codes ",")
-    ▸ Field (codes "domain") (DomainValue p.domain) ▸ Sign (codes ",")
-    ▸ Field (codes "expires") (Ends p.ends)
+    Token (codes "(")
+    ▸ Field (codes "raw_cookie") (Text p.raw_cookie) ▸ Token (codes ",")
+    ▸ Field (codes "path") (PathPair p.path p.from_attr) ▸ Token (codes ",")
+    ▸ Field (codes "domain") (DomainForm p.domain) ▸ Token (codes ",")
+    ▸ Field (codes "expires") (ExpiryForm p.ends)
     ▸ Close (codes ")")
 
 -- cookies, separated by commas, and the closing bracket
 abbrev pub Cookies : List (Parts (List ℕ)) → List ℕ → Type 0
-Cookies [] = Sign (codes "]")
+Cookies [] = Token (codes "]")
 Cookies (p ∷ []) = Cookie p ▸ Close (codes "]")
-Cookies (p ∷ q ∷ ps) = Cookie p ▸ Sign (codes ",") ▸ Cookies (q ∷ ps)
+Cookies (p ∷ q ∷ ps) = Cookie p ▸ Token (codes ",") ▸ Cookies (q ∷ ps)
 
 -- a list in brackets, with any blanks after it
 abbrev pub IsList : List (Parts (List ℕ)) → List ℕ → Type 0
-IsList ps = Sign (codes "[") ▸ Cookies ps ▸ Blanks
+IsList ps = Token (codes "[") ▸ Cookies ps ▸ Blanks

@@ -6,9 +6,9 @@ use Rattle.std.specs.List.{list_any}
 use Rattle.std.specs.Str.{byte, chars}
 use Rattle.cookie_words.specs.Moments.{Moment}
 use Rattle.cookie_forms.specs.Saved.{Domain, host_only, suffix, not_present, empty, Parts}
-use Rattle.cookie_forms.specs.WrittenTrees.{is_early, with_text}
+use Rattle.cookie_forms.specs.ToJson.{is_early, with_expiry_text}
 use Rattle.cookie_forms.specs.declared.error.SavedError.{SavedError}
-use Rattle.cookie_forms.specs.declared.error.SavedError.TheVariants as Fault
+use Rattle.cookie_forms.specs.declared.error.SavedError.TheVariants as ErrorCase
 
 -- a character: a quote, a backslash or a control character as an escape, any other as itself
 abbrev pub printed_char : ℕ → List ℕ
@@ -39,9 +39,9 @@ printed_domain not_present = codes "NotPresent"
 printed_domain empty = codes "Empty"
 
 -- an expiry, `SessionEnd` for a session cookie
-abbrev pub printed_end : Option (List ℕ) → List ℕ
-printed_end (Some text) = codes "AtUtc(" ++ quoted text ++ codes ")"
-printed_end None = codes "SessionEnd"
+abbrev pub printed_expiry : Option (List ℕ) → List ℕ
+printed_expiry (Some text) = codes "AtUtc(" ++ quoted text ++ codes ")"
+printed_expiry None = codes "SessionEnd"
 
 -- a field on a line of its own
 abbrev pub printed_field : List ℕ → List ℕ → List ℕ
@@ -54,7 +54,7 @@ printed_cookie p =
     ++ printed_field (codes "raw_cookie") (quoted p.raw_cookie)
     ++ printed_field (codes "path") (printed_path p.path p.from_attr)
     ++ printed_field (codes "domain") (printed_domain p.domain)
-    ++ printed_field (codes "expires") (printed_end p.ends)
+    ++ printed_field (codes "expires") (printed_expiry p.ends)
     ++ codes "    ),\n"
 
 -- a list: `[]` if empty, else a bracket on a line of its own, the cookies, and a bracket
@@ -64,4 +64,4 @@ printed_list (p ∷ ps) = codes "[\n" ++ flat_map printed_cookie (p ∷ ps) ++ c
 
 -- what is printed for a list, or `Moment` if an expiry is before the year 0
 abbrev pub ron_written : List (Parts Moment) → Result (List ℕ) SavedError
-ron_written ps = if list_any is_early ps then Err Fault.Moment else Ok (printed_list (map with_text ps))
+ron_written ps = if list_any is_early ps then Err ErrorCase.Moment else Ok (printed_list (map with_expiry_text ps))

@@ -21,8 +21,8 @@ behind (c ∷ cs) [] = None
 behind (c ∷ cs) (d ∷ s) = if d == c then behind cs s else None
 
 -- the rest after a token, with any blanks before it
-abbrev pub sign_at : List ℕ → List ℕ → Option (List ℕ)
-sign_at sign s = behind sign (drop_blanks s)
+abbrev pub token_at : List ℕ → List ℕ → Option (List ℕ)
+token_at token s = behind token (drop_blanks s)
 
 -- `read` applied to the rest if there is one, else `other`
 abbrev pub either : {A : Type 0} → Option (List ℕ) → (List ℕ → Option A) → Option A → Option A
@@ -31,7 +31,7 @@ either (Some rest) read other = read rest
 
 -- the rest after a closing token, with an optional comma before it
 abbrev pub close_at : List ℕ → List ℕ → Option (List ℕ)
-close_at sign s = either (sign_at (codes ",") s) (λ rest. sign_at sign rest) (sign_at sign s)
+close_at token s = either (token_at (codes ",") s) (λ rest. token_at token rest) (token_at token s)
 
 -- the value of hexadecimal digits
 abbrev pub hex_value : List ℕ → Option ℕ
@@ -94,19 +94,19 @@ chars_at (suc n) s = chars_behind (λ rest. chars_at n rest) s (char_at s)
 -- a quoted string
 unfoldable pub text_at : List ℕ → Option (List ℕ × List ℕ)
 text_at s = do
-  rest ← sign_at (codes "\"") s
+  rest ← token_at (codes "\"") s
   chars_at (suc (length rest)) rest
 
 -- `true` or `false`
 unfoldable pub flag_at : List ℕ → Option (Bool × List ℕ)
 flag_at s =
-    either (sign_at (codes "true") s) (λ rest. Some (true, rest))
-    (option_map (λ rest. (false, rest)) (sign_at (codes "false") s))
+    either (token_at (codes "true") s) (λ rest. Some (true, rest))
+    (option_map (λ rest. (false, rest)) (token_at (codes "false") s))
 
 -- a string in parentheses
 unfoldable pub argument_at : List ℕ → Option (List ℕ × List ℕ)
 argument_at s = do
-  in_brackets ← sign_at (codes "(") s
+  in_brackets ← token_at (codes "(") s
   text ← text_at in_brackets
   rest ← close_at (codes ")") text.1
   Some (text.0, rest)
@@ -114,9 +114,9 @@ argument_at s = do
 -- a path, and whether a Path attribute set it
 unfoldable pub path_at : List ℕ → Option ((List ℕ × Bool) × List ℕ)
 path_at s = do
-  in_brackets ← sign_at (codes "(") s
+  in_brackets ← token_at (codes "(") s
   path ← text_at in_brackets
-  second ← sign_at (codes ",") path.1
+  second ← token_at (codes ",") path.1
   from_attr ← flag_at second
   rest ← close_at (codes ")") from_attr.1
   Some ((path.0, from_attr.0), rest)
@@ -124,22 +124,22 @@ path_at s = do
 -- a domain
 unfoldable pub domain_at : List ℕ → Option (Domain × List ℕ)
 domain_at s =
-    either (sign_at (codes "HostOnly") s) (λ rest. option_map (λ text. (host_only text.0, text.1)) (argument_at rest))
-    (either (sign_at (codes "Suffix") s) (λ rest. option_map (λ text. (suffix text.0, text.1)) (argument_at rest))
-    (either (sign_at (codes "NotPresent") s) (λ rest. Some (not_present, rest))
-    (option_map (λ rest. (empty, rest)) (sign_at (codes "Empty") s))))
+    either (token_at (codes "HostOnly") s) (λ rest. option_map (λ text. (host_only text.0, text.1)) (argument_at rest))
+    (either (token_at (codes "Suffix") s) (λ rest. option_map (λ text. (suffix text.0, text.1)) (argument_at rest))
+    (either (token_at (codes "NotPresent") s) (λ rest. Some (not_present, rest))
+    (option_map (λ rest. (empty, rest)) (token_at (codes "Empty") s))))
 
 -- the string of an expiry, or `None` for `SessionEnd`
-unfoldable pub end_at : List ℕ → Option (Option (List ℕ) × List ℕ)
-end_at s =
-    either (sign_at (codes "AtUtc") s) (λ rest. option_map (λ text. (Some text.0, text.1)) (argument_at rest))
-    (option_map (λ rest. (None, rest)) (sign_at (codes "SessionEnd") s))
+unfoldable pub expiry_text_at : List ℕ → Option (Option (List ℕ) × List ℕ)
+expiry_text_at s =
+    either (token_at (codes "AtUtc") s) (λ rest. option_map (λ text. (Some text.0, text.1)) (argument_at rest))
+    (option_map (λ rest. (None, rest)) (token_at (codes "SessionEnd") s))
 
 -- the rest after a field's name and colon
 unfoldable pub name_at : List ℕ → List ℕ → Option (List ℕ)
 name_at name s = do
-  colon ← sign_at name s
-  sign_at (codes ":") colon
+  colon ← token_at name s
+  token_at (codes ":") colon
 
 -- a field's value
 abbrev pub field_at : {A : Type 0} → List ℕ → (List ℕ → Option A) → List ℕ → Option A
@@ -149,7 +149,7 @@ field_at name value s = option_and_then value (name_at name s)
 unfoldable pub first_fields_at : List ℕ → Option ((List ℕ × (List ℕ × Bool)) × List ℕ)
 first_fields_at s = do
   raw_cookie ← field_at (codes "raw_cookie") text_at s
-  second ← sign_at (codes ",") raw_cookie.1
+  second ← token_at (codes ",") raw_cookie.1
   path ← field_at (codes "path") path_at second
   Some ((raw_cookie.0, path.0), path.1)
 
@@ -157,16 +157,16 @@ first_fields_at s = do
 unfoldable pub last_fields_at : List ℕ → Option ((Domain × Option (List ℕ)) × List ℕ)
 last_fields_at s = do
   domain ← field_at (codes "domain") domain_at s
-  second ← sign_at (codes ",") domain.1
-  ends ← field_at (codes "expires") end_at second
+  second ← token_at (codes ",") domain.1
+  ends ← field_at (codes "expires") expiry_text_at second
   Some ((domain.0, ends.0), ends.1)
 
 -- a saved cookie
 unfoldable pub cookie_at : List ℕ → Option (Parts (List ℕ) × List ℕ)
 cookie_at s = do
-  fields ← sign_at (codes "(") s
+  fields ← token_at (codes "(") s
   first ← first_fields_at fields
-  others ← sign_at (codes ",") first.1
+  others ← token_at (codes ",") first.1
   last ← last_fields_at others
   rest ← close_at (codes ")") last.1
   Some (
@@ -183,13 +183,13 @@ cookie_at s = do
 -- after a cookie: a comma and more cookies, or the closing bracket
 abbrev pub behind_cookie : (List ℕ → Option (List (Parts (List ℕ)) × List ℕ)) → List ℕ → Option (List (Parts (List ℕ)) × List ℕ)
 behind_cookie more s =
-    either (sign_at (codes ",") s) more (option_map (λ rest. ([], rest)) (sign_at (codes "]") s))
+    either (token_at (codes ",") s) more (option_map (λ rest. ([], rest)) (token_at (codes "]") s))
 
 -- the cookies of a list up to its closing bracket; `n` is larger than the number of characters left
 abbrev pub cookies_at : ℕ → List ℕ → Option (List (Parts (List ℕ)) × List ℕ)
 cookies_at zero s = None
 cookies_at (suc n) s =
-    either (sign_at (codes "]") s) (λ rest. Some ([], rest))
+    either (token_at (codes "]") s) (λ rest. Some ([], rest))
     (option_and_then
     (λ first. onto (first.0 ∷ []) (behind_cookie (λ rest. cookies_at n rest) first.1))
     (cookie_at s))
@@ -202,6 +202,6 @@ if_empty a (c ∷ cs) = None
 -- the list of a whole input
 unfoldable pub list_at : List ℕ → Option (List (Parts (List ℕ)))
 list_at s = do
-  cookies ← sign_at (codes "[") s
+  cookies ← token_at (codes "[") s
   read ← cookies_at (suc (length cookies)) cookies
   if_empty read.0 (drop_blanks read.1)

@@ -4,8 +4,8 @@
 pub mod laws;
 mod printing;
 mod reading;
-mod signs;
 mod texts;
+mod tokens;
 
 pub use printing::to_ron;
 pub use reading::from_ron;

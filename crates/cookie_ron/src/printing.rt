@@ -4,8 +4,8 @@ ghost use Rattle.std.specs.Str.{chars};
 ghost use Rattle.std.specs.List.{list_any};
 ghost use Rattle.cookie_forms.specs.MomentText.{moment_text};
 ghost use Rattle.cookie_forms.specs.Saved.{domain_view, expiry_view, saved_view};
-ghost use Rattle.cookie_forms.specs.WrittenTrees.{ends_early, is_early, with_text};
-ghost use Rattle.cookie_ron.specs.Printed.{printed_char, quoted, printed_path, printed_domain, printed_end, printed_cookie, printed_list, ron_written};
+ghost use Rattle.cookie_forms.specs.ToJson.{expires_early, is_early, with_expiry_text};
+ghost use Rattle.cookie_ron.specs.Printed.{printed_char, quoted, printed_path, printed_domain, printed_expiry, printed_cookie, printed_list, ron_written};
 
 use cookie_forms::{Saved, SavedDomain, SavedError, SavedExpiry, moment_text};
 use std::alloc::{AllocError, Global};
@@ -57,7 +57,7 @@ fn any_early(list: &[Saved]) -> bool
 
 // Whether the expiry is before the year 0.
 fn is_early(expires: SavedExpiry) -> bool
-    ensures { result ≡ ends_early (expiry_view expires) }
+    ensures { result ≡ expires_early (expiry_view expires) }
 {
     match expires {
         SavedExpiry::AtUtc(moment) => moment.year() < 0,
@@ -68,7 +68,7 @@ fn is_early(expires: SavedExpiry) -> bool
 // Appends a list in which no expiry is before the year 0.
 fn push_list(alloc: Global, text: &mut String, list: &[Saved]) -> Result<(), SavedError>
     requires { list_any is_early (map saved_view list.now) ≡ false }
-    ensures text { OnOk result (string_bytes text.new ≡ string_bytes text.old ++ printed_list (map with_text (map saved_view list.now))) }
+    ensures text { OnOk result (string_bytes text.new ≡ string_bytes text.old ++ printed_list (map with_expiry_text (map saved_view list.now))) }
     ensures refused { IfErr result (λ e. e ≡ SavedError.Memory) }
 {
     if list.is_empty() {
@@ -83,7 +83,7 @@ fn push_list(alloc: Global, text: &mut String, list: &[Saved]) -> Result<(), Sav
 fn push_cookies(alloc: Global, text: &mut String, list: &[Saved]) -> Result<(), SavedError>
     requires { list_any is_early (map saved_view list.now) ≡ false }
     ensures text { OnOk result (string_bytes text.new ≡ string_bytes text.old
-        ++ flat_map printed_cookie (map with_text (map saved_view list.now))) }
+        ++ flat_map printed_cookie (map with_expiry_text (map saved_view list.now))) }
     ensures refused { IfErr result (λ e. e ≡ SavedError.Memory) }
 {
     for saved in list {
@@ -95,7 +95,7 @@ fn push_cookies(alloc: Global, text: &mut String, list: &[Saved]) -> Result<(), 
 // Appends a cookie whose expiry is not before the year 0.
 fn push_cookie(alloc: Global, text: &mut String, saved: &Saved) -> Result<(), SavedError>
     requires { is_early (saved_view saved.now) ≡ false }
-    ensures text { OnOk result (string_bytes text.new ≡ string_bytes text.old ++ printed_cookie (with_text (saved_view saved.now))) }
+    ensures text { OnOk result (string_bytes text.new ≡ string_bytes text.old ++ printed_cookie (with_expiry_text (saved_view saved.now))) }
     ensures refused { IfErr result (λ e. e ≡ SavedError.Memory) }
 {
     text.push_str("    (\n")?;
@@ -109,7 +109,7 @@ fn push_cookie(alloc: Global, text: &mut String, saved: &Saved) -> Result<(), Sa
     push_domain(text, &saved.domain)?;
     text.push_str(",\n")?;
     push_name(text, "expires")?;
-    push_end(alloc, text, saved.expires)?;
+    push_expiry(alloc, text, saved.expires)?;
     text.push_str(",\n")?;
     Ok(text.push_str("    ),\n")?)
 }
@@ -147,9 +147,9 @@ fn push_domain(text: &mut String, domain: &SavedDomain) -> Result<(), AllocError
 }
 
 // Appends an expiry that is not before the year 0.
-fn push_end(alloc: Global, text: &mut String, expires: SavedExpiry) -> Result<(), SavedError>
-    requires { ends_early (expiry_view expires) ≡ false }
-    ensures text { OnOk result (string_bytes text.new ≡ string_bytes text.old ++ printed_end (option_map moment_text (expiry_view expires))) }
+fn push_expiry(alloc: Global, text: &mut String, expires: SavedExpiry) -> Result<(), SavedError>
+    requires { expires_early (expiry_view expires) ≡ false }
+    ensures text { OnOk result (string_bytes text.new ≡ string_bytes text.old ++ printed_expiry (option_map moment_text (expiry_view expires))) }
     ensures refused { IfErr result (λ e. e ≡ SavedError.Memory) }
 {
     match expires {

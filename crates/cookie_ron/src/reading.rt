@@ -4,13 +4,13 @@
 ghost use Rattle.std.specs.Prelude.{◌≡◌, ◌≢◌, ◌⊎◌, ℕ, List, [], None, Some, Ok, Err, IfOk, IfErr, IsOk, length, map, option_map, suc, string_bytes};
 ghost use Rattle.std.specs.Str.{chars};
 ghost use Rattle.cookie_forms.specs.Saved.{saved_view, domain_view, expiry_view};
-ghost use Rattle.cookie_forms.specs.ReadTrees.{ends_at, with_moment, all_with_moment};
+ghost use Rattle.cookie_forms.specs.FromJson.{parsed_expiry, with_parsed_expiry, all_with_parsed_expiry};
 ghost use Rattle.cookie_ron.specs.Entries.{entry_view};
-ghost use Rattle.cookie_ron.specs.Reading.{flag_at, argument_at, path_at, domain_at, end_at, first_fields_at, last_fields_at, cookie_at, cookies_at, list_at};
-ghost use Rattle.cookie_ron.specs.RonLists.{SaysRon};
+ghost use Rattle.cookie_ron.specs.Reading.{flag_at, argument_at, path_at, domain_at, expiry_text_at, first_fields_at, last_fields_at, cookie_at, cookies_at, list_at};
+ghost use Rattle.cookie_ron.specs.RonLists.{RonParsesTo};
 
-use crate::signs::{close_at, drop_blanks, name_at, sign_at};
 use crate::texts::text_at;
+use crate::tokens::{close_at, drop_blanks, name_at, token_at};
 use cookie_forms::{Saved, SavedDomain, SavedError, SavedExpiry, read_moment};
 use std::alloc::{AllocError, Global};
 
@@ -44,15 +44,15 @@ struct Entry {
 /// - `Memory`: out of memory. May be returned in place of either of the others; only an empty
 ///   `text` is always `Ron`.
 pub fn from_ron(alloc: Global, text: &str) -> Result<Vec<Saved>, SavedError>
-    ensures list { IfOk result (λ list. SaysRon text.now (Ok (map saved_view list.items))) }
-    ensures refused { IfErr result (λ e. (e ≡ SavedError.Memory) ⊎ SaysRon text.now (Err e)) }
+    ensures list { IfOk result (λ list. RonParsesTo text.now (Ok (map saved_view list.items))) }
+    ensures refused { IfErr result (λ e. (e ≡ SavedError.Memory) ⊎ RonParsesTo text.now (Err e)) }
     ensures empty { text.now ≡ [] → result ≡ Err SavedError.Ron }
 {
     if text.is_empty() {
         return Err(SavedError::Ron);
     }
     let input = chars_of(alloc, text)?;
-    with_moments(alloc, list_at(alloc, &input)?)
+    with_parsed_expiries(alloc, list_at(alloc, &input)?)
 }
 
 // Collects the characters of a string.
@@ -64,10 +64,10 @@ fn chars_of(alloc: Global, text: &str) -> Result<Vec<char>, AllocError>
 
 // Parses the expiry of each cookie.
 #[tactic(auto, using(crate::proofs::EndsRead::end_steps))]
-fn with_moments(alloc: Global, entries: Vec<Entry>) -> Result<Vec<Saved>, SavedError>
-    ensures read { IfOk result (λ list. all_with_moment (map entry_view entries.items) ≡ Some (map saved_view list.items)) }
+fn with_parsed_expiries(alloc: Global, entries: Vec<Entry>) -> Result<Vec<Saved>, SavedError>
+    ensures read { IfOk result (λ list. all_with_parsed_expiry (map entry_view entries.items) ≡ Some (map saved_view list.items)) }
     ensures refused { IfErr result (λ e. (e ≡ SavedError.Memory)
-        ⊎ ((e ≡ SavedError.Moment) × (all_with_moment (map entry_view entries.items) ≡ None))) }
+        ⊎ ((e ≡ SavedError.Moment) × (all_with_parsed_expiry (map entry_view entries.items) ≡ None))) }
     ensures memory { result ≡ Err SavedError.Memory → entries.items ≢ [] }
 {
     let mut list = Vec::new(alloc);
@@ -79,8 +79,8 @@ fn with_moments(alloc: Global, entries: Vec<Entry>) -> Result<Vec<Saved>, SavedE
 
 // Parses the expiry of a cookie.
 fn saved_from(entry: Entry) -> Result<Saved, SavedError>
-    ensures read { IfOk result (λ saved. with_moment (entry_view entry) ≡ Some (saved_view saved)) }
-    ensures refused { IfErr result (λ e. (e ≡ SavedError.Moment) × (with_moment (entry_view entry) ≡ None)) }
+    ensures read { IfOk result (λ saved. with_parsed_expiry (entry_view entry) ≡ Some (saved_view saved)) }
+    ensures refused { IfErr result (λ e. (e ≡ SavedError.Moment) × (with_parsed_expiry (entry_view entry) ≡ None)) }
 {
     let expires = expiry_at(&entry.ends)?;
     Ok(Saved {
@@ -94,8 +94,8 @@ fn saved_from(entry: Entry) -> Result<Saved, SavedError>
 
 // Parses an expiry; `None` stands for a session cookie.
 fn expiry_at(ends: &Option<String>) -> Result<SavedExpiry, SavedError>
-    ensures read { IfOk result (λ expires. ends_at (option_map string_bytes ends.now) ≡ Some (expiry_view expires)) }
-    ensures refused { IfErr result (λ e. (e ≡ SavedError.Moment) × (ends_at (option_map string_bytes ends.now) ≡ None)) }
+    ensures read { IfOk result (λ expires. parsed_expiry (option_map string_bytes ends.now) ≡ Some (expiry_view expires)) }
+    ensures refused { IfErr result (λ e. (e ≡ SavedError.Moment) × (parsed_expiry (option_map string_bytes ends.now) ≡ None)) }
 {
     match ends {
         Some(text) => Ok(SavedExpiry::AtUtc(read_moment(text).ok_or(SavedError::Moment)?)),
@@ -111,7 +111,7 @@ fn list_at(alloc: Global, input: &[char]) -> Result<Vec<Entry>, SavedError>
         ⊎ ((e ≡ SavedError.Ron) × (list_at input.now ≡ None))) }
     ensures memory { list_at input.now ≡ Some [] → IsOk result }
 {
-    let (entries, rest) = cookies_at(alloc, sign_at(b"[", input)?)?;
+    let (entries, rest) = cookies_at(alloc, token_at(b"[", input)?)?;
     match drop_blanks(rest) {
         [] => Ok(entries),
         [_, ..] => Err(SavedError::Ron),
@@ -128,14 +128,14 @@ fn cookies_at(alloc: Global, input: &[char]) -> Result<(Vec<Entry>, &[char]), Sa
     let mut entries = Vec::new(alloc);
     let mut rest = input;
     loop {
-        if let Ok(behind) = sign_at(b"]", rest) {
+        if let Ok(behind) = token_at(b"]", rest) {
             return Ok((entries, behind));
         }
         let (entry, behind) = cookie_at(alloc, rest)?;
         entries.push(entry)?;
-        match sign_at(b",", behind) {
+        match token_at(b",", behind) {
             Ok(next) => rest = next,
-            Err(_) => return Ok((entries, sign_at(b"]", behind)?)),
+            Err(_) => return Ok((entries, token_at(b"]", behind)?)),
         }
     }
 }
@@ -147,8 +147,8 @@ fn cookie_at(alloc: Global, input: &[char]) -> Result<(Entry, &[char]), SavedErr
     ensures refused { IfErr result (λ e. (e ≡ SavedError.Memory)
         ⊎ ((e ≡ SavedError.Ron) × (cookie_at input.now ≡ None))) }
 {
-    let (raw_cookie, path, from_attr, rest) = first_fields_at(alloc, sign_at(b"(", input)?)?;
-    let (domain, ends, rest) = last_fields_at(alloc, sign_at(b",", rest)?)?;
+    let (raw_cookie, path, from_attr, rest) = first_fields_at(alloc, token_at(b"(", input)?)?;
+    let (domain, ends, rest) = last_fields_at(alloc, token_at(b",", rest)?)?;
     let rest = close_at(b")", rest)?;
     let entry = Entry {
         raw_cookie,
@@ -171,7 +171,7 @@ fn first_fields_at(
         ⊎ ((e ≡ SavedError.Ron) × (first_fields_at input.now ≡ None))) }
 {
     let (raw_cookie, rest) = text_at(alloc, name_at(b"raw_cookie", input)?)?;
-    let second = sign_at(b",", rest)?;
+    let second = token_at(b",", rest)?;
     let (path, from_attr, rest) = path_at(alloc, name_at(b"path", second)?)?;
     Ok((raw_cookie, path, from_attr, rest))
 }
@@ -187,8 +187,8 @@ fn last_fields_at(
         ⊎ ((e ≡ SavedError.Ron) × (last_fields_at input.now ≡ None))) }
 {
     let (domain, rest) = domain_at(alloc, name_at(b"domain", input)?)?;
-    let second = sign_at(b",", rest)?;
-    let (ends, rest) = end_at(alloc, name_at(b"expires", second)?)?;
+    let second = token_at(b",", rest)?;
+    let (ends, rest) = expiry_text_at(alloc, name_at(b"expires", second)?)?;
     Ok((domain, ends, rest))
 }
 
@@ -199,8 +199,8 @@ fn path_at(alloc: Global, input: &[char]) -> Result<(String, bool, &[char]), Sav
     ensures refused { IfErr result (λ e. (e ≡ SavedError.Memory)
         ⊎ ((e ≡ SavedError.Ron) × (path_at input.now ≡ None))) }
 {
-    let (path, rest) = text_at(alloc, sign_at(b"(", input)?)?;
-    let (from_attr, rest) = flag_at(sign_at(b",", rest)?)?;
+    let (path, rest) = text_at(alloc, token_at(b"(", input)?)?;
+    let (from_attr, rest) = flag_at(token_at(b",", rest)?)?;
     Ok((path, from_attr, close_at(b")", rest)?))
 }
 
@@ -210,9 +210,9 @@ fn flag_at(input: &[char]) -> Result<(bool, &[char]), SavedError>
     ensures read { IfOk result (λ p. flag_at input.now ≡ Some (p.0, p.1.now)) }
     ensures refused { IfErr result (λ e. (e ≡ SavedError.Ron) × (flag_at input.now ≡ None)) }
 {
-    match sign_at(b"true", input) {
+    match token_at(b"true", input) {
         Ok(rest) => Ok((true, rest)),
-        Err(_) => Ok((false, sign_at(b"false", input)?)),
+        Err(_) => Ok((false, token_at(b"false", input)?)),
     }
 }
 
@@ -223,33 +223,33 @@ fn domain_at(alloc: Global, input: &[char]) -> Result<(SavedDomain, &[char]), Sa
     ensures refused { IfErr result (λ e. (e ≡ SavedError.Memory)
         ⊎ ((e ≡ SavedError.Ron) × (domain_at input.now ≡ None))) }
 {
-    if let Ok(rest) = sign_at(b"HostOnly", input) {
+    if let Ok(rest) = token_at(b"HostOnly", input) {
         let (text, rest) = argument_at(alloc, rest)?;
         return Ok((SavedDomain::HostOnly(text), rest));
     }
-    if let Ok(rest) = sign_at(b"Suffix", input) {
+    if let Ok(rest) = token_at(b"Suffix", input) {
         let (text, rest) = argument_at(alloc, rest)?;
         return Ok((SavedDomain::Suffix(text), rest));
     }
-    match sign_at(b"NotPresent", input) {
+    match token_at(b"NotPresent", input) {
         Ok(rest) => Ok((SavedDomain::NotPresent, rest)),
-        Err(_) => Ok((SavedDomain::Empty, sign_at(b"Empty", input)?)),
+        Err(_) => Ok((SavedDomain::Empty, token_at(b"Empty", input)?)),
     }
 }
 
 // Reads an expiry as a string, not parsed yet; `None` for `SessionEnd`.
-#[tactic(auto, unfolding(crate::specs::Reading::end_at))]
-fn end_at(alloc: Global, input: &[char]) -> Result<(Option<String>, &[char]), SavedError>
-    ensures read { IfOk result (λ p. end_at input.now ≡ Some (option_map string_bytes p.0, p.1.now)) }
+#[tactic(auto, unfolding(crate::specs::Reading::expiry_text_at))]
+fn expiry_text_at(alloc: Global, input: &[char]) -> Result<(Option<String>, &[char]), SavedError>
+    ensures read { IfOk result (λ p. expiry_text_at input.now ≡ Some (option_map string_bytes p.0, p.1.now)) }
     ensures refused { IfErr result (λ e. (e ≡ SavedError.Memory)
-        ⊎ ((e ≡ SavedError.Ron) × (end_at input.now ≡ None))) }
+        ⊎ ((e ≡ SavedError.Ron) × (expiry_text_at input.now ≡ None))) }
 {
-    match sign_at(b"AtUtc", input) {
+    match token_at(b"AtUtc", input) {
         Ok(rest) => {
             let (text, rest) = argument_at(alloc, rest)?;
             Ok((Some(text), rest))
         }
-        Err(_) => Ok((None, sign_at(b"SessionEnd", input)?)),
+        Err(_) => Ok((None, token_at(b"SessionEnd", input)?)),
     }
 }
 
@@ -260,6 +260,6 @@ fn argument_at(alloc: Global, input: &[char]) -> Result<(String, &[char]), Saved
     ensures refused { IfErr result (λ e. (e ≡ SavedError.Memory)
         ⊎ ((e ≡ SavedError.Ron) × (argument_at input.now ≡ None))) }
 {
-    let (text, rest) = text_at(alloc, sign_at(b"(", input)?)?;
+    let (text, rest) = text_at(alloc, token_at(b"(", input)?)?;
     Ok((text, close_at(b")", rest)?))
 }

@@ -5,7 +5,7 @@ ghost use Rattle.std.specs.Prelude.{◌≡◌, ◌⊎◌, ◌<◌, ◌≤◌, �
 ghost use Rattle.cookie_ron.specs.Grammar.{escaped_by};
 ghost use Rattle.cookie_ron.specs.Reading.{hex_value, byte_at, code_of, brace_in, in_braces, code_at, escape_at, char_at, text_at};
 
-use crate::signs::{behind, sign_at};
+use crate::tokens::{behind, token_at};
 use cookie_forms::SavedError;
 use std::alloc::Global;
 
@@ -122,7 +122,7 @@ pub(crate) fn text_at(alloc: Global, input: &[char]) -> Result<(String, &[char])
         ⊎ ((e ≡ SavedError.Ron) × (text_at input.now ≡ None))) }
 {
     let mut text = String::new(alloc);
-    let mut rest = sign_at(b"\"", input)?;
+    let mut rest = token_at(b"\"", input)?;
     loop {
         match char_at(rest) {
             Some((c, next)) => {

@@ -2,14 +2,14 @@
 use Rattle.std.proofs.Common.{◌≡◌, ℕ, suc, ◌+◌, ◌<◌, ◌⊎◌, List, [], ◌∷◌, ◌++◌, length, map, refl, sym, ◌∙◌, ap, subst, inl, inr, None, arith}
 use Rattle.std.specs.Prelude.{◌≢◌, IsTrue, nat_eq}
 use Rattle.std.specs.List.{AllByRecursion}
-use Rattle.cookie_parts.specs.Cookie.{Row, ended}
-use Rattle.cookie_laws.specs.Rows.{Key, key_of, same_key, has_key, are_rows, row_of, put, make, changed, removed, differ}
+use Rattle.cookie_parts.specs.Cookie.{Row, expired_row}
+use Rattle.cookie_laws.specs.Rows.{Key, key_of, same_key, has_key, are_rows, row_of, put, add_created, changed, removed, differ}
 use Rattle.cookie_lookup.specs.Groups.{flat, flat_paths, AreGroups, Filled}
-use Rattle.cookie_rows.specs.Items.{Item, ItemGroups, ItemPaths, AreItems, Below, bare, bare_paths, kept_of, by_number, made_of, put_items, end_items, remove_items, find_items, rows_of}
+use Rattle.cookie_rows.specs.Items.{Item, ItemGroups, ItemPaths, AreItems, Below, bare, bare_paths, rows_in_order, by_number, creation_order, put_items, expire_items, remove_items, find_items, rows_of}
 use Rattle.cookie_rows.proofs.Bare.{bare_put, bare_end, bare_remove, bare_found}
 use Rattle.cookie_rows.proofs.FoundRows.{found_in_groups, ended_in_groups, removed_in_groups}
-use Rattle.cookie_rows.proofs.Kept.{groups_put, groups_ended, groups_removed}
-use Rattle.cookie_rows.proofs.KeptOrder.{are_rows-put, are_rows-ended}
+use Rattle.cookie_rows.proofs.RowsInOrder.{groups_put, groups_ended, groups_removed}
+use Rattle.cookie_rows.proofs.KeptOrder.{are_rows-put, are_rows-expired_row}
 use Rattle.cookie_rows.proofs.Made.{made_put, below_put, differ_put, numbered_end, made_remove, below_remove, differ_remove, stays_numbered}
 use Rattle.cookie_rows.proofs.Puts.{put_in_groups}
 use Rattle.cookie_rows.proofs.Removed.{are_rows-removed}
@@ -27,8 +27,8 @@ module _ (n : ℕ) (gs : ItemGroups) (a : AreItems n gs) where
     rows_put = ap flat (bare_put row n gs) ∙ sym (put_in_groups row (bare gs) a.0)
 
     -- the rows and the keys
-    pub kept_put : kept_of (put_items row n gs) ≡ record { rows = put (flat (bare gs)) row; made = make (made_of gs) (key_of row) }
-    kept_put = λ i. record { rows = rows_put i; made = made_put row n gs a.0 a.2 i }
+    pub kept_put : rows_in_order (put_items row n gs) ≡ record { rows = put (flat (bare gs)) row; created = add_created (creation_order gs) (key_of row) }
+    kept_put = λ i. record { rows = rows_put i; created = made_put row n gs a.0 a.2 i }
 
     -- the numbers are below the next count
     below_next : (next : ℕ) → (next ≡ n + 1) ⊎ ((next ≡ n) × (find_items (key_of row) gs ≢ None)) → Below next (put_items row n gs)
@@ -52,18 +52,18 @@ module _ (n : ℕ) (gs : ItemGroups) (a : AreItems n gs) where
     -- a row is expired
 
     -- the rows
-    rows_ended : flat (bare (end_items key gs)) ≡ changed (has_key key) ended (flat (bare gs))
+    rows_ended : flat (bare (expire_items key gs)) ≡ changed (has_key key) expired_row (flat (bare gs))
     rows_ended = ap flat (bare_end key gs) ∙ sym (ended_in_groups key (bare gs) a.0)
 
     -- the rows and the keys
-    pub kept_ended : kept_of (end_items key gs) ≡ record (kept_of gs) { rows = changed (has_key key) ended (flat (bare gs)) }
-    kept_ended = λ i. record { rows = rows_ended i; made = map (λ x. x.0) (by_number (numbered_end key gs i)) }
+    pub kept_ended : rows_in_order (expire_items key gs) ≡ record (rows_in_order gs) { rows = changed (has_key key) expired_row (flat (bare gs)) }
+    kept_ended = λ i. record { rows = rows_ended i; created = map (λ x. x.0) (by_number (numbered_end key gs i)) }
 
     -- the groups
-    pub items_ended : AreItems n (end_items key gs)
+    pub items_ended : AreItems n (expire_items key gs)
     items_ended = (
       subst AreGroups (sym (bare_end key gs)) (groups_ended key (bare gs) a.0),
-      subst (λ rows. IsTrue (are_rows rows)) (sym rows_ended) (are_rows-ended (has_key key) (flat (bare gs)) a.1),
+      subst (λ rows. IsTrue (are_rows rows)) (sym rows_ended) (are_rows-expired_row (has_key key) (flat (bare gs)) a.1),
       subst (AllByRecursion (λ x. x.1 < n)) (sym (numbered_end key gs)) a.2,
       ap (λ xs. differ nat_eq (map (λ x. x.1) xs)) (numbered_end key gs) ∙ a.3,
     )
@@ -75,8 +75,8 @@ module _ (n : ℕ) (gs : ItemGroups) (a : AreItems n gs) where
     rows_removed = ap flat (bare_remove key gs) ∙ sym (removed_in_groups key (bare gs) a.0)
 
     -- the rows and the keys
-    pub kept_removed : kept_of (remove_items key gs) ≡ record { rows = removed (has_key key) (flat (bare gs)); made = removed (same_key key) (made_of gs) }
-    kept_removed = λ i. record { rows = rows_removed i; made = made_remove key gs a.0 a.1 i }
+    pub kept_removed : rows_in_order (remove_items key gs) ≡ record { rows = removed (has_key key) (flat (bare gs)); created = removed (same_key key) (creation_order gs) }
+    kept_removed = λ i. record { rows = rows_removed i; created = made_remove key gs a.0 a.1 i }
 
     -- the groups
     pub items_removed : AreItems n (remove_items key gs)

@@ -1,6 +1,6 @@
 -- Rows in groups without their numbers: what each change of the numbered groups does to them.
 use Rattle.std.specs.Prelude.{ℕ, List, [], ◌∷◌, Option, if◌then◌else◌}
-use Rattle.cookie_parts.specs.Cookie.{Row, ended}
+use Rattle.cookie_parts.specs.Cookie.{Row, expired_row}
 use Rattle.cookie_parts.specs.Domain.{domain_text}
 use Rattle.cookie_laws.specs.Rows.{Key, changed, removed}
 use Rattle.cookie_lookup.specs.Groups.{DomainGroups, PathGroups}
@@ -15,7 +15,7 @@ put_name row (x ∷ xs) = if is_named row.raw.name x then row ∷ xs else x ∷ 
 
 -- the rows with that one expired
 abbrev pub end_name : List ℕ → List Row → List Row
-end_name name rows = changed (is_named name) ended rows
+end_name name rows = changed (is_named name) expired_row rows
 
 -- the rows without it
 abbrev pub remove_name : List ℕ → List Row → List Row

@@ -16,10 +16,10 @@ use Rattle.indexmap.proofs.CallerLemmas.{filter-RetainsPairs}
 use Rattle.cookie_parts.specs.Cookie.{Row}
 use Rattle.cookie_parts.specs.Domain.{domain_text}
 use Rattle.cookie_laws.specs.Rows.{differ, key_of}
-use Rattle.cookie_lookup.specs.Seen.{place_of}
+use Rattle.cookie_lookup.specs.SearchView.{place_of}
 use Rattle.cookie_rows.specs.Groups.{changed_at, found, is_named, kept, lessened_at, put_at, row_named, texts_of}
 use Rattle.cookie_rows.specs.Items.{AreNamed, Item, ItemGroups, ItemPaths, find_item_paths, find_items, put_item, put_item_paths, put_items, rows_of}
-use Rattle.cookie_rows.specs.Turns.{entered_items, entered_paths, is_filled, is_single, is_single_paths, passing, settled}
+use Rattle.cookie_rows.specs.Eviction.{insert_in_domains, insert_in_paths, is_filled, is_single, is_single_paths, filter_paths, moved_to_end_if}
 use Rattle.cookie_rows.proofs.Maps.{at_text}
 use Rattle.cookie_rows.proofs.Members.{absent}
 use Rattle.cookie_rows.proofs.NumberedPuts.{PathsDiffer, TextsDiffer}
@@ -37,7 +37,7 @@ filled_is xs l = grind (arith, nat_tests)
 
 module _ {X : Type 0} where
   -- a single group is unchanged
-  settled_one : (alone : List X → Bool) (text t : List ℕ) (xs : List X) → settled alone text ((t, xs) ∷ []) ≡ (t, xs) ∷ []
+  settled_one : (alone : List X → Bool) (text t : List ℕ) (xs : List X) → moved_to_end_if alone text ((t, xs) ∷ []) ≡ (t, xs) ∷ []
   settled_one alone text t xs = elim (cases_Bool (bytes_eq text t)) [
     | inl e ↦ elim (cases_Bool (alone xs)) [
       | inl a ↦ rw (e, a) refl
@@ -57,12 +57,12 @@ module _ {X : Type 0} where
   module _ (put : List X → List X) (alone : List X → Bool) (text t : List ℕ) where
     -- if a group that was kept or dropped is new, it goes to the end
     put_kept : (xs : List X) (gs : List (List ℕ × List X)) → bytes_eq text t ≡ true → list_any (bytes_eq text) (map (λ g. g.0) gs) ≡ false → alone (put xs) ≡ (length xs == 0)
-        → put_at put text (kept t xs gs) ≡ settled alone text ((t, put xs) ∷ gs)
+        → put_at put text (kept t xs gs) ≡ moved_to_end_if alone text ((t, put xs) ∷ gs)
     put_kept [] gs e none is = put_new put text gs none ∙ rw (e, is) (ap (λ s. gs ++ (s, put []) ∷ []) ((bytes_eq-Decides text t).0 e))
     put_kept (x ∷ xs) gs e none is = let more : alone (put (x ∷ xs)) ≡ false = is ∙ some_is x xs in rw (e, more) refl
 
     -- a group of another name keeps its position
-    put_past : (xs : List X) (gs hs : List (List ℕ × List X)) → bytes_eq text t ≡ false → put_at put text gs ≡ settled alone text hs → put_at put text (kept t xs gs) ≡ settled alone text (kept t xs hs)
+    put_past : (xs : List X) (gs hs : List (List ℕ × List X)) → bytes_eq text t ≡ false → put_at put text gs ≡ moved_to_end_if alone text hs → put_at put text (kept t xs gs) ≡ moved_to_end_if alone text (kept t xs hs)
     put_past [] gs hs e same = same
     put_past (x ∷ xs) gs hs e same = rw e (ap (λ ks. (t, x ∷ xs) ∷ ks) same)
 
@@ -80,7 +80,7 @@ module _ {X : Type 0} where
     -- some items are removed from the group of the name, and then one is added: the same as both at once, with the
     -- group then moved to the end if the new item is alone
     pub put_where_left_at : (gs : List (List ℕ × List X)) → differ bytes_eq (map (λ g. g.0) gs) ≡ true → AtText (λ xs. alone (put (leave xs)) ≡ (length (leave xs) == 0)) text gs
-        → put_at put text (lessened_at leave text gs) ≡ settled alone text (put_at (λ xs. put (leave xs)) text gs)
+        → put_at put text (lessened_at leave text gs) ≡ moved_to_end_if alone text (put_at (λ xs. put (leave xs)) text gs)
     put_where_left_at [] d is = ap (λ xs. (text, put xs) ∷ []) (sym nothing) ∙ sym (settled_one alone text text (put (leave [])))
     put_where_left_at (g ∷ gs) d is = elim (cases_Bool (bytes_eq text g.0)) [
       | inl e ↦ rw e (put_kept put alone text g.0 (leave g.1) gs e (absent g.0 (map (λ g. g.0) gs) text e d) (is.0 e))
@@ -89,7 +89,7 @@ module _ {X : Type 0} where
 
     -- if an added item is alone in any group that was emptied, and in no other
     pub put_where_left : ((xs : List X) → alone (put (leave xs)) ≡ (length (leave xs) == 0)) → (gs : List (List ℕ × List X)) → differ bytes_eq (map (λ g. g.0) gs) ≡ true
-        → put_at put text (lessened_at leave text gs) ≡ settled alone text (put_at (λ xs. put (leave xs)) text gs)
+        → put_at put text (lessened_at leave text gs) ≡ moved_to_end_if alone text (put_at (λ xs. put (leave xs)) text gs)
     put_where_left is gs d = put_where_left_at gs d (at_any (λ xs. alone (put (leave xs)) ≡ (length (leave xs) == 0)) is text gs)
 
   -- putting a group and then changing it is one `put_at`
@@ -117,8 +117,8 @@ module _ {X : Type 0} where
 
 module _ (test : Item → Bool) where
   -- a group is kept if something in it passes
-  passing_kept : (p : List ℕ × List Item) (ps : ItemPaths) → passing test (p ∷ ps) ≡ kept p.0 (filter test p.1) (passing test ps)
-  passing_kept p ps = filled_kept p.0 (filter test p.1) (passing test ps)
+  passing_kept : (p : List ℕ × List Item) (ps : ItemPaths) → filter_paths test (p ∷ ps) ≡ kept p.0 (filter test p.1) (filter_paths test ps)
+  passing_kept p ps = filled_kept p.0 (filter test p.1) (filter_paths test ps)
     where
       -- the same of any group
       filled_kept : (t : List ℕ) (xs : List Item) (qs : ItemPaths) → cond (is_filled (t, xs)) ((t, xs) ∷ qs) qs ≡ kept t xs qs
@@ -126,9 +126,9 @@ module _ (test : Item → Bool) where
       filled_kept t (x ∷ xs) qs = refl
 
   -- so there is something in each group
-  pub passing_filled : (ps : ItemPaths) → AllByRecursion (λ p. 0 < length p.1) (passing test ps)
+  pub passing_filled : (ps : ItemPaths) → AllByRecursion (λ p. 0 < length p.1) (filter_paths test ps)
   passing_filled [] = tt
-  passing_filled (p ∷ ps) = subst (AllByRecursion (λ p. 0 < length p.1)) (sym (passing_kept p ps)) (filled_all p.0 (filter test p.1) (passing test ps) (passing_filled ps))
+  passing_filled (p ∷ ps) = subst (AllByRecursion (λ p. 0 < length p.1)) (sym (passing_kept p ps)) (filled_all p.0 (filter test p.1) (filter_paths test ps) (passing_filled ps))
     where
       -- the same with a group in front, if there is something in it
       filled_all : (t : List ℕ) (xs : List Item) (qs : ItemPaths) → AllByRecursion (λ p. 0 < length p.1) qs → AllByRecursion (λ p. 0 < length p.1) (kept t xs qs)
@@ -136,13 +136,13 @@ module _ (test : Item → Bool) where
       filled_all t (x ∷ xs) qs a = (omega arith, a)
 
   -- a name that was not there is still not there
-  absent_passing : (text : List ℕ) (ps : ItemPaths) → list_any (bytes_eq text) (map (λ p. p.0) ps) ≡ false → list_any (bytes_eq text) (map (λ p. p.0) (passing test ps)) ≡ false
+  absent_passing : (text : List ℕ) (ps : ItemPaths) → list_any (bytes_eq text) (map (λ p. p.0) ps) ≡ false → list_any (bytes_eq text) (map (λ p. p.0) (filter_paths test ps)) ≡ false
   absent_passing text [] none = refl
   absent_passing text (p ∷ ps) none =
       let other : bytes_eq text p.0 ≡ false = grind (arith, none) in
       let rest : list_any (bytes_eq text) (map (λ p. p.0) ps) ≡ false = grind (arith, none) in
       ap (λ qs. list_any (bytes_eq text) (map (λ p. p.0) qs)) (passing_kept p ps)
-      ∙ absent_kept text p.0 (filter test p.1) (passing test ps) other (absent_passing text ps rest)
+      ∙ absent_kept text p.0 (filter test p.1) (filter_paths test ps) other (absent_passing text ps rest)
 
   -- nor is a name
   none_filtered : (name : List ℕ) (xs : List Item) → row_named name (rows_of xs) ≡ None → row_named name (rows_of (filter test xs)) ≡ None
@@ -156,14 +156,14 @@ module _ (test : Item → Bool) where
   ]
 
   -- nor a row of a path and a name
-  pub none_passing : (path name : List ℕ) (ps : ItemPaths) → differ bytes_eq (map (λ p. p.0) ps) ≡ true → find_item_paths path name ps ≡ None → find_item_paths path name (passing test ps) ≡ None
+  pub none_passing : (path name : List ℕ) (ps : ItemPaths) → differ bytes_eq (map (λ p. p.0) ps) ≡ true → find_item_paths path name ps ≡ None → find_item_paths path name (filter_paths test ps) ≡ None
   none_passing path name [] d none = refl
   none_passing path name (p ∷ ps) d none = elim (cases_Bool (bytes_eq path p.0)) [
     | inl e ↦
         let here = rw e at none in
         let others = absent_passing path ps (absent p.0 (map (λ p. p.0) ps) path e d) in
         ap (find_item_paths path name) (passing_kept p ps)
-        ∙ in_kept (filter test p.1) e (none_filtered name p.1 here) (found_absent (λ items. row_named name (rows_of items)) path (passing test ps) others)
+        ∙ in_kept (filter test p.1) e (none_filtered name p.1 here) (found_absent (λ items. row_named name (rows_of items)) path (filter_paths test ps) others)
     | inr e ↦
         let rest = rw e at none in
         let after : differ bytes_eq (map (λ p. p.0) ps) ≡ true = grind (arith, d) in
@@ -171,12 +171,12 @@ module _ (test : Item → Bool) where
   ]
     where
       -- neither in a group nor behind it
-      in_kept : (xs : List Item) → bytes_eq path p.0 ≡ true → row_named name (rows_of xs) ≡ None → find_item_paths path name (passing test ps) ≡ None → find_item_paths path name (kept p.0 xs (passing test ps)) ≡ None
+      in_kept : (xs : List Item) → bytes_eq path p.0 ≡ true → row_named name (rows_of xs) ≡ None → find_item_paths path name (filter_paths test ps) ≡ None → find_item_paths path name (kept p.0 xs (filter_paths test ps)) ≡ None
       in_kept [] e here others = others
       in_kept (x ∷ xs) e here others = rw e here
 
       -- not behind a group of another path
-      past_kept : (xs : List Item) → bytes_eq path p.0 ≡ false → find_item_paths path name (passing test ps) ≡ None → find_item_paths path name (kept p.0 xs (passing test ps)) ≡ None
+      past_kept : (xs : List Item) → bytes_eq path p.0 ≡ false → find_item_paths path name (filter_paths test ps) ≡ None → find_item_paths path name (kept p.0 xs (filter_paths test ps)) ≡ None
       past_kept [] e others = others
       past_kept (x ∷ xs) e others = rw e others
 
@@ -220,10 +220,10 @@ module _ (row : Row) (n : ℕ) where
     | inr e ↦ rw e refl
   ]
 
-  module _ (test : Item → Bool) (stays : test (record { row = row; number = n }) ≡ true) where
+  module _ (test : Item → Bool) (survives : test (record { row = row; number = n }) ≡ true) where
     -- others are evicted from a group before or after it is stored
     filter_put : (xs : List Item) → row_named row.raw.name (rows_of xs) ≡ None → filter test (put_item row n xs) ≡ put_item row n (filter test xs)
-    filter_put [] none = rw stays refl
+    filter_put [] none = rw survives refl
     filter_put (x ∷ xs) none = elim (cases_Bool (is_named row.raw.name x.row)) [
       | inl e ↦ let none' = rw e at none in absurd (cc)
       | inr e ↦ let none' = rw e at none in elim (cases_Bool (test x)) [
@@ -234,62 +234,62 @@ module _ (row : Row) (n : ℕ) where
 
     -- and from a domain, where its group is moved to the end if it is alone
     pub put_passing : (ps : ItemPaths) → differ bytes_eq (map (λ p. p.0) ps) ≡ true → find_item_paths row.path.text row.raw.name ps ≡ None
-        → put_item_paths row n (passing test ps) ≡ settled is_single row.path.text (passing test (put_item_paths row n ps))
-    put_passing [] d none = rw stays (sym (settled_one is_single row.path.text row.path.text (record { row = row; number = n } ∷ [])))
+        → put_item_paths row n (filter_paths test ps) ≡ moved_to_end_if is_single row.path.text (filter_paths test (put_item_paths row n ps))
+    put_passing [] d none = rw survives (sym (settled_one is_single row.path.text row.path.text (record { row = row; number = n } ∷ [])))
     put_passing (p ∷ ps) d none = elim (cases_Bool (bytes_eq row.path.text p.0)) [
       | inl e ↦
           let here = rw e at none in
           let others = absent_passing test row.path.text ps (absent p.0 (map (λ p. p.0) ps) row.path.text e d) in
           ap (put_item_paths row n) (passing_kept test p ps)
-          ∙ put_kept (put_item row n) is_single row.path.text p.0 (filter test p.1) (passing test ps) e others (put_item_alone (filter test p.1) (none_filtered test row.raw.name p.1 here))
-          ∙ ap (settled is_single row.path.text) (sym (in_front here e))
+          ∙ put_kept (put_item row n) is_single row.path.text p.0 (filter test p.1) (filter_paths test ps) e others (put_item_alone (filter test p.1) (none_filtered test row.raw.name p.1 here))
+          ∙ ap (moved_to_end_if is_single row.path.text) (sym (in_front here e))
       | inr e ↦
           let rest = rw e at none in
           let after : differ bytes_eq (map (λ p. p.0) ps) ≡ true = grind (arith, d) in
           ap (put_item_paths row n) (passing_kept test p ps)
-          ∙ put_past (put_item row n) is_single row.path.text p.0 (filter test p.1) (passing test ps) (passing test (put_item_paths row n ps)) e (put_passing ps after rest)
-          ∙ ap (settled is_single row.path.text) (sym (behind e))
+          ∙ put_past (put_item row n) is_single row.path.text p.0 (filter test p.1) (filter_paths test ps) (filter_paths test (put_item_paths row n ps)) e (put_passing ps after rest)
+          ∙ ap (moved_to_end_if is_single row.path.text) (sym (behind e))
     ]
       where
         -- it was put into the first group
-        in_front : row_named row.raw.name (rows_of p.1) ≡ None → bytes_eq row.path.text p.0 ≡ true → passing test (put_item_paths row n (p ∷ ps)) ≡ (p.0, put_item row n (filter test p.1)) ∷ passing test ps
-        in_front here e = rw e (passing_kept test (p.0, put_item row n p.1) ps ∙ ap (λ xs. kept p.0 xs (passing test ps)) (filter_put p.1 here) ∙ kept_put p.0 (filter test p.1) (passing test ps))
+        in_front : row_named row.raw.name (rows_of p.1) ≡ None → bytes_eq row.path.text p.0 ≡ true → filter_paths test (put_item_paths row n (p ∷ ps)) ≡ (p.0, put_item row n (filter test p.1)) ∷ filter_paths test ps
+        in_front here e = rw e (passing_kept test (p.0, put_item row n p.1) ps ∙ ap (λ xs. kept p.0 xs (filter_paths test ps)) (filter_put p.1 here) ∙ kept_put p.0 (filter test p.1) (filter_paths test ps))
 
         -- or behind it
-        behind : bytes_eq row.path.text p.0 ≡ false → passing test (put_item_paths row n (p ∷ ps)) ≡ kept p.0 (filter test p.1) (passing test (put_item_paths row n ps))
+        behind : bytes_eq row.path.text p.0 ≡ false → filter_paths test (put_item_paths row n (p ∷ ps)) ≡ kept p.0 (filter test p.1) (filter_paths test (put_item_paths row n ps))
         behind e = rw e (passing_kept test p (put_item_paths row n ps))
 
     -- in its domain it is alone if all others are evicted
     left_alone : (gs : ItemGroups) → AllByRecursion (λ g. PathsDiffer g.1) gs → find_items (key_of row) gs ≡ None
-        → AtText (λ ps. is_single_paths (put_item_paths row n (passing test ps)) ≡ (length (passing test ps) == 0)) (domain_text row.domain) gs
+        → AtText (λ ps. is_single_paths (put_item_paths row n (filter_paths test ps)) ≡ (length (filter_paths test ps) == 0)) (domain_text row.domain) gs
     left_alone [] d none = tt
     left_alone (g ∷ gs) d none = (
-      λ e. put_paths_alone (passing test g.1) (passing_filled test g.1) (none_passing test row.path.text row.raw.name g.1 d.0 (rw e at none)),
+      λ e. put_paths_alone (filter_paths test g.1) (passing_filled test g.1) (none_passing test row.path.text row.raw.name g.1 d.0 (rw e at none)),
       λ e. left_alone gs d.1 (rw e at none),
     )
 
     -- and others are evicted from that before or after it is stored
     left_later : (gs : ItemGroups) → AllByRecursion (λ g. PathsDiffer g.1) gs → find_items (key_of row) gs ≡ None
-        → AtText (λ ps. put_item_paths row n (passing test ps) ≡ settled is_single row.path.text (passing test (put_item_paths row n ps))) (domain_text row.domain) gs
+        → AtText (λ ps. put_item_paths row n (filter_paths test ps) ≡ moved_to_end_if is_single row.path.text (filter_paths test (put_item_paths row n ps))) (domain_text row.domain) gs
     left_later [] d none = tt
     left_later (g ∷ gs) d none = (λ e. put_passing g.1 d.0 (rw e at none), λ e. left_later gs d.1 (rw e at none))
 
     -- so others are evicted from its domain before it is stored, or after, and then the groups of its path and of its
     -- domain are moved to the end if it is alone in them
     pub put_items_left : (gs : ItemGroups) → TextsDiffer gs → find_items (key_of row) gs ≡ None
-        → put_items row n (lessened_at (passing test) (domain_text row.domain) gs) ≡ settled is_single_paths (domain_text row.domain) (changed_at (λ ps. settled is_single row.path.text (passing test ps)) (domain_text row.domain) (put_items row n gs))
+        → put_items row n (lessened_at (filter_paths test) (domain_text row.domain) gs) ≡ moved_to_end_if is_single_paths (domain_text row.domain) (changed_at (λ ps. moved_to_end_if is_single row.path.text (filter_paths test ps)) (domain_text row.domain) (put_items row n gs))
     put_items_left gs d none =
-        put_where_left_at (passing test) (put_item_paths row n) is_single_paths refl (domain_text row.domain) gs d.0 (left_alone gs d.1 none)
-        ∙ ap (settled is_single_paths (domain_text row.domain))
-        (changed_put (λ ps. settled is_single row.path.text (passing test ps)) (put_item_paths row n) (λ ps. put_item_paths row n (passing test ps)) (domain_text row.domain) gs (put_passing [] refl refl) (left_later gs d.1 none))
+        put_where_left_at (filter_paths test) (put_item_paths row n) is_single_paths refl (domain_text row.domain) gs d.0 (left_alone gs d.1 none)
+        ∙ ap (moved_to_end_if is_single_paths (domain_text row.domain))
+        (changed_put (λ ps. moved_to_end_if is_single row.path.text (filter_paths test ps)) (put_item_paths row n) (λ ps. put_item_paths row n (filter_paths test ps)) (domain_text row.domain) gs (put_passing [] refl refl) (left_later gs d.1 none))
 
     -- which is what entering does
     pub entered_is : (gs : ItemGroups) → TextsDiffer gs → find_items (key_of row) gs ≡ None
-        → entered_items test row n gs ≡ put_items row n (lessened_at (passing test) (domain_text row.domain) gs)
+        → insert_in_domains test row n gs ≡ put_items row n (lessened_at (filter_paths test) (domain_text row.domain) gs)
     entered_is gs d none =
-        let settle = λ (ps : ItemPaths). settled is_single row.path.text (passing test ps) in
-        let any = at_any (λ xs. entered_paths test row n xs ≡ settle (put_item_paths row n xs)) (λ xs. refl) (domain_text row.domain) gs in
-        ap (settled is_single_paths (domain_text row.domain)) (changed_put settle (put_item_paths row n) (entered_paths test row n) (domain_text row.domain) gs refl any)
+        let move_single_to_end = λ (ps : ItemPaths). moved_to_end_if is_single row.path.text (filter_paths test ps) in
+        let any = at_any (λ xs. insert_in_paths test row n xs ≡ move_single_to_end (put_item_paths row n xs)) (λ xs. refl) (domain_text row.domain) gs in
+        ap (moved_to_end_if is_single_paths (domain_text row.domain)) (changed_put move_single_to_end (put_item_paths row n) (insert_in_paths test row n) (domain_text row.domain) gs refl any)
         ∙ sym (put_items_left gs d none)
 
 -- an entry is moved last
@@ -329,14 +329,14 @@ one_before (Some m) n e = let same : m ≡ n = cc in ap Some same
 
 module _ {A X : Type 0} (alone : List X → Bool) (text : List ℕ) where
   -- the first entry, if it has the name and is alone
-  settled_first : (e f : String A × List X) (es : List (String A × List X)) → e ≡ f → bytes_eq text (string_bytes f.0) ≡ true → alone e.1 ≡ true → texts_of (es ++ e ∷ []) ≡ settled alone text (texts_of (f ∷ es))
+  settled_first : (e f : String A × List X) (es : List (String A × List X)) → e ≡ f → bytes_eq text (string_bytes f.0) ≡ true → alone e.1 ≡ true → texts_of (es ++ e ∷ []) ≡ moved_to_end_if alone text (texts_of (f ∷ es))
   settled_first e f es same t a =
       let a' : alone f.1 ≡ true = subst (λ (p : String A × List X). alone p.1 ≡ true) same a in
       rw (t, a') (map-append (λ (p : String A × List X). (string_bytes p.0, p.1)) es (e ∷ []) ∙ ap (λ (p : String A × List X). texts_of es ++ (string_bytes p.0, p.1) ∷ []) same)
 
   -- the first of the name, between these
   settled_between : (front back : List (String A × List X)) (k : String A) (v : List X) → string_bytes k ≡ text → list_any (bytes_eq text) (map (λ g. g.0) (texts_of front)) ≡ false → alone v ≡ true
-      → texts_of (front ++ back ++ (k, v) ∷ []) ≡ settled alone text (texts_of (front ++ (k, v) ∷ back))
+      → texts_of (front ++ back ++ (k, v) ∷ []) ≡ moved_to_end_if alone text (texts_of (front ++ (k, v) ∷ back))
   settled_between [] back k v is none a = settled_first (k, v) (k, v) back refl ((bytes_eq-Decides text (string_bytes k)).1 (sym is)) a
   settled_between (e ∷ front) back k v is none a =
       let other : bytes_eq text (string_bytes e.0) ≡ false = grind (arith, none) in
@@ -345,12 +345,12 @@ module _ {A X : Type 0} (alone : List X → Bool) (text : List ℕ) where
 
   -- so it is moved last
   pub map_settled_between : (front back : List (String A × List X)) (k : String A) (v : List X) → string_bytes k ≡ text → list_any (bytes_eq text) (map (λ g. g.0) (texts_of front)) ≡ false → alone v ≡ true
-      → texts_of (move_index (front ++ (k, v) ∷ back) (length front) (length (front ++ (k, v) ∷ back) - 1)) ≡ settled alone text (texts_of (front ++ (k, v) ∷ back))
+      → texts_of (move_index (front ++ (k, v) ∷ back) (length front) (length (front ++ (k, v) ∷ back) - 1)) ≡ moved_to_end_if alone text (texts_of (front ++ (k, v) ∷ back))
   map_settled_between front back k v is none a = ap texts_of (move_last_between front back (k, v)) ∙ settled_between front back k v is none a
 
   -- the first of the name, at this position
   settled_at : (es : List (String A × List X)) (n : ℕ) (k : String A) (v : List X) → slice_get es n ≡ Some (k, v) → place_of text (texts_of es) ≡ Some n → alone v ≡ true
-      → texts_of (remove es n ++ (k, v) ∷ []) ≡ settled alone text (texts_of es)
+      → texts_of (remove es n ++ (k, v) ∷ []) ≡ moved_to_end_if alone text (texts_of es)
   settled_at [] n k v there place a = absurd (cc)
   settled_at (e ∷ es) zero k v there place a = elim (cases_Bool (bytes_eq text (string_bytes e.0))) [
     | inl t ↦ let same : (k, v) ≡ e = cc in settled_first (k, v) e es same t a
@@ -363,11 +363,11 @@ module _ {A X : Type 0} (alone : List X → Bool) (text : List ℕ) where
 
   -- so it is moved last
   pub map_settled : (es : List (String A × List X)) (n : ℕ) (k : String A) (v : List X) → slice_get es n ≡ Some (k, v) → Some n ≡ position (at_text text) (keys_of es) → alone v ≡ true
-      → texts_of (move_index es n (length es - 1)) ≡ settled alone text (texts_of es)
+      → texts_of (move_index es n (length es - 1)) ≡ moved_to_end_if alone text (texts_of es)
   map_settled es n k v there place a = ap texts_of (move_last es n (k, v) there) ∙ settled_at es n k v there (sym (place ∙ place_is text es)) a
 
   -- the entry of the name is not alone, and is unchanged
-  pub map_stays : (es : List (String A × List X)) (v : List X) → Some v ≡ lookup (at_text text) es → alone v ≡ false → settled alone text (texts_of es) ≡ texts_of es
+  pub map_stays : (es : List (String A × List X)) (v : List X) → Some v ≡ lookup (at_text text) es → alone v ≡ false → moved_to_end_if alone text (texts_of es) ≡ texts_of es
   map_stays [] v l a = refl
   map_stays (e ∷ es) v l a = elim (cases_Bool (at_text text e.0)) [
     | inl t ↦ let l' = rw t at l in let same : e.1 ≡ v = cc in let a' : alone e.1 ≡ false = ap alone same ∙ a in rw (t, a') refl
@@ -375,7 +375,7 @@ module _ {A X : Type 0} (alone : List X → Bool) (text : List ℕ) where
   ]
 
   -- there is none, and all are unchanged
-  pub map_stays_none : (es : List (String A × List X)) → None ≡ lookup (at_text text) es → settled alone text (texts_of es) ≡ texts_of es
+  pub map_stays_none : (es : List (String A × List X)) → None ≡ lookup (at_text text) es → moved_to_end_if alone text (texts_of es) ≡ texts_of es
   map_stays_none [] l = refl
   map_stays_none (e ∷ es) l = elim (cases_Bool (at_text text e.0)) [
     | inl t ↦ let l' = rw t at l in absurd (cc)
@@ -424,7 +424,7 @@ module _ {A F : Type 0} (T : F → String A → Item → Bool → Item → F →
 -- groups under their paths, without those in which no item passes the test
 module _ {A F : Type 0} (T : F → String A → List Item → Bool → List Item → F → Type 0) (test : Item → Bool) (f : F)
     (says : (k : String A) (v : List Item) (b : Bool) (w : List Item) (g : F) → T f k v b w g → (b ≡ not (length (filter test v) == 0)) × (w ≡ filter test v) × (g ≡ f)) where
-  pub texts_retained : (es left : List (String A × List Item)) → RetainsPairs T f es left → texts_of left ≡ passing test (texts_of es)
+  pub texts_retained : (es left : List (String A × List Item)) → RetainsPairs T f es left → texts_of left ≡ filter_paths test (texts_of es)
   texts_retained es left h = ap texts_of (changed_retained T (filter test) (λ xs. not (length xs == 0)) f says es left h) ∙ texts_filtered es
     where
       -- an entry remains if its group is kept
@@ -433,8 +433,8 @@ module _ {A F : Type 0} (T : F → String A → List Item → Bool → List Item
       one_stays k (x ∷ xs) es ps same = rw (some_is x xs) (ap (λ qs. (string_bytes k, x ∷ xs) ∷ qs) same)
 
       -- the remaining entries have the kept groups
-      texts_filtered : (es : List (String A × List Item)) → texts_of (filter (λ e. not (length e.1 == 0)) (map (λ e. (e.0, filter test e.1)) es)) ≡ passing test (texts_of es)
+      texts_filtered : (es : List (String A × List Item)) → texts_of (filter (λ e. not (length e.1 == 0)) (map (λ e. (e.0, filter test e.1)) es)) ≡ filter_paths test (texts_of es)
       texts_filtered [] = refl
       texts_filtered (e ∷ es) =
-          one_stays e.0 (filter test e.1) (filter (λ e. not (length e.1 == 0)) (map (λ e. (e.0, filter test e.1)) es)) (passing test (texts_of es)) (texts_filtered es)
+          one_stays e.0 (filter test e.1) (filter (λ e. not (length e.1 == 0)) (map (λ e. (e.0, filter test e.1)) es)) (filter_paths test (texts_of es)) (texts_filtered es)
           ∙ sym (passing_kept test (string_bytes e.0, e.1) (texts_of es))

@@ -7,14 +7,14 @@ use Rattle.std.proofs.lemmas.Cmp.{nat_list_eq_equiv}
 use Rattle.std.proofs.lemmas.List.Elements.{filter-append}
 use Rattle.std.proofs.lemmas.Slice.Eq.{bytes_eq-Decides}
 use Rattle.cookie_parts.specs.Cookie.{Row}
-use Rattle.cookie_laws.specs.Rows.{Key, key_of, same_domain, same_key, same_domain_equiv, same_group_equiv, differ, stand_together, are_rows}
+use Rattle.cookie_laws.specs.Rows.{Key, key_of, same_domain, same_key, same_domain_equiv, same_group_equiv, differ, are_adjacent, are_rows}
 use Rattle.cookie_lookup.specs.Groups.{PathGroups, Of, Filled, ArePaths, AreGroups}
 use Rattle.cookie_rows.specs.Groups.{lessened_at}
-use Rattle.cookie_rows.specs.Items.{Item, ItemPaths, ItemGroups, rows_of, bare_paths, bare, numbered_names, numbered_paths, numbered, by_number, made_of}
-use Rattle.cookie_rows.specs.Turns.{is_filled, passing, paths_of}
+use Rattle.cookie_rows.specs.Items.{Item, ItemPaths, ItemGroups, rows_of, bare_paths, bare, numbered_names, numbered_paths, numbered, by_number, creation_order}
+use Rattle.cookie_rows.specs.Eviction.{is_filled, filter_paths, paths_of}
 use Rattle.cookie_rows.proofs.Bare.{seen_texts}
 use Rattle.cookie_rows.proofs.ByNumber.{all_map, all_ordered}
-use Rattle.cookie_rows.proofs.Kept.{differ_lessened, all_lessened}
+use Rattle.cookie_rows.proofs.RowsInOrder.{differ_lessened, all_lessened}
 use Rattle.cookie_rows.proofs.KeptOrder.{are_keys}
 use Rattle.cookie_rows.proofs.Made.{texts_differ}
 use Rattle.cookie_rows.proofs.Members.{absent}
@@ -101,7 +101,7 @@ module _ {A B : Type 0} (f : A → B) where
     begins-later p x xs h = grind (arith, none-filter p xs)
 
     -- so any of them may be removed, if those that are alike are adjacent
-    begins-filter : {alike : B → B → Bool} → IsEquivalence alike → (y : B) (xs : List A) → begins (alike y) (map f xs) ≡ true → stand_together alike (map f xs) ≡ true → begins (alike y) (map f (filter test xs)) ≡ true
+    begins-filter : {alike : B → B → Bool} → IsEquivalence alike → (y : B) (xs : List A) → begins (alike y) (map f xs) ≡ true → are_adjacent alike (map f xs) ≡ true → begins (alike y) (map f (filter test xs)) ≡ true
     begins-filter laws y [] first h = refl
     begins-filter {alike = alike} laws y (x ∷ xs) first h =
         let parts = together-parts alike (f x) (map f xs) h in
@@ -110,11 +110,11 @@ module _ {A B : Type 0} (f : A → B) where
         (λ e. begins-filter laws y xs (begins-rest laws y (f x) (map f xs) first parts.0) parts.1)
 
     -- values that are alike are still adjacent
-    together-filter : {alike : B → B → Bool} → IsEquivalence alike → (xs : List A) → stand_together alike (map f xs) ≡ true → stand_together alike (map f (filter test xs)) ≡ true
+    together-filter : {alike : B → B → Bool} → IsEquivalence alike → (xs : List A) → are_adjacent alike (map f xs) ≡ true → are_adjacent alike (map f (filter test xs)) ≡ true
     together-filter laws [] h = refl
     together-filter {alike = alike} laws (x ∷ xs) h =
         let parts = together-parts alike (f x) (map f xs) h in
-        cond_both (test x) (x ∷ filter test xs) (filter test xs) (λ zs. stand_together alike (map f zs) ≡ true)
+        cond_both (test x) (x ∷ filter test xs) (filter test xs) (λ zs. are_adjacent alike (map f zs) ≡ true)
         (λ e. together-from alike (f x) (map f (filter test xs)) (begins-filter laws (f x) xs parts.0 parts.1) (together-filter laws xs parts.1))
         (λ e. together-filter laws xs parts.1)
 
@@ -156,17 +156,17 @@ module _ (test : Item → Bool) where
   filled_next d p (x ∷ xs) ps a b = ((omega arith, a), b)
 
   -- so none is
-  filled_passing : (d : List ℕ) (ps : ItemPaths) → Filled d (bare_paths ps) → Filled d (bare_paths (passing test ps))
+  filled_passing : (d : List ℕ) (ps : ItemPaths) → Filled d (bare_paths ps) → Filled d (bare_paths (filter_paths test ps))
   filled_passing d [] a = tt
-  filled_passing d (p ∷ ps) a = filled_next d p.0 (filter test p.1) (passing test ps) (of_filter d p.0 p.1 a.0.1) (filled_passing d ps a.1)
+  filled_passing d (p ∷ ps) a = filled_next d p.0 (filter test p.1) (filter_paths test ps) (of_filter d p.0 p.1 a.0.1) (filled_passing d ps a.1)
 
   -- groups of a domain
-  pub paths_passing : (d : List ℕ) (ps : ItemPaths) → ArePaths d (bare_paths ps) → ArePaths d (bare_paths (passing test ps))
+  pub paths_passing : (d : List ℕ) (ps : ItemPaths) → ArePaths d (bare_paths ps) → ArePaths d (bare_paths (filter_paths test ps))
   paths_passing d ps a =
       let all = λ (qs : ItemPaths). seen_texts (λ (x : Item). x.row) qs in
       let before : differ bytes_eq (map (λ p. p.0) (tested ps)) ≡ true = ap (differ bytes_eq) (texts_tested ps ∙ sym (all ps)) ∙ a.0 in
-      let after : differ bytes_eq (map (λ p. p.0) (passing test ps)) ≡ true = differ-filter (λ (p : List ℕ × List Item). p.0) is_filled bytes_eq (tested ps) before in
-      (ap (differ bytes_eq) (all (passing test ps)) ∙ after, filled_passing d ps a.1)
+      let after : differ bytes_eq (map (λ p. p.0) (filter_paths test ps)) ≡ true = differ-filter (λ (p : List ℕ × List Item). p.0) is_filled bytes_eq (tested ps) before in
+      (ap (differ bytes_eq) (all (filter_paths test ps)) ∙ after, filled_passing d ps a.1)
 
   -- groups that are there are so without their numbers
   some_bare : (ps : ItemPaths) → 0 < length ps → 0 < length (bare_paths ps)
@@ -174,13 +174,13 @@ module _ (test : Item → Bool) where
   some_bare (p ∷ ps) h = omega arith
 
   -- all groups
-  pub groups_passing : (d : List ℕ) (gs : ItemGroups) → AreGroups (bare gs) → AreGroups (bare (lessened_at (passing test) d gs))
+  pub groups_passing : (d : List ℕ) (gs : ItemGroups) → AreGroups (bare gs) → AreGroups (bare (lessened_at (filter_paths test) d gs))
   groups_passing d gs a =
       let see : List ℕ × ItemPaths → List ℕ × PathGroups = λ g. (g.0, bare_paths g.1) in
-      let left = lessened_at (passing test) d gs in
-      let domains : differ bytes_eq (map (λ g. g.0) left) ≡ true = differ_lessened (passing test) d gs (texts_differ gs a).0 in
-      let paths = all_lessened (passing test) d (λ g. (0 < length (bare_paths g.1)) × ArePaths g.0 (bare_paths g.1)) gs
-      (λ k v h some. (some_bare (passing test v) some, paths_passing k v h.1))
+      let left = lessened_at (filter_paths test) d gs in
+      let domains : differ bytes_eq (map (λ g. g.0) left) ≡ true = differ_lessened (filter_paths test) d gs (texts_differ gs a).0 in
+      let paths = all_lessened (filter_paths test) d (λ g. (0 < length (bare_paths g.1)) × ArePaths g.0 (bare_paths g.1)) gs
+      (λ k v h some. (some_bare (filter_paths test v) some, paths_passing k v h.1))
       (all_from_map see (λ g. (0 < length g.1) × ArePaths g.0 g.1) gs a.1) in (
         ap (differ bytes_eq) (seen_texts (λ (p : List ℕ × List Item). (p.0, rows_of p.1)) left) ∙ domains,
         all_to_map see (λ g. (0 < length g.1) × ArePaths g.0 g.1) left paths,
@@ -253,7 +253,7 @@ module _ (key : Key) where
       ]
 
   -- and so are those in creation order
-  pub made_near : FilterKeepsOrder → (gs : ItemGroups) → AreGroups (bare gs) → filter (same_domain key) (made_of gs) ≡ map (λ x. x.0) (by_number (numbered_paths key.domain (paths_of key.domain gs)))
+  pub made_near : FilterKeepsOrder → (gs : ItemGroups) → AreGroups (bare gs) → filter (same_domain key) (creation_order gs) ≡ map (λ x. x.0) (by_number (numbered_paths key.domain (paths_of key.domain gs)))
   made_near ordered gs a =
       sym (map-filter (λ (x : Key × ℕ). x.0) (same_domain key) (by_number (numbered gs)))
       ∙ ap (map (λ x. x.0)) (sym (ordered is_near (numbered gs)) ∙ ap by_number (numbered_near gs (texts_differ gs a).0))

@@ -3,7 +3,7 @@ use Rattle.std.proofs.Common.{◌≡◌, ℕ, true, false, List, [], ◌∷◌, 
 use Rattle.std.specs.List.{AllByRecursion, list_any, flat_map}
 use Rattle.std.proofs.lemmas.Bool.{cases_Bool}
 use Rattle.std.proofs.lemmas.Bool.Decides.{nat_tests}
-use Rattle.cookie_parts.specs.Cookie.{Row, ended}
+use Rattle.cookie_parts.specs.Cookie.{Row, expired_row}
 use Rattle.cookie_laws.specs.Rows.{Key, in_group, has_key, differ, changed, removed, row_of}
 use Rattle.cookie_lookup.specs.Groups.{PathGroups, DomainGroups, flat_paths, flat, Filled, AreGroups}
 use Rattle.cookie_rows.specs.Groups.{is_named, row_named, kept}
@@ -25,7 +25,7 @@ module _ (key : Key) where
   names_found (x ∷ xs) a = grind (arith, nat_tests, by_name key x a.0, names_found xs a.1)
 
   -- it is expired as that is
-  names_ended : (xs : List Row) → AllByRecursion (λ r. in_group key r ≡ true) xs → changed (has_key key) ended xs ≡ end_name key.name xs
+  names_ended : (xs : List Row) → AllByRecursion (λ r. in_group key r ≡ true) xs → changed (has_key key) expired_row xs ≡ end_name key.name xs
   names_ended [] a = refl
   names_ended (x ∷ xs) a = elim (cases_Bool (is_named key.name x)) [
     | inl t ↦ rw (by_name key x a.0, t) refl
@@ -57,13 +57,13 @@ module _ (key : Key) where
       ]
 
   -- it is expired there
-  ended_in_paths : (d : List ℕ) (ps : PathGroups) → bytes_eq key.domain d ≡ true → differ bytes_eq (map (λ p. p.0) ps) ≡ true → Filled d ps → changed (has_key key) ended (flat_paths ps) ≡ flat_paths (end_paths key.path key.name ps)
+  ended_in_paths : (d : List ℕ) (ps : PathGroups) → bytes_eq key.domain d ≡ true → differ bytes_eq (map (λ p. p.0) ps) ≡ true → Filled d ps → changed (has_key key) expired_row (flat_paths ps) ≡ flat_paths (end_paths key.path key.name ps)
   ended_in_paths d [] e k a = refl
   ended_in_paths d (p ∷ ps) e k a =
       let after : differ bytes_eq (map (λ p. p.0) ps) ≡ true = grind (arith, nat_tests, k) in
       elim (cases_Bool (bytes_eq key.path p.0)) [
-        | inl f ↦ rw f (changed_left (has_key key) ended p.1 (flat_paths ps) (behind_path d p ps k a.1 f) ∙ ap (λ xs. xs ++ flat_paths ps) (names_ended p.1 (all_group_rows key d p.0 p.1 a.0.1 e f)))
-        | inr f ↦ rw f (changed_right (has_key key) ended p.1 (flat_paths ps) (no_key key p.1 (no_group_rows key d p.0 p.1 a.0.1 f)) ∙ ap (λ ys. p.1 ++ ys) (ended_in_paths d ps e after a.1))
+        | inl f ↦ rw f (changed_left (has_key key) expired_row p.1 (flat_paths ps) (behind_path d p ps k a.1 f) ∙ ap (λ xs. xs ++ flat_paths ps) (names_ended p.1 (all_group_rows key d p.0 p.1 a.0.1 e f)))
+        | inr f ↦ rw f (changed_right (has_key key) expired_row p.1 (flat_paths ps) (no_key key p.1 (no_group_rows key d p.0 p.1 a.0.1 f)) ∙ ap (λ ys. p.1 ++ ys) (ended_in_paths d ps e after a.1))
       ]
 
   -- it goes there
@@ -101,11 +101,11 @@ module _ (key : Key) where
   ]
 
   -- it is expired in them
-  pub ended_in_groups : (gs : DomainGroups) → AreGroups gs → changed (has_key key) ended (flat gs) ≡ flat (end_groups key gs)
+  pub ended_in_groups : (gs : DomainGroups) → AreGroups gs → changed (has_key key) expired_row (flat gs) ≡ flat (end_groups key gs)
   ended_in_groups [] a = refl
   ended_in_groups (g ∷ gs) a = elim (cases_Bool (bytes_eq key.domain g.0)) [
-    | inl f ↦ rw f (changed_left (has_key key) ended (flat_paths g.1) (flat gs) (behind_domain g gs a f) ∙ ap (λ xs. xs ++ flat gs) (ended_in_paths g.0 g.1 f a.1.0.1.0 a.1.0.1.1))
-    | inr f ↦ rw f (changed_right (has_key key) ended (flat_paths g.1) (flat gs) (other_domain g gs a f) ∙ ap (λ ys. flat_paths g.1 ++ ys) (ended_in_groups gs (rest_are g gs a)))
+    | inl f ↦ rw f (changed_left (has_key key) expired_row (flat_paths g.1) (flat gs) (behind_domain g gs a f) ∙ ap (λ xs. xs ++ flat gs) (ended_in_paths g.0 g.1 f a.1.0.1.0 a.1.0.1.1))
+    | inr f ↦ rw f (changed_right (has_key key) expired_row (flat_paths g.1) (flat gs) (other_domain g gs a f) ∙ ap (λ ys. flat_paths g.1 ++ ys) (ended_in_groups gs (rest_are g gs a)))
   ]
 
   -- it goes from them

@@ -22,9 +22,9 @@ use Rattle.cookie_laws.specs.Given.{given}
 use Rattle.cookie_laws.specs.Header.{creation, header_order, InHeaderOrder}
 use Rattle.cookie_laws.specs.Rows.{Key, differ, key_at, key_of, same_key, same_key-true, same_key_equiv}
 use Rattle.cookie_lookup.specs.Groups.{ArePaths, Filled, Of, flat}
-use Rattle.cookie_lookup.specs.Seen.{Spot, given_spots, list_of, rows_at, under}
+use Rattle.cookie_lookup.specs.SearchView.{RowPosition, given_positions, list_of, rows_at, under}
 use Rattle.cookie_rows.specs.HeaderItems.{item_order, items_at}
-use Rattle.cookie_rows.specs.Items.{AreItems, Item, ItemGroups, ItemPaths, bare, bare_paths, by_number, kept_of, made_of, numbered, numbered_names, numbered_paths, place, rows_of}
+use Rattle.cookie_rows.specs.Items.{AreItems, Item, ItemGroups, ItemPaths, bare, bare_paths, by_number, rows_in_order, creation_order, numbered, numbered_names, numbered_paths, place, rows_of}
 use Rattle.cookie_rows.proofs.ByNumber.{all_map, all_ordered, all_place, any_ordered}
 use Rattle.cookie_rows.proofs.Made.{keys_differ}
 use Rattle.cookie_rows.proofs.MadeOnce.{differ_order}
@@ -221,12 +221,12 @@ module _ (gs : ItemGroups) where
   all_both P (x ∷ xs) ys p q = (p.0, all_both P xs ys p.1 q)
 
   -- the rows at positions are among the numbered ones
-  all_in : AllByRecursion (λ g. (0 < length g.1) × ArePaths g.0 g.1) (bare gs) → (spots : List Spot) → AllByRecursion (IsIn (numbered gs)) (flat_map (items_at gs) spots)
+  all_in : AllByRecursion (λ g. (0 < length g.1) × ArePaths g.0 g.1) (bare gs) → (positions : List RowPosition) → AllByRecursion (IsIn (numbered gs)) (flat_map (items_at gs) positions)
   all_in of [] = tt
-  all_in of (s ∷ spots) =
-      all_both (IsIn (numbered gs)) (items_at gs s) (flat_map (items_at gs) spots)
+  all_in of (s ∷ positions) =
+      all_both (IsIn (numbered gs)) (items_at gs s) (flat_map (items_at gs) positions)
       (known (IsIn (numbered gs)) (slice_get (under s.1 (under s.0 gs)) s.2) (λ item there. in_groups gs s.0 s.1 s.2 item of there))
-      (all_in of spots)
+      (all_in of positions)
 
   -- the rows at a position
   rows_known : (items : List Item) (n : ℕ) → rows_of (list_of (slice_get items n)) ≡ list_of (slice_get (rows_of items) n)
@@ -235,13 +235,13 @@ module _ (gs : ItemGroups) where
   rows_known (item ∷ items) (suc n) = rows_known items n
 
   -- the rows at positions
-  rows_at_spots : (spots : List Spot) → rows_of (flat_map (items_at gs) spots) ≡ flat_map (rows_at (bare gs)) spots
-  rows_at_spots [] = refl
-  rows_at_spots (s ∷ spots) =
-      map-append (λ (item : Item). item.row) (items_at gs s) (flat_map (items_at gs) spots)
-      ∙ ap (λ rows. rows ++ rows_of (flat_map (items_at gs) spots))
+  rows_at_positions : (positions : List RowPosition) → rows_of (flat_map (items_at gs) positions) ≡ flat_map (rows_at (bare gs)) positions
+  rows_at_positions [] = refl
+  rows_at_positions (s ∷ positions) =
+      map-append (λ (item : Item). item.row) (items_at gs s) (flat_map (items_at gs) positions)
+      ∙ ap (λ rows. rows ++ rows_of (flat_map (items_at gs) positions))
       (rows_known (under s.1 (under s.0 gs)) s.2 ∙ ap (λ rows. list_of (slice_get rows s.2)) (bare_rows s.0 s.1 gs))
-      ∙ ap (λ rows. list_of (slice_get (under s.1 (under s.0 (bare gs))) s.2) ++ rows) (rows_at_spots spots)
+      ∙ ap (λ rows. list_of (slice_get (under s.1 (under s.0 (bare gs))) s.2) ++ rows) (rows_at_positions positions)
 
   -- the two comparisons as tests
   in_tests : (l e m f : Bool) → is_lt (ordering_then (cond l Less (cond e Equal Greater)) (cond m Less (cond f Equal Greater))) ≡ (l || (e && m))
@@ -253,18 +253,18 @@ module _ (gs : ItemGroups) where
 
   -- of rows that are in the order of their numbers no later one was created first
   in_creation_order : (n : ℕ) → AreItems n gs → (a b : Item) → IsIn (numbered gs) a → IsIn (numbered gs) b
-      → is_lt (item_order b a) ≡ false → is_lt (header_order (made_of gs) b.row a.row) ≡ false
+      → is_lt (item_order b a) ≡ false → is_lt (header_order (creation_order gs) b.row a.row) ≡ false
   in_creation_order n are a b p q up =
-      let made = by_number (numbered gs) in
+      let created = by_number (numbered gs) in
       let la : ℕ = length a.row.path.text in
       let lb : ℕ = length b.row.path.text in
       let differs = differ_order (numbered gs) ∙ keys_differ gs are.0 are.1 in
-      let later : a.number ≤ b.number → creation (made_of gs) a.row ≤ creation (made_of gs) b.row =
-      no_later made (ascend_order (numbered gs) are.3) differs (entry_of a) (entry_of b)
+      let later : a.number ≤ b.number → creation (creation_order gs) a.row ≤ creation (creation_order gs) b.row =
+      no_later created (ascend_order (numbered gs) are.3) differs (entry_of a) (entry_of b)
       (any_ordered (is_entry (entry_of a)) (numbered gs) ∙ p) (any_ordered (is_entry (entry_of b)) (numbered gs) ∙ q) in
       let tests = sym (in_tests (ltb la lb) (eqb la lb) (ltb b.number a.number) (eqb b.number a.number)) ∙ up in
-      in_tests (ltb la lb) (eqb la lb) (ltb (creation (made_of gs) b.row) (creation (made_of gs) a.row)) (eqb (creation (made_of gs) b.row) (creation (made_of gs) a.row))
-      ∙ ordered la lb a.number b.number (creation (made_of gs) a.row) (creation (made_of gs) b.row) later tests
+      in_tests (ltb la lb) (eqb la lb) (ltb (creation (creation_order gs) b.row) (creation (creation_order gs) a.row)) (eqb (creation (creation_order gs) b.row) (creation (creation_order gs) a.row))
+      ∙ ordered la lb a.number b.number (creation (creation_order gs) a.row) (creation (creation_order gs) b.row) later tests
     where
       -- so no test of creation order passes if no number does
       ordered : (la lb m n i j : ℕ) → (m ≤ n → i ≤ j) → (ltb la lb || (eqb la lb && ltb n m)) ≡ false → (ltb la lb || (eqb la lb && ltb j i)) ≡ false
@@ -278,8 +278,8 @@ module _ (gs : ItemGroups) where
 
   -- sorted rows are in the order of the header
   rows_sorted : (n : ℕ) → AreItems n gs → (items : List Item) → All (IsIn (numbered gs)) items → IsSorted item_order items
-      → IsSorted (header_order (made_of gs)) (rows_of items)
-  rows_sorted n are items among up = sorted_map (λ (item : Item). item.row) (λ a b. is_lt (header_order (made_of gs) a b)) items (λ k d low high.
+      → IsSorted (header_order (creation_order gs)) (rows_of items)
+  rows_sorted n are items among up = sorted_map (λ (item : Item). item.row) (λ a b. is_lt (header_order (creation_order gs) a b)) items (λ k d low high.
       in_creation_order n are (get_or items k d) (get_or items (k + 1) d)
       (All-get_or (IsIn (numbered gs)) items k d (omega (arith, high)) among)
       (All-get_or (IsIn (numbered gs)) items (k + 1) d high among)
@@ -287,13 +287,13 @@ module _ (gs : ItemGroups) where
 
   -- what is sorted of the rows that are given is in the order of the header
   pub sorted_in_order : (n : ℕ) → AreItems n gs → (url : Parts) (now : Moment)
-      → flat_map (rows_at (bare gs)) (given_spots url now (bare gs)) ≡ given url now (flat (bare gs))
-      → (items sorted : List Item) → items ≡ flat_map (items_at gs) (given_spots url now (bare gs))
+      → flat_map (rows_at (bare gs)) (given_positions url now (bare gs)) ≡ given url now (flat (bare gs))
+      → (items sorted : List Item) → items ≡ flat_map (items_at gs) (given_positions url now (bare gs))
       → IsPermutation items sorted → IsSorted item_order sorted
-      → InHeaderOrder url now (contents_of (kept_of gs) None None) (rows_of sorted)
+      → InHeaderOrder url now (contents_of (rows_in_order gs) None None) (rows_of sorted)
   sorted_in_order n are url now rows items sorted found moved up =
-      let all = ap rows_of found ∙ rows_at_spots (given_spots url now (bare gs)) ∙ rows in
-      let among = subst (AllByRecursion (IsIn (numbered gs))) (sym found) (all_in are.0.1 (given_spots url now (bare gs))) in (
+      let all = ap rows_of found ∙ rows_at_positions (given_positions url now (bare gs)) ∙ rows in
+      let among = subst (AllByRecursion (IsIn (numbered gs))) (sym found) (all_in are.0.1 (given_positions url now (bare gs))) in (
         subst (λ asked. IsPermutation asked (rows_of sorted)) all (IsPermutation-map (λ (item : Item). item.row) items sorted moved),
         rows_sorted n are sorted (All-permutation (IsIn (numbered gs)) items sorted moved (All-from_recursion (IsIn (numbered gs)) items among)) up,
       )

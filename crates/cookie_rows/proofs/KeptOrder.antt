@@ -2,20 +2,20 @@
 use Rattle.std.proofs.Common.{◌≡◌, Bool, true, false, ◌&&◌, List, map, ◌∙◌, refl, sym, subst}
 use Rattle.std.specs.List.{list_any}
 use Rattle.std.proofs.lemmas.Bool.{cond_both, and_parts, and_from}
-use Rattle.cookie_parts.specs.Cookie.{Row, ended}
-use Rattle.cookie_laws.specs.Rows.{Key, key_of, same_domain_equiv, same_group_equiv, same_key_equiv, same_key-true, same_domain, same_group, same_key, in_domain, in_group, has_key, after_last, changed, replaced, placed, put, differ, stand_together, are_rows}
+use Rattle.cookie_parts.specs.Cookie.{Row, expired_row}
+use Rattle.cookie_laws.specs.Rows.{Key, key_of, same_domain_equiv, same_group_equiv, same_key_equiv, same_key-true, same_domain, same_group, same_key, in_domain, in_group, has_key, after_last, changed, replaced, placed, put, differ, are_adjacent, are_rows}
 use Rattle.cookie_rows.proofs.AfterLast.{list_any-map, map-after_last, map-changed, map-replaced}
 use Rattle.cookie_rows.proofs.StandTogether.{differ-after_last, together-after_like, together-after_any, together-after_unlike}
 
 -- keys differ, those of one domain are adjacent, and in them those of one path
 abbrev pub are_keys : List Key → Bool
-are_keys keys = differ same_key keys && (stand_together same_domain keys && stand_together same_group keys)
+are_keys keys = differ same_key keys && (are_adjacent same_domain keys && are_adjacent same_group keys)
 
 -- the same in three parts
 record AreKeys (keys : List Key) : Type 0 where
   differ : differ same_key keys ≡ true
-  domains : stand_together same_domain keys ≡ true
-  groups : stand_together same_group keys ≡ true
+  domains : are_adjacent same_domain keys ≡ true
+  groups : are_adjacent same_group keys ≡ true
 
 -- from the test to the parts
 AreKeys-from_test : (keys : List Key) → are_keys keys ≡ true → AreKeys keys
@@ -86,5 +86,5 @@ are_rows-put rows cookie h =
     (λ new. are_rows-placed rows cookie new h)
 
 -- expiring a row keeps the order
-pub are_rows-ended : (test : Row → Bool) (rows : List Row) → are_rows rows ≡ true → are_rows (changed test ended rows) ≡ true
-are_rows-ended test rows h = subst (λ keys. are_keys keys ≡ true) (sym (map-changed key_of test ended rows (λ row. refl))) h
+pub are_rows-expired_row : (test : Row → Bool) (rows : List Row) → are_rows rows ≡ true → are_rows (changed test expired_row rows) ≡ true
+are_rows-expired_row test rows h = subst (λ keys. are_keys keys ≡ true) (sym (map-changed key_of test expired_row rows (λ row. refl))) h

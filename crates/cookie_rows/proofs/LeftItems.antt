@@ -8,12 +8,12 @@ use Rattle.std.proofs.lemmas.Slice.Eq.{bytes_eq-Decides}
 use Rattle.cookie_words.specs.Moments.{Moment}
 use Rattle.cookie_parts.specs.Cookie.{Row, is_expired}
 use Rattle.cookie_parts.specs.Hosts.{passes}
-use Rattle.cookie_laws.specs.Contents.{has_ended}
+use Rattle.cookie_laws.specs.Contents.{has_expired}
 use Rattle.cookie_laws.specs.Rows.{Key, key_at, key_of, same_key, same_key_equiv, row_of, differ, are_rows}
 use Rattle.cookie_lookup.specs.Groups.{flat, flat_paths, Of, Filled, ArePaths}
 use Rattle.cookie_rows.specs.Groups.{kept, lessened_at}
-use Rattle.cookie_rows.specs.Items.{Item, ItemPaths, ItemGroups, AreItems, rows_of, bare_paths, bare, numbered_paths, numbered, by_number, made_of, kept_of}
-use Rattle.cookie_rows.specs.Turns.{is_filled, passing, paths_of}
+use Rattle.cookie_rows.specs.Items.{Item, ItemPaths, ItemGroups, AreItems, rows_of, bare_paths, bare, numbered_paths, numbered, by_number, creation_order, rows_in_order}
+use Rattle.cookie_rows.specs.Eviction.{is_filled, filter_paths, paths_of}
 use Rattle.cookie_rows.proofs.ByNumber.{all_map}
 use Rattle.cookie_rows.proofs.FilteredGroups.{FilterKeepsOrder, all_any, all_append, all_both, all_filter, all_from_map, all_parts, all_to_map, are_rows-filter, differ-filter, filter_all, groups_passing, map-filter}
 use Rattle.cookie_rows.proofs.Made.{texts_differ}
@@ -128,10 +128,10 @@ module _ (n : ℕ) (gs : ItemGroups) (a : AreItems n gs) where
       (each_key gs a.0.1) (each_row (λ r. row_of (key_of r) rows ≡ Some r) gs (all_found key_of rows (and_parts _ _ a.1).0))
 
   -- and has expired if that has
-  pub has_ended_item : (now : Moment) → Each (λ d p x. has_ended now (flat (bare gs)) (key_at d p x.row.raw.name) ≡ is_expired now x.row) gs
+  pub has_ended_item : (now : Moment) → Each (λ d p x. has_expired now (flat (bare gs)) (key_at d p x.row.raw.name) ≡ is_expired now x.row) gs
   has_ended_item now =
       let rows = flat (bare gs) in
-      each_map (λ d p x. row_of (key_at d p x.row.raw.name) rows ≡ Some x.row) (λ d p x. has_ended now rows (key_at d p x.row.raw.name) ≡ is_expired now x.row)
+      each_map (λ d p x. row_of (key_at d p x.row.raw.name) rows ≡ Some x.row) (λ d p x. has_expired now rows (key_at d p x.row.raw.name) ≡ is_expired now x.row)
       (λ d p x found. ap (passes (is_expired now)) found) gs row_of_item
 
 -- a list of items
@@ -179,10 +179,10 @@ module _ {Y : Type 0} where
     ]
 
     -- of a domain
-    pub paths_left : (of : List ℕ → Item → Y) (ps : ItemPaths) → EachIn (λ p x. keeps (of p x) ≡ test x) ps → listed_in of (passing test ps) ≡ filter keeps (listed_in of ps)
+    pub paths_left : (of : List ℕ → Item → Y) (ps : ItemPaths) → EachIn (λ p x. keeps (of p x) ≡ test x) ps → listed_in of (filter_paths test ps) ≡ filter keeps (listed_in of ps)
     paths_left of [] a = refl
     paths_left of (p ∷ ps) a =
-        listed_next of p.0 (filter test p.1) (passing test ps)
+        listed_next of p.0 (filter test p.1) (filter_paths test ps)
         ∙ ap₂ (λ xs ys. xs ++ ys) (names_left (of p.0) p.1 a.0) (paths_left of ps a.1)
         ∙ sym (filter-append keeps (map (of p.0) p.1) (listed_in of ps))
 
@@ -205,7 +205,7 @@ module _ {Y : Type 0} where
           all_append (λ y. keeps y ≡ true) (listed_in (of g.0) g.1) (listed of gs) (paths_stay (of g.0) (bytes_eq d g.0) g.1 parts.0 a.0) (groups_stay gs parts.1 a.1)
 
       -- of all groups
-      groups_left : (gs : ItemGroups) → differ bytes_eq (map (λ g. g.0) gs) ≡ true → KeepsOthers gs → listed of (lessened_at (passing test) d gs) ≡ filter keeps (listed of gs)
+      groups_left : (gs : ItemGroups) → differ bytes_eq (map (λ g. g.0) gs) ≡ true → KeepsOthers gs → listed of (lessened_at (filter_paths test) d gs) ≡ filter keeps (listed of gs)
       groups_left [] apart a = refl
       groups_left (g ∷ gs) apart a = elim (cases_Bool (bytes_eq d g.0)) [
         | inl e ↦
@@ -213,7 +213,7 @@ module _ {Y : Type 0} where
             each_in_map (λ p x. keeps (of g.0 p x) ≡ (not (bytes_eq d g.0) || test x)) (λ p x. keeps (of g.0 p x) ≡ test x) (λ p x h. h ∙ ap (λ b. not b || test x) e) g.1 a.0 in
             let others = groups_stay gs (absent g.0 (map (λ g. g.0) gs) d e apart) a.1 in
             rw e (
-            listed_kept of g.0 (passing test g.1) gs
+            listed_kept of g.0 (filter_paths test g.1) gs
             ∙ ap₂ (λ xs ys. xs ++ ys) (paths_left (of g.0) g.1 own) (sym (filter_all keeps (listed of gs) others))
             ∙ sym (filter-append keeps (listed_in (of g.0) g.1) (listed of gs))
             )
@@ -289,35 +289,35 @@ not-and true true = refl
 
 module _ (n : ℕ) (gs : ItemGroups) (a : AreItems n gs) (d : List ℕ) (test : Item → Bool) (leaves : Key → Bool) (agree : Agrees d test leaves gs) where
   -- the rows that are left
-  pub rows_left : flat (bare (lessened_at (passing test) d gs)) ≡ filter (λ row. not (leaves (key_of row))) (flat (bare gs))
+  pub rows_left : flat (bare (lessened_at (filter_paths test) d gs)) ≡ filter (λ row. not (leaves (key_of row))) (flat (bare gs))
   rows_left =
-      let stays = each_both (λ e p x. key_of x.row ≡ key_at e p x.row.raw.name) (λ e p x. leaves (key_at e p x.row.raw.name) ≡ (bytes_eq d e && not (test x)))
+      let survives = each_both (λ e p x. key_of x.row ≡ key_at e p x.row.raw.name) (λ e p x. leaves (key_at e p x.row.raw.name) ≡ (bytes_eq d e && not (test x)))
       (λ e p x. not (leaves (key_of x.row)) ≡ (not (bytes_eq d e) || test x))
       (λ e p x is h. ap (λ k. not (leaves k)) is ∙ ap not h ∙ not-and (bytes_eq d e) (test x)) gs (each_key gs a.0.1) agree in
-      rows_listed (lessened_at (passing test) d gs)
-      ∙ groups_left (λ (row : Row). not (leaves (key_of row))) test (λ e p x. x.row) d gs (texts_differ gs a.0).0 stays
+      rows_listed (lessened_at (filter_paths test) d gs)
+      ∙ groups_left (λ (row : Row). not (leaves (key_of row))) test (λ e p x. x.row) d gs (texts_differ gs a.0).0 survives
       ∙ ap (filter (λ row. not (leaves (key_of row)))) (sym (rows_listed gs))
 
   -- the numbered keys
-  pub numbered_left : numbered (lessened_at (passing test) d gs) ≡ filter (λ x. not (leaves x.0)) (numbered gs)
+  pub numbered_left : numbered (lessened_at (filter_paths test) d gs) ≡ filter (λ x. not (leaves x.0)) (numbered gs)
   numbered_left =
-      let stays = each_map (λ e p x. leaves (key_at e p x.row.raw.name) ≡ (bytes_eq d e && not (test x))) (λ e p x. not (leaves (key_at e p x.row.raw.name)) ≡ (not (bytes_eq d e) || test x))
+      let survives = each_map (λ e p x. leaves (key_at e p x.row.raw.name) ≡ (bytes_eq d e && not (test x))) (λ e p x. not (leaves (key_at e p x.row.raw.name)) ≡ (not (bytes_eq d e) || test x))
       (λ e p x h. ap not h ∙ not-and (bytes_eq d e) (test x)) gs agree in
-      groups_left (λ (x : Key × ℕ). not (leaves x.0)) test (λ e p x. (key_at e p x.row.raw.name, x.number)) d gs (texts_differ gs a.0).0 stays
+      groups_left (λ (x : Key × ℕ). not (leaves x.0)) test (λ e p x. (key_at e p x.row.raw.name, x.number)) d gs (texts_differ gs a.0).0 survives
 
   -- the keys in creation order
-  pub made_left : FilterKeepsOrder → made_of (lessened_at (passing test) d gs) ≡ filter (λ key. not (leaves key)) (made_of gs)
+  pub made_left : FilterKeepsOrder → creation_order (lessened_at (filter_paths test) d gs) ≡ filter (λ key. not (leaves key)) (creation_order gs)
   made_left ordered =
       ap (λ xs. map (λ x. x.0) (by_number xs)) numbered_left
       ∙ ap (map (λ x. x.0)) (ordered (λ x. not (leaves x.0)) (numbered gs))
       ∙ map-filter (λ (x : Key × ℕ). x.0) (λ key. not (leaves key)) (by_number (numbered gs))
 
   -- the rows and the keys
-  pub kept_left : FilterKeepsOrder → kept_of (lessened_at (passing test) d gs) ≡ record { rows = filter (λ row. not (leaves (key_of row))) (flat (bare gs)); made = filter (λ key. not (leaves key)) (made_of gs) }
-  kept_left ordered = λ i. record { rows = rows_left i; made = made_left ordered i }
+  pub kept_left : FilterKeepsOrder → rows_in_order (lessened_at (filter_paths test) d gs) ≡ record { rows = filter (λ row. not (leaves (key_of row))) (flat (bare gs)); created = filter (λ key. not (leaves key)) (creation_order gs) }
+  kept_left ordered = λ i. record { rows = rows_left i; created = made_left ordered i }
 
   -- the groups
-  pub items_left : AreItems n (lessened_at (passing test) d gs)
+  pub items_left : AreItems n (lessened_at (filter_paths test) d gs)
   items_left = (
     groups_passing test d gs a.0,
     subst (λ rows. IsTrue (are_rows rows)) (sym rows_left) (are_rows-filter (λ row. not (leaves (key_of row))) (flat (bare gs)) a.1),

@@ -4,7 +4,7 @@ pub mod Bare
 pub mod BareGroups
 pub mod Built
 pub mod ByNumber
-pub mod ChosenTurn
+pub mod ChosenRank
 pub mod Copies
 pub mod Entered
 pub mod Entering
@@ -13,7 +13,7 @@ pub mod Flat
 pub mod FoundRows
 pub mod HeaderItems
 pub mod Joined
-pub mod Kept
+pub mod RowsInOrder
 pub mod KeptOrder
 pub mod LeftItems
 pub mod Made
@@ -29,6 +29,6 @@ pub mod Puts
 pub mod Removed
 pub mod Results
 pub mod StandTogether
-pub mod TurnOrder
-pub mod Turns
+pub mod RankOrder
+pub mod Eviction
 pub mod UnexpiredItems

@@ -5,10 +5,10 @@ use Rattle.std.specs.List.{AllByRecursion, list_any}
 use Rattle.std.proofs.lemmas.Bool.{and_parts, cases_Bool}
 use Rattle.std.proofs.lemmas.List.{map-append}
 use Rattle.cookie_parts.specs.Cookie.{Row}
-use Rattle.cookie_laws.specs.Rows.{Key, key_of, key_at, same_key, has_key, row_of, make, removed, differ, are_rows}
+use Rattle.cookie_laws.specs.Rows.{Key, key_of, key_at, same_key, has_key, row_of, add_created, removed, differ, are_rows}
 use Rattle.cookie_lookup.specs.Groups.{flat, flat_paths, Of, ArePaths, AreGroups}
 use Rattle.cookie_rows.specs.Groups.{is_named}
-use Rattle.cookie_rows.specs.Items.{Item, ItemPaths, ItemGroups, rows_of, bare_paths, bare, put_items, end_item, end_item_paths, end_items, remove_items, numbered_names, numbered_paths, numbered, by_number, made_of, Below, NumbersDiffer}
+use Rattle.cookie_rows.specs.Items.{Item, ItemPaths, ItemGroups, rows_of, bare_paths, bare, put_items, expire_item, expire_item_paths, expire_items, remove_items, numbered_names, numbered_paths, numbered, by_number, creation_order, Below, NumbersDiffer}
 use Rattle.cookie_rows.proofs.AfterLast.{list_any-map}
 use Rattle.cookie_rows.proofs.Bare.{seen_texts}
 use Rattle.cookie_rows.proofs.ByNumber.{all_map, all_gained, all_lost, differ_gained, differ_lost, any_ordered, ordered_gained}
@@ -62,14 +62,14 @@ keys_differ gs a r = ap (differ same_key) (sym (keys_groups gs a.1)) ∙ (and_pa
 -- a row is stored
 
 -- a key is in the creation order if and only if it is numbered
-made_any : (key : Key) (gs : ItemGroups) → list_any (same_key key) (made_of gs) ≡ list_any (is_key key) (numbered gs)
+made_any : (key : Key) (gs : ItemGroups) → list_any (same_key key) (creation_order gs) ≡ list_any (is_key key) (numbered gs)
 made_any key gs = list_any-map (λ x. x.0) (same_key key) (by_number (numbered gs)) ∙ any_ordered (is_key key) (numbered gs)
 
 module _ (row : Row) (n : ℕ) (gs : ItemGroups) where
   -- its key is created last, unless it was created before
-  pub made_put : AreGroups (bare gs) → Below n gs → made_of (put_items row n gs) ≡ make (made_of gs) (key_of row)
+  pub made_put : AreGroups (bare gs) → Below n gs → creation_order (put_items row n gs) ≡ add_created (creation_order gs) (key_of row)
   made_put a b = elim (puts row n gs) [
-    | inl h ↦ ap (λ ks. map (λ x. x.0) (by_number ks)) h.1 ∙ stays (made_any (key_of row) gs ∙ h.0)
+    | inl h ↦ ap (λ ks. map (λ x. x.0) (by_number ks)) h.1 ∙ survives (made_any (key_of row) gs ∙ h.0)
     | inr h ↦
         ap (map (λ x. x.0)) (ordered_gained (key_of row, n) (numbered gs) (numbered (put_items row n gs)) h.1 b)
         ∙ map-append (λ (x : Key × ℕ). x.0) (by_number (numbered gs)) ((key_of row, n) ∷ [])
@@ -77,11 +77,11 @@ module _ (row : Row) (n : ℕ) (gs : ItemGroups) where
   ]
     where
       -- it was created before
-      stays : list_any (same_key (key_of row)) (made_of gs) ≡ true → made_of gs ≡ make (made_of gs) (key_of row)
-      stays e = rw e refl
+      survives : list_any (same_key (key_of row)) (creation_order gs) ≡ true → creation_order gs ≡ add_created (creation_order gs) (key_of row)
+      survives e = rw e refl
 
       -- it was not
-      comes : list_any (same_key (key_of row)) (made_of gs) ≡ false → made_of gs ++ key_of row ∷ [] ≡ make (made_of gs) (key_of row)
+      comes : list_any (same_key (key_of row)) (creation_order gs) ≡ false → creation_order gs ++ key_of row ∷ [] ≡ add_created (creation_order gs) (key_of row)
       comes e = rw e refl
 
   -- its number is below the next
@@ -117,7 +117,7 @@ module _ (row : Row) (n : ℕ) (gs : ItemGroups) where
 
 module _ (key : Key) where
   -- in a group
-  ended_names : (d p : List ℕ) (xs : List Item) → numbered_names d p (end_item key.name xs) ≡ numbered_names d p xs
+  ended_names : (d p : List ℕ) (xs : List Item) → numbered_names d p (expire_item key.name xs) ≡ numbered_names d p xs
   ended_names d p [] = refl
   ended_names d p (x ∷ xs) = elim (cases_Bool (is_named key.name x.row)) [
     | inl e ↦ rw e refl
@@ -125,7 +125,7 @@ module _ (key : Key) where
   ]
 
   -- in a domain
-  ended_paths : (d : List ℕ) (ps : ItemPaths) → numbered_paths d (end_item_paths key.path key.name ps) ≡ numbered_paths d ps
+  ended_paths : (d : List ℕ) (ps : ItemPaths) → numbered_paths d (expire_item_paths key.path key.name ps) ≡ numbered_paths d ps
   ended_paths d [] = refl
   ended_paths d (p ∷ ps) = elim (cases_Bool (bytes_eq key.path p.0)) [
     | inl e ↦ rw e (ap (λ ys. ys ++ numbered_paths d ps) (ended_names d p.0 p.1))
@@ -133,7 +133,7 @@ module _ (key : Key) where
   ]
 
   -- and among all
-  pub numbered_end : (gs : ItemGroups) → numbered (end_items key gs) ≡ numbered gs
+  pub numbered_end : (gs : ItemGroups) → numbered (expire_items key gs) ≡ numbered gs
   numbered_end [] = refl
   numbered_end (g ∷ gs) = elim (cases_Bool (bytes_eq key.domain g.0)) [
     | inl e ↦ rw e (ap (λ ys. ys ++ numbered gs) (ended_paths g.0 g.1))
@@ -148,7 +148,7 @@ map_removed key [] = refl
 map_removed key (x ∷ xs) = grind (arith, map_removed key xs)
 
 -- its key is removed
-pub made_remove : (key : Key) (gs : ItemGroups) → AreGroups (bare gs) → are_rows (flat (bare gs)) ≡ true → made_of (remove_items key gs) ≡ removed (same_key key) (made_of gs)
+pub made_remove : (key : Key) (gs : ItemGroups) → AreGroups (bare gs) → are_rows (flat (bare gs)) ≡ true → creation_order (remove_items key gs) ≡ removed (same_key key) (creation_order gs)
 made_remove key gs a r =
     ap (λ ks. map (λ x. x.0) (by_number ks)) ((takes key gs).0 (texts_differ gs a))
     ∙ ap (map (λ x. x.0)) (ordered_removed key (numbered gs) (keys_differ gs a r))

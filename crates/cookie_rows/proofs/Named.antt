@@ -7,9 +7,9 @@ use Rattle.std.specs.Map.{values_of, lookup, set_value, remove_entry}
 use Rattle.std.proofs.lemmas.Bool.{cases_Bool}
 use Rattle.std.proofs.lemmas.Slice.Eq.{bytes_eq-Decides}
 use Rattle.indexmap.specs.IndexMap.{insert_entry}
-use Rattle.cookie_parts.specs.Cookie.{Row, ended}
+use Rattle.cookie_parts.specs.Cookie.{Row, expired_row}
 use Rattle.cookie_rows.specs.Groups.{row_named, texts_of}
-use Rattle.cookie_rows.specs.Items.{AreNamed, Item, end_item, is_item_named, put_item, remove_item, rows_of}
+use Rattle.cookie_rows.specs.Items.{AreNamed, Item, expire_item, is_item_named, put_item, remove_item, rows_of}
 
 -- there is no item that has no row
 no_item : (x : Option Item) → option_map (λ (x : Item). x.row) x ≡ None → None ≡ x
@@ -78,23 +78,23 @@ module _ {A : Type 0} where
 
   module _ (q : List ℕ) where
     -- the row of the name expired
-    pub named_ended : (v : Item) (es : List (String A × Item)) → AreNamed es → Some v ≡ lookup (at_text q) es → AreNamed (set_value (at_text q) es (record v { row = ended v.row }))
+    pub named_ended : (v : Item) (es : List (String A × Item)) → AreNamed es → Some v ≡ lookup (at_text q) es → AreNamed (set_value (at_text q) es (record v { row = expired_row v.row }))
     named_ended v [] g l = tt
     named_ended v (e ∷ es) g l = elim (cases_Bool (at_text q e.0)) [
       | inl t ↦ let l' = rw t at l in let same : e.1 ≡ v = cc in rw t (g.0 ∙ ap (λ (x : Item). x.row.raw.name) same, g.1)
       | inr f ↦ let l' = rw f at l in rw f (g.0, named_ended v es g.1 l')
     ]
 
-    -- as in `end_item`
-    pub end_set : (v : Item) (es : List (String A × Item)) → AreNamed es → Some v ≡ lookup (at_text q) es → values_of (set_value (at_text q) es (record v { row = ended v.row })) ≡ end_item q (values_of es)
+    -- as in `expire_item`
+    pub end_set : (v : Item) (es : List (String A × Item)) → AreNamed es → Some v ≡ lookup (at_text q) es → values_of (set_value (at_text q) es (record v { row = expired_row v.row })) ≡ expire_item q (values_of es)
     end_set v [] g l = absurd (cc)
     end_set v (e ∷ es) g l = elim (cases_Bool (at_text q e.0)) [
-      | inl t ↦ let l' = rw t at l in let same : v ≡ e.1 = cc in rw (t, same_test q e g.0 true t) (ap (λ (x : Item). record x { row = ended x.row } ∷ values_of es) same)
+      | inl t ↦ let l' = rw t at l in let same : v ≡ e.1 = cc in rw (t, same_test q e g.0 true t) (ap (λ (x : Item). record x { row = expired_row x.row } ∷ values_of es) same)
       | inr f ↦ let l' = rw f at l in rw (f, same_test q e g.0 false f) (ap (λ xs. e.1 ∷ xs) (end_set v es g.1 l'))
     ]
 
     -- there is none, so none is expired
-    pub end_none : (es : List (String A × Item)) → AreNamed es → None ≡ lookup (at_text q) es → values_of es ≡ end_item q (values_of es)
+    pub end_none : (es : List (String A × Item)) → AreNamed es → None ≡ lookup (at_text q) es → values_of es ≡ expire_item q (values_of es)
     end_none [] g l = refl
     end_none (e ∷ es) g l = elim (cases_Bool (at_text q e.0)) [
       | inl t ↦ let l' = rw t at l in absurd (cc)

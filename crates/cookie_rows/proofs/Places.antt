@@ -7,7 +7,7 @@ use Rattle.std.proofs.lemmas.Iterator.Adapters.{position_from-zero}
 use Rattle.std.proofs.lemmas.Option.{slice_get_within}
 use Rattle.cookie_parts.specs.Cookie.{Row}
 use Rattle.cookie_lookup.specs.Groups.{DomainGroups}
-use Rattle.cookie_lookup.specs.Seen.{Spot, place_of, under, rows_at, list_of}
+use Rattle.cookie_lookup.specs.SearchView.{RowPosition, place_of, under, rows_at, list_of}
 use Rattle.cookie_rows.specs.Groups.{found, texts_of}
 use Rattle.cookie_rows.specs.HeaderItems.{items_in}
 use Rattle.cookie_rows.specs.Items.{Item, ItemGroups, bare, rows_of}
@@ -104,13 +104,13 @@ nothing_right : {A : Type 0} (xs ys : List A) → xs ++ ys ≡ [] → ys ≡ []
 nothing_right [] ys e = e
 nothing_right (x ∷ xs) ys e = absurd (cc)
 
-pub some_row : (groups : DomainGroups) (spots : List Spot) (at : ℕ) (default : Spot) (row : Row) → at < length spots
-    → Some row ≡ slice_get (under (get_or spots at default).1 (under (get_or spots at default).0 groups)) (get_or spots at default).2
-    → flat_map (rows_at groups) spots ≢ []
+pub some_row : (groups : DomainGroups) (positions : List RowPosition) (at : ℕ) (default : RowPosition) (row : Row) → at < length positions
+    → Some row ≡ slice_get (under (get_or positions at default).1 (under (get_or positions at default).0 groups)) (get_or positions at default).2
+    → flat_map (rows_at groups) positions ≢ []
 some_row groups [] at default row below here none = absurd (omega (arith, below))
-some_row groups (s ∷ spots) zero default row below here none = let clash : row ∷ flat_map (rows_at groups) spots ≡ [] = ap (λ o. list_of o ++ flat_map (rows_at groups) spots) here ∙ none in absurd (cc)
-some_row groups (s ∷ spots) (suc at) default row below here none =
-    some_row groups spots at default row (omega (arith, below)) here (nothing_right (rows_at groups s) (flat_map (rows_at groups) spots) none)
+some_row groups (s ∷ positions) zero default row below here none = let clash : row ∷ flat_map (rows_at groups) positions ≡ [] = ap (λ o. list_of o ++ flat_map (rows_at groups) positions) here ∙ none in absurd (cc)
+some_row groups (s ∷ positions) (suc at) default row below here none =
+    some_row groups positions at default row (omega (arith, below)) here (nothing_right (rows_at groups s) (flat_map (rows_at groups) positions) none)
 
 -- groups of items, seen as groups of rows
 

@@ -4,7 +4,7 @@ use Rattle.std.specs.List.{list_any}
 use Rattle.std.specs.Cmp.{IsEquivalence}
 use Rattle.std.proofs.lemmas.Bool.{cond_both, and_parts, and_from}
 use Rattle.cookie_parts.specs.Cookie.{Row}
-use Rattle.cookie_laws.specs.Rows.{Key, key_of, same_key, has_key, removed, differ, stand_together, are_rows, same_domain_equiv, same_group_equiv}
+use Rattle.cookie_laws.specs.Rows.{Key, key_of, same_key, has_key, removed, differ, are_adjacent, are_rows, same_domain_equiv, same_group_equiv}
 use Rattle.cookie_rows.proofs.StandTogether.{begins, begins_congr, together-parts, together-from}
 use Rattle.cookie_rows.proofs.KeptOrder.{are_keys}
 
@@ -37,7 +37,7 @@ begins-later : {T : Type 0} (p test : T → Bool) (y : T) (ys : List T) → begi
 begins-later p test y ys h = grind (arith, none-removed p test ys)
 
 -- so any one of them may go
-begins-removed : {T : Type 0} {alike : T → T → Bool} → IsEquivalence alike → (test : T → Bool) (x : T) (xs : List T) → begins (alike x) xs ≡ true → stand_together alike xs ≡ true → begins (alike x) (removed test xs) ≡ true
+begins-removed : {T : Type 0} {alike : T → T → Bool} → IsEquivalence alike → (test : T → Bool) (x : T) (xs : List T) → begins (alike x) xs ≡ true → are_adjacent alike xs ≡ true → begins (alike x) (removed test xs) ≡ true
 begins-removed laws test x [] first h = refl
 begins-removed {alike = alike} laws test x (y ∷ ys) first h =
     cond_both (test y) ys (y ∷ removed test ys) (λ zs. begins (alike x) zs ≡ true)
@@ -45,11 +45,11 @@ begins-removed {alike = alike} laws test x (y ∷ ys) first h =
     (λ e. begins-later (alike x) test y ys first)
 
 -- items that are alike are still adjacent
-together-removed : {T : Type 0} {alike : T → T → Bool} → IsEquivalence alike → (test : T → Bool) (xs : List T) → stand_together alike xs ≡ true → stand_together alike (removed test xs) ≡ true
+together-removed : {T : Type 0} {alike : T → T → Bool} → IsEquivalence alike → (test : T → Bool) (xs : List T) → are_adjacent alike xs ≡ true → are_adjacent alike (removed test xs) ≡ true
 together-removed laws test [] h = refl
 together-removed {alike = alike} laws test (x ∷ xs) h =
     let parts = together-parts alike x xs h in
-    cond_both (test x) xs (x ∷ removed test xs) (λ zs. stand_together alike zs ≡ true)
+    cond_both (test x) xs (x ∷ removed test xs) (λ zs. are_adjacent alike zs ≡ true)
     (λ e. parts.1)
     (λ e. together-from alike x (removed test xs) (begins-removed laws test x xs parts.0 parts.1) (together-removed laws test xs parts.1))
 

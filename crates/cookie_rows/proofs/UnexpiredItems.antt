@@ -11,19 +11,19 @@ use Rattle.std.proofs.lemmas.Map.Steps.{length-le_from_distinct_below}
 use Rattle.cookie_words.specs.Moments.{Moment}
 use Rattle.cookie_parts.specs.Cookie.{Row, is_expired}
 use Rattle.cookie_laws.specs.Contents as Store
-use Rattle.cookie_laws.specs.Contents.{contents_of, has_ended, unexpired}
+use Rattle.cookie_laws.specs.Contents.{contents_of, has_expired, unexpired}
 use Rattle.cookie_laws.specs.Rows.{Key, are_rows, differ, is_live, key_at, key_of, live_rows}
 use Rattle.cookie_lookup.specs.Groups.{ArePaths, AreGroups, flat}
 use Rattle.cookie_rows.specs.Groups.{texts_of}
-use Rattle.cookie_rows.specs.Items.{AreItems, Item, ItemGroups, ItemPaths, bare, bare_paths, by_number, kept_of, made_of, numbered, rows_of}
-use Rattle.cookie_rows.specs.Turns.{is_filled, passing, passing_groups, stays, turn_of}
+use Rattle.cookie_rows.specs.Items.{AreItems, Item, ItemGroups, ItemPaths, bare, bare_paths, by_number, rows_in_order, creation_order, numbered, rows_of}
+use Rattle.cookie_rows.specs.Eviction.{is_filled, filter_paths, filter_groups, survives, rank_of}
 use Rattle.cookie_rows.proofs.Bare.{seen_texts}
 use Rattle.cookie_rows.proofs.Entering.{changed_retained}
 use Rattle.cookie_rows.proofs.FilteredGroups.{all_any, all_filter, are_rows-filter, differ-filter, map-filter, paths_passing}
 use Rattle.cookie_rows.proofs.LeftItems.{Each, each_in_any, each_map, has_ended_item, listed, listed_in, paths_left, rows_listed}
 use Rattle.cookie_rows.proofs.Made.{keys_groups}
-use Rattle.cookie_rows.proofs.TurnOrder.{before_tests}
-use Rattle.cookie_rows.proofs.Turns.{distinct_from_differ, ordered_filtered}
+use Rattle.cookie_rows.proofs.RankOrder.{before_tests}
+use Rattle.cookie_rows.proofs.Eviction.{distinct_from_differ, ordered_filtered}
 
 -- items of all domains that pass a test
 
@@ -39,10 +39,10 @@ module _ (test : Item → Bool) where
 
     -- so the list is filtered
     pub groups_left : (keeps : Y → Bool) (of : List ℕ → List ℕ → Item → Y) (gs : ItemGroups) → Each (λ d p x. keeps (of d p x) ≡ test x) gs
-        → listed of (passing_groups test gs) ≡ filter keeps (listed of gs)
+        → listed of (filter_groups test gs) ≡ filter keeps (listed of gs)
     groups_left keeps of [] a = refl
     groups_left keeps of (g ∷ gs) a =
-        listed_next of g.0 (passing test g.1) (passing_groups test gs)
+        listed_next of g.0 (filter_paths test g.1) (filter_groups test gs)
         ∙ ap₂ (λ xs ys. xs ++ ys) (paths_left keeps test (of g.0) g.1 a.0) (groups_left keeps of gs a.1)
         ∙ sym (filter-append keeps (listed_in (of g.0) g.1) (listed of gs))
 
@@ -50,7 +50,7 @@ module _ (test : Item → Bool) where
 
   -- domains of which the items that do not pass left
   abbrev tested : ItemGroups → ItemGroups
-  tested gs = map (λ g. (g.0, passing test g.1)) gs
+  tested gs = map (λ g. (g.0, filter_paths test g.1)) gs
 
   -- their names are unchanged
   texts_tested : (gs : ItemGroups) → map (λ g. g.0) (tested gs) ≡ map (λ g. g.0) gs
@@ -65,24 +65,24 @@ module _ (test : Item → Bool) where
 
   -- so none is
   filled_groups : (gs : ItemGroups) → AllByRecursion (λ g. (0 < length g.1) × ArePaths g.0 g.1) (bare gs)
-      → AllByRecursion (λ g. (0 < length g.1) × ArePaths g.0 g.1) (bare (passing_groups test gs))
+      → AllByRecursion (λ g. (0 < length g.1) × ArePaths g.0 g.1) (bare (filter_groups test gs))
   filled_groups [] a = tt
-  filled_groups (g ∷ gs) a = filled_next g.0 (passing test g.1) (passing_groups test gs) (paths_passing test g.0 g.1 a.0.1) (filled_groups gs a.1)
+  filled_groups (g ∷ gs) a = filled_next g.0 (filter_paths test g.1) (filter_groups test gs) (paths_passing test g.0 g.1 a.0.1) (filled_groups gs a.1)
 
   -- all groups
-  pub groups_are : (gs : ItemGroups) → AreGroups (bare gs) → AreGroups (bare (passing_groups test gs))
+  pub groups_are : (gs : ItemGroups) → AreGroups (bare gs) → AreGroups (bare (filter_groups test gs))
   groups_are gs a =
       let bared : List ℕ × List Item → List ℕ × List Row = λ p. (p.0, rows_of p.1) in
       let all = λ (hs : ItemGroups). seen_texts bared hs in
       let before : differ bytes_eq (map (λ g. g.0) (tested gs)) ≡ true = ap (differ bytes_eq) (texts_tested gs ∙ sym (all gs)) ∙ a.0 in
-      let after : differ bytes_eq (map (λ g. g.0) (passing_groups test gs)) ≡ true = differ-filter (λ (g : List ℕ × ItemPaths). g.0) is_filled bytes_eq (tested gs) before in
-      (ap (differ bytes_eq) (all (passing_groups test gs)) ∙ after, filled_groups gs a.1)
+      let after : differ bytes_eq (map (λ g. g.0) (filter_groups test gs)) ≡ true = differ-filter (λ (g : List ℕ × ItemPaths). g.0) is_filled bytes_eq (tested gs) before in
+      (ap (differ bytes_eq) (all (filter_groups test gs)) ∙ after, filled_groups gs a.1)
 
 -- domains under their names, without those in which no item passes the test
 module _ {A F : Type 0} (T : F → String A → ItemPaths → Bool → ItemPaths → F → Type 0) (test : Item → Bool) (f : F)
-    (says : (k : String A) (v : ItemPaths) (b : Bool) (w : ItemPaths) (g : F) → T f k v b w g → (b ≡ not (length (passing test v) == 0)) × (w ≡ passing test v) × (g ≡ f)) where
-  pub groups_retained : (es left : List (String A × ItemPaths)) → RetainsPairs T f es left → texts_of left ≡ passing_groups test (texts_of es)
-  groups_retained es left h = ap texts_of (changed_retained T (passing test) (λ ps. not (length ps == 0)) f says es left h) ∙ texts_filtered es
+    (says : (k : String A) (v : ItemPaths) (b : Bool) (w : ItemPaths) (g : F) → T f k v b w g → (b ≡ not (length (filter_paths test v) == 0)) × (w ≡ filter_paths test v) × (g ≡ f)) where
+  pub groups_retained : (es left : List (String A × ItemPaths)) → RetainsPairs T f es left → texts_of left ≡ filter_groups test (texts_of es)
+  groups_retained es left h = ap texts_of (changed_retained T (filter_paths test) (λ ps. not (length ps == 0)) f says es left h) ∙ texts_filtered es
     where
       -- an entry remains if something is left in its domain
       one_stays : (k : String A) (ps : ItemPaths) (es : List (String A × ItemPaths)) (gs : ItemGroups) → texts_of es ≡ gs
@@ -93,10 +93,10 @@ module _ {A F : Type 0} (T : F → String A → ItemPaths → Bool → ItemPaths
           rw some (ap (λ hs. (string_bytes k, p ∷ ps) ∷ hs) same)
 
       -- the remaining entries have the kept domains
-      texts_filtered : (es : List (String A × ItemPaths)) → texts_of (filter (λ e. not (length e.1 == 0)) (map (λ e. (e.0, passing test e.1)) es)) ≡ passing_groups test (texts_of es)
+      texts_filtered : (es : List (String A × ItemPaths)) → texts_of (filter (λ e. not (length e.1 == 0)) (map (λ e. (e.0, filter_paths test e.1)) es)) ≡ filter_groups test (texts_of es)
       texts_filtered [] = refl
       texts_filtered (e ∷ es) =
-          one_stays e.0 (passing test e.1) (filter (λ e. not (length e.1 == 0)) (map (λ e. (e.0, passing test e.1)) es)) (passing_groups test (texts_of es)) (texts_filtered es)
+          one_stays e.0 (filter_paths test e.1) (filter (λ e. not (length e.1 == 0)) (map (λ e. (e.0, filter_paths test e.1)) es)) (filter_groups test (texts_of es)) (texts_filtered es)
 
 -- items that have not expired
 
@@ -105,9 +105,9 @@ pub fewer_rows : (now : Moment) (rows : List Row) → length (live_rows now rows
 fewer_rows now [] = omega arith
 fewer_rows now (row ∷ rows) = grind (arith, fewer_rows now rows)
 
--- no turn of such an item comes before (true, 0)
-stays_live : (now : Moment) (x : Item) → is_live now x.row ≡ stays now (true, 0) x
-stays_live now x = sym (ap not (before_tests (turn_of now x) (true, 0)) ∙ passes (is_live now x.row) (ltb x.number 0) none)
+-- no rank of such an item comes before (true, 0)
+stays_live : (now : Moment) (x : Item) → is_live now x.row ≡ survives now (true, 0) x
+stays_live now x = sym (ap not (before_tests (rank_of now x) (true, 0)) ∙ passes (is_live now x.row) (ltb x.number 0) none)
   where
     -- no number is below 0
     none : ltb x.number 0 ≡ false
@@ -138,42 +138,42 @@ module _ (n : ℕ) (gs : ItemGroups) (a : AreItems n gs) where
   module _ (now : Moment) where
     -- the groups that are left
     abbrev left : ItemGroups
-    left = passing_groups (stays now (true, 0)) gs
+    left = filter_groups (survives now (true, 0)) gs
 
     -- the key of the row is unchanged
     abbrev key_stays : Key → Bool
-    key_stays key = not (has_ended now (flat (bare gs)) key)
+    key_stays key = not (has_expired now (flat (bare gs)) key)
 
     -- the rows that are left
     rows_left : flat (bare left) ≡ live_rows now (flat (bare gs))
     rows_left =
-        let each = all_any (λ (g : List ℕ × ItemPaths). AllByRecursion (λ p. AllByRecursion (λ x. is_live now x.row ≡ stays now (true, 0) x) p.1) g.1)
-        (λ g. each_in_any (λ p x. is_live now x.row ≡ stays now (true, 0) x) (λ p x. stays_live now x) g.1) gs in
-        rows_listed left ∙ groups_left (stays now (true, 0)) (is_live now) (λ d p x. x.row) gs each ∙ ap (filter (is_live now)) (sym (rows_listed gs))
+        let each = all_any (λ (g : List ℕ × ItemPaths). AllByRecursion (λ p. AllByRecursion (λ x. is_live now x.row ≡ survives now (true, 0) x) p.1) g.1)
+        (λ g. each_in_any (λ p x. is_live now x.row ≡ survives now (true, 0) x) (λ p x. stays_live now x) g.1) gs in
+        rows_listed left ∙ groups_left (survives now (true, 0)) (is_live now) (λ d p x. x.row) gs each ∙ ap (filter (is_live now)) (sym (rows_listed gs))
 
     -- the numbered keys
     numbered_left : numbered left ≡ filter (λ x. key_stays x.0) (numbered gs)
     numbered_left =
-        let each = each_map (λ d p x. has_ended now (flat (bare gs)) (key_at d p x.row.raw.name) ≡ is_expired now x.row)
-        (λ d p x. key_stays (key_at d p x.row.raw.name) ≡ stays now (true, 0) x)
+        let each = each_map (λ d p x. has_expired now (flat (bare gs)) (key_at d p x.row.raw.name) ≡ is_expired now x.row)
+        (λ d p x. key_stays (key_at d p x.row.raw.name) ≡ survives now (true, 0) x)
         (λ d p x h. ap not h ∙ stays_live now x) gs (has_ended_item n gs a now) in
-        groups_left (stays now (true, 0)) (λ (x : Key × ℕ). key_stays x.0) (λ d p x. (key_at d p x.row.raw.name, x.number)) gs each
+        groups_left (survives now (true, 0)) (λ (x : Key × ℕ). key_stays x.0) (λ d p x. (key_at d p x.row.raw.name, x.number)) gs each
 
     -- the keys in creation order
-    made_left : made_of left ≡ filter key_stays (made_of gs)
+    made_left : creation_order left ≡ filter key_stays (creation_order gs)
     made_left =
         ap (λ xs. map (λ x. x.0) (by_number xs)) numbered_left
         ∙ ap (map (λ x. x.0)) (ordered_filtered (λ x. key_stays x.0) (numbered gs))
         ∙ map-filter (λ (x : Key × ℕ). x.0) key_stays (by_number (numbered gs))
 
     -- the rows and the keys
-    pub kept_unexpired : kept_of left ≡ Store.kept_of (unexpired now (contents_of (kept_of gs) None None))
-    kept_unexpired = λ i. record { rows = rows_left i; made = made_left i }
+    pub kept_unexpired : rows_in_order left ≡ Store.rows_in_order (unexpired now (contents_of (rows_in_order gs) None None))
+    kept_unexpired = λ i. record { rows = rows_left i; created = made_left i }
 
     -- the groups
     pub items_unexpired : AreItems n left
     items_unexpired = (
-      groups_are (stays now (true, 0)) gs a.0,
+      groups_are (survives now (true, 0)) gs a.0,
       subst (λ rows. IsTrue (are_rows rows)) (sym rows_left) (are_rows-filter (is_live now) (flat (bare gs)) a.1),
       subst (AllByRecursion (λ x. x.1 < n)) (sym numbered_left) (all_filter (λ x. x.1 < n) (λ x. key_stays x.0) (numbered gs) a.2),
       ap (λ xs. differ nat_eq (map (λ x. x.1) xs)) numbered_left ∙ differ-filter (λ (x : Key × ℕ). x.1) (λ x. key_stays x.0) nat_eq (numbered gs) a.3,

@@ -2,11 +2,11 @@
 use Rattle.std.specs.Prelude.{List, [], length, Option, Some, None, slice_get}
 use Rattle.std.specs.Ordering.{nat_cmp, ordering_then}
 use Rattle.std.specs.declared.cmp.Ordering.{Ordering}
-use Rattle.cookie_lookup.specs.Seen.{Spot, list_of, under}
+use Rattle.cookie_lookup.specs.SearchView.{RowPosition, list_of, under}
 use Rattle.cookie_rows.specs.Items.{Item, ItemGroups}
 
 -- the row at a position, if there is one
-abbrev pub items_at : ItemGroups → Spot → List Item
+abbrev pub items_at : ItemGroups → RowPosition → List Item
 items_at groups s = list_of (slice_get (under s.1 (under s.0 groups)) s.2)
 
 -- the rows of a group, empty without a group

@@ -1,9 +1,9 @@
 -- Rows in groups, numbered in creation order.
 use Rattle.std.specs.Prelude.{◌≡◌, ◌<◌, ℕ, Bool, true, List, [], ◌∷◌, map, nat_eq, nat_le, string_bytes, String, Option, IsTrue, if◌then◌else◌}
 use Rattle.std.specs.List.{AllByRecursion, flat_map}
-use Rattle.cookie_parts.specs.Cookie.{Row, ended}
+use Rattle.cookie_parts.specs.Cookie.{Row, expired_row}
 use Rattle.cookie_parts.specs.Domain.{domain_text}
-use Rattle.cookie_laws.specs.Rows.{Key, Kept, are_rows, changed, differ, key_at, removed}
+use Rattle.cookie_laws.specs.Rows.{Key, RowsInOrder, are_rows, changed, differ, key_at, removed}
 use Rattle.cookie_lookup.specs.Groups.{AreGroups, DomainGroups, PathGroups, flat}
 use Rattle.cookie_rows.specs.Groups.{changed_at, found, is_named, lessened_at, put_at, row_named}
 
@@ -60,8 +60,8 @@ put_item row number (x ∷ xs) =
     if is_item_named row.raw.name x then record x { row = row } ∷ xs else x ∷ put_item row number xs
 
 -- the rows with that of this name expired
-abbrev pub end_item : List ℕ → List Item → List Item
-end_item name items = changed (is_item_named name) (λ item. record item { row = ended item.row }) items
+abbrev pub expire_item : List ℕ → List Item → List Item
+expire_item name items = changed (is_item_named name) (λ item. record item { row = expired_row item.row }) items
 
 -- the rows without that of this name
 abbrev pub remove_item : List ℕ → List Item → List Item
@@ -86,12 +86,12 @@ abbrev pub put_items : Row → ℕ → ItemGroups → ItemGroups
 put_items row number groups = put_at (put_item_paths row number) (domain_text row.domain) groups
 
 -- the groups of a domain with the row of a path and a name expired
-abbrev pub end_item_paths : List ℕ → List ℕ → ItemPaths → ItemPaths
-end_item_paths path name paths = changed_at (end_item name) path paths
+abbrev pub expire_item_paths : List ℕ → List ℕ → ItemPaths → ItemPaths
+expire_item_paths path name paths = changed_at (expire_item name) path paths
 
 -- all groups with the row of a key expired
-abbrev pub end_items : Key → ItemGroups → ItemGroups
-end_items key groups = changed_at (end_item_paths key.path key.name) key.domain groups
+abbrev pub expire_items : Key → ItemGroups → ItemGroups
+expire_items key groups = changed_at (expire_item_paths key.path key.name) key.domain groups
 
 -- the groups of a domain without the row of a path and a name
 abbrev pub remove_item_paths : List ℕ → List ℕ → ItemPaths → ItemPaths
@@ -126,8 +126,8 @@ by_number [] = []
 by_number (x ∷ xs) = place x (by_number xs)
 
 -- the keys of all rows in creation order, oldest first
-abbrev pub made_of : ItemGroups → List Key
-made_of groups = map (λ x. x.0) (by_number (numbered groups))
+abbrev pub creation_order : ItemGroups → List Key
+creation_order groups = map (λ x. x.0) (by_number (numbered groups))
 
 -- all numbers are below this one
 abbrev pub Below : ℕ → ItemGroups → Type 0
@@ -142,5 +142,5 @@ abbrev pub AreItems : ℕ → ItemGroups → Type 0
 AreItems n groups = AreGroups (bare groups) × IsTrue (are_rows (flat (bare groups))) × Below n groups × NumbersDiffer groups
 
 -- their rows as one list, and the keys in creation order
-abbrev pub kept_of : ItemGroups → Kept
-kept_of groups = record { rows = flat (bare groups); made = made_of groups }
+abbrev pub rows_in_order : ItemGroups → RowsInOrder
+rows_in_order groups = record { rows = flat (bare groups); created = creation_order groups }

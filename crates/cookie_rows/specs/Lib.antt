@@ -6,4 +6,4 @@ pub mod Items
 pub mod NameMaps
 pub mod PathMaps
 pub mod Requests
-pub mod Turns
+pub mod Eviction

@@ -8,5 +8,5 @@ abbrev pub name_and_value : Row → List ℕ × List ℕ
 name_and_value cookie = (cookie.raw.name, cookie.raw.value)
 
 -- two borrowed strings
-abbrev pub lent_pair : Bor (List ℕ) × Bor (List ℕ) → List ℕ × List ℕ
-lent_pair pair = (pair.0.now, pair.1.now)
+abbrev pub borrowed_pair : Bor (List ℕ) × Bor (List ℕ) → List ℕ × List ℕ
+borrowed_pair pair = (pair.0.now, pair.1.now)

@@ -2,8 +2,8 @@
 //! pointers only.
 ghost use Rattle.std.specs.Prelude.{◌≡◌, IfOk};
 ghost use Rattle.cookie_words.specs.Moments.{moment_of};
-ghost use Rattle.cookie_parts.specs.Cookie.{ended};
-ghost use Rattle.cookie_rows.specs.Turns.{turn_of};
+ghost use Rattle.cookie_parts.specs.Cookie.{expired_row};
+ghost use Rattle.cookie_rows.specs.Eviction.{rank_of};
 
 use crate::copying::Rehash;
 use crate::hashing::HashKey;
@@ -94,8 +94,8 @@ impl BoxedCookie {
     }
 
     // The place in eviction order: expired rows first, then by creation.
-    pub(crate) fn turn(&self, now: DateTime) -> (bool, u64)
-        ensures { result ≡ turn_of (moment_of now) self.now }
+    pub(crate) fn rank(&self, now: DateTime) -> (bool, u64)
+        ensures { result ≡ rank_of (moment_of now) self.now }
     {
         let inner = self.inner.as_ref();
         (!inner.cookie.is_expired(now), inner.number)
@@ -110,7 +110,7 @@ impl BoxedCookie {
 
     // Expires the cookie.
     pub(crate) fn expire(&mut self)
-        ensures { self.new ≡ record self.old { row = ended self.old.row } }
+        ensures { self.new ≡ record self.old { row = expired_row self.old.row } }
     {
         self.inner.as_mut().cookie.expire();
     }

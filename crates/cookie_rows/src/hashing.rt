@@ -8,8 +8,8 @@ use std::hash::{BuildHasher, DefaultHasher, RandomState};
 pub enum HashKey {
     /// A fixed, public key, the same in every program.
     Fixed,
-    /// A random key: an attacker who does not know it cannot choose strings whose hashes collide.
-    Drawn(RandomState),
+    /// A random key, against servers that choose strings whose hashes collide under a known key.
+    Random(RandomState),
 }
 
 impl BuildHasher for HashKey {
@@ -22,7 +22,7 @@ impl BuildHasher for HashKey {
     fn build_hasher(&self) -> DefaultHasher {
         match self {
             HashKey::Fixed => DefaultHasher::new(),
-            HashKey::Drawn(state) => state.build_hasher(),
+            HashKey::Random(state) => state.build_hasher(),
         }
     }
 }

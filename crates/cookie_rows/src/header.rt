@@ -9,12 +9,12 @@ ghost use Rattle.cookie_laws.specs.Header.{InHeaderOrder};
 ghost use Rattle.cookie_lookup.specs.Groups.{flat};
 ghost use Rattle.cookie_rows.specs.Groups.{texts_of};
 ghost use Rattle.cookie_rows.specs.HeaderItems.{item_order, items_at};
-ghost use Rattle.cookie_rows.specs.Items.{bare, kept_of, AreItems};
+ghost use Rattle.cookie_rows.specs.Items.{bare, rows_in_order, AreItems};
 
 use crate::boxed::BoxedCookie;
 use crate::hashing::HashKey;
 use crate::paths::Paths;
-use crate::search::{given_spots, item_at};
+use crate::search::{given_positions, item_at};
 use crate::texts::path_text;
 use cookie_lookup::laws;
 use cookie_parts::Cookie;
@@ -34,28 +34,28 @@ pub(crate) fn in_header_order<'a>(
 ) -> Result<Vec<&'a Cookie<'static>>, AllocError>
     requires { (n : ℕ) × AreItems n (texts_of groups.now.entries) }
     ensures order { IfOk result (λ cookies. InHeaderOrder url.now (moment_of now)
-        (contents_of (kept_of (texts_of groups.now.entries)) None None) (map (λ c. c.now) cookies.items)) }
+        (contents_of (rows_in_order (texts_of groups.now.entries)) None None) (map (λ c. c.now) cookies.items)) }
     ensures memory { OnErr result (given url.now (moment_of now) (flat (bare (texts_of groups.now.entries))) ≢ []) }
 {
-    laws::rows_at_spots();
-    let (spots, _) = given_spots(groups, alloc, url, now)?;
-    let mut items = items_at(groups, alloc, &spots)?;
+    laws::rows_at_positions();
+    let (positions, _) = given_positions(groups, alloc, url, now)?;
+    let mut items = items_at(groups, alloc, &positions)?;
     sort(&mut items);
     cookies_of(alloc, &items)
 }
 
-// The rows at these spots, with their numbers.
+// The rows at these positions, with their numbers.
 fn items_at<'a>(
     groups: &'a IndexMap<String, Paths, HashKey>,
     alloc: Global,
-    spots: &[(usize, usize, usize)],
+    positions: &[(usize, usize, usize)],
 ) -> Result<Vec<&'a BoxedCookie>, AllocError>
-    ensures items { IfOk result (λ items. map (λ r. r.now) items.items ≡ flat_map (items_at (texts_of groups.now.entries)) spots.now) }
-    ensures memory { OnErr result (spots.now ≢ []) }
+    ensures items { IfOk result (λ items. map (λ r. r.now) items.items ≡ flat_map (items_at (texts_of groups.now.entries)) positions.now) }
+    ensures memory { OnErr result (positions.now ≢ []) }
 {
-    let mut items = Vec::with_capacity(alloc, spots.len())?;
-    for spot in spots {
-        if let Some(item) = item_at(groups, spot.0, spot.1, spot.2) {
+    let mut items = Vec::with_capacity(alloc, positions.len())?;
+    for row_position in positions {
+        if let Some(item) = item_at(groups, row_position.0, row_position.1, row_position.2) {
             items.push(item)?;
         }
     }

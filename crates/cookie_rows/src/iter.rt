@@ -133,7 +133,7 @@ impl<'a> Iterator for IterAny<'a> {
 #[derive(Drop)]
 pub struct IterUnexpired<'a> {
     rows: IterAny<'a>,
-    moment: DateTime,
+    time: DateTime,
 }
 
 impl<'a> Model for IterUnexpired<'a> {
@@ -144,15 +144,15 @@ impl<'a> Model for IterUnexpired<'a> {
 
     ghost Value = { List Row };
 
-    ghost view = { λ iter. live_rows (moment_of iter.moment) iter.rows };
+    ghost view = { λ iter. live_rows (moment_of iter.time) iter.rows };
 }
 
 impl<'a> IterUnexpired<'a> {
-    /// Returns an iterator over those of `rows` that have not expired at `moment`.
-    pub(crate) fn new(rows: IterAny<'a>, moment: DateTime) -> IterUnexpired<'a>
-        ensures { result ≡ live_rows (moment_of moment) rows.entry }
+    /// Returns an iterator over those of `rows` that have not expired at `time`.
+    pub(crate) fn new(rows: IterAny<'a>, time: DateTime) -> IterUnexpired<'a>
+        ensures { result ≡ live_rows (moment_of time) rows.entry }
     {
-        IterUnexpired { rows, moment }
+        IterUnexpired { rows, time }
     }
 }
 
@@ -167,7 +167,7 @@ impl<'a> Iterator for IterUnexpired<'a> {
 
     fn next(&mut self) -> Option<&'a Cookie<'static>> {
         while let Some(row) = self.rows.next() {
-            if !row.is_expired(self.moment) {
+            if !row.is_expired(self.time) {
                 return Some(row);
             }
         }

@@ -6,9 +6,9 @@ ghost use Rattle.std.specs.String.{string_eq};
 ghost use Rattle.indexmap.specs.IndexMap.{spare};
 ghost use Rattle.cookie_words.specs.Moments.{moment_of};
 ghost use Rattle.cookie_rows.specs.Groups.{row_named};
-ghost use Rattle.cookie_rows.specs.Items.{AreNamed, end_item, put_item, remove_item, rows_of};
+ghost use Rattle.cookie_rows.specs.Items.{AreNamed, expire_item, put_item, remove_item, rows_of};
 ghost use Rattle.cookie_rows.specs.NameMaps.{items_of, HasNames};
-ghost use Rattle.cookie_rows.specs.Turns.{stays};
+ghost use Rattle.cookie_rows.specs.Eviction.{survives};
 
 use crate::boxed::BoxedCookie;
 use crate::copying::{Rehash, rehashed_table};
@@ -139,16 +139,16 @@ impl Names {
 
     // Keeps the rows that do not come before `first` in eviction order.
     pub(crate) fn retain(&mut self, first: (bool, u64), now: DateTime)
-        ensures { self.new ≡ filter (stays (moment_of now) first) self.old }
+        ensures { self.new ≡ filter (survives (moment_of now) first) self.old }
     {
         retain_rows(&mut self.rows, first, now);
     }
 
     // Expires the row of this name.
-    pub(crate) fn end(&mut self, name: &str)
-        ensures { self.new ≡ end_item name.now self.old }
+    pub(crate) fn expire(&mut self, name: &str)
+        ensures { self.new ≡ expire_item name.now self.old }
     {
-        end_row(&mut self.rows, name)
+        expire_row(&mut self.rows, name)
     }
 
     // Removes the row of this name. The others keep their order.
@@ -279,10 +279,10 @@ fn table_for(
     first: &BoxedCookie,
     second: &BoxedCookie,
 ) -> Result<(Box<IndexMap<String, BoxedCookie, HashKey>>, String, String), AllocError>
-    ensures empty { IfOk result (λ made. made.0.value.entries ≡ []) }
-    ensures room { IfOk result (λ made. 2 ≤ spare made.0.value) }
-    ensures first { IfOk result (λ made. string_bytes made.1 ≡ first.now.row.raw.name) }
-    ensures second { IfOk result (λ made. string_bytes made.2 ≡ second.now.row.raw.name) }
+    ensures empty { IfOk result (λ created. created.0.value.entries ≡ []) }
+    ensures room { IfOk result (λ created. 2 ≤ spare created.0.value) }
+    ensures first { IfOk result (λ created. string_bytes created.1 ≡ first.now.row.raw.name) }
+    ensures second { IfOk result (λ created. string_bytes created.2 ≡ second.now.row.raw.name) }
 {
     let first = String::from_str(alloc, first.cookie().name())?;
     let second = String::from_str(alloc, second.cookie().name())?;
@@ -332,13 +332,13 @@ fn add_in(
 // Keeps the rows that do not come before `first` in eviction order.
 fn retain_rows(rows: &mut NameMap, first: (bool, u64), now: DateTime)
     requires named { HasNames rows.old }
-    ensures retained { items_of rows.new ≡ filter (stays (moment_of now) first) (items_of rows.old) }
+    ensures retained { items_of rows.new ≡ filter (survives (moment_of now) first) (items_of rows.old) }
     ensures named { HasNames rows.new }
 {
     match rows {
         NameMap::Empty => {}
         NameMap::Single(row) => {
-            if row.turn(now) < first {
+            if row.rank(now) < first {
                 *rows = NameMap::Empty;
             }
         }
@@ -349,20 +349,20 @@ fn retain_rows(rows: &mut NameMap, first: (bool, u64), now: DateTime)
 // Keeps the rows of a table that do not come before `first` in eviction order.
 fn retain_in(rows: &mut IndexMap<String, BoxedCookie, HashKey>, first: (bool, u64), now: DateTime)
     requires named { AreNamed rows.old.entries }
-    ensures retained { values_of rows.new.entries ≡ filter (stays (moment_of now) first) (values_of rows.old.entries) }
+    ensures retained { values_of rows.new.entries ≡ filter (survives (moment_of now) first) (values_of rows.old.entries) }
     ensures named { AreNamed rows.new.entries }
 {
     rows.retain(
         |_name: &String, row: &mut BoxedCookie| -> bool
-            ensures { (result ≡ stays (moment_of now) first row.old) × (row.new ≡ row.old) }
-        { row.turn(now) >= first },
+            ensures { (result ≡ survives (moment_of now) first row.old) × (row.new ≡ row.old) }
+        { row.rank(now) >= first },
     );
 }
 
 // Expires the row of this name.
-fn end_row(rows: &mut NameMap, name: &str)
+fn expire_row(rows: &mut NameMap, name: &str)
     requires named { HasNames rows.old }
-    ensures ended { items_of rows.new ≡ end_item name.now (items_of rows.old) }
+    ensures expired_row { items_of rows.new ≡ expire_item name.now (items_of rows.old) }
     ensures named { HasNames rows.new }
 {
     match rows {
@@ -372,14 +372,14 @@ fn end_row(rows: &mut NameMap, name: &str)
                 row.expire();
             }
         }
-        NameMap::Table(rows) => end_in(rows.as_mut(), name),
+        NameMap::Table(rows) => expire_in(rows.as_mut(), name),
     }
 }
 
 // Expires the row of this name in a table.
-fn end_in(rows: &mut IndexMap<String, BoxedCookie, HashKey>, name: &str)
+fn expire_in(rows: &mut IndexMap<String, BoxedCookie, HashKey>, name: &str)
     requires named { AreNamed rows.old.entries }
-    ensures ended { values_of rows.new.entries ≡ end_item name.now (values_of rows.old.entries) }
+    ensures expired_row { values_of rows.new.entries ≡ expire_item name.now (values_of rows.old.entries) }
     ensures named { AreNamed rows.new.entries }
 {
     match rows.get_mut(name) {

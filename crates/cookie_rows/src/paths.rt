@@ -4,12 +4,12 @@ ghost use Rattle.std.specs.Option.{option_copied};
 ghost use Rattle.std.specs.String.{string_eq};
 ghost use Rattle.indexmap.specs.IndexMap.{spare};
 ghost use Rattle.cookie_words.specs.Moments.{moment_of};
-ghost use Rattle.cookie_lookup.specs.Seen.{place_of, rows_in, under};
+ghost use Rattle.cookie_lookup.specs.SearchView.{place_of, under};
 ghost use Rattle.cookie_rows.specs.Groups.{changed_at, is_empty_at, texts_of};
 ghost use Rattle.cookie_rows.specs.PathMaps.{groups_of};
 ghost use Rattle.cookie_rows.specs.HeaderItems.{items_in};
-ghost use Rattle.cookie_rows.specs.Items.{end_item_paths, find_item_paths, put_item_paths, remove_item, remove_item_paths, rows_of};
-ghost use Rattle.cookie_rows.specs.Turns.{is_single, is_single_paths, passing, settled, stays, turn_of, turns_of, EntersPaths, IsFirst};
+ghost use Rattle.cookie_rows.specs.Items.{expire_item_paths, find_item_paths, put_item_paths, remove_item, remove_item_paths};
+ghost use Rattle.cookie_rows.specs.Eviction.{is_single, is_single_paths, filter_paths, moved_to_end_if, survives, rank_of, ranks_of, InsertsInPaths, IsFirstSurvivor};
 
 use crate::boxed::BoxedCookie;
 use crate::copying::{Rehash, rehashed_table};
@@ -172,7 +172,7 @@ impl Paths {
 
     // Adds a new row and evicts rows of the domain, so that at most `limit` are stored. Returns
     // whether any was evicted. Unchanged if out of memory.
-    pub(crate) fn enter(
+    pub(crate) fn insert_within_limit(
         &mut self,
         alloc: Global,
         hash_key: HashKey,
@@ -182,23 +182,23 @@ impl Paths {
     ) -> Result<bool, AllocError>
         requires limit { 0 < limit }
         requires new { find_item_paths row.row.path.text row.row.raw.name self.old ≡ None }
-        ensures entered { IfOk result (λ left. EntersPaths limit (moment_of now) row.row row.number self.old self.new left) }
+        ensures entered { IfOk result (λ left. InsertsInPaths limit (moment_of now) row.row row.number self.old self.new left) }
         ensures err { OnErr result (self.new ≡ self.old) }
     {
-        let Some(first) = self.first_to_stay(alloc, row.number(), limit, now)? else {
+        let Some(first) = self.first_survivor(alloc, row.number(), limit, now)? else {
             self.add(alloc, hash_key, row)?;
             return Ok(false);
         };
         let path = String::from_str(alloc, path_text(row.cookie()))?;
         self.add(alloc, hash_key, row)?;
         self.retain(first, now);
-        self.settle(path.as_str());
+        self.move_single_to_end(path.as_str());
         Ok(true)
     }
 
     // Returns the place in eviction order of the first row that survives once a new row of this
     // number is added. `None` if nothing need be evicted.
-    fn first_to_stay(
+    fn first_survivor(
         &self,
         alloc: Global,
         number: u64,
@@ -206,44 +206,44 @@ impl Paths {
         now: DateTime,
     ) -> Result<Option<(bool, u64)>, AllocError>
         requires limit { 0 < limit }
-        ensures room { IfOk result (λ first. IfNone first (length (turns_of (moment_of now) self.now) < limit)) }
-        ensures full { IfOk result (λ first. OnSome first (limit ≤ length (turns_of (moment_of now) self.now))) }
-        ensures first { IfOk result (λ first. IfSome first (IsFirst limit (moment_of now) number self.now)) }
+        ensures room { IfOk result (λ first. IfNone first (length (ranks_of (moment_of now) self.now) < limit)) }
+        ensures full { IfOk result (λ first. OnSome first (limit ≤ length (ranks_of (moment_of now) self.now))) }
+        ensures first { IfOk result (λ first. IfSome first (IsFirstSurvivor limit (moment_of now) number self.now)) }
     {
-        let mut turns = self.turns(alloc, now)?;
-        if turns.len() < limit {
+        let mut ranks = self.ranks(alloc, now)?;
+        if ranks.len() < limit {
             return Ok(None);
         }
-        turns.push((true, number))?;
-        let place = turns.len() - limit;
-        let (_, first, _) = turns.select_nth_unstable(place);
+        ranks.push((true, number))?;
+        let place = ranks.len() - limit;
+        let (_, first, _) = ranks.select_nth_unstable(place);
         Ok(Some(*first))
     }
 
     // The places of the rows in eviction order.
-    fn turns(&self, alloc: Global, now: DateTime) -> Result<Vec<(bool, u64)>, AllocError>
-        ensures { IfOk result (λ turns. turns.items ≡ turns_of (moment_of now) self.now) }
+    fn ranks(&self, alloc: Global, now: DateTime) -> Result<Vec<(bool, u64)>, AllocError>
+        ensures { IfOk result (λ ranks. ranks.items ≡ ranks_of (moment_of now) self.now) }
     {
-        let mut turns = Vec::new(alloc);
+        let mut ranks = Vec::new(alloc);
         let groups = self.groups();
         for names in groups {
-            push_turns(&mut turns, names.rows(), now)?;
+            push_ranks(&mut ranks, names.rows(), now)?;
         }
-        Ok(turns)
+        Ok(ranks)
     }
 
     // Keeps the rows that do not come before `first` in eviction order, and drops empty groups.
     pub(crate) fn retain(&mut self, first: (bool, u64), now: DateTime)
-        ensures { self.new ≡ passing (stays (moment_of now) first) self.old }
+        ensures { self.new ≡ filter_paths (survives (moment_of now) first) self.old }
     {
         retain_paths(&mut self.groups, first, now);
     }
 
     // Moves the group of this path to the end, if it has a single row.
-    fn settle(&mut self, path: &str)
-        ensures { self.new ≡ settled is_single path.now self.old }
+    fn move_single_to_end(&mut self, path: &str)
+        ensures { self.new ≡ moved_to_end_if is_single path.now self.old }
     {
-        settle_path(&mut self.groups, path);
+        move_path_to_end(&mut self.groups, path);
     }
 
     // Whether there is exactly one row.
@@ -257,11 +257,11 @@ impl Paths {
     }
 
     // Expires the row of this path and name.
-    pub(crate) fn end(&mut self, path: &str, name: &str)
-        ensures { self.new ≡ end_item_paths path.now name.now self.old }
+    pub(crate) fn expire(&mut self, path: &str, name: &str)
+        ensures { self.new ≡ expire_item_paths path.now name.now self.old }
     {
         let groups = mem::replace(&mut self.groups, PathMap::Empty);
-        self.groups = with_end(groups, path, name);
+        self.groups = with_expired(groups, path, name);
     }
 
     // Removes the row of this path and name. The others keep their order.
@@ -396,9 +396,9 @@ fn table_for(
     hash_key: HashKey,
     row: &BoxedCookie,
 ) -> Result<(Box<IndexMap<String, Names, HashKey>>, String), AllocError>
-    ensures empty { IfOk result (λ made. made.0.value.entries ≡ []) }
-    ensures room { IfOk result (λ made. 2 ≤ spare made.0.value) }
-    ensures path { IfOk result (λ made. string_bytes made.1 ≡ row.now.row.path.text) }
+    ensures empty { IfOk result (λ created. created.0.value.entries ≡ []) }
+    ensures room { IfOk result (λ created. 2 ≤ spare created.0.value) }
+    ensures path { IfOk result (λ created. string_bytes created.1 ≡ row.now.row.path.text) }
 {
     let path = String::from_str(alloc, path_text(row.cookie()))?;
     let table = IndexMap::with_capacity_and_hasher(alloc, 2, hash_key)?;
@@ -446,22 +446,22 @@ fn add_in(
 }
 
 // Adds the places of these rows in eviction order.
-fn push_turns(
-    turns: &mut Vec<(bool, u64)>,
+fn push_ranks(
+    ranks: &mut Vec<(bool, u64)>,
     rows: &[BoxedCookie],
     now: DateTime,
 ) -> Result<(), AllocError>
-    ensures { OnOk result (turns.new.items ≡ turns.old.items ++ map (turn_of (moment_of now)) rows.now) }
+    ensures { OnOk result (ranks.new.items ≡ ranks.old.items ++ map (rank_of (moment_of now)) rows.now) }
 {
     for row in rows {
-        turns.push(row.turn(now))?;
+        ranks.push(row.rank(now))?;
     }
     Ok(())
 }
 
 // Keeps the rows that do not come before `first` in eviction order, and drops empty groups.
 fn retain_paths(groups: &mut PathMap, first: (bool, u64), now: DateTime)
-    ensures { groups_of groups.new ≡ passing (stays (moment_of now) first) (groups_of groups.old) }
+    ensures { groups_of groups.new ≡ filter_paths (survives (moment_of now) first) (groups_of groups.old) }
 {
     match groups {
         PathMap::Empty => {}
@@ -478,11 +478,11 @@ fn retain_paths(groups: &mut PathMap, first: (bool, u64), now: DateTime)
 // Keeps the rows of a table that do not come before `first` in eviction order, and drops empty
 // groups.
 fn retain_in(groups: &mut IndexMap<String, Names, HashKey>, first: (bool, u64), now: DateTime)
-    ensures { texts_of groups.new.entries ≡ passing (stays (moment_of now) first) (texts_of groups.old.entries) }
+    ensures { texts_of groups.new.entries ≡ filter_paths (survives (moment_of now) first) (texts_of groups.old.entries) }
 {
     groups.retain(
         |_path: &String, names: &mut Names| -> bool
-            ensures { (names.new ≡ filter (stays (moment_of now) first) names.old) × (result ≡ not (length names.new == 0)) }
+            ensures { (names.new ≡ filter (survives (moment_of now) first) names.old) × (result ≡ not (length names.new == 0)) }
         {
             names.retain(first, now);
             !names.is_empty()
@@ -491,18 +491,18 @@ fn retain_in(groups: &mut IndexMap<String, Names, HashKey>, first: (bool, u64), 
 }
 
 // Moves the group of this path to the end, if it has a single row.
-fn settle_path(groups: &mut PathMap, path: &str)
-    ensures { groups_of groups.new ≡ settled is_single path.now (groups_of groups.old) }
+fn move_path_to_end(groups: &mut PathMap, path: &str)
+    ensures { groups_of groups.new ≡ moved_to_end_if is_single path.now (groups_of groups.old) }
 {
     match groups {
         PathMap::Empty | PathMap::Single(_, _) => {}
-        PathMap::Table(groups) => settle_in(groups.as_mut(), path),
+        PathMap::Table(groups) => move_to_end_in(groups.as_mut(), path),
     }
 }
 
 // Moves the group of this path to the end of a table, if it has a single row.
-fn settle_in(groups: &mut IndexMap<String, Names, HashKey>, path: &str)
-    ensures { texts_of groups.new.entries ≡ settled is_single path.now (texts_of groups.old.entries) }
+fn move_to_end_in(groups: &mut IndexMap<String, Names, HashKey>, path: &str)
+    ensures { texts_of groups.new.entries ≡ moved_to_end_if is_single path.now (texts_of groups.old.entries) }
 {
     let Some((at, _, names)) = groups.get_full(path) else {
         return;
@@ -514,8 +514,8 @@ fn settle_in(groups: &mut IndexMap<String, Names, HashKey>, path: &str)
 }
 
 // Expires the row of this path and name. Returns the groups.
-fn with_end(groups: PathMap, path: &str, name: &str) -> PathMap
-    ensures { groups_of result ≡ end_item_paths path.now name.now (groups_of groups) }
+fn with_expired(groups: PathMap, path: &str, name: &str) -> PathMap
+    ensures { groups_of result ≡ expire_item_paths path.now name.now (groups_of groups) }
 {
     match groups {
         PathMap::Empty => PathMap::Empty,
@@ -523,22 +523,22 @@ fn with_end(groups: PathMap, path: &str, name: &str) -> PathMap
             if own.as_str() != path {
                 return PathMap::Single(own, names);
             }
-            names.end(name);
+            names.expire(name);
             PathMap::Single(own, names)
         }
         PathMap::Table(mut table) => {
-            end_in(&mut table, path, name);
+            expire_in(&mut table, path, name);
             PathMap::Table(table)
         }
     }
 }
 
 // Expires the row of this path and name in a table.
-fn end_in(groups: &mut IndexMap<String, Names, HashKey>, path: &str, name: &str)
-    ensures { texts_of groups.new.entries ≡ end_item_paths path.now name.now (texts_of groups.old.entries) }
+fn expire_in(groups: &mut IndexMap<String, Names, HashKey>, path: &str, name: &str)
+    ensures { texts_of groups.new.entries ≡ expire_item_paths path.now name.now (texts_of groups.old.entries) }
 {
     match groups.get_mut(path) {
-        Some(group) => group.end(name),
+        Some(group) => group.expire(name),
         None => {}
     }
 }

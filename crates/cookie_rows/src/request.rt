@@ -38,9 +38,9 @@ impl<'a> Iterator for RequestValues<'a> {
     type Item = (&'a str, &'a str);
 
     ghost use Rattle.std.specs.Iterator.{YieldsFirstBy, item_count};
-    ghost use Rattle.cookie_rows.specs.Requests.{lent_pair};
+    ghost use Rattle.cookie_rows.specs.Requests.{borrowed_pair};
 
-    ghost next_gives = { YieldsFirstBy lent_pair (λ pairs. pairs) };
+    ghost next_gives = { YieldsFirstBy borrowed_pair (λ pairs. pairs) };
 
     ghost remaining = { item_count (λ pairs. pairs) };
 

@@ -1,23 +1,23 @@
 //! The rows of a store, as one list.
-ghost use Rattle.std.specs.Prelude.{◌≡◌, ◌≢◌, ◌≤◌, ◌<◌, ℕ, false, true, ◌+◌, ◌*◌, ◌^◌, ◌==◌, [], ◌∷◌, length, map, not, string_bytes, IfErr, IfOk, IfSome, IsTrue, None, Ok, OnErr, OnOk, Some, ◌⊎◌};
+ghost use Rattle.std.specs.Prelude.{◌≡◌, ◌≢◌, ◌≤◌, ◌<◌, ℕ, false, true, ◌+◌, ◌*◌, ◌==◌, [], ◌∷◌, length, map, not, string_bytes, IfErr, IfOk, IfSome, IsTrue, None, Ok, OnErr, OnOk, Some, ◌⊎◌};
 ghost use Rattle.std.specs.Iterator.{IsFinite};
 ghost use Rattle.std.specs.Option.{option_copied};
 ghost use Rattle.cookie_words.specs.Moments.{moment_of};
-ghost use Rattle.cookie_parts.specs.Cookie.{ended, is_expired};
+ghost use Rattle.cookie_parts.specs.Cookie.{expired_row, is_expired};
 ghost use Rattle.cookie_parts.specs.Domain.{domain_text};
 ghost use Rattle.cookie_parts.specs.declared.store_action.StoreAction.TheVariants.{Inserted};
 ghost use Rattle.cookie_laws.specs.Acceptance.{store_by};
-ghost use Rattle.cookie_laws.specs.Contents.{contents_of, kept_of, unexpired, HasMade};
+ghost use Rattle.cookie_laws.specs.Contents.{contents_of, rows_in_order, unexpired, HasCreationOrder};
 ghost use Rattle.cookie_laws.specs.Given.{given};
 ghost use Rattle.cookie_laws.specs.Header.{InHeaderOrder};
-ghost use Rattle.cookie_laws.specs.Rows.{are_rows, changed, has_key, included, key_at, key_of, live_rows, make, make_all, put, put_all, removed, row_of, same_key};
-ghost use Rattle.cookie_lookup.specs.Seen.{domains_found, paths_found};
+ghost use Rattle.cookie_laws.specs.Rows.{are_rows, changed, has_key, included, key_at, key_of, live_rows, add_created, add_all_created, put, put_all, removed, row_of, same_key};
+ghost use Rattle.cookie_lookup.specs.SearchView.{domains_found, paths_found};
 ghost use Rattle.cookie_lookup.specs.Texts.{most_domains, most_paths};
-ghost use Rattle.cookie_rows.specs.Building.{Builds, BuildsAt, FailsFirst, FailsFirstAt, IsNewRow, TakesCookie, WantsRoom, WantsRoomAt};
+ghost use Rattle.cookie_rows.specs.Building.{Builds, BuildsAt, FailsFirst, FailsFirstAt, IsNewRow, TakesCookie, ReachesNewRow, ReachesNewRowAt};
 ghost use Rattle.cookie_rows.specs.Groups.{changed_at, is_empty_at, texts_of};
-ghost use Rattle.cookie_rows.specs.Items.{end_items, find_items, put_item_paths, put_items, remove_item_paths, remove_items};
+ghost use Rattle.cookie_rows.specs.Items.{expire_items, find_items, put_item_paths, put_items, remove_item_paths, remove_items};
 ghost use Rattle.cookie_rows.specs.Requests.{name_and_value};
-ghost use Rattle.cookie_rows.specs.Turns.{is_single_paths, passing, passing_groups, settled, stays, EntersItems};
+ghost use Rattle.cookie_rows.specs.Eviction.{is_single_paths, filter_paths, filter_groups, moved_to_end_if, survives, InsertsInDomains};
 
 use crate::boxed::BoxedCookie;
 use crate::copying::rehashed_table;
@@ -45,19 +45,19 @@ use url::Url;
 pub struct Rows {
     groups: IndexMap<String, Paths, HashKey>,
     // The number of the next new row; all rows have smaller numbers.
-    made: u64,
+    created: u64,
 }
 
 impl Model for Rows {
-    ghost use Rattle.cookie_laws.specs.Rows.{Kept};
+    ghost use Rattle.cookie_laws.specs.Rows.{RowsInOrder};
     ghost use Rattle.cookie_rows.specs.Groups.{texts_of};
-    ghost use Rattle.cookie_rows.specs.Items.{AreItems, kept_of};
+    ghost use Rattle.cookie_rows.specs.Items.{AreItems, rows_in_order};
 
-    ghost Value = { Kept };
+    ghost Value = { RowsInOrder };
 
-    ghost view = { λ r. kept_of (texts_of r.groups.entries) };
+    ghost view = { λ r. rows_in_order (texts_of r.groups.entries) };
 
-    ghost invariant = { λ r. AreItems r.made (texts_of r.groups.entries) };
+    ghost invariant = { λ r. AreItems r.created (texts_of r.groups.entries) };
 }
 
 impl Clone for Rows {
@@ -73,11 +73,11 @@ impl Clone for Rows {
 impl Rows {
     /// Returns an empty list of rows.
     pub fn new(alloc: StoreAlloc) -> Rows
-        ensures { result ≡ record { rows = []; made = [] } }
+        ensures { result ≡ record { rows = []; created = [] } }
     {
         Rows {
             groups: IndexMap::with_hasher(alloc.alloc, alloc.hash_key),
-            made: 0,
+            created: 0,
         }
     }
 
@@ -100,7 +100,7 @@ impl Rows {
         requires ends { IsFinite (I.remaining cookies) }
         ensures built { IfOk result (λ rows. Builds I.next_gives cookies include_expired (moment_of now) rows) }
         ensures failed { IfErr result (λ error.
-            ((error ≡ Error.Memory) × WantsRoom I.next_gives cookies include_expired (moment_of now))
+            ((error ≡ Error.Memory) × ReachesNewRow I.next_gives cookies include_expired (moment_of now))
             ⊎ FailsFirst I.next_gives cookies error) }
     {
         build(alloc, &mut cookies, include_expired, now)
@@ -149,7 +149,7 @@ impl Rows {
         ensures given { IfOk result
             (λ found. map (λ c. c.now) found.0.items ≡ given url.now (moment_of now) self.now.rows) }
         ensures in_order { IsTrue (are_rows self.now.rows) }
-        ensures has_made { HasMade (contents_of self.now None None) }
+        ensures has_creation_order { HasCreationOrder (contents_of self.now None None) }
         ensures domains { IfOk result (λ found. found.1.domains ≤ most_domains url.now) }
         ensures paths { IfOk result
             (λ found. found.1.paths ≤ domains_found url.now self.now.rows * most_paths url.now) }
@@ -174,7 +174,7 @@ impl Rows {
         ensures given { IfOk result
             (λ cookies. map (λ c. c.now) cookies.items ≡ given url.now (moment_of now) self.now.rows) }
         ensures in_order { IsTrue (are_rows self.now.rows) }
-        ensures has_made { HasMade (contents_of self.now None None) }
+        ensures has_creation_order { HasCreationOrder (contents_of self.now None None) }
         ensures memory { OnErr result (given url.now (moment_of now) self.now.rows ≢ []) }
     {
         Ok(self.given_counted(alloc, url, now)?.0)
@@ -237,19 +237,19 @@ impl Rows {
     /// place in creation order.
     pub fn replace(&mut self, cookie: Cookie<'static>)
         requires stored { row_of (key_of cookie) self.old.rows ≢ None }
-        ensures { self.new ≡ record { rows = put self.old.rows cookie.entry; made = make self.old.made (key_of cookie.entry) } }
+        ensures { self.new ≡ record { rows = put self.old.rows cookie.entry; created = add_created self.old.created (key_of cookie.entry) } }
     {
         replace_row(&mut self.groups, cookie);
     }
 
     /// Adds the cookie as a new row, the last one in creation order. With a limit, rows of its
-    /// domain are evicted so that at most `limit` are stored: expired rows first, then the others,
-    /// in each case the least recently created.
+    /// domain are evicted so that at most `limit` are stored (0 counts as 1): expired rows first,
+    /// then the others, in each case the least recently created.
     ///
     /// # Errors
     ///
     /// `AllocError`: out of memory, or of numbers for new rows. The rows are unchanged.
-    pub fn enter(
+    pub fn insert_within_limit(
         &mut self,
         cookie: Cookie<'static>,
         limit: Option<usize>,
@@ -258,23 +258,23 @@ impl Rows {
         requires new { row_of (key_of cookie) self.old.rows ≡ None }
         requires live { IfSome limit (λ _. is_expired (moment_of now) cookie ≡ false) }
         ensures entered { OnOk result (self.new
-            ≡ kept_of (store_by (Ok Inserted) (contents_of self.old None limit) cookie.entry (moment_of now))) }
+            ≡ rows_in_order (store_by (Ok Inserted) (contents_of self.old None limit) cookie.entry (moment_of now))) }
         ensures err { OnErr result (self.new ≡ self.old) }
     {
-        let Some(next) = self.made.checked_add(1) else {
+        let Some(next) = self.created.checked_add(1) else {
             return Err(AllocError);
         };
-        let row = BoxedCookie::new(*self.groups.allocator(), cookie, self.made)?;
+        let row = BoxedCookie::new(*self.groups.allocator(), cookie, self.created)?;
         match limit {
             None => {
                 add_row(&mut self.groups, row)?;
-                self.made = next;
+                self.created = next;
                 Ok(())
             }
             Some(limit) => {
                 // a limit of 0 evicts the same rows as 1: all others of the domain
-                enter_row(&mut self.groups, row, limit.max(1), now)?;
-                self.made = next;
+                insert_row_within_limit(&mut self.groups, row, limit.max(1), now)?;
+                self.created = next;
                 Ok(())
             }
         }
@@ -294,7 +294,7 @@ impl Rows {
     ) -> Result<(), AllocError>
         ensures taken { OnOk result (
             let taken = included include_expired (moment_of now) (cookie.entry ∷ []) in
-            self.new ≡ record { rows = put_all self.old.rows taken; made = make_all self.old.made (map key_of taken) }) }
+            self.new ≡ record { rows = put_all self.old.rows taken; created = add_all_created self.old.created (map key_of taken) }) }
         ensures built { OnOk result (TakesCookie include_expired (moment_of now) cookie.entry self.old self.new) }
         ensures refused { OnErr result (self.new ≡ self.old) }
         ensures memory { OnErr result (IsNewRow include_expired (moment_of now) self.old cookie.entry) }
@@ -308,7 +308,7 @@ impl Rows {
     // Replaces the row of the cookie's domain, path and name, or adds a new row.
     fn put(&mut self, cookie: Cookie<'static>, now: DateTime) -> Result<(), AllocError>
         ensures put { OnOk result (self.new
-            ≡ record { rows = put self.old.rows cookie.entry; made = make self.old.made (key_of cookie.entry) }) }
+            ≡ record { rows = put self.old.rows cookie.entry; created = add_created self.old.created (key_of cookie.entry) }) }
         ensures err { OnErr result (self.new ≡ self.old) }
         ensures memory { OnErr result (row_of (key_of cookie.entry) self.old.rows ≡ None) }
     {
@@ -317,15 +317,15 @@ impl Rows {
                 self.replace(cookie);
                 Ok(())
             }
-            None => self.enter(cookie, None, now),
+            None => self.insert_within_limit(cookie, None, now),
         }
     }
 
     /// Expires the row of the cookie's domain, path and name, if there is one.
-    pub fn end(&mut self, cookie: &Cookie<'static>)
-        ensures { self.new ≡ record self.old { rows = changed (has_key (key_of cookie.now)) ended self.old.rows } }
+    pub fn expire(&mut self, cookie: &Cookie<'static>)
+        ensures { self.new ≡ record self.old { rows = changed (has_key (key_of cookie.now)) expired_row self.old.rows } }
     {
-        end_row(&mut self.groups, cookie);
+        expire_row(&mut self.groups, cookie);
     }
 
     /// Removes the row of this domain, path and name, if there is one, and returns it. The others
@@ -333,7 +333,7 @@ impl Rows {
     pub fn remove(&mut self, domain: &str, path: &str, name: &str) -> Option<Cookie<'static>>
         ensures value { result ≡ row_of (key_at domain.now path.now name.now) self.old.rows }
         ensures removed { let key = key_at domain.now path.now name.now in
-            self.new ≡ record { rows = removed (has_key key) self.old.rows; made = removed (same_key key) self.old.made } }
+            self.new ≡ record { rows = removed (has_key key) self.old.rows; created = removed (same_key key) self.old.created } }
     {
         remove_row(&mut self.groups, domain, path, name)
     }
@@ -341,7 +341,7 @@ impl Rows {
     /// Removes the rows that have expired at `now`, RFC 6265 5.3, and returns how many. The others
     /// keep their order. Allocates nothing.
     pub fn remove_expired(&mut self, now: DateTime) -> usize
-        ensures rows { self.new ≡ kept_of (unexpired (moment_of now) (contents_of self.old None None)) }
+        ensures rows { self.new ≡ rows_in_order (unexpired (moment_of now) (contents_of self.old None None)) }
         ensures removed { result + length self.new.rows ≡ length self.old.rows }
     {
         let before = self.len();
@@ -354,7 +354,7 @@ impl Rows {
         ensures { result ≡ length self.now.rows }
     {
         // for the checker: all rows have different numbers below this one, so their count fits
-        let _made = self.made;
+        let _created = self.created;
         count_rows(self.groups.values().as_slice())
     }
 
@@ -379,13 +379,13 @@ impl Rows {
         let groups = rehashed_table(&self.groups, alloc, hash_key)?;
         Ok(Rows {
             groups,
-            made: self.made,
+            created: self.created,
         })
     }
 
     /// Removes all rows.
     pub fn clear(&mut self)
-        ensures { self.new ≡ record { rows = []; made = [] } }
+        ensures { self.new ≡ record { rows = []; created = [] } }
     {
         self.groups.clear();
     }
@@ -403,7 +403,7 @@ fn build<I: Iterator<Item = Result<Cookie<'static>, Error>>>(
     requires ends { IsFinite (I.remaining cookies.old) }
     ensures built { IfOk result (λ rows. BuildsAt I.next_gives cookies.old cookies.new include_expired (moment_of now) rows) }
     ensures failed { IfErr result (λ error.
-        ((error ≡ Error.Memory) × WantsRoomAt I.next_gives cookies.old cookies.new include_expired (moment_of now))
+        ((error ≡ Error.Memory) × ReachesNewRowAt I.next_gives cookies.old cookies.new include_expired (moment_of now))
         ⊎ FailsFirstAt I.next_gives cookies.old cookies.new error) }
 {
     let mut built = Rows::new(alloc);
@@ -476,7 +476,7 @@ fn add_row(
 
 // Adds the row to the group of its domain, and evicts rows so that at most `limit` of the domain
 // are stored.
-fn enter_row(
+fn insert_row_within_limit(
     groups: &mut IndexMap<String, Paths, HashKey>,
     row: BoxedCookie,
     limit: usize,
@@ -484,7 +484,7 @@ fn enter_row(
 ) -> Result<(), AllocError>
     requires limit { 0 < limit }
     requires new { find_items (key_of row.row) (texts_of groups.old.entries) ≡ None }
-    ensures entered { OnOk result (EntersItems limit (moment_of now) row.row row.number
+    ensures entered { OnOk result (InsertsInDomains limit (moment_of now) row.row row.number
         (texts_of groups.old.entries) (texts_of groups.new.entries)) }
     ensures err { OnErr result (texts_of groups.new.entries ≡ texts_of groups.old.entries) }
 {
@@ -492,18 +492,18 @@ fn enter_row(
     let hash_key = *groups.hasher();
     let domain = String::from_str(alloc, domain_text(row.cookie()))?;
     let left = match groups.get_mut(domain.as_str()) {
-        Some(group) => group.enter(alloc, hash_key, row, limit, now)?,
+        Some(group) => group.insert_within_limit(alloc, hash_key, row, limit, now)?,
         None => return add_row(groups, row),
     };
     if left {
-        settle_group(groups, domain.as_str());
+        move_domain_to_end(groups, domain.as_str());
     }
     Ok(())
 }
 
 // Moves the group of this domain to the end, if it has a single row: all its old rows were evicted.
-fn settle_group(groups: &mut IndexMap<String, Paths, HashKey>, domain: &str)
-    ensures { texts_of groups.new.entries ≡ settled is_single_paths domain.now (texts_of groups.old.entries) }
+fn move_domain_to_end(groups: &mut IndexMap<String, Paths, HashKey>, domain: &str)
+    ensures { texts_of groups.new.entries ≡ moved_to_end_if is_single_paths domain.now (texts_of groups.old.entries) }
 {
     let Some((at, _, group)) = groups.get_full(domain) else {
         return;
@@ -515,11 +515,11 @@ fn settle_group(groups: &mut IndexMap<String, Paths, HashKey>, domain: &str)
 }
 
 // Expires the row of the cookie's key, if there is one.
-fn end_row(groups: &mut IndexMap<String, Paths, HashKey>, cookie: &Cookie<'static>)
-    ensures { texts_of groups.new.entries ≡ end_items (key_of cookie.now) (texts_of groups.old.entries) }
+fn expire_row(groups: &mut IndexMap<String, Paths, HashKey>, cookie: &Cookie<'static>)
+    ensures { texts_of groups.new.entries ≡ expire_items (key_of cookie.now) (texts_of groups.old.entries) }
 {
     match groups.get_mut(domain_text(cookie)) {
-        Some(group) => group.end(path_text(cookie), cookie.name()),
+        Some(group) => group.expire(path_text(cookie), cookie.name()),
         None => {}
     }
 }
@@ -564,11 +564,11 @@ fn remove_row(
 // Keeps the rows that have not expired at `now`, and drops empty groups. An expired row is one that
 // comes before (true, 0) in eviction order.
 fn retain_groups(groups: &mut IndexMap<String, Paths, HashKey>, now: DateTime)
-    ensures { texts_of groups.new.entries ≡ passing_groups (stays (moment_of now) (true, 0)) (texts_of groups.old.entries) }
+    ensures { texts_of groups.new.entries ≡ filter_groups (survives (moment_of now) (true, 0)) (texts_of groups.old.entries) }
 {
     groups.retain(
         |_domain: &String, group: &mut Paths| -> bool
-            ensures { (group.new ≡ passing (stays (moment_of now) (true, 0)) group.old) × (result ≡ not (length group.new == 0)) }
+            ensures { (group.new ≡ filter_paths (survives (moment_of now) (true, 0)) group.old) × (result ≡ not (length group.new == 0)) }
         {
             group.retain((true, 0), now);
             !group.is_empty()

@@ -5,8 +5,8 @@ ghost use Rattle.std.specs.Prelude.{◌≡◌, ◌≢◌, ◌≤◌, ◌*◌, []
 ghost use Rattle.cookie_words.specs.Moments.{moment_of};
 ghost use Rattle.cookie_laws.specs.Given.{given};
 ghost use Rattle.cookie_lookup.specs.Groups.{flat, AreGroups};
-ghost use Rattle.cookie_lookup.specs.Seen.{domains_found, given_spots, how_many_found, how_many_pairs_found, paths_found, rows_at, under};
-ghost use Rattle.cookie_lookup.specs.Texts.{domain_texts, most_domains, most_paths, path_texts};
+ghost use Rattle.cookie_lookup.specs.SearchView.{domains_found, given_positions, how_many_found, how_many_pairs_found, paths_found, rows_at, under};
+ghost use Rattle.cookie_lookup.specs.Texts.{url_candidate_domains, most_domains, most_paths, candidate_paths};
 ghost use Rattle.cookie_rows.specs.Groups.{texts_of};
 ghost use Rattle.cookie_rows.specs.Items.{bare, rows_of};
 
@@ -31,9 +31,9 @@ struct MapSearch<'a> {
 }
 
 impl<'a> Search for MapSearch<'a> {
-    ghost use Rattle.cookie_lookup.specs.Seen.{Seen};
+    ghost use Rattle.cookie_lookup.specs.SearchView.{SearchView};
 
-    ghost seen = { λ search. record {
+    ghost view_of = { λ search. record {
       groups = bare (texts_of search.groups.now.entries);
       domains = search.lookups.domains;
       paths = search.lookups.paths;
@@ -108,31 +108,31 @@ pub(crate) fn searched<'a>(
     ensures memory { OnErr result (given url.now (moment_of now) (flat (bare (texts_of groups.now.entries))) ≢ []) }
 {
     // for the checker: the rows at the positions found are the rows given
-    laws::rows_at_spots();
-    let (spots, lookups) = given_spots(groups, alloc, url, now)?;
-    let cookies = rows_at(groups, alloc, &spots)?;
+    laws::rows_at_positions();
+    let (positions, lookups) = given_positions(groups, alloc, url, now)?;
+    let cookies = rows_at(groups, alloc, &positions)?;
     Ok((cookies, lookups))
 }
 
 /// Returns the positions of the rows given for `url` at `now`, in order, and the number of lookups.
 /// Allocates only if there is one.
-pub(crate) fn given_spots(
+pub(crate) fn given_positions(
     groups: &IndexMap<String, Paths, HashKey>,
     alloc: Global,
     url: &Url,
     now: DateTime,
 ) -> Result<(Vec<(usize, usize, usize)>, Lookups), AllocError>
     requires { AreGroups (bare (texts_of groups.now.entries)) }
-    ensures spots { IfOk result
-        (λ found. found.0.items ≡ given_spots url.now (moment_of now) (bare (texts_of groups.now.entries))) }
+    ensures positions { IfOk result
+        (λ found. found.0.items ≡ given_positions url.now (moment_of now) (bare (texts_of groups.now.entries))) }
     ensures domains { IfOk result (λ found. found.1.domains ≤ most_domains url.now) }
     ensures paths { IfOk result
-        (λ found. found.1.paths ≤ how_many_found (bare (texts_of groups.now.entries)) (domain_texts url.now) * most_paths url.now) }
+        (λ found. found.1.paths ≤ how_many_found (bare (texts_of groups.now.entries)) (url_candidate_domains url.now) * most_paths url.now) }
     ensures every_domain { IfOk result
-        (λ found. how_many_found (bare (texts_of groups.now.entries)) (domain_texts url.now) ≤ found.1.domains) }
+        (λ found. how_many_found (bare (texts_of groups.now.entries)) (url_candidate_domains url.now) ≤ found.1.domains) }
     ensures every_path { IfOk result (λ found.
-        how_many_pairs_found (bare (texts_of groups.now.entries)) (path_texts url.now.path) (domain_texts url.now) ≤ found.1.paths) }
-    ensures memory { OnErr result (given_spots url.now (moment_of now) (bare (texts_of groups.now.entries)) ≢ []) }
+        how_many_pairs_found (bare (texts_of groups.now.entries)) (candidate_paths url.now.path) (url_candidate_domains url.now) ≤ found.1.paths) }
+    ensures memory { OnErr result (given_positions url.now (moment_of now) (bare (texts_of groups.now.entries)) ≢ []) }
 {
     let mut search = MapSearch {
         groups,
@@ -142,23 +142,23 @@ pub(crate) fn given_spots(
             paths: 0,
         },
     };
-    let spots = found_listed(alloc, &mut search, url, now)?;
-    Ok((spots, search.lookups))
+    let positions = found_listed(alloc, &mut search, url, now)?;
+    Ok((positions, search.lookups))
 }
 
 // Returns the rows at these positions.
 fn rows_at<'a>(
     groups: &'a IndexMap<String, Paths, HashKey>,
     alloc: Global,
-    spots: &[(usize, usize, usize)],
+    positions: &[(usize, usize, usize)],
 ) -> Result<Vec<&'a Cookie<'static>>, AllocError>
     ensures rows { IfOk result
-        (λ cookies. map (λ c. c.now) cookies.items ≡ flat_map (rows_at (bare (texts_of groups.now.entries))) spots.now) }
-    ensures memory { OnErr result (spots.now ≢ []) }
+        (λ cookies. map (λ c. c.now) cookies.items ≡ flat_map (rows_at (bare (texts_of groups.now.entries))) positions.now) }
+    ensures memory { OnErr result (positions.now ≢ []) }
 {
-    let mut cookies = Vec::with_capacity(alloc, spots.len())?;
-    for spot in spots {
-        if let Some(cookie) = row_at(groups, spot.0, spot.1, spot.2) {
+    let mut cookies = Vec::with_capacity(alloc, positions.len())?;
+    for row_position in positions {
+        if let Some(cookie) = row_at(groups, row_position.0, row_position.1, row_position.2) {
             cookies.push(cookie)?;
         }
     }

@@ -17,7 +17,7 @@ pub gathers_nothing : {E : Type 0} (a : Option (List ℕ)) (g : List ℕ) (n : �
 gathers_nothing a g n = record {
   whole = nothing_put a g;
   part = nothing_part a (g ++ []);
-  gathered = λ fits. (refl, sym (append-nil g));
+  buffered = λ fits. (refl, sym (append-nil g));
   count = refl;
 }
 
@@ -35,18 +35,18 @@ pub gathers_then : {T U E : Type 0} (r : Result U E) (ok : T) {a b c : Option (L
 gathers_then (Ok done) ok {a} {b} {c} {g} {h} {k} t u first next = record {
   whole = put_then a b c g t u h k first.whole next.whole;
   part = part_then a b c g t u h first.whole next.part;
-  gathered = λ fits.
+  buffered = λ fits.
       let both = both_fit 65_536 g t u fits in
-      let one = (first.gathered both.0).1 in
-      (refl, (next.gathered (both.1 h one)).1 ∙ ap (λ xs. xs ++ u) one ∙ append_assoc g t u);
+      let one = (first.buffered both.0).1 in
+      (refl, (next.buffered (both.1 h one)).1 ∙ ap (λ xs. xs ++ u) one ∙ append_assoc g t u);
   count = next.count ∙ first.count;
 }
 gathers_then (Err fault) ok {a} {b} {c} {g} {h} {k} t u first next = record {
   whole = tt;
   part = part_then a b c g t u h first.whole next.part;
-  gathered = λ fits.
+  buffered = λ fits.
       let both = both_fit 65_536 g t u fits in
-      absurd (false≢true (next.gathered (both.1 h (first.gathered both.0).1)).0);
+      absurd (false≢true (next.buffered (both.1 h (first.buffered both.0).1)).0);
   count = next.count ∙ ap (λ n. n + 1) first.count;
 }
 
@@ -54,11 +54,11 @@ gathers_then (Err fault) ok {a} {b} {c} {g} {h} {k} t u first next = record {
 pub gathers_stopped : {T U E : Type 0} (r : Result U E) (fault : E) {a b : Option (List ℕ)} {g h : List ℕ} {m n : ℕ} (t u : List ℕ)
     → IsErr r → Gathers {T = T} {E = E} (Err fault) a b g h m n t → Gathers r a b g h m n (t ++ u)
 gathers_stopped (Ok done) fault t u is first = absurd (false≢true is)
-gathers_stopped (Err told) fault {a} {b} {g} t u is first =
+gathers_stopped (Err line_result) fault {a} {b} {g} t u is first =
     record {
       whole = tt;
       part = part_longer a b g t u first.part;
-      gathered = λ fits. absurd (false≢true (first.gathered (both_fit 65_536 g t u fits).0).0);
+      buffered = λ fits. absurd (false≢true (first.buffered (both_fit 65_536 g t u fits).0).0);
       count = first.count;
     }
 

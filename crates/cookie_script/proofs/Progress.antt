@@ -2,24 +2,24 @@
 use Rattle.std.proofs.Common.{◌≡◌, ◌≢◌, ℕ, ◌+◌, cond, eqb, ne_eqb, subst, List, [], ◌∷◌, ◌++◌, Option, Some, None, IfSome, length, take, drop, position, refl, sym, ap, ◌∙◌, append_assoc, append-nil}
 use Rattle.std.specs.Io.KnownBytes.{Appends, IsAtEnd, Keeps, prepend_known}
 use Rattle.std.specs.Str.Lines.{lines, lines_of_parts, strip_carriage_return}
-use Rattle.cookie_device.specs.Device.{AppendsBeginning, Sends}
+use Rattle.cookie_device.specs.Device.{AppendsPrefix, Sends}
 use Rattle.cookie_device.specs.Lines.{EndsLine, IsLastLine}
 use Rattle.cookie_device.proofs.Sending.{nothing_part, nothing_put}
 use Rattle.cookie_store.specs.Contents.{Contents}
 use Rattle.cookie_script.specs.Progress.{AreRead}
-use Rattle.cookie_script.specs.Script.{State, start, turn, output_of}
+use Rattle.cookie_script.specs.Script.{State, start, run_line, output_of}
 use Rattle.cookie_script.proofs.Answered.{Answered, gathered_sent, next_answered, part_sent}
 use Rattle.cookie_script.proofs.WholeLines.{WholeLines, line_cut, no_lines, one_more}
 
 -- whole lines were consumed and run; the bytes read ahead and the rest of the source are still to be run
-pub record Progress (store : Contents) (input : List ℕ) (old : Option (List ℕ)) (before at_hand : List ℕ) (rest : Option (List ℕ)) (state : State) (new : Option (List ℕ)) (gathered : List ℕ) : Type 0 where
+pub record Progress (store : Contents) (input : List ℕ) (old : Option (List ℕ)) (before at_hand : List ℕ) (rest : Option (List ℕ)) (state : State) (new : Option (List ℕ)) (buffered : List ℕ) : Type 0 where
   pub gone : List ℕ
   pub left : List ℕ
   pub passed : List (List ℕ)
   pub cut : input ≡ gone ++ left
   pub known : prepend_known at_hand rest ≡ Some left
   pub whole : WholeLines gone passed
-  pub answered : Answered store input old before passed (lines left) state new gathered
+  pub answered : Answered store input old before passed (lines left) state new buffered
 
 -- at first all of the input is left
 pub begun : (store : Contents) (rest : Option (List ℕ)) (a : Option (List ℕ)) (before : List ℕ)
@@ -101,7 +101,7 @@ module _ {store : Contents} {input : List ℕ} {old : Option (List ℕ)} {before
   -- it was run
   pub line_answered : (at_hand line : List ℕ) (end : ℕ) (then : Option (List ℕ)) (h : List ℕ) → Progress store input old before at_hand rest state new g
       → position (λ b. eqb b 10) at_hand ≡ Some end → EndsLine at_hand end → line ≡ strip_carriage_return (take end at_hand)
-      → Sends new then (g ++ (turn line state).text) h → Progress store input old before (drop (end + 1) at_hand) rest (turn line state).state then h
+      → Sends new then (g ++ (run_line line state).text) h → Progress store input old before (drop (end + 1) at_hand) rest (run_line line state).state then h
   line_answered at_hand line end then h p first ends is sends =
       let (more, known, next) = found at_hand line end p ends is in
       record {
@@ -162,12 +162,12 @@ module _ {store : Contents} {input : List ℕ} {old : Option (List ℕ)} {before
       (something_last (length at_hand) at_hand some ∙ ap (λ l. l ∷ []) (sym is)) (last_lines at_hand p end one)
 
   -- if a prefix of the buffered bytes is written, a prefix of the output was written
-  pub flush_part : (at_hand : List ℕ) (then : Option (List ℕ)) → Progress store input old before at_hand rest state new g → AppendsBeginning new then g
-      → AppendsBeginning old then (before ++ output_of store input)
+  pub flush_part : (at_hand : List ℕ) (then : Option (List ℕ)) → Progress store input old before at_hand rest state new g → AppendsPrefix new then g
+      → AppendsPrefix old then (before ++ output_of store input)
   flush_part at_hand then p part = part_sent p.passed (lines p.left) state new then g p.answered part
 
   -- what was written so far is a prefix of the output
-  pub part_so_far : (at_hand : List ℕ) → Progress store input old before at_hand rest state new g → AppendsBeginning old new (before ++ output_of store input)
+  pub part_so_far : (at_hand : List ℕ) → Progress store input old before at_hand rest state new g → AppendsPrefix old new (before ++ output_of store input)
   part_so_far at_hand p = part_sent p.passed (lines p.left) state new new g p.answered (nothing_part new g)
 
   -- if no line feed was read ahead, the lines that were run are those that were read

@@ -27,8 +27,8 @@ abbrev pub option_alone : List ℕ → OptionsValue → Option OptionsValue
 option_alone word options = if bytes_eq word (codes "--convert") then Some (record options { convert = true }) else None
 
 -- an option with a value, unless it is set already
-abbrev pub option_said : List ℕ → List ℕ → OptionsValue → Option OptionsValue
-option_said option word options =
+abbrev pub set_option : List ℕ → List ℕ → OptionsValue → Option OptionsValue
+set_option option word options =
     if bytes_eq option (codes "--suffixes") && is_none options.suffixes
     then Some (record options { suffixes = Some word })
     else (if bytes_eq option (codes "--limit") && is_none options.limit
@@ -39,9 +39,9 @@ option_said option word options =
 abbrev pub options_of : List (List ℕ) → Option OptionsValue
 options_of [] = Some no_options
 options_of (word ∷ []) = option_alone word no_options
-options_of (option ∷ word ∷ []) = option_said option word no_options
+options_of (option ∷ word ∷ []) = set_option option word no_options
 options_of (option ∷ word ∷ other ∷ second ∷ []) =
-    option_and_then (option_said other second) (option_said option word no_options)
+    option_and_then (set_option other second) (set_option option word no_options)
 options_of others = None
 
 -- the view of the options in contracts

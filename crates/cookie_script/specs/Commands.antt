@@ -9,7 +9,7 @@ use Rattle.url.specs.Parts.{Parts}
 use Rattle.cookie_words.specs.Moments.{Moment}
 use Rattle.cookie_parts.specs.Cookie.{early}
 use Rattle.cookie_raw.specs.Reading.{reading}
-use Rattle.cookie_forms.specs.MomentText.{moment_at}
+use Rattle.cookie_forms.specs.MomentText.{parsed_moment}
 use Rattle.cookie_store.specs.Rows.{Key, key_at}
 
 -- `now TIME`, `set URL VALUE`, `get URL`, `list`, `remove DOMAIN PATH NAME` and `clear`
@@ -50,7 +50,7 @@ remove_command words = option_map (λ others. Remove (key_at words.0 others.0 ot
 -- the command of a verb and what follows the space after it
 unfoldable pub verb_command : List ℕ × List ℕ → Option Command
 verb_command line =
-    if bytes_eq line.0 (codes "now") then option_map Now (moment_at line.1)
+    if bytes_eq line.0 (codes "now") then option_map Now (parsed_moment line.1)
     else (if bytes_eq line.0 (codes "set") then option_and_then set_command (first_word line.1)
     else (if bytes_eq line.0 (codes "get") then option_map Get (option_and_then url_at (one_word line.1))
     else (if bytes_eq line.0 (codes "remove") then option_and_then remove_command (first_word line.1)
@@ -73,21 +73,21 @@ unfoldable pub command_of : List ℕ → Option Command
 command_of line = if is_utf8 line then text_command line (first_word line) else None
 
 -- a URL is to be parsed: `set` has a URL and a header value, and `get` has one word
-unfoldable pub verb_may_want : List ℕ × List ℕ → Bool
-verb_may_want line =
+unfoldable pub verb_may_allocate : List ℕ × List ℕ → Bool
+verb_may_allocate line =
     if bytes_eq line.0 (codes "set") then is_some (first_word line.1)
     else (if bytes_eq line.0 (codes "get") then is_some (one_word line.1)
     else false)
 
 -- a line may allocate if a URL is to be parsed, valid or not
-unfoldable pub may_want : List ℕ → Bool
-may_want line = is_utf8 line && option_map_or verb_may_want (first_word line) false
+unfoldable pub may_allocate : List ℕ → Bool
+may_allocate line = is_utf8 line && option_map_or verb_may_allocate (first_word line) false
 
 -- a parsed command may allocate: `get`, and a `set` that is not rejected early
-abbrev pub command_may_want : Command → Bool
-command_may_want (Now moment) = false
-command_may_want (Set url text) = is_none (early (reading text) url)
-command_may_want (Get url) = true
-command_may_want ListRows = false
-command_may_want (Remove key) = false
-command_may_want Clear = false
+abbrev pub command_may_allocate : Command → Bool
+command_may_allocate (Now moment) = false
+command_may_allocate (Set url text) = is_none (early (reading text) url)
+command_may_allocate (Get url) = true
+command_may_allocate ListRows = false
+command_may_allocate (Remove key) = false
+command_may_allocate Clear = false

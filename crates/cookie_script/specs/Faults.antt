@@ -43,13 +43,13 @@ convert_fault_text Conversion.Memory = codes "out of memory"
 convert_fault_text (Conversion.BadLine line) = codes "bad line " ++ decimal line
 
 -- the text of an error of the program
-abbrev pub fault_text : MainFault → List ℕ
-fault_text BadArguments = codes "cookie_jar: bad arguments"
-fault_text CannotReadList = codes "cookie_jar: cannot read list"
-fault_text (BadRule line) = codes "cookie_jar: bad rule in line " ++ decimal line
-fault_text CannotDrawKey = codes "cookie_jar: cannot draw a hash key"
-fault_text (Run fault) = codes "cookie_jar: " ++ run_fault_text fault
-fault_text (Convert fault) = codes "cookie_jar: " ++ convert_fault_text fault
+abbrev pub main_fault_text : MainFault → List ℕ
+main_fault_text BadArguments = codes "cookie_jar: bad arguments"
+main_fault_text CannotReadList = codes "cookie_jar: cannot read list"
+main_fault_text (BadRule line) = codes "cookie_jar: bad rule in line " ++ decimal line
+main_fault_text CannotDrawKey = codes "cookie_jar: cannot draw a hash key"
+main_fault_text (Run fault) = codes "cookie_jar: " ++ run_fault_text fault
+main_fault_text (Convert fault) = codes "cookie_jar: " ++ convert_fault_text fault
 
 -- the error of a conversion whose lines make no store
 abbrev pub migrate_fault : MigrateError → ConvertFault

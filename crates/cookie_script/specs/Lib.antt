@@ -7,4 +7,4 @@ pub mod Faults
 pub mod Progress
 pub mod Script
 pub mod Suffixes
-pub mod Told
+pub mod LineResult

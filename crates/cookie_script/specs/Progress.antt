@@ -3,7 +3,7 @@ use Rattle.std.specs.Prelude.{◌≡◌, ℕ, ◌-◌, ◌==◌, not, List, [], 
 use Rattle.std.specs.List.{suffix_len}
 use Rattle.std.specs.Str.Lines.{lines}
 use Rattle.cookie_store.specs.Contents.{Contents}
-use Rattle.cookie_script.specs.Commands.{may_want}
+use Rattle.cookie_script.specs.Commands.{may_allocate}
 use Rattle.cookie_script.specs.Script.{outputs, start}
 
 -- a string up to its last line feed, or nothing if it has none
@@ -16,9 +16,9 @@ AreRead input left first =
     (read unread : List ℕ) × (left ≡ Some unread) × (input ≡ read ++ unread) × (first ≡ lines (whole_lines read))
 
 -- there is a next line, and it may allocate
-abbrev pub NextMayWant : List (List ℕ) → Type 0
-NextMayWant [] = ⊥
-NextMayWant (line ∷ more) = IsTrue (may_want line)
+abbrev pub NextMayAllocate : List (List ℕ) → Type 0
+NextMayAllocate [] = ⊥
+NextMayAllocate (line ∷ more) = IsTrue (may_allocate line)
 
 -- what was written is the whole output of some first lines, and the condition holds of these and the other lines
 abbrev pub AnswersFirst : Contents → List ℕ → (List (List ℕ) → List (List ℕ) → Type 0) → (List ℕ → Type 0) → Type 0

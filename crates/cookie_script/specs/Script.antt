@@ -5,7 +5,7 @@ use Rattle.cookie_words.specs.Moments.{Moment, epoch}
 use Rattle.cookie_psl.specs.Rules.{RuleList}
 use Rattle.cookie_parts.specs.Cookie.{Row}
 use Rattle.cookie_parts.specs.Domain.{domain_text}
-use Rattle.cookie_parts.specs.Errors.{error_text}
+use Rattle.cookie_parts.specs.Errors.{cookie_error_text}
 use Rattle.cookie_parts.specs.declared.store_action.StoreAction.TheVariants.{Inserted, ExpiredExisting, UpdatedExisting}
 use Rattle.cookie_store.specs.Contents.{Contents}
 use Rattle.cookie_store.specs.Given.{given}
@@ -21,14 +21,14 @@ pub record State : Type 0 where
 
 -- an empty store under a list and a limit, if there are any
 abbrev pub empty : Option RuleList → Option ℕ → Contents
-empty suffixes limit = record { rows = []; made = []; suffixes = suffixes; limit = limit }
+empty suffixes limit = record { rows = []; created = []; suffixes = suffixes; limit = limit }
 
 -- a script starts with a store, at the epoch
 abbrev pub start : Contents → State
 start store = record { store = store; moment = epoch }
 
 -- the output of a line, and the state after it
-pub record Turn : Type 0 where
+pub record LineOutcome : Type 0 where
   pub text : List ℕ
   pub state : State
 
@@ -37,7 +37,7 @@ abbrev pub reply_text : Reply → List ℕ
 reply_text (Stored (Ok Inserted)) = codes "inserted"
 reply_text (Stored (Ok ExpiredExisting)) = codes "expired existing"
 reply_text (Stored (Ok UpdatedExisting)) = codes "updated"
-reply_text (Stored (Err refusal)) = codes "refused: " ++ error_text refusal
+reply_text (Stored (Err refusal)) = codes "refused: " ++ cookie_error_text refusal
 reply_text (Removed (Some row)) = codes "removed"
 reply_text (Removed None) = codes "none"
 reply_text Cleared = codes "cleared"
@@ -64,28 +64,28 @@ abbrev pub rows_text : List Row → List ℕ
 rows_text rows = flat_map row_line rows
 
 -- the output of a step of the store, and the state after it
-abbrev pub stored_turn : Step → State → Turn
-stored_turn step state = record { text = line_text (reply_text step.reply); state = record state { store = step.store } }
+abbrev pub step_outcome : Step → State → LineOutcome
+step_outcome step state = record { text = line_text (reply_text step.reply); state = record state { store = step.store } }
 
 -- the output of a command, and the state after it; `bad line` if there is no command
-unfoldable pub command_turn : Option Command → State → Turn
-command_turn None state = record { text = line_text (codes "bad line"); state = state }
-command_turn (Some (Now moment)) state = record { text = []; state = record state { moment = moment } }
-command_turn (Some (Set url text)) state =
-    stored_turn (step (Runs.Set text url state.moment) state.store) state
-command_turn (Some (Get url)) state = record { text = line_text (header_text (given url state.moment state.store.rows)); state = state }
-command_turn (Some ListRows) state = record { text = rows_text state.store.rows; state = state }
-command_turn (Some (Remove key)) state = stored_turn (step (Runs.Remove key) state.store) state
-command_turn (Some Clear) state = stored_turn (step Runs.Clear state.store) state
+unfoldable pub run_command : Option Command → State → LineOutcome
+run_command None state = record { text = line_text (codes "bad line"); state = state }
+run_command (Some (Now moment)) state = record { text = []; state = record state { moment = moment } }
+run_command (Some (Set url text)) state =
+    step_outcome (step (Runs.Set text url state.moment) state.store) state
+run_command (Some (Get url)) state = record { text = line_text (header_text (given url state.moment state.store.rows)); state = state }
+run_command (Some ListRows) state = record { text = rows_text state.store.rows; state = state }
+run_command (Some (Remove key)) state = step_outcome (step (Runs.Remove key) state.store) state
+run_command (Some Clear) state = step_outcome (step Runs.Clear state.store) state
 
 -- the output of a line, and the state after it
-abbrev pub turn : List ℕ → State → Turn
-turn line state = command_turn (command_of line) state
+abbrev pub run_line : List ℕ → State → LineOutcome
+run_line line state = run_command (command_of line) state
 
 -- the output of the lines, one after the other
 abbrev pub outputs : List (List ℕ) → State → List ℕ
 outputs [] state = []
-outputs (line ∷ more) state = (turn line state).text ++ outputs more (turn line state).state
+outputs (line ∷ more) state = (run_line line state).text ++ outputs more (run_line line state).state
 
 -- the output of a script that starts with a store and is read line by line
 abbrev pub output_of : Contents → List ℕ → List ℕ

@@ -15,7 +15,7 @@ list_at bytes =
     if is_utf8 bytes then result_map_both (λ rules. rules) BadRule (rules_from bytes) else Err CannotReadList
 
 -- unless memory ran out, a list with these rules, or the error
-abbrev pub GivesList : Result Psl.List.List MainFault → Result RuleList MainFault → Type 0
-GivesList (Ok list) answer = (rules : RuleList) × (answer ≡ Ok rules) × SameRules list rules
-GivesList (Err (Run Memory)) answer = ⊤
-GivesList (Err fault) answer = answer ≡ Err fault
+abbrev pub ParsesList : Result Psl.List.List MainFault → Result RuleList MainFault → Type 0
+ParsesList (Ok list) answer = (rules : RuleList) × (answer ≡ Ok rules) × SameRules list rules
+ParsesList (Err (Run Memory)) answer = ⊤
+ParsesList (Err fault) answer = answer ≡ Err fault

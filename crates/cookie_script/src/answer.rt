@@ -1,5 +1,5 @@
 //! The output of a line, and how it is written.
-ghost use Rattle.std.specs.Prelude.{◌≡◌, ◌++◌, ◌^◌, ◌-◌, ◌<◌, codes, flat_map, map};
+ghost use Rattle.std.specs.Prelude.{◌≡◌, ◌++◌, ◌^◌, ◌-◌, ◌<◌, flat_map, map};
 ghost use Rattle.cookie_script.specs.Answering.{answer_text, Gathers};
 ghost use Rattle.cookie_script.specs.Script.{header_text, line_text, reply_text, row_line, rows_text};
 ghost use Rattle.cookie_store.specs.Header.{later_pair, pair_text};
@@ -23,10 +23,10 @@ pub enum Answer<'a> {
 
 impl<'a> Answer<'a> {
     /// Returns the line for the result of inserting a cookie.
-    pub fn stored(told: InsertResult) -> Answer<'a>
-        ensures { answer_text result ≡ line_text (reply_text (Stored told)) }
+    pub fn of_insert_result(line_result: InsertResult) -> Answer<'a>
+        ensures { answer_text result ≡ line_text (reply_text (Stored line_result)) }
     {
-        match told {
+        match line_result {
             Ok(action) => Answer::Line("", action_text(action)),
             Err(refusal) => Answer::Line("refused: ", refusal.text()),
         }

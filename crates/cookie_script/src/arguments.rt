@@ -4,7 +4,7 @@ ghost use Rattle.std.specs.Char.{is_ascii_digit};
 ghost use Rattle.std.specs.IoError.{error_kind};
 ghost use Rattle.std.specs.List.{list_all};
 ghost use Rattle.std.specs.Result.{result_ok};
-ghost use Rattle.cookie_script.specs.Arguments.{limit_of, option_alone, option_said, options_of, options_value};
+ghost use Rattle.cookie_script.specs.Arguments.{limit_of, option_alone, set_option, options_of, options_value};
 ghost use Rattle.cookie_script.specs.Faults.{words_fault};
 
 use crate::fault::{MainFault, RunFault};
@@ -46,10 +46,10 @@ pub fn options(words: &[String]) -> Result<Options<'_>, MainFault>
     match words {
         [] => Ok(none),
         [word] => alone(none, word.as_str()),
-        [option, word] => said(none, option.as_str(), word.as_str()),
+        [option, word] => with_option(none, option.as_str(), word.as_str()),
         [option, word, other, second] => {
-            let options = said(none, option.as_str(), word.as_str())?;
-            said(options, other.as_str(), second.as_str())
+            let options = with_option(none, option.as_str(), word.as_str())?;
+            with_option(options, other.as_str(), second.as_str())
         }
         _ => Err(MainFault::BadArguments),
     }
@@ -72,9 +72,13 @@ fn alone<'a>(options: Options<'a>, word: &str) -> Result<Options<'a>, MainFault>
 }
 
 // Sets an option with a value, which must not be set already.
-fn said<'a>(options: Options<'a>, option: &str, word: &'a str) -> Result<Options<'a>, MainFault>
+fn with_option<'a>(
+    options: Options<'a>,
+    option: &str,
+    word: &'a str,
+) -> Result<Options<'a>, MainFault>
     requires limit { IfSome options.limit (λ limit. 1 ≤ limit) }
-    ensures value { option_map options_value (result_ok result) ≡ option_said option.now word.now (options_value options.entry) }
+    ensures value { option_map options_value (result_ok result) ≡ set_option option.now word.now (options_value options.entry) }
     ensures refused { IfErr result (λ fault. fault ≡ MainFault.BadArguments) }
     ensures limit { IfOk result (λ options. IfSome options.limit (λ limit. 1 ≤ limit)) }
 {

@@ -2,9 +2,9 @@
 ghost use Rattle.std.specs.Prelude.{◌≡◌, ◌↔◌, option_and_then, option_map, IfOk, IsErr, IsErrAnd, IsSome, IsTrue, OnErr};
 ghost use Rattle.std.specs.Result.{result_ok};
 ghost use Rattle.url.specs.Parser.{IsOutOfRoom};
-ghost use Rattle.cookie_forms.specs.MomentText.{moment_at};
+ghost use Rattle.cookie_forms.specs.MomentText.{parsed_moment};
 ghost use Rattle.cookie_script.specs.Commands as Spec;
-ghost use Rattle.cookie_script.specs.Commands.{command_of, first_word, lone_command, may_want, one_word, remove_command, set_command, url_at, verb_command, verb_may_want};
+ghost use Rattle.cookie_script.specs.Commands.{command_of, first_word, lone_command, may_allocate, one_word, remove_command, set_command, url_at, verb_command, verb_may_allocate};
 ghost use Rattle.cookie_script.specs.CommandViews.{command_view, words_view};
 
 use cookie_store::saved::read_moment;
@@ -32,7 +32,7 @@ pub enum Command<'a> {
 /// Parses a line. Returns `None` for a bad line.
 pub fn read_command(alloc: Global, line: &[u8]) -> Result<Option<Command<'_>>, AllocError>
     ensures value { IfOk result (λ command. option_map command_view command ≡ command_of line.now) }
-    ensures memory { OnErr result (IsTrue (may_want line.now)) }
+    ensures memory { OnErr result (IsTrue (may_allocate line.now)) }
 {
     let Ok(text) = str::from_utf8(line) else {
         return Ok(None);
@@ -61,7 +61,7 @@ fn verb_command<'a>(
     rest: &'a str,
 ) -> Result<Option<Command<'a>>, AllocError>
     ensures value { IfOk result (λ command. option_map command_view command ≡ verb_command (verb.now, rest.now)) }
-    ensures memory { OnErr result (IsTrue (verb_may_want (verb.now, rest.now))) }
+    ensures memory { OnErr result (IsTrue (verb_may_allocate (verb.now, rest.now))) }
 {
     match verb {
         "now" => Ok(now_command(rest)),
@@ -100,7 +100,7 @@ fn parsed_url(parsed: Result<Url, ParseError>) -> Result<Option<Url>, AllocError
 }
 
 fn now_command<'a>(text: &str) -> Option<Command<'a>>
-    ensures { option_map command_view result ≡ option_map Spec.Now (moment_at text.now) }
+    ensures { option_map command_view result ≡ option_map Spec.Now (parsed_moment text.now) }
 {
     match read_moment(text) {
         Some(moment) => Some(Command::Now(moment)),

@@ -1,5 +1,5 @@
 //! Converts lines of JSON, as older programs save cookies, into a RON list.
-ghost use Rattle.std.specs.Prelude.{◌≡◌, ◌-◌, ◌^◌, ◌<◌, IfErr, OnOk};
+ghost use Rattle.std.specs.Prelude.{◌-◌, ◌^◌, ◌<◌, IfErr, OnOk};
 ghost use Rattle.std.specs.Io.KnownBytes.{IsAtEnd};
 ghost use Rattle.cookie_script.specs.Conversion.{Converts, FailsToConvert};
 ghost use Rattle.cookie_script.specs.Faults.{CountsConvertFault};

@@ -205,7 +205,7 @@ impl From<ListError> for MainFault {
 }
 
 /// Returns the error for failing to get a random hash key.
-pub fn draw_fault(_error: io::Error) -> MainFault
+pub fn random_key_fault(_error: io::Error) -> MainFault
     ensures { result ≡ MainFault.CannotDrawKey }
 {
     MainFault::CannotDrawKey
@@ -214,11 +214,11 @@ pub fn draw_fault(_error: io::Error) -> MainFault
 /// Formats the whole line for standard error, without its line feed.
 impl fmt::Display for MainFault {
     ghost use Rattle.std.specs.Prelude.{Some};
-    ghost use Rattle.cookie_script.specs.Faults.{fault_text};
+    ghost use Rattle.cookie_script.specs.Faults.{main_fault_text};
 
-    ghost output = { λ fault. Some (fault_text fault) };
+    ghost output = { λ fault. Some (main_fault_text fault) };
 
-    ghost styled_output = { λ fault _. Some (fault_text fault) };
+    ghost styled_output = { λ fault _. Some (main_fault_text fault) };
 
     #[tactic(auto, using(crate::proofs::StyledTexts::styled_two))]
     fn fmt<W: fmt::Write>(&self, f: &mut fmt::Formatter<W>) -> fmt::Result {

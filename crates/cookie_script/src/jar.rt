@@ -1,10 +1,10 @@
 //! The state of a script, and the effect of a line.
 ghost use Rattle.std.specs.Prelude.{◌≡◌, ◌≢◌, ◌≤◌, [], Err, IfOk, IfSome, IsTrue, OnErr, OnOk, Some};
 ghost use Rattle.cookie_script.specs.Answering.{answer_text};
-ghost use Rattle.cookie_script.specs.Told.{cookies_asked, told_may_want, told_text};
+ghost use Rattle.cookie_script.specs.LineResult.{cookies_to_write, result_may_allocate, line_result_text};
 ghost use Rattle.cookie_script.specs.CommandViews.{command_view};
-ghost use Rattle.cookie_script.specs.Commands.{command_may_want, may_want};
-ghost use Rattle.cookie_script.specs.Script.{command_turn, empty, start, turn};
+ghost use Rattle.cookie_script.specs.Commands.{command_may_allocate, may_allocate};
+ghost use Rattle.cookie_script.specs.Script.{run_command, empty, start, run_line};
 
 use crate::answer::Answer;
 use crate::command::{Command, read_command};
@@ -17,7 +17,7 @@ use url::Url;
 
 /// The result of a line.
 #[derive(Drop)]
-pub enum Told {
+pub enum LineResult {
     /// No output.
     Nothing,
     /// A bad line.
@@ -74,78 +74,78 @@ impl Jar {
     /// Runs a line.
     ///
     /// The state is unchanged on an error, and also if the output of the line may allocate.
-    #[tactic(auto, using(crate::proofs::Wanting::line_wants), unfolding(crate::specs::Script::command_turn))]
-    pub fn turn(&mut self, alloc: Global, line: &[u8]) -> Result<Told, AllocError>
-        ensures state { OnOk result (self.new ≡ (turn line.now self.old).state) }
-        ensures told { IfOk result (λ told. told_text told self.new ≡ (turn line.now self.old).text) }
-        ensures answered { IfOk result (λ told. IsTrue (told_may_want told)
-            → IsTrue (may_want line.now) × (self.new ≡ self.old)) }
-        ensures wants { OnErr result (IsTrue (may_want line.now)) }
+    #[tactic(auto, using(crate::proofs::Wanting::line_wants), unfolding(crate::specs::Script::run_command))]
+    pub fn run_line(&mut self, alloc: Global, line: &[u8]) -> Result<LineResult, AllocError>
+        ensures state { OnOk result (self.new ≡ (run_line line.now self.old).state) }
+        ensures line_result { IfOk result (λ line_result. line_result_text line_result self.new ≡ (run_line line.now self.old).text) }
+        ensures answered { IfOk result (λ line_result. IsTrue (result_may_allocate line_result)
+            → IsTrue (may_allocate line.now) × (self.new ≡ self.old)) }
+        ensures wants { OnErr result (IsTrue (may_allocate line.now)) }
         ensures kept { OnErr result (self.new ≡ self.old) }
     {
         match read_command(alloc, line)? {
             Some(command) => self.obey(command),
-            None => Ok(Told::BadLine),
+            None => Ok(LineResult::BadLine),
         }
     }
 
     // Runs a command. A `set` that is rejected early allocates nothing.
-    #[tactic(auto, unfolding(crate::specs::Script::command_turn))]
-    fn obey(&mut self, command: Command<'_>) -> Result<Told, AllocError>
-        ensures state { OnOk result (self.new ≡ (command_turn (Some (command_view command.entry)) self.old).state) }
-        ensures told { IfOk result (λ told.
-            told_text told self.new ≡ (command_turn (Some (command_view command.entry)) self.old).text) }
-        ensures answered { IfOk result (λ told. IsTrue (told_may_want told)
-            → IsTrue (command_may_want (command_view command.entry)) × (self.new ≡ self.old)) }
-        ensures wants { OnErr result (IsTrue (command_may_want (command_view command.entry))) }
+    #[tactic(auto, unfolding(crate::specs::Script::run_command))]
+    fn obey(&mut self, command: Command<'_>) -> Result<LineResult, AllocError>
+        ensures state { OnOk result (self.new ≡ (run_command (Some (command_view command.entry)) self.old).state) }
+        ensures line_result { IfOk result (λ line_result.
+            line_result_text line_result self.new ≡ (run_command (Some (command_view command.entry)) self.old).text) }
+        ensures answered { IfOk result (λ line_result. IsTrue (result_may_allocate line_result)
+            → IsTrue (command_may_allocate (command_view command.entry)) × (self.new ≡ self.old)) }
+        ensures wants { OnErr result (IsTrue (command_may_allocate (command_view command.entry))) }
         ensures kept { OnErr result (self.new ≡ self.old) }
     {
         match command {
             Command::Now(moment) => {
                 self.moment = moment;
-                Ok(Told::Nothing)
+                Ok(LineResult::Nothing)
             }
-            Command::Set(url, text) => said(self.store.parse(text, &url, self.moment)),
-            Command::Get(url) => Ok(Told::Cookies(url)),
-            Command::ListRows => Ok(Told::Rows),
+            Command::Set(url, text) => result_or_memory(self.store.parse(text, &url, self.moment)),
+            Command::Get(url) => Ok(LineResult::Cookies(url)),
+            Command::ListRows => Ok(LineResult::Rows),
             Command::Remove(domain, path, name) => {
                 let removed = self.store.remove(domain, path, name);
-                Ok(Told::Removed(removed.is_some()))
+                Ok(LineResult::Removed(removed.is_some()))
             }
             Command::Clear => {
                 self.store.clear();
-                Ok(Told::Cleared)
+                Ok(LineResult::Cleared)
             }
         }
     }
 
     /// Returns the output of a line from its result. Allocates only for the cookies of a URL, if
     /// there are any.
-    pub fn answer(&self, told: Told) -> Result<Answer<'_>, AllocError>
-        ensures text { IfOk result (λ answer. answer_text answer ≡ told_text told self.now) }
-        ensures wants { OnErr result (IsTrue (told_may_want told)) }
-        ensures given { OnErr result (cookies_asked told self.now ≢ []) }
+    pub fn answer(&self, line_result: LineResult) -> Result<Answer<'_>, AllocError>
+        ensures text { IfOk result (λ answer. answer_text answer ≡ line_result_text line_result self.now) }
+        ensures wants { OnErr result (IsTrue (result_may_allocate line_result)) }
+        ensures given { OnErr result (cookies_to_write line_result self.now ≢ []) }
     {
-        match told {
-            Told::Nothing => Ok(Answer::Nothing),
-            Told::BadLine => Ok(Answer::Line("", "bad line")),
-            Told::Stored(told) => Ok(Answer::stored(told)),
-            Told::Removed(true) => Ok(Answer::Line("", "removed")),
-            Told::Removed(false) => Ok(Answer::Line("", "none")),
-            Told::Cleared => Ok(Answer::Line("", "cleared")),
-            Told::Cookies(url) => Ok(Answer::Header(self.store.matches(&url, self.moment)?)),
-            Told::Rows => Ok(Answer::Rows(self.store.iter_any())),
+        match line_result {
+            LineResult::Nothing => Ok(Answer::Nothing),
+            LineResult::BadLine => Ok(Answer::Line("", "bad line")),
+            LineResult::Stored(line_result) => Ok(Answer::of_insert_result(line_result)),
+            LineResult::Removed(true) => Ok(Answer::Line("", "removed")),
+            LineResult::Removed(false) => Ok(Answer::Line("", "none")),
+            LineResult::Cleared => Ok(Answer::Line("", "cleared")),
+            LineResult::Cookies(url) => Ok(Answer::Header(self.store.matches(&url, self.moment)?)),
+            LineResult::Rows => Ok(Answer::Rows(self.store.iter_any())),
         }
     }
 }
 
 // Returns the result of an insertion, or `AllocError` if memory ran out.
-fn said(told: InsertResult) -> Result<Told, AllocError>
-    ensures said { IfOk result (λ said. (said ≡ Told.Stored told) × (told ≢ Err CookieError.Memory)) }
-    ensures memory { OnErr result (told ≡ Err CookieError.Memory) }
+fn result_or_memory(line_result: InsertResult) -> Result<LineResult, AllocError>
+    ensures outcome { IfOk result (λ outcome. (outcome ≡ LineResult.Stored line_result) × (line_result ≢ Err CookieError.Memory)) }
+    ensures memory { OnErr result (line_result ≡ Err CookieError.Memory) }
 {
-    match told {
+    match line_result {
         Err(CookieError::Memory) => Err(AllocError),
-        told => Ok(Told::Stored(told)),
+        line_result => Ok(LineResult::Stored(line_result)),
     }
 }

@@ -1,11 +1,11 @@
 //! Runs a script, from the bytes read to the bytes written.
 ghost use Rattle.std.specs.Prelude.{◌≡◌, ℕ, ◌+◌, ◌-◌, ◌^◌, ◌<◌, ◌≤◌, ◌++◌, ◌⊎◌, Err, IfSome, IsTrue, OnOk, length};
 ghost use Rattle.std.specs.Io.KnownBytes.{Appends};
-ghost use Rattle.cookie_device.specs.Device.{AppendsBeginning, Sends};
-ghost use Rattle.cookie_script.specs.Commands.{may_want};
+ghost use Rattle.cookie_device.specs.Device.{AppendsPrefix, Sends};
+ghost use Rattle.cookie_script.specs.Commands.{may_allocate};
 ghost use Rattle.cookie_script.specs.Faults.{CountsFault};
-ghost use Rattle.cookie_script.specs.Progress.{AnswersFirst, AreRead, NextMayWant};
-ghost use Rattle.cookie_script.specs.Script.{empty, output_of, turn};
+ghost use Rattle.cookie_script.specs.Progress.{AnswersFirst, AreRead, NextMayAllocate};
+ghost use Rattle.cookie_script.specs.Script.{empty, output_of, run_line};
 
 use crate::fault::RunFault;
 use crate::jar::Jar;
@@ -38,12 +38,12 @@ pub fn run<A: Into<StoreAlloc>, R: Source, W: Sink>(
     ensures whole { OnOk result (IfSome (R.remaining source.old) (λ input.
         Appends (W.contents sink.old) (W.contents sink.new) (output_of (empty list limit) input))) }
     ensures part { IfSome (R.remaining source.old) (λ input.
-        AppendsBeginning (W.contents sink.old) (W.contents sink.new) (output_of (empty list limit) input)) }
+        AppendsPrefix (W.contents sink.old) (W.contents sink.new) (output_of (empty list limit) input)) }
     ensures read { result ≡ Err RunFault.Read → IfSome (R.remaining source.old) (λ input.
         AnswersFirst (empty list limit) input (λ first more. AreRead input (R.remaining source.new) first)
         (Appends (W.contents sink.old) (W.contents sink.new))) }
     ensures memory { result ≡ Err RunFault.Memory → IfSome (R.remaining source.old) (λ input.
-        AnswersFirst (empty list limit) input (λ first more. AreRead input (R.remaining source.new) first ⊎ NextMayWant more)
+        AnswersFirst (empty list limit) input (λ first more. AreRead input (R.remaining source.new) first ⊎ NextMayAllocate more)
         (Appends (W.contents sink.old) (W.contents sink.new))) }
     ensures count { CountsFault result (R.failed source.old) (R.failed source.new) (W.failed sink.old) (W.failed sink.new) }
     ensures reads { IfSome (R.remaining source.old) (λ input.
@@ -76,12 +76,12 @@ fn answer_lines<R: Source, W: Sink>(
     ensures whole { OnOk result (IfSome (R.remaining source.old) (λ input.
         Sends (W.contents sink.old) (W.contents sink.new) (out.old ++ output_of (empty list limit) input) out.new)) }
     ensures part { IfSome (R.remaining source.old) (λ input.
-        AppendsBeginning (W.contents sink.old) (W.contents sink.new) (out.old ++ output_of (empty list limit) input)) }
+        AppendsPrefix (W.contents sink.old) (W.contents sink.new) (out.old ++ output_of (empty list limit) input)) }
     ensures read { result ≡ Err RunFault.Read → IfSome (R.remaining source.old) (λ input.
         AnswersFirst (empty list limit) input (λ first more. AreRead input (R.remaining source.new) first)
         (λ text. Appends (W.contents sink.old) (W.contents sink.new) (out.old ++ text))) }
     ensures memory { result ≡ Err RunFault.Memory → IfSome (R.remaining source.old) (λ input.
-        AnswersFirst (empty list limit) input (λ first more. AreRead input (R.remaining source.new) first ⊎ NextMayWant more)
+        AnswersFirst (empty list limit) input (λ first more. AreRead input (R.remaining source.new) first ⊎ NextMayAllocate more)
         (λ text. Sends (W.contents sink.old) (W.contents sink.new) (out.old ++ text) out.new)) }
     ensures count { CountsFault result (R.failed source.old) (R.failed source.new) (W.failed sink.old) (W.failed sink.new) }
     ensures reads { IfSome (R.remaining source.old) (λ input.
@@ -117,15 +117,15 @@ fn answer_line<W: Sink>(
     sink: &mut W,
 ) -> Result<(), RunFault>
     requires { W.failed sink.old < 2 ^ 64 - 1 }
-    ensures state { OnOk result (jar.new ≡ (turn line.now jar.old).state) }
+    ensures state { OnOk result (jar.new ≡ (run_line line.now jar.old).state) }
     ensures whole { OnOk result (Sends (W.contents sink.old) (W.contents sink.new)
-        (out.old ++ (turn line.now jar.old).text) out.new) }
-    ensures part { AppendsBeginning (W.contents sink.old) (W.contents sink.new)
-        (out.old ++ (turn line.now jar.old).text) }
-    ensures memory { result ≡ Err RunFault.Memory → IsTrue (may_want line.now)
+        (out.old ++ (run_line line.now jar.old).text) out.new) }
+    ensures part { AppendsPrefix (W.contents sink.old) (W.contents sink.new)
+        (out.old ++ (run_line line.now jar.old).text) }
+    ensures memory { result ≡ Err RunFault.Memory → IsTrue (may_allocate line.now)
         × (out.new ≡ out.old) × (W.contents sink.new ≡ W.contents sink.old) }
     ensures count { (reads : ℕ) → CountsFault result reads reads (W.failed sink.old) (W.failed sink.new) }
 {
-    let told = jar.turn(alloc, line)?;
-    Ok(jar.answer(told)?.put(out, sink)?)
+    let line_result = jar.run_line(alloc, line)?;
+    Ok(jar.answer(line_result)?.put(out, sink)?)
 }

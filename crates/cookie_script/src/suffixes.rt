@@ -4,7 +4,7 @@ ghost use Rattle.std.specs.IoError.{error_kind};
 ghost use Rattle.std.specs.Result.{result_map_both};
 ghost use Rattle.std.specs.Str.{is_utf8};
 ghost use Rattle.cookie_script.specs.Faults.{file_fault, list_fault};
-ghost use Rattle.cookie_script.specs.Suffixes.{list_at, GivesList};
+ghost use Rattle.cookie_script.specs.Suffixes.{list_at, ParsesList};
 
 use crate::fault::{MainFault, RunFault};
 use cookie_store::psl::{List, ListError};
@@ -21,7 +21,7 @@ use std::io;
 /// - `Run(Memory)`: out of memory. It may come instead of `BadRule`.
 #[tactic(auto, unfolding(crate::specs::Suffixes::list_at))]
 pub fn list_of(alloc: Global, bytes: &[u8]) -> Result<List, MainFault>
-    ensures value { GivesList result (list_at bytes.now) }
+    ensures value { ParsesList result (list_at bytes.now) }
     ensures utf8 { is_utf8 bytes.now ≡ false → result ≡ Err MainFault.CannotReadList }
 {
     let Ok(text) = str::from_utf8(bytes) else {

@@ -44,8 +44,8 @@ const BAD_LISTS: [(&[u8], MainFault); 3] = [
 ];
 
 fn is_refused(rt: &impl Abort, alloc: Global, bytes: &[u8], fault: MainFault) {
-    let told = list_of(alloc, bytes).err();
-    assert_eq!(rt; told, Some(fault), "at {bytes:?}");
+    let actual = list_of(alloc, bytes).err();
+    assert_eq!(rt; actual, Some(fault), "at {bytes:?}");
 }
 
 #[test]

@@ -8,10 +8,10 @@ use std::process::Abort;
 use std::test::Fail;
 
 // The file, the limit, and whether to convert.
-type Asked = (Option<&'static str>, Option<usize>, bool);
+type OptionsCase = (Option<&'static str>, Option<usize>, bool);
 
 // Arguments and their options, or `None` if they are invalid.
-static WORDS: [(&[&str], Option<Asked>); 38] = [
+static WORDS: [(&[&str], Option<OptionsCase>); 38] = [
     (&[], Some((None, None, false))),
     (
         &["--suffixes", "list.dat"],
@@ -79,7 +79,7 @@ fn owned(alloc: Global, words: &[&str]) -> Result<Vec<String>, AllocError> {
 }
 
 // The arguments have these options, or are invalid.
-fn asks_for(rt: &impl Abort, words: &[String], wanted: Option<Asked>) {
+fn asks_for(rt: &impl Abort, words: &[String], wanted: Option<OptionsCase>) {
     let wanted = match wanted {
         Some((suffixes, limit, convert)) => Ok(Options {
             suffixes,
@@ -141,8 +141,8 @@ const KINDS: [(ErrorKind, MainFault, MainFault); 3] = [
     ),
 ];
 
-fn is_fault(rt: &impl Abort, told: &MainFault, fault: &MainFault) {
-    assert_eq!(rt; told, fault);
+fn is_fault(rt: &impl Abort, actual: &MainFault, fault: &MainFault) {
+    assert_eq!(rt; actual, fault);
 }
 
 #[test]

@@ -13,10 +13,10 @@ not_memory (Err refusal) url = grind arith
 
 none_of : {T : Type 0} (refusal : Option CookieError) (result : Result T CookieError) → refusal ≢ Some Memory
     → ((r : CookieError) → refusal ≡ Some r → result ≡ Err r) → result ≡ Err Memory → refusal ≡ None
-none_of None result never told want = refl
-none_of (Some r) result never told want = grind (arith, never, told r refl, want)
+none_of None result never reported want = refl
+none_of (Some r) result never reported want = grind (arith, never, reported r refl, want)
 
 -- if out of memory, the cookie was not rejected early
 pub want_is_not_early : {T : Type 0} (read : Result Raw RawCookieParseError) (url : Parts) (result : Result T CookieError)
     → ((r : CookieError) → early read url ≡ Some r → result ≡ Err r) → result ≡ Err Memory → early read url ≡ None
-want_is_not_early read url result told want = none_of (early read url) result (not_memory read url) told want
+want_is_not_early read url result reported want = none_of (early read url) result (not_memory read url) reported want

@@ -8,27 +8,27 @@ use Rattle.cookie_parts.specs.declared.cookie_error.CookieError.TheVariants.{Mem
 use Rattle.cookie_parts.specs.declared.store_action.StoreAction.{StoreAction}
 use Rattle.cookie_parts.specs.declared.store_action.StoreAction.TheVariants.{Inserted, ExpiredExisting, UpdatedExisting}
 use Rattle.cookie_laws.specs.Acceptance.{accept, admitted, entered, reply_at, store_by}
-use Rattle.cookie_laws.specs.Contents.{Contents, contents_of, kept_of}
+use Rattle.cookie_laws.specs.Contents.{Contents, contents_of, rows_in_order}
 use Rattle.cookie_laws.specs.Rows.{key_of, row_of}
 use Rattle.cookie_laws.specs.Runs.{UnlessMemory}
 
 -- no reply changes the list or the limit
 store_by_keeps : (reply : Result StoreAction CookieError) (store : Contents) (cookie : Row) (now : Moment)
-    → contents_of (kept_of (store_by reply store cookie now)) store.suffixes store.limit ≡ store_by reply store cookie now
+    → contents_of (rows_in_order (store_by reply store cookie now)) store.suffixes store.limit ≡ store_by reply store cookie now
 store_by_keeps (Ok Inserted) store cookie now = refl
 store_by_keeps (Ok UpdatedExisting) store cookie now = refl
 store_by_keeps (Ok ExpiredExisting) store cookie now = refl
 store_by_keeps (Err refusal) store cookie now = refl
 
 -- so what follows the checks of the cookie does not, whether they passed or not
-entered_keeps : (made : Result Row CookieError) (url : Parts) (now : Moment) (store : Contents)
-    → contents_of (kept_of (entered made url now store).store) store.suffixes store.limit ≡ (entered made url now store).store
+entered_keeps : (created : Result Row CookieError) (url : Parts) (now : Moment) (store : Contents)
+    → contents_of (rows_in_order (entered created url now store).store) store.suffixes store.limit ≡ (entered created url now store).store
 entered_keeps (Ok cookie) url now store = store_by_keeps (reply_at (row_of (key_of cookie) store.rows) cookie url now) store cookie now
 entered_keeps (Err refusal) url now store = refl
 
 -- so no insertion does
 pub accept_keeps : (store : Contents) (cookie : Row) (url : Parts) (now : Moment)
-    → contents_of (kept_of (accept store cookie url now).store) store.suffixes store.limit ≡ (accept store cookie url now).store
+    → contents_of (rows_in_order (accept store cookie url now).store) store.suffixes store.limit ≡ (accept store cookie url now).store
 unfolding accept
 accept_keeps store cookie url now = entered_keeps (admitted store.suffixes url cookie) url now store
 

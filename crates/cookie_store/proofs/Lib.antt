@@ -4,7 +4,7 @@ pub mod EarlyRefusals
 pub mod Entered
 pub mod LinesBack
 pub mod ListedRows
-pub mod LoadFaults
+pub mod LoadErrors
 pub mod LoadedAlike
 pub mod LoadedLines
 pub mod LongerRuns

@@ -13,16 +13,16 @@ use Rattle.serde_json.specs.Written.{compact_text}
 use Rattle.cookie_raw.specs.CookieText.{cookie_text}
 use Rattle.cookie_raw.specs.Reading.{reading}
 use Rattle.cookie_words.specs.Moments.{Moment}
-use Rattle.cookie_forms.specs.ReadTrees.{cut, saved_at}
-use Rattle.cookie_forms.specs.Saved.{saved_view, EndsAtMoment, Parts}
+use Rattle.cookie_forms.specs.FromJson.{cut, saved_at}
+use Rattle.cookie_forms.specs.Saved.{saved_view, HasValidExpiry, Parts}
 use Rattle.cookie_forms.specs.declared.saved.Saved.{Saved}
 use Rattle.cookie_forms.specs.Texts.{has_no_control}
-use Rattle.cookie_forms.specs.WrittenTrees.{written}
+use Rattle.cookie_forms.specs.ToJson.{written}
 use Rattle.cookie_forms.specs.declared.error.SavedError.{SavedError}
 use Rattle.cookie_parts.specs.Cookie.{Row}
-use Rattle.cookie_parts.specs.Passage.{cookie_of_saved, saved_of}
+use Rattle.cookie_parts.specs.SavedConversion.{cookie_of_saved, saved_of}
 use Rattle.cookie_store.specs.Cuts.{cut_row, cut_rows, ReadsBack}
-use Rattle.cookie_store.specs.JsonLines.{json_cookie, MakesJson, SaysJson, SaysTree}
+use Rattle.cookie_store.specs.JsonLines.{json_cookie, JsonParsesTo, SerializesToJson, SerializesToLine}
 use Rattle.cookie_store.specs.Loading.{AreCookies}
 use Rattle.cookie_store.specs.Saving.{lines_text, AreTexts}
 use Rattle.cookie_store.proofs.CutRows.{form_ends, row_cut}
@@ -75,26 +75,26 @@ line_more text rest none =
     ∙ part_more text (slice_split is_feed rest) (omega (arith, length-slice_split is_feed rest))
     ∙ ap (λ line. line ∷ lines rest) (not_stripped text none)
 
-module _ (comes_back : (cookie : Row) → reading (cookie_text cookie.raw) ≡ Ok cookie.raw → cookie_of_saved (saved_of cookie) ≡ Ok cookie)
-    (reads_back : (saved : Parts Moment) (tree : Data) → EndsAtMoment saved → written saved ≡ Ok tree → saved_at tree ≡ Ok (cut saved))
+module _ (survives_saving : (cookie : Row) → reading (cookie_text cookie.raw) ≡ Ok cookie.raw → cookie_of_saved (saved_of cookie) ≡ Ok cookie)
+    (reads_back : (saved : Parts Moment) (tree : Data) → HasValidExpiry saved → written saved ≡ Ok tree → saved_at tree ≡ Ok (cut saved))
     (are_lines : (saved : Parts Moment) (tree : Data) → written saved ≡ Ok tree → has_no_control (compact_text tree) ≡ true)
-    (ends : (saved : Saved) → EndsAtMoment (saved_view saved)) where
-  of_tree : (row : Row) (told : Result Data SavedError) (text : String Global) → ReadsBack row → written (saved_of row) ≡ told
-      → SaysTree told (Ok text)
+    (ends : (saved : Saved) → HasValidExpiry (saved_view saved)) where
+  of_tree : (row : Row) (reported : Result Data SavedError) (text : String Global) → ReadsBack row → written (saved_of row) ≡ reported
+      → SerializesToLine reported (Ok text)
       → (has_no_control (string_bytes text) ≡ true) × (json_cookie (string_bytes text) ≡ Ok (cut_row row))
   of_tree row (Ok tree) text back is (says, reads) = (
     subst (λ t. has_no_control t ≡ true) (sym says) (are_lines (saved_of row) tree is),
-    rw (json_cookie, reads, reads_back (saved_of row) tree (form_ends ends row back) is, row_cut comes_back row back) refl,
+    rw (json_cookie, reads, reads_back (saved_of row) tree (form_ends ends row back) is, row_cut survives_saving row back) refl,
   )
   of_tree row (Err fault) text back is says = absurd (cc)
 
   -- the string of a row is one line, which reads as the cut row
-  said_back : (row : Row) (text : String Global) → ReadsBack row → SaysJson row (Ok text)
+  said_back : (row : Row) (text : String Global) → ReadsBack row → SerializesToJson row (Ok text)
       → (has_no_control (string_bytes text) ≡ true) × (json_cookie (string_bytes text) ≡ Ok (cut_row row))
   said_back row text back says = of_tree row (written (saved_of row)) text back refl says
 
   -- so the strings of rows are as many lines
-  lines_back : (rows : List Row) (texts : List (String Global)) → All ReadsBack rows → AreTexts SaysJson rows texts
+  lines_back : (rows : List Row) (texts : List (String Global)) → All ReadsBack rows → AreTexts SerializesToJson rows texts
       → lines (lines_text texts) ≡ map string_bytes texts
   lines_back [] [] back said = refl
   lines_back [] (text ∷ texts) back said = absurd said
@@ -105,7 +105,7 @@ module _ (comes_back : (cookie : Row) → reading (cookie_text cookie.raw) ≡ O
       ∙ ap (λ others. string_bytes text ∷ others) (lines_back rows texts (All-tail ReadsBack row rows back) said.1)
 
   -- each of which reads as its cut row
-  each_back : (rows : List Row) (texts : List (String Global)) → All ReadsBack rows → AreTexts SaysJson rows texts
+  each_back : (rows : List Row) (texts : List (String Global)) → All ReadsBack rows → AreTexts SerializesToJson rows texts
       → AllZip ReadsAs (map string_bytes texts) (cut_rows rows)
   each_back [] [] back said = tt
   each_back [] (text ∷ texts) back said = absurd said
@@ -115,19 +115,19 @@ module _ (comes_back : (cookie : Row) → reading (cookie_text cookie.raw) ≡ O
     each_back rows texts (All-tail ReadsBack row rows back) said.1,
   )
 
-  pub come_back : (rows : List Row) (texts : List (String Global)) → All ReadsBack rows → AreTexts SaysJson rows texts
+  pub come_back : (rows : List Row) (texts : List (String Global)) → All ReadsBack rows → AreTexts SerializesToJson rows texts
       → AllZip ReadsAs (lines (lines_text texts)) (cut_rows rows)
   come_back rows texts back said =
       subst (λ ls. AllZip ReadsAs ls (cut_rows rows)) (sym (lines_back rows texts back said)) (each_back rows texts back said)
 
 -- the cookies loaded from lines are those that the lines read as
-pub made_as_read : (texts : List (List ℕ)) (made read : List Row) → AreCookies MakesJson texts made → AllZip ReadsAs texts read → made ≡ read
+pub made_as_read : (texts : List (List ℕ)) (created read : List Row) → AreCookies JsonParsesTo texts created → AllZip ReadsAs texts read → created ≡ read
 made_as_read [] [] [] are reads = refl
 made_as_read [] [] (row ∷ read) are reads = absurd reads
-made_as_read [] (cookie ∷ made) read are reads = absurd are
+made_as_read [] (cookie ∷ created) read are reads = absurd are
 made_as_read (text ∷ texts) [] read are reads = absurd are
-made_as_read (text ∷ texts) (cookie ∷ made) [] are reads = absurd reads
-made_as_read (text ∷ texts) (cookie ∷ made) (row ∷ read) ((valid, is), others) (reads, rest) =
+made_as_read (text ∷ texts) (cookie ∷ created) [] are reads = absurd reads
+made_as_read (text ∷ texts) (cookie ∷ created) (row ∷ read) ((valid, is), others) (reads, rest) =
     let same = sym is ∙ reads in
     let one : cookie ≡ row = cc in
-    rw (one, made_as_read texts made read others rest) refl
+    rw (one, made_as_read texts created read others rest) refl

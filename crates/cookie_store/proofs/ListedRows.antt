@@ -8,16 +8,16 @@ use Rattle.std.specs.declared.alloc.Global.{Global}
 use Rattle.std.specs.declared.string.String.{String}
 use Rattle.std.specs.declared.vec.Vec.{Vec}
 use Rattle.cookie_words.specs.Moments.{Moment}
-use Rattle.cookie_device.specs.Device.{AppendsBeginning}
+use Rattle.cookie_device.specs.Device.{AppendsPrefix}
 use Rattle.cookie_forms.specs.Saved.{Parts}
 use Rattle.cookie_forms.specs.declared.error.SavedError.{SavedError}
 use Rattle.cookie_parts.specs.Cookie.{Row, and_then}
-use Rattle.cookie_parts.specs.Passage.{cookie_of_saved}
+use Rattle.cookie_parts.specs.SavedConversion.{cookie_of_saved}
 use Rattle.cookie_parts.specs.declared.cookie_error.CookieError.{CookieError}
 use Rattle.cookie_parts.specs.declared.error.Error.{Error}
 use Rattle.cookie_parts.specs.declared.error.Error.TheVariants.{Cookie, Io}
 use Rattle.cookie_store.specs.SavedForms.{cookies_of_saved, read_cookies}
-use Rattle.cookie_store.specs.Lists.{FailsToSaveList, MakesCookies, MakesVec, RefusesText, WritesList}
+use Rattle.cookie_store.specs.Lists.{FailsToSaveList, ParsesToCookies, ParsesToVec, RejectsText, WritesList}
 use Rattle.cookie_store.specs.Saving.{line_text}
 use Rattle.cookie_store.proofs.SavedLines.{filter_around}
 use Rattle.cookie_store.proofs.Walked.{around}
@@ -47,13 +47,13 @@ on_refusal (Err error) holds = holds
 module _ (makes : List ℕ → Result (Vec Row Global) Error → Type 0) where
   -- the cookies that a function returns for a string are those that it makes of it
   pub made_at_once : (text : List ℕ) (answer : Result (Vec Row Global) Error) → IsTrue (is_utf8 text) → makes text answer
-      → IfOk answer (λ cookies. MakesCookies (MakesVec makes) text cookies.items)
+      → IfOk answer (λ cookies. ParsesToCookies (ParsesToVec makes) text cookies.items)
   made_at_once text (Ok cookies) valid answers = (valid, (Ok cookies, answers, refl))
   made_at_once text (Err error) valid answers = tt
 
   -- and if it returns an error, the string is rejected
   pub refused_at_once : (text : List ℕ) (answer : Result (Vec Row Global) Error) → IsTrue (is_utf8 text) → makes text answer
-      → IfErr answer (λ error. RefusesText (MakesVec makes) error text)
+      → IfErr answer (λ error. RejectsText (ParsesToVec makes) error text)
   refused_at_once text (Ok cookies) valid answers = tt
   refused_at_once text (Err error) valid answers = inr (valid, (Err error, answers, refl))
 
@@ -61,15 +61,15 @@ module _ (makes : List ℕ → Result (List Row) Error → Type 0) (text : List 
   -- the cookies of a list, or the error, as a result with a vector
   pub list_made : (answer : Result (Vec Row Global) Error) → IsTrue (is_utf8 text)
       → makes text (result_map_both (λ cookies. cookies.items) (λ error. error) answer)
-      → IfOk answer (λ cookies. MakesCookies makes text cookies.items)
-  list_made (Ok cookies) valid made = (valid, made)
-  list_made (Err error) valid made = tt
+      → IfOk answer (λ cookies. ParsesToCookies makes text cookies.items)
+  list_made (Ok cookies) valid created = (valid, created)
+  list_made (Err error) valid created = tt
 
   pub list_refused : (answer : Result (Vec Row Global) Error) → IsTrue (is_utf8 text)
       → makes text (result_map_both (λ cookies. cookies.items) (λ error. error) answer)
-      → IfErr answer (λ error. RefusesText makes error text)
-  list_refused (Ok cookies) valid made = tt
-  list_refused (Err error) valid made = inr (valid, made)
+      → IfErr answer (λ error. RejectsText makes error text)
+  list_refused (Ok cookies) valid created = tt
+  list_refused (Err error) valid created = inr (valid, created)
 
 module _ (says : List Row → Result (String Global) Error → Type 0) (rows : List Row) (text : String Global) (said : says rows (Ok text)) {T : Type 0} where
   -- the string of the rows and a line feed were written
@@ -80,7 +80,7 @@ module _ (says : List Row → Result (String Global) Error → Type 0) (rows : L
 
   -- or a beginning of them
   pub list_begun : (answer : Result T Error) (old new : Option (List ℕ)) (failures failures' : ℕ)
-      → IfErr answer (λ error. AppendsBeginning old new (line_text text) × (error ≡ Io) × (failures' ≡ failures + 1))
+      → IfErr answer (λ error. AppendsPrefix old new (line_text text) × (error ≡ Io) × (failures' ≡ failures + 1))
       → IfErr answer (λ error. FailsToSaveList says error rows old new failures failures')
   list_begun (Ok done) old new failures failures' begun = tt
   list_begun (Err error) old new failures failures' (begun, is, count) = inr (text, said, begun, is, count)
@@ -98,21 +98,21 @@ pub form_done : (done : List Row) (cookie : Row) (form : Parts Moment) (forms : 
     ≡ result_map_both (λ cookies. (done ++ cookie ∷ []) ++ cookies) (λ fault. fault) (cookies_of_saved forms)
 form_done done cookie form forms is = rw is (moved_over done cookie (cookies_of_saved forms))
 
-some_made : (made : Result Row CookieError) (others : Result (List Row) CookieError)
-    → result_map_both (λ cookies. cookies) Cookie (and_then made (λ cookie. result_map_both (λ cookies. cookie ∷ cookies) (λ fault. fault) others)) ≡ Ok []
+some_made : (created : Result Row CookieError) (others : Result (List Row) CookieError)
+    → result_map_both (λ cookies. cookies) Cookie (and_then created (λ cookie. result_map_both (λ cookies. cookie ∷ cookies) (λ fault. fault) others)) ≡ Ok []
     → ⊥
 some_made (Err fault) others e = cc
 some_made (Ok cookie) (Err fault) e = cc
 some_made (Ok cookie) (Ok cookies) e = let some : Ok (cookie ∷ cookies) ≡ Ok [] = e in cc
 
 -- if there are no cookies, no saved form was read
-pub none_read : (told : Result (List (Parts Moment)) SavedError) → read_cookies told ≡ Ok [] → told ≡ Ok []
+pub none_read : (reported : Result (List (Parts Moment)) SavedError) → read_cookies reported ≡ Ok [] → reported ≡ Ok []
 none_read (Err fault) e = cc
 none_read (Ok []) e = refl
 none_read (Ok (form ∷ forms)) e = absurd (some_made (cookie_of_saved form) (cookies_of_saved forms) e)
 
-pub none_listed : (told : Result (List (Parts Moment)) SavedError) (forms : List (Parts Moment)) → told ≡ Ok forms → read_cookies told ≡ Ok [] → forms ≡ []
-none_listed told forms is none = let empty : told ≡ Ok [] = none_read told none in cc
+pub none_listed : (reported : Result (List (Parts Moment)) SavedError) (forms : List (Parts Moment)) → reported ≡ Ok forms → read_cookies reported ≡ Ok [] → forms ≡ []
+none_listed reported forms is none = let empty : reported ≡ Ok [] = none_read reported none in cc
 
 -- what fails only if there are items succeeds if there are none
 pub done_of_none : {A B T E : Type 0} (f : A → B) (items : List A) (answer : Result T E) → map f items ≡ [] → OnErr answer (items ≢ []) → IsOk answer

@@ -7,47 +7,47 @@ use Rattle.cookie_device.specs.declared.lines.FillError.TheVariants as Fill
 use Rattle.cookie_words.specs.Moments.{Moment}
 use Rattle.cookie_parts.specs.Cookie.{Row}
 use Rattle.cookie_parts.specs.declared.error.Error.{Error}
-use Rattle.cookie_laws.specs.Rows.{Kept}
-use Rattle.cookie_store.specs.LoadFault.{IsReachedAt, StopsLoading}
-use Rattle.cookie_store.specs.Loading.{AreCookies, BuildsFrom, EndsWithinLine, FailsAtLine, MakesCookie, RefusesLine, StopsWithinLine}
-use Rattle.cookie_store.specs.declared.loading.LoadFault.{LoadFault}
-use Rattle.cookie_store.specs.declared.loading.LoadFault.TheVariants.{Line, Source}
+use Rattle.cookie_laws.specs.Rows.{RowsInOrder}
+use Rattle.cookie_store.specs.LoadError.{IsReachedAt, StopsLoading}
+use Rattle.cookie_store.specs.Loading.{AreCookies, BuildsFrom, EndsWithinLine, FailsAtLine, ParsesToCookie, RejectsLine, StopsWithinLine}
+use Rattle.cookie_store.specs.declared.loading.LoadError.{LoadError}
+use Rattle.cookie_store.specs.declared.loading.LoadError.TheVariants.{Line, Source}
 use Rattle.cookie_store.proofs.Pairs.{AllZip-then}
 
 module _ {makes yields : List ℕ → Result Row Error → Type 0}
     (kept : (line : List ℕ) (answer : Result Row Error) → makes line answer → yields line answer) where
-  made_alike : (line : List ℕ) (cookie : Row) → MakesCookie makes line cookie → MakesCookie yields line cookie
-  made_alike line cookie (valid, made) = (valid, kept line (Ok cookie) made)
+  made_alike : (line : List ℕ) (cookie : Row) → ParsesToCookie makes line cookie → ParsesToCookie yields line cookie
+  made_alike line cookie (valid, created) = (valid, kept line (Ok cookie) created)
 
-  refused_alike : (error : Error) (line : List ℕ) → RefusesLine makes error line → RefusesLine yields error line
+  refused_alike : (error : Error) (line : List ℕ) → RejectsLine makes error line → RejectsLine yields error line
   refused_alike error line (inl not_utf8) = inl not_utf8
   refused_alike error line (inr (valid, refused)) = inr (valid, kept line (Err error) refused)
 
   failed_alike : (error : Error) (line : List ℕ) → FailsAtLine makes error line → FailsAtLine yields error line
-  failed_alike error line (inl (want, cookie, made)) = inl (want, cookie, made_alike line cookie made)
+  failed_alike error line (inl (want, cookie, created)) = inl (want, cookie, made_alike line cookie created)
   failed_alike error line (inr refused) = inr (refused_alike error line refused)
 
   cookies_alike : (texts : List (List ℕ)) (cookies : List Row) → AreCookies makes texts cookies → AreCookies yields texts cookies
-  cookies_alike texts cookies made = AllZip-then made_alike texts cookies made
+  cookies_alike texts cookies created = AllZip-then made_alike texts cookies created
 
   reached_alike : (number : ℕ) (line : List ℕ) (known : Option (List ℕ)) → IsReachedAt makes number line known → IsReachedAt yields number line known
-  reached_alike number line known (before, cookies, made, is, first) = (before, cookies, cookies_alike before cookies made, is, first)
+  reached_alike number line known (before, cookies, created, is, first) = (before, cookies, cookies_alike before cookies created, is, first)
 
   ends_within_alike : (bytes : List ℕ) → EndsWithinLine makes bytes → EndsWithinLine yields bytes
-  ends_within_alike bytes (front, part, before, cookies, split, none, are_lines, made) =
-      (front, part, before, cookies, split, none, are_lines, cookies_alike before cookies made)
+  ends_within_alike bytes (front, part, before, cookies, split, none, are_lines, created) =
+      (front, part, before, cookies, split, none, are_lines, cookies_alike before cookies created)
 
   stops_within_alike : (rest : Option (List ℕ)) (reads_left reads_left' : ℕ) (text : List ℕ)
       → StopsWithinLine makes rest reads_left reads_left' text → StopsWithinLine yields rest reads_left reads_left' text
   stops_within_alike rest reads_left reads_left' text (given, left, split, known, ends, brought) =
       (given, left, split, known, ends_within_alike given ends, brought)
 
-  pub builds_alike : (known : Option (List ℕ)) (include_expired : Bool) (now : Moment) (loaded : Kept)
+  pub builds_alike : (known : Option (List ℕ)) (include_expired : Bool) (now : Moment) (loaded : RowsInOrder)
       → BuildsFrom makes known include_expired now loaded → BuildsFrom yields known include_expired now loaded
-  builds_alike known include_expired now loaded (texts, cookies, made, are_built, known_lines) =
-      (texts, cookies, cookies_alike texts cookies made, are_built, known_lines)
+  builds_alike known include_expired now loaded (texts, cookies, created, are_built, known_lines) =
+      (texts, cookies, cookies_alike texts cookies created, are_built, known_lines)
 
-  pub stops_alike : (fault : LoadFault) (known rest : Option (List ℕ)) (failures failures' reads_left reads_left' : ℕ)
+  pub stops_alike : (fault : LoadError) (known rest : Option (List ℕ)) (failures failures' reads_left reads_left' : ℕ)
       → StopsLoading makes fault known rest failures failures' reads_left reads_left'
       → StopsLoading yields fault known rest failures failures' reads_left reads_left'
   stops_alike (Line number error) known rest failures failures' reads_left reads_left' (line, fails, reached, count) =
@@ -61,7 +61,7 @@ module _ {makes yields : List ℕ → Result Row Error → Type 0}
 pub loaded_alike : {F : Type 0} (g : Shared F (Bor (List ℕ) × Unit {0}) (Result Row Error)) (f : F)
     (yields : List ℕ → Result Row Error → Type 0)
     → ((line : List ℕ) (answer : Result Row Error) → FnReturnsAt g f line answer → yields line answer)
-    → (result : Result Kept LoadFault) (known rest : Option (List ℕ)) (failures failures' reads_left reads_left' : ℕ)
+    → (result : Result RowsInOrder LoadError) (known rest : Option (List ℕ)) (failures failures' reads_left reads_left' : ℕ)
     → (include_expired : Bool) (now : Moment)
     → IfErr result (λ fault. StopsLoading (FnReturnsAt g f) fault known rest failures failures' reads_left reads_left')
     → IfOk result (λ loaded. BuildsFrom (FnReturnsAt g f) known include_expired now loaded)

@@ -8,12 +8,12 @@ use Rattle.cookie_device.specs.Lines.{EndsLine, IsLastLine}
 use Rattle.cookie_words.specs.Moments.{Moment}
 use Rattle.cookie_parts.specs.Cookie.{Row}
 use Rattle.cookie_parts.specs.declared.error.Error.{Error}
-use Rattle.cookie_store.specs.LoadFault.{number_behind}
-use Rattle.cookie_store.specs.Loading.{AreCookies, MakesCookie, RefusesLine, StopsWithinLine, TakesLine}
-use Rattle.cookie_laws.specs.Rows.{Kept, built}
+use Rattle.cookie_store.specs.LoadError.{number_behind}
+use Rattle.cookie_store.specs.Loading.{AreCookies, ParsesToCookie, RejectsLine, StopsWithinLine, InsertsLine}
+use Rattle.cookie_laws.specs.Rows.{RowsInOrder, built}
 
 -- no rows are built from no cookies
-pub built_none : (include_expired : Bool) (now : Moment) → record { rows = []; made = [] } ≡ built include_expired now []
+pub built_none : (include_expired : Bool) (now : Moment) → record { rows = []; created = [] } ≡ built include_expired now []
 built_none true now = refl
 built_none false now = refl
 
@@ -31,21 +31,21 @@ grown old new starts = sym (take-append-drop (length old) new) ∙ ap (λ xs. xs
 
 module _ (makes : List ℕ → Result Row Error → Type 0) where
   -- a cookie that the function returns for a line is one that it makes of it
-  pub made : (line : List ℕ) (answer : Result Row Error) → IsTrue (is_utf8 line) → makes line answer
-      → IfOk answer (λ cookie. MakesCookie makes line cookie)
-  made line (Ok cookie) valid answers = (valid, answers)
-  made line (Err error) valid answers = tt
+  pub created : (line : List ℕ) (answer : Result Row Error) → IsTrue (is_utf8 line) → makes line answer
+      → IfOk answer (λ cookie. ParsesToCookie makes line cookie)
+  created line (Ok cookie) valid answers = (valid, answers)
+  created line (Err error) valid answers = tt
 
   -- and if it returns an error, the line is rejected
   pub refused : (line : List ℕ) (answer : Result Row Error) → IsTrue (is_utf8 line) → makes line answer
-      → IfErr answer (λ error. RefusesLine makes error line)
+      → IfErr answer (λ error. RejectsLine makes error line)
   refused line (Ok cookie) valid answers = tt
   refused line (Err error) valid answers = inr (valid, answers)
 
   -- each line that is loaded adds one cookie
-  pub taken_built : (line : List ℕ) (include_expired : Bool) (now : Moment) (old new : Kept) (cookies : List Row)
-      → TakesLine makes line include_expired now old new → old ≡ built include_expired now cookies
-      → (cookie : Row) × MakesCookie makes line cookie × (new ≡ built include_expired now (cookies ++ cookie ∷ []))
+  pub taken_built : (line : List ℕ) (include_expired : Bool) (now : Moment) (old new : RowsInOrder) (cookies : List Row)
+      → InsertsLine makes line include_expired now old new → old ≡ built include_expired now cookies
+      → (cookie : Row) × ParsesToCookie makes line cookie × (new ≡ built include_expired now (cookies ++ cookie ∷ []))
   taken_built line include_expired now old new cookies (cookie, makes_it, taken) are_built = (
     cookie,
     makes_it,

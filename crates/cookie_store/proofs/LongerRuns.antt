@@ -14,4 +14,4 @@ pub replies_more : (calls : List Call) (call : Call) (store : Contents)
     → replies (calls ++ call ∷ []) store ≡ replies calls store ++ (step call (store_after calls store)).reply ∷ []
 replies_more [] call store = refl
 replies_more (first ∷ calls) call store =
-    ap (λ told. (step first store).reply ∷ told) (replies_more calls call (step first store).store)
+    ap (λ reported. (step first store).reply ∷ reported) (replies_more calls call (step first store).store)

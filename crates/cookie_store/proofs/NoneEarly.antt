@@ -10,21 +10,21 @@ use Rattle.serde_json.specs.Data.{Data}
 use Rattle.serde_json.specs.Read.{read}
 use Rattle.serde_json.specs.Written.{has_float}
 use Rattle.cookie_words.specs.Moments.{Moment}
-use Rattle.cookie_forms.specs.MomentText.{fraction_of, moment_at, number_in}
-use Rattle.cookie_forms.specs.ReadTrees.{ends_at, parts_in, saved_at, then_read, with_moment}
+use Rattle.cookie_forms.specs.MomentText.{fraction_of, parsed_moment, number_in}
+use Rattle.cookie_forms.specs.FromJson.{parsed_expiry, parts_in, saved_at, then_read, with_parsed_expiry}
 use Rattle.cookie_forms.specs.Saved.{Parts}
-use Rattle.cookie_forms.specs.WrittenTrees.{ends_early, is_early}
+use Rattle.cookie_forms.specs.ToJson.{expires_early, is_early}
 use Rattle.cookie_forms.specs.declared.error.SavedError.{SavedError}
-use Rattle.cookie_forms.specs.declared.error.SavedError.TheVariants as Fault
+use Rattle.cookie_forms.specs.declared.error.SavedError.TheVariants as ErrorCase
 use Rattle.cookie_forms.specs.declared.error.SavedError.TheVariants.{Json}
 use Rattle.cookie_parts.specs.Cookie.{Row, and_then, raw_cookie}
-use Rattle.cookie_parts.specs.Passage.{cookie_of_saved, domain_of_saved, end_of_saved, saved_end, saved_of}
+use Rattle.cookie_parts.specs.SavedConversion.{cookie_of_saved, domain_of_saved, expires_of_saved, saved_expires, saved_of}
 use Rattle.cookie_parts.specs.declared.cookie_error.CookieError.{CookieError}
 use Rattle.cookie_parts.specs.declared.error.Error.{Error}
 use Rattle.cookie_parts.specs.declared.error.Error.TheVariants.{Cookie, Saved}
 use Rattle.cookie_laws.specs.Rows.{after_last, changed, has_key, in_domain, in_group, key_of, placed, put, put_all, replaced}
 use Rattle.cookie_raw.specs.Raw.{Raw}
-use Rattle.cookie_store.specs.JsonLines.{tree_cookie, MakesJson}
+use Rattle.cookie_store.specs.JsonLines.{tree_cookie, JsonParsesTo}
 use Rattle.cookie_store.specs.Loading.{AreCookies}
 use Rattle.cookie_store.specs.Migration.{HaveSavedForms}
 
@@ -32,8 +32,8 @@ use Rattle.cookie_store.specs.Migration.{HaveSavedForms}
 none_before : (n : ℕ) → int_lt (pos n) (pos 0) ≡ false
 none_before n = grind (arith, nat_tests)
 
-read_from_zero : (text : List ℕ) (m : Moment) → moment_at text ≡ Some m → int_lt m.year (pos 0) ≡ false
-unfolding moment_at
+read_from_zero : (text : List ℕ) (m : Moment) → parsed_moment text ≡ Some m → int_lt m.year (pos 0) ≡ false
+unfolding parsed_moment
 read_from_zero text m is =
     option_and_then_some _ (number_in text 0 4) m is (λ year _ is.
     option_and_then_some _ (number_in text 5 2) m is (λ month _ is.
@@ -45,32 +45,32 @@ read_from_zero text m is =
     subst (λ (m : Moment). int_lt m.year (pos 0) ≡ false) (cond_some _ _ m is).1 (none_before year))))))))
 
 read_end : (moment : Option Moment) (end : Option Moment) → ((m : Moment) → moment ≡ Some m → int_lt m.year (pos 0) ≡ false)
-    → option_map (λ m. Some m) moment ≡ Some end → ends_early end ≡ false
+    → option_map (λ m. Some m) moment ≡ Some end → expires_early end ≡ false
 read_end None end early is = absurd (cc)
 read_end (Some m) None early is = refl
 read_end (Some m) (Some n) early is = let same : m ≡ n = cc in subst (λ (m : Moment). int_lt m.year (pos 0) ≡ false) same (early m refl)
 
-ends_late : (ends : Option (List ℕ)) (end : Option Moment) → ends_at ends ≡ Some end → ends_early end ≡ false
+ends_late : (ends : Option (List ℕ)) (end : Option Moment) → parsed_expiry ends ≡ Some end → expires_early end ≡ false
 ends_late None None is = refl
 ends_late None (Some m) is = absurd (cc)
-ends_late (Some text) end is = read_end (moment_at text) end (read_from_zero text) is
+ends_late (Some text) end is = read_end (parsed_moment text) end (read_from_zero text) is
 
-of_moment : (parts : Parts (List ℕ)) (ends : Option (Option Moment)) (saved : Parts Moment) → ((end : Option Moment) → ends ≡ Some end → ends_early end ≡ false)
+of_moment : (parts : Parts (List ℕ)) (ends : Option (Option Moment)) (saved : Parts Moment) → ((end : Option Moment) → ends ≡ Some end → expires_early end ≡ false)
     → option_map (λ end. record { raw_cookie = parts.raw_cookie; path = parts.path; from_attr = parts.from_attr; domain = parts.domain; ends = end }) ends ≡ Some saved
     → is_early saved ≡ false
 of_moment parts None saved late is = absurd (cc)
-of_moment parts (Some end) saved late is = let same : end ≡ saved.ends = cc in subst (λ e. ends_early e ≡ false) same (late end refl)
+of_moment parts (Some end) saved late is = let same : end ≡ saved.ends = cc in subst (λ e. expires_early e ≡ false) same (late end refl)
 
-of_parts : (parts : Option (Parts (List ℕ))) (saved : Parts Moment) → then_read with_moment parts ≡ Ok saved → is_early saved ≡ false
+of_parts : (parts : Option (Parts (List ℕ))) (saved : Parts Moment) → then_read with_parsed_expiry parts ≡ Ok saved → is_early saved ≡ false
 of_parts None saved is = absurd (cc)
-of_parts (Some parts) saved is = of_moment parts (ends_at parts.ends) saved (ends_late parts.ends) (read_ok (with_moment parts) saved is)
+of_parts (Some parts) saved is = of_moment parts (parsed_expiry parts.ends) saved (ends_late parts.ends) (read_ok (with_parsed_expiry parts) saved is)
   where
-    read_ok : (read : Option (Parts Moment)) (saved : Parts Moment) → ok_or read Fault.Moment ≡ Ok saved → read ≡ Some saved
+    read_ok : (read : Option (Parts Moment)) (saved : Parts Moment) → ok_or read ErrorCase.Moment ≡ Ok saved → read ≡ Some saved
     read_ok None saved is = absurd (cc)
     read_ok (Some other) saved is = let same : other ≡ saved = cc in ap Some same
 
 of_tree : (float : Bool) (parts : Option (Parts (List ℕ))) (saved : Parts Moment)
-    → (if float then Err Fault.Shape else then_read with_moment parts) ≡ Ok saved → is_early saved ≡ false
+    → (if float then Err ErrorCase.Shape else then_read with_parsed_expiry parts) ≡ Ok saved → is_early saved ≡ false
 of_tree true parts saved is = absurd (cc)
 of_tree false parts saved is = of_parts parts saved is
 
@@ -78,7 +78,7 @@ of_tree false parts saved is = of_parts parts saved is
 of_saved_tree : (tree : Data) (saved : Parts Moment) → saved_at tree ≡ Ok saved → is_early saved ≡ false
 of_saved_tree tree saved is = of_tree (has_float tree) (parts_in tree) saved is
 
-ends_back : (ends : Option Moment) → saved_end (end_of_saved ends) ≡ ends
+ends_back : (ends : Option Moment) → saved_expires (expires_of_saved ends) ≡ ends
 ends_back None = refl
 ends_back (Some end) = refl
 
@@ -88,19 +88,19 @@ of_raw : (raw : Result Raw CookieError) (saved : Parts Moment) (cookie : Row) �
       raw = raw;
       domain = domain_of_saved saved.domain;
       path = record { text = saved.path; is_from_attribute = saved.from_attr };
-      expires = end_of_saved saved.ends;
+      expires = expires_of_saved saved.ends;
     })) ≡ Ok cookie → is_early (saved_of cookie) ≡ false
 of_raw (Err refusal) saved cookie late is = absurd (cc)
 of_raw (Ok raw) saved cookie late is =
-    let same : end_of_saved saved.ends ≡ cookie.expires = cc in
-    subst (λ end. ends_early (saved_end end) ≡ false) same (rw (ends_back saved.ends) late)
+    let same : expires_of_saved saved.ends ≡ cookie.expires = cc in
+    subst (λ end. expires_early (saved_expires end) ≡ false) same (rw (ends_back saved.ends) late)
 
-of_cookie : (told : Result Row CookieError) (cookie : Row) → result_map_both (λ cookie. cookie) Cookie told ≡ Ok cookie → told ≡ Ok cookie
+of_cookie : (reported : Result Row CookieError) (cookie : Row) → result_map_both (λ cookie. cookie) Cookie reported ≡ Ok cookie → reported ≡ Ok cookie
 of_cookie (Ok other) cookie is = let same : other ≡ cookie = cc in ap Ok same
 of_cookie (Err refusal) cookie is = absurd (cc)
 
-of_saved : (told : Result (Parts Moment) SavedError) (cookie : Row) → ((saved : Parts Moment) → told ≡ Ok saved → is_early saved ≡ false)
-    → and_then (result_map_both (λ saved. saved) Saved told) (λ saved. result_map_both (λ cookie. cookie) Cookie (cookie_of_saved saved)) ≡ Ok cookie
+of_saved : (reported : Result (Parts Moment) SavedError) (cookie : Row) → ((saved : Parts Moment) → reported ≡ Ok saved → is_early saved ≡ false)
+    → and_then (result_map_both (λ saved. saved) Saved reported) (λ saved. result_map_both (λ cookie. cookie) Cookie (cookie_of_saved saved)) ≡ Ok cookie
     → is_early (saved_of cookie) ≡ false
 of_saved (Err fault) cookie late is = absurd (cc)
 of_saved (Ok saved) cookie late is =
@@ -117,10 +117,10 @@ abbrev ends_before : Row → Bool
 ends_before row = is_early (saved_of row)
 
 -- no cookie loaded from lines does
-none_made : (texts : List (List ℕ)) (cookies : List Row) → AreCookies MakesJson texts cookies → list_any ends_before cookies ≡ false
-none_made [] [] made = refl
-none_made [] (cookie ∷ cookies) made = absurd made
-none_made (text ∷ texts) [] made = absurd made
+none_made : (texts : List (List ℕ)) (cookies : List Row) → AreCookies JsonParsesTo texts cookies → list_any ends_before cookies ≡ false
+none_made [] [] created = refl
+none_made [] (cookie ∷ cookies) created = absurd created
+none_made (text ∷ texts) [] created = absurd created
 none_made (text ∷ texts) (cookie ∷ cookies) ((valid, is), others) =
     rw (of_read (read text) cookie is, none_made texts cookies others) refl
 
@@ -165,5 +165,5 @@ of_forms [] = refl
 of_forms (row ∷ rows) = ap (λ b. ends_before row || b) (of_forms rows)
 
 -- so no row built from such cookies does
-pub none_built : (texts : List (List ℕ)) (cookies : List Row) → AreCookies MakesJson texts cookies → HaveSavedForms (put_all [] cookies)
-none_built texts cookies made = of_forms (put_all [] cookies) ∙ none_put_all ends_before [] cookies refl (none_made texts cookies made)
+pub none_built : (texts : List (List ℕ)) (cookies : List Row) → AreCookies JsonParsesTo texts cookies → HaveSavedForms (put_all [] cookies)
+none_built texts cookies created = of_forms (put_all [] cookies) ∙ none_put_all ends_before [] cookies refl (none_made texts cookies created)

@@ -6,31 +6,31 @@ use Rattle.std.specs.declared.alloc.Global.{Global}
 use Rattle.std.specs.declared.string.String.{String}
 use Rattle.cookie_raw.specs.CookieText.{cookie_text}
 use Rattle.cookie_raw.specs.Reading.{reading}
-use Rattle.cookie_forms.specs.ReadTrees.{cut}
+use Rattle.cookie_forms.specs.FromJson.{cut}
 use Rattle.cookie_forms.specs.Saved.{saved_view}
 use Rattle.cookie_forms.specs.declared.error.SavedError.{SavedError}
 use Rattle.cookie_forms.specs.declared.saved.Saved.{Saved}
 use Rattle.cookie_ron.specs.Printed.{ron_written}
-use Rattle.cookie_ron.specs.RonLists.{SaysRon}
+use Rattle.cookie_ron.specs.RonLists.{RonParsesTo}
 use Rattle.cookie_parts.specs.Cookie.{Row}
-use Rattle.cookie_parts.specs.Passage.{cookie_of_saved, saved_of}
+use Rattle.cookie_parts.specs.SavedConversion.{cookie_of_saved, saved_of}
 use Rattle.cookie_store.specs.Cuts.{cut_rows, ReadsBack}
-use Rattle.cookie_store.specs.RonLists.{RonCookies, SaysListText, SaysRonList}
+use Rattle.cookie_store.specs.RonLists.{RonCookies, SerializesToText, SerializesToRonList}
 use Rattle.cookie_store.specs.Saving.{line_text}
 use Rattle.cookie_store.proofs.CutRows.{cookies_cut, forms_of}
 
 -- the string that is saved is that of the list
-text_said : (told : Result (List ℕ) SavedError) (text : String Global) → SaysListText told (Ok text) → told ≡ Ok (string_bytes text)
+text_said : (reported : Result (List ℕ) SavedError) (text : String Global) → SerializesToText reported (Ok text) → reported ≡ Ok (string_bytes text)
 text_said (Ok written) text says = ap Ok (sym says)
 text_said (Err fault) text says = absurd (cc)
 
-module _ (comes_back : (cookie : Row) → reading (cookie_text cookie.raw) ≡ Ok cookie.raw → cookie_of_saved (saved_of cookie) ≡ Ok cookie)
+module _ (survives_saving : (cookie : Row) → reading (cookie_text cookie.raw) ≡ Ok cookie.raw → cookie_of_saved (saved_of cookie) ≡ Ok cookie)
     (reads_back : (list : List Saved) (text : List ℕ) → ron_written (map saved_view list) ≡ Ok text
-    → SaysRon (text ++ 10 ∷ []) (Ok (map cut (map saved_view list)))) where
-  pub ron_back : (rows : List Row) (text : String Global) → All ReadsBack rows → SaysRonList rows (Ok text)
+    → RonParsesTo (text ++ 10 ∷ []) (Ok (map cut (map saved_view list)))) where
+  pub ron_back : (rows : List Row) (text : String Global) → All ReadsBack rows → SerializesToRonList rows (Ok text)
       → RonCookies (line_text text) (Ok (cut_rows rows))
   ron_back rows text all says =
       let forms = forms_of rows all in
       let written = ap ron_written forms.1 ∙ text_said (ron_written (map saved_of rows)) text says in
-      let told = subst (λ list. SaysRon (line_text text) (Ok (map cut list))) forms.1 (reads_back forms.0 (string_bytes text) written) in
-      (Ok (map cut (map saved_of rows)), told, rw (cookies_cut comes_back rows all) refl)
+      let reported = subst (λ list. RonParsesTo (line_text text) (Ok (map cut list))) forms.1 (reads_back forms.0 (string_bytes text) written) in
+      (Ok (map cut (map saved_of rows)), reported, rw (cookies_cut survives_saving rows all) refl)

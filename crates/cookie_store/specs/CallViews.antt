@@ -26,11 +26,11 @@ reply_view (Removed cookie) = Runs.Removed cookie
 reply_view Cleared = Runs.Cleared
 
 -- whether a call may run out of memory: `Set` unless rejected early, `Insert` if the cookie would be inserted
-abbrev pub MayWant : Runs.Call → Runs.Reply → Type 0
-MayWant (Runs.Set text url now) reply = early (reading text) url ≡ None
-MayWant (Runs.Insert cookie url now) reply = reply ≡ Runs.Stored (Ok Inserted)
-MayWant (Runs.Remove key) reply = ⊥
-MayWant Runs.Clear reply = ⊥
+abbrev pub MayAllocate : Runs.Call → Runs.Reply → Type 0
+MayAllocate (Runs.Set text url now) reply = early (reading text) url ≡ None
+MayAllocate (Runs.Insert cookie url now) reply = reply ≡ Runs.Stored (Ok Inserted)
+MayAllocate (Runs.Remove key) reply = ⊥
+MayAllocate Runs.Clear reply = ⊥
 
 -- the first `count` calls were executed, the replies are theirs, and the store is the one after them
 abbrev pub StopsAfter : Declared.Stopped.Stopped → List Runs.Call → Contents → Contents → Type 0
@@ -43,7 +43,7 @@ StopsAfter stopped calls old new =
 abbrev pub StopsAt : ℕ → List Runs.Call → Contents → Type 0
 StopsAt count calls store =
     ((count ≡ 0) × (0 < length calls))
-    ⊎ ((call : Runs.Call) × (slice_get calls count ≡ Some call) × MayWant call (step call store).reply)
+    ⊎ ((call : Runs.Call) × (slice_get calls count ≡ Some call) × MayAllocate call (step call store).reply)
 
 -- the error as `Display` prints it
 abbrev pub stopped_text : Declared.Stopped.Stopped → List ℕ

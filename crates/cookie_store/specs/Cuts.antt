@@ -7,7 +7,7 @@ use Rattle.cookie_forms.specs.Saved.{saved_view}
 use Rattle.cookie_forms.specs.declared.saved.Saved.{Saved}
 use Rattle.cookie_parts.specs.Cookie.{Row}
 use Rattle.cookie_parts.specs.Expiry.{Expiry, AtUtc, SessionEnd}
-use Rattle.cookie_parts.specs.Passage.{saved_of}
+use Rattle.cookie_parts.specs.SavedConversion.{saved_of}
 
 -- the row has a saved form, and the string of its raw cookie parses as that raw cookie
 abbrev pub ReadsBack : Row → Type 0

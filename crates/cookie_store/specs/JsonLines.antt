@@ -6,24 +6,24 @@ use Rattle.std.specs.declared.string.String.{String}
 use Rattle.serde_json.specs.Data.{Data}
 use Rattle.serde_json.specs.Read.{read}
 use Rattle.serde_json.specs.Written.{compact_text}
-use Rattle.cookie_forms.specs.ReadTrees.{saved_at}
-use Rattle.cookie_forms.specs.WrittenTrees.{written}
+use Rattle.cookie_forms.specs.FromJson.{saved_at}
+use Rattle.cookie_forms.specs.ToJson.{written}
 use Rattle.cookie_forms.specs.declared.error.SavedError.{SavedError}
 use Rattle.cookie_forms.specs.declared.error.SavedError.TheVariants.{Json}
 use Rattle.cookie_parts.specs.Cookie.{Row, and_then}
-use Rattle.cookie_parts.specs.Passage.{cookie_of_saved, saved_of}
+use Rattle.cookie_parts.specs.SavedConversion.{cookie_of_saved, saved_of}
 use Rattle.cookie_parts.specs.declared.error.Error.{Error}
 use Rattle.cookie_parts.specs.declared.error.Error.TheVariants.{Cookie, Memory, Saved}
 
 -- the result of writing a JSON value: its compact string, which reads as the value, or `Memory`; the error if there is no value
-abbrev pub SaysTree : Result Data SavedError → Result (String Global) Error → Type 0
-SaysTree (Ok tree) (Ok text) = (string_bytes text ≡ compact_text tree) × (read (string_bytes text) ≡ Some tree)
-SaysTree (Ok tree) (Err error) = error ≡ Memory
-SaysTree (Err fault) answer = answer ≡ Err (Saved fault)
+abbrev pub SerializesToLine : Result Data SavedError → Result (String Global) Error → Type 0
+SerializesToLine (Ok tree) (Ok text) = (string_bytes text ≡ compact_text tree) × (read (string_bytes text) ≡ Some tree)
+SerializesToLine (Ok tree) (Err error) = error ≡ Memory
+SerializesToLine (Err fault) answer = answer ≡ Err (Saved fault)
 
 -- the result of writing a row: the JSON value of its saved form
-abbrev pub SaysJson : Row → Result (String Global) Error → Type 0
-SaysJson row answer = SaysTree (written (saved_of row)) answer
+abbrev pub SerializesToJson : Row → Result (String Global) Error → Type 0
+SerializesToJson row answer = SerializesToLine (written (saved_of row)) answer
 
 -- the cookie of a JSON value that is a saved form, or the error
 abbrev pub tree_cookie : Data → Result Row Error
@@ -36,6 +36,6 @@ abbrev pub json_cookie : List ℕ → Result Row Error
 json_cookie text = elim (read text) [ None ↦ Err (Saved Json) | Some tree ↦ tree_cookie tree ]
 
 -- the result of reading a line: its cookie or the error, or `Memory`, but not for an empty line
-abbrev pub MakesJson : List ℕ → Result Row Error → Type 0
-MakesJson line (Ok cookie) = json_cookie line ≡ Ok cookie
-MakesJson line (Err error) = (json_cookie line ≡ Err error) ⊎ ((error ≡ Memory) × (line ≢ []))
+abbrev pub JsonParsesTo : List ℕ → Result Row Error → Type 0
+JsonParsesTo line (Ok cookie) = json_cookie line ≡ Ok cookie
+JsonParsesTo line (Err error) = (json_cookie line ≡ Err error) ⊎ ((error ≡ Memory) × (line ≢ []))

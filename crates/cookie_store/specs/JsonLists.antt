@@ -4,27 +4,27 @@ use Rattle.std.specs.declared.alloc.Global.{Global}
 use Rattle.std.specs.declared.string.String.{String}
 use Rattle.serde_json.specs.Data.{Data}
 use Rattle.serde_json.specs.Read.{read}
-use Rattle.cookie_forms.specs.ReadTrees.{list_at}
+use Rattle.cookie_forms.specs.FromJson.{list_at}
 use Rattle.cookie_forms.specs.Texts.{pretty_text}
-use Rattle.cookie_forms.specs.WrittenTrees.{list_written}
+use Rattle.cookie_forms.specs.ToJson.{list_written}
 use Rattle.cookie_forms.specs.declared.error.SavedError.{SavedError}
 use Rattle.cookie_forms.specs.declared.error.SavedError.TheVariants.{Json}
 use Rattle.cookie_parts.specs.Cookie.{Row}
-use Rattle.cookie_parts.specs.Passage.{saved_of}
+use Rattle.cookie_parts.specs.SavedConversion.{saved_of}
 use Rattle.cookie_parts.specs.declared.error.Error.{Error}
 use Rattle.cookie_parts.specs.declared.error.Error.TheVariants.{Memory, Saved}
 use Rattle.cookie_store.specs.SavedForms.{read_cookies}
 
 -- the result of writing the JSON value of a list: its string with a line for each item and member, which reads as the value, or
 -- `Memory`; the error if there is no value
-abbrev pub SaysListTree : Result Data SavedError → Result (String Global) Error → Type 0
-SaysListTree (Ok tree) (Ok text) = (string_bytes text ≡ pretty_text tree) × (read (string_bytes text) ≡ Some tree)
-SaysListTree (Ok tree) (Err error) = error ≡ Memory
-SaysListTree (Err fault) answer = answer ≡ Err (Saved fault)
+abbrev pub SerializesToLines : Result Data SavedError → Result (String Global) Error → Type 0
+SerializesToLines (Ok tree) (Ok text) = (string_bytes text ≡ pretty_text tree) × (read (string_bytes text) ≡ Some tree)
+SerializesToLines (Ok tree) (Err error) = error ≡ Memory
+SerializesToLines (Err fault) answer = answer ≡ Err (Saved fault)
 
 -- the result of writing rows: the JSON array of their saved forms
-abbrev pub SaysJsonList : List Row → Result (String Global) Error → Type 0
-SaysJsonList rows answer = SaysListTree (list_written (map saved_of rows)) answer
+abbrev pub SerializesToJsonList : List Row → Result (String Global) Error → Type 0
+SerializesToJsonList rows answer = SerializesToLines (list_written (map saved_of rows)) answer
 
 -- the cookies of a JSON value that is a list of saved forms, or the error
 abbrev pub tree_cookies : Data → Result (List Row) Error
@@ -35,6 +35,6 @@ abbrev pub json_cookies : List ℕ → Result (List Row) Error
 json_cookies text = elim (read text) [ None ↦ Err (Saved Json) | Some tree ↦ tree_cookies tree ]
 
 -- the result of reading a string: its cookies or the error, or `Memory`, but not for an empty string
-abbrev pub MakesJsonList : List ℕ → Result (List Row) Error → Type 0
-MakesJsonList text (Ok cookies) = json_cookies text ≡ Ok cookies
-MakesJsonList text (Err error) = (json_cookies text ≡ Err error) ⊎ ((error ≡ Memory) × (text ≢ []))
+abbrev pub JsonListParsesTo : List ℕ → Result (List Row) Error → Type 0
+JsonListParsesTo text (Ok cookies) = json_cookies text ≡ Ok cookies
+JsonListParsesTo text (Err error) = (json_cookies text ≡ Err error) ⊎ ((error ≡ Memory) × (text ≢ []))

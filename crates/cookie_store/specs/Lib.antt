@@ -10,11 +10,11 @@ pub use Rattle.cookie_rows.specs.Building
 pub use Rattle.cookie_rows.specs.Requests
 pub mod CallViews
 pub mod Cuts
-pub mod Forms
+pub mod ListFormats
 pub mod JsonLines
 pub mod JsonLists
 pub mod Lists
-pub mod LoadFault
+pub mod LoadError
 pub mod Loading
 pub mod Migration
 pub mod Responses

@@ -8,11 +8,11 @@ use Rattle.std.specs.declared.alloc.Global.{Global}
 use Rattle.std.specs.declared.string.String.{String}
 use Rattle.std.specs.declared.vec.Vec.{Vec}
 use Rattle.cookie_words.specs.Moments.{Moment}
-use Rattle.cookie_device.specs.Device.{AppendsBeginning}
+use Rattle.cookie_device.specs.Device.{AppendsPrefix}
 use Rattle.cookie_parts.specs.Cookie.{Row}
 use Rattle.cookie_parts.specs.declared.error.Error.{Error}
 use Rattle.cookie_parts.specs.declared.error.Error.TheVariants.{Io, Memory, NotUtf8}
-use Rattle.cookie_laws.specs.Rows.{Kept, built}
+use Rattle.cookie_laws.specs.Rows.{RowsInOrder, built}
 use Rattle.cookie_store.specs.Saving.{line_text}
 
 module _ (says : List Row → Result (String Global) Error → Type 0) where
@@ -25,12 +25,12 @@ module _ (says : List Row → Result (String Global) Error → Type 0) where
   abbrev pub FailsToSaveList : Error → List Row → Option (List ℕ) → Option (List ℕ) → ℕ → ℕ → Type 0
   FailsToSaveList error rows old new failures failures' =
       (says rows (Err error) × Keeps old new × (failures' ≡ failures))
-      ⊎ ((text : String Global) × says rows (Ok text) × AppendsBeginning old new (line_text text)
+      ⊎ ((text : String Global) × says rows (Ok text) × AppendsPrefix old new (line_text text)
       × (error ≡ Io) × (failures' ≡ failures + 1))
 
 -- the result of a function on copies of the rows, or out of memory for the copies
-abbrev pub SaysOfCopies : (Vec Row Global → Result (String Global) Error → Type 0) → List Row → Result (String Global) Error → Type 0
-SaysOfCopies says rows answer =
+abbrev pub SerializesCopies : (Vec Row Global → Result (String Global) Error → Type 0) → List Row → Result (String Global) Error → Type 0
+SerializesCopies says rows answer =
     ((copies : Vec Row Global) × (copies.items ≡ rows) × says copies answer) ⊎ ((answer ≡ Err Memory) × (rows ≢ []))
 
 -- these are all bytes of the source, if they are known
@@ -39,24 +39,24 @@ IsAll known text = IfSome known (λ all. all ≡ text)
 
 module _ (makes : List ℕ → Result (List Row) Error → Type 0) where
   -- the bytes are UTF-8, and the function may return these cookies for them
-  abbrev pub MakesCookies : List ℕ → List Row → Type 0
-  MakesCookies text cookies = IsTrue (is_utf8 text) × makes text (Ok cookies)
+  abbrev pub ParsesToCookies : List ℕ → List Row → Type 0
+  ParsesToCookies text cookies = IsTrue (is_utf8 text) × makes text (Ok cookies)
 
   -- the bytes are not UTF-8, or the function returns an error
-  abbrev pub RefusesText : Error → List ℕ → Type 0
-  RefusesText error text = ((is_utf8 text ≡ false) × (error ≡ NotUtf8)) ⊎ (IsTrue (is_utf8 text) × makes text (Err error))
+  abbrev pub RejectsText : Error → List ℕ → Type 0
+  RejectsText error text = ((is_utf8 text ≡ false) × (error ≡ NotUtf8)) ⊎ (IsTrue (is_utf8 text) × makes text (Err error))
 
   -- the rows built from the cookies of all bytes of the source
-  abbrev pub BuildsFromList : Option (List ℕ) → Bool → Moment → Kept → Type 0
+  abbrev pub BuildsFromList : Option (List ℕ) → Bool → Moment → RowsInOrder → Type 0
   BuildsFromList known include_expired now kept =
-      (text : List ℕ) × (cookies : List Row) × IsAll known text × MakesCookies text cookies
+      (text : List ℕ) × (cookies : List Row) × IsAll known text × ParsesToCookies text cookies
       × (kept ≡ built include_expired now cookies)
 
   -- all bytes were read: they are rejected, or it ran out of memory for their cookies
-  abbrev pub RefusesList : Error → Option (List ℕ) → Type 0
-  RefusesList error known =
+  abbrev pub RejectsList : Error → Option (List ℕ) → Type 0
+  RejectsList error known =
       (text : List ℕ) × IsAll known text
-      × (RefusesText error text ⊎ ((error ≡ Memory) × (cookies : List Row) × MakesCookies text cookies × (cookies ≢ [])))
+      × (RejectsText error text ⊎ ((error ≡ Memory) × (cookies : List Row) × ParsesToCookies text cookies × (cookies ≢ [])))
 
 -- reading stopped within the bytes, after at most as many reads as bytes were read; the other bytes are left
 abbrev pub StopsWithin : Option (List ℕ) → ℕ → ℕ → List ℕ → Type 0
@@ -66,12 +66,12 @@ StopsWithin rest reads_left reads_left' text =
 -- all bytes were read and loading failed; or reading stopped: a read failed, which added one to the failures, or it ran out of memory
 abbrev pub FailsToLoadList : (List ℕ → Result (List Row) Error → Type 0) → Error → Option (List ℕ) → Option (List ℕ) → ℕ → ℕ → ℕ → ℕ → Type 0
 FailsToLoadList makes error known rest failures failures' reads_left reads_left' =
-    (RefusesList makes error known × IsAtEnd rest × (failures' ≡ failures))
+    (RejectsList makes error known × IsAtEnd rest × (failures' ≡ failures))
     ⊎ (IfSome known (StopsWithin rest reads_left reads_left')
     × (((error ≡ Io) × (failures' ≡ failures + 1)) ⊎ ((error ≡ Memory) × (failures' ≡ failures))))
 
 -- the result of a function that returns a vector
-abbrev pub MakesVec : (List ℕ → Result (Vec Row Global) Error → Type 0) → List ℕ → Result (List Row) Error → Type 0
-MakesVec makes text answer =
-    (told : Result (Vec Row Global) Error) × makes text told
-    × (answer ≡ result_map_both (λ cookies. cookies.items) (λ error. error) told)
+abbrev pub ParsesToVec : (List ℕ → Result (Vec Row Global) Error → Type 0) → List ℕ → Result (List Row) Error → Type 0
+ParsesToVec makes text answer =
+    (reported : Result (Vec Row Global) Error) × makes text reported
+    × (answer ≡ result_map_both (λ cookies. cookies.items) (λ error. error) reported)

@@ -8,25 +8,25 @@ use Rattle.cookie_words.specs.Moments.{Moment}
 use Rattle.cookie_parts.specs.Cookie.{Row}
 use Rattle.cookie_parts.specs.declared.error.Error.{Error}
 use Rattle.cookie_parts.specs.declared.error.Error.TheVariants.{Io, Memory, NotUtf8}
-use Rattle.cookie_laws.specs.Rows.{Kept, built}
+use Rattle.cookie_laws.specs.Rows.{RowsInOrder, built}
 use Rattle.cookie_rows.specs.Building.{TakesCookie}
 
 module _ (makes : List ℕ → Result Row Error → Type 0) where
   -- the line is UTF-8, and the function may return this cookie for it
-  abbrev pub MakesCookie : List ℕ → Row → Type 0
-  MakesCookie line cookie = IsTrue (is_utf8 line) × makes line (Ok cookie)
+  abbrev pub ParsesToCookie : List ℕ → Row → Type 0
+  ParsesToCookie line cookie = IsTrue (is_utf8 line) × makes line (Ok cookie)
 
   -- the line is not UTF-8, or the function returns an error
-  abbrev pub RefusesLine : Error → List ℕ → Type 0
-  RefusesLine error line = ((is_utf8 line ≡ false) × (error ≡ NotUtf8)) ⊎ (IsTrue (is_utf8 line) × makes line (Err error))
+  abbrev pub RejectsLine : Error → List ℕ → Type 0
+  RejectsLine error line = ((is_utf8 line ≡ false) × (error ≡ NotUtf8)) ⊎ (IsTrue (is_utf8 line) × makes line (Err error))
 
   -- loading fails with this error at the line: out of memory for its cookie, or the line is rejected
   abbrev pub FailsAtLine : Error → List ℕ → Type 0
-  FailsAtLine error line = ((error ≡ Memory) × (cookie : Row) × MakesCookie line cookie) ⊎ RefusesLine error line
+  FailsAtLine error line = ((error ≡ Memory) × (cookie : Row) × ParsesToCookie line cookie) ⊎ RejectsLine error line
 
   -- the function may return these cookies for these lines, one for each
   abbrev pub AreCookies : List (List ℕ) → List Row → Type 0
-  AreCookies texts cookies = AllZip MakesCookie texts cookies
+  AreCookies texts cookies = AllZip ParsesToCookie texts cookies
 
   -- a line of the source, and all lines before it are cookies
   abbrev pub IsReached : List ℕ → List ℕ → Type 0
@@ -52,12 +52,12 @@ module _ (makes : List ℕ → Result Row Error → Type 0) where
       × (reads_left ≤ reads_left' + length given)
 
   -- a cookie that the function may return for the line was added to the rows
-  abbrev pub TakesLine : List ℕ → Bool → Moment → Kept → Kept → Type 0
-  TakesLine line include_expired now old new =
-      (cookie : Row) × MakesCookie line cookie × TakesCookie include_expired now cookie old new
+  abbrev pub InsertsLine : List ℕ → Bool → Moment → RowsInOrder → RowsInOrder → Type 0
+  InsertsLine line include_expired now old new =
+      (cookie : Row) × ParsesToCookie line cookie × TakesCookie include_expired now cookie old new
 
   -- the rows built from the cookies of the lines of the source, if its bytes are known
-  abbrev pub BuildsFrom : Option (List ℕ) → Bool → Moment → Kept → Type 0
+  abbrev pub BuildsFrom : Option (List ℕ) → Bool → Moment → RowsInOrder → Type 0
   BuildsFrom known include_expired now kept =
       (texts : List (List ℕ)) × (cookies : List Row) × AreCookies texts cookies
       × (kept ≡ built include_expired now cookies) × IfSome known (λ text. texts ≡ lines text)

@@ -2,27 +2,27 @@
 use Rattle.std.specs.Prelude.{◌≡◌, ℕ, ◌+◌, ◌++◌, true, false, List, map, Option, Some, option_map, Result, IfSome, codes, decimal}
 use Rattle.std.specs.List.{list_any}
 use Rattle.cookie_words.specs.Moments.{epoch}
-use Rattle.cookie_forms.specs.WrittenTrees.{is_early}
+use Rattle.cookie_forms.specs.ToJson.{is_early}
 use Rattle.cookie_parts.specs.Cookie.{Row}
-use Rattle.cookie_parts.specs.Passage.{saved_of}
+use Rattle.cookie_parts.specs.SavedConversion.{saved_of}
 use Rattle.cookie_parts.specs.declared.error.Error.{Error}
-use Rattle.cookie_parts.specs.declared.error.Error.TheVariants as Fault
-use Rattle.cookie_parts.specs.Errors.{fault_text, styled_fault_text}
-use Rattle.cookie_laws.specs.Rows.{Kept}
-use Rattle.cookie_store.specs.JsonLines.{json_cookie, MakesJson}
-use Rattle.cookie_store.specs.LoadFault.{IsReachedAt}
-use Rattle.cookie_store.specs.Loading.{BuildsFrom, FailsToLoad, RefusesLine, StopsWithinLine}
+use Rattle.cookie_parts.specs.declared.error.Error.TheVariants as ErrorCase
+use Rattle.cookie_parts.specs.Errors.{store_error_text, styled_error_text}
+use Rattle.cookie_laws.specs.Rows.{RowsInOrder}
+use Rattle.cookie_store.specs.JsonLines.{json_cookie, JsonParsesTo}
+use Rattle.cookie_store.specs.LoadError.{IsReachedAt}
+use Rattle.cookie_store.specs.Loading.{BuildsFrom, FailsToLoad, RejectsLine, StopsWithinLine}
 use Rattle.cookie_device.specs.declared.lines.FillError.TheVariants as Fill
-use Rattle.cookie_store.specs.declared.loading.LoadFault.{LoadFault}
-use Rattle.cookie_store.specs.declared.loading.LoadFault.TheVariants as Load
+use Rattle.cookie_store.specs.declared.loading.LoadError.{LoadError}
+use Rattle.cookie_store.specs.declared.loading.LoadError.TheVariants as Load
 use Rattle.cookie_store.specs.declared.serde.migration.MigrateError.{MigrateError}
 use Rattle.cookie_store.specs.declared.serde.migration.MigrateError.TheVariants.{Line, Io, Memory}
 
 -- the error of a migration: out of memory at a line is not an error of the line
-abbrev pub migrate_error_of : LoadFault → MigrateError
+abbrev pub migrate_error_of : LoadError → MigrateError
 migrate_error_of (Load.Source Fill.Read) = Io
 migrate_error_of (Load.Source Fill.Memory) = Memory
-migrate_error_of (Load.Line number Fault.Memory) = Memory
+migrate_error_of (Load.Line number ErrorCase.Memory) = Memory
 migrate_error_of (Load.Line number error) = Line number error
 
 -- the number of a line, before its error
@@ -31,18 +31,18 @@ line_number_text number = codes "line " ++ decimal number ++ codes ": "
 
 -- the error as `Display` prints it
 abbrev pub migrate_error_text : MigrateError → List ℕ
-migrate_error_text (Line number error) = line_number_text number ++ fault_text error
+migrate_error_text (Line number error) = line_number_text number ++ store_error_text error
 migrate_error_text Io = codes "a read failed"
 migrate_error_text Memory = codes "out of memory"
 
 -- the error as `Display` prints it with a width or other options, which are ignored, if that is known of the line's error
 abbrev pub styled_migrate_error_text : MigrateError → Option (List ℕ)
-styled_migrate_error_text (Line number error) = option_map (λ words. line_number_text number ++ words) (styled_fault_text error)
+styled_migrate_error_text (Line number error) = option_map (λ words. line_number_text number ++ words) (styled_error_text error)
 styled_migrate_error_text other = Some (migrate_error_text other)
 
 -- the rows built from the cookies of all lines of the source, expired ones included
-abbrev pub Migrates : Option (List ℕ) → Kept → Type 0
-Migrates known kept = BuildsFrom MakesJson known true epoch kept
+abbrev pub Migrates : Option (List ℕ) → RowsInOrder → Type 0
+Migrates known kept = BuildsFrom JsonParsesTo known true epoch kept
 
 -- no row expires before the year 0
 abbrev pub HaveSavedForms : List Row → Type 0
@@ -53,15 +53,15 @@ abbrev pub IsOfJson : List ℕ → Result Row Error → Type 0
 IsOfJson line answer = json_cookie line ≡ answer
 
 -- the line of this number is the first that is rejected, with this error
-abbrev pub RefusesFirst : ℕ → Error → Option (List ℕ) → Type 0
-RefusesFirst number error known =
-    (line : List ℕ) × RefusesLine IsOfJson error line × IsReachedAt MakesJson number line known
+abbrev pub RejectsFirst : ℕ → Error → Option (List ℕ) → Type 0
+RejectsFirst number error known =
+    (line : List ℕ) × RejectsLine IsOfJson error line × IsReachedAt JsonParsesTo number line known
 
 -- the first rejected line; or a read failed, which added one to the failures; or out of memory
 abbrev pub FailsToMigrate : MigrateError → Option (List ℕ) → Option (List ℕ) → ℕ → ℕ → ℕ → ℕ → Type 0
 FailsToMigrate (Line number error) known rest failures failures' reads_left reads_left' =
-    RefusesFirst number error known × (failures' ≡ failures)
+    RejectsFirst number error known × (failures' ≡ failures)
 FailsToMigrate Io known rest failures failures' reads_left reads_left' =
-    IfSome known (StopsWithinLine MakesJson rest reads_left reads_left') × (failures' ≡ failures + 1)
+    IfSome known (StopsWithinLine JsonParsesTo rest reads_left reads_left') × (failures' ≡ failures + 1)
 FailsToMigrate Memory known rest failures failures' reads_left reads_left' =
-    FailsToLoad MakesJson Fault.Memory known rest failures failures' reads_left reads_left' × (failures' ≡ failures)
+    FailsToLoad JsonParsesTo ErrorCase.Memory known rest failures failures' reads_left reads_left' × (failures' ≡ failures)

@@ -6,7 +6,7 @@ use Rattle.url.specs.Parts.{Parts}
 use Rattle.cookie_words.specs.Moments.{Moment}
 use Rattle.cookie_raw.specs.CookieText.{cookie_text}
 use Rattle.cookie_raw.specs.Raw.{Raw}
-use Rattle.cookie_parts.specs.Cookie.{cookie_of, early_refusal, is_secure_only}
+use Rattle.cookie_parts.specs.Cookie.{cookie_of, early_error, is_secure_only}
 use Rattle.cookie_laws.specs.Acceptance.{received}
 use Rattle.cookie_laws.specs.Contents.{Contents}
 
@@ -16,27 +16,27 @@ store_after_response url now raws store =
     fold (λ before raw. (received before (cookie_of raw url now) url now).store) store raws
 
 -- the new store is the one after inserting these raw cookies, in order
-abbrev pub Takes : Parts → Moment → List Raw → Contents → Contents → Type 0
-Takes url now raws old new = new ≡ store_after_response url now raws old
+abbrev pub Inserts : Parts → Moment → List Raw → Contents → Contents → Type 0
+Inserts url now raws old new = new ≡ store_after_response url now raws old
 
 -- the same with all items of the iterator
-abbrev pub TakesAll : {S : Type 0} → (S → Option Raw → S → Type 0) → S → Parts → Moment → Contents → Contents → Type 0
-TakesAll steps items url now old new = (raws : List Raw) × Drains steps items raws × Takes url now raws old new
+abbrev pub InsertsAll : {S : Type 0} → (S → Option Raw → S → Type 0) → S → Parts → Moment → Contents → Contents → Type 0
+InsertsAll steps items url now old new = (raws : List Raw) × Drains steps items raws × Inserts url now raws old new
 
 -- the same, and `rest` is left of the iterator after its `None`
-abbrev pub TakesToEnd : {S : Type 0} → (S → Option Raw → S → Type 0) → S → S → Parts → Moment → Contents → Contents → Type 0
-TakesToEnd steps items rest url now old new =
-    (raws : List Raw) × YieldsThen steps items raws None rest × Takes url now raws old new
+abbrev pub InsertsToEnd : {S : Type 0} → (S → Option Raw → S → Type 0) → S → S → Parts → Moment → Contents → Contents → Type 0
+InsertsToEnd steps items rest url now old new =
+    (raws : List Raw) × YieldsThen steps items raws None rest × Inserts url now raws old new
 
 -- the same with the items before one that is not rejected early, and `rest` is left of the iterator after that one
-abbrev pub TakesUntil : {S : Type 0} → (S → Option Raw → S → Type 0) → S → S → Parts → Moment → Contents → Contents → Type 0
-TakesUntil steps items rest url now old new =
-    (raws : List Raw) × (next : Raw) × YieldsThen steps items raws (Some next) rest × (early_refusal next url ≡ None)
-    × Takes url now raws old new
+abbrev pub InsertsUntil : {S : Type 0} → (S → Option Raw → S → Type 0) → S → S → Parts → Moment → Contents → Contents → Type 0
+InsertsUntil steps items rest url now old new =
+    (raws : List Raw) × (next : Raw) × YieldsThen steps items raws (Some next) rest × (early_error next url ≡ None)
+    × Inserts url now raws old new
 
 -- the same with the items before one that is not rejected early, whatever is left
-abbrev pub TakesSome : {S : Type 0} → (S → Option Raw → S → Type 0) → S → Parts → Moment → Contents → Contents → Type 0
-TakesSome {S} steps items url now old new = (rest : S) × TakesUntil steps items rest url now old new
+abbrev pub InsertsSome : {S : Type 0} → (S → Option Raw → S → Type 0) → S → Parts → Moment → Contents → Contents → Type 0
+InsertsSome {S} steps items url now old new = (rest : S) × InsertsUntil steps items rest url now old new
 
 -- the log line of a received cookie: of a Secure cookie the name only
 abbrev pub arrival_text : Raw → List ℕ

@@ -5,7 +5,7 @@ use Rattle.cookie_words.specs.Moments.{Moment}
 use Rattle.cookie_forms.specs.Saved.{Parts}
 use Rattle.cookie_forms.specs.declared.error.SavedError.{SavedError}
 use Rattle.cookie_parts.specs.Cookie.{Row, and_then}
-use Rattle.cookie_parts.specs.Passage.{cookie_of_saved}
+use Rattle.cookie_parts.specs.SavedConversion.{cookie_of_saved}
 use Rattle.cookie_parts.specs.declared.cookie_error.CookieError.{CookieError}
 use Rattle.cookie_parts.specs.declared.error.Error.{Error}
 use Rattle.cookie_parts.specs.declared.error.Error.TheVariants.{Cookie, Saved}
@@ -19,6 +19,6 @@ cookies_of_saved (form ∷ forms) =
 
 -- the cookies of a list that was read, or the error
 abbrev pub read_cookies : Result (List (Parts Moment)) SavedError → Result (List Row) Error
-read_cookies told =
-    and_then (result_map_both (λ list. list) Saved told)
+read_cookies reported =
+    and_then (result_map_both (λ list. list) Saved reported)
     (λ list. result_map_both (λ cookies. cookies) Cookie (cookies_of_saved list))

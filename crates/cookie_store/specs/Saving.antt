@@ -5,7 +5,7 @@ use Rattle.std.specs.List.{AllZip}
 use Rattle.std.specs.declared.alloc.Global.{Global}
 use Rattle.std.specs.declared.string.String.{String}
 use Rattle.cookie_words.specs.Moments.{Moment}
-use Rattle.cookie_device.specs.Device.{AppendsBeginning}
+use Rattle.cookie_device.specs.Device.{AppendsPrefix}
 use Rattle.cookie_parts.specs.Cookie.{Row, is_persistent}
 use Rattle.cookie_parts.specs.declared.error.Error.{Error}
 use Rattle.cookie_parts.specs.declared.error.Error.TheVariants.{Io}
@@ -43,7 +43,7 @@ module _ (says : Row → Result (String Global) Error → Type 0) where
 
   -- a beginning of the row's line was written
   abbrev pub BeginsRow : Row → Option (List ℕ) → Option (List ℕ) → Type 0
-  BeginsRow row old new = (text : String Global) × says row (Ok text) × AppendsBeginning old new (line_text text)
+  BeginsRow row old new = (text : String Global) × says row (Ok text) × AppendsPrefix old new (line_text text)
 
   -- the line of each row was written, in order, and nothing else
   abbrev pub WritesRows : List Row → Option (List ℕ) → Option (List ℕ) → Type 0

@@ -5,18 +5,18 @@ ghost use Rattle.std.specs.Fn.{FnReturnsAt};
 ghost use Rattle.std.specs.Io.KnownBytes.{IsAtEnd};
 ghost use Rattle.std.specs.Iterator.{IsFinite};
 ghost use Rattle.cookie_words.specs.Moments.{moment_of};
-ghost use Rattle.cookie_parts.specs.Cookie.{cookie_of, early_refusal};
+ghost use Rattle.cookie_parts.specs.Cookie.{cookie_of, early_error};
 ghost use Rattle.cookie_laws.specs.Acceptance.{received};
 ghost use Rattle.cookie_laws.specs.Runs.{IsReply, Stored, UnlessMemory};
-ghost use Rattle.cookie_laws.specs.Contents.{kept_of, Contents};
-ghost use Rattle.cookie_store.specs.JsonLines.{MakesJson, SaysJson};
+ghost use Rattle.cookie_laws.specs.Contents.{rows_in_order, Contents};
+ghost use Rattle.cookie_store.specs.JsonLines.{JsonParsesTo, SerializesToJson};
 ghost use Rattle.cookie_store.specs.Loading.{BuildsFrom, FailsToLoad, ReadsEachOnce};
-ghost use Rattle.cookie_store.specs.Responses.{TakesAll, TakesSome};
+ghost use Rattle.cookie_store.specs.Responses.{InsertsAll, InsertsSome};
 ghost use Rattle.cookie_store.specs.Saving.{saved_rows, FailsToSave, WritesRows};
 
 use crate::json_lines::{load_json_rows, save_json_rows};
 use crate::loading::load_rows;
-use crate::response::store_each;
+use crate::response::insert_each;
 use crate::saving::save_rows;
 use crate::{CookieStore, InsertResult};
 use cookie_device::{Sink, Source};
@@ -49,7 +49,7 @@ pub trait Bulk: Drop {
         ensures store { UnlessMemory result (contents self.new
             ≡ (received (contents self.old) (cookie_of raw.now url.now (moment_of now)) url.now (moment_of now)).store) }
         ensures refused { OnErr result (contents self.new ≡ contents self.old) }
-        ensures early { (refusal : CookieError) → early_refusal raw.now url.now ≡ Some refusal → result ≡ Err refusal };
+        ensures early { (refusal : CookieError) → early_error raw.now url.now ≡ Some refusal → result ≡ Err refusal };
 
     /// Writes the unexpired persistent cookies as lines, in the store's order.
     ///
@@ -112,10 +112,10 @@ pub trait Bulk: Drop {
     #[deprecated(note = "use `serde::json`")]
     final fn save_json<W: Sink>(&self, writer: &mut W, now: DateTime) -> StoreResult<()>
         requires writable { W.failed writer.old < 2 ^ 64 - 1 }
-        ensures whole { OnOk result (WritesRows SaysJson (saved_rows (moment_of now) (contents self.now).rows)
+        ensures whole { OnOk result (WritesRows SerializesToJson (saved_rows (moment_of now) (contents self.now).rows)
             (W.contents writer.old) (W.contents writer.new)) }
         ensures count { OnOk result (W.failed writer.new ≡ W.failed writer.old) }
-        ensures stopped { IfErr result (λ error. FailsToSave SaysJson error
+        ensures stopped { IfErr result (λ error. FailsToSave SerializesToJson error
             (saved_rows (moment_of now) (contents self.now).rows)
             (W.contents writer.old) (W.contents writer.new) (W.failed writer.old) (W.failed writer.new)) }
     {
@@ -132,9 +132,9 @@ pub trait Bulk: Drop {
         writer: &mut W,
     ) -> StoreResult<()>
         requires writable { W.failed writer.old < 2 ^ 64 - 1 }
-        ensures whole { OnOk result (WritesRows SaysJson (contents self.now).rows (W.contents writer.old) (W.contents writer.new)) }
+        ensures whole { OnOk result (WritesRows SerializesToJson (contents self.now).rows (W.contents writer.old) (W.contents writer.new)) }
         ensures count { OnOk result (W.failed writer.new ≡ W.failed writer.old) }
-        ensures stopped { IfErr result (λ error. FailsToSave SaysJson error (contents self.now).rows
+        ensures stopped { IfErr result (λ error. FailsToSave SerializesToJson error (contents self.now).rows
             (W.contents writer.old) (W.contents writer.new) (W.failed writer.old) (W.failed writer.new)) }
     {
         let store = self.as_store();
@@ -165,7 +165,7 @@ pub trait Bulk: Drop {
         requires callable { F.IsAlwaysCallable cookie_from_str }
         requires readable { R.failed reader.old < 2 ^ 64 - 1 }
         ensures built { IfOk result (λ store. BuildsFrom (FnReturnsAt F.Fn cookie_from_str) (R.remaining reader.old)
-            false (moment_of now) (kept_of (contents store))) }
+            false (moment_of now) (rows_in_order (contents store))) }
         ensures suffixes { IfOk result (λ store. (contents store).suffixes ≡ None) }
         ensures limit { IfOk result (λ store. (contents store).limit ≡ None) }
         ensures read { OnOk result (IsAtEnd (R.remaining reader.new) × (R.failed reader.new ≡ R.failed reader.old)) }
@@ -191,7 +191,7 @@ pub trait Bulk: Drop {
         requires callable { F.IsAlwaysCallable cookie_from_str }
         requires readable { R.failed reader.old < 2 ^ 64 - 1 }
         ensures built { IfOk result (λ store. BuildsFrom (FnReturnsAt F.Fn cookie_from_str) (R.remaining reader.old)
-            true (moment_of now) (kept_of (contents store))) }
+            true (moment_of now) (rows_in_order (contents store))) }
         ensures suffixes { IfOk result (λ store. (contents store).suffixes ≡ None) }
         ensures limit { IfOk result (λ store. (contents store).limit ≡ None) }
         ensures read { OnOk result (IsAtEnd (R.remaining reader.new) × (R.failed reader.new ≡ R.failed reader.old)) }
@@ -229,11 +229,11 @@ pub trait Bulk: Drop {
         now: DateTime,
     ) -> StoreResult<Self>
         requires readable { R.failed reader.old < 2 ^ 64 - 1 }
-        ensures built { IfOk result (λ store. BuildsFrom MakesJson (R.remaining reader.old) false (moment_of now) (kept_of (contents store))) }
+        ensures built { IfOk result (λ store. BuildsFrom JsonParsesTo (R.remaining reader.old) false (moment_of now) (rows_in_order (contents store))) }
         ensures suffixes { IfOk result (λ store. (contents store).suffixes ≡ None) }
         ensures limit { IfOk result (λ store. (contents store).limit ≡ None) }
         ensures read { OnOk result (IsAtEnd (R.remaining reader.new) × (R.failed reader.new ≡ R.failed reader.old)) }
-        ensures failed { IfErr result (λ error. FailsToLoad MakesJson error
+        ensures failed { IfErr result (λ error. FailsToLoad JsonParsesTo error
             (R.remaining reader.old) (R.remaining reader.new) (R.failed reader.old) (R.failed reader.new)
             (R.reads_left reader.old) (R.reads_left reader.new)) }
         ensures reads { ReadsEachOnce (R.remaining reader.old) (R.reads_left reader.old) (R.reads_left reader.new) }
@@ -253,11 +253,11 @@ pub trait Bulk: Drop {
         now: DateTime,
     ) -> StoreResult<Self>
         requires readable { R.failed reader.old < 2 ^ 64 - 1 }
-        ensures built { IfOk result (λ store. BuildsFrom MakesJson (R.remaining reader.old) true (moment_of now) (kept_of (contents store))) }
+        ensures built { IfOk result (λ store. BuildsFrom JsonParsesTo (R.remaining reader.old) true (moment_of now) (rows_in_order (contents store))) }
         ensures suffixes { IfOk result (λ store. (contents store).suffixes ≡ None) }
         ensures limit { IfOk result (λ store. (contents store).limit ≡ None) }
         ensures read { OnOk result (IsAtEnd (R.remaining reader.new) × (R.failed reader.new ≡ R.failed reader.old)) }
-        ensures failed { IfErr result (λ error. FailsToLoad MakesJson error
+        ensures failed { IfErr result (λ error. FailsToLoad JsonParsesTo error
             (R.remaining reader.old) (R.remaining reader.new) (R.failed reader.old) (R.failed reader.new)
             (R.reads_left reader.old) (R.reads_left reader.new)) }
         ensures reads { ReadsEachOnce (R.remaining reader.old) (R.reads_left reader.old) (R.reads_left reader.new) }
@@ -285,10 +285,10 @@ pub trait Bulk: Drop {
     ) -> Result<(), AllocError>
         requires can { I.can_next cookies }
         requires ends { IsFinite (I.remaining cookies) }
-        ensures taken { OnOk result (TakesAll I.next_gives cookies url.now (moment_of now) (contents self.old) (contents self.new)) }
-        ensures stopped { OnErr result (TakesSome I.next_gives cookies url.now (moment_of now) (contents self.old) (contents self.new)) }
+        ensures taken { OnOk result (InsertsAll I.next_gives cookies url.now (moment_of now) (contents self.old) (contents self.new)) }
+        ensures stopped { OnErr result (InsertsSome I.next_gives cookies url.now (moment_of now) (contents self.old) (contents self.new)) }
     {
-        store_each(self, logger, &mut cookies, url, now)
+        insert_each(self, logger, &mut cookies, url, now)
     }
 }
 

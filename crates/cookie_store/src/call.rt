@@ -86,12 +86,12 @@ impl fmt::Display for Stopped {
 impl std::error::Error for Stopped {}
 
 /// The reply for the result of an insertion, or `AllocError` if it is `Memory`.
-pub(crate) fn stored(told: InsertResult) -> Result<Reply, AllocError>
-    ensures reply { IfOk result (λ reply. (reply_view reply ≡ Runs.Stored told) × (told ≢ Err Memory)) }
-    ensures memory { OnErr result (told ≡ Err Memory) }
+pub(crate) fn reply_or_memory(reported: InsertResult) -> Result<Reply, AllocError>
+    ensures reply { IfOk result (λ reply. (reply_view reply ≡ Runs.Stored reported) × (reported ≢ Err Memory)) }
+    ensures memory { OnErr result (reported ≡ Err Memory) }
 {
-    match told {
+    match reported {
         Err(CookieError::Memory) => Err(AllocError),
-        told => Ok(Reply::Stored(told)),
+        reported => Ok(Reply::Stored(reported)),
     }
 }

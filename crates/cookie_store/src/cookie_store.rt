@@ -1,25 +1,25 @@
 //! The cookie store.
-ghost use Rattle.std.specs.Prelude.{◌≡◌, ◌≢◌, ◌≤◌, ◌+◌, ◌*◌, ◌-◌, ◌^◌, ◌<◌, [], false, is_some, length, map, string_bytes, true, Err, None, Ok, Some, IfErr, IfOk, IsTrue, OnErr, OnOk, ◌⊎◌};
+ghost use Rattle.std.specs.Prelude.{◌≡◌, ◌≢◌, ◌≤◌, ◌+◌, ◌*◌, ◌-◌, ◌<◌, [], is_some, length, map, string_bytes, Err, None, Ok, Some, IfErr, IfOk, IsTrue, OnErr, OnOk, ◌⊎◌};
 ghost use Rattle.std.specs.Iterator.{IsFinite};
 ghost use Rattle.std.specs.Option.{option_copied};
 ghost use Rattle.cookie_words.specs.Moments.{moment_of};
 ghost use Rattle.cookie_raw.specs.Reading.{reading};
-ghost use Rattle.cookie_parts.specs.Cookie.{cookie_of, early, early_refusal};
+ghost use Rattle.cookie_parts.specs.Cookie.{cookie_of, early, early_error};
 ghost use Rattle.cookie_parts.specs.declared.cookie_error.CookieError.TheVariants.{Memory};
 ghost use Rattle.cookie_parts.specs.declared.store_action.StoreAction.TheVariants.{Inserted};
 ghost use Rattle.cookie_laws.specs.Acceptance.{received, MayRefuse};
-ghost use Rattle.cookie_laws.specs.Contents.{contents_of, kept_of, unexpired, HasMade};
-ghost use Rattle.cookie_lookup.specs.Seen.{domains_found, paths_found};
+ghost use Rattle.cookie_laws.specs.Contents.{contents_of, rows_in_order, unexpired, HasCreationOrder};
+ghost use Rattle.cookie_lookup.specs.SearchView.{domains_found, paths_found};
 ghost use Rattle.cookie_lookup.specs.Texts.{most_domains, most_paths};
-ghost use Rattle.cookie_rows.specs.Building.{Builds, FailsFirst, WantsRoom};
+ghost use Rattle.cookie_rows.specs.Building.{Builds, FailsFirst, ReachesNewRow};
 ghost use Rattle.cookie_rows.specs.Requests.{name_and_value};
-ghost use Rattle.cookie_store.specs.CallViews.{call_view, reply_view, MayWant, StopsAfter, StopsAt};
+ghost use Rattle.cookie_store.specs.CallViews.{call_view, reply_view, MayAllocate, StopsAfter, StopsAt};
 ghost use Rattle.cookie_laws.specs.Given.{given};
 ghost use Rattle.cookie_laws.specs.Header.{InHeaderOrder, IsCookieHeader};
 ghost use Rattle.cookie_laws.specs.Rows.{are_rows, if_live, key_at, live_rows, row_of};
 ghost use Rattle.cookie_laws.specs.Runs.{replies, step, store_after, Clear, Insert, IsReply, Remove, Removed, Set, Stored, UnlessMemory};
 
-use crate::call::{Call, Reply, Stopped, stored};
+use crate::call::{Call, Reply, Stopped, reply_or_memory};
 use crate::header::cookie_string;
 use crate::insertion::{accept, owned_cookie, owned_raw_cookie};
 use cookie_lookup::Lookups;
@@ -79,14 +79,14 @@ impl CookieStore {
     ///
     /// Its maps hash by a fixed key: see [`with_hash_key`](Self::with_hash_key).
     pub fn new(alloc: Global) -> CookieStore
-        ensures { result ≡ record { rows = []; made = []; suffixes = None; limit = None } }
+        ensures { result ≡ record { rows = []; created = []; suffixes = None; limit = None } }
     {
         CookieStore::new_with_public_suffix(alloc, None)
     }
 
     /// Returns an empty store without a public suffix list, as [`new`](Self::new) does.
     pub fn default(alloc: Global) -> CookieStore
-        ensures { result ≡ record { rows = []; made = []; suffixes = None; limit = None } }
+        ensures { result ≡ record { rows = []; created = []; suffixes = None; limit = None } }
     {
         CookieStore::new(alloc)
     }
@@ -96,14 +96,14 @@ impl CookieStore {
     /// The key changes no result. Pass a random key if the store takes cookies from servers that
     /// you do not trust.
     pub fn with_hash_key(alloc: Global, hash_key: HashKey) -> CookieStore
-        ensures { result ≡ record { rows = []; made = []; suffixes = None; limit = None } }
+        ensures { result ≡ record { rows = []; created = []; suffixes = None; limit = None } }
     {
         CookieStore::of_rows(alloc, Rows::new(StoreAlloc { alloc, hash_key }))
     }
 
     /// Returns an empty store with this public suffix list, or with none.
     pub fn new_with_public_suffix(alloc: Global, suffixes: Option<List>) -> CookieStore
-        ensures { result ≡ record { rows = []; made = []; suffixes = suffixes; limit = None } }
+        ensures { result ≡ record { rows = []; created = []; suffixes = suffixes; limit = None } }
     {
         CookieStore {
             alloc,
@@ -154,11 +154,11 @@ impl CookieStore {
     >(alloc: A, cookies: I, include_expired: bool, now: DateTime) -> Result<CookieStore, Error>
         requires can { I.can_next cookies }
         requires ends { IsFinite (I.remaining cookies) }
-        ensures built { IfOk result (λ store. Builds I.next_gives cookies include_expired (moment_of now) (kept_of store)) }
+        ensures built { IfOk result (λ store. Builds I.next_gives cookies include_expired (moment_of now) (rows_in_order store)) }
         ensures suffixes { IfOk result (λ store. store.suffixes ≡ None) }
         ensures limit { IfOk result (λ store. store.limit ≡ None) }
         ensures failed { IfErr result (λ error.
-            ((error ≡ Error.Memory) × WantsRoom I.next_gives cookies include_expired (moment_of now))
+            ((error ≡ Error.Memory) × ReachesNewRow I.next_gives cookies include_expired (moment_of now))
             ⊎ FailsFirst I.next_gives cookies error) }
     {
         let alloc = alloc.into();
@@ -181,8 +181,8 @@ impl CookieStore {
     /// - `DomainMismatch`: the cookie's domain does not match the URL's host.
     /// - Those of [`insert`](Self::insert).
     ///
-    /// `Memory`: out of memory, in place of any of these but `Parse` and `NonHttpScheme` at the
-    /// beginning, and `NonRelativeScheme` if there is no Domain attribute.
+    /// `Memory`: out of memory, in place of success or of any of these but `Parse` and
+    /// `NonHttpScheme` at the beginning, and `NonRelativeScheme` if there is no Domain attribute.
     pub fn parse(&mut self, text: &str, url: &Url, now: DateTime) -> InsertResult
         ensures reply { IsReply result
             (step (Set text.now url.now (moment_of now)) self.old).reply }
@@ -192,8 +192,8 @@ impl CookieStore {
         ensures early { (refusal : CookieError) → early (reading text.now) url.now ≡ Some refusal → result ≡ Err refusal }
         ensures memory { result ≡ Err Memory → early (reading text.now) url.now ≡ None }
     {
-        let made = owned_cookie(self.alloc, text, url, now);
-        self.insert_made(made, url, now)
+        let created = owned_cookie(self.alloc, text, url, now);
+        self.insert_made(created, url, now)
     }
 
     /// Inserts a cookie received from `url`, RFC 6265 5.3.
@@ -249,19 +249,19 @@ impl CookieStore {
     /// - `DomainMismatch`: the cookie's domain does not match the URL's host.
     /// - Those of [`insert`](Self::insert).
     ///
-    /// `Memory`: out of memory, in place of any of these but `NonHttpScheme` at the beginning, and
-    /// `NonRelativeScheme` if there is no Domain attribute.
+    /// `Memory`: out of memory, in place of success or of any of these but `NonHttpScheme` at the
+    /// beginning, and `NonRelativeScheme` if there is no Domain attribute.
     pub fn insert_raw(&mut self, raw: &RawCookie<'_>, url: &Url, now: DateTime) -> InsertResult
         ensures reply { IsReply result (Stored
             (received self.old (cookie_of raw.now url.now (moment_of now)) url.now (moment_of now)).reply) }
         ensures store { UnlessMemory result
             (self.new ≡ (received self.old (cookie_of raw.now url.now (moment_of now)) url.now (moment_of now)).store) }
         ensures refused { OnErr result (self.new ≡ self.old) }
-        ensures early { (refusal : CookieError) → early_refusal raw.now url.now ≡ Some refusal → result ≡ Err refusal }
-        ensures memory { result ≡ Err Memory → early_refusal raw.now url.now ≡ None }
+        ensures early { (refusal : CookieError) → early_error raw.now url.now ≡ Some refusal → result ≡ Err refusal }
+        ensures memory { result ≡ Err Memory → early_error raw.now url.now ≡ None }
     {
-        let made = owned_raw_cookie(self.alloc, raw, url, now);
-        self.insert_made(made, url, now)
+        let created = owned_raw_cookie(self.alloc, raw, url, now);
+        self.insert_made(created, url, now)
     }
 
     /// Returns the stored cookie with this domain, path and name, expired or not.
@@ -374,7 +374,7 @@ impl CookieStore {
         ensures given { IfOk result
             (λ cookies. map (λ c. c.now) cookies.items ≡ given url.now (moment_of now) self.now.rows) }
         ensures in_order { IsTrue (are_rows self.now.rows) }
-        ensures has_made { HasMade self.now }
+        ensures has_creation_order { HasCreationOrder self.now }
         ensures memory { OnErr result (given url.now (moment_of now) self.now.rows ≢ []) }
     {
         self.rows.given(self.alloc, url, now)
@@ -394,7 +394,7 @@ impl CookieStore {
         ensures given { IfOk result
             (λ found. map (λ c. c.now) found.0.items ≡ given url.now (moment_of now) self.now.rows) }
         ensures in_order { IsTrue (are_rows self.now.rows) }
-        ensures has_made { HasMade self.now }
+        ensures has_creation_order { HasCreationOrder self.now }
         ensures domains { IfOk result (λ found. found.1.domains ≤ most_domains url.now) }
         ensures paths { IfOk result
             (λ found. found.1.paths ≤ domains_found url.now self.now.rows * most_paths url.now) }
@@ -483,11 +483,11 @@ impl CookieStore {
         ensures store { OnOk result (self.new ≡ (step (call_view call) self.old).store) }
         ensures refused { OnErr result (self.new ≡ self.old) }
         ensures memory { OnErr result
-            (MayWant (call_view call) (step (call_view call) self.old).reply) }
+            (MayAllocate (call_view call) (step (call_view call) self.old).reply) }
     {
         match call {
-            Call::Set { text, url, now } => stored(self.parse(text.as_str(), &url, now)),
-            Call::Insert { cookie, url, now } => stored(self.insert(cookie, &url, now)),
+            Call::Set { text, url, now } => reply_or_memory(self.parse(text.as_str(), &url, now)),
+            Call::Insert { cookie, url, now } => reply_or_memory(self.insert(cookie, &url, now)),
             Call::Remove { domain, path, name } => Ok(Reply::Removed(self.remove(
                 domain.as_str(),
                 path.as_str(),
@@ -507,14 +507,14 @@ impl CookieStore {
     /// [`Stopped`]: out of memory. The calls before the one that failed remain in effect; `Stopped`
     /// has their number and replies.
     pub fn apply_all(&mut self, calls: Vec<Call>) -> Result<Vec<Reply>, Stopped>
-        ensures replies { IfOk result (λ told.
-            map reply_view told.items ≡ replies (map call_view calls.items) self.old) }
+        ensures replies { IfOk result (λ reported.
+            map reply_view reported.items ≡ replies (map call_view calls.items) self.old) }
         ensures store { OnOk result (self.new ≡ store_after (map call_view calls.items) self.old) }
         ensures stopped { IfErr result (λ stopped. StopsAfter stopped (map call_view calls.items) self.old self.new) }
         ensures wanting { IfErr result (λ stopped. StopsAt stopped.count (map call_view calls.items) self.new) }
     {
         // Room for all replies first, so that no reply is lost once its call was executed.
-        let Ok(mut told) = Vec::with_capacity(self.alloc, calls.len()) else {
+        let Ok(mut reported) = Vec::with_capacity(self.alloc, calls.len()) else {
             return Err(Stopped {
                 replies: Vec::new(self.alloc),
                 count: 0,
@@ -522,30 +522,35 @@ impl CookieStore {
         };
         for call in calls {
             match self.apply(call) {
-                Ok(reply) => told.push(reply).unwrap(),
+                Ok(reply) => reported.push(reply).unwrap(),
                 Err(AllocError) => {
-                    let count = told.len();
+                    let count = reported.len();
                     return Err(Stopped {
-                        replies: told,
+                        replies: reported,
                         count,
                     });
                 }
             }
         }
-        Ok(told)
+        Ok(reported)
     }
 
     // Inserts the cookie, or returns the error from making it.
-    fn insert_made(&mut self, made: CookieResult<'static>, url: &Url, now: DateTime) -> InsertResult
+    fn insert_made(
+        &mut self,
+        created: CookieResult<'static>,
+        url: &Url,
+        now: DateTime,
+    ) -> InsertResult
         ensures reply { IsReply result
-            (Stored (received self.old made.entry url.now (moment_of now)).reply) }
-        ensures store { UnlessMemory result (self.new ≡ (received self.old made.entry url.now (moment_of now)).store) }
+            (Stored (received self.old created.entry url.now (moment_of now)).reply) }
+        ensures store { UnlessMemory result (self.new ≡ (received self.old created.entry url.now (moment_of now)).store) }
         ensures refused { OnErr result (self.new ≡ self.old) }
-        ensures unmade { (refusal : CookieError) → made.entry ≡ Err refusal → result ≡ Err refusal }
-        ensures memory { result ≡ Err Memory → (made.entry ≡ Err Memory)
-            ⊎ ((received self.old made.entry url.now (moment_of now)).reply ≡ Ok Inserted) }
+        ensures unmade { (refusal : CookieError) → created.entry ≡ Err refusal → result ≡ Err refusal }
+        ensures memory { result ≡ Err Memory → (created.entry ≡ Err Memory)
+            ⊎ ((received self.old created.entry url.now (moment_of now)).reply ≡ Ok Inserted) }
     {
-        let cookie = made?;
+        let cookie = created?;
         accept(
             self.suffixes.as_ref(),
             self.limit,
@@ -575,7 +580,7 @@ impl CookieStore {
 
     // The stored rows.
     pub(crate) fn rows(&self) -> &Rows
-        ensures { result.now ≡ kept_of self.now }
+        ensures { result.now ≡ rows_in_order self.now }
     {
         &self.rows
     }

@@ -6,7 +6,8 @@ ghost use Rattle.cookie_laws.specs.Header.{cookie_string, later_pair, pair_text}
 use cookie_parts::Cookie;
 use std::alloc::{AllocError, Global};
 
-/// The cookie-string of cookies: `name=value` of each, with `; ` between them. Allocates nothing if there are none.
+/// Returns the cookie-string of the cookies: `name=value` of each, with `; ` between them. Allocates
+/// nothing if there are none.
 pub(crate) fn cookie_string(
     alloc: Global,
     cookies: &[&Cookie<'static>],
@@ -26,7 +27,7 @@ pub(crate) fn cookie_string(
     Ok(text)
 }
 
-// How long the cookie-string is, and None if that is too great a number.
+// Returns the length of the cookie-string, or `None` on overflow.
 fn string_len(first: &Cookie<'static>, others: &[&Cookie<'static>]) -> Option<usize>
     ensures { MatchOption result (2 ^ 64 ≤ length (pair_text first.now) + length (flat_map (λ c. later_pair c.now) others.now))
         (λ n. n ≡ length (pair_text first.now) + length (flat_map (λ c. later_pair c.now) others.now)) }
@@ -38,7 +39,7 @@ fn string_len(first: &Cookie<'static>, others: &[&Cookie<'static>]) -> Option<us
     Some(len)
 }
 
-// A length with those of a separator and a cookie-pair.
+// Returns `len` plus the lengths of a separator and a cookie-pair, or `None` on overflow.
 fn pair_len(len: usize, separator: &str, cookie: &Cookie<'static>) -> Option<usize>
     ensures { MatchOption result (2 ^ 64 ≤ len + length (separator.now ++ pair_text cookie.now))
         (λ n. n ≡ len + length (separator.now ++ pair_text cookie.now)) }

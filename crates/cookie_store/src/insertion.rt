@@ -3,14 +3,14 @@ ghost use Rattle.std.specs.Prelude.{◌≡◌, ◌≢◌, Err, None, Ok, Some, I
 ghost use Rattle.std.specs.Option.{option_copied};
 ghost use Rattle.cookie_words.specs.Moments.{moment_of};
 ghost use Rattle.cookie_raw.specs.Reading.{reading};
-ghost use Rattle.cookie_parts.specs.Cookie.{cookie_at, cookie_of, early, early_refusal};
+ghost use Rattle.cookie_parts.specs.Cookie.{cookie_from_header, cookie_of, early, early_error};
 ghost use Rattle.cookie_parts.specs.Domain.{text_if_any, HostOnly};
-ghost use Rattle.cookie_parts.specs.Outcomes.{Gives};
+ghost use Rattle.cookie_parts.specs.Outcomes.{ReturnsOrMemory};
 ghost use Rattle.cookie_parts.specs.Views.{domain_value};
 ghost use Rattle.cookie_parts.specs.declared.cookie_error.CookieError.TheVariants.{Memory};
 ghost use Rattle.cookie_parts.specs.declared.store_action.StoreAction.TheVariants.{Inserted};
 ghost use Rattle.cookie_laws.specs.Acceptance.{accept, admitted, by_list, reply_at, MayRefuse};
-ghost use Rattle.cookie_laws.specs.Contents.{contents_of, kept_of};
+ghost use Rattle.cookie_laws.specs.Contents.{contents_of, rows_in_order};
 ghost use Rattle.cookie_laws.specs.Runs.{IsReply, Stored, UnlessMemory};
 
 use crate::InsertResult;
@@ -24,7 +24,7 @@ use std::mem;
 use url::Url;
 
 fn owned(alloc: Global, cookie: Cookie<'_>) -> CookieResult<'static>
-    ensures { Gives (λ cookie. cookie) result (Ok cookie.entry) }
+    ensures { ReturnsOrMemory (λ cookie. cookie) result (Ok cookie.entry) }
 {
     match cookie.into_owned(alloc) {
         Ok(cookie) => Ok(cookie),
@@ -39,7 +39,7 @@ pub(crate) fn owned_cookie(
     url: &Url,
     now: DateTime,
 ) -> CookieResult<'static>
-    ensures value { Gives (λ cookie. cookie) result (cookie_at text.now url.now (moment_of now)) }
+    ensures value { ReturnsOrMemory (λ cookie. cookie) result (cookie_from_header text.now url.now (moment_of now)) }
     ensures early { (refusal : CookieError) → early (reading text.now) url.now ≡ Some refusal → result ≡ Err refusal }
 {
     // A `?` would move the cookie once more.
@@ -56,8 +56,8 @@ pub(crate) fn owned_raw_cookie(
     url: &Url,
     now: DateTime,
 ) -> CookieResult<'static>
-    ensures value { Gives (λ cookie. cookie) result (cookie_of raw.now url.now (moment_of now)) }
-    ensures early { (refusal : CookieError) → early_refusal raw.now url.now ≡ Some refusal → result ≡ Err refusal }
+    ensures value { ReturnsOrMemory (λ cookie. cookie) result (cookie_of raw.now url.now (moment_of now)) }
+    ensures early { (refusal : CookieError) → early_error raw.now url.now ≡ Some refusal → result ≡ Err refusal }
 {
     owned(alloc, Cookie::try_from_raw_cookie(alloc, raw, url, now)?)
 }
@@ -160,7 +160,7 @@ pub(crate) fn accept(
     ensures reply { IsReply result (Stored
         (accept (contents_of rows.old (option_copied suffixes.entry) limit) cookie.entry url.now (moment_of now)).reply) }
     ensures rows { UnlessMemory result (rows.new
-        ≡ kept_of (accept (contents_of rows.old (option_copied suffixes.entry) limit) cookie.entry url.now (moment_of now)).store) }
+        ≡ rows_in_order (accept (contents_of rows.old (option_copied suffixes.entry) limit) cookie.entry url.now (moment_of now)).store) }
     ensures refused { OnErr result (rows.new ≡ rows.old) }
     ensures refusals { IfErr result MayRefuse }
     ensures memory { result ≡ Err Memory
@@ -169,20 +169,23 @@ pub(crate) fn accept(
     let mut cookie = cookie;
     admit(suffixes, &mut cookie, url)?;
     match reply_at(rows.row_of(&cookie), &cookie, url, now)? {
-        StoreAction::Inserted => stored(rows.enter(cookie, limit, now), StoreAction::Inserted),
+        StoreAction::Inserted => action_or_memory(
+            rows.insert_within_limit(cookie, limit, now),
+            StoreAction::Inserted,
+        ),
         StoreAction::UpdatedExisting => {
             rows.replace(cookie);
             Ok(StoreAction::UpdatedExisting)
         }
         StoreAction::ExpiredExisting => {
-            rows.end(&cookie);
+            rows.expire(&cookie);
             Ok(StoreAction::ExpiredExisting)
         }
     }
 }
 
 // The result of an insertion: the action, or `Memory` if it failed to allocate.
-fn stored(outcome: Result<(), AllocError>, action: StoreAction) -> InsertResult
+fn action_or_memory(outcome: Result<(), AllocError>, action: StoreAction) -> InsertResult
     ensures stored { OnOk outcome (result ≡ Ok action) }
     ensures memory { OnErr outcome (result ≡ Err Memory) }
 {

@@ -3,15 +3,15 @@ ghost use Rattle.std.specs.Prelude.{◌≡◌, ◌⊎◌, ◌-◌, ◌^◌, ◌<
 ghost use Rattle.std.specs.Io.KnownBytes.{IsAtEnd};
 ghost use Rattle.serde_json.specs.View.{view};
 ghost use Rattle.cookie_words.specs.Moments.{moment_of};
-ghost use Rattle.cookie_forms.specs.ReadTrees.{saved_at};
-ghost use Rattle.cookie_forms.specs.WrittenTrees.{is_early};
-ghost use Rattle.cookie_parts.specs.Passage.{saved_of};
-ghost use Rattle.cookie_store.specs.JsonLines.{tree_cookie, MakesJson, SaysJson};
-ghost use Rattle.cookie_store.specs.LoadFault.{StopsLoading};
+ghost use Rattle.cookie_forms.specs.FromJson.{saved_at};
+ghost use Rattle.cookie_forms.specs.ToJson.{is_early};
+ghost use Rattle.cookie_parts.specs.SavedConversion.{saved_of};
+ghost use Rattle.cookie_store.specs.JsonLines.{tree_cookie, JsonParsesTo, SerializesToJson};
+ghost use Rattle.cookie_store.specs.LoadError.{StopsLoading};
 ghost use Rattle.cookie_store.specs.Loading.{BuildsFrom, FailsToLoad, ReadsEachOnce};
 ghost use Rattle.cookie_store.specs.Saving.{is_among, FailsToSave, WritesRows};
 
-use crate::loading::{LoadFault, numbered_rows};
+use crate::loading::{LoadError, numbered_rows};
 use crate::saving::save_rows;
 use cookie_device::{Sink, Source};
 use cookie_forms::{SavedError, from_value, laws, to_value};
@@ -30,15 +30,15 @@ pub(crate) fn save_json_rows<W: Sink>(
     now: Option<DateTime>,
 ) -> Result<(), Error>
     requires writable { W.failed sink.old < 2 ^ 64 - 1 }
-    ensures whole { OnOk result (WritesRows SaysJson (filter (is_among (option_map moment_of now)) rows.now.rows)
+    ensures whole { OnOk result (WritesRows SerializesToJson (filter (is_among (option_map moment_of now)) rows.now.rows)
         (W.contents sink.old) (W.contents sink.new)) }
     ensures count { OnOk result (W.failed sink.new ≡ W.failed sink.old) }
-    ensures stopped { IfErr result (λ error. FailsToSave SaysJson error
+    ensures stopped { IfErr result (λ error. FailsToSave SerializesToJson error
         (filter (is_among (option_map moment_of now)) rows.now.rows)
         (W.contents sink.old) (W.contents sink.new) (W.failed sink.old) (W.failed sink.new)) }
 {
     let text_of = |cookie: &Cookie<'_>| -> Result<String, Error>
-        ensures { SaysJson cookie.now result }
+        ensures { SerializesToJson cookie.now result }
     { json_line(alloc, cookie) };
     save_rows(rows, sink, text_of, now)
 }
@@ -46,9 +46,9 @@ pub(crate) fn save_json_rows<W: Sink>(
 // The saved form of the cookie as JSON without spaces. `Saved(Moment)` if it expires before the
 // year 0, checked before anything is allocated.
 fn json_line(alloc: Global, cookie: &Cookie<'_>) -> Result<String, Error>
-    ensures { SaysJson cookie.now result }
+    ensures { SerializesToJson cookie.now result }
 {
-    if ends_early(cookie) {
+    if expires_early(cookie) {
         return Err(Error::Saved(SavedError::Moment));
     }
     // for the checker: the JSON value has no float, so its string is fixed and reads as the value
@@ -59,7 +59,7 @@ fn json_line(alloc: Global, cookie: &Cookie<'_>) -> Result<String, Error>
 }
 
 /// Whether the cookie expires before the year 0.
-pub(crate) fn ends_early(cookie: &Cookie<'_>) -> bool
+pub(crate) fn expires_early(cookie: &Cookie<'_>) -> bool
     ensures { result ≡ is_early (saved_of cookie.now) }
 {
     match cookie.expires {
@@ -77,9 +77,9 @@ pub(crate) fn load_json_rows<R: Source>(
     now: DateTime,
 ) -> Result<Rows, Error>
     requires readable { R.failed source.old < 2 ^ 64 - 1 }
-    ensures built { IfOk result (λ rows. BuildsFrom MakesJson (R.remaining source.old) include_expired (moment_of now) rows) }
+    ensures built { IfOk result (λ rows. BuildsFrom JsonParsesTo (R.remaining source.old) include_expired (moment_of now) rows) }
     ensures read { OnOk result (IsAtEnd (R.remaining source.new) × (R.failed source.new ≡ R.failed source.old)) }
-    ensures failed { IfErr result (λ error. FailsToLoad MakesJson error
+    ensures failed { IfErr result (λ error. FailsToLoad JsonParsesTo error
         (R.remaining source.old) (R.remaining source.new) (R.failed source.old) (R.failed source.new)
         (R.reads_left source.old) (R.reads_left source.new)) }
     ensures reads { ReadsEachOnce (R.remaining source.old) (R.reads_left source.old) (R.reads_left source.new) }
@@ -93,11 +93,11 @@ pub(crate) fn numbered_json_rows<R: Source>(
     source: &mut R,
     include_expired: bool,
     now: DateTime,
-) -> Result<Rows, LoadFault>
+) -> Result<Rows, LoadError>
     requires readable { R.failed source.old < 2 ^ 64 - 1 }
-    ensures built { IfOk result (λ rows. BuildsFrom MakesJson (R.remaining source.old) include_expired (moment_of now) rows) }
+    ensures built { IfOk result (λ rows. BuildsFrom JsonParsesTo (R.remaining source.old) include_expired (moment_of now) rows) }
     ensures read { OnOk result (IsAtEnd (R.remaining source.new) × (R.failed source.new ≡ R.failed source.old)) }
-    ensures failed { IfErr result (λ fault. StopsLoading MakesJson fault
+    ensures failed { IfErr result (λ fault. StopsLoading JsonParsesTo fault
         (R.remaining source.old) (R.remaining source.new) (R.failed source.old) (R.failed source.new)
         (R.reads_left source.old) (R.reads_left source.new)) }
     ensures reads { ReadsEachOnce (R.remaining source.old) (R.reads_left source.old) (R.reads_left source.new) }
@@ -106,7 +106,7 @@ pub(crate) fn numbered_json_rows<R: Source>(
         alloc,
         source,
         |line: &str| -> Result<Cookie<'_>, Error>
-            ensures { MakesJson line.now result }
+            ensures { JsonParsesTo line.now result }
         { cookie_of_json_line(alloc.alloc, line) },
         include_expired,
         now,
@@ -117,7 +117,7 @@ pub(crate) fn numbered_json_rows<R: Source>(
 // `Memory` takes the place of `Saved(Shape)` or `Saved(Moment)` only if the JSON value could not be
 // allocated.
 fn cookie_of_json_line(alloc: Global, line: &str) -> Result<Cookie<'static>, Error>
-    ensures { MakesJson line.now result }
+    ensures { JsonParsesTo line.now result }
 {
     match Value::from_str(alloc, line) {
         Ok(tree) => cookie_of_tree(alloc, &tree),

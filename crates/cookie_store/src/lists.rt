@@ -1,11 +1,11 @@
 //! Saving rows as one string, and loading them from one.
-ghost use Rattle.std.specs.Prelude.{◌≡◌, ◌≢◌, ◌⊎◌, ◌+◌, ◌-◌, ◌≤◌, ◌^◌, ◌<◌, [], length, filter, option_map, IfErr, IfOk, IfSome, OnErr, OnOk};
+ghost use Rattle.std.specs.Prelude.{◌≡◌, ◌≢◌, ◌⊎◌, ◌+◌, ◌-◌, ◌^◌, ◌<◌, [], filter, option_map, IfErr, IfOk, IfSome, OnErr, OnOk};
 ghost use Rattle.std.specs.Fn.{FnReturnsAt};
 ghost use Rattle.std.specs.Io.KnownBytes.{Appends, IsAtEnd};
 ghost use Rattle.cookie_words.specs.Moments.{moment_of};
-ghost use Rattle.cookie_device.specs.Device.{AppendsBeginning};
+ghost use Rattle.cookie_device.specs.Device.{AppendsPrefix};
 ghost use Rattle.cookie_laws.specs.Rows.{built};
-ghost use Rattle.cookie_store.specs.Lists.{BuildsFromList, FailsToLoadList, FailsToSaveList, IsAll, MakesCookies, MakesVec, RefusesText, SaysOfCopies, StopsWithin, WritesList};
+ghost use Rattle.cookie_store.specs.Lists.{BuildsFromList, FailsToLoadList, FailsToSaveList, IsAll, ParsesToCookies, ParsesToVec, RejectsText, SerializesCopies, StopsWithin, WritesList};
 ghost use Rattle.cookie_store.specs.Loading.{ReadsEachOnce};
 ghost use Rattle.cookie_store.specs.Saving.{is_among, line_text};
 
@@ -27,10 +27,10 @@ pub(crate) fn save_copies<W: Sink, F: Fn(&Vec<Cookie<'_>>) -> Result<String, Err
 ) -> Result<(), Error>
     requires callable { F.IsAlwaysCallable text_of }
     requires writable { W.failed sink.old < 2 ^ 64 - 1 }
-    ensures whole { OnOk result (WritesList (SaysOfCopies (FnReturnsAt F.Fn text_of))
+    ensures whole { OnOk result (WritesList (SerializesCopies (FnReturnsAt F.Fn text_of))
         (filter (is_among (option_map moment_of now)) rows.now.rows) (W.contents sink.old) (W.contents sink.new)) }
     ensures count { OnOk result (W.failed sink.new ≡ W.failed sink.old) }
-    ensures stopped { IfErr result (λ error. FailsToSaveList (SaysOfCopies (FnReturnsAt F.Fn text_of)) error
+    ensures stopped { IfErr result (λ error. FailsToSaveList (SerializesCopies (FnReturnsAt F.Fn text_of)) error
         (filter (is_among (option_map moment_of now)) rows.now.rows)
         (W.contents sink.old) (W.contents sink.new) (W.failed sink.old) (W.failed sink.new)) }
 {
@@ -62,7 +62,7 @@ pub(crate) fn write_text<W: Sink>(sink: &mut W, text: &String) -> Result<(), Err
     requires writable { W.failed sink.old < 2 ^ 64 - 1 }
     ensures whole { OnOk result (Appends (W.contents sink.old) (W.contents sink.new) (line_text text.now)) }
     ensures count { OnOk result (W.failed sink.new ≡ W.failed sink.old) }
-    ensures stopped { IfErr result (λ error. AppendsBeginning (W.contents sink.old) (W.contents sink.new) (line_text text.now)
+    ensures stopped { IfErr result (λ error. AppendsPrefix (W.contents sink.old) (W.contents sink.new) (line_text text.now)
         × (error ≡ Error.Io) × (W.failed sink.new ≡ W.failed sink.old + 1)) }
 {
     match write_line(sink, text.as_bytes()) {
@@ -82,16 +82,16 @@ pub(crate) fn load_list<R: Source, F: Fn(&str) -> Result<Vec<Cookie<'_>>, Error>
 ) -> Result<Rows, Error>
     requires callable { F.IsAlwaysCallable cookies_of }
     requires readable { R.failed source.old < 2 ^ 64 - 1 }
-    ensures built { IfOk result (λ rows. BuildsFromList (MakesVec (FnReturnsAt F.Fn cookies_of)) (R.remaining source.old)
+    ensures built { IfOk result (λ rows. BuildsFromList (ParsesToVec (FnReturnsAt F.Fn cookies_of)) (R.remaining source.old)
         include_expired (moment_of now) rows) }
     ensures read { OnOk result (IsAtEnd (R.remaining source.new) × (R.failed source.new ≡ R.failed source.old)) }
-    ensures failed { IfErr result (λ error. FailsToLoadList (MakesVec (FnReturnsAt F.Fn cookies_of)) error
+    ensures failed { IfErr result (λ error. FailsToLoadList (ParsesToVec (FnReturnsAt F.Fn cookies_of)) error
         (R.remaining source.old) (R.remaining source.new) (R.failed source.old) (R.failed source.new)
         (R.reads_left source.old) (R.reads_left source.new)) }
     ensures reads { ReadsEachOnce (R.remaining source.old) (R.reads_left source.old) (R.reads_left source.new) }
 {
     let bytes = read_bytes(alloc.alloc, source)?;
-    let cookies = made_of(&bytes, &cookies_of)?;
+    let cookies = parse_bytes(&bytes, &cookies_of)?;
     rows_of(alloc, cookies, include_expired, now)
 }
 
@@ -115,13 +115,13 @@ pub(crate) fn read_bytes<R: Source>(alloc: Global, source: &mut R) -> Result<Vec
 }
 
 // The cookies that `cookies_of` returns for the bytes, or `NotUtf8`.
-fn made_of<'l, F: Fn(&str) -> Result<Vec<Cookie<'_>>, Error>>(
+fn parse_bytes<'l, F: Fn(&str) -> Result<Vec<Cookie<'_>>, Error>>(
     bytes: &'l [u8],
     cookies_of: &F,
 ) -> Result<Vec<Cookie<'l>>, Error>
     requires { F.IsAlwaysCallable cookies_of.now }
-    ensures made { IfOk result (λ cookies. MakesCookies (MakesVec (FnReturnsAt F.Fn cookies_of.now)) bytes.now cookies.items) }
-    ensures refused { IfErr result (λ error. RefusesText (MakesVec (FnReturnsAt F.Fn cookies_of.now)) error bytes.now) }
+    ensures created { IfOk result (λ cookies. ParsesToCookies (ParsesToVec (FnReturnsAt F.Fn cookies_of.now)) bytes.now cookies.items) }
+    ensures refused { IfErr result (λ error. RejectsText (ParsesToVec (FnReturnsAt F.Fn cookies_of.now)) error bytes.now) }
 {
     match str::from_utf8(bytes) {
         Ok(text) => cookies_of(text),

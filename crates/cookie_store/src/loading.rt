@@ -3,8 +3,8 @@ ghost use Rattle.std.specs.Prelude.{◌≡◌, ◌-◌, ◌^◌, ◌<◌, IfErr,
 ghost use Rattle.std.specs.Fn.{FnReturnsAt};
 ghost use Rattle.std.specs.Io.KnownBytes.{IsAtEnd};
 ghost use Rattle.cookie_words.specs.Moments.{moment_of};
-ghost use Rattle.cookie_store.specs.LoadFault.{StopsLoading};
-ghost use Rattle.cookie_store.specs.Loading.{BuildsFrom, FailsAtLine, FailsToLoad, MakesCookie, ReadsEachOnce, RefusesLine, TakesLine};
+ghost use Rattle.cookie_store.specs.LoadError.{StopsLoading};
+ghost use Rattle.cookie_store.specs.Loading.{BuildsFrom, FailsAtLine, FailsToLoad, ParsesToCookie, ReadsEachOnce, RejectsLine, InsertsLine};
 
 use cookie_device::{FillError, LineBuffer, Source};
 use cookie_parts::{Cookie, Error};
@@ -14,34 +14,34 @@ use std::alloc::Global;
 
 /// Why loading rows from lines failed.
 #[derive(Drop)]
-pub(crate) enum LoadFault {
+pub(crate) enum LoadError {
     /// A read failed, or out of memory for the bytes read.
     Source(FillError),
     /// The error at a line, with its number: counted from 1, `u64::MAX` for all lines beyond that.
     Line(u64, Error),
 }
 
-impl From<FillError> for LoadFault {
-    ghost use Rattle.cookie_store.specs.declared.loading.LoadFault.TheVariants.{Source};
+impl From<FillError> for LoadError {
+    ghost use Rattle.cookie_store.specs.declared.loading.LoadError.TheVariants.{Source};
 
     ghost from_gives = { λ error fault. fault ≡ Source error };
 
-    fn from(error: FillError) -> LoadFault {
-        LoadFault::Source(error)
+    fn from(error: FillError) -> LoadError {
+        LoadError::Source(error)
     }
 }
 
 /// The error without the number of the line.
-impl From<LoadFault> for Error {
-    ghost use Rattle.cookie_store.specs.LoadFault.{error_of};
+impl From<LoadError> for Error {
+    ghost use Rattle.cookie_store.specs.LoadError.{error_of};
 
     ghost from_gives = { λ fault error. error ≡ error_of fault };
 
-    fn from(fault: LoadFault) -> Error {
+    fn from(fault: LoadError) -> Error {
         match fault {
-            LoadFault::Source(FillError::Read) => Error::Io,
-            LoadFault::Source(FillError::Memory) => Error::Memory,
-            LoadFault::Line(_, error) => error,
+            LoadError::Source(FillError::Read) => Error::Io,
+            LoadError::Source(FillError::Memory) => Error::Memory,
+            LoadError::Line(_, error) => error,
         }
     }
 }
@@ -75,7 +75,7 @@ pub(crate) fn numbered_rows<R: Source, F: Fn(&str) -> Result<Cookie<'_>, Error>>
     cookie_of: F,
     include_expired: bool,
     now: DateTime,
-) -> Result<Rows, LoadFault>
+) -> Result<Rows, LoadError>
     requires callable { F.IsAlwaysCallable cookie_of }
     requires readable { R.failed source.old < 2 ^ 64 - 1 }
     ensures built { IfOk result (λ rows. BuildsFrom (FnReturnsAt F.Fn cookie_of) (R.remaining source.old)
@@ -93,7 +93,7 @@ pub(crate) fn numbered_rows<R: Source, F: Fn(&str) -> Result<Cookie<'_>, Error>>
     'lines: loop {
         if let Some(end) = input.line_end() {
             let line = input.line(end);
-            take_numbered(
+            insert_numbered(
                 &mut rows,
                 alloc.alloc,
                 line,
@@ -110,7 +110,7 @@ pub(crate) fn numbered_rows<R: Source, F: Fn(&str) -> Result<Cookie<'_>, Error>>
     }
     let line = input.rest();
     if !line.is_empty() {
-        take_numbered(
+        insert_numbered(
             &mut rows,
             alloc.alloc,
             line,
@@ -123,8 +123,8 @@ pub(crate) fn numbered_rows<R: Source, F: Fn(&str) -> Result<Cookie<'_>, Error>>
     Ok(rows)
 }
 
-// Does [`take_line`], and adds the number of the line to its error.
-fn take_numbered<F: Fn(&str) -> Result<Cookie<'_>, Error>>(
+// Does [`insert_line`], and adds the number of the line to its error.
+fn insert_numbered<F: Fn(&str) -> Result<Cookie<'_>, Error>>(
     rows: &mut Rows,
     alloc: Global,
     line: &[u8],
@@ -132,22 +132,22 @@ fn take_numbered<F: Fn(&str) -> Result<Cookie<'_>, Error>>(
     cookie_of: &F,
     include_expired: bool,
     now: DateTime,
-) -> Result<(), LoadFault>
+) -> Result<(), LoadError>
     requires callable { F.IsAlwaysCallable cookie_of.now }
-    ensures taken { OnOk result (TakesLine (FnReturnsAt F.Fn cookie_of.now) line.now include_expired (moment_of now)
+    ensures taken { OnOk result (InsertsLine (FnReturnsAt F.Fn cookie_of.now) line.now include_expired (moment_of now)
         rows.old rows.new) }
-    ensures failed { IfErr result (λ fault. (error : Error) × (fault ≡ LoadFault.Line number error)
+    ensures failed { IfErr result (λ fault. (error : Error) × (fault ≡ LoadError.Line number error)
         × FailsAtLine (FnReturnsAt F.Fn cookie_of.now) error line.now) }
 {
-    match take_line(rows, alloc, line, cookie_of, include_expired, now) {
+    match insert_line(rows, alloc, line, cookie_of, include_expired, now) {
         Ok(()) => Ok(()),
-        Err(error) => Err(LoadFault::Line(number, error)),
+        Err(error) => Err(LoadError::Line(number, error)),
     }
 }
 
 // Inserts the cookie that `cookie_of` returns for the line. If it has expired, it is skipped unless
 // `include_expired`. On any error the rows are unchanged.
-fn take_line<F: Fn(&str) -> Result<Cookie<'_>, Error>>(
+fn insert_line<F: Fn(&str) -> Result<Cookie<'_>, Error>>(
     rows: &mut Rows,
     alloc: Global,
     line: &[u8],
@@ -156,12 +156,12 @@ fn take_line<F: Fn(&str) -> Result<Cookie<'_>, Error>>(
     now: DateTime,
 ) -> Result<(), Error>
     requires callable { F.IsAlwaysCallable cookie_of.now }
-    ensures taken { OnOk result (TakesLine (FnReturnsAt F.Fn cookie_of.now) line.now include_expired (moment_of now)
+    ensures taken { OnOk result (InsertsLine (FnReturnsAt F.Fn cookie_of.now) line.now include_expired (moment_of now)
         rows.old rows.new) }
     ensures failed { IfErr result (λ error. FailsAtLine (FnReturnsAt F.Fn cookie_of.now) error line.now) }
     ensures kept { OnErr result (rows.new ≡ rows.old) }
 {
-    let cookie = made_of(line, cookie_of)?;
+    let cookie = parse_bytes(line, cookie_of)?;
     let Ok(cookie) = cookie.into_owned(alloc) else {
         return Err(Error::Memory);
     };
@@ -172,13 +172,13 @@ fn take_line<F: Fn(&str) -> Result<Cookie<'_>, Error>>(
 }
 
 // The cookie that `cookie_of` returns for the line, or `NotUtf8`.
-fn made_of<'l, F: Fn(&str) -> Result<Cookie<'_>, Error>>(
+fn parse_bytes<'l, F: Fn(&str) -> Result<Cookie<'_>, Error>>(
     line: &'l [u8],
     cookie_of: &F,
 ) -> Result<Cookie<'l>, Error>
     requires { F.IsAlwaysCallable cookie_of.now }
-    ensures made { IfOk result (λ cookie. MakesCookie (FnReturnsAt F.Fn cookie_of.now) line.now cookie) }
-    ensures refused { IfErr result (λ error. RefusesLine (FnReturnsAt F.Fn cookie_of.now) error line.now) }
+    ensures created { IfOk result (λ cookie. ParsesToCookie (FnReturnsAt F.Fn cookie_of.now) line.now cookie) }
+    ensures refused { IfErr result (λ error. RejectsLine (FnReturnsAt F.Fn cookie_of.now) error line.now) }
 {
     match str::from_utf8(line) {
         Ok(text) => cookie_of(text),

@@ -4,7 +4,7 @@ ghost use Rattle.std.specs.Iterator.{IsFinite};
 ghost use Rattle.std.specs.Result.{result_err};
 ghost use Rattle.cookie_words.specs.Moments.{moment_of};
 ghost use Rattle.cookie_parts.specs.declared.cookie_error.CookieError.TheVariants.{Memory};
-ghost use Rattle.cookie_store.specs.Responses.{TakesToEnd, TakesUntil};
+ghost use Rattle.cookie_store.specs.Responses.{InsertsToEnd, InsertsUntil};
 
 use crate::{Bulk, InsertResult};
 use cookie_parts::CookieError;
@@ -37,7 +37,7 @@ impl<'a> fmt::Display for Arrival<'a> {
 }
 
 /// Inserts the remaining cookies in order. If memory runs out, those before remain stored.
-pub(crate) fn store_each<'c, S: Bulk, L: Log, I: Iterator<Item = RawCookie<'c>>>(
+pub(crate) fn insert_each<'c, S: Bulk, L: Log, I: Iterator<Item = RawCookie<'c>>>(
     store: &mut S,
     logger: &L,
     cookies: &mut I,
@@ -47,9 +47,9 @@ pub(crate) fn store_each<'c, S: Bulk, L: Log, I: Iterator<Item = RawCookie<'c>>>
     requires can { I.can_next cookies.old }
     requires ends { IsFinite (I.remaining cookies.old) }
     ensures taken { OnOk result
-        (TakesToEnd I.next_gives cookies.old cookies.new url.now (moment_of now) (S.contents store.old) (S.contents store.new)) }
+        (InsertsToEnd I.next_gives cookies.old cookies.new url.now (moment_of now) (S.contents store.old) (S.contents store.new)) }
     ensures stopped { OnErr result
-        (TakesUntil I.next_gives cookies.old cookies.new url.now (moment_of now) (S.contents store.old) (S.contents store.new)) }
+        (InsertsUntil I.next_gives cookies.old cookies.new url.now (moment_of now) (S.contents store.old) (S.contents store.new)) }
 {
     while let Some(raw) = cookies.next() {
         log_arrival(logger, &raw);
@@ -60,11 +60,11 @@ pub(crate) fn store_each<'c, S: Bulk, L: Log, I: Iterator<Item = RawCookie<'c>>>
 }
 
 // The error of a rejected cookie, if it was rejected; `AllocError` if out of memory.
-fn refusal_of(told: InsertResult) -> Result<Option<CookieError>, AllocError>
-    ensures refusal { IfOk result (λ refusal. (refusal ≡ result_err told) × (told ≢ Err Memory)) }
-    ensures memory { OnErr result (told ≡ Err Memory) }
+fn refusal_of(reported: InsertResult) -> Result<Option<CookieError>, AllocError>
+    ensures refusal { IfOk result (λ refusal. (refusal ≡ result_err reported) × (reported ≢ Err Memory)) }
+    ensures memory { OnErr result (reported ≡ Err Memory) }
 {
-    match told {
+    match reported {
         Ok(_) => Ok(None),
         Err(CookieError::Memory) => Err(AllocError),
         Err(refusal) => Ok(Some(refusal)),

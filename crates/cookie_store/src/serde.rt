@@ -3,8 +3,8 @@ ghost use Rattle.std.specs.Prelude.{◌≡◌, ◌-◌, ◌^◌, ◌<◌, false,
 ghost use Rattle.std.specs.Fn.{FnReturnsAt};
 ghost use Rattle.std.specs.Io.KnownBytes.{IsAtEnd};
 ghost use Rattle.cookie_words.specs.Moments.{moment_of};
-ghost use Rattle.cookie_laws.specs.Contents.{kept_of};
-ghost use Rattle.cookie_store.specs.Lists.{BuildsFromList, FailsToLoadList, FailsToSaveList, MakesVec, SaysOfCopies, WritesList};
+ghost use Rattle.cookie_laws.specs.Contents.{rows_in_order};
+ghost use Rattle.cookie_store.specs.Lists.{BuildsFromList, FailsToLoadList, FailsToSaveList, ParsesToVec, SerializesCopies, WritesList};
 ghost use Rattle.cookie_store.specs.Loading.{ReadsEachOnce};
 ghost use Rattle.cookie_store.specs.Saving.{saved_rows};
 
@@ -15,9 +15,9 @@ use cookie_parts::{Cookie, Error, StoreResult};
 use cookie_rows::StoreAlloc;
 use jiff::civil::DateTime;
 
-mod forms;
 pub mod json;
 pub mod laws;
+mod list_format;
 mod migration;
 pub mod ron;
 
@@ -42,10 +42,10 @@ pub fn save<S: Bulk, W: Sink, F: Fn(&Vec<Cookie<'_>>) -> Result<String, Error>>(
 ) -> StoreResult<()>
     requires callable { F.IsAlwaysCallable cookies_to_string }
     requires writable { W.failed writer.old < 2 ^ 64 - 1 }
-    ensures whole { OnOk result (WritesList (SaysOfCopies (FnReturnsAt F.Fn cookies_to_string))
+    ensures whole { OnOk result (WritesList (SerializesCopies (FnReturnsAt F.Fn cookies_to_string))
         (saved_rows (moment_of now) (S.contents store.now).rows) (W.contents writer.old) (W.contents writer.new)) }
     ensures count { OnOk result (W.failed writer.new ≡ W.failed writer.old) }
-    ensures stopped { IfErr result (λ error. FailsToSaveList (SaysOfCopies (FnReturnsAt F.Fn cookies_to_string)) error
+    ensures stopped { IfErr result (λ error. FailsToSaveList (SerializesCopies (FnReturnsAt F.Fn cookies_to_string)) error
         (saved_rows (moment_of now) (S.contents store.now).rows)
         (W.contents writer.old) (W.contents writer.new) (W.failed writer.old) (W.failed writer.new)) }
 {
@@ -69,10 +69,10 @@ pub fn save_incl_expired_and_nonpersistent<
 >(store: &S, writer: &mut W, cookies_to_string: F) -> StoreResult<()>
     requires callable { F.IsAlwaysCallable cookies_to_string }
     requires writable { W.failed writer.old < 2 ^ 64 - 1 }
-    ensures whole { OnOk result (WritesList (SaysOfCopies (FnReturnsAt F.Fn cookies_to_string)) (S.contents store.now).rows
+    ensures whole { OnOk result (WritesList (SerializesCopies (FnReturnsAt F.Fn cookies_to_string)) (S.contents store.now).rows
         (W.contents writer.old) (W.contents writer.new)) }
     ensures count { OnOk result (W.failed writer.new ≡ W.failed writer.old) }
-    ensures stopped { IfErr result (λ error. FailsToSaveList (SaysOfCopies (FnReturnsAt F.Fn cookies_to_string)) error
+    ensures stopped { IfErr result (λ error. FailsToSaveList (SerializesCopies (FnReturnsAt F.Fn cookies_to_string)) error
         (S.contents store.now).rows
         (W.contents writer.old) (W.contents writer.new) (W.failed writer.old) (W.failed writer.new)) }
 {
@@ -102,12 +102,12 @@ pub fn load<S: Bulk, A: Into<StoreAlloc>, R: Source, F: Fn(&str) -> Result<Vec<C
 ) -> StoreResult<S>
     requires callable { F.IsAlwaysCallable cookies_from_str }
     requires readable { R.failed reader.old < 2 ^ 64 - 1 }
-    ensures built { IfOk result (λ store. BuildsFromList (MakesVec (FnReturnsAt F.Fn cookies_from_str)) (R.remaining reader.old)
-        false (moment_of now) (kept_of (S.contents store))) }
+    ensures built { IfOk result (λ store. BuildsFromList (ParsesToVec (FnReturnsAt F.Fn cookies_from_str)) (R.remaining reader.old)
+        false (moment_of now) (rows_in_order (S.contents store))) }
     ensures suffixes { IfOk result (λ store. (S.contents store).suffixes ≡ None) }
     ensures limit { IfOk result (λ store. (S.contents store).limit ≡ None) }
     ensures read { OnOk result (IsAtEnd (R.remaining reader.new) × (R.failed reader.new ≡ R.failed reader.old)) }
-    ensures failed { IfErr result (λ error. FailsToLoadList (MakesVec (FnReturnsAt F.Fn cookies_from_str)) error
+    ensures failed { IfErr result (λ error. FailsToLoadList (ParsesToVec (FnReturnsAt F.Fn cookies_from_str)) error
         (R.remaining reader.old) (R.remaining reader.new) (R.failed reader.old) (R.failed reader.new)
         (R.reads_left reader.old) (R.reads_left reader.new)) }
     ensures reads { ReadsEachOnce (R.remaining reader.old) (R.reads_left reader.old) (R.reads_left reader.new) }
@@ -128,12 +128,12 @@ pub fn load_all<
 >(alloc: A, reader: &mut R, cookies_from_str: F, now: DateTime) -> StoreResult<S>
     requires callable { F.IsAlwaysCallable cookies_from_str }
     requires readable { R.failed reader.old < 2 ^ 64 - 1 }
-    ensures built { IfOk result (λ store. BuildsFromList (MakesVec (FnReturnsAt F.Fn cookies_from_str)) (R.remaining reader.old)
-        true (moment_of now) (kept_of (S.contents store))) }
+    ensures built { IfOk result (λ store. BuildsFromList (ParsesToVec (FnReturnsAt F.Fn cookies_from_str)) (R.remaining reader.old)
+        true (moment_of now) (rows_in_order (S.contents store))) }
     ensures suffixes { IfOk result (λ store. (S.contents store).suffixes ≡ None) }
     ensures limit { IfOk result (λ store. (S.contents store).limit ≡ None) }
     ensures read { OnOk result (IsAtEnd (R.remaining reader.new) × (R.failed reader.new ≡ R.failed reader.old)) }
-    ensures failed { IfErr result (λ error. FailsToLoadList (MakesVec (FnReturnsAt F.Fn cookies_from_str)) error
+    ensures failed { IfErr result (λ error. FailsToLoadList (ParsesToVec (FnReturnsAt F.Fn cookies_from_str)) error
         (R.remaining reader.old) (R.remaining reader.new) (R.failed reader.old) (R.failed reader.new)
         (R.reads_left reader.old) (R.reads_left reader.new)) }
     ensures reads { ReadsEachOnce (R.remaining reader.old) (R.reads_left reader.old) (R.reads_left reader.new) }

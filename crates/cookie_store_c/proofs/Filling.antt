@@ -3,7 +3,7 @@ use Rattle.std.proofs.Common.{◌≡◌, ℕ, suc, ◌+◌, ◌≤◌, ◌<◌, 
 use Rattle.std.proofs.Math.Seq.{set-append_seam, take-suc}
 use Rattle.std.proofs.lemmas.Grind.{flat_map-append}
 use Rattle.std.proofs.lemmas.List.{drop_more, length-map, map-append, take-append-drop}
-use Rattle.cookie_store_c.specs.Buffers.{Stands, at_front}
+use Rattle.cookie_store_c.specs.Buffers.{IsFilledTo, at_front}
 
 module _ {A : Type 0} (f : A → List ℕ) (items : List A) where
   -- the strings of the first items and of one more
@@ -31,10 +31,10 @@ module _ {A : Type 0} (f : A → List ℕ) (items : List A) where
       omega (arith, parts (i + 1), next, is)
 
 -- a front that grew twice
-pub stands_more : (front a b both before buffer : List ℕ) (place : ℕ) → both ≡ a ++ b → Stands ((front ++ a) ++ b) before buffer place
-    → Stands (front ++ both) before buffer place
+pub stands_more : (front a b both before buffer : List ℕ) (place : ℕ) → both ≡ a ++ b → IsFilledTo ((front ++ a) ++ b) before buffer place
+    → IsFilledTo (front ++ both) before buffer place
 stands_more front a b both before buffer place e h =
-    subst (λ text. Stands text before buffer place) (append_assoc front a b ∙ ap (λ text. front ++ text) (sym e)) h
+    subst (λ text. IsFilledTo text before buffer place) (append_assoc front a b ∙ ap (λ text. front ++ text) (sym e)) h
 
 -- a front that grew by an item
 pub filled_more : {T : Type 0} (front before : List T) (item : T) → length front < length before
@@ -47,12 +47,12 @@ filled_more front before item small =
     ∙ ap (λ k. front ++ item ∷ drop k before) n)
 
 -- the rows of the first items and of one more
-pub filled_next : {A T : Type 0} (tell : A → T) (seen : List A) (item : A) (before buffer : List T) (place : ℕ) (told : T)
-    → buffer ≡ at_front (map tell seen) before → place ≡ length seen → length seen < length before → told ≡ tell item
-    → set buffer place told ≡ at_front (map tell (seen ++ item ∷ [])) before
-filled_next tell seen item before buffer place told filled at small is =
+pub filled_next : {A T : Type 0} (tell : A → T) (seen : List A) (item : A) (before buffer : List T) (place : ℕ) (reported : T)
+    → buffer ≡ at_front (map tell seen) before → place ≡ length seen → length seen < length before → reported ≡ tell item
+    → set buffer place reported ≡ at_front (map tell (seen ++ item ∷ [])) before
+filled_next tell seen item before buffer place reported filled at small is =
     let front = map tell seen in
     let as_many : length front ≡ length seen = length-map seen tell in
-    ap (λ xs. set xs place told) filled ∙ ap (λ n. set (at_front front before) n told) (at ∙ sym as_many)
+    ap (λ xs. set xs place reported) filled ∙ ap (λ n. set (at_front front before) n reported) (at ∙ sym as_many)
     ∙ ap (set (at_front front before) (length front)) is ∙ filled_more front before (tell item) (omega (arith, as_many, small))
     ∙ ap (λ xs. at_front xs before) (sym (map-append tell seen (item ∷ [])))

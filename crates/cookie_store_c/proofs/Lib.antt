@@ -1,8 +1,8 @@
 mod Seconds
-mod SlotSteps
+mod StorePtrSteps
 mod StoreBox
 mod StoreGlue
 mod Filling
-mod HandedHeaders
+mod WrittenHeaders
 mod Loading
 mod Passing

@@ -6,12 +6,12 @@ use Rattle.cookie_words.specs.Moments.{Moment}
 use Rattle.cookie_parts.specs.Cookie.{Row}
 use Rattle.cookie_parts.specs.declared.error.Error.{Error}
 use Rattle.cookie_parts.specs.declared.error.Error.TheVariants.{Memory}
-use Rattle.cookie_laws.specs.Contents.{Contents, kept_of}
+use Rattle.cookie_laws.specs.Contents.{Contents, rows_in_order}
 use Rattle.cookie_store.specs.Lists.{BuildsFromList, FailsToLoadList}
 use Rattle.cookie_store_c.specs.Calls.{refused}
-use Rattle.cookie_store_c.specs.Lists.{LoadsText, Says}
-use Rattle.cookie_store_c.specs.Statuses.{fault_status}
-use Rattle.cookie_store_c.specs.declared.lists.Form.{Form}
+use Rattle.cookie_store_c.specs.Lists.{LoadsText, ParsesAs}
+use Rattle.cookie_store_c.specs.Statuses.{error_status}
+use Rattle.cookie_store_c.specs.declared.lists.ListFormat.{ListFormat}
 use Rattle.cookie_store_c.specs.declared.status.Status.{Status}
 use Rattle.cookie_store_c.specs.declared.status.Status.TheVariants.{Done, NoMemory}
 
@@ -20,55 +20,55 @@ pub of_memory : {Refused Wanting : Type 0} {error : Error} → Refused ⊎ ((err
 of_memory (inl h) = inl h
 of_memory (inr (memory, wanting)) = inr memory
 
-module _ (form : Form) (Makes : List ℕ → Result (List Row) Error → Type 0) (all : Bool) (now : Moment) (text : List ℕ) where
+module _ (form : ListFormat) (Makes : List ℕ → Result (List Row) Error → Type 0) (all : Bool) (now : Moment) (text : List ℕ) where
   -- a store that was created
-  loads : ((cookies : List Row) → Makes text (Ok cookies) → Says form text (Ok cookies)) → (store : Contents)
-      → BuildsFromList Makes (Some text) all now (kept_of store) → store.suffixes ≡ None → store.limit ≡ None
+  loads : ((cookies : List Row) → Makes text (Ok cookies) → ParsesAs form text (Ok cookies)) → (store : Contents)
+      → BuildsFromList Makes (Some text) all now (rows_in_order store) → store.suffixes ≡ None → store.limit ≡ None
       → LoadsText form all now text (record { status = Done; store = Some store })
-  loads made store (whole, cookies, same, (valid, makes), kept) suffixes limit = (
+  loads created store (whole, cookies, same, (valid, makes), kept) suffixes limit = (
     Ok cookies,
-    made cookies (subst (λ t. Makes t (Ok cookies)) (sym same) makes),
+    created cookies (subst (λ t. Makes t (Ok cookies)) (sym same) makes),
     λ i. record {
       status = Done;
-      store = Some (record { rows = (kept i).rows; made = (kept i).made; suffixes = suffixes i; limit = limit i });
+      store = Some (record { rows = (kept i).rows; created = (kept i).created; suffixes = suffixes i; limit = limit i });
     },
   )
 
   -- the same for what was loaded
-  pub loads_built : ((cookies : List Row) → Makes text (Ok cookies) → Says form text (Ok cookies)) → (known : Option (List ℕ)) → known ≡ Some text
-      → (read : Result Contents Error) (told : Result Contents Status) → told ≡ result_map_both (λ store. store) fault_status read
-      → IfOk read (λ store. BuildsFromList Makes known all now (kept_of store)) → IfOk read (λ store. store.suffixes ≡ None)
+  pub loads_built : ((cookies : List Row) → Makes text (Ok cookies) → ParsesAs form text (Ok cookies)) → (known : Option (List ℕ)) → known ≡ Some text
+      → (read : Result Contents Error) (reported : Result Contents Status) → reported ≡ result_map_both (λ store. store) error_status read
+      → IfOk read (λ store. BuildsFromList Makes known all now (rows_in_order store)) → IfOk read (λ store. store.suffixes ≡ None)
       → IfOk read (λ store. store.limit ≡ None)
-      → IfOk told (λ store. LoadsText form all now text (record { status = Done; store = Some store }))
-  loads_built made known e (Ok store) told is built suffixes limit =
-      rw is (loads made store (subst (λ k. BuildsFromList Makes k all now (kept_of store)) e built) suffixes limit)
-  loads_built made known e (Err error) told is built suffixes limit = rw is tt
+      → IfOk reported (λ store. LoadsText form all now text (record { status = Done; store = Some store }))
+  loads_built created known e (Ok store) reported is built suffixes limit =
+      rw is (loads created store (subst (λ k. BuildsFromList Makes k all now (rows_in_order store)) e built) suffixes limit)
+  loads_built created known e (Err error) reported is built suffixes limit = rw is tt
 
-  module _ (valid : is_utf8 text ≡ true) (says : (error : Error) → Makes text (Err error) → Says form text (Err error) ⊎ (error ≡ Memory)) where
+  module _ (valid : is_utf8 text ≡ true) (says : (error : Error) → Makes text (Err error) → ParsesAs form text (Err error) ⊎ (error ≡ Memory)) where
     -- a string that is rejected
-    said : (error : Error) → Says form text (Err error) ⊎ (error ≡ Memory)
-        → LoadsText form all now text (refused None (fault_status error)) ⊎ (fault_status error ≡ NoMemory)
+    said : (error : Error) → ParsesAs form text (Err error) ⊎ (error ≡ Memory)
+        → LoadsText form all now text (refused None (error_status error)) ⊎ (error_status error ≡ NoMemory)
     said error (inl h) = inl (Err error, h, refl)
-    said error (inr h) = inr (ap fault_status h)
+    said error (inr h) = inr (ap error_status h)
 
     -- there is no store
     fails : (error : Error) (rest : Option (List ℕ)) (failures failures' reads_left reads_left' : ℕ)
         → FailsToLoadList Makes error (Some text) rest failures failures' reads_left reads_left'
-        → LoadsText form all now text (refused None (fault_status error)) ⊎ (fault_status error ≡ NoMemory)
+        → LoadsText form all now text (refused None (error_status error)) ⊎ (error_status error ≡ NoMemory)
     fails error rest f f' n n' (inl ((whole, same, inl (inl (invalid, is))), at_end, kept)) =
         absurd (true≢false (sym valid ∙ ap is_utf8 same ∙ invalid))
     fails error rest f f' n n' (inl ((whole, same, inl (inr (is_text, makes))), at_end, kept)) =
         said error (says error (subst (λ t. Makes t (Err error)) (sym same) makes))
-    fails error rest f f' n n' (inl ((whole, same, inr (memory, cookies, made, some)), at_end, kept)) = inr (ap fault_status memory)
-    fails error rest f f' n n' (inr (within, inl (io, raised))) = inr (ap fault_status io)
-    fails error rest f f' n n' (inr (within, inr (memory, kept))) = inr (ap fault_status memory)
+    fails error rest f f' n n' (inl ((whole, same, inr (memory, cookies, created, some)), at_end, kept)) = inr (ap error_status memory)
+    fails error rest f f' n n' (inr (within, inl (io, raised))) = inr (ap error_status io)
+    fails error rest f f' n n' (inr (within, inr (memory, kept))) = inr (ap error_status memory)
 
     -- the same for what was loaded
-    pub fails_told : (known : Option (List ℕ)) → known ≡ Some text → (read : Result Contents Error) (told : Result Contents Status)
-        → told ≡ result_map_both (λ store. store) fault_status read
+    pub fails_told : (known : Option (List ℕ)) → known ≡ Some text → (read : Result Contents Error) (reported : Result Contents Status)
+        → reported ≡ result_map_both (λ store. store) error_status read
         → (rest : Option (List ℕ)) (failures failures' reads_left reads_left' : ℕ)
         → IfErr read (λ error. FailsToLoadList Makes error known rest failures failures' reads_left reads_left')
-        → IfErr told (λ status. LoadsText form all now text (refused None status) ⊎ (status ≡ NoMemory))
-    fails_told known e (Ok store) told is rest f f' n n' failed = rw is tt
-    fails_told known e (Err error) told is rest f f' n n' failed =
+        → IfErr reported (λ status. LoadsText form all now text (refused None status) ⊎ (status ≡ NoMemory))
+    fails_told known e (Ok store) reported is rest f f' n n' failed = rw is tt
+    fails_told known e (Err error) reported is rest f f' n n' failed =
         rw is (fails error rest f f' n n' (subst (λ k. FailsToLoadList Makes error k rest f f' n n') e failed))

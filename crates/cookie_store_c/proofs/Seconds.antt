@@ -12,7 +12,7 @@ use Rattle.cookie_words.specs.Moments.{epoch, moment_at, moment_of, nanoseconds}
 use Rattle.jiff_core.specs.declared.civil.datetime.DateTime.{DateTime}
 use Rattle.jiff.specs.Words.{civil_nanos}
 use Rattle.jiff.proofs.Family.{civil_nanos_range}
-use Rattle.cookie_store_c.specs.Asked.{first_second, last_second, moment_in}
+use Rattle.cookie_store_c.specs.Inputs.{first_second, last_second, moment_in}
 use Rattle.cookie_store_c.specs.declared.status.Status.TheVariants.{BadMoment}
 
 -- the test that seconds lie in the years -9999 to 9999
@@ -60,9 +60,9 @@ begins start e = same_nanos start ∙ ap nanoseconds e ∙ ap (λ days. days *�
 
 module _ (start : DateTime) (seconds : ℤ) (e : moment_of start ≡ epoch) where
   -- a time that is so many seconds after the epoch is the time of these seconds
-  pub told : ((moment : DateTime) → moment_at (nanoseconds (moment_of moment)) ≡ moment_of moment) → (moment : DateTime)
+  pub reported : ((moment : DateTime) → moment_at (nanoseconds (moment_of moment)) ≡ moment_of moment) → (moment : DateTime)
       → civil_nanos moment ≡ civil_nanos start +ℤ seconds *ℤ pos 1_000_000_000 → Ok (moment_of moment) ≡ moment_in seconds
-  told scale moment lies =
+  reported scale moment lies =
       let begin : civil_nanos start ≡ pos 0 = begins start e in
       let n : civil_nanos moment ≡ seconds *ℤ pos 1_000_000_000 = omega (arith, signed_arith, lies, begin) in
       rw (counted seconds (civil_nanos moment) n (civil_nanos_range moment))

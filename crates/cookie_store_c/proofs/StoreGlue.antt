@@ -30,7 +30,7 @@ store_glue 𝓤 𝓛 𝓜 𝓡 wired =
     let said : Spec 𝓤 (signature StoreArg) = λ κs a.
     record { ghost = Unit {0}; requires = λ _. sep 𝓤 (fact 𝓤 (κs.0 ⊑ StoreArg.lives)) (emp 𝓤); ensures = λ g. (own tt a).ensures g } in
     beside 𝓛 (signature StoreArg) run framed said (spent 𝓛 StoreArg) (λ κs a g. g) (λ κs a g. emp 𝓤)
-    (λ κs a g. let asked = (said κs a).requires g in via 𝓤 (sep 𝓤 (emp 𝓤) asked) (emp∗ 𝓤 asked) (comm∗ 𝓤 (emp 𝓤) asked))
+    (λ κs a g. let inputs = (said κs a).requires g in via 𝓤 (sep 𝓤 (emp 𝓤) inputs) (emp∗ 𝓤 inputs) (comm∗ 𝓤 (emp 𝓤) inputs))
     (λ κs a g r. qed 𝓛 (raw ((said κs a).ensures g r) ∷ raw (emp 𝓤) ∷ []) ∵ keep ! [] $
     show ! (λ (last : Unit {0} × Unit {0}). sep 𝓤 (sem 𝓛 (fsep ftrue ftrue)) (emp 𝓤)) (tt, tt) $ nothing ! $ nothing ! $ fjoin ! $ nothing ! $ move ! (1 ∷ 0 ∷ []) $ done !)
     (spared 𝓛 f.signature run framed 1 (Store.lives, tt) own called)

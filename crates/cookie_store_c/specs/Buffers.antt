@@ -8,39 +8,39 @@ abbrev pub at_front : {T : Type 0} → List T → List T → List T
 at_front items buffer = items ++ drop (length items) buffer
 
 -- the buffer, which was `before`, has `front` at its front, which ends at `place`
-pub record Stands (front before buffer : List ℕ) (place : ℕ) : Type 0 where
+pub record IsFilledTo (front before buffer : List ℕ) (place : ℕ) : Type 0 where
   pub filled : buffer ≡ at_front front before
   pub ends : place ≡ length front
   pub as_long : length buffer ≡ length before
 
 -- the status, the buffer after the call, and the length of the string
-pub record Handed : Type 0 where
+pub record TextOutcome : Type 0 where
   pub status : Status
   pub buffer : List ℕ
   pub needed : ℕ
 
 -- a string is written if it fits; its length is returned in any case
-abbrev pub handed_text : List ℕ → List ℕ → Handed
-handed_text text buffer =
+abbrev pub write_if_fits : List ℕ → List ℕ → TextOutcome
+write_if_fits text buffer =
     if nat_le (length text) (length buffer) then record { status = Done; buffer = at_front text buffer; needed = length text }
     else record { status = NoRoom; buffer = buffer; needed = length text }
 
 -- on an error nothing is written, and the length is 0
-abbrev pub handed : Result (List ℕ) Status → List ℕ → Handed
-handed (Ok text) buffer = handed_text text buffer
-handed (Err status) buffer = record { status = status; buffer = buffer; needed = 0 }
+abbrev pub text_outcome : Result (List ℕ) Status → List ℕ → TextOutcome
+text_outcome (Ok text) buffer = write_if_fits text buffer
+text_outcome (Err status) buffer = record { status = status; buffer = buffer; needed = 0 }
 
--- memory ran out, which it may if `MayWant` holds; the buffer is unchanged and the length is 0
-abbrev pub HandsNothing : Type 0 → List ℕ → Status → List ℕ → ℕ → Type 0
-HandsNothing MayWant old status new needed = (status ≡ NoMemory) × MayWant × (new ≡ old) × (needed ≡ 0)
+-- memory ran out, which it may if `MayAllocate` holds; the buffer is unchanged and the length is 0
+abbrev pub WritesNothing : Type 0 → List ℕ → Status → List ℕ → ℕ → Type 0
+WritesNothing MayAllocate old status new needed = (status ≡ NoMemory) × MayAllocate × (new ≡ old) × (needed ≡ 0)
 
 -- the outcome is that of this result, or memory ran out
-abbrev pub Hands : Result (List ℕ) Status → Type 0 → List ℕ → Status → List ℕ → ℕ → Type 0
-Hands answer MayWant old status new needed =
-    (record { status = status; buffer = new; needed = needed } ≡ handed answer old) ⊎ HandsNothing MayWant old status new needed
+abbrev pub WritesText : Result (List ℕ) Status → Type 0 → List ℕ → Status → List ℕ → ℕ → Type 0
+WritesText answer MayAllocate old status new needed =
+    (record { status = status; buffer = new; needed = needed } ≡ text_outcome answer old) ⊎ WritesNothing MayAllocate old status new needed
 
 -- the outcome is that of a result with this property, or memory ran out
-abbrev pub HandsSome : (Result (List ℕ) Status → Type 0) → Type 0 → List ℕ → Status → List ℕ → ℕ → Type 0
-HandsSome IsAnswer MayWant old status new needed =
-    ((answer : Result (List ℕ) Status) × IsAnswer answer × (record { status = status; buffer = new; needed = needed } ≡ handed answer old))
-    ⊎ HandsNothing MayWant old status new needed
+abbrev pub WritesSomeText : (Result (List ℕ) Status → Type 0) → Type 0 → List ℕ → Status → List ℕ → ℕ → Type 0
+WritesSomeText IsAnswer MayAllocate old status new needed =
+    ((answer : Result (List ℕ) Status) × IsAnswer answer × (record { status = status; buffer = new; needed = needed } ≡ text_outcome answer old))
+    ⊎ WritesNothing MayAllocate old status new needed

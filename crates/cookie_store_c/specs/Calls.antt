@@ -8,61 +8,61 @@ use Rattle.cookie_psl.specs.declared.error.ListError.TheVariants as fault
 use Rattle.cookie_parts.specs.Cookie.{Row}
 use Rattle.cookie_laws.specs.Contents.{Contents, unexpired}
 use Rattle.cookie_laws.specs.Runs.{Call, step}
-use Rattle.cookie_store_c.specs.Asked.{text_in}
+use Rattle.cookie_store_c.specs.Inputs.{text_in}
 use Rattle.cookie_store_c.specs.Statuses.{reply_status}
 use Rattle.cookie_store_c.specs.declared.status.Status.{Status}
 use Rattle.cookie_store_c.specs.declared.status.Status.TheVariants.{Done, NoMemory, NoStore, HasStore, BadLimit, BadRule}
 
 -- the status that a call returns, and the store after it, if there is one
-pub record Turn : Type 0 where
+pub record CallOutcome : Type 0 where
   pub status : Status
   pub store : Option Contents
 
 -- an error that leaves the store unchanged
-abbrev pub refused : Option Contents → Status → Turn
+abbrev pub refused : Option Contents → Status → CallOutcome
 refused store status = record { status = status; store = store }
 
 -- a call on a store; or the status of an invalid argument, which leaves the store unchanged
-abbrev pub store_turn : Contents → Result Call Status → Turn
-store_turn store (Ok call) = record { status = reply_status (step call store).reply; store = Some (step call store).store }
-store_turn store (Err status) = refused (Some store) status
+abbrev pub store_outcome : Contents → Result Call Status → CallOutcome
+store_outcome store (Ok call) = record { status = reply_status (step call store).reply; store = Some (step call store).store }
+store_outcome store (Err status) = refused (Some store) status
 
 -- a call on a store, or `NoStore` if there is none
-abbrev pub turn : Option Contents → Result Call Status → Turn
-turn None call = refused None NoStore
-turn (Some store) call = store_turn store call
+abbrev pub call_outcome : Option Contents → Result Call Status → CallOutcome
+call_outcome None call = refused None NoStore
+call_outcome (Some store) call = store_outcome store call
 
 -- an empty store is created, or `HasStore` if there is one
-abbrev pub new_turn : Option Contents → Turn
-new_turn None = record { status = Done; store = Some (record { rows = []; made = []; suffixes = None; limit = None }) }
-new_turn (Some store) = refused (Some store) HasStore
+abbrev pub new_outcome : Option Contents → CallOutcome
+new_outcome None = record { status = Done; store = Some (record { rows = []; created = []; suffixes = None; limit = None }) }
+new_outcome (Some store) = refused (Some store) HasStore
 
 -- the call succeeds and the store is unchanged
-abbrev pub kept_turn : Option Contents → Turn
-kept_turn None = refused None NoStore
-kept_turn (Some store) = record { status = Done; store = Some store }
+abbrev pub unchanged_outcome : Option Contents → CallOutcome
+unchanged_outcome None = refused None NoStore
+unchanged_outcome (Some store) = record { status = Done; store = Some store }
 
 -- each domain is limited to n cookies, and n is at least 1
-abbrev pub limit_turn : ℕ → Option Contents → Turn
-limit_turn n None = refused None NoStore
-limit_turn n (Some store) =
+abbrev pub limit_outcome : ℕ → Option Contents → CallOutcome
+limit_outcome n None = refused None NoStore
+limit_outcome n (Some store) =
     if n == 0 then refused (Some store) BadLimit
     else record { status = Done; store = Some (record store { limit = Some n }) }
 
 -- the expired cookies are removed, unless the time is out of range
-abbrev pub expired_turn : Result Moment Status → Option Contents → Turn
-expired_turn now None = refused None NoStore
-expired_turn (Ok now) (Some store) = record { status = Done; store = Some (unexpired now store) }
-expired_turn (Err status) (Some store) = refused (Some store) status
+abbrev pub expired_outcome : Result Moment Status → Option Contents → CallOutcome
+expired_outcome now None = refused None NoStore
+expired_outcome (Ok now) (Some store) = record { status = Done; store = Some (unexpired now store) }
+expired_outcome (Err status) (Some store) = refused (Some store) status
 
--- memory ran out, which it may if `MayWant` holds, and the store is unchanged
+-- memory ran out, which it may if `MayAllocate` holds, and the store is unchanged
 abbrev pub RunsOut : Type 0 → Option Contents → Status → Option Contents → Type 0
-RunsOut MayWant old status new = (status ≡ NoMemory) × MayWant × (new ≡ old)
+RunsOut MayAllocate old status new = (status ≡ NoMemory) × MayAllocate × (new ≡ old)
 
 -- the call had this outcome, or memory ran out
-abbrev pub Comes : Turn → Type 0 → Option Contents → Status → Option Contents → Type 0
-Comes turn MayWant old status new =
-    (record { status = status; store = new } ≡ turn) ⊎ RunsOut MayWant old status new
+abbrev pub HasOutcome : CallOutcome → Type 0 → Option Contents → Status → Option Contents → Type 0
+HasOutcome call_outcome MayAllocate old status new =
+    (record { status = status; store = new } ≡ call_outcome) ⊎ RunsOut MayAllocate old status new
 
 -- the status of a list's error, and its malformed line
 abbrev pub list_error_status : ListError → Status × ℕ
@@ -70,26 +70,26 @@ list_error_status (fault.BadRule line) = (BadRule, line)
 list_error_status fault.Memory = (NoMemory, 0)
 
 -- the store is put under a list of these rules and is otherwise unchanged; or a line is malformed
-abbrev pub ObeysRules : Contents → Result RuleList ℕ → ℕ → Turn → Type 0
-ObeysRules store (Ok rules) line turn =
+abbrev pub UsesRules : Contents → Result RuleList ℕ → ℕ → CallOutcome → Type 0
+UsesRules store (Ok rules) line call_outcome =
     (list : RuleList) × SameRules list rules × (line ≡ 0)
-    × (turn ≡ record { status = Done; store = Some (record store { suffixes = Some list }) })
-ObeysRules store (Err bad) line turn = (line ≡ bad) × (turn ≡ refused (Some store) BadRule)
+    × (call_outcome ≡ record { status = Done; store = Some (record store { suffixes = Some list }) })
+UsesRules store (Err bad) line call_outcome = (line ≡ bad) × (call_outcome ≡ refused (Some store) BadRule)
 
 -- the same for the string of a list
-abbrev pub ObeysText : Contents → Result (List ℕ) Status → ℕ → Turn → Type 0
-ObeysText store (Ok text) line turn = ObeysRules store (rules_from text) line turn
-ObeysText store (Err status) line turn = (line ≡ 0) × (turn ≡ refused (Some store) status)
+abbrev pub UsesSuffixText : Contents → Result (List ℕ) Status → ℕ → CallOutcome → Type 0
+UsesSuffixText store (Ok text) line call_outcome = UsesRules store (rules_from text) line call_outcome
+UsesSuffixText store (Err status) line call_outcome = (line ≡ 0) × (call_outcome ≡ refused (Some store) status)
 
 -- the same for a list in bytes, if there is a store
-abbrev pub Obeys : Option Contents → List ℕ → ℕ → Turn → Type 0
-Obeys None list line turn = (line ≡ 0) × (turn ≡ refused None NoStore)
-Obeys (Some store) list line turn = ObeysText store (text_in list) line turn
+abbrev pub UsesSuffixes : Option Contents → List ℕ → ℕ → CallOutcome → Type 0
+UsesSuffixes None list line call_outcome = (line ≡ 0) × (call_outcome ≡ refused None NoStore)
+UsesSuffixes (Some store) list line call_outcome = UsesSuffixText store (text_in list) line call_outcome
 
 -- what is made of the rows of a store, or `NoStore` if there is none
 abbrev pub in_store : {T : Type 0} → (List Row → Result T Status) → Option Contents → Result T Status
-in_store made None = Err NoStore
-in_store made (Some store) = made store.rows
+in_store created None = Err NoStore
+in_store created (Some store) = created store.rows
 
 -- the number of rows
 abbrev pub rows_count : Option Contents → ℕ

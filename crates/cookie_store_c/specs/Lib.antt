@@ -1,8 +1,8 @@
-pub mod Asked
+pub mod Inputs
 pub mod Buffers
 pub mod Calls
 pub mod Headers
 pub mod Lists
 pub mod Rows
-pub mod Slots
+pub mod StorePtrs
 pub mod Statuses

@@ -26,8 +26,8 @@ abbrev pub flag : Bool → ℕ
 flag set = if set then 1 else 0
 
 -- a row without its strings
-abbrev pub row_told : Row → CookieRow
-row_told row = record {
+abbrev pub cookie_row : Row → CookieRow
+cookie_row row = record {
   domain_len = length (domain_text row.domain);
   path_len = length row.path.text;
   name_len = length row.raw.name;
@@ -45,7 +45,7 @@ abbrev pub row_texts : Row → List ℕ
 row_texts row = domain_text row.domain ++ row.path.text ++ row.raw.name ++ row.raw.value
 
 -- the status, the two buffers after the call, and the lengths that they need
-pub record Told : Type 0 where
+pub record BufferOutcome : Type 0 where
   pub status : Status
   pub rows : List CookieRow
   pub texts : List ℕ
@@ -53,32 +53,32 @@ pub record Told : Type 0 where
   pub texts_needed : ℕ
 
 -- a status alone: nothing is written, and both lengths are 0
-abbrev pub nothing_told : Status → List CookieRow → List ℕ → Told
-nothing_told status rows texts =
+abbrev pub nothing_written : Status → List CookieRow → List ℕ → BufferOutcome
+nothing_written status rows texts =
     record { status = status; rows = rows; texts = texts; rows_needed = 0; texts_needed = 0 }
 
 -- the lengths that the buffers need
-abbrev pub lengths_told : List Row → List CookieRow → List ℕ → Told
-lengths_told all rows texts =
-    record (nothing_told NoRoom rows texts) { rows_needed = length all; texts_needed = length (flat_map row_texts all) }
+abbrev pub lengths_outcome : List Row → List CookieRow → List ℕ → BufferOutcome
+lengths_outcome all rows texts =
+    record (nothing_written NoRoom rows texts) { rows_needed = length all; texts_needed = length (flat_map row_texts all) }
 
 -- rows and strings are written if both fit
-abbrev pub rows_told : List Row → List CookieRow → List ℕ → Told
-rows_told all rows texts =
-    if nat_le (length all) (length rows) && nat_le (length (flat_map row_texts all)) (length texts) then record (lengths_told all rows texts) {
+abbrev pub rows_outcome : List Row → List CookieRow → List ℕ → BufferOutcome
+rows_outcome all rows texts =
+    if nat_le (length all) (length rows) && nat_le (length (flat_map row_texts all)) (length texts) then record (lengths_outcome all rows texts) {
       status = Done;
-      rows = at_front (map row_told all) rows;
+      rows = at_front (map cookie_row all) rows;
       texts = at_front (flat_map row_texts all) texts;
     }
-    else lengths_told all rows texts
+    else lengths_outcome all rows texts
 
 -- the number of rows or the length of all strings is 2^64 or more
 abbrev pub IsBeyond : List Row → Type 0
 IsBeyond rows = (2 ^ 64 ≤ length rows) ⊎ (2 ^ 64 ≤ length (flat_map row_texts rows))
 
 -- the rows of a store are written if they fit; `NoMemory` if a length is too great, `NoStore` without a store
-abbrev pub TellsRows : Option Contents → List CookieRow → List ℕ → Told → Type 0
-TellsRows None rows texts told = told ≡ nothing_told NoStore rows texts
-TellsRows (Some store) rows texts told =
-    (told ≡ rows_told store.rows rows texts)
-    ⊎ (IsBeyond store.rows × (told ≡ nothing_told NoMemory rows texts))
+abbrev pub ReportsRows : Option Contents → List CookieRow → List ℕ → BufferOutcome → Type 0
+ReportsRows None rows texts reported = reported ≡ nothing_written NoStore rows texts
+ReportsRows (Some store) rows texts reported =
+    (reported ≡ rows_outcome store.rows rows texts)
+    ⊎ (IsBeyond store.rows × (reported ≡ nothing_written NoMemory rows texts))

@@ -61,19 +61,19 @@ reply_status Cleared = Done
 
 -- the status of a failed save or load: readers and writers in memory fail only by allocation, and
 -- no list fails with `Idna` or `Other`
-abbrev pub fault_status : Error → Status
-fault_status (fault.Cookie refusal) = refusal_status refusal
-fault_status (fault.Saved saved.Json) = BadJson
-fault_status (fault.Saved saved.Shape) = BadShape
-fault_status (fault.Saved saved.Ron) = BadRon
-fault_status (fault.Saved saved.Moment) = BadEnd
-fault_status fault.NotUtf8 = NotUtf8
-fault_status (fault.Saved saved.Memory) = NoMemory
-fault_status fault.Memory = NoMemory
-fault_status fault.Io = NoMemory
-fault_status (fault.Idna why) = NoMemory
-fault_status (fault.Other text) = NoMemory
+abbrev pub error_status : Error → Status
+error_status (fault.Cookie refusal) = refusal_status refusal
+error_status (fault.Saved saved.Json) = BadJson
+error_status (fault.Saved saved.Shape) = BadShape
+error_status (fault.Saved saved.Ron) = BadRon
+error_status (fault.Saved saved.Moment) = BadEnd
+error_status fault.NotUtf8 = NotUtf8
+error_status (fault.Saved saved.Memory) = NoMemory
+error_status fault.Memory = NoMemory
+error_status fault.Io = NoMemory
+error_status (fault.Idna why) = NoMemory
+error_status (fault.Other text) = NoMemory
 
 -- the number is that of a status with this property
-abbrev pub Tells : ℕ → (Status → Type 0) → Type 0
-Tells code Holds = (status : Status) × (code ≡ status_code status) × Holds status
+abbrev pub IsCodeOf : ℕ → (Status → Type 0) → Type 0
+IsCodeOf code Holds = (status : Status) × (code ≡ status_code status) × Holds status

@@ -3,7 +3,7 @@ ghost use Rattle.std.specs.Prelude.{◌≡◌, ℕ, ◌+◌, ◌^◌, ◌≤◌,
 ghost use Rattle.std.specs.Option.{MatchOption};
 ghost use Rattle.std.specs.Result.{result_map_both};
 ghost use Rattle.cookie_device.specs.Texts.{joined};
-ghost use Rattle.cookie_store_c.specs.Buffers.{handed, Stands};
+ghost use Rattle.cookie_store_c.specs.Buffers.{text_outcome, IsFilledTo};
 
 use crate::status::Status;
 
@@ -23,8 +23,8 @@ pub(crate) fn put_all(buffer: &mut [u8], place: usize, texts: &[&str]) -> usize
     requires { place + length (joined texts.now) ≤ length buffer.old }
     ensures end { result ≡ place + length (joined texts.now) }
     ensures long { length buffer.new ≡ length buffer.old }
-    ensures stands { (front before : List ℕ) → Stands front before buffer.old place
-        → Stands (front ++ joined texts.now) before buffer.new result }
+    ensures stands { (front before : List ℕ) → IsFilledTo front before buffer.old place
+        → IsFilledTo (front ++ joined texts.now) before buffer.new result }
 {
     let mut end = place;
     for text in texts {
@@ -38,8 +38,8 @@ fn put(buffer: &mut [u8], place: usize, text: &[u8]) -> usize
     requires { place + length text.now ≤ length buffer.old }
     ensures end { result ≡ place + length text.now }
     ensures long { length buffer.new ≡ length buffer.old }
-    ensures stands { (front before : List ℕ) → Stands front before buffer.old place
-        → Stands (front ++ text.now) before buffer.new result }
+    ensures stands { (front before : List ℕ) → IsFilledTo front before buffer.old place
+        → IsFilledTo (front ++ text.now) before buffer.new result }
 {
     let end = place + text.len();
     buffer[place..end].copy_from_slice(text);
@@ -49,13 +49,13 @@ fn put(buffer: &mut [u8], place: usize, text: &[u8]) -> usize
 /// Copies `answer` into the front of the buffer, if it is `Ok` and fits, and returns the status.
 ///
 /// `needed` is set to its length, also if the result is `NoRoom`, and to 0 if `answer` is an error.
-pub(crate) fn hand_over(
+pub(crate) fn copy_out(
     answer: Result<Vec<u8>, Status>,
     buffer: &mut [u8],
     needed: &mut usize,
 ) -> Status
     ensures { record { status = result; buffer = buffer.new; needed = needed.new }
-        ≡ handed (result_map_both (λ text. text.items) (λ status. status) answer) buffer.old }
+        ≡ text_outcome (result_map_both (λ text. text.items) (λ status. status) answer) buffer.old }
 {
     match answer {
         Ok(text) => {

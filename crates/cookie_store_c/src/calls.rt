@@ -3,10 +3,10 @@ ghost use Rattle.std.specs.Prelude.{◌≡◌, ◌⊎◌, ◌+◌, length, Ok, S
 ghost use Rattle.std.specs.Result.{result_map_both};
 ghost use Rattle.cookie_laws.specs.Rows.{key_at};
 ghost use Rattle.cookie_laws.specs.Runs.{Clear, Remove};
-ghost use Rattle.cookie_store_c.specs.Asked.{look, moment_in, remove_call, set_call, text_in};
-ghost use Rattle.cookie_store_c.specs.Calls.{expired_turn, limit_turn, list_error_status, store_turn, Comes, ObeysText, RunsOut};
+ghost use Rattle.cookie_store_c.specs.Inputs.{text_and_time, moment_in, remove_call, set_call, text_in};
+ghost use Rattle.cookie_store_c.specs.Calls.{expired_outcome, limit_outcome, list_error_status, store_outcome, HasOutcome, UsesSuffixText, RunsOut};
 
-use crate::asked::{moment_in, request, text_in};
+use crate::inputs::{moment_in, request, text_in};
 use crate::status::Status;
 use cookie_store::psl::{List, ListError};
 use cookie_store::{CookieStore, HashKey};
@@ -23,7 +23,7 @@ pub(crate) fn set(
     text: &[u8],
     now: i64,
 ) -> Status
-    ensures { Comes (store_turn store.old (set_call url.now text.now now)) (IsOk (text_in text.now) × IsOk (look url.now now))
+    ensures { HasOutcome (store_outcome store.old (set_call url.now text.now now)) (IsOk (text_in text.now) × IsOk (text_and_time url.now now))
         (Some store.old) result (Some store.new) }
 {
     let text = match text_in(text) {
@@ -44,7 +44,7 @@ pub(crate) fn use_suffixes(
     list: &[u8],
     bad_line: &mut usize,
 ) -> Status
-    ensures { ObeysText store.old (text_in list.now) bad_line.new (record { status = result; store = Some store.new })
+    ensures { UsesSuffixText store.old (text_in list.now) bad_line.new (record { status = result; store = Some store.new })
         ⊎ ((bad_line.new ≡ 0) × RunsOut (IsOk (text_in list.now)) (Some store.old) result (Some store.new)) }
 {
     *bad_line = 0;
@@ -79,7 +79,7 @@ fn list_error_status(error: ListError, bad_line: &mut usize) -> Status
 
 /// Removes the cookie with this domain, path and name.
 pub(crate) fn remove(store: &mut CookieStore, domain: &[u8], path: &[u8], name: &[u8]) -> Status
-    ensures { record { status = result; store = Some store.new } ≡ store_turn store.old (remove_call domain.now path.now name.now) }
+    ensures { record { status = result; store = Some store.new } ≡ store_outcome store.old (remove_call domain.now path.now name.now) }
 {
     match key_in(domain, path, name) {
         Ok((domain, path, name)) => match store.remove(domain, path, name) {
@@ -104,7 +104,7 @@ fn key_in<'a>(
 
 /// Removes all cookies.
 pub(crate) fn clear(store: &mut CookieStore) -> Status
-    ensures { record { status = result; store = Some store.new } ≡ store_turn store.old (Ok Clear) }
+    ensures { record { status = result; store = Some store.new } ≡ store_outcome store.old (Ok Clear) }
 {
     store.clear();
     Status::Done
@@ -113,7 +113,7 @@ pub(crate) fn clear(store: &mut CookieStore) -> Status
 /// Removes the cookies that have expired `now` seconds after the epoch, and sets `removed` to their
 /// number, or to 0 on an error.
 pub(crate) fn remove_expired(store: &mut CookieStore, now: i64, removed: &mut usize) -> Status
-    ensures store { record { status = result; store = Some store.new } ≡ expired_turn (moment_in now) (Some store.old) }
+    ensures store { record { status = result; store = Some store.new } ≡ expired_outcome (moment_in now) (Some store.old) }
     ensures removed { removed.new + length store.new.rows ≡ length store.old.rows }
 {
     *removed = 0;
@@ -128,7 +128,7 @@ pub(crate) fn remove_expired(store: &mut CookieStore, now: i64, removed: &mut us
 
 /// Limits each domain to `limit` cookies, or returns `BadLimit` if `limit` is 0.
 pub(crate) fn set_domain_limit(alloc: Global, store: &mut CookieStore, limit: usize) -> Status
-    ensures { record { status = result; store = Some store.new } ≡ limit_turn limit (Some store.old) }
+    ensures { record { status = result; store = Some store.new } ≡ limit_outcome limit (Some store.old) }
 {
     if limit == 0 {
         return Status::BadLimit;
@@ -158,8 +158,8 @@ pub(crate) fn set_hash_key(store: &mut CookieStore, key: &[u8]) -> Status
 pub(crate) fn hash_key(key: &[u8]) -> Result<HashKey, Status>
     ensures { IfErr result (λ status. status ≡ Status.NoMemory) }
 {
-    match RandomState::new(&Drawn { key }) {
-        Ok(state) => Ok(HashKey::Drawn(state)),
+    match RandomState::new(&CallerBytes { key }) {
+        Ok(state) => Ok(HashKey::Random(state)),
         Err(_) => Err(Status::NoMemory),
     }
 }
@@ -167,11 +167,11 @@ pub(crate) fn hash_key(key: &[u8]) -> Result<HashKey, Status>
 // The caller's key as a source of random bytes, in place of the system's. It fills the front of a
 // longer buffer.
 #[derive(Drop)]
-struct Drawn<'a> {
+struct CallerBytes<'a> {
     key: &'a [u8],
 }
 
-impl<'a> RandomSource for Drawn<'a> {
+impl<'a> RandomSource for CallerBytes<'a> {
     fn fill_bytes(&self, buf: &mut [u8]) -> io::Result<()> {
         let count = buf.len().min(self.key.len());
         buf[..count].copy_from_slice(&self.key[..count]);

@@ -1,17 +1,17 @@
 //! The functions that C programs call. `cookie_store.h` documents them.
 ghost use Rattle.std.specs.Prelude.{◌≡◌, ◌⊎◌, ◌+◌, Ok, Some, None, IsOk, IsSome};
 ghost use Rattle.cookie_laws.specs.Runs.{Clear};
-ghost use Rattle.cookie_store_c.specs.Asked.{look, moment_in, remove_call, set_call, text_in};
-ghost use Rattle.cookie_store_c.specs.Buffers.{Hands, HandsSome};
-ghost use Rattle.cookie_store_c.specs.Calls.{count_of, expired_turn, in_store, kept_turn, limit_turn, new_turn, rows_count, turn, Comes, Obeys, RunsOut};
+ghost use Rattle.cookie_store_c.specs.Inputs.{text_and_time, moment_in, remove_call, set_call, text_in};
+ghost use Rattle.cookie_store_c.specs.Buffers.{WritesText, WritesSomeText};
+ghost use Rattle.cookie_store_c.specs.Calls.{count_of, expired_outcome, in_store, unchanged_outcome, limit_outcome, new_outcome, rows_count, call_outcome, HasOutcome, UsesSuffixes, RunsOut};
 ghost use Rattle.cookie_store_c.specs.Headers.{IsHeaderIn};
 ghost use Rattle.cookie_store_c.specs.Lists.{saved_in, to_load, Loads};
-ghost use Rattle.cookie_store_c.specs.Rows.{TellsRows};
-ghost use Rattle.cookie_store_c.specs.Statuses.{Tells};
+ghost use Rattle.cookie_store_c.specs.Rows.{ReportsRows};
+ghost use Rattle.cookie_store_c.specs.Statuses.{IsCodeOf};
 ghost use Rattle.cookie_store_c.specs.declared.status.Status.{Status};
 
 use crate::handle::StoreHandle;
-use crate::lists::Form;
+use crate::lists::ListFormat;
 use crate::rows::{self, CookieRow};
 use crate::status::Status;
 use crate::{calls, header, lists};
@@ -27,8 +27,8 @@ use std::alloc::Global;
 /// - `NoMemory`: out of memory. The handle stays empty.
 #[unsafe(no_mangle)]
 pub extern "C" fn cookie_store_new(alloc: Global, handle: &mut StoreHandle, key: &[u8]) -> u32
-    ensures { Tells result (λ status. Comes (new_turn handle.old.slot.store) (handle.old.slot.store ≡ None)
-        handle.old.slot.store status handle.new.slot.store) }
+    ensures { IsCodeOf result (λ status. HasOutcome (new_outcome handle.old.store_ptr.store) (handle.old.store_ptr.store ≡ None)
+        handle.old.store_ptr.store status handle.new.store_ptr.store) }
 {
     if let Some(store) = handle.take(alloc) {
         handle.put(alloc, store);
@@ -42,9 +42,9 @@ pub extern "C" fn cookie_store_new(alloc: Global, handle: &mut StoreHandle, key:
 
 // Boxes the store and puts it into the empty handle.
 fn begin(alloc: Global, handle: &mut StoreHandle, store: CookieStore) -> Status
-    requires { handle.old.slot.store ≡ None }
-    ensures { ((result ≡ Status.Done) × (handle.new.slot.store ≡ Some store))
-        ⊎ ((result ≡ Status.NoMemory) × (handle.new.slot.store ≡ None)) }
+    requires { handle.old.store_ptr.store ≡ None }
+    ensures { ((result ≡ Status.Done) × (handle.new.store_ptr.store ≡ Some store))
+        ⊎ ((result ≡ Status.NoMemory) × (handle.new.store_ptr.store ≡ None)) }
 {
     match Box::new(alloc, store) {
         Ok(store) => {
@@ -58,7 +58,7 @@ fn begin(alloc: Global, handle: &mut StoreHandle, store: CookieStore) -> Status
 /// Frees the store of the handle, if there is one.
 #[unsafe(no_mangle)]
 pub extern "C" fn cookie_store_free(alloc: Global, handle: &mut StoreHandle)
-    ensures { handle.new.slot.store ≡ None }
+    ensures { handle.new.store_ptr.store ≡ None }
 {
     let _store = handle.take(alloc);
 }
@@ -78,7 +78,7 @@ pub extern "C" fn cookie_store_set_domain_limit(
     handle: &mut StoreHandle,
     limit: usize,
 ) -> u32
-    ensures { Tells result (λ status. record { status = status; store = handle.new.slot.store } ≡ limit_turn limit handle.old.slot.store) }
+    ensures { IsCodeOf result (λ status. record { status = status; store = handle.new.store_ptr.store } ≡ limit_outcome limit handle.old.store_ptr.store) }
 {
     let Some(mut store) = handle.take(alloc) else {
         return Status::NoStore.code();
@@ -101,8 +101,8 @@ pub extern "C" fn cookie_store_set_hash_key(
     handle: &mut StoreHandle,
     key: &[u8],
 ) -> u32
-    ensures { Tells result (λ status. Comes (kept_turn handle.old.slot.store) (IsSome handle.old.slot.store)
-        handle.old.slot.store status handle.new.slot.store) }
+    ensures { IsCodeOf result (λ status. HasOutcome (unchanged_outcome handle.old.store_ptr.store) (IsSome handle.old.store_ptr.store)
+        handle.old.store_ptr.store status handle.new.store_ptr.store) }
 {
     let Some(mut store) = handle.take(alloc) else {
         return Status::NoStore.code();
@@ -132,9 +132,9 @@ pub extern "C" fn cookie_store_set(
     text: &[u8],
     now: i64,
 ) -> u32
-    ensures { Tells result (λ status. Comes (turn handle.old.slot.store (set_call url.now text.now now))
-        (IsSome handle.old.slot.store × IsOk (text_in text.now) × IsOk (look url.now now))
-        handle.old.slot.store status handle.new.slot.store) }
+    ensures { IsCodeOf result (λ status. HasOutcome (call_outcome handle.old.store_ptr.store (set_call url.now text.now now))
+        (IsSome handle.old.store_ptr.store × IsOk (text_in text.now) × IsOk (text_and_time url.now now))
+        handle.old.store_ptr.store status handle.new.store_ptr.store) }
 {
     let Some(mut store) = handle.take(alloc) else {
         return Status::NoStore.code();
@@ -168,9 +168,9 @@ pub extern "C" fn cookie_store_get(
     out: &mut [u8],
     needed: &mut usize,
 ) -> u32
-    ensures text { Tells result (λ status. HandsSome (IsHeaderIn handle.old.slot.store url.now now)
-        (IsSome handle.old.slot.store × IsOk (look url.now now)) out.old status out.new needed.new) }
-    ensures store { handle.new.slot.store ≡ handle.old.slot.store }
+    ensures text { IsCodeOf result (λ status. WritesSomeText (IsHeaderIn handle.old.store_ptr.store url.now now)
+        (IsSome handle.old.store_ptr.store × IsOk (text_and_time url.now now)) out.old status out.new needed.new) }
+    ensures store { handle.new.store_ptr.store ≡ handle.old.store_ptr.store }
 {
     *needed = 0;
     let Some(store) = handle.take(alloc) else {
@@ -199,10 +199,10 @@ pub extern "C" fn cookie_store_use_suffixes(
     list: &[u8],
     bad_line: &mut usize,
 ) -> u32
-    ensures { Tells result (λ status.
-        Obeys handle.old.slot.store list.now bad_line.new (record { status = status; store = handle.new.slot.store })
-        ⊎ ((bad_line.new ≡ 0) × RunsOut (IsSome handle.old.slot.store × IsOk (text_in list.now))
-        handle.old.slot.store status handle.new.slot.store)) }
+    ensures { IsCodeOf result (λ status.
+        UsesSuffixes handle.old.store_ptr.store list.now bad_line.new (record { status = status; store = handle.new.store_ptr.store })
+        ⊎ ((bad_line.new ≡ 0) × RunsOut (IsSome handle.old.store_ptr.store × IsOk (text_in list.now))
+        handle.old.store_ptr.store status handle.new.store_ptr.store)) }
 {
     *bad_line = 0;
     let Some(mut store) = handle.take(alloc) else {
@@ -229,8 +229,8 @@ pub extern "C" fn cookie_store_remove(
     path: &[u8],
     name: &[u8],
 ) -> u32
-    ensures { Tells result (λ status. record { status = status; store = handle.new.slot.store }
-        ≡ turn handle.old.slot.store (remove_call domain.now path.now name.now)) }
+    ensures { IsCodeOf result (λ status. record { status = status; store = handle.new.store_ptr.store }
+        ≡ call_outcome handle.old.store_ptr.store (remove_call domain.now path.now name.now)) }
 {
     let Some(mut store) = handle.take(alloc) else {
         return Status::NoStore.code();
@@ -243,8 +243,8 @@ pub extern "C" fn cookie_store_remove(
 /// Removes all cookies, or returns `NoStore` if the handle has no store.
 #[unsafe(no_mangle)]
 pub extern "C" fn cookie_store_clear(alloc: Global, handle: &mut StoreHandle) -> u32
-    ensures { Tells result (λ status. record { status = status; store = handle.new.slot.store }
-        ≡ turn handle.old.slot.store (Ok Clear)) }
+    ensures { IsCodeOf result (λ status. record { status = status; store = handle.new.store_ptr.store }
+        ≡ call_outcome handle.old.store_ptr.store (Ok Clear)) }
 {
     let Some(mut store) = handle.take(alloc) else {
         return Status::NoStore.code();
@@ -270,9 +270,9 @@ pub extern "C" fn cookie_store_remove_expired(
     now: i64,
     removed: &mut usize,
 ) -> u32
-    ensures store { Tells result (λ status. record { status = status; store = handle.new.slot.store }
-        ≡ expired_turn (moment_in now) handle.old.slot.store) }
-    ensures removed { removed.new + rows_count handle.new.slot.store ≡ rows_count handle.old.slot.store }
+    ensures store { IsCodeOf result (λ status. record { status = status; store = handle.new.store_ptr.store }
+        ≡ expired_outcome (moment_in now) handle.old.store_ptr.store) }
+    ensures removed { removed.new + rows_count handle.new.store_ptr.store ≡ rows_count handle.old.store_ptr.store }
 {
     *removed = 0;
     let Some(mut store) = handle.take(alloc) else {
@@ -287,8 +287,8 @@ pub extern "C" fn cookie_store_remove_expired(
 /// `usize::MAX`.
 #[unsafe(no_mangle)]
 pub extern "C" fn cookie_store_count(alloc: Global, handle: &mut StoreHandle) -> usize
-    ensures count { result ≡ count_of handle.old.slot.store }
-    ensures store { handle.new.slot.store ≡ handle.old.slot.store }
+    ensures count { result ≡ count_of handle.old.store_ptr.store }
+    ensures store { handle.new.store_ptr.store ≡ handle.old.store_ptr.store }
 {
     let Some(store) = handle.take(alloc) else {
         return 0;
@@ -318,15 +318,15 @@ pub extern "C" fn cookie_store_rows(
     rows_needed: &mut usize,
     texts_needed: &mut usize,
 ) -> u32
-    ensures told { Tells result (λ status. TellsRows handle.old.slot.store rows.old texts.old
+    ensures reported { IsCodeOf result (λ status. ReportsRows handle.old.store_ptr.store rows.old texts.old
         (record { status = status; rows = rows.new; texts = texts.new; rows_needed = rows_needed.new; texts_needed = texts_needed.new })) }
-    ensures store { handle.new.slot.store ≡ handle.old.slot.store }
+    ensures store { handle.new.store_ptr.store ≡ handle.old.store_ptr.store }
 {
     (*rows_needed, *texts_needed) = (0, 0);
     let Some(store) = handle.take(alloc) else {
         return Status::NoStore.code();
     };
-    let status = rows::tell_rows(&store, rows, texts, rows_needed, texts_needed);
+    let status = rows::write_rows(&store, rows, texts, rows_needed, texts_needed);
     handle.put(alloc, store);
     status.code()
 }
@@ -354,15 +354,15 @@ pub extern "C" fn cookie_store_save_json(
     out: &mut [u8],
     needed: &mut usize,
 ) -> u32
-    ensures text { Tells result (λ status. Hands (in_store (saved_in Form.Json all now) handle.old.slot.store)
-        (IsOk (in_store (saved_in Form.Json all now) handle.old.slot.store)) out.old status out.new needed.new) }
-    ensures store { handle.new.slot.store ≡ handle.old.slot.store }
+    ensures text { IsCodeOf result (λ status. WritesText (in_store (saved_in ListFormat.Json all now) handle.old.store_ptr.store)
+        (IsOk (in_store (saved_in ListFormat.Json all now) handle.old.store_ptr.store)) out.old status out.new needed.new) }
+    ensures store { handle.new.store_ptr.store ≡ handle.old.store_ptr.store }
 {
     *needed = 0;
     let Some(store) = handle.take(alloc) else {
         return Status::NoStore.code();
     };
-    let status = lists::save(Form::Json, alloc, &store, now, all, out, needed);
+    let status = lists::save(ListFormat::Json, alloc, &store, now, all, out, needed);
     handle.put(alloc, store);
     status.code()
 }
@@ -390,15 +390,15 @@ pub extern "C" fn cookie_store_save_ron(
     out: &mut [u8],
     needed: &mut usize,
 ) -> u32
-    ensures text { Tells result (λ status. Hands (in_store (saved_in Form.Ron all now) handle.old.slot.store)
-        (IsOk (in_store (saved_in Form.Ron all now) handle.old.slot.store)) out.old status out.new needed.new) }
-    ensures store { handle.new.slot.store ≡ handle.old.slot.store }
+    ensures text { IsCodeOf result (λ status. WritesText (in_store (saved_in ListFormat.Ron all now) handle.old.store_ptr.store)
+        (IsOk (in_store (saved_in ListFormat.Ron all now) handle.old.store_ptr.store)) out.old status out.new needed.new) }
+    ensures store { handle.new.store_ptr.store ≡ handle.old.store_ptr.store }
 {
     *needed = 0;
     let Some(store) = handle.take(alloc) else {
         return Status::NoStore.code();
     };
-    let status = lists::save(Form::Ron, alloc, &store, now, all, out, needed);
+    let status = lists::save(ListFormat::Ron, alloc, &store, now, all, out, needed);
     handle.put(alloc, store);
     status.code()
 }
@@ -425,14 +425,14 @@ pub extern "C" fn cookie_store_load_json(
     now: i64,
     all: bool,
 ) -> u32
-    ensures { Tells result (λ status. Loads Form.Json handle.old.slot.store all now list.now (record { status = status; store = handle.new.slot.store })
-        ⊎ RunsOut ((handle.old.slot.store ≡ None) × IsOk (to_load now list.now)) handle.old.slot.store status handle.new.slot.store) }
+    ensures { IsCodeOf result (λ status. Loads ListFormat.Json handle.old.store_ptr.store all now list.now (record { status = status; store = handle.new.store_ptr.store })
+        ⊎ RunsOut ((handle.old.store_ptr.store ≡ None) × IsOk (to_load now list.now)) handle.old.store_ptr.store status handle.new.store_ptr.store) }
 {
     if let Some(store) = handle.take(alloc) {
         handle.put(alloc, store);
         return Status::HasStore.code();
     }
-    match lists::load(Form::Json, alloc, key, list, now, all) {
+    match lists::load(ListFormat::Json, alloc, key, list, now, all) {
         Ok(store) => begin(alloc, handle, store).code(),
         Err(status) => status.code(),
     }
@@ -460,14 +460,14 @@ pub extern "C" fn cookie_store_load_ron(
     now: i64,
     all: bool,
 ) -> u32
-    ensures { Tells result (λ status. Loads Form.Ron handle.old.slot.store all now list.now (record { status = status; store = handle.new.slot.store })
-        ⊎ RunsOut ((handle.old.slot.store ≡ None) × IsOk (to_load now list.now)) handle.old.slot.store status handle.new.slot.store) }
+    ensures { IsCodeOf result (λ status. Loads ListFormat.Ron handle.old.store_ptr.store all now list.now (record { status = status; store = handle.new.store_ptr.store })
+        ⊎ RunsOut ((handle.old.store_ptr.store ≡ None) × IsOk (to_load now list.now)) handle.old.store_ptr.store status handle.new.store_ptr.store) }
 {
     if let Some(store) = handle.take(alloc) {
         handle.put(alloc, store);
         return Status::HasStore.code();
     }
-    match lists::load(Form::Ron, alloc, key, list, now, all) {
+    match lists::load(ListFormat::Ron, alloc, key, list, now, all) {
         Ok(store) => begin(alloc, handle, store).code(),
         Err(status) => status.code(),
     }

@@ -1,7 +1,7 @@
 //! The handle that C programs hold.
 ghost use Rattle.std.specs.Prelude.{◌≡◌, is_some, option_map, None, Some};
 
-use crate::slot::Slot;
+use crate::store_ptr::StorePtr;
 use cookie_store::CookieStore;
 use std::alloc::Global;
 use std::mem;
@@ -12,49 +12,49 @@ use std::mem;
 #[repr(C)]
 pub struct StoreHandle {
     live: bool,
-    pub slot: Slot,
-    ghost agrees: { live ≡ is_some slot.store },
+    pub store_ptr: StorePtr,
+    ghost agrees: { live ≡ is_some store_ptr.store },
 }
 
 impl StoreHandle {
     // Returns a handle without a store.
     fn empty() -> StoreHandle
-        ensures { result.slot.store ≡ None }
+        ensures { result.store_ptr.store ≡ None }
     {
         StoreHandle {
             live: false,
-            slot: Slot::empty(),
+            store_ptr: StorePtr::empty(),
         }
     }
 
     // Returns the store of the handle, if there is one.
     fn into_store(self, alloc: Global) -> Option<Box<CookieStore>>
-        ensures { option_map (λ b. b.value) result ≡ self.slot.store }
+        ensures { option_map (λ b. b.value) result ≡ self.store_ptr.store }
     {
-        let StoreHandle { live, slot } = self;
+        let StoreHandle { live, store_ptr } = self;
         if live {
-            Some(slot.into_box(alloc))
+            Some(store_ptr.into_box(alloc))
         } else {
-            slot.end();
+            store_ptr.consume_empty();
             None
         }
     }
 
     /// Takes the store out, if there is one, and leaves the handle empty.
     pub(crate) fn take(&mut self, alloc: Global) -> Option<Box<CookieStore>>
-        ensures taken { option_map (λ b. b.value) result ≡ self.old.slot.store }
-        ensures empty { self.new.slot.store ≡ None }
+        ensures taken { option_map (λ b. b.value) result ≡ self.old.store_ptr.store }
+        ensures empty { self.new.store_ptr.store ≡ None }
     {
         mem::replace(self, StoreHandle::empty()).into_store(alloc)
     }
 
     /// Puts the store into the handle, and frees the one that it replaces, if there is one.
     pub(crate) fn put(&mut self, alloc: Global, store: Box<CookieStore>)
-        ensures { self.new.slot.store ≡ Some store.value }
+        ensures { self.new.store_ptr.store ≡ Some store.value }
     {
         let live = StoreHandle {
             live: true,
-            slot: Slot::of(store),
+            store_ptr: StorePtr::of(store),
         };
         let _replaced = mem::replace(self, live).into_store(alloc);
     }

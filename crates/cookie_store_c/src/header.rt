@@ -3,12 +3,12 @@ ghost use Rattle.std.specs.Prelude.{◌≡◌, ◌≢◌, [], Err, IfErr, IfOk, 
 ghost use Rattle.cookie_words.specs.Moments.{moment_of};
 ghost use Rattle.cookie_laws.specs.Given.{given};
 ghost use Rattle.cookie_laws.specs.Header.{IsCookieHeader};
-ghost use Rattle.cookie_store_c.specs.Asked.{look};
-ghost use Rattle.cookie_store_c.specs.Buffers.{HandsSome};
+ghost use Rattle.cookie_store_c.specs.Inputs.{text_and_time};
+ghost use Rattle.cookie_store_c.specs.Buffers.{WritesSomeText};
 ghost use Rattle.cookie_store_c.specs.Headers.{IsHeader};
 
-use crate::asked::request;
-use crate::buffer::hand_over;
+use crate::buffer::copy_out;
+use crate::inputs::request;
 use crate::status::Status;
 use cookie_store::CookieStore;
 use jiff::civil::DateTime;
@@ -25,20 +25,20 @@ pub(crate) fn get(
     out: &mut [u8],
     needed: &mut usize,
 ) -> Status
-    ensures { HandsSome (IsHeader store.now url.now now) (IsOk (look url.now now)) out.old result out.new needed.new }
+    ensures { WritesSomeText (IsHeader store.now url.now now) (IsOk (text_and_time url.now now)) out.old result out.new needed.new }
 {
-    hand_over(text_for(store, request(alloc, url, now)), out, needed)
+    copy_out(text_for(store, request(alloc, url, now)), out, needed)
 }
 
 // Returns the value of the `Cookie` header, or the error of the request.
-fn text_for(store: &CookieStore, asked: Result<(Url, DateTime), Status>) -> Result<Vec<u8>, Status>
-    ensures text { IfOk result (λ text. IfOk asked
-        (λ asked. IsCookieHeader asked.0 (moment_of asked.1) store.now text.items)) }
-    ensures status { (status : Status) → asked ≡ Err status → result ≡ Err status }
-    ensures memory { IfOk asked (λ asked. IfErr result
-        (λ status. (status ≡ Status.NoMemory) × (given asked.0 (moment_of asked.1) store.now.rows ≢ []))) }
+fn text_for(store: &CookieStore, inputs: Result<(Url, DateTime), Status>) -> Result<Vec<u8>, Status>
+    ensures text { IfOk result (λ text. IfOk inputs
+        (λ inputs. IsCookieHeader inputs.0 (moment_of inputs.1) store.now text.items)) }
+    ensures status { (status : Status) → inputs ≡ Err status → result ≡ Err status }
+    ensures memory { IfOk inputs (λ inputs. IfErr result
+        (λ status. (status ≡ Status.NoMemory) × (given inputs.0 (moment_of inputs.1) store.now.rows ≢ []))) }
 {
-    let (url, now) = asked?;
+    let (url, now) = inputs?;
     match store.cookie_header(&url, now) {
         Ok(text) => Ok(text.into_bytes()),
         Err(_) => Err(Status::NoMemory),

@@ -2,13 +2,13 @@
 //! `bindings/c/cookie_store.h` declares.
 #![tactic(auto)]
 
-mod asked;
 mod buffer;
 mod calls;
 mod exports;
 mod handle;
 mod header;
+mod inputs;
 mod lists;
 mod rows;
-mod slot;
 mod status;
+mod store_ptr;

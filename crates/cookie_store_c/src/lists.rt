@@ -2,14 +2,14 @@
 ghost use Rattle.std.specs.Prelude.{◌≡◌, ◌⊎◌, Err, None, Ok, Some, IfErr, IfOk, IsOk};
 ghost use Rattle.std.specs.Result.{result_map_both};
 ghost use Rattle.cookie_words.specs.Moments.{moment_of};
-ghost use Rattle.cookie_store_c.specs.Buffers.{Hands};
+ghost use Rattle.cookie_store_c.specs.Buffers.{WritesText};
 ghost use Rattle.cookie_store_c.specs.Calls.{refused};
-ghost use Rattle.cookie_store_c.specs.Lists.{chosen, saved_as, saved_in, to_load, LoadsAt, LoadsText};
-ghost use Rattle.cookie_store_c.specs.Statuses.{fault_status};
+ghost use Rattle.cookie_store_c.specs.Lists.{selected_rows, saved_as, saved_in, to_load, LoadsAt, LoadsText};
+ghost use Rattle.cookie_store_c.specs.Statuses.{error_status};
 
-use crate::asked::{moment_in, text_in};
-use crate::buffer::hand_over;
+use crate::buffer::copy_out;
 use crate::calls::hash_key;
+use crate::inputs::{moment_in, text_in};
 use crate::status::Status;
 use cookie_store::device::Counted;
 use cookie_store::serde::{json, ron};
@@ -19,7 +19,7 @@ use std::alloc::Global;
 
 /// The format of a list.
 #[derive(Clone, Copy)]
-pub enum Form {
+pub enum ListFormat {
     /// A JSON array.
     Json,
     /// A RON list.
@@ -29,7 +29,7 @@ pub enum Form {
 /// Writes the rows as a list into `out`: all of them if `all` is true, otherwise the persistent
 /// cookies that have not expired at `now`.
 pub(crate) fn save(
-    form: Form,
+    form: ListFormat,
     alloc: Global,
     store: &CookieStore,
     now: i64,
@@ -37,30 +37,30 @@ pub(crate) fn save(
     out: &mut [u8],
     needed: &mut usize,
 ) -> Status
-    ensures { Hands (saved_in form all now store.now.rows) (IsOk (saved_in form all now store.now.rows)) out.old result out.new needed.new }
+    ensures { WritesText (saved_in form all now store.now.rows) (IsOk (saved_in form all now store.now.rows)) out.old result out.new needed.new }
 {
     let text = match moment_in(now) {
         Ok(now) => text_of(form, alloc, store, now, all),
         Err(status) => Err(status),
     };
-    hand_over(text, out, needed)
+    copy_out(text, out, needed)
 }
 
 // Returns the selected rows as a list.
 fn text_of(
-    form: Form,
+    form: ListFormat,
     alloc: Global,
     store: &CookieStore,
     now: DateTime,
     all: bool,
 ) -> Result<Vec<u8>, Status>
-    ensures text { IfOk result (λ text. saved_as form (chosen all (moment_of now) store.now.rows) ≡ Ok text.items) }
-    ensures refused { IfErr result (λ status. (saved_as form (chosen all (moment_of now) store.now.rows) ≡ Err status)
-        ⊎ ((status ≡ Status.NoMemory) × IsOk (saved_as form (chosen all (moment_of now) store.now.rows)))) }
+    ensures text { IfOk result (λ text. saved_as form (selected_rows all (moment_of now) store.now.rows) ≡ Ok text.items) }
+    ensures refused { IfErr result (λ status. (saved_as form (selected_rows all (moment_of now) store.now.rows) ≡ Err status)
+        ⊎ ((status ≡ Status.NoMemory) × IsOk (saved_as form (selected_rows all (moment_of now) store.now.rows)))) }
 {
     match form {
-        Form::Json => json_text(alloc, store, now, all),
-        Form::Ron => ron_text(alloc, store, now, all),
+        ListFormat::Json => json_text(alloc, store, now, all),
+        ListFormat::Ron => ron_text(alloc, store, now, all),
     }
 }
 
@@ -71,9 +71,9 @@ fn json_text(
     now: DateTime,
     all: bool,
 ) -> Result<Vec<u8>, Status>
-    ensures text { IfOk result (λ text. saved_as Form.Json (chosen all (moment_of now) store.now.rows) ≡ Ok text.items) }
-    ensures refused { IfErr result (λ status. (saved_as Form.Json (chosen all (moment_of now) store.now.rows) ≡ Err status)
-        ⊎ ((status ≡ Status.NoMemory) × IsOk (saved_as Form.Json (chosen all (moment_of now) store.now.rows)))) }
+    ensures text { IfOk result (λ text. saved_as ListFormat.Json (selected_rows all (moment_of now) store.now.rows) ≡ Ok text.items) }
+    ensures refused { IfErr result (λ status. (saved_as ListFormat.Json (selected_rows all (moment_of now) store.now.rows) ≡ Err status)
+        ⊎ ((status ≡ Status.NoMemory) × IsOk (saved_as ListFormat.Json (selected_rows all (moment_of now) store.now.rows)))) }
 {
     let mut writer = Counted::new(Vec::new(alloc));
     let saved = if all {
@@ -83,15 +83,15 @@ fn json_text(
     };
     match saved {
         Ok(()) => Ok(writer.into_inner()),
-        Err(fault) => Err(Status::of_fault(fault)),
+        Err(fault) => Err(Status::of_error(fault)),
     }
 }
 
 // Returns the selected rows as a RON list.
 fn ron_text(alloc: Global, store: &CookieStore, now: DateTime, all: bool) -> Result<Vec<u8>, Status>
-    ensures text { IfOk result (λ text. saved_as Form.Ron (chosen all (moment_of now) store.now.rows) ≡ Ok text.items) }
-    ensures refused { IfErr result (λ status. (saved_as Form.Ron (chosen all (moment_of now) store.now.rows) ≡ Err status)
-        ⊎ ((status ≡ Status.NoMemory) × IsOk (saved_as Form.Ron (chosen all (moment_of now) store.now.rows)))) }
+    ensures text { IfOk result (λ text. saved_as ListFormat.Ron (selected_rows all (moment_of now) store.now.rows) ≡ Ok text.items) }
+    ensures refused { IfErr result (λ status. (saved_as ListFormat.Ron (selected_rows all (moment_of now) store.now.rows) ≡ Err status)
+        ⊎ ((status ≡ Status.NoMemory) × IsOk (saved_as ListFormat.Ron (selected_rows all (moment_of now) store.now.rows)))) }
 {
     let mut writer = Counted::new(Vec::new(alloc));
     let saved = if all {
@@ -101,14 +101,14 @@ fn ron_text(alloc: Global, store: &CookieStore, now: DateTime, all: bool) -> Res
     };
     match saved {
         Ok(()) => Ok(writer.into_inner()),
-        Err(fault) => Err(Status::of_fault(fault)),
+        Err(fault) => Err(Status::of_error(fault)),
     }
 }
 
 /// Returns a store of the cookies of a list: all of them if `all` is true, otherwise those that
 /// have not expired at `now`. Its maps hash by `key`.
 pub(crate) fn load(
-    form: Form,
+    form: ListFormat,
     alloc: Global,
     key: &[u8],
     list: &[u8],
@@ -127,7 +127,7 @@ pub(crate) fn load(
 
 // Loads a store from a string.
 fn store_of(
-    form: Form,
+    form: ListFormat,
     alloc: StoreAlloc,
     text: &str,
     now: DateTime,
@@ -138,19 +138,19 @@ fn store_of(
 {
     let mut reader = Counted::new(text.as_bytes());
     match (form, all) {
-        (Form::Json, true) => loaded(json::load_all(alloc, &mut reader, now)),
-        (Form::Json, false) => loaded(json::load(alloc, &mut reader, now)),
-        (Form::Ron, true) => loaded(ron::load_all(alloc, &mut reader, now)),
-        (Form::Ron, false) => loaded(ron::load(alloc, &mut reader, now)),
+        (ListFormat::Json, true) => loaded(json::load_all(alloc, &mut reader, now)),
+        (ListFormat::Json, false) => loaded(json::load(alloc, &mut reader, now)),
+        (ListFormat::Ron, true) => loaded(ron::load_all(alloc, &mut reader, now)),
+        (ListFormat::Ron, false) => loaded(ron::load(alloc, &mut reader, now)),
     }
 }
 
 // Maps the error of a load to its status.
 fn loaded(read: Result<CookieStore, Error>) -> Result<CookieStore, Status>
-    ensures { result ≡ result_map_both (λ store. store) fault_status read }
+    ensures { result ≡ result_map_both (λ store. store) error_status read }
 {
     match read {
         Ok(store) => Ok(store),
-        Err(fault) => Err(Status::of_fault(fault)),
+        Err(fault) => Err(Status::of_error(fault)),
     }
 }

@@ -5,11 +5,11 @@ ghost use Rattle.std.specs.Int.{int_div_euclid};
 ghost use Rattle.cookie_words.specs.Moments.{moment_of, nanoseconds};
 ghost use Rattle.cookie_parts.specs.Views.{expiry_value};
 ghost use Rattle.cookie_store_c.specs.Buffers.{at_front};
-ghost use Rattle.cookie_store_c.specs.Rows.{end_second, nothing_told, row_texts, row_told, rows_told, IsBeyond};
+ghost use Rattle.cookie_store_c.specs.Rows.{end_second, nothing_written, row_texts, cookie_row, rows_outcome, IsBeyond};
 ghost use Rattle.cookie_store_c.specs.declared.status.Status.TheVariants.{NoMemory};
 
-use crate::asked::epoch;
 use crate::buffer::{put_all, with_lengths};
+use crate::inputs::epoch;
 use crate::status::Status;
 use cookie_store::{Cookie, CookieDomain, CookieExpiration, CookieStore, IterAny};
 use jiff::civil::DateTime;
@@ -35,7 +35,7 @@ pub struct CookieRow {
 }
 
 /// Writes all rows into `rows`, and their strings, one after the other, into `texts`.
-pub(crate) fn tell_rows(
+pub(crate) fn write_rows(
     store: &CookieStore,
     rows: &mut [CookieRow],
     texts: &mut [u8],
@@ -43,10 +43,10 @@ pub(crate) fn tell_rows(
     texts_needed: &mut usize,
 ) -> Status
     ensures { (record { status = result; rows = rows.new; texts = texts.new; rows_needed = rows_needed.new; texts_needed = texts_needed.new }
-        ≡ rows_told store.now.rows rows.old texts.old)
+        ≡ rows_outcome store.now.rows rows.old texts.old)
         ⊎ (IsBeyond store.now.rows
         × (record { status = result; rows = rows.new; texts = texts.new; rows_needed = rows_needed.new; texts_needed = texts_needed.new }
-        ≡ nothing_told NoMemory rows.old texts.old)) }
+        ≡ nothing_written NoMemory rows.old texts.old)) }
 {
     (*rows_needed, *texts_needed) = (0, 0);
     let (Some(count), Some(length)) = (rows_len(store.iter_any()), texts_len(store.iter_any()))
@@ -115,17 +115,17 @@ fn put_texts(all: IterAny<'_>, texts: &mut [u8])
 // Writes all rows to the front of the buffer.
 fn put_rows(all: IterAny<'_>, rows: &mut [CookieRow])
     requires { length all ≤ length rows.old }
-    ensures { rows.new ≡ at_front (map row_told all.entry) rows.old }
+    ensures { rows.new ≡ at_front (map cookie_row all.entry) rows.old }
 {
     let mut place = 0;
     for row in all {
-        rows[place] = told(row);
+        rows[place] = reported(row);
         place += 1;
     }
 }
 
-fn told(row: &Cookie<'static>) -> CookieRow
-    ensures { result ≡ row_told row.now }
+fn reported(row: &Cookie<'static>) -> CookieRow
+    ensures { result ≡ cookie_row row.now }
 {
     CookieRow {
         domain_len: row.domain.as_str().len(),

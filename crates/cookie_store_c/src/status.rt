@@ -1,7 +1,7 @@
 //! The status codes of the C functions.
 ghost use Rattle.std.specs.Prelude.{◌≡◌};
 ghost use Rattle.cookie_laws.specs.Runs.{Stored};
-ghost use Rattle.cookie_store_c.specs.Statuses.{fault_status, refusal_status, reply_status, status_code};
+ghost use Rattle.cookie_store_c.specs.Statuses.{error_status, refusal_status, reply_status, status_code};
 
 use cookie_store::saved::SavedError;
 use cookie_store::{CookieError, Error, InsertResult, StoreAction};
@@ -71,10 +71,10 @@ impl Status {
     }
 
     /// Returns the status of an insertion.
-    pub(crate) fn of_reply(told: InsertResult) -> Status
-        ensures { result ≡ reply_status (Stored told) }
+    pub(crate) fn of_reply(reported: InsertResult) -> Status
+        ensures { result ≡ reply_status (Stored reported) }
     {
-        match told {
+        match reported {
             Ok(StoreAction::Inserted) => Status::Inserted,
             Ok(StoreAction::UpdatedExisting) => Status::Updated,
             Ok(StoreAction::ExpiredExisting) => Status::ExpiredExisting,
@@ -100,8 +100,8 @@ impl Status {
 
     /// Returns the status of a failed save or load. A reader or writer in memory fails only by
     /// allocation, so `Io` is `NoMemory`.
-    pub(crate) fn of_fault(fault: Error) -> Status
-        ensures { result ≡ fault_status fault }
+    pub(crate) fn of_error(fault: Error) -> Status
+        ensures { result ≡ error_status fault }
     {
         match fault {
             Error::Cookie(refusal) => Status::of_refusal(refusal),

@@ -9,7 +9,7 @@ use std::process::Abort;
 
 // A call and its reply.
 #[derive(Clone, Copy, Debug)]
-pub enum Asked {
+pub enum CallCase {
     Set(&'static str, &'static str, InsertResult),
     Insert(&'static str, &'static str, InsertResult),
     Remove(&'static str, &'static str, &'static str, Option<&'static str>),
@@ -18,71 +18,75 @@ pub enum Asked {
 
 const FROM: &str = "http://a.com/";
 
-const SUFFIX: Asked = Asked::Set(FROM, "x=4; Domain=com", Err(CookieError::PublicSuffix));
+const SUFFIX: CallCase = CallCase::Set(FROM, "x=4; Domain=com", Err(CookieError::PublicSuffix));
 
 // Calls made one after the other, and what a store with a one-rule list returns for `FROM` after
 // each.
-pub static CALLS: [(Asked, &str); 13] = [
-    (Asked::Set(FROM, "x=1", INSERTED), "x=1"),
-    (Asked::Insert(FROM, "y=1", INSERTED), "x=1; y=1"),
-    (Asked::Set(FROM, "x=2", UPDATED), "x=2; y=1"),
+pub static CALLS: [(CallCase, &str); 13] = [
+    (CallCase::Set(FROM, "x=1", INSERTED), "x=1"),
+    (CallCase::Insert(FROM, "y=1", INSERTED), "x=1; y=1"),
+    (CallCase::Set(FROM, "x=2", UPDATED), "x=2; y=1"),
     (
-        Asked::Set("data:x", "c=1", Err(CookieError::NonRelativeScheme)),
+        CallCase::Set("data:x", "c=1", Err(CookieError::NonRelativeScheme)),
         "x=2; y=1",
     ),
-    (Asked::Set(FROM, "c", Err(CookieError::Parse)), "x=2; y=1"),
-    (Asked::Set(FROM, "x=3; Max-Age=0", ENDED), "y=1"),
     (
-        Asked::Insert(FROM, "x=3; Max-Age=0", Err(CookieError::Expired)),
+        CallCase::Set(FROM, "c", Err(CookieError::Parse)),
+        "x=2; y=1",
+    ),
+    (CallCase::Set(FROM, "x=3; Max-Age=0", ENDED), "y=1"),
+    (
+        CallCase::Insert(FROM, "x=3; Max-Age=0", Err(CookieError::Expired)),
         "y=1",
     ),
-    (Asked::Remove("a.com", "/", "x", Some("2")), "y=1"),
-    (Asked::Remove("a.com", "/", "x", None), "y=1"),
+    (CallCase::Remove("a.com", "/", "x", Some("2")), "y=1"),
+    (CallCase::Remove("a.com", "/", "x", None), "y=1"),
     (SUFFIX, "y=1"),
-    (Asked::Clear, ""),
+    (CallCase::Clear, ""),
     (SUFFIX, ""),
-    (Asked::Insert(FROM, "x=5", INSERTED), "x=5"),
+    (CallCase::Insert(FROM, "x=5", INSERTED), "x=5"),
 ];
 
 fn owned(rt: &impl Abort, alloc: Global, text: &str) -> String {
     String::from_str(alloc, text).expect(rt, "memory")
 }
 
-pub fn call(rt: &impl Abort, alloc: Global, asked: &Asked) -> Call {
-    match *asked {
-        Asked::Set(from, text, _) => Call::Set {
+pub fn call(rt: &impl Abort, alloc: Global, requested: &CallCase) -> Call {
+    match *requested {
+        CallCase::Set(from, text, _) => Call::Set {
             text: owned(rt, alloc, text),
             url: url(rt, alloc, from),
             now: new_year(),
         },
-        Asked::Insert(from, text, _) => Call::Insert {
+        CallCase::Insert(from, text, _) => Call::Insert {
             cookie: cookie(rt, alloc, &(from, text)),
             url: url(rt, alloc, from),
             now: new_year(),
         },
-        Asked::Remove(domain, path, name, _) => Call::Remove {
+        CallCase::Remove(domain, path, name, _) => Call::Remove {
             domain: owned(rt, alloc, domain),
             path: owned(rt, alloc, path),
             name: owned(rt, alloc, name),
         },
-        Asked::Clear => Call::Clear,
+        CallCase::Clear => Call::Clear,
     }
 }
 
 pub fn all_calls(rt: &impl Abort, alloc: Global) -> Vec<Call> {
     let mut calls = Vec::new(alloc);
-    for (asked, _) in &CALLS {
-        calls.push(call(rt, alloc, asked)).expect(rt, "memory");
+    for (requested, _) in &CALLS {
+        calls.push(call(rt, alloc, requested)).expect(rt, "memory");
     }
     calls
 }
 
-fn is_told(asked: &Asked, reply: &Reply) -> bool {
-    match (*asked, reply) {
-        (Asked::Set(_, _, wanted), Reply::Stored(reply)) => *reply == wanted,
-        (Asked::Insert(_, _, wanted), Reply::Stored(reply)) => *reply == wanted,
-        (Asked::Remove(_, _, _, wanted), Reply::Removed(row)) => value_of(row.as_ref()) == wanted,
-        (Asked::Clear, Reply::Cleared) => true,
+fn is_told(requested: &CallCase, reply: &Reply) -> bool {
+    match (*requested, reply) {
+        (CallCase::Set(_, _, wanted), Reply::Stored(reply)) => *reply == wanted,
+        (CallCase::Insert(_, _, wanted), Reply::Stored(reply)) => *reply == wanted,
+        (CallCase::Remove(_, _, _, wanted), Reply::Removed(row)) => value_of(row.as_ref())
+            == wanted,
+        (CallCase::Clear, Reply::Cleared) => true,
         _ => false,
     }
 }
@@ -96,9 +100,9 @@ fn after(count: usize) -> &'static str {
 }
 
 // Checks that the replies are those to the first calls.
-fn are_replies(rt: &impl Abort, replies: &[Reply], calls: &[(Asked, &'static str)]) {
-    for (reply, (asked, _)) in replies.iter().zip(calls) {
-        is_equal(rt, &is_told(asked, reply), &true, asked);
+fn are_replies(rt: &impl Abort, replies: &[Reply], calls: &[(CallCase, &'static str)]) {
+    for (reply, (requested, _)) in replies.iter().zip(calls) {
+        is_equal(rt, &is_told(requested, reply), &true, requested);
     }
 }
 
@@ -110,7 +114,12 @@ pub fn are_told(rt: &impl Abort, alloc: Global, store: &CookieStore, replies: &[
 }
 
 // Checks the reply to one call, and what the store returns for `FROM` after it.
-fn is_done(rt: &impl Abort, alloc: Global, store: &mut CookieStore, row: &(Asked, &'static str)) {
+fn is_done(
+    rt: &impl Abort,
+    alloc: Global,
+    store: &mut CookieStore,
+    row: &(CallCase, &'static str),
+) {
     let reply = store.apply(call(rt, alloc, &row.0)).expect(rt, "memory");
     is_equal(rt, &is_told(&row.0, &reply), &true, row);
     are_given(rt, alloc, store, (FROM, row.1), new_year(), &row.0);

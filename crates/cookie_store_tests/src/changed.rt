@@ -115,6 +115,6 @@ fn keeps_its_rows(rt: &impl Abort, alloc: Global, run: &Run, key: HashKey) {
 fn a_store_keeps_its_rows(rt: HostRuntime) {
     let state = RandomState::new(&rt).expect(&rt, "random bytes");
     for run in &RUNS {
-        keeps_its_rows(&rt, rt.alloc(), run, HashKey::Drawn(state));
+        keeps_its_rows(&rt, rt.alloc(), run, HashKey::Random(state));
     }
 }

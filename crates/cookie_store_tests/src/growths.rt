@@ -108,7 +108,7 @@ static CASES: [Case; 6] = [
 
 // Whether the call may return out of memory: with a cookie already made, only if it would be
 // inserted.
-fn may_want(way: Way, wanted: InsertResult) -> bool {
+fn may_allocate(way: Way, wanted: InsertResult) -> bool {
     match way {
         Way::Parse | Way::InsertRaw | Way::ApplySet => true,
         Way::Insert | Way::ApplyInsert => wanted == INSERTED,
@@ -131,7 +131,7 @@ fn is_answered(
 ) {
     let (text, wanted, after) = *case;
     if reply == Err(CookieError::Memory) {
-        is_equal(rt, &may_want(way, wanted), &true, &(way, case));
+        is_equal(rt, &may_allocate(way, wanted), &true, &(way, case));
         has_the_four_rows(rt, alloc, store);
     } else {
         is_equal(rt, &reply, &wanted, &(way, case));
@@ -404,7 +404,7 @@ fn set_hash_key(rt: HostRuntime) {
     let mut store = store_of_texts(&rt, rt.alloc(), &FIVE);
     let state = RandomState::new(&rt).expect(&rt, "random bytes");
     start(rt.alloc());
-    let _outcome = store.set_hash_key(HashKey::Drawn(state));
+    let _outcome = store.set_hash_key(HashKey::Random(state));
     end(rt.alloc());
     are_given(
         &rt,

@@ -1,6 +1,6 @@
 //! Insertion of cookies, by each call that inserts.
 use crate::built::Came;
-use crate::calls::{Asked, call};
+use crate::calls::{CallCase, call};
 use crate::checks::is_equal;
 use crate::growths::{end, start};
 use crate::steps::{ENDED, INSERTED, UPDATED, new_year};
@@ -63,18 +63,18 @@ fn reply_to_call(
     rt: &impl Abort,
     alloc: Global,
     store: &mut CookieStore,
-    asked: &Asked,
+    requested: &CallCase,
 ) -> InsertResult {
-    let call = call(rt, alloc, asked);
+    let call = call(rt, alloc, requested);
     start(alloc);
     let outcome = store.apply(call);
     end(alloc);
     if let Ok(Reply::Stored(reply)) = &outcome {
         // Out of memory is an error of `apply`, never a reply.
-        is_equal(rt, &(*reply == WANTING), &false, asked);
+        is_equal(rt, &(*reply == WANTING), &false, requested);
         *reply
     } else {
-        is_equal(rt, &outcome.is_err(), &true, asked);
+        is_equal(rt, &outcome.is_err(), &true, requested);
         WANTING
     }
 }
@@ -93,8 +93,13 @@ pub fn reply_by(
         Way::Parse => reply_to_text(alloc, store, text, url),
         Way::InsertRaw => reply_to_raw(rt, alloc, store, text, url),
         Way::Insert => reply_to_cookie(rt, alloc, store, text, url),
-        Way::ApplySet => reply_to_call(rt, alloc, store, &Asked::Set(from, text, INSERTED)),
-        Way::ApplyInsert => reply_to_call(rt, alloc, store, &Asked::Insert(from, text, INSERTED)),
+        Way::ApplySet => reply_to_call(rt, alloc, store, &CallCase::Set(from, text, INSERTED)),
+        Way::ApplyInsert => reply_to_call(
+            rt,
+            alloc,
+            store,
+            &CallCase::Insert(from, text, INSERTED),
+        ),
     }
 }
 

@@ -20,7 +20,11 @@ fn migrate(alloc: Global, fake: Fake<&[u8]>) -> (Result<CookieStore, MigrateErro
 }
 
 // The cookies as a header, or the error.
-fn told(rt: &impl Abort, alloc: Global, outcome: &Result<CookieStore, MigrateError>) -> String {
+fn outcome_text(
+    rt: &impl Abort,
+    alloc: Global,
+    outcome: &Result<CookieStore, MigrateError>,
+) -> String {
     match outcome {
         Ok(store) => all_rows(rt, alloc, store),
         Err(error) => error.to_string(alloc).expect(rt, "memory"),
@@ -80,8 +84,8 @@ const LINES: &[u8] = b"\
 fn is_told(rt: &impl Abort, alloc: Global, case: &(&'static [u8], &str)) {
     let (outcome, failures) = migrate(alloc, Fake::new(case.0, usize::MAX, 0));
     is_equal(rt, &failures, &0, case);
-    let told = told(rt, alloc, &outcome);
-    is_equal(rt, &told.as_str(), &case.1, case);
+    let outcome_text = outcome_text(rt, alloc, &outcome);
+    is_equal(rt, &outcome_text.as_str(), &case.1, case);
 }
 
 #[test]
@@ -99,8 +103,8 @@ fn is_whole(rt: &impl Abort, alloc: Global, fails_at: usize) -> bool {
     } else {
         "a read failed"
     };
-    let told = told(rt, alloc, &outcome);
-    is_equal(rt, &told.as_str(), &wanted, &fails_at);
+    let outcome_text = outcome_text(rt, alloc, &outcome);
+    is_equal(rt, &outcome_text.as_str(), &wanted, &fails_at);
     failures == 0
 }
 

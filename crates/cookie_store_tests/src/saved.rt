@@ -27,7 +27,7 @@ pub struct Names<'r> {
     alloc: Global,
     is_whole: bool,
     refused: &'r str,
-    asked: RefCell<String>,
+    requested: RefCell<String>,
 }
 
 impl<'r> Names<'r> {
@@ -36,14 +36,14 @@ impl<'r> Names<'r> {
             alloc,
             is_whole,
             refused,
-            asked: RefCell::new(String::new(alloc)),
+            requested: RefCell::new(String::new(alloc)),
         }
     }
 
     fn note(&self, name: &str) -> Result<(), AllocError> {
-        if let Ok(mut asked) = self.asked.try_borrow_mut() {
-            asked.push_str(name)?;
-            asked.push('\n')?;
+        if let Ok(mut requested) = self.requested.try_borrow_mut() {
+            requested.push_str(name)?;
+            requested.push('\n')?;
         }
         Ok(())
     }
@@ -106,7 +106,7 @@ const REFUSED: [Row; 4] = [
 ];
 
 fn is_saved(rt: &impl Abort, alloc: Global, store: &CookieStore, which: &Which, row: &Row) {
-    let (refused, written, asked) = *row;
+    let (refused, written, requested) = *row;
     let names = Names::new(alloc, false, refused);
     let fake = Fake::new(Vec::new(alloc), usize::MAX, 0);
     let (outcome, failures, fake) = save_lines(store, &names, which, fake);
@@ -114,8 +114,8 @@ fn is_saved(rt: &impl Abort, alloc: Global, store: &CookieStore, which: &Which, 
     is_equal(rt, &(end_of(&outcome), failures), &(end, 0), &(row, which));
     let text = str::from_utf8(fake.inner.as_slice()).expect(rt, "UTF-8");
     is_equal(rt, &text, &written, &(row, which));
-    let names = names.asked.into_inner();
-    is_equal(rt, &names.as_str(), &asked, &(row, which));
+    let names = names.requested.into_inner();
+    is_equal(rt, &names.as_str(), &requested, &(row, which));
 }
 
 #[test]

@@ -16,7 +16,7 @@ pub use digits::digits_value;
 /// Converting a `DateTime` of `jiff` to nanoseconds since 1970-01-01T00:00:00 and back gives the
 /// same date and time.
 #[tactic(auto, using(crate::proofs::Calendar::moment_back))]
-pub fn moments_are_on_the_scale()
+pub fn moments_round_trip()
     ensures { (moment : DateTime) → moment_at (nanoseconds (moment_of moment)) ≡ moment_of moment }
 {}
 

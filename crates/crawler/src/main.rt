@@ -90,8 +90,8 @@ fn run(rt: &HostRuntime) -> Result<(), Error> {
         let header = crawler.header(&page, now)?;
         println!(rt; "{address} ({header})").map_err(|_| Error::Io)?;
         for text in *texts {
-            let told = crawler.take(text, &page, now)?;
-            println!(rt; "  {text}: {told}").map_err(|_| Error::Io)?;
+            let outcome = crawler.take(text, &page, now)?;
+            println!(rt; "  {text}: {outcome}").map_err(|_| Error::Io)?;
         }
     }
     Ok(())

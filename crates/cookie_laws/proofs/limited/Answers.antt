@@ -3,4 +3,4 @@ use Rattle.cookie_laws.proofs.MadeKeys.{made_after, made_built}
 use Rattle.cookie_laws.proofs.limited.Goals as goal
 
 pub returns : goal.returns
-returns c = record { rows = limited_rows; inserted = inserted_rows; made = made_after; built = made_built }
+returns c = record { rows = limited_rows; inserted = inserted_rows; created = made_after; built = made_built }

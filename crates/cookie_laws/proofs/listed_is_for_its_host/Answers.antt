@@ -2,4 +2,4 @@ use Rattle.cookie_laws.proofs.ReceivedCookies.{received-put}
 use Rattle.cookie_laws.proofs.listed_is_for_its_host.Goals as goal
 
 pub returns : goal.returns
-returns c = λ store made url now. received-put store url now made
+returns c = λ store created url now. received-put store url now created

@@ -2,13 +2,13 @@
 ghost use Rattle.std.specs.Prelude.{◌≡◌, ◌-◌, ◌^◌, ◌<◌, false, true, None, IfErr, IfOk, OnOk};
 ghost use Rattle.std.specs.Io.KnownBytes.{IsAtEnd};
 ghost use Rattle.cookie_words.specs.Moments.{moment_of};
-ghost use Rattle.cookie_store.specs.JsonLists.{MakesJsonList, SaysJsonList};
-ghost use Rattle.cookie_laws.specs.Contents.{kept_of};
+ghost use Rattle.cookie_store.specs.JsonLists.{JsonListParsesTo, SerializesToJsonList};
+ghost use Rattle.cookie_laws.specs.Contents.{rows_in_order};
 ghost use Rattle.cookie_store.specs.Lists.{BuildsFromList, FailsToLoadList, FailsToSaveList, WritesList};
 ghost use Rattle.cookie_store.specs.Loading.{ReadsEachOnce};
 ghost use Rattle.cookie_store.specs.Saving.{saved_rows};
 
-use super::forms::{Form, load_rows, save_rows};
+use super::list_format::{ListFormat, load_as, save_as};
 use crate::CookieStore;
 use cookie_device::{Sink, Source};
 use cookie_parts::StoreResult;
@@ -27,13 +27,19 @@ use jiff::civil::DateTime;
 /// - `Io`: the writer failed. A beginning of the list may be written.
 pub fn save<W: Sink>(store: &CookieStore, writer: &mut W, now: DateTime) -> StoreResult<()>
     requires writable { W.failed writer.old < 2 ^ 64 - 1 }
-    ensures whole { OnOk result (WritesList SaysJsonList (saved_rows (moment_of now) store.now.rows)
+    ensures whole { OnOk result (WritesList SerializesToJsonList (saved_rows (moment_of now) store.now.rows)
         (W.contents writer.old) (W.contents writer.new)) }
     ensures count { OnOk result (W.failed writer.new ≡ W.failed writer.old) }
-    ensures stopped { IfErr result (λ error. FailsToSaveList SaysJsonList error (saved_rows (moment_of now) store.now.rows)
+    ensures stopped { IfErr result (λ error. FailsToSaveList SerializesToJsonList error (saved_rows (moment_of now) store.now.rows)
         (W.contents writer.old) (W.contents writer.new) (W.failed writer.old) (W.failed writer.new)) }
 {
-    save_rows(Form::Json, store.alloc(), store.rows(), writer, Some(now))
+    save_as(
+        ListFormat::Json,
+        store.alloc(),
+        store.rows(),
+        writer,
+        Some(now),
+    )
 }
 
 /// Writes all cookies as a JSON array and a line feed, expired cookies and session cookies
@@ -45,12 +51,12 @@ pub fn save_incl_expired_and_nonpersistent<W: Sink>(
     writer: &mut W,
 ) -> StoreResult<()>
     requires writable { W.failed writer.old < 2 ^ 64 - 1 }
-    ensures whole { OnOk result (WritesList SaysJsonList store.now.rows (W.contents writer.old) (W.contents writer.new)) }
+    ensures whole { OnOk result (WritesList SerializesToJsonList store.now.rows (W.contents writer.old) (W.contents writer.new)) }
     ensures count { OnOk result (W.failed writer.new ≡ W.failed writer.old) }
-    ensures stopped { IfErr result (λ error. FailsToSaveList SaysJsonList error store.now.rows
+    ensures stopped { IfErr result (λ error. FailsToSaveList SerializesToJsonList error store.now.rows
         (W.contents writer.old) (W.contents writer.new) (W.failed writer.old) (W.failed writer.new)) }
 {
-    save_rows(Form::Json, store.alloc(), store.rows(), writer, None)
+    save_as(ListFormat::Json, store.alloc(), store.rows(), writer, None)
 }
 
 /// Loads a store from a JSON array, skipping expired cookies.
@@ -76,17 +82,17 @@ pub fn load<A: Into<StoreAlloc>, R: Source>(
     now: DateTime,
 ) -> StoreResult<CookieStore>
     requires readable { R.failed reader.old < 2 ^ 64 - 1 }
-    ensures built { IfOk result (λ store. BuildsFromList MakesJsonList (R.remaining reader.old) false (moment_of now) (kept_of store)) }
+    ensures built { IfOk result (λ store. BuildsFromList JsonListParsesTo (R.remaining reader.old) false (moment_of now) (rows_in_order store)) }
     ensures suffixes { IfOk result (λ store. store.suffixes ≡ None) }
     ensures limit { IfOk result (λ store. store.limit ≡ None) }
     ensures read { OnOk result (IsAtEnd (R.remaining reader.new) × (R.failed reader.new ≡ R.failed reader.old)) }
-    ensures failed { IfErr result (λ error. FailsToLoadList MakesJsonList error
+    ensures failed { IfErr result (λ error. FailsToLoadList JsonListParsesTo error
         (R.remaining reader.old) (R.remaining reader.new) (R.failed reader.old) (R.failed reader.new)
         (R.reads_left reader.old) (R.reads_left reader.new)) }
     ensures reads { ReadsEachOnce (R.remaining reader.old) (R.reads_left reader.old) (R.reads_left reader.new) }
 {
     let alloc = alloc.into();
-    let rows = load_rows(Form::Json, alloc, reader, false, now)?;
+    let rows = load_as(ListFormat::Json, alloc, reader, false, now)?;
     Ok(CookieStore::of_rows(alloc.alloc, rows))
 }
 
@@ -99,16 +105,16 @@ pub fn load_all<A: Into<StoreAlloc>, R: Source>(
     now: DateTime,
 ) -> StoreResult<CookieStore>
     requires readable { R.failed reader.old < 2 ^ 64 - 1 }
-    ensures built { IfOk result (λ store. BuildsFromList MakesJsonList (R.remaining reader.old) true (moment_of now) (kept_of store)) }
+    ensures built { IfOk result (λ store. BuildsFromList JsonListParsesTo (R.remaining reader.old) true (moment_of now) (rows_in_order store)) }
     ensures suffixes { IfOk result (λ store. store.suffixes ≡ None) }
     ensures limit { IfOk result (λ store. store.limit ≡ None) }
     ensures read { OnOk result (IsAtEnd (R.remaining reader.new) × (R.failed reader.new ≡ R.failed reader.old)) }
-    ensures failed { IfErr result (λ error. FailsToLoadList MakesJsonList error
+    ensures failed { IfErr result (λ error. FailsToLoadList JsonListParsesTo error
         (R.remaining reader.old) (R.remaining reader.new) (R.failed reader.old) (R.failed reader.new)
         (R.reads_left reader.old) (R.reads_left reader.new)) }
     ensures reads { ReadsEachOnce (R.remaining reader.old) (R.reads_left reader.old) (R.reads_left reader.new) }
 {
     let alloc = alloc.into();
-    let rows = load_rows(Form::Json, alloc, reader, true, now)?;
+    let rows = load_as(ListFormat::Json, alloc, reader, true, now)?;
     Ok(CookieStore::of_rows(alloc.alloc, rows))
 }

@@ -3,15 +3,13 @@
 ghost use Rattle.std.specs.Prelude.{◌≡◌, ◌-◌, ◌^◌, ◌<◌, None, IfErr, IfOk, OnOk};
 ghost use Rattle.std.specs.Fmt.{WritesOnOk, WritesStyledOnOk};
 ghost use Rattle.std.specs.Io.KnownBytes.{IsAtEnd};
-ghost use Rattle.cookie_laws.specs.Contents.{kept_of};
-ghost use Rattle.cookie_store.specs.LoadFault.{StopsLoading};
-ghost use Rattle.cookie_store.specs.JsonLines.{MakesJson};
+ghost use Rattle.cookie_laws.specs.Contents.{rows_in_order};
 ghost use Rattle.cookie_store.specs.Loading.{ReadsEachOnce};
 ghost use Rattle.cookie_store.specs.Migration.{line_number_text, FailsToMigrate, HaveSavedForms, Migrates};
 
 use crate::CookieStore;
 use crate::json_lines::numbered_json_rows;
-use crate::loading::LoadFault;
+use crate::loading::LoadError;
 use cookie_device::{FillError, Source};
 use cookie_parts::Error;
 use cookie_rows::StoreAlloc;
@@ -37,17 +35,17 @@ pub enum MigrateError {
 }
 
 /// Out of memory at a line becomes `Memory`, not `Line`.
-impl From<LoadFault> for MigrateError {
+impl From<LoadError> for MigrateError {
     ghost use Rattle.cookie_store.specs.Migration.{migrate_error_of};
 
     ghost from_gives = { λ fault error. error ≡ migrate_error_of fault };
 
-    fn from(fault: LoadFault) -> MigrateError {
+    fn from(fault: LoadError) -> MigrateError {
         match fault {
-            LoadFault::Source(FillError::Read) => MigrateError::Io,
-            LoadFault::Source(FillError::Memory) => MigrateError::Memory,
-            LoadFault::Line(_, Error::Memory) => MigrateError::Memory,
-            LoadFault::Line(line, error) => MigrateError::Line { line, error },
+            LoadError::Source(FillError::Read) => MigrateError::Io,
+            LoadError::Source(FillError::Memory) => MigrateError::Memory,
+            LoadError::Line(_, Error::Memory) => MigrateError::Memory,
+            LoadError::Line(line, error) => MigrateError::Line { line, error },
         }
     }
 }
@@ -102,7 +100,7 @@ pub fn migrate_lines<A: Into<StoreAlloc>, R: Source>(
     reader: &mut R,
 ) -> Result<CookieStore, MigrateError>
     requires readable { R.failed reader.old < 2 ^ 64 - 1 }
-    ensures built { IfOk result (λ store. Migrates (R.remaining reader.old) (kept_of store)) }
+    ensures built { IfOk result (λ store. Migrates (R.remaining reader.old) (rows_in_order store)) }
     ensures saved { IfOk result (λ store. HaveSavedForms store.rows) }
     ensures suffixes { IfOk result (λ store. store.suffixes ≡ None) }
     ensures limit { IfOk result (λ store. store.limit ≡ None) }

@@ -2,13 +2,13 @@
 ghost use Rattle.std.specs.Prelude.{◌≡◌, ◌-◌, ◌^◌, ◌<◌, false, true, None, IfErr, IfOk, OnOk};
 ghost use Rattle.std.specs.Io.KnownBytes.{IsAtEnd};
 ghost use Rattle.cookie_words.specs.Moments.{moment_of};
-ghost use Rattle.cookie_store.specs.RonLists.{MakesRonList, SaysRonList};
-ghost use Rattle.cookie_laws.specs.Contents.{kept_of};
+ghost use Rattle.cookie_store.specs.RonLists.{RonListParsesTo, SerializesToRonList};
+ghost use Rattle.cookie_laws.specs.Contents.{rows_in_order};
 ghost use Rattle.cookie_store.specs.Lists.{BuildsFromList, FailsToLoadList, FailsToSaveList, WritesList};
 ghost use Rattle.cookie_store.specs.Loading.{ReadsEachOnce};
 ghost use Rattle.cookie_store.specs.Saving.{saved_rows};
 
-use super::forms::{Form, load_rows, save_rows};
+use super::list_format::{ListFormat, load_as, save_as};
 use crate::CookieStore;
 use cookie_device::{Sink, Source};
 use cookie_parts::StoreResult;
@@ -27,13 +27,19 @@ use jiff::civil::DateTime;
 /// - `Io`: the writer failed. A beginning of the list may be written.
 pub fn save<W: Sink>(store: &CookieStore, writer: &mut W, now: DateTime) -> StoreResult<()>
     requires writable { W.failed writer.old < 2 ^ 64 - 1 }
-    ensures whole { OnOk result (WritesList SaysRonList (saved_rows (moment_of now) store.now.rows)
+    ensures whole { OnOk result (WritesList SerializesToRonList (saved_rows (moment_of now) store.now.rows)
         (W.contents writer.old) (W.contents writer.new)) }
     ensures count { OnOk result (W.failed writer.new ≡ W.failed writer.old) }
-    ensures stopped { IfErr result (λ error. FailsToSaveList SaysRonList error (saved_rows (moment_of now) store.now.rows)
+    ensures stopped { IfErr result (λ error. FailsToSaveList SerializesToRonList error (saved_rows (moment_of now) store.now.rows)
         (W.contents writer.old) (W.contents writer.new) (W.failed writer.old) (W.failed writer.new)) }
 {
-    save_rows(Form::Ron, store.alloc(), store.rows(), writer, Some(now))
+    save_as(
+        ListFormat::Ron,
+        store.alloc(),
+        store.rows(),
+        writer,
+        Some(now),
+    )
 }
 
 /// Writes all cookies as a list in RON and a line feed, expired cookies and session cookies
@@ -45,12 +51,12 @@ pub fn save_incl_expired_and_nonpersistent<W: Sink>(
     writer: &mut W,
 ) -> StoreResult<()>
     requires writable { W.failed writer.old < 2 ^ 64 - 1 }
-    ensures whole { OnOk result (WritesList SaysRonList store.now.rows (W.contents writer.old) (W.contents writer.new)) }
+    ensures whole { OnOk result (WritesList SerializesToRonList store.now.rows (W.contents writer.old) (W.contents writer.new)) }
     ensures count { OnOk result (W.failed writer.new ≡ W.failed writer.old) }
-    ensures stopped { IfErr result (λ error. FailsToSaveList SaysRonList error store.now.rows
+    ensures stopped { IfErr result (λ error. FailsToSaveList SerializesToRonList error store.now.rows
         (W.contents writer.old) (W.contents writer.new) (W.failed writer.old) (W.failed writer.new)) }
 {
-    save_rows(Form::Ron, store.alloc(), store.rows(), writer, None)
+    save_as(ListFormat::Ron, store.alloc(), store.rows(), writer, None)
 }
 
 /// Loads a store from a list in RON, skipping expired cookies.
@@ -75,17 +81,17 @@ pub fn load<A: Into<StoreAlloc>, R: Source>(
     now: DateTime,
 ) -> StoreResult<CookieStore>
     requires readable { R.failed reader.old < 2 ^ 64 - 1 }
-    ensures built { IfOk result (λ store. BuildsFromList MakesRonList (R.remaining reader.old) false (moment_of now) (kept_of store)) }
+    ensures built { IfOk result (λ store. BuildsFromList RonListParsesTo (R.remaining reader.old) false (moment_of now) (rows_in_order store)) }
     ensures suffixes { IfOk result (λ store. store.suffixes ≡ None) }
     ensures limit { IfOk result (λ store. store.limit ≡ None) }
     ensures read { OnOk result (IsAtEnd (R.remaining reader.new) × (R.failed reader.new ≡ R.failed reader.old)) }
-    ensures failed { IfErr result (λ error. FailsToLoadList MakesRonList error
+    ensures failed { IfErr result (λ error. FailsToLoadList RonListParsesTo error
         (R.remaining reader.old) (R.remaining reader.new) (R.failed reader.old) (R.failed reader.new)
         (R.reads_left reader.old) (R.reads_left reader.new)) }
     ensures reads { ReadsEachOnce (R.remaining reader.old) (R.reads_left reader.old) (R.reads_left reader.new) }
 {
     let alloc = alloc.into();
-    let rows = load_rows(Form::Ron, alloc, reader, false, now)?;
+    let rows = load_as(ListFormat::Ron, alloc, reader, false, now)?;
     Ok(CookieStore::of_rows(alloc.alloc, rows))
 }
 
@@ -98,16 +104,16 @@ pub fn load_all<A: Into<StoreAlloc>, R: Source>(
     now: DateTime,
 ) -> StoreResult<CookieStore>
     requires readable { R.failed reader.old < 2 ^ 64 - 1 }
-    ensures built { IfOk result (λ store. BuildsFromList MakesRonList (R.remaining reader.old) true (moment_of now) (kept_of store)) }
+    ensures built { IfOk result (λ store. BuildsFromList RonListParsesTo (R.remaining reader.old) true (moment_of now) (rows_in_order store)) }
     ensures suffixes { IfOk result (λ store. store.suffixes ≡ None) }
     ensures limit { IfOk result (λ store. store.limit ≡ None) }
     ensures read { OnOk result (IsAtEnd (R.remaining reader.new) × (R.failed reader.new ≡ R.failed reader.old)) }
-    ensures failed { IfErr result (λ error. FailsToLoadList MakesRonList error
+    ensures failed { IfErr result (λ error. FailsToLoadList RonListParsesTo error
         (R.remaining reader.old) (R.remaining reader.new) (R.failed reader.old) (R.failed reader.new)
         (R.reads_left reader.old) (R.reads_left reader.new)) }
     ensures reads { ReadsEachOnce (R.remaining reader.old) (R.reads_left reader.old) (R.reads_left reader.new) }
 {
     let alloc = alloc.into();
-    let rows = load_rows(Form::Ron, alloc, reader, true, now)?;
+    let rows = load_as(ListFormat::Ron, alloc, reader, true, now)?;
     Ok(CookieStore::of_rows(alloc.alloc, rows))
 }

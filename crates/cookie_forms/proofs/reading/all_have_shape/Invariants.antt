@@ -1,6 +1,6 @@
 use Rattle.std.proofs.Common.{◌≡◌, drop, is_some}
 use Rattle.serde_json.specs.View.{items_view}
-use Rattle.cookie_forms.specs.ReadTrees.{all_parts_in}
+use Rattle.cookie_forms.specs.FromJson.{all_parts_in}
 use Rattle.cookie_forms.proofs.reading.all_have_shape.Given as goal
 
 abbrev pub invariant-loop-item : goal.invariant-loop-item

@@ -1,7 +1,7 @@
 use Rattle.std.proofs.Common.{◌≡◌, ◌++◌, map, drop, option_map}
 use Rattle.serde_json.specs.View.{items_view}
 use Rattle.cookie_forms.specs.Saved.{saved_view}
-use Rattle.cookie_forms.specs.ReadTrees.{all_in}
+use Rattle.cookie_forms.specs.FromJson.{all_in}
 use Rattle.cookie_forms.proofs.reading.all_in.Given as goal
 
 abbrev pub invariant-loop-item : goal.invariant-loop-item

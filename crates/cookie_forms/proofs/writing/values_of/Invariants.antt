@@ -2,7 +2,7 @@ use Rattle.std.proofs.Common.{◌≡◌, drop, take, false, map}
 use Rattle.std.specs.List.{list_any}
 use Rattle.serde_json.specs.View.{view}
 use Rattle.cookie_forms.specs.Saved.{saved_view}
-use Rattle.cookie_forms.specs.WrittenTrees.{is_early, saved_tree}
+use Rattle.cookie_forms.specs.ToJson.{is_early, saved_tree}
 use Rattle.cookie_forms.proofs.writing.values_of.Given as goal
 
 abbrev pub invariant-loop-saved : goal.invariant-loop-saved

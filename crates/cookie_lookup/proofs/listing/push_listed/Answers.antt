@@ -2,10 +2,10 @@ use Rattle.std.proofs.Common.{◌≡◌, ◌∙◌, ◌+◌, ◌<◌, ◌++◌, 
 use Rattle.std.specs.Prelude.{◌≢◌, filter, slice_get}
 use Rattle.std.specs.List.{flat_map, list_any}
 use Rattle.cookie_words.specs.Moments.{moment_of}
-use Rattle.cookie_lookup.specs.Asked.{is_asked_for}
+use Rattle.cookie_lookup.specs.RowFilter.{is_given_under}
 use Rattle.cookie_lookup.specs.Groups.{DomainGroups}
-use Rattle.cookie_lookup.specs.Seen.{at_path, under}
-use Rattle.cookie_lookup.specs.Texts.{path_texts}
+use Rattle.cookie_lookup.specs.SearchView.{at_path, under}
+use Rattle.cookie_lookup.specs.Texts.{candidate_paths}
 use Rattle.cookie_lookup.proofs.Listed.{filter_at, filter_passed, length_texts, listed_most, paths_differ, text_gives, text_pushed}
 use Rattle.cookie_lookup.proofs.Results.{either_way}
 use Rattle.cookie_lookup.proofs.listing.push_listed.Goals.{in-Some+in_ok-push_path, in_default}
@@ -13,55 +13,55 @@ use Rattle.cookie_lookup.proofs.listing.push_listed.Goals as goal
 
 pub push_path-requires-clause-room : goal.push_path-requires-clause-room
 push_path-requires-clause-room g c =
-    let first = g.S.Search.seen c.args.search.now in
-    let path = c.args.asked.now.url.now.path in
-    let test : List ℕ → _ = λ text. list_any (bytes_eq text) (path_texts path) in
+    let first = g.S.Search.view_of c.args.search.now in
+    let path = c.args.row_filter.now.url.now.path in
+    let test : List ℕ → _ = λ text. list_any (bytes_eq text) (candidate_paths path) in
     let texts : List (List ℕ) = map (λ p. p.0) (under c.args.domain first.groups) in
     let here : Some c.in-Some.front.now ≡ slice_get texts c.loop-place.place = subst (λ (groups : DomainGroups). Some c.in-Some.front.now ≡ slice_get (map (λ p. p.0) (under c.args.domain groups)) c.loop-place.place) c.loop-place.invariant.groups c.in-Some.ensures.front in
-    let passes : test c.in-Some.front.now ≡ true = subst (λ r. list_any (bytes_eq c.in-Some.front.now) (path_texts r) ≡ true) c.path-path.ensures.value c.in-Some.ensures.is in
+    let passes : test c.in-Some.front.now ≡ true = subst (λ r. list_any (bytes_eq c.in-Some.front.now) (candidate_paths r) ≡ true) c.path-path.ensures.value c.in-Some.ensures.is in
     let most = listed_most path texts (paths_differ first.groups (g.met.S.Search.are_groups c.args.search.now) c.args.domain) in
     omega (arith, c.loop-place.invariant.paths, ap length (filter_at test texts c.loop-place.place c.in-Some.front.now here passes), most, c.requires.room)
 
 pub returns-in_err-push_path-clause-paths : goal.returns-in_err-push_path-clause-paths
 returns-in_err-push_path-clause-paths g c =
-    let first = g.S.Search.seen c.args.search.now in
-    let path = c.args.asked.now.url.now.path in
-    let test : List ℕ → _ = λ text. list_any (bytes_eq text) (path_texts path) in
+    let first = g.S.Search.view_of c.args.search.now in
+    let path = c.args.row_filter.now.url.now.path in
+    let test : List ℕ → _ = λ text. list_any (bytes_eq text) (candidate_paths path) in
     let texts : List (List ℕ) = map (λ p. p.0) (under c.args.domain first.groups) in
     let here : Some c.in-Some.front.now ≡ slice_get texts c.loop-place.place = subst (λ (groups : DomainGroups). Some c.in-Some.front.now ≡ slice_get (map (λ p. p.0) (under c.args.domain groups)) c.loop-place.place) c.loop-place.invariant.groups c.in-Some.ensures.front in
-    let passes : test c.in-Some.front.now ≡ true = subst (λ r. list_any (bytes_eq c.in-Some.front.now) (path_texts r) ≡ true) c.path-path.ensures.value c.in-Some.ensures.is in
+    let passes : test c.in-Some.front.now ≡ true = subst (λ r. list_any (bytes_eq c.in-Some.front.now) (candidate_paths r) ≡ true) c.path-path.ensures.value c.in-Some.ensures.is in
     let most = listed_most path texts (paths_differ first.groups (g.met.S.Search.are_groups c.args.search.now) c.args.domain) in
     omega (arith, c.push_path.ensures.paths, c.loop-place.invariant.paths, ap length (filter_at test texts c.loop-place.place c.in-Some.front.now here passes), most)
 
 pub returns-in_err-push_path-clause-memory : goal.returns-in_err-push_path-clause-memory
 returns-in_err-push_path-clause-memory g c =
-    let first = g.S.Search.seen c.args.search.now in
-    let url = c.args.asked.now.url.now in
-    let test : List ℕ → _ = λ text. list_any (bytes_eq text) (path_texts url.path) in
+    let first = g.S.Search.view_of c.args.search.now in
+    let url = c.args.row_filter.now.url.now in
+    let test : List ℕ → _ = λ text. list_any (bytes_eq text) (candidate_paths url.path) in
     let texts : List (List ℕ) = map (λ p. p.0) (under c.args.domain first.groups) in
-    let look : DomainGroups → List ℕ → List (ℕ × ℕ × ℕ) = λ groups. at_path (is_asked_for c.args.asked.now.host_only c.args.asked.now.suffix url (moment_of c.args.asked.now.moment)) c.args.domain (under c.args.domain groups) in
+    let look : DomainGroups → List ℕ → List (ℕ × ℕ × ℕ) = λ groups. at_path (is_given_under c.args.row_filter.now.host_only c.args.row_filter.now.suffix url (moment_of c.args.row_filter.now.time)) c.args.domain (under c.args.domain groups) in
     let here : Some c.in-Some.front.now ≡ slice_get texts c.loop-place.place = subst (λ (groups : DomainGroups). Some c.in-Some.front.now ≡ slice_get (map (λ p. p.0) (under c.args.domain groups)) c.loop-place.place) c.loop-place.invariant.groups c.in-Some.ensures.front in
-    let passes : test c.in-Some.front.now ≡ true = subst (λ r. list_any (bytes_eq c.in-Some.front.now) (path_texts r) ≡ true) c.path-path.ensures.value c.in-Some.ensures.is in
+    let passes : test c.in-Some.front.now ≡ true = subst (λ r. list_any (bytes_eq c.in-Some.front.now) (candidate_paths r) ≡ true) c.path-path.ensures.value c.in-Some.ensures.is in
     let some : look first.groups c.in-Some.front.now ≢ [] = subst (λ groups. look groups c.in-Some.front.now ≢ []) c.loop-place.invariant.groups c.in_err-push_path.ensures.memory in
     either_way c.from_residual.result (text_gives test texts c.loop-place.place c.in-Some.front.now here (look first.groups) passes some)
 
 pub loop-place-preserved : goal.loop-place-preserved
 loop-place-preserved g c =
-    let first = g.S.Search.seen c.args.search.now in
-    let url = c.args.asked.now.url.now in
+    let first = g.S.Search.view_of c.args.search.now in
+    let url = c.args.row_filter.now.url.now in
     let place = c.loop-place.place in
-    let test : List ℕ → _ = λ text. list_any (bytes_eq text) (path_texts url.path) in
+    let test : List ℕ → _ = λ text. list_any (bytes_eq text) (candidate_paths url.path) in
     let texts : List (List ℕ) = map (λ p. p.0) (under c.args.domain first.groups) in
-    let look : DomainGroups → List ℕ → List (ℕ × ℕ × ℕ) = λ groups. at_path (is_asked_for c.args.asked.now.host_only c.args.asked.now.suffix url (moment_of c.args.asked.now.moment)) c.args.domain (under c.args.domain groups) in
-    let all = c.args.spots.now.items ++ flat_map (look first.groups) (filter test texts) in
+    let look : DomainGroups → List ℕ → List (ℕ × ℕ × ℕ) = λ groups. at_path (is_given_under c.args.row_filter.now.host_only c.args.row_filter.now.suffix url (moment_of c.args.row_filter.now.time)) c.args.domain (under c.args.domain groups) in
+    let all = c.args.positions.now.items ++ flat_map (look first.groups) (filter test texts) in
     elim c.match-front_at.branch [
       | in-Some+in_ok-push_path w ↦
           let front = w.in-Some.front.now in
           let here : Some front ≡ slice_get texts place = subst (λ (groups : DomainGroups). Some front ≡ slice_get (map (λ p. p.0) (under c.args.domain groups)) place) c.loop-place.invariant.groups w.in-Some.ensures.front in
-          let passes : test front ≡ true = subst (λ r. list_any (bytes_eq front) (path_texts r) ≡ true) c.path-path.ensures.value w.in-Some.ensures.is in
-          let added = ap (λ v. v.items) w.spots-is ∙ w.in_ok-push_path.ensures.spots ∙ ap (λ groups. c.loop-place.spots.items ++ look groups front) c.loop-place.invariant.groups in
+          let passes : test front ≡ true = subst (λ r. list_any (bytes_eq front) (candidate_paths r) ≡ true) c.path-path.ensures.value w.in-Some.ensures.is in
+          let added = ap (λ v. v.items) w.positions-is ∙ w.in_ok-push_path.ensures.positions ∙ ap (λ groups. c.loop-place.positions.items ++ look groups front) c.loop-place.invariant.groups in
           rw w.search-is record {
-            spots = text_pushed test texts place front here (look first.groups) passes all c.loop-place.spots.items c.match-front_at.spots.items c.loop-place.invariant.spots added;
+            positions = text_pushed test texts place front here (look first.groups) passes all c.loop-place.positions.items c.match-front_at.positions.items c.loop-place.invariant.positions added;
             groups = w.in_ok-push_path.ensures.groups ∙ c.loop-place.invariant.groups;
             domains = w.in_ok-push_path.ensures.domains ∙ c.loop-place.invariant.domains;
             paths = omega (arith, w.in_ok-push_path.ensures.paths, c.loop-place.invariant.paths, ap length (filter_at test texts place front here passes));
@@ -69,11 +69,11 @@ loop-place-preserved g c =
       | in_default w ↦
           let below : place < length texts = omega (arith, length_texts (under c.args.domain first.groups), c.requires.count, c.loop-place-test.true) in
           let fails : (t : List ℕ) → Some t ≡ slice_get texts place → test t ≡ false = λ t e.
-          subst (λ r. list_any (bytes_eq t) (path_texts r) ≡ false) c.path-path.ensures.value
+          subst (λ r. list_any (bytes_eq t) (candidate_paths r) ≡ false) c.path-path.ensures.value
           (w.in_default.ensures.none t (subst (λ (groups : DomainGroups). Some t ≡ slice_get (map (λ p. p.0) (under c.args.domain groups)) place) (sym c.loop-place.invariant.groups) e)) in
           let same = filter_passed test texts place below fails in
           rw w.search-is record {
-            spots = ap (λ v. v.items ++ flat_map (look first.groups) (filter test (drop (place + 1) texts))) w.spots-is ∙ ap (λ ts. c.loop-place.spots.items ++ flat_map (look first.groups) ts) (sym same) ∙ c.loop-place.invariant.spots;
+            positions = ap (λ v. v.items ++ flat_map (look first.groups) (filter test (drop (place + 1) texts))) w.positions-is ∙ ap (λ ts. c.loop-place.positions.items ++ flat_map (look first.groups) ts) (sym same) ∙ c.loop-place.invariant.positions;
             groups = c.loop-place.invariant.groups;
             domains = c.loop-place.invariant.domains;
             paths = omega (arith, ap length same, c.loop-place.invariant.paths);
@@ -82,8 +82,8 @@ loop-place-preserved g c =
 
 pub returns-clause-paths : goal.returns-clause-paths
 returns-clause-paths g c =
-    let first = g.S.Search.seen c.args.search.now in
-    let path = c.args.asked.now.url.now.path in
+    let first = g.S.Search.view_of c.args.search.now in
+    let path = c.args.row_filter.now.url.now.path in
     let texts : List (List ℕ) = map (λ p. p.0) (under c.args.domain first.groups) in
     let most = listed_most path texts (paths_differ first.groups (g.met.S.Search.are_groups c.args.search.now) c.args.domain) in
     omega (arith, c.loop-place.invariant.paths, most)

@@ -5,9 +5,9 @@ use Rattle.std.proofs.Math.Nat.{mul-le-mul_right}
 use Rattle.cookie_words.specs.Moments.{moment_of}
 use Rattle.cookie_laws.specs.Given.{is_given}
 use Rattle.cookie_lookup.specs.Groups.{DomainGroups}
-use Rattle.cookie_lookup.specs.Seen.{at_domain, how_many_found, how_many_pairs_found, paths_at_domain}
-use Rattle.cookie_lookup.specs.Spots.{SameSpots}
-use Rattle.cookie_lookup.specs.Texts.{dots, most_paths, path_texts, related_texts}
+use Rattle.cookie_lookup.specs.SearchView.{at_domain, how_many_found, how_many_pairs_found, paths_at_domain}
+use Rattle.cookie_lookup.specs.Positions.{SamePositions}
+use Rattle.cookie_lookup.specs.Texts.{dots, most_paths, candidate_paths, candidate_domains}
 use Rattle.cookie_lookup.proofs.Counts.{paths_next, room_here, room_next}
 use Rattle.cookie_lookup.proofs.FoundPairs.{found_counted, listed_pairs, pairs_next}
 use Rattle.cookie_lookup.proofs.HostTexts.{length_related, related_differ, related_texts_are}
@@ -18,23 +18,23 @@ use Rattle.cookie_lookup.proofs.listing.push_listed_domains.Goals as goal
 
 pub loop-place-init : goal.loop-place-init
 loop-place-init g c =
-    let first = g.S.Search.seen c.args.search.now in
+    let first = g.S.Search.view_of c.args.search.now in
     let host = c.args.host.now in
     let m = most_paths c.args.url.now in
-    let test : List ℕ → Bool = λ text. list_any (bytes_eq text) (related_texts host) in
+    let test : List ℕ → Bool = λ text. list_any (bytes_eq text) (candidate_domains host) in
     let texts : List (List ℕ) = map (λ p. p.0) first.groups in
-    let look : DomainGroups → List ℕ → List (ℕ × ℕ × ℕ) = λ groups. at_domain (is_given c.args.url.now (moment_of c.args.now)) groups (path_texts c.args.url.now.path) in
+    let look : DomainGroups → List ℕ → List (ℕ × ℕ × ℕ) = λ groups. at_domain (is_given c.args.url.now (moment_of c.args.now)) groups (candidate_paths c.args.url.now.path) in
     let differ = (g.met.S.Search.are_groups c.args.search.now).0 in
-    let most : length (filter test texts) ≤ 1 + dots host = omega (arith, shared_most (related_texts host) texts (related_differ host) differ, length_related host) in
+    let most : length (filter test texts) ≤ 1 + dots host = omega (arith, shared_most (candidate_domains host) texts (related_differ host) differ, length_related host) in
     record {
-      spots = same_added c.args.spots.now.items (flat_map (look first.groups) (filter test texts)) (flat_map (look first.groups) (related_texts host))
-          (listed_domain_spots (is_given c.args.url.now (moment_of c.args.now)) first.groups (path_texts c.args.url.now.path) (related_texts host) (related_differ host) differ);
+      positions = same_added c.args.positions.now.items (flat_map (look first.groups) (filter test texts)) (flat_map (look first.groups) (candidate_domains host))
+          (listed_domain_spots (is_given c.args.url.now (moment_of c.args.now)) first.groups (candidate_paths c.args.url.now.path) (candidate_domains host) (related_differ host) differ);
       groups = refl;
       domains = omega (arith, most);
       room = omega (arith, mul-le-mul_right m most);
-      paths = omega (arith, ap (λ n. n * m) (listed_found first.groups (related_texts host) (related_differ host) differ));
-      every_domain = omega (arith, listed_found first.groups (related_texts host) (related_differ host) differ, found_counted first.groups (filter test texts));
-      every_path = omega (arith, listed_pairs (related_texts host) (related_differ host) first.groups (path_texts c.args.url.now.path) differ);
+      paths = omega (arith, ap (λ n. n * m) (listed_found first.groups (candidate_domains host) (related_differ host) differ));
+      every_domain = omega (arith, listed_found first.groups (candidate_domains host) (related_differ host) differ, found_counted first.groups (filter test texts));
+      every_path = omega (arith, listed_pairs (candidate_domains host) (related_differ host) first.groups (candidate_paths c.args.url.now.path) differ);
     }
 
 pub push_domain-requires-clause-related : goal.push_domain-requires-clause-related
@@ -43,9 +43,9 @@ push_domain-requires-clause-related g c =
 
 pub push_domain-requires-clause-domains : goal.push_domain-requires-clause-domains
 push_domain-requires-clause-domains g c =
-    let first = g.S.Search.seen c.args.search.now in
+    let first = g.S.Search.view_of c.args.search.now in
     let host = c.args.host.now in
-    let test : List ℕ → Bool = λ text. list_any (bytes_eq text) (related_texts host) in
+    let test : List ℕ → Bool = λ text. list_any (bytes_eq text) (candidate_domains host) in
     let texts : List (List ℕ) = map (λ p. p.0) first.groups in
     let text = c.in-Some.text.now in
     let here : Some text ≡ slice_get texts c.loop-place.place = subst (λ (groups : DomainGroups). Some text ≡ slice_get (map (λ p. p.0) groups) c.loop-place.place) c.loop-place.invariant.groups c.in-Some.ensures.suffix in
@@ -54,10 +54,10 @@ push_domain-requires-clause-domains g c =
 
 pub push_domain-requires-clause-paths : goal.push_domain-requires-clause-paths
 push_domain-requires-clause-paths g c =
-    let first = g.S.Search.seen c.args.search.now in
+    let first = g.S.Search.view_of c.args.search.now in
     let host = c.args.host.now in
     let m = most_paths c.args.url.now in
-    let test : List ℕ → Bool = λ text. list_any (bytes_eq text) (related_texts host) in
+    let test : List ℕ → Bool = λ text. list_any (bytes_eq text) (candidate_domains host) in
     let texts : List (List ℕ) = map (λ p. p.0) first.groups in
     let text = c.in-Some.text.now in
     let here : Some text ≡ slice_get texts c.loop-place.place = subst (λ (groups : DomainGroups). Some text ≡ slice_get (map (λ p. p.0) groups) c.loop-place.place) c.loop-place.invariant.groups c.in-Some.ensures.suffix in
@@ -68,9 +68,9 @@ push_domain-requires-clause-paths g c =
 
 pub returns-in_err-push_domain-clause-domains : goal.returns-in_err-push_domain-clause-domains
 returns-in_err-push_domain-clause-domains g c =
-    let first = g.S.Search.seen c.args.search.now in
+    let first = g.S.Search.view_of c.args.search.now in
     let host = c.args.host.now in
-    let test : List ℕ → Bool = λ text. list_any (bytes_eq text) (related_texts host) in
+    let test : List ℕ → Bool = λ text. list_any (bytes_eq text) (candidate_domains host) in
     let texts : List (List ℕ) = map (λ p. p.0) first.groups in
     let text = c.in-Some.text.now in
     let here : Some text ≡ slice_get texts c.loop-place.place = subst (λ (groups : DomainGroups). Some text ≡ slice_get (map (λ p. p.0) groups) c.loop-place.place) c.loop-place.invariant.groups c.in-Some.ensures.suffix in
@@ -79,71 +79,71 @@ returns-in_err-push_domain-clause-domains g c =
 
 pub returns-in_err-push_domain-clause-paths : goal.returns-in_err-push_domain-clause-paths
 returns-in_err-push_domain-clause-paths g c =
-    let first = g.S.Search.seen c.args.search.now in
+    let first = g.S.Search.view_of c.args.search.now in
     let host = c.args.host.now in
     let m = most_paths c.args.url.now in
-    let test : List ℕ → Bool = λ text. list_any (bytes_eq text) (related_texts host) in
+    let test : List ℕ → Bool = λ text. list_any (bytes_eq text) (candidate_domains host) in
     let texts : List (List ℕ) = map (λ p. p.0) first.groups in
     let text = c.in-Some.text.now in
     let here : Some text ≡ slice_get texts c.loop-place.place = subst (λ (groups : DomainGroups). Some text ≡ slice_get (map (λ p. p.0) groups) c.loop-place.place) c.loop-place.invariant.groups c.in-Some.ensures.suffix in
     let left = filter_at test texts c.loop-place.place text here c.in-Some.ensures.is in
     let more : List (List ℕ) = filter test (drop (c.loop-place.place + 1) texts) in
-    let asked : (g.S.Search.seen c.push_domain.new.search).paths ≤ (g.S.Search.seen c.loop-place.search).paths + how_many_found first.groups (text ∷ []) * m =
-    subst (λ groups. (g.S.Search.seen c.push_domain.new.search).paths ≤ (g.S.Search.seen c.loop-place.search).paths + how_many_found groups (text ∷ []) * m) c.loop-place.invariant.groups c.push_domain.ensures.paths in
-    let next = paths_next first.groups text more m (g.S.Search.seen c.loop-place.search).paths (g.S.Search.seen c.push_domain.new.search).paths asked in
+    let row_filter : (g.S.Search.view_of c.push_domain.new.search).paths ≤ (g.S.Search.view_of c.loop-place.search).paths + how_many_found first.groups (text ∷ []) * m =
+    subst (λ groups. (g.S.Search.view_of c.push_domain.new.search).paths ≤ (g.S.Search.view_of c.loop-place.search).paths + how_many_found groups (text ∷ []) * m) c.loop-place.invariant.groups c.push_domain.ensures.paths in
+    let next = paths_next first.groups text more m (g.S.Search.view_of c.loop-place.search).paths (g.S.Search.view_of c.push_domain.new.search).paths row_filter in
     let all = ap (λ ts. how_many_found first.groups ts * m) left in
     omega (arith, next, all, c.loop-place.invariant.paths)
 
 pub returns-in_err-push_domain-clause-memory : goal.returns-in_err-push_domain-clause-memory
 returns-in_err-push_domain-clause-memory g c =
-    let first = g.S.Search.seen c.args.search.now in
+    let first = g.S.Search.view_of c.args.search.now in
     let host = c.args.host.now in
-    let test : List ℕ → Bool = λ text. list_any (bytes_eq text) (related_texts host) in
+    let test : List ℕ → Bool = λ text. list_any (bytes_eq text) (candidate_domains host) in
     let texts : List (List ℕ) = map (λ p. p.0) first.groups in
-    let look : DomainGroups → List ℕ → List (ℕ × ℕ × ℕ) = λ groups. at_domain (is_given c.args.url.now (moment_of c.args.now)) groups (path_texts c.args.url.now.path) in
+    let look : DomainGroups → List ℕ → List (ℕ × ℕ × ℕ) = λ groups. at_domain (is_given c.args.url.now (moment_of c.args.now)) groups (candidate_paths c.args.url.now.path) in
     let differ = (g.met.S.Search.are_groups c.args.search.now).0 in
     let text = c.in-Some.text.now in
     let here : Some text ≡ slice_get texts c.loop-place.place = subst (λ (groups : DomainGroups). Some text ≡ slice_get (map (λ p. p.0) groups) c.loop-place.place) c.loop-place.invariant.groups c.in-Some.ensures.suffix in
     let some : look first.groups text ≢ [] = subst (λ groups. look groups text ≢ []) c.loop-place.invariant.groups c.in_err-push_domain.ensures.memory in
-    let same = listed_domain_spots (is_given c.args.url.now (moment_of c.args.now)) first.groups (path_texts c.args.url.now.path) (related_texts host) (related_differ host) differ in
-    either_way c.from_residual.result (some_same (flat_map (look first.groups) (filter test texts)) (flat_map (look first.groups) (related_texts host)) same
+    let same = listed_domain_spots (is_given c.args.url.now (moment_of c.args.now)) first.groups (candidate_paths c.args.url.now.path) (candidate_domains host) (related_differ host) differ in
+    either_way c.from_residual.result (some_same (flat_map (look first.groups) (filter test texts)) (flat_map (look first.groups) (candidate_domains host)) same
     (text_gives test texts c.loop-place.place text here (look first.groups) c.in-Some.ensures.is some))
 
 pub loop-place-preserved : goal.loop-place-preserved
 loop-place-preserved g c =
-    let first = g.S.Search.seen c.args.search.now in
+    let first = g.S.Search.view_of c.args.search.now in
     let host = c.args.host.now in
     let m = most_paths c.args.url.now in
-    let test : List ℕ → Bool = λ text. list_any (bytes_eq text) (related_texts host) in
+    let test : List ℕ → Bool = λ text. list_any (bytes_eq text) (candidate_domains host) in
     let texts : List (List ℕ) = map (λ p. p.0) first.groups in
-    let look : DomainGroups → List ℕ → List (ℕ × ℕ × ℕ) = λ groups. at_domain (is_given c.args.url.now (moment_of c.args.now)) groups (path_texts c.args.url.now.path) in
-    let ps = path_texts c.args.url.now.path in
-    let before = g.S.Search.seen c.loop-place.search in
-    let end = c.args.spots.now.items ++ flat_map (look first.groups) (related_texts host) in
+    let look : DomainGroups → List ℕ → List (ℕ × ℕ × ℕ) = λ groups. at_domain (is_given c.args.url.now (moment_of c.args.now)) groups (candidate_paths c.args.url.now.path) in
+    let ps = candidate_paths c.args.url.now.path in
+    let before = g.S.Search.view_of c.loop-place.search in
+    let end = c.args.positions.now.items ++ flat_map (look first.groups) (candidate_domains host) in
     elim c.match-suffix_at.branch [
       | in-Some+in_ok-push_domain w ↦
           let text = w.in-Some.text.now in
           let here : Some text ≡ slice_get texts c.loop-place.place = subst (λ (groups : DomainGroups). Some text ≡ slice_get (map (λ p. p.0) groups) c.loop-place.place) c.loop-place.invariant.groups w.in-Some.ensures.suffix in
           let left = filter_at test texts c.loop-place.place text here w.in-Some.ensures.is in
           let more : List (List ℕ) = filter test (drop (c.loop-place.place + 1) texts) in
-          let asked : (g.S.Search.seen w.push_domain.new.search).paths ≤ (g.S.Search.seen c.loop-place.search).paths + how_many_found first.groups (text ∷ []) * m =
-          subst (λ groups. (g.S.Search.seen w.push_domain.new.search).paths ≤ (g.S.Search.seen c.loop-place.search).paths + how_many_found groups (text ∷ []) * m) c.loop-place.invariant.groups w.in_ok-push_domain.ensures.paths in
-          let next = paths_next first.groups text more m (g.S.Search.seen c.loop-place.search).paths (g.S.Search.seen w.push_domain.new.search).paths asked in
+          let row_filter : (g.S.Search.view_of w.push_domain.new.search).paths ≤ (g.S.Search.view_of c.loop-place.search).paths + how_many_found first.groups (text ∷ []) * m =
+          subst (λ groups. (g.S.Search.view_of w.push_domain.new.search).paths ≤ (g.S.Search.view_of c.loop-place.search).paths + how_many_found groups (text ∷ []) * m) c.loop-place.invariant.groups w.in_ok-push_domain.ensures.paths in
+          let next = paths_next first.groups text more m (g.S.Search.view_of c.loop-place.search).paths (g.S.Search.view_of w.push_domain.new.search).paths row_filter in
           let all = ap (λ ts. how_many_found first.groups ts * m) left in
-          let after = g.S.Search.seen w.push_domain.new.search in
-          let added : SameSpots c.match-suffix_at.spots.items (c.loop-place.spots.items ++ look first.groups text) =
-          subst (λ v. SameSpots v.items (c.loop-place.spots.items ++ look first.groups text)) (sym w.spots-is)
-          (subst (λ groups. SameSpots w.push_domain.new.spots.items (c.loop-place.spots.items ++ look groups text)) c.loop-place.invariant.groups w.in_ok-push_domain.ensures.spots) in
+          let after = g.S.Search.view_of w.push_domain.new.search in
+          let added : SamePositions c.match-suffix_at.positions.items (c.loop-place.positions.items ++ look first.groups text) =
+          subst (λ v. SamePositions v.items (c.loop-place.positions.items ++ look first.groups text)) (sym w.positions-is)
+          (subst (λ groups. SamePositions w.push_domain.new.positions.items (c.loop-place.positions.items ++ look groups text)) c.loop-place.invariant.groups w.in_ok-push_domain.ensures.positions) in
           let split : length (filter test (drop c.loop-place.place texts)) * m ≡ (1 + length more) * m = ap (λ n. n * m) (ap length left ∙ omega arith) in
           rw w.search-is record {
-            spots = same_pushed test texts c.loop-place.place text here (look first.groups) w.in-Some.ensures.is end c.loop-place.spots.items c.match-suffix_at.spots.items c.loop-place.invariant.spots added;
+            positions = same_pushed test texts c.loop-place.place text here (look first.groups) w.in-Some.ensures.is end c.loop-place.positions.items c.match-suffix_at.positions.items c.loop-place.invariant.positions added;
             groups = w.in_ok-push_domain.ensures.groups ∙ c.loop-place.invariant.groups;
             domains = omega (arith, w.in_ok-push_domain.ensures.domains, c.loop-place.invariant.domains, ap length left);
-            room = omega (arith, c.loop-place.invariant.room, split, room_next first.groups text m (length more) before.paths after.paths asked);
+            room = omega (arith, c.loop-place.invariant.room, split, room_next first.groups text m (length more) before.paths after.paths row_filter);
             paths = omega (arith, next, all, c.loop-place.invariant.paths);
             every_domain = omega (arith, w.in_ok-push_domain.ensures.domains, c.loop-place.invariant.every_domain, ap length left);
-            every_path = pairs_next first.groups ps text more (first.paths + how_many_pairs_found first.groups ps (related_texts host)) before.paths after.paths
-                (subst (λ ts. first.paths + how_many_pairs_found first.groups ps (related_texts host) ≤ before.paths + how_many_pairs_found first.groups ps ts) left c.loop-place.invariant.every_path)
+            every_path = pairs_next first.groups ps text more (first.paths + how_many_pairs_found first.groups ps (candidate_domains host)) before.paths after.paths
+                (subst (λ ts. first.paths + how_many_pairs_found first.groups ps (candidate_domains host) ≤ before.paths + how_many_pairs_found first.groups ps ts) left c.loop-place.invariant.every_path)
                 (subst (λ groups. before.paths + paths_at_domain groups ps text ≤ after.paths) c.loop-place.invariant.groups w.in_ok-push_domain.ensures.every_path);
           }
       | in_default w ↦
@@ -152,8 +152,8 @@ loop-place-preserved g c =
           w.in_default.ensures.none t (subst (λ (groups : DomainGroups). Some t ≡ slice_get (map (λ p. p.0) groups) c.loop-place.place) (sym c.loop-place.invariant.groups) e) in
           let same = filter_passed test texts c.loop-place.place below fails in
           rw w.search-is record {
-            spots = subst (λ v. SameSpots (v.items ++ flat_map (look first.groups) (filter test (drop (c.loop-place.place + 1) texts))) end) (sym w.spots-is)
-                (subst (λ ts. SameSpots (c.loop-place.spots.items ++ flat_map (look first.groups) ts) end) same c.loop-place.invariant.spots);
+            positions = subst (λ v. SamePositions (v.items ++ flat_map (look first.groups) (filter test (drop (c.loop-place.place + 1) texts))) end) (sym w.positions-is)
+                (subst (λ ts. SamePositions (c.loop-place.positions.items ++ flat_map (look first.groups) ts) end) same c.loop-place.invariant.positions);
             groups = c.loop-place.invariant.groups;
             domains = omega (arith, ap length same, c.loop-place.invariant.domains);
             room = omega (arith, ap (λ ts. length ts * m) same, c.loop-place.invariant.room);

@@ -3,25 +3,25 @@ use Rattle.std.specs.Prelude.{filter}
 use Rattle.std.specs.List.{flat_map, list_any}
 use Rattle.cookie_words.specs.Moments.{moment_of}
 use Rattle.cookie_laws.specs.Given.{is_given}
-use Rattle.cookie_lookup.specs.Seen.{at_domain, how_many_found, how_many_pairs_found}
-use Rattle.cookie_lookup.specs.Spots.{SameSpots}
-use Rattle.cookie_lookup.specs.Texts.{dots, most_paths, path_texts, related_texts}
+use Rattle.cookie_lookup.specs.SearchView.{at_domain, how_many_found, how_many_pairs_found}
+use Rattle.cookie_lookup.specs.Positions.{SamePositions}
+use Rattle.cookie_lookup.specs.Texts.{dots, most_paths, candidate_paths, candidate_domains}
 use Rattle.cookie_lookup.proofs.listing.push_listed_domains.Given as goal
 
 abbrev pub invariant-loop-place : goal.invariant-loop-place
 invariant-loop-place g l =
-    let seen = g.S.Search.seen l.search in
-    let first = g.S.Search.seen l.fn.search in
-    let left = filter (λ text. list_any (bytes_eq text) (related_texts l.host)) (drop l.place (map (λ p. p.0) first.groups)) in
-    let look = at_domain (is_given l.url (moment_of l.now)) first.groups (path_texts l.url.path) in
+    let view_of = g.S.Search.view_of l.search in
+    let first = g.S.Search.view_of l.fn.search in
+    let left = filter (λ text. list_any (bytes_eq text) (candidate_domains l.host)) (drop l.place (map (λ p. p.0) first.groups)) in
+    let look = at_domain (is_given l.url (moment_of l.now)) first.groups (candidate_paths l.url.path) in
     record {
-      spots : SameSpots (l.spots.items ++ flat_map look left) (l.fn.spots.items ++ flat_map look (related_texts l.host));
-      groups : seen.groups ≡ first.groups;
-      domains : seen.domains + length left ≤ first.domains + (1 + dots l.host);
-      room : seen.paths + length left * most_paths l.url ≤ first.paths + (1 + dots l.host) * most_paths l.url;
-      paths : seen.paths + how_many_found first.groups left * most_paths l.url
-          ≤ first.paths + how_many_found first.groups (related_texts l.host) * most_paths l.url;
-      every_domain : first.domains + how_many_found first.groups (related_texts l.host) ≤ seen.domains + length left;
-      every_path : first.paths + how_many_pairs_found first.groups (path_texts l.url.path) (related_texts l.host)
-          ≤ seen.paths + how_many_pairs_found first.groups (path_texts l.url.path) left;
+      positions : SamePositions (l.positions.items ++ flat_map look left) (l.fn.positions.items ++ flat_map look (candidate_domains l.host));
+      groups : view_of.groups ≡ first.groups;
+      domains : view_of.domains + length left ≤ first.domains + (1 + dots l.host);
+      room : view_of.paths + length left * most_paths l.url ≤ first.paths + (1 + dots l.host) * most_paths l.url;
+      paths : view_of.paths + how_many_found first.groups left * most_paths l.url
+          ≤ first.paths + how_many_found first.groups (candidate_domains l.host) * most_paths l.url;
+      every_domain : first.domains + how_many_found first.groups (candidate_domains l.host) ≤ view_of.domains + length left;
+      every_path : first.paths + how_many_pairs_found first.groups (candidate_paths l.url.path) (candidate_domains l.host)
+          ≤ view_of.paths + how_many_pairs_found first.groups (candidate_paths l.url.path) left;
     }

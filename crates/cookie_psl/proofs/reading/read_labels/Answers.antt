@@ -4,9 +4,9 @@ use Rattle.std.proofs.lemmas.Iterator.Splits.{YieldsList-from_str_split}
 use Rattle.std.proofs.lemmas.List.{map-append}
 use Rattle.std.proofs.lemmas.Result.{err_from_is_err_and}
 use Rattle.cookie_words.specs.Texts.{pieces}
-use Rattle.cookie_psl.specs.ReadRules.{label_text, label_texts}
+use Rattle.cookie_psl.specs.ParsedRules.{label_text, label_texts}
 use Rattle.cookie_psl.specs.Reading.{label_from, labels_from}
-use Rattle.cookie_psl.proofs.LabelsRead.{labels_from-bad, labels_from-push, Gives-err}
+use Rattle.cookie_psl.proofs.LabelsRead.{labels_from-bad, labels_from-push, ParsesOrMemory-err}
 use Rattle.cookie_psl.proofs.reading.read_labels.Goals as goal
 
 pub returns-in_err-read_label : goal.returns-in_err-read_label
@@ -16,7 +16,7 @@ returns-in_err-read_label c =
     let turn = YieldsList-turn road c.loop-label.yielded _ c.loop-label.yielded_by _ _ c.in-Some.label c.in-Some.is c.next.ensures.steps in
     let fault = err_from_is_err_and c.from_residual.result c.from_residual.ensures.1 in
     rw (fault.1, fault.2)
-    (Gives-err label_text label_texts c.in_err-read_label.field-0.0 (label_from c.in-Some.label.now) (labels_from (pieces 46 c.args.text.now))
+    (ParsesOrMemory-err label_text label_texts c.in_err-read_label.field-0.0 (label_from c.in-Some.label.now) (labels_from (pieces 46 c.args.text.now))
     c.in_err-read_label.ensures (labels_from-bad (pieces 46 c.args.text.now) (length c.loop-label.yielded) c.in-Some.label.now turn.0 turn.1))
 
 pub loop-label-preserved : goal.loop-label-preserved

@@ -52,10 +52,10 @@ pub returns-clause-value : goal.returns-clause-value
 returns-clause-value c = λ rules exception rule.
     let domain = c.args.domain.now in
     let bare = without_final_dot domain in
-    let value : SuffixValue = record { text = c.from_labels.result.now; is_known = c.chosen-count.result.1 } in
+    let value : SuffixValue = record { text = c.from_labels.result.now; is_known = c.prevailing_count-count.result.1 } in
     suffix_of-found rules domain c.args.exception c.args.rule value
     (sym (ap (λ xs. length xs == 0) c.bare.ensures) ∙ sym c.is_empty.ensures ∙ c.if-is_empty.false)
     exception rule
     (same_parts value (suffix_from domain (by_exception c.args.exception (by_rule c.args.rule)))
-    (c.from_labels.ensures.value ∙ ap (λ count. last_labels count bare ++ drop (length bare) domain) c.chosen-count.ensures.count)
-    c.chosen-count.ensures.is_known)
+    (c.from_labels.ensures.value ∙ ap (λ count. last_labels count bare ++ drop (length bare) domain) c.prevailing_count-count.ensures.count)
+    c.prevailing_count-count.ensures.is_known)

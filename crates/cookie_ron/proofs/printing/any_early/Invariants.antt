@@ -1,7 +1,7 @@
 use Rattle.std.proofs.Common.{◌≡◌, drop, map}
 use Rattle.std.specs.List.{list_any}
 use Rattle.cookie_forms.specs.Saved.{saved_view}
-use Rattle.cookie_forms.specs.WrittenTrees.{is_early}
+use Rattle.cookie_forms.specs.ToJson.{is_early}
 use Rattle.cookie_ron.proofs.printing.any_early.Given as goal
 
 abbrev pub invariant-loop-saved : goal.invariant-loop-saved

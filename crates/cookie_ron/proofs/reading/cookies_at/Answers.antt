@@ -1,33 +1,33 @@
 use Rattle.std.proofs.Common.{[], ◌∷◌, length, map, codes, ap, sym, ◌∙◌}
 use Rattle.std.proofs.lemmas.List.{map-append}
 use Rattle.cookie_ron.specs.Entries.{entry_view}
-use Rattle.cookie_ron.specs.Reading.{behind_cookie, sign_at, cookie_at, cookies_at}
+use Rattle.cookie_ron.specs.Reading.{behind_cookie, token_at, cookie_at, cookies_at}
 use Rattle.cookie_ron.proofs.ListFronts.{turn_shorter, cookies_turn, some_cookie}
 use Rattle.cookie_ron.proofs.reading.cookies_at.Goals as goal
 
 pub loop-behind-smaller : goal.loop-behind-smaller
 loop-behind-smaller c =
-    turn_shorter c.loop-behind.rest.now c.in_ok-entry.behind.now c.in-Ok-sign_at.next.now (entry_view c.in_ok-entry.entry)
-    c.in_ok-entry.ensures.read c.in-Ok-sign_at.ensures.read
+    turn_shorter c.loop-behind.rest.now c.in_ok-entry.behind.now c.in-Ok-token_at.next.now (entry_view c.in_ok-entry.entry)
+    c.in_ok-entry.ensures.read c.in-Ok-token_at.ensures.read
 
 pub loop-behind-preserved : goal.loop-behind-preserved
 loop-behind-preserved c =
     c.loop-behind.invariant
     ∙ cookies_turn (map entry_view c.loop-behind.entries.items) (map entry_view c.push.new.self.items)
-    c.loop-behind.rest.now c.in_ok-entry.behind.now c.in-Ok-sign_at.next.now (entry_view c.in_ok-entry.entry)
-    c.in_default.ensures.refused.1 c.in_ok-entry.ensures.read c.in-Ok-sign_at.ensures.read
+    c.loop-behind.rest.now c.in_ok-entry.behind.now c.in-Ok-token_at.next.now (entry_view c.in_ok-entry.entry)
+    c.in_default.ensures.refused.1 c.in_ok-entry.ensures.read c.in-Ok-token_at.ensures.read
     (ap (map entry_view) c.in_ok-push.ensures.items ∙ map-append entry_view c.loop-behind.entries.items (c.in_ok-entry.entry ∷ []))
 
 pub returns-in_err-entry-clause-memory : goal.returns-in_err-entry-clause-memory
 returns-in_err-entry-clause-memory c rest is =
     let l = c.loop-behind in
     absurd
-    (some_cookie (map entry_view l.entries.items) (sign_at (codes "]") l.rest.now) (cookie_at l.rest.now)
+    (some_cookie (map entry_view l.entries.items) (token_at (codes "]") l.rest.now) (cookie_at l.rest.now)
     (λ first. behind_cookie (λ t. cookies_at (length l.rest.now) t) first.1) rest c.in_default.ensures.refused.1 (sym l.invariant ∙ is))
 
 pub returns-in_err-push-clause-memory : goal.returns-in_err-push-clause-memory
 returns-in_err-push-clause-memory c rest is =
     let l = c.loop-behind in
     absurd
-    (some_cookie (map entry_view l.entries.items) (sign_at (codes "]") l.rest.now) (cookie_at l.rest.now)
+    (some_cookie (map entry_view l.entries.items) (token_at (codes "]") l.rest.now) (cookie_at l.rest.now)
     (λ first. behind_cookie (λ t. cookies_at (length l.rest.now) t) first.1) rest c.in_default.ensures.refused.1 (sym l.invariant ∙ is))

@@ -4,7 +4,7 @@ use Rattle.std.proofs.lemmas.List.{nil_from_length}
 use Rattle.std.proofs.lemmas.Result.{IfOk-weaker, IfErr-weaker, err_from_is_err_and}
 use Rattle.cookie_forms.specs.Saved.{saved_view}
 use Rattle.cookie_ron.specs.Entries.{entry_view}
-use Rattle.cookie_ron.proofs.Told.{empty_says_none, says_none, says_list, says_no_moment}
+use Rattle.cookie_ron.proofs.RonResults.{empty_says_none, says_none, says_list, says_no_moment}
 use Rattle.cookie_ron.proofs.reading.from_ron.Goals as goal
 
 pub returns-in_err-list_at-clause-refused : goal.returns-in_err-list_at-clause-refused
@@ -15,17 +15,17 @@ returns-in_err-list_at-clause-refused c =
 
 pub returns-clause-list : goal.returns-clause-list
 returns-clause-list c =
-    IfOk-weaker c.with_moments.result _ _
+    IfOk-weaker c.with_parsed_expiries.result _ _
     (λ list moments. says_list c.args.text.now c.deref.result.now (map entry_view c.in_ok-list_at.field-0.items) (map saved_view list.items)
     (c.deref.ensures.value ∙ c.in_ok-input.ensures) c.in_ok-list_at.ensures.read moments)
-    c.with_moments.ensures.read
+    c.with_parsed_expiries.ensures.read
 
 pub returns-clause-refused : goal.returns-clause-refused
 returns-clause-refused c =
-    IfErr-weaker c.with_moments.result _ _
+    IfErr-weaker c.with_parsed_expiries.result _ _
     (λ e told. says_no_moment c.args.text.now c.deref.result.now (map entry_view c.in_ok-list_at.field-0.items) e
     (c.deref.ensures.value ∙ c.in_ok-input.ensures) c.in_ok-list_at.ensures.read told)
-    c.with_moments.ensures.refused
+    c.with_parsed_expiries.ensures.refused
 
 pub returns-then-is_empty-clause-refused : goal.returns-then-is_empty-clause-refused
 returns-then-is_empty-clause-refused c =

@@ -1,10 +1,10 @@
 use Rattle.std.proofs.Common.{rules}
 use Rattle.cookie_words.specs.Moments.{moment_of}
-use Rattle.cookie_rows.specs.Turns.{stays}
+use Rattle.cookie_rows.specs.Eviction.{survives}
 use Rattle.cookie_rows.proofs.Entering.{texts_retained}
 use Rattle.cookie_rows.proofs.paths.retain_in.Goals as goal
 
 pub returns : goal.returns
 returns c =
-    texts_retained _ (stays (moment_of c.args.now) c.args.first) _ (λ k v b w g call. search rules)
+    texts_retained _ (survives (moment_of c.args.now) c.args.first) _ (λ k v b w g call. search rules)
     c.args.groups.now.entries c.retain.new.self.entries c.retain.ensures.filtered

@@ -1,6 +1,6 @@
 use Rattle.std.proofs.Common.{◌∙◌, sym, ap}
 use Rattle.std.specs.Prelude.{option_map, slice_get}
-use Rattle.cookie_lookup.specs.Seen.{under}
+use Rattle.cookie_lookup.specs.SearchView.{under}
 use Rattle.cookie_rows.proofs.Places.{get_nothing, under_is, under_none}
 use Rattle.cookie_rows.proofs.search.item_at.Goals as goal
 

@@ -10,7 +10,7 @@ invariant-loop-row g l = record {
   can : (goal.iterator-loop-row g).can_next l.row-iterator;
   ends : (goal.iterator-loop-row g).is_finite l.row-iterator;
   rest : map (λ c. c.now) l.yielded ++ l.row-iterator ≡ l.fn.rows;
-  gathered :
+  buffered :
       Gathers {T = Unit {0}} {E = DeviceFailed} (Ok tt) (g.W.Sink.contents l.initial.sink) (g.W.Sink.contents l.sink) l.initial.out l.out
       (g.W.Sink.failed l.initial.sink) (g.W.Sink.failed l.sink) (rows_text (map (λ c. c.now) l.yielded));
 }

@@ -2,7 +2,7 @@ use Rattle.std.proofs.Common.{◌≡◌, ℕ, List, Option, Some, None}
 use Rattle.std.specs.Str.{IsUtf8}
 use Rattle.std.proofs.lemmas.Bool.{false_from_ne_true}
 use Rattle.std.proofs.lemmas.Str.{IsUtf8-from_is_utf8, is_utf8-from_IsUtf8}
-use Rattle.cookie_script.specs.Commands.{command_of, first_word, may_want, text_command, verb_may_want}
+use Rattle.cookie_script.specs.Commands.{command_of, first_word, may_allocate, text_command, verb_may_allocate}
 use Rattle.cookie_script.proofs.command.read_command.Goals as goal
 
 -- bytes that are not UTF-8 are a bad line
@@ -17,10 +17,10 @@ unfolding command_of
 command_of_words line text words same valid cut = rw (is_utf8-from_IsUtf8 line valid, ← same, ← cut)
 
 -- a string may allocate if its first word and the rest may
-may_want_of_words : (line text : List ℕ) (words : List ℕ × List ℕ) → text ≡ line → IsUtf8 line → Some words ≡ first_word text
-    → may_want line ≡ verb_may_want words
-unfolding may_want
-may_want_of_words line text words same valid cut = rw (is_utf8-from_IsUtf8 line valid, ← same, ← cut)
+may_allocate_of_words : (line text : List ℕ) (words : List ℕ × List ℕ) → text ≡ line → IsUtf8 line → Some words ≡ first_word text
+    → may_allocate line ≡ verb_may_allocate words
+unfolding may_allocate
+may_allocate_of_words line text words same valid cut = rw (is_utf8-from_IsUtf8 line valid, ← same, ← cut)
 
 pub returns-in_default-clause-value : goal.returns-in_default-clause-value
 returns-in_default-clause-value c = not_text _ c.in_default.ensures.cases.0
@@ -37,5 +37,5 @@ returns-in-None-clause-value c =
 
 pub returns-in-Some-clause-memory : goal.returns-in-Some-clause-memory
 returns-in-Some-clause-memory c =
-    rw (may_want_of_words c.args.line.now c.in-Ok.text.now _ c.in-Ok.ensures.cases.0 c.in-Ok.ensures.cases.1 c.in-Some.ensures)
+    rw (may_allocate_of_words c.args.line.now c.in-Ok.text.now _ c.in-Ok.ensures.cases.0 c.in-Ok.ensures.cases.1 c.in-Some.ensures)
     c.verb_command.ensures.memory

@@ -1,5 +1,5 @@
 use Rattle.std.proofs.Common.{◌≡◌, ℕ, List, None, codes}
-use Rattle.cookie_script.specs.Commands.{verb_command, verb_may_want}
+use Rattle.cookie_script.specs.Commands.{verb_command, verb_may_allocate}
 use Rattle.cookie_script.proofs.OtherWords.{differ}
 use Rattle.cookie_script.proofs.command.verb_command.Goals as goal
 
@@ -31,9 +31,9 @@ returns-in_default-clause-value c =
     no_command c.args.verb.now c.args.rest.now c.in_default.not-now c.in_default.not-set c.in_default.not-get c.in_default.not-remove
 
 pub returns-in-set-clause-memory : goal.returns-in-set-clause-memory
-unfolding verb_may_want
+unfolding verb_may_allocate
 returns-in-set-clause-memory c = rw c.in-set.is c.set_command.ensures.memory
 
 pub returns-in-get-clause-memory : goal.returns-in-get-clause-memory
-unfolding verb_may_want
+unfolding verb_may_allocate
 returns-in-get-clause-memory c = rw c.in-get.is c.get_command.ensures.memory

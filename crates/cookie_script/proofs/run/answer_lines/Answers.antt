@@ -12,8 +12,8 @@ use Rattle.cookie_script.proofs.run.answer_lines.Goals as goal
 
 -- an error that is passed on is the one that came
 passed_on : {T : Type 0} (error fault : RunFault) (result : Result T RunFault) → IsErrAnd result (λ f. f ≡ error) → result ≡ Err fault → error ≡ fault
-passed_on error fault (Ok value) told is = absurd told
-passed_on error fault (Err f) told is = let same : f ≡ fault = cc in sym told ∙ same
+passed_on error fault (Ok value) line_result is = absurd line_result
+passed_on error fault (Err f) line_result is = let same : f ≡ fault = cc in sym line_result ∙ same
 
 -- a call that does not read has no failed read
 no_read : {T : Type 0} (result : Result T RunFault) (writes writes' : ℕ) → CountsFault result 0 0 writes writes' → result ≡ Err Read → ⊥

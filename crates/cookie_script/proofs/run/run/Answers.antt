@@ -5,7 +5,7 @@ use Rattle.std.proofs.lemmas.Option.{IfSome_then}
 use Rattle.std.proofs.KnownBytes.{Appends-nil}
 use Rattle.cookie_device.proofs.Sending.{nothing_part, part_of_rest}
 use Rattle.cookie_store.specs.Contents.{Contents}
-use Rattle.cookie_script.specs.Progress.{AnswersFirst, AreRead, NextMayWant}
+use Rattle.cookie_script.specs.Progress.{AnswersFirst, AreRead, NextMayAllocate}
 use Rattle.cookie_script.specs.Script.{empty}
 use Rattle.cookie_script.proofs.Answered.{first_appended, first_part}
 use Rattle.cookie_script.proofs.run.run.Goals as goal
@@ -17,7 +17,7 @@ if_any P (Some x) each = each x
 
 -- before the first read no line was read, and none was run
 none_read : (store : Contents) (rest contents : Option (List ℕ)) → IfSome rest (λ input.
-    AnswersFirst store input (λ first more. AreRead input rest first ⊎ NextMayWant more) (Appends contents contents))
+    AnswersFirst store input (λ first more. AreRead input rest first ⊎ NextMayAllocate more) (Appends contents contents))
 none_read store None contents = tt
 none_read store (Some input) contents = ([], lines input, refl, inl ([], input, refl, refl, refl), Appends-nil contents)
 

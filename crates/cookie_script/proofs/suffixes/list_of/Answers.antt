@@ -7,10 +7,10 @@ use Rattle.cookie_psl.specs.Lists as Psl
 use Rattle.cookie_psl.specs.Reading.{rules_from}
 use Rattle.cookie_psl.specs.Rules.{RuleList}
 use Rattle.cookie_psl.specs.declared.error.ListError.{ListError}
-use Rattle.cookie_psl.specs.declared.error.ListError.TheVariants as Told
+use Rattle.cookie_psl.specs.declared.error.ListError.TheVariants as LineResult
 use Rattle.cookie_psl.specs.declared.list as Declared
 use Rattle.cookie_script.specs.Faults.{list_fault}
-use Rattle.cookie_script.specs.Suffixes.{list_at, GivesList}
+use Rattle.cookie_script.specs.Suffixes.{list_at, ParsesList}
 use Rattle.cookie_script.specs.declared.fault.MainFault.{MainFault}
 use Rattle.cookie_script.specs.declared.fault.MainFault.TheVariants.{CannotReadList, BadRule}
 use Rattle.cookie_script.proofs.suffixes.list_of.Goals as goal
@@ -31,17 +31,17 @@ no_other bytes valid other = let is : is_utf8 bytes ≡ true = is_utf8-from_IsUt
 
 -- what was parsed is the list, or the error of the program for its error
 of_read : (read : Result Declared.List.List ListError) (rules : Result RuleList ℕ) (answer : Result RuleList MainFault)
-    → Psl.GivesList read rules → answer ≡ result_map_both (λ rules. rules) BadRule rules → GivesList (result_map_both (λ list. list) list_fault read) answer
+    → Psl.ParsesList read rules → answer ≡ result_map_both (λ rules. rules) BadRule rules → ParsesList (result_map_both (λ list. list) list_fault read) answer
 of_read (Ok list) rules answer (given, is, same) answered = (given, answered ∙ ap (result_map_both (λ rules. rules) BadRule) is, same)
-of_read (Err (Told.BadRule line)) rules answer given answered = answered ∙ ap (result_map_both (λ rules. rules) BadRule) given
-of_read (Err Told.Memory) rules answer given answered = tt
+of_read (Err (LineResult.BadRule line)) rules answer given answered = answered ∙ ap (result_map_both (λ rules. rules) BadRule) given
+of_read (Err LineResult.Memory) rules answer given answered = tt
 
 pub returns-in_default-clause-value : goal.returns-in_default-clause-value
 returns-in_default-clause-value c = not_text _ c.in_default.ensures.cases.0
 
 pub returns-clause-value : goal.returns-clause-value
 returns-clause-value c =
-    subst (λ told. GivesList told (list_at c.args.bytes.now)) (sym c.list_or_fault.ensures)
+    subst (λ line_result. ParsesList line_result (list_at c.args.bytes.now)) (sym c.list_or_fault.ensures)
     (of_read c.from_text.result (rules_from c.in-Ok.text.now) (list_at c.args.bytes.now) c.from_text.ensures
     (of_text c.args.bytes.now _ c.in-Ok.ensures.cases.0 c.in-Ok.ensures.cases.1))
 

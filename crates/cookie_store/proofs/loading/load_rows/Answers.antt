@@ -1,6 +1,6 @@
 use Rattle.std.proofs.lemmas.Result.{err_from_is_err_and}
 use Rattle.std.specs.Fn.{FnReturnsAt}
-use Rattle.cookie_store.proofs.LoadFaults.{fails_by}
+use Rattle.cookie_store.proofs.LoadErrors.{fails_by}
 use Rattle.cookie_store.proofs.loading.load_rows.Goals as goal
 
 pub returns-in_err-numbered_rows-clause-failed : goal.returns-in_err-numbered_rows-clause-failed

@@ -4,7 +4,7 @@ use Rattle.std.specs.Fn.{FnReturnsAt}
 use Rattle.cookie_words.specs.Moments.{moment_of}
 use Rattle.cookie_parts.specs.Cookie.{Row}
 use Rattle.cookie_laws.specs.Rows.{built}
-use Rattle.cookie_store.specs.LoadFault.{number_behind}
+use Rattle.cookie_store.specs.LoadError.{number_behind}
 use Rattle.cookie_store.specs.Loading.{AreCookies}
 use Rattle.cookie_store.proofs.LoadedLines.{Loaded}
 use Rattle.cookie_store.proofs.loading.numbered_rows.Given as goal

@@ -1,10 +1,10 @@
 use Rattle.std.proofs.Common.{ap, ◌∙◌}
 use Rattle.cookie_laws.specs.Contents.{Contents}
-use Rattle.cookie_laws.specs.Rows.{Kept}
+use Rattle.cookie_laws.specs.Rows.{RowsInOrder}
 use Rattle.cookie_store.proofs.serde.save.Goals as goal
 
 pub returns-clause-whole : goal.returns-clause-whole
-returns-clause-whole g c = rw (← ap (λ (kept : Kept). kept.rows) c.rows.ensures ∙ ap (λ (s : Contents). s.rows) c.as_store-store.ensures) c.save_copies.ensures.whole
+returns-clause-whole g c = rw (← ap (λ (kept : RowsInOrder). kept.rows) c.rows.ensures ∙ ap (λ (s : Contents). s.rows) c.as_store-store.ensures) c.save_copies.ensures.whole
 
 pub returns-clause-stopped : goal.returns-clause-stopped
-returns-clause-stopped g c = rw (← ap (λ (kept : Kept). kept.rows) c.rows.ensures ∙ ap (λ (s : Contents). s.rows) c.as_store-store.ensures) c.save_copies.ensures.stopped
+returns-clause-stopped g c = rw (← ap (λ (kept : RowsInOrder). kept.rows) c.rows.ensures ∙ ap (λ (s : Contents). s.rows) c.as_store-store.ensures) c.save_copies.ensures.stopped

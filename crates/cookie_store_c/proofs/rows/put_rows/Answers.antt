@@ -1,7 +1,7 @@
 use Rattle.std.proofs.Common.{ap, arith, length-append, map, ◌∷◌, [], ◌∙◌, sym}
 use Rattle.std.proofs.lemmas.List.{length-map}
 use Rattle.cookie_store_c.specs.Buffers.{at_front}
-use Rattle.cookie_store_c.specs.Rows.{row_told}
+use Rattle.cookie_store_c.specs.Rows.{cookie_row}
 use Rattle.cookie_store_c.proofs.Filling.{filled_next}
 use Rattle.cookie_store_c.proofs.Passing.{among, one_more, passed}
 use Rattle.cookie_store_c.proofs.rows.put_rows.Goals as goal
@@ -18,7 +18,7 @@ loop-row-preserved c =
       rest = passed came row _ _ _ c.in-Some.ensures.steps invariant.rest;
       place = omega (arith, invariant.place, length-append came (row ∷ []));
       filled =
-          filled_next row_told (map (λ x. x.now) came) row.now c.args.rows.now c.loop-row.rows c.loop-row.place c.told.result
-          invariant.filled (invariant.place ∙ sym (length-map came (λ x. x.now))) (omega (arith, small, c.requires)) c.told.ensures
-          ∙ ap (λ all. at_front (map row_told all) c.args.rows.now) (sym (one_more came row));
+          filled_next cookie_row (map (λ x. x.now) came) row.now c.args.rows.now c.loop-row.rows c.loop-row.place c.reported.result
+          invariant.filled (invariant.place ∙ sym (length-map came (λ x. x.now))) (omega (arith, small, c.requires)) c.reported.ensures
+          ∙ ap (λ all. at_front (map cookie_row all) c.args.rows.now) (sym (one_more came row));
     }

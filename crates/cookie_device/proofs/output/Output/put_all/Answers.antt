@@ -9,9 +9,9 @@ loop-text-preserved g c = record {
   sent =
       rw (joined_next _ _ _ _ c.loop-text-test.true c.as_bytes.ensures.value)
       (put_then _ _ _ _ _ _ _ _ c.loop-text.invariant.sent c.in_ok-put.ensures.whole);
-  gathered = λ fits.
-      let next = next_gathered _ _ _ _ _ _ _ c.loop-text-test.true c.as_bytes.ensures.value fits (c.loop-text.invariant.gathered fits) in
-      (c.in_ok-put.ensures.gathered next.0).1 ∙ next.1;
+  buffered = λ fits.
+      let next = next_gathered _ _ _ _ _ _ _ c.loop-text-test.true c.as_bytes.ensures.value fits (c.loop-text.invariant.buffered fits) in
+      (c.in_ok-put.ensures.buffered next.0).1 ∙ next.1;
   count = c.in_ok-put.ensures.count ∙ c.loop-text.invariant.count;
 }
 
@@ -27,7 +27,7 @@ returns-in_err-put-clause-part g c =
     (part_longer from to c.args.self.now (put ++ text) (joined (drop (at + 1) texts))
     (part_then from (g.W.Sink.contents c.loop-text.sink) to c.args.self.now put text c.loop-text.self c.loop-text.invariant.sent c.in_err-put.ensures.part))
 
-pub returns-in_err-put-clause-gathered : goal.returns-in_err-put-clause-gathered
-returns-in_err-put-clause-gathered g c = λ fits.
-    let next = next_gathered _ _ _ _ _ _ _ c.loop-text-test.true c.as_bytes.ensures.value fits (c.loop-text.invariant.gathered fits) in
-    absurd (false≢true (c.in_err-put.ensures.gathered next.0).0)
+pub returns-in_err-put-clause-buffered : goal.returns-in_err-put-clause-buffered
+returns-in_err-put-clause-buffered g c = λ fits.
+    let next = next_gathered _ _ _ _ _ _ _ c.loop-text-test.true c.as_bytes.ensures.value fits (c.loop-text.invariant.buffered fits) in
+    absurd (false≢true (c.in_err-put.ensures.buffered next.0).0)

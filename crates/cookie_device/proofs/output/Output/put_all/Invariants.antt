@@ -7,6 +7,6 @@ use Rattle.cookie_device.proofs.output.Output.put_all.Given as goal
 abbrev pub invariant-loop-text : goal.invariant-loop-text
 invariant-loop-text g l = record {
   sent : Sends (g.W.Sink.contents l.initial.sink) (g.W.Sink.contents l.sink) (l.initial.self ++ joined (take l.text-index l.texts)) l.self;
-  gathered : length l.initial.self + length (joined l.texts) ≤ 65_536 → l.self ≡ l.initial.self ++ joined (take l.text-index l.texts);
+  buffered : length l.initial.self + length (joined l.texts) ≤ 65_536 → l.self ≡ l.initial.self ++ joined (take l.text-index l.texts);
   count : g.W.Sink.failed l.sink ≡ g.W.Sink.failed l.initial.sink;
 }

@@ -6,7 +6,7 @@ use Rattle.cookie_rows.proofs.iter.IterUnexpiredIterator.next.Given as goal
 
 abbrev pub invariant-loop-row : goal.invariant-loop-row
 invariant-loop-row l = record {
-  rows : live_rows (moment_of l.self-inside.moment) l.self-inside.rows ≡ live_rows (moment_of l.initial.self-inside.moment) l.initial.self-inside.rows;
+  rows : live_rows (moment_of l.self-inside.time) l.self-inside.rows ≡ live_rows (moment_of l.initial.self-inside.time) l.initial.self-inside.rows;
 }
 
 abbrev pub decreases-loop-row : goal.decreases-loop-row

@@ -1,7 +1,7 @@
 use Rattle.std.proofs.Common.{◌∙◌, ap, arith, length, sym}
 use Rattle.std.specs.Map.{values_of}
 use Rattle.std.proofs.lemmas.List.{length-map}
-use Rattle.cookie_laws.specs.Rows.{Kept}
+use Rattle.cookie_laws.specs.Rows.{RowsInOrder}
 use Rattle.cookie_rows.specs.Groups.{texts_of}
 use Rattle.cookie_rows.specs.Items.{Item, all_groups, joined}
 use Rattle.cookie_rows.proofs.Joined.{joined_is}
@@ -13,7 +13,7 @@ count_rows-requires c =
     let es = c.self.inside.groups.entries in
     let same = ap (λ ds. length (joined (all_groups ds))) (c.as_slice.ensures ∙ c.values.ensures.rest)
     ∙ sym (length-map (joined (all_groups (values_of es))) (λ (x : Item). x.row)) ∙ ap length (joined_is es) in
-    let few = few_rows c.self.inside.made (texts_of es) c.self.invariant in
+    let few = few_rows c.self.inside.created (texts_of es) c.self.invariant in
     record { few = omega (arith, same, few) }
 
 pub returns : goal.returns
@@ -22,4 +22,4 @@ returns c =
     c.count_rows.ensures
     ∙ ap (λ ds. length (joined (all_groups ds))) (c.as_slice.ensures ∙ c.values.ensures.rest)
     ∙ sym (length-map (joined (all_groups (values_of es))) (λ (x : Item). x.row)) ∙ ap length (joined_is es)
-    ∙ ap (λ (k : Kept). length k.rows) c.self.view_is
+    ∙ ap (λ (k : RowsInOrder). length k.rows) c.self.view_is

@@ -1,7 +1,7 @@
 use Rattle.std.proofs.Common.{◌∙◌, ap, subst, sym}
-use Rattle.cookie_laws.specs.Rows.{Kept}
+use Rattle.cookie_laws.specs.Rows.{RowsInOrder}
 use Rattle.cookie_rows.specs.Groups.{texts_of}
-use Rattle.cookie_rows.specs.Items.{AreItems, kept_of}
+use Rattle.cookie_rows.specs.Items.{AreItems, rows_in_order}
 use Rattle.cookie_rows.proofs.AreItems.{some_rows}
 use Rattle.cookie_rows.proofs.Results.{either_way}
 use Rattle.cookie_rows.proofs.rows.Rows.rehashed.Goals as goal
@@ -9,10 +9,10 @@ use Rattle.cookie_rows.proofs.rows.Rows.rehashed.Goals as goal
 pub returns-in_err-groups-clause-memory : goal.returns-in_err-groups-clause-memory
 returns-in_err-groups-clause-memory c =
     either_way c.from_residual.result
-    (λ none. some_rows (texts_of c.self.inside.groups.entries) c.self.invariant.0 c.in_err-groups.ensures.memory (ap (λ (k : Kept). k.rows) c.self.view_is ∙ none))
+    (λ none. some_rows (texts_of c.self.inside.groups.entries) c.self.invariant.0 c.in_err-groups.ensures.memory (ap (λ (k : RowsInOrder). k.rows) c.self.view_is ∙ none))
 
 pub invariant_of-result : goal.invariant_of-result
-invariant_of-result c = subst (AreItems c.self.inside.made) (sym c.in_ok-groups.ensures.texts) c.self.invariant
+invariant_of-result c = subst (AreItems c.self.inside.created) (sym c.in_ok-groups.ensures.texts) c.self.invariant
 
 pub returns-clause-rows : goal.returns-clause-rows
-returns-clause-rows c = ap kept_of c.in_ok-groups.ensures.texts ∙ c.self.view_is
+returns-clause-rows c = ap rows_in_order c.in_ok-groups.ensures.texts ∙ c.self.view_is

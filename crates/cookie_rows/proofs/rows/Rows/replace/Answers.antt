@@ -1,7 +1,7 @@
 use Rattle.std.proofs.Common.{◌∙◌, sym, ap, inr, refl, subst}
-use Rattle.cookie_laws.specs.Rows.{Kept, key_of, make, put, row_of}
+use Rattle.cookie_laws.specs.Rows.{RowsInOrder, key_of, add_created, put, row_of}
 use Rattle.cookie_rows.specs.Groups.{texts_of}
-use Rattle.cookie_rows.specs.Items.{AreItems, kept_of}
+use Rattle.cookie_rows.specs.Items.{AreItems, rows_in_order}
 use Rattle.cookie_rows.proofs.AreItems.{found_items, items_put, kept_put}
 use Rattle.cookie_rows.proofs.rows.Rows.replace.Goals as goal
 
@@ -9,23 +9,23 @@ pub replace_row-requires : goal.replace_row-requires
 replace_row-requires c =
     let key = key_of c.args.cookie in
     record {
-      stored = λ none. c.requires.stored (ap (λ (k : Kept). row_of key k.rows) (sym c.self.view_is)
-          ∙ sym (found_items c.self.inside.made (texts_of c.self.inside.groups.entries) c.self.invariant key) ∙ none);
+      stored = λ none. c.requires.stored (ap (λ (k : RowsInOrder). row_of key k.rows) (sym c.self.view_is)
+          ∙ sym (found_items c.self.inside.created (texts_of c.self.inside.groups.entries) c.self.invariant key) ∙ none);
     }
 
 pub invariant_of-self : goal.invariant_of-self
 invariant_of-self c =
-    let n = c.self.inside.made in
+    let n = c.self.inside.created in
     let gs = texts_of c.self.inside.groups.entries in
     let key = key_of c.args.cookie in
     subst (AreItems n) (sym (c.replace_row.ensures n))
     (items_put n gs c.self.invariant c.args.cookie n
-    (inr (refl, λ none. c.requires.stored (ap (λ (k : Kept). row_of key k.rows) (sym c.self.view_is) ∙ sym (found_items n gs c.self.invariant key) ∙ none))))
+    (inr (refl, λ none. c.requires.stored (ap (λ (k : RowsInOrder). row_of key k.rows) (sym c.self.view_is) ∙ sym (found_items n gs c.self.invariant key) ∙ none))))
 
 pub returns : goal.returns
 returns c =
-    let n = c.self.inside.made in
+    let n = c.self.inside.created in
     let gs = texts_of c.self.inside.groups.entries in
-    ap kept_of (c.replace_row.ensures n)
+    ap rows_in_order (c.replace_row.ensures n)
     ∙ kept_put n gs c.self.invariant c.args.cookie
-    ∙ ap (λ (k : Kept). record { rows = put k.rows c.args.cookie; made = make k.made (key_of c.args.cookie) }) c.self.view_is
+    ∙ ap (λ (k : RowsInOrder). record { rows = put k.rows c.args.cookie; created = add_created k.created (key_of c.args.cookie) }) c.self.view_is

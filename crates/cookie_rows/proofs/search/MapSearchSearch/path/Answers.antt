@@ -1,6 +1,6 @@
 use Rattle.std.proofs.Common.{◌+◌, ◌∙◌, sym, ap, Some, List}
 use Rattle.cookie_parts.specs.Cookie.{Row}
-use Rattle.cookie_lookup.specs.Seen.{Seen, place_of, under}
+use Rattle.cookie_lookup.specs.SearchView.{SearchView, place_of, under}
 use Rattle.cookie_rows.specs.Groups.{texts_of}
 use Rattle.cookie_rows.specs.Items.{bare, rows_of}
 use Rattle.cookie_rows.proofs.Places.{bare_place, bare_rows, under_is}
@@ -19,14 +19,14 @@ returns-clause-answer c =
     let there = under_is es c.args.domain c.in_ok-paths.field-0-0.now c.in_ok-paths.paths.now (sym c.in_ok-paths.ensures.entry) in
     c.in_ok-place.ensures.place ∙ ap (place_of c.args.text.now) there ∙ bare_place c.args.text.now c.args.domain (texts_of es)
 
-pub returns-clause-seen : goal.returns-clause-seen
-returns-clause-seen c =
+pub returns-clause-view_of : goal.returns-clause-view_of
+returns-clause-view_of c =
     let es = c.args.self.now.groups.now.entries in
     let there = under_is es c.args.domain c.in_ok-paths.field-0-0.now c.in_ok-paths.paths.now (sym c.in_ok-paths.ensures.entry) in
-    let seen : List Row → Seen = λ rows. record {
+    let view_of : List Row → SearchView = λ rows. record {
       groups = bare (texts_of es);
       domains = c.args.self.now.lookups.domains;
       paths = c.args.self.now.lookups.paths + 1;
       current = Some rows;
     } in
-    ap seen (ap rows_of (c.in_ok-place.ensures.names ∙ ap (under c.in_ok-place.place) there) ∙ bare_rows c.args.domain c.in_ok-place.place (texts_of es))
+    ap view_of (ap rows_of (c.in_ok-place.ensures.names ∙ ap (under c.in_ok-place.place) there) ∙ bare_rows c.args.domain c.in_ok-place.place (texts_of es))

@@ -6,7 +6,7 @@ use Rattle.cookie_store.specs.Contents.{Contents}
 use Rattle.cookie_store.specs.Runs as Runs
 use Rattle.cookie_store.specs.Runs.{IsReply, UnlessMemory}
 use Rattle.cookie_words.specs.Moments.{moment_of}
-use Rattle.cookie_script.specs.Script.{command_turn, line_text, reply_text}
+use Rattle.cookie_script.specs.Script.{run_command, line_text, reply_text}
 use Rattle.cookie_script.proofs.jar.Jar.obey.Goals as goal
 
 -- a consequence of what holds if there is an error
@@ -15,15 +15,15 @@ on_err (Ok value) follows p = tt
 on_err (Err error) follows p = follows p
 
 -- a consequence of what holds if there is a value
-on_ok : {T E P Q : Type 0} (told : T) (result : Result T E) → (P → Q) → IfOk result (λ value. (value ≡ told) × P) → OnOk result Q
-on_ok told (Ok value) follows p = follows p.1
-on_ok told (Err error) follows p = tt
+on_ok : {T E P Q : Type 0} (line_result : T) (result : Result T E) → (P → Q) → IfOk result (λ value. (value ≡ line_result) × P) → OnOk result Q
+on_ok line_result (Ok value) follows p = follows p.1
+on_ok line_result (Err error) follows p = tt
 
 -- the same for a property of the value
-if_ok : {T E P : Type 0} (Q : T → Type 0) (told : T) (result : Result T E) → (P → Q told)
-    → IfOk result (λ value. (value ≡ told) × P) → IfOk result Q
-if_ok Q told (Ok value) follows p = subst Q (sym p.0) (follows p.1)
-if_ok Q told (Err error) follows p = tt
+if_ok : {T E P : Type 0} (Q : T → Type 0) (line_result : T) (result : Result T E) → (P → Q line_result)
+    → IfOk result (λ value. (value ≡ line_result) × P) → IfOk result Q
+if_ok Q line_result (Ok value) follows p = subst Q (sym p.0) (follows p.1)
+if_ok Q line_result (Err error) follows p = tt
 
 -- a fact that holds unless memory ran out
 unless : {P : Type 0} (result : Result StoreAction CookieError) → UnlessMemory result P → result ≢ Err Memory → P
@@ -31,30 +31,30 @@ unless (Ok action) p never = p
 unless (Err refusal) p never = grind (arith, p, never)
 
 -- the reply, unless memory ran out
-reply : (result : Result StoreAction CookieError) (told : Runs.Reply) → IsReply result told → result ≢ Err Memory
-    → Runs.Stored result ≡ told
-reply (Ok action) told is never = sym is
-reply (Err refusal) told is never = grind (arith, is, never)
+reply : (result : Result StoreAction CookieError) (line_result : Runs.Reply) → IsReply result line_result → result ≢ Err Memory
+    → Runs.Stored result ≡ line_result
+reply (Ok action) line_result is never = sym is
+reply (Err refusal) line_result is never = grind (arith, is, never)
 
 pub returns-in-Set-clause-state : goal.returns-in-Set-clause-state
-unfolding command_turn
+unfolding run_command
 returns-in-Set-clause-state c =
-    on_ok _ c.said.result
+    on_ok _ c.result_or_memory.result
     (λ never. rw (c.in-Set.is, ← c.self.view_is)
     (ap (λ (s : Contents). record { store = s; moment = moment_of c.self.inside.moment })
     (unless c.parse.result c.parse.ensures.store never)))
-    c.said.ensures.said
+    c.result_or_memory.ensures.outcome
 
-pub returns-in-Set-clause-told : goal.returns-in-Set-clause-told
-unfolding command_turn
-returns-in-Set-clause-told c =
-    if_ok _ _ c.said.result
+pub returns-in-Set-clause-line_result : goal.returns-in-Set-clause-line_result
+unfolding run_command
+returns-in-Set-clause-line_result c =
+    if_ok _ _ c.result_or_memory.result
     (λ never. rw (c.in-Set.is, ← c.self.view_is)
     (ap (λ r. line_text (reply_text r)) (reply c.parse.result _ c.parse.ensures.reply never)))
-    c.said.ensures.said
+    c.result_or_memory.ensures.outcome
 
 pub returns-in-Set-clause-wants : goal.returns-in-Set-clause-wants
 returns-in-Set-clause-wants c =
-    on_err c.said.result
+    on_err c.result_or_memory.result
     (λ want. rw (c.in-Set.is) (rw (c.parse.ensures.memory want) refl))
-    c.said.ensures.memory
+    c.result_or_memory.ensures.memory

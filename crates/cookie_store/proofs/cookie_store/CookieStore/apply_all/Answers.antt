@@ -20,9 +20,9 @@ loop-call-preserved c =
     record {
       can = tt;
       ends = tt;
-      told =
-          ap (map reply_view) pushed ∙ map-append reply_view c.loop-call.told.items (c.in-Ok-apply.reply ∷ [])
-          ∙ ap (λ told. told ++ reply_view c.in-Ok-apply.reply ∷ []) begun.told
+      reported =
+          ap (map reply_view) pushed ∙ map-append reply_view c.loop-call.reported.items (c.in-Ok-apply.reply ∷ [])
+          ∙ ap (λ reported. reported ++ reply_view c.in-Ok-apply.reply ∷ []) begun.reported
           ∙ ap (λ (r : Reply). replies calls store ++ r ∷ []) reply
           ∙ sym (replies_more calls call store)
           ∙ ap (λ cs. replies cs store) (sym more);

@@ -10,9 +10,9 @@ abbrev pub invariant-loop-call : goal.invariant-loop-call
 invariant-loop-call l = record {
   can : (goal.iterator-loop-call).can_next l.call-iterator;
   ends : (goal.iterator-loop-call).is_finite l.call-iterator;
-  told : map reply_view l.told.items ≡ replies (map call_view l.yielded) l.fn.self;
+  reported : map reply_view l.reported.items ≡ replies (map call_view l.yielded) l.fn.self;
   store : l.self ≡ store_after (map call_view l.yielded) l.fn.self;
   all : l.yielded ++ into_iter_items l.call-iterator ≡ l.fn.calls.items;
-  count : vec_len l.told ≡ length l.yielded;
-  room : length l.fn.calls.items ≤ vec_capacity l.told;
+  count : vec_len l.reported ≡ length l.yielded;
+  room : length l.fn.calls.items ≤ vec_capacity l.reported;
 }

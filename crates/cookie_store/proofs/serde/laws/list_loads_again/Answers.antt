@@ -1,5 +1,5 @@
 use Rattle.std.proofs.Common.{◌≡◌, ◌∙◌, true, Ok, sym, ap, subst}
-use Rattle.cookie_laws.specs.Rows.{Kept, built}
+use Rattle.cookie_laws.specs.Rows.{RowsInOrder, built}
 use Rattle.cookie_store.specs.Cuts.{cut_rows}
 use Rattle.cookie_store.specs.JsonLists.{json_cookies}
 use Rattle.cookie_store.specs.Saving.{line_text}
@@ -10,4 +10,4 @@ pub returns : goal.returns
 returns c rows loaded written now are all (text, says, appended) (whole, cookies, known, (valid, makes), builds) =
     let same : line_text text ≡ whole = sym appended ∙ known in
     let reads = subst (λ t. json_cookies t ≡ Ok (cut_rows rows)) same (c.list_comes_back.ensures rows text all says) in
-    ap (λ (kept : Kept). kept.rows) (builds ∙ ap (built true now) (ap cookies_in (sym makes ∙ reads))) ∙ c.rebuilt.ensures (cut_rows rows) now (rows_cut rows are)
+    ap (λ (kept : RowsInOrder). kept.rows) (builds ∙ ap (built true now) (ap cookies_in (sym makes ∙ reads))) ∙ c.rebuilt.ensures (cut_rows rows) now (rows_cut rows are)

@@ -1,7 +1,7 @@
 use Rattle.std.proofs.Common.{◌∙◌, ap, subst, sym}
 use Rattle.std.proofs.lemmas.Result.{err_from_is_err_and}
 use Rattle.cookie_laws.specs.Contents.{Contents}
-use Rattle.cookie_laws.specs.Rows.{Kept}
+use Rattle.cookie_laws.specs.Rows.{RowsInOrder}
 use Rattle.cookie_store.specs.Migration.{HaveSavedForms}
 use Rattle.cookie_store.proofs.Migrated.{migrates_by}
 use Rattle.cookie_store.proofs.NoneEarly.{none_built}
@@ -14,6 +14,6 @@ returns-in_err-rows-clause-failed g c =
 
 pub returns-clause-saved : goal.returns-clause-saved
 returns-clause-saved g c =
-    let (texts, cookies, made, built, known) = c.in_ok-rows.ensures.built in
-    let rows = ap (λ (store : Contents). store.rows) c.of_rows.ensures ∙ ap (λ (kept : Kept). kept.rows) built in
-    subst HaveSavedForms (sym rows) (none_built texts cookies made)
+    let (texts, cookies, created, built, known) = c.in_ok-rows.ensures.built in
+    let rows = ap (λ (store : Contents). store.rows) c.of_rows.ensures ∙ ap (λ (kept : RowsInOrder). kept.rows) built in
+    subst HaveSavedForms (sym rows) (none_built texts cookies created)

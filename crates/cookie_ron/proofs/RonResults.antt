@@ -1,0 +1,55 @@
+-- The result of an input, by the list that it is read as.
+use Rattle.std.proofs.Common.{◌≡◌, ℕ, List, [], Option, Some, None, Result, Ok, Err, ◌⊎◌, inl, inr, refl, sym, subst}
+use Rattle.std.specs.Str.{chars}
+use Rattle.cookie_words.specs.Moments.{Moment}
+use Rattle.cookie_forms.specs.Saved.{Parts}
+use Rattle.cookie_forms.specs.FromJson.{all_with_parsed_expiry}
+use Rattle.cookie_forms.specs.declared.error.SavedError.{SavedError}
+use Rattle.cookie_forms.specs.declared.error.SavedError.TheVariants as ErrorCase
+use Rattle.cookie_ron.specs.Grammar.{IsList}
+use Rattle.cookie_ron.specs.Reading.{list_at}
+use Rattle.cookie_ron.specs.RonLists.{RonParsesTo}
+use Rattle.cookie_ron.proofs.ListFronts.{list_front, list_read}
+
+none_read : (s : List ℕ) (parts : List (Parts (List ℕ))) → list_at s ≡ None → ¬ IsList parts s
+none_read s parts none is = let some = list_read s parts is in cc
+
+-- an input that is not a list
+pub says_none : (text s : List ℕ) (e : SavedError) → s ≡ chars text → (e ≡ ErrorCase.Memory) ⊎ ((e ≡ ErrorCase.Ron) × (list_at s ≡ None))
+    → (e ≡ ErrorCase.Memory) ⊎ RonParsesTo text (Err e)
+says_none text s e same told = elim told [
+  | inl memory ↦ inl memory
+  | inr (ron, none) ↦ inr (inl (ron, λ parts is. none_read s parts none (subst (λ t. IsList parts t) (sym same) is)))
+]
+
+-- a list whose expiries are valid times
+pub says_list : (text s : List ℕ) (parts : List (Parts (List ℕ))) (list : List (Parts Moment)) → s ≡ chars text → list_at s ≡ Some parts
+    → all_with_parsed_expiry parts ≡ Some list → RonParsesTo text (Ok list)
+says_list text s parts list same read moments = (parts, subst (λ t. IsList parts t) same (list_front s parts read), moments)
+
+-- a list with an expiry that is not a valid time
+pub says_no_moment : (text s : List ℕ) (parts : List (Parts (List ℕ))) (e : SavedError) → s ≡ chars text → list_at s ≡ Some parts
+    → (e ≡ ErrorCase.Memory) ⊎ ((e ≡ ErrorCase.Moment) × (all_with_parsed_expiry parts ≡ None)) → (e ≡ ErrorCase.Memory) ⊎ RonParsesTo text (Err e)
+says_no_moment text s parts e same read told = elim told [
+  | inl memory ↦ inl memory
+  | inr (moment, none) ↦ inr (inr (moment, parts, subst (λ t. IsList parts t) same (list_front s parts read), none))
+]
+
+-- the empty input is not a list
+pub empty_says_none : (text : List ℕ) → text ≡ [] → (ErrorCase.Ron ≡ ErrorCase.Memory) ⊎ RonParsesTo text (Err ErrorCase.Ron)
+unfolding list_at chars
+empty_says_none text none =
+    let unread : list_at (chars text) ≡ None = rw none refl in
+    says_none text (chars text) ErrorCase.Ron refl (inr (refl, unread))
+
+-- every input has a result
+pub says : (text : List ℕ) → (answer : Result (List (Parts Moment)) SavedError) × RonParsesTo text answer
+says text = by_list (list_at (chars text)) refl
+  where
+    by_list : (read : Option (List (Parts (List ℕ)))) → list_at (chars text) ≡ read → (answer : Result (List (Parts Moment)) SavedError) × RonParsesTo text answer
+    by_list None e = (Err ErrorCase.Ron, inl (refl, λ parts is. none_read (chars text) parts e is))
+    by_list (Some parts) e = by_ends (all_with_parsed_expiry parts) refl
+      where
+        by_ends : (read : Option (List (Parts Moment))) → all_with_parsed_expiry parts ≡ read → (answer : Result (List (Parts Moment)) SavedError) × RonParsesTo text answer
+        by_ends None m = (Err ErrorCase.Moment, inr (refl, parts, list_front (chars text) parts e, m))
+        by_ends (Some list) m = (Ok list, (parts, list_front (chars text) parts e, m))

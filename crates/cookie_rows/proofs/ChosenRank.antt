@@ -1,0 +1,117 @@
+-- Turns that are split around one: sorted, they have it at the same place.
+use Rattle.std.proofs.Common.{◌≡◌, ℕ, zero, suc, ◌+◌, ◌-◌, ◌<◌, true, false, List, [], ◌∷◌, ◌++◌, length, get_or, slice_get, Some, refl, ◌∙◌, ap, inl, inr, add-one, arith, IsPermutation, IsSorted}
+use Rattle.std.specs.Prelude.{if◌then◌else◌}
+use Rattle.std.specs.List.{AllByRecursion}
+use Rattle.std.specs.List.Sorted.{IsSplitAround}
+use Rattle.std.proofs.lemmas.Bool.{cases_Bool}
+use Rattle.std.proofs.lemmas.List.Sorted.{IsPermutation-refl, IsPermutation-sym, IsPermutation-trans, IsPermutation-cons, IsPermutation-middle, IsPermutation-append, length_permutation}
+use Rattle.cookie_words.specs.Moments.{Moment}
+use Rattle.cookie_rows.specs.Items.{ItemPaths}
+use Rattle.cookie_rows.specs.Eviction.{EvictionRank, rank_cmp, comes_before, ranks_of, IsFirstSurvivor}
+use Rattle.cookie_rows.proofs.ByNumber.{all_map}
+use Rattle.cookie_rows.proofs.RankOrder.{Ascends, all_by_index, ranks_order}
+use Rattle.cookie_rows.proofs.Eviction.{all_joined, all_moved}
+
+-- ranks in order
+
+-- a rank before the first that does not come before it
+abbrev place_rank : EvictionRank → List EvictionRank → List EvictionRank
+place_rank x [] = x ∷ []
+place_rank x (y ∷ ys) = if comes_before y x then y ∷ place_rank x ys else x ∷ y ∷ ys
+
+-- ranks, each in its place
+abbrev in_order : List EvictionRank → List EvictionRank
+in_order [] = []
+in_order (x ∷ xs) = place_rank x (in_order xs)
+
+-- a rank in its place is one rank more
+place_moved : (x : EvictionRank) (ys : List EvictionRank) → IsPermutation (x ∷ ys) (place_rank x ys)
+place_moved x [] = IsPermutation-refl (x ∷ [])
+place_moved x (y ∷ ys) = elim (cases_Bool (comes_before y x)) [
+  | inl e ↦
+      let behind = IsPermutation-sym (y ∷ x ∷ ys) (x ∷ y ∷ ys) (IsPermutation-middle (y ∷ []) x ys) in
+      rw e (IsPermutation-trans (x ∷ y ∷ ys) (y ∷ x ∷ ys) (y ∷ place_rank x ys) behind (IsPermutation-cons y (x ∷ ys) (place_rank x ys) (place_moved x ys)))
+  | inr e ↦ rw e (IsPermutation-refl (x ∷ y ∷ ys))
+]
+
+-- in order there are the same ranks
+order_moved : (xs : List EvictionRank) → IsPermutation xs (in_order xs)
+order_moved [] = IsPermutation-refl []
+order_moved (x ∷ xs) = IsPermutation-trans (x ∷ xs) (x ∷ in_order xs) (place_rank x (in_order xs)) (IsPermutation-cons x xs (in_order xs) (order_moved xs)) (place_moved x (in_order xs))
+
+-- a rank in its place leaves ranks that ascend
+ascends_place : (x : EvictionRank) (ys : List EvictionRank) → Ascends ys → Ascends (place_rank x ys)
+ascends_place x [] a = (tt, tt)
+ascends_place x (y ∷ ys) a = elim (cases_Bool (comes_before y x)) [
+  | inl e ↦
+      let behind = all_moved (λ z. comes_before z y ≡ false) (x ∷ ys) (place_rank x ys) (place_moved x ys) (ranks_order.one_way y x e, a.0) in
+      rw e (behind, ascends_place x ys a.1)
+  | inr e ↦
+      let behind = all_map (λ z. comes_before z y ≡ false) (λ z. comes_before z x ≡ false) (λ z h. ranks_order.chain z y x h e) ys a.0 in
+      rw e ((e, behind), a)
+]
+
+-- in order ranks ascend
+ascends_order : (xs : List EvictionRank) → Ascends (in_order xs)
+ascends_order [] = tt
+ascends_order (x ∷ xs) = ascends_place x (in_order xs) (ascends_order xs)
+
+-- ranks that ascend are sorted
+sorted_ascends : (xs : List EvictionRank) → Ascends xs → IsSorted rank_cmp xs
+sorted_ascends xs a k d low high = rw add-one (each_after xs a k d (omega (arith, high)))
+  where
+    -- none comes before the one in front of it
+    each_after : (xs : List EvictionRank) → Ascends xs → (k : ℕ) (d : EvictionRank) → suc k < length xs → comes_before (get_or xs (suc k) d) (get_or xs k d) ≡ false
+    each_after [] a k d l = absurd (omega (arith, l))
+    each_after (x ∷ []) a k d l = absurd (omega (arith, l))
+    each_after (x ∷ y ∷ ys) a zero d l = a.0.0
+    each_after (x ∷ y ∷ ys) a (suc k) d l = each_after (y ∷ ys) a.1 k d (omega (arith, l))
+
+-- a rank between others
+
+-- ranks ascend that are joined at one before which none behind it comes, and which comes before none in front of it
+ascends_joined : (front : List EvictionRank) (x : EvictionRank) (back : List EvictionRank) → AllByRecursion (λ y. comes_before x y ≡ false) front → AllByRecursion (λ y. comes_before y x ≡ false) back
+    → Ascends front → Ascends back → Ascends (front ++ x ∷ back)
+ascends_joined [] x back f b up up' = (b, up')
+ascends_joined (y ∷ front) x back f b up up' =
+    let behind = all_map (λ z. comes_before z x ≡ false) (λ z. comes_before z y ≡ false) (λ z h. ranks_order.chain z x y h f.0) back b in
+    (all_joined (λ z. comes_before z y ≡ false) front (x ∷ back) up.0 (f.0, behind), ascends_joined front x back f.1 b up.1 up')
+
+-- it stands where those in front of it end
+stands_between : (front : List EvictionRank) (x : EvictionRank) (back : List EvictionRank) → slice_get (front ++ x ∷ back) (length front) ≡ Some x
+stands_between [] x back = refl
+stands_between (y ∷ front) x back = stands_between front x back
+
+module _ (front : List EvictionRank) (first : EvictionRank) (back : List EvictionRank) where
+  -- the ranks in order on both sides of one
+  abbrev both_in_order : List EvictionRank
+  both_in_order = in_order front ++ first ∷ in_order back
+
+  -- they are the same ranks
+  both_moved : IsPermutation (front ++ first ∷ back) both_in_order
+  both_moved = IsPermutation-append front (in_order front) (first ∷ back) (first ∷ in_order back) (order_moved front) (IsPermutation-cons first back (in_order back) (order_moved back))
+
+  -- they are sorted, where the ranks were split around that one
+  both_sorted : IsSplitAround rank_cmp front first back → IsSorted rank_cmp both_in_order
+  both_sorted split =
+      let below = all_by_index (λ y. comes_before first y ≡ false) front split.0 in
+      let above = all_by_index (λ y. comes_before y first ≡ false) back split.1 in
+      let ascends = ascends_joined (in_order front) first (in_order back)
+      (all_moved (λ y. comes_before first y ≡ false) front (in_order front) (order_moved front) below)
+      (all_moved (λ y. comes_before y first ≡ false) back (in_order back) (order_moved back) above)
+      (ascends_order front) (ascends_order back) in
+      sorted_ascends both_in_order ascends
+
+  -- of the ranks of a domain and that of a new row, split around one with as many in front as leave, that one is the first that stays
+  pub first_between : (limit : ℕ) (now : Moment) (number : ℕ) (paths : ItemPaths) → IsPermutation (ranks_of now paths ++ (true, number) ∷ []) (front ++ first ∷ back)
+      → IsSplitAround rank_cmp front first back → length front + limit ≡ length (ranks_of now paths ++ (true, number) ∷ []) → IsFirstSurvivor limit now number paths first
+  first_between limit now number paths moved split count =
+      let unsorted : List EvictionRank = ranks_of now paths ++ (true, number) ∷ [] in
+      let all = IsPermutation-trans unsorted (front ++ first ∷ back) both_in_order moved both_moved in
+      let place : length both_in_order - limit ≡ length (in_order front) = omega (arith, count, length_permutation unsorted both_in_order all, length_permutation front (in_order front) (order_moved front)) in
+      record {
+        ranks = both_in_order;
+        moved = all;
+        sorted = both_sorted split;
+        is = ap (slice_get both_in_order) place ∙ stands_between (in_order front) first (in_order back);
+      }

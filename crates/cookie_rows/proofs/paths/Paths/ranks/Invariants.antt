@@ -1,0 +1,9 @@
+-- The ranks of the groups so far were added.
+use Rattle.std.proofs.Common.{◌≡◌, map, take}
+use Rattle.std.specs.List.{flat_map}
+use Rattle.cookie_words.specs.Moments.{moment_of}
+use Rattle.cookie_rows.specs.Eviction.{rank_of}
+use Rattle.cookie_rows.proofs.paths.Paths.ranks.Given as goal
+
+abbrev pub invariant-loop-names : goal.invariant-loop-names
+invariant-loop-names l = l.ranks.items ≡ flat_map (map (rank_of (moment_of l.now))) (take l.names-index l.groups)

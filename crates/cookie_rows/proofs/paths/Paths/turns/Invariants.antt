@@ -1,9 +1,0 @@
--- The turns of the groups so far were added.
-use Rattle.std.proofs.Common.{◌≡◌, map, take}
-use Rattle.std.specs.List.{flat_map}
-use Rattle.cookie_words.specs.Moments.{moment_of}
-use Rattle.cookie_rows.specs.Turns.{turn_of}
-use Rattle.cookie_rows.proofs.paths.Paths.turns.Given as goal
-
-abbrev pub invariant-loop-names : goal.invariant-loop-names
-invariant-loop-names l = l.turns.items ≡ flat_map (map (turn_of (moment_of l.now))) (take l.names-index l.groups)

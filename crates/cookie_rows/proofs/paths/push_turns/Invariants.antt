@@ -1,8 +1,0 @@
--- The turns of the rows so far were added.
-use Rattle.std.proofs.Common.{◌≡◌, ◌++◌, map, take}
-use Rattle.cookie_words.specs.Moments.{moment_of}
-use Rattle.cookie_rows.specs.Turns.{turn_of}
-use Rattle.cookie_rows.proofs.paths.push_turns.Given as goal
-
-abbrev pub invariant-loop-row : goal.invariant-loop-row
-invariant-loop-row l = l.turns.items ≡ l.initial.turns.items ++ map (turn_of (moment_of l.now)) (take l.row-index l.rows)

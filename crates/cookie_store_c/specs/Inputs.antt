@@ -1,0 +1,56 @@
+-- The arguments that C programs pass: strings, times and URLs, or the status of an invalid one.
+use Rattle.std.specs.Prelude.{◌≡◌, ◌⊎◌, ℕ, ◌&&◌, List, None, Result, Ok, Err, if◌then◌else◌, ℤ, pos, ◌-ℤ◌, ◌*ℤ◌, int_le}
+use Rattle.std.specs.Result.{result_map_both}
+use Rattle.std.specs.Str.{is_utf8}
+use Rattle.url.specs.Parser.{parse_url}
+use Rattle.url.specs.Parts.{Parts}
+use Rattle.cookie_words.specs.Moments.{Moment, moment_at}
+use Rattle.cookie_parts.specs.Cookie.{and_then}
+use Rattle.cookie_laws.specs.Rows.{key_at}
+use Rattle.cookie_laws.specs.Runs.{Call, Set, Remove}
+use Rattle.cookie_store_c.specs.declared.status.Status.{Status}
+use Rattle.cookie_store_c.specs.declared.status.Status.TheVariants.{NoMemory, BadUrl, NotUtf8, BadMoment}
+
+-- a string in UTF-8
+abbrev pub text_in : List ℕ → Result (List ℕ) Status
+text_in bytes = if is_utf8 bytes then Ok bytes else Err NotUtf8
+
+-- the first second of the year -9999, counted from the epoch
+abbrev pub first_second : ℤ
+first_second = pos 0 -ℤ pos 377_705_116_800
+
+-- 253402300799, the last second of the year 9999
+abbrev pub last_second : ℤ
+last_second = pos 253_402_300_799
+
+-- the time this number of seconds after the epoch, within these years
+abbrev pub moment_in : ℤ → Result Moment Status
+moment_in seconds =
+    if int_le first_second seconds && int_le seconds last_second then Ok (moment_at (seconds *ℤ pos 1_000_000_000))
+    else Err BadMoment
+
+-- the URL that a string parses to
+unfoldable pub url_in : List ℕ → Result Parts Status
+url_in text = result_map_both (λ url. url) (λ _. BadUrl) (parse_url None text)
+
+-- the string of a URL, and a time
+abbrev pub text_and_time : List ℕ → ℤ → Result (List ℕ × Moment) Status
+text_and_time url now = and_then (text_in url) (λ text. and_then (moment_in now) (λ moment. Ok (text, moment)))
+
+-- a URL and a time
+abbrev pub request : List ℕ → ℤ → Result (Parts × Moment) Status
+request url now = and_then (text_and_time url now) (λ inputs. and_then (url_in inputs.0) (λ parts. Ok (parts, inputs.1)))
+
+-- a Set-Cookie header value received from a URL at a time
+abbrev pub set_call : List ℕ → List ℕ → ℤ → Result Call Status
+set_call url text now =
+    and_then (text_in text) (λ said. and_then (request url now) (λ inputs. Ok (Set said inputs.0 inputs.1)))
+
+-- the removal of the cookie with a domain, a path and a name
+abbrev pub remove_call : List ℕ → List ℕ → List ℕ → Result Call Status
+remove_call domain path name =
+    and_then (text_in domain) (λ d. and_then (text_in path) (λ p. and_then (text_in name) (λ n. Ok (Remove (key_at d p n)))))
+
+-- the result is this one, or memory ran out
+abbrev pub GivesOrRunsOut : {T : Type 0} → Result T Status → Result T Status → Type 0
+GivesOrRunsOut result answer = (result ≡ answer) ⊎ (result ≡ Err NoMemory)
