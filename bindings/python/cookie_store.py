@@ -415,9 +415,16 @@ class CookieStore:
         """Return the cookies as a list in RON. Arguments and errors are those of save_json()."""
         return self._save(_LIBRARY.cookie_store_save_ron, now, all)
 
+    def _room(self) -> int:
+        """Return the bytes in which nearly every list fits: one with many escaped characters is saved twice."""
+        rows, texts = ctypes.c_size_t(), ctypes.c_size_t()
+        _rows(self._at, (_Row * 1)(), 0, ctypes.create_string_buffer(1), 0, rows, texts)
+        return 4096 + 512 * rows.value + 2 * texts.value
+
     def _save(self, call: Callable[..., int], now: Optional[int], all: bool) -> str:
-        moment, needed, room = _moment(now), ctypes.c_size_t(), 4096
+        moment, needed = _moment(now), ctypes.c_size_t()
         with self._lock:
+            room = self._room()
             while True:
                 out = ctypes.create_string_buffer(room)
                 number = call(self._at, moment, all, out, room, needed)

@@ -246,6 +246,18 @@ class StoreTests(unittest.TestCase):
         self.assertEqual('; '.join(f'{row.name}={row.value}' for row in store), wanted)
         self.assertEqual(CookieStore.load_json(store.save_json(NOW, all=True), NOW).header(PAGE, NOW), wanted)
 
+    def test_many_cookies_are_saved_by_one_call(self):
+        store, calls = CookieStore(), []
+        for number in range(1000):
+            store.set(PAGE, f'name{number}=value of the cookie {number}; Path=/a/{number}', NOW)
+
+        def save(*arguments):
+            calls.append(arguments)
+            return cookie_store._LIBRARY.cookie_store_save_json(*arguments)
+
+        self.assertEqual(store._save(save, NOW, True), store.save_json(NOW, all=True))
+        self.assertEqual(len(calls), 1)
+
     def test_lists(self):
         store = filled('a=1; Max-Age=60', 'b=2', 'c=3; Max-Age=90')
         forms = [('JSON', CookieStore.save_json, CookieStore.load_json), ('RON', CookieStore.save_ron, CookieStore.load_ron)]

@@ -1,16 +1,21 @@
-"""Times a list of saved cookies: loads a list of each number of COOKIES, in JSON and in RON, and saves it again.
+"""Measures lists of saved cookies: loads a list of each number of COOKIES, in JSON and in RON, and saves it again.
 Usage: tools/bench lists [--lists FOLDER] COOKIES..
 
-Prints microseconds of processor time a cookie in each form, and those of Python's json for reading the same file and
-writing it with the same indents. The two programs are proved and built in a copy of the repository, in ten minutes.
+Prints a table: for loading, and for saving what was loaded, microseconds of processor time and instructions per cookie,
+and for both together the bytes per cookie at the peak of resident memory, beside those of the Rust crate, with
+serde_json, and of Python's json, which makes no store. The programs are proved and built in a copy of the repository,
+in ten minutes.
 
 Exit status: 0; 1 if a program fails or is not proved, or saves another list."""
 import json
 import os
+import subprocess
 import tempfile
 import time
 
+from bench_parts import programs
 from bench_parts.built import built
+from bench_parts.measure import GNU_TIME, has_gnu_time, has_valgrind, instructions
 from common import processor_seconds, read, stop
 
 OPTIONS = ['--lists']
@@ -26,14 +31,20 @@ fn run(rt: &HostRuntime) -> Result<(), Error> {
     let read = fs::open(rt, "list.FORM").map_err(|_| Error::Io)?;
     let now = date(2026, 1, 1).at(0, 0, 0, 0);
     let store = serde::FORM::load_all(rt.alloc(), &mut Counted::new(read), now)?;
-    let written = fs::create(rt, "saved.FORM").map_err(|_| Error::Io)?;
-    serde::FORM::save_incl_expired_and_nonpersistent(&store, &mut Counted::new(written))
+    SAVE
 }
 
 fn main(rt: HostRuntime) -> Result<(), Error> {
     run(&rt)
 }
 '''
+
+
+SAVES = {
+    'load': 'drop(store);\n    Ok(())',
+    'both': 'let written = fs::create(rt, "saved.FORM").map_err(|_| Error::Io)?;\n'
+            '    serde::FORM::save_incl_expired_and_nonpersistent(&store, &mut Counted::new(written))',
+}
 
 
 def cookie(number):
@@ -75,16 +86,49 @@ def write_one(form, folder):
     WRITERS[form](os.path.join(folder, f'list.{form}'), 1)
 
 
-def python_seconds(folder):
+def python(folder):
+    """The seconds in which Python's json reads the list, and writes it with the same indents."""
     begun = time.process_time()
-    with open(os.path.join(folder, 'list.json')) as read, open(os.path.join(folder, 'python.json'), 'w') as written:
-        json.dump(json.load(read), written, indent=2)
+    with open(os.path.join(folder, 'list.json')) as file:
+        loaded = json.load(file)
+    middle = time.process_time()
+    with open(os.path.join(folder, 'python.json'), 'w') as written:
+        json.dump(loaded, written, indent=2)
         written.write('\n')
-    return time.process_time() - begun
+    return middle - begun, time.process_time() - middle
 
 
 def is_same(folder, *names):
     return len({read(os.path.join(folder, name)) for name in names}) == 1
+
+
+def peak(command, folder):
+    """Bytes of resident memory at the peak, by a small parent, since a child begins with its parent's peak."""
+    line = ' '.join(['exec', GNU_TIME, '-f', '%M', *command])
+    done = subprocess.run(['/bin/sh', '-c', line], cwd=folder, stdout=subprocess.DEVNULL, stderr=subprocess.PIPE, check=True)
+    return int(done.stderr.split()[-1]) * 1024
+
+
+def figures(commands, folder, form, cookies):
+    """The cells of a program: microseconds and instructions of a load and of a save, and bytes of both."""
+    cells = []
+    for measure, scale in ((processor_seconds, 1e6), (instructions, 1)):
+        if measure is instructions and not has_valgrind():
+            cells += ['-', '-']
+            continue
+        load, both = (measure(commands[part], cwd=folder) * scale / cookies for part in SAVES)
+        cells += [load, both - load]
+    if not has_gnu_time():
+        return [*cells, '-']
+    WRITERS[form](os.path.join(folder, f'list.{form}'), 1)
+    least = peak(commands['both'], folder)
+    WRITERS[form](os.path.join(folder, f'list.{form}'), cookies)
+    return [*cells, (peak(commands['both'], folder) - least) / cookies]
+
+
+def row(cookies, form, name, cells):
+    texts = [cell if isinstance(cell, str) else f'{cell:,.2f}' if at in (0, 1) else f'{cell:,.0f}' for at, cell in enumerate(cells)]
+    return ' | '.join([f'| {cookies:,}', form, name, *texts]) + ' |'
 
 
 def add_arguments(parser):
@@ -93,16 +137,24 @@ def add_arguments(parser):
 
 def run(options):
     with tempfile.TemporaryDirectory() as folder:
-        sources = {f'loads_and_saves_{form}': SOURCE.replace('FORM', form) for form in WRITERS}
+        sources = {f'{part}_{form}': SOURCE.replace('SAVE', SAVES[part]).replace('FORM', form) for form in WRITERS for part in SAVES}
         found = built(folder, options.lists, sources, lambda name, folder: write_one(name.rpartition('_')[2], folder))
-        commands = {name.rpartition('_')[2]: path for name, path in found.items()}
+        try:
+            peer = programs.build_rust(folder)
+        except programs.Missing as why:
+            peer = None
+            print(f'{programs.RUST} is not measured: {why}.\n')
+        print('| cookies | form | by | load, us | save, us | load, instructions | save, instructions | bytes |')
+        print('| ---: | --- | --- | ---: | ---: | ---: | ---: | ---: |')
         for cookies in options.COOKIES:
-            took = {}
-            for form, command in commands.items():
-                WRITERS[form](os.path.join(folder, f'list.{form}'), cookies)
-                took[form] = processor_seconds([command], cwd=folder) / cookies * 1e6
-            python = python_seconds(folder) / cookies * 1e6
+            for form, writer in WRITERS.items():
+                writer(os.path.join(folder, f'list.{form}'), cookies)
+                own = {part: [found[f'{part}_{form}']] for part in SAVES}
+                print(row(cookies, form, 'cookie_store', figures(own, folder, form, cookies)), flush=True)
+                if form == 'json' and peer:
+                    others = {'load': [*peer.command, 'list.json'], 'both': [*peer.command, 'list.json', 'peer.json']}
+                    print(row(cookies, form, programs.RUST, figures(others, folder, form, cookies)), flush=True)
+            times = [seconds / cookies * 1e6 for seconds in python(folder)]
+            print(row(cookies, 'json', "Python's json", [*times, '-', '-', '-']), flush=True)
             if not is_same(folder, 'saved.json', 'python.json') or not is_same(folder, 'list.ron', 'saved.ron'):
                 stop('another list was saved than was loaded')
-            print(f"{cookies} cookies: {took['json']:.2f} us a cookie in JSON, {took['json'] / python:.2f} times Python's json,"
-                  f" {took['ron']:.2f} us in RON, {took['ron'] / took['json']:.2f} times JSON")

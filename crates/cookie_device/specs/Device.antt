@@ -2,6 +2,17 @@
 use Rattle.std.specs.Prelude.{◌≡◌, ℕ, ◌+◌, List, ◌++◌, Option, Result, MatchResult}
 use Rattle.std.specs.Io.KnownBytes.{Appends}
 
+-- a source: the bytes still to be read, if they are known, the number of failed calls, and the most reads that can still succeed
+pub record SourceState : Type 0 where
+  pub remaining : Option (List ℕ)
+  pub failed : ℕ
+  pub reads_left : ℕ
+
+-- a sink: the bytes written so far, if they are known, and the number of failed calls
+pub record SinkState : Type 0 where
+  pub contents : Option (List ℕ)
+  pub failed : ℕ
+
 -- on an error the number of failed calls grows by one, otherwise it is unchanged
 abbrev pub CountsFailure : {T E : Type 0} → Result T E → ℕ → ℕ → Type 0
 CountsFailure r old new = MatchResult r (λ _. new ≡ old) (λ _. new ≡ old + 1)

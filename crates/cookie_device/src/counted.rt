@@ -45,11 +45,7 @@ impl<D> Counted<D> {
 }
 
 impl<R: Read> Source for Counted<R> {
-    ghost remaining = { λ s. R.remaining s.device };
-
-    ghost failed = { λ s. s.failures };
-
-    ghost reads_left = { λ s. s.reads_left };
+    ghost state = { λ s. record { remaining = R.remaining s.device; failed = s.failures; reads_left = s.reads_left } };
 
     fn read(&mut self, buf: &mut [u8]) -> Result<usize, DeviceFailed> {
         if self.reads == 0 {
@@ -74,9 +70,7 @@ impl<R: Read> Source for Counted<R> {
 }
 
 impl<W: Write> Sink for Counted<W> {
-    ghost contents = { λ s. W.contents s.device };
-
-    ghost failed = { λ s. s.failures };
+    ghost state = { λ s. record { contents = W.contents s.device; failed = s.failures } };
 
     fn write(&mut self, buf: &[u8]) -> Result<usize, DeviceFailed> {
         match self.device.write(buf) {

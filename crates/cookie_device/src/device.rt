@@ -1,8 +1,8 @@
 //! The reader and writer traits of the crates above.
-ghost use Rattle.std.specs.Prelude.{◌≡◌, ℕ, ◌+◌, ◌-◌, ◌^◌, ◌<◌, List, [], ◌∷◌, ◌++◌, None, Option, length, IfOk, IsOk, OnErr, OnOk};
+ghost use Rattle.std.specs.Prelude.{◌≡◌, ◌+◌, ◌-◌, ◌^◌, ◌<◌, [], ◌∷◌, ◌++◌, length, IfOk, IsOk, OnErr, OnOk};
 ghost use Rattle.std.specs.Io.{ReadsAtMost, WritesAtMost};
 ghost use Rattle.std.specs.Io.KnownBytes.{Appends, ReadConsumes, WriteAppends};
-ghost use Rattle.cookie_device.specs.Device.{AppendsPrefix, CountsFailure};
+ghost use Rattle.cookie_device.specs.Device.{AppendsPrefix, CountsFailure, SinkState, SourceState};
 
 /// The error of a failed read or write.
 #[derive(Clone, Copy, Debug, PartialEq, Eq)]
@@ -10,61 +10,52 @@ pub struct DeviceFailed;
 
 /// A reader. Each read may fail, and only finitely many can succeed.
 pub trait Source {
-    // The bytes still to be read, if they are known.
-    ghost remaining: { Self → Option (List ℕ) } = { λ _. None };
-
-    // The number of failed calls.
-    ghost failed: { Self → ℕ };
-
-    // The most reads that can still succeed.
-    ghost reads_left: { Self → ℕ };
+    // What is left to be read, and the failed calls.
+    ghost state: { Self → SourceState };
 
     /// Reads once into `buf` and returns the number of bytes read. `Ok(0)` means that the source is
     /// at its end or that `buf` is empty.
     fn read(&mut self, buf: &mut [u8]) -> Result<usize, DeviceFailed>
-        requires { failed self.old < 2 ^ 64 - 1 }
+        requires { (state self.old).failed < 2 ^ 64 - 1 }
         ensures bound { ReadsAtMost result buf.new }
-        ensures bytes { ReadConsumes (remaining self.old) (remaining self.new) result buf.new }
-        ensures count { CountsFailure result (failed self.old) (failed self.new) }
-        ensures fewer { OnOk result (reads_left self.old ≡ reads_left self.new + 1) }
-        ensures as_many { OnErr result (reads_left self.new ≡ reads_left self.old) };
+        ensures bytes { ReadConsumes (state self.old).remaining (state self.new).remaining result buf.new }
+        ensures count { CountsFailure result (state self.old).failed (state self.new).failed }
+        ensures fewer { OnOk result ((state self.old).reads_left ≡ (state self.new).reads_left + 1) }
+        ensures as_many { OnErr result ((state self.new).reads_left ≡ (state self.old).reads_left) };
 
     /// Returns the number of failed calls.
     fn failures(&self) -> u64
-        ensures { result ≡ failed self.now };
+        ensures { result ≡ (state self.now).failed };
 }
 
 /// A writer. Each write may fail.
 pub trait Sink {
-    // The bytes written so far, if they are known.
-    ghost contents: { Self → Option (List ℕ) } = { λ _. None };
-
-    // The number of failed calls.
-    ghost failed: { Self → ℕ };
+    // What was written, and the failed calls.
+    ghost state: { Self → SinkState };
 
     /// Writes once and returns how many bytes from the front of `buf` were written: at least one,
     /// unless `buf` is empty.
     fn write(&mut self, buf: &[u8]) -> Result<usize, DeviceFailed>
-        requires { failed self.old < 2 ^ 64 - 1 }
+        requires { (state self.old).failed < 2 ^ 64 - 1 }
         ensures bound { WritesAtMost result buf.now }
         ensures some { 0 < length buf.now → IfOk result (λ n. 0 < n) }
-        ensures bytes { WriteAppends (contents self.old) (contents self.new) result buf.now }
-        ensures count { CountsFailure result (failed self.old) (failed self.new) };
+        ensures bytes { WriteAppends (state self.old).contents (state self.new).contents result buf.now }
+        ensures count { CountsFailure result (state self.old).failed (state self.new).failed };
 
     /// Returns the number of failed calls.
     fn failures(&self) -> u64
-        ensures { result ≡ failed self.now };
+        ensures { result ≡ (state self.now).failed };
 }
 
 /// Writes all of `bytes`, in as many calls as the sink needs.
 ///
 /// After an error, a prefix of `bytes` was written: possibly none or all of it.
 pub fn write_all<W: Sink>(sink: &mut W, bytes: &[u8]) -> Result<(), DeviceFailed>
-    requires { W.failed sink.old < 2 ^ 64 - 1 }
-    ensures whole { OnOk result (Appends (W.contents sink.old) (W.contents sink.new) bytes.now) }
-    ensures part { AppendsPrefix (W.contents sink.old) (W.contents sink.new) bytes.now }
+    requires { (W.state sink.old).failed < 2 ^ 64 - 1 }
+    ensures whole { OnOk result (Appends (W.state sink.old).contents (W.state sink.new).contents bytes.now) }
+    ensures part { AppendsPrefix (W.state sink.old).contents (W.state sink.new).contents bytes.now }
     ensures idle { bytes.now ≡ [] → IsOk result }
-    ensures count { CountsFailure result (W.failed sink.old) (W.failed sink.new) }
+    ensures count { CountsFailure result (W.state sink.old).failed (W.state sink.new).failed }
 {
     let mut rest = bytes;
     while !rest.is_empty() {
@@ -79,10 +70,10 @@ pub fn write_all<W: Sink>(sink: &mut W, bytes: &[u8]) -> Result<(), DeviceFailed
 /// After an error, a prefix of these bytes was written: possibly none or all of it.
 #[tactic(auto, using(crate::proofs::Appending::longer_beginning, crate::proofs::Appending::beginning_after))]
 pub fn write_line<W: Sink>(sink: &mut W, text: &[u8]) -> Result<(), DeviceFailed>
-    requires { W.failed sink.old < 2 ^ 64 - 1 }
-    ensures whole { OnOk result (Appends (W.contents sink.old) (W.contents sink.new) (text.now ++ 10 ∷ [])) }
-    ensures part { AppendsPrefix (W.contents sink.old) (W.contents sink.new) (text.now ++ 10 ∷ []) }
-    ensures count { CountsFailure result (W.failed sink.old) (W.failed sink.new) }
+    requires { (W.state sink.old).failed < 2 ^ 64 - 1 }
+    ensures whole { OnOk result (Appends (W.state sink.old).contents (W.state sink.new).contents (text.now ++ 10 ∷ [])) }
+    ensures part { AppendsPrefix (W.state sink.old).contents (W.state sink.new).contents (text.now ++ 10 ∷ []) }
+    ensures count { CountsFailure result (W.state sink.old).failed (W.state sink.new).failed }
 {
     write_all(sink, text)?;
     write_all(sink, b"\n")

@@ -127,24 +127,24 @@ impl LineBuffer {
     #[tactic(auto, using(crate::proofs::Lengths::kept_lengths))]
     pub fn fill<R: Source>(&mut self, source: &mut R) -> Result<bool, FillError>
         requires no_line { position (λ b. b == 10) self.old ≡ None }
-        requires countable { R.failed source.old < 2 ^ 64 - 1 }
+        requires countable { (R.state source.old).failed < 2 ^ 64 - 1 }
 
         // No byte is lost or added, and the bytes already in the buffer stay in front.
-        ensures bytes { Keeps (prepend_known self.old (R.remaining source.old))
-            (prepend_known self.new (R.remaining source.new)) }
+        ensures bytes { Keeps (prepend_known self.old (R.state source.old).remaining)
+            (prepend_known self.new (R.state source.new).remaining) }
         ensures at_hand { StartsWith self.new self.old }
-        ensures moved { IfSome (R.remaining source.old) (λ text. (left : List ℕ) × (R.remaining source.new ≡ Some left)
+        ensures moved { IfSome (R.state source.old).remaining (λ text. (left : List ℕ) × ((R.state source.new).remaining ≡ Some left)
             × (length text + length self.old ≡ length left + length self.new)) }
         ensures bound { length self.new ≤ length self.old + LineBuffer.READ_LIMIT }
 
         ensures came { IfOk result (λ came. IsTrue came → length self.old < length self.new) }
         ensures end { IfOk result (λ came. came ≡ false
-            → (self.new ≡ self.old) × IsAtEnd (R.remaining source.new)) }
+            → (self.new ≡ self.old) × IsAtEnd (R.state source.new).remaining) }
         ensures err { OnErr result (self.new ≡ self.old) }
 
-        ensures count { CountsReadFailure result (R.failed source.old) (R.failed source.new) }
-        ensures fewer { OnOk result (R.reads_left source.old ≡ R.reads_left source.new + 1) }
-        ensures as_many { OnErr result (R.reads_left source.new ≡ R.reads_left source.old) }
+        ensures count { CountsReadFailure result (R.state source.old).failed (R.state source.new).failed }
+        ensures fewer { OnOk result ((R.state source.old).reads_left ≡ (R.state source.new).reads_left + 1) }
+        ensures as_many { OnErr result ((R.state source.new).reads_left ≡ (R.state source.old).reads_left) }
     {
         remove_front(&mut self.bytes, self.start);
         self.start = 0;

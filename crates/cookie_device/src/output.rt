@@ -43,17 +43,17 @@ impl Output {
     /// prefix of its old bytes and `text` was written.
     #[tactic(auto, using(crate::proofs::Appending::nothing_sent, crate::proofs::Appending::sent_beginning, crate::proofs::Appending::beginning_after, crate::proofs::Appending::longer_beginning))]
     pub fn put<W: Sink>(&mut self, sink: &mut W, text: &[u8]) -> Result<(), DeviceFailed>
-        requires { W.failed sink.old < 2 ^ 64 - 1 }
-        ensures whole { OnOk result (Sends (W.contents sink.old) (W.contents sink.new)
+        requires { (W.state sink.old).failed < 2 ^ 64 - 1 }
+        ensures whole { OnOk result (Sends (W.state sink.old).contents (W.state sink.new).contents
             (self.old ++ text.now) self.new) }
-        ensures part { AppendsPrefix (W.contents sink.old) (W.contents sink.new)
+        ensures part { AppendsPrefix (W.state sink.old).contents (W.state sink.new).contents
             (self.old ++ text.now) }
         ensures buffered { length self.old + length text.now ≤ Output.LIMIT
             → IsOk result × (self.new ≡ self.old ++ text.now) }
         ensures alone { Output.LIMIT < length self.old + length text.now → length text.now ≤ Output.LIMIT
             → OnOk result (self.new ≡ text.now) }
         ensures dropped { OnErr result (self.new ≡ []) }
-        ensures count { CountsFailure result (W.failed sink.old) (W.failed sink.new) }
+        ensures count { CountsFailure result (W.state sink.old).failed (W.state sink.new).failed }
     {
         if text.len() <= Output::LIMIT - self.text.len() {
             self.text.extend_from_slice(text).unwrap();
@@ -69,15 +69,15 @@ impl Output {
 
     /// Appends the strings in order, each as [`put`](Self::put) does, up to the first error.
     pub fn put_all<W: Sink>(&mut self, sink: &mut W, texts: &[&str]) -> Result<(), DeviceFailed>
-        requires { W.failed sink.old < 2 ^ 64 - 1 }
-        ensures whole { OnOk result (Sends (W.contents sink.old) (W.contents sink.new)
+        requires { (W.state sink.old).failed < 2 ^ 64 - 1 }
+        ensures whole { OnOk result (Sends (W.state sink.old).contents (W.state sink.new).contents
             (self.old ++ joined texts.now) self.new) }
-        ensures part { AppendsPrefix (W.contents sink.old) (W.contents sink.new)
+        ensures part { AppendsPrefix (W.state sink.old).contents (W.state sink.new).contents
             (self.old ++ joined texts.now) }
         ensures buffered { length self.old + length (joined texts.now) ≤ Output.LIMIT
             → IsOk result × (self.new ≡ self.old ++ joined texts.now) }
         ensures dropped { OnErr result (self.new ≡ []) }
-        ensures count { CountsFailure result (W.failed sink.old) (W.failed sink.new) }
+        ensures count { CountsFailure result (W.state sink.old).failed (W.state sink.new).failed }
     {
         for text in texts {
             self.put(sink, text.as_bytes())?;
@@ -87,12 +87,12 @@ impl Output {
 
     /// Writes the bytes of the buffer. The buffer is empty afterwards, also after an error.
     pub fn flush<W: Sink>(&mut self, sink: &mut W) -> Result<(), DeviceFailed>
-        requires { W.failed sink.old < 2 ^ 64 - 1 }
-        ensures whole { OnOk result (Appends (W.contents sink.old) (W.contents sink.new) self.old) }
-        ensures part { AppendsPrefix (W.contents sink.old) (W.contents sink.new) self.old }
+        requires { (W.state sink.old).failed < 2 ^ 64 - 1 }
+        ensures whole { OnOk result (Appends (W.state sink.old).contents (W.state sink.new).contents self.old) }
+        ensures part { AppendsPrefix (W.state sink.old).contents (W.state sink.new).contents self.old }
         ensures empty { self.new ≡ [] }
         ensures idle { self.old ≡ [] → IsOk result }
-        ensures count { CountsFailure result (W.failed sink.old) (W.failed sink.new) }
+        ensures count { CountsFailure result (W.state sink.old).failed (W.state sink.new).failed }
     {
         let outcome = write_all(sink, &self.text);
         self.text.clear();

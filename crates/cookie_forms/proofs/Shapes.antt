@@ -82,11 +82,11 @@ by_name true second d a b domain is_a is_b e = is_a refl ∙ ap domain_tree (sam
 by_name false true d a b domain is_a is_b e = is_b refl ∙ ap domain_tree (same_Some b domain e)
 by_name false false d a b domain is_a is_b e = cc
 
-or_none : {A : Type 0} (o : Option A) → option_or o None ≡ o
+pub or_none : {A : Type 0} (o : Option A) → option_or o None ≡ o
 or_none None = refl
 or_none (Some a) = refl
 
-domain_of : (d : Data) (domain : Domain) → domain_in d ≡ Some domain → d ≡ domain_tree domain
+pub domain_of : (d : Data) (domain : Domain) → domain_in d ≡ Some domain → d ≡ domain_tree domain
 unfolding domain_in
 domain_of null domain e = cc
 domain_of (boolean b) domain e = cc
@@ -108,7 +108,7 @@ by_end : (this : Bool) (d : Data) (a ends : Option (List ℕ)) → (this ≡ tru
 by_end true d a ends is_a e = is_a refl ∙ ap expiry_tree (same_Some a ends e)
 by_end false d a ends is_a e = cc
 
-ends_of : (d : Data) (ends : Option (List ℕ)) → expiry_in d ≡ Some ends → d ≡ expiry_tree ends
+pub ends_of : (d : Data) (ends : Option (List ℕ)) → expiry_in d ≡ Some ends → d ≡ expiry_tree ends
 unfolding expiry_in
 ends_of null ends e = cc
 ends_of (boolean b) ends e = cc

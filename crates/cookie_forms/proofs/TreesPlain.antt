@@ -33,13 +33,13 @@ same_tree true e t tree h = absurd (true≢false (sym (ap is_ok h)))
 same_tree false e t tree h = ap tree_of h
 
 -- none of these JSON values contains a float
-domain_plain : (d : Domain) → has_float (domain_tree d) ≡ false
+pub domain_plain : (d : Domain) → has_float (domain_tree d) ≡ false
 domain_plain (host_only text) = refl
 domain_plain (suffix text) = refl
 domain_plain not_present = refl
 domain_plain empty = refl
 
-ends_plain : (o : Option (List ℕ)) → has_float (expiry_tree o) ≡ false
+pub ends_plain : (o : Option (List ℕ)) → has_float (expiry_tree o) ≡ false
 ends_plain None = refl
 ends_plain (Some text) = refl
 

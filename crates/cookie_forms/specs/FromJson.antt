@@ -3,6 +3,7 @@ use Rattle.std.specs.Prelude.{ℕ, Bool, List, [], ◌∷◌, codes, bytes_eq, O
 use Rattle.std.specs.Option.{ok_or, option_or}
 use Rattle.serde_json.specs.Data.{Data, Items, no_items, item, Members, no_members, member}
 use Rattle.serde_json.specs.Find.{get, as_bool, as_str, as_array, as_object}
+use Rattle.serde_json.specs.Read.{read}
 use Rattle.serde_json.specs.Written.{has_float}
 use Rattle.cookie_words.specs.Moments.{Moment}
 use Rattle.cookie_words.specs.Steps.{◌>>=◌}
@@ -120,6 +121,14 @@ saved_at d = if has_float d then Err ErrorCase.Shape else then_read with_parsed_
 -- the saved cookies of a JSON array, or the error
 abbrev pub list_at : Data → Result (List (Parts Moment)) SavedError
 list_at d = if has_float d then Err ErrorCase.Shape else then_read all_with_parsed_expiry (option_and_then all_parts_in (as_array d))
+
+-- the saved cookie of a JSON text, or the error: `Json` if it is not JSON
+abbrev pub saved_in : List ℕ → Result (Parts Moment) SavedError
+saved_in text = elim (read text) [ None ↦ Err ErrorCase.Json | Some tree ↦ saved_at tree ]
+
+-- the saved cookies of a JSON text, or the error
+abbrev pub list_in : List ℕ → Result (List (Parts Moment)) SavedError
+list_in text = elim (read text) [ None ↦ Err ErrorCase.Json | Some tree ↦ list_at tree ]
 
 -- a saved cookie with its expiry cut to whole seconds, as it is after writing and reading
 abbrev pub cut : Parts Moment → Parts Moment

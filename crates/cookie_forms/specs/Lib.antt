@@ -5,4 +5,5 @@ pub mod FromJson
 pub mod Saved
 pub mod Shape
 pub mod Texts
+pub mod Tokens
 pub mod ToJson

@@ -1,8 +1,8 @@
 //! The string that an expiry time is saved as.
 
-ghost use Rattle.std.specs.Prelude.{◌≡◌, ◌↔◌, ◌⊎◌, ◌+◌, ◌++◌, ◌^◌, ◌<◌, ◌≤◌, ◌<ℤ◌, ◌≤ℤ◌, pos, unsigned_abs, Err, IfErr, IfOk, IfSome, OnOk, drop, option_map, string_bytes};
+ghost use Rattle.std.specs.Prelude.{◌≡◌, ◌↔◌, ◌⊎◌, ◌+◌, ◌^◌, ◌<◌, ◌≤◌, ◌<ℤ◌, ◌≤ℤ◌, pos, Err, IfErr, IfOk, IfSome, IsAscii, IsUtf8, drop, option_map, string_bytes};
 ghost use Rattle.cookie_words.specs.Moments.{moment_of};
-ghost use Rattle.cookie_forms.specs.MomentText.{number_in, has_separators, nanoseconds_in, fraction_of, parsed_moment, moment_text, two_digits, four_digits, date_text, clock_text};
+ghost use Rattle.cookie_forms.specs.MomentText.{number_in, has_separators, nanoseconds_in, fraction_of, parsed_moment, moment_text, two_digits};
 
 use crate::SavedError;
 use cookie_words::{calendar_date, clock_time, digits_value};
@@ -31,56 +31,34 @@ pub(crate) fn written(alloc: Global, moment: DateTime) -> Result<String, AllocEr
     requires { pos 0 ≤ℤ moment.date.year }
     ensures { IfOk result (λ text. string_bytes text ≡ moment_text (moment_of moment)) }
 {
-    let mut text = String::new(alloc);
-    push_date(&mut text, moment)?;
-    text.push('T')?;
-    push_clock(&mut text, moment)?;
-    text.push('Z')?;
-    Ok(text)
+    String::from_str(alloc, str::from_utf8(&moment_bytes(moment)).unwrap())
 }
 
-// Appends the date.
-fn push_date(text: &mut String, moment: DateTime) -> Result<(), AllocError>
+// Formats a time from the year 0 on in ASCII.
+pub(crate) fn moment_bytes(moment: DateTime) -> [u8; 20]
     requires { pos 0 ≤ℤ moment.date.year }
-    ensures { OnOk result (string_bytes text.new ≡ string_bytes text.old
-        ++ date_text (unsigned_abs moment.date.year) moment.date.month moment.date.day) }
+    ensures text { result ≡ moment_text (moment_of moment) }
+    ensures utf8 { IsUtf8 result }
 {
-    push_year(text, moment.year())?;
-    text.push('-')?;
-    push_two_digits(text, moment.month() as u8)?;
-    text.push('-')?;
-    push_two_digits(text, moment.day() as u8)
+    let [y1, y2] = two_digits((moment.year() / 100) as u8);
+    let [y3, y4] = two_digits((moment.year() % 100) as u8);
+    let [m1, m2] = two_digits(moment.month() as u8);
+    let [d1, d2] = two_digits(moment.day() as u8);
+    let [h1, h2] = two_digits(moment.hour() as u8);
+    let [n1, n2] = two_digits(moment.minute() as u8);
+    let [s1, s2] = two_digits(moment.second() as u8);
+    [
+        y1, y2, y3, y4, b'-', m1, m2, b'-', d1, d2, b'T', h1, h2, b':', n1, n2, b':', s1, s2, b'Z',
+    ]
 }
 
-// Appends the year in four digits.
-fn push_year(text: &mut String, year: i16) -> Result<(), AllocError>
-    requires low { pos 0 ≤ℤ year }
-    requires high { year ≤ℤ pos 9999 }
-    ensures { OnOk result (string_bytes text.new ≡ string_bytes text.old ++ four_digits (unsigned_abs year)) }
-{
-    push_two_digits(text, (year / 100) as u8)?;
-    push_two_digits(text, (year % 100) as u8)
-}
-
-// Appends the time of day.
-fn push_clock(text: &mut String, moment: DateTime) -> Result<(), AllocError>
-    ensures { OnOk result (string_bytes text.new ≡ string_bytes text.old
-        ++ clock_text moment.time.hour moment.time.minute moment.time.second) }
-{
-    push_two_digits(text, moment.hour() as u8)?;
-    text.push(':')?;
-    push_two_digits(text, moment.minute() as u8)?;
-    text.push(':')?;
-    push_two_digits(text, moment.second() as u8)
-}
-
-// Appends a number in two digits.
-fn push_two_digits(text: &mut String, number: u8) -> Result<(), AllocError>
+// Formats a number in two digits.
+fn two_digits(number: u8) -> [u8; 2]
     requires { number < 100 }
-    ensures { OnOk result (string_bytes text.new ≡ string_bytes text.old ++ two_digits number) }
+    ensures digits { result ≡ two_digits number }
+    ensures ascii { IsAscii result }
 {
-    text.push(char::from(b'0' + number / 10))?;
-    text.push(char::from(b'0' + number % 10))
+    [b'0' + number / 10, b'0' + number % 10]
 }
 
 /// Parses a time in UTC such as `2026-01-31T23:59:59Z`, or with one to nine digits of a fraction,

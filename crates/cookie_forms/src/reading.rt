@@ -15,17 +15,17 @@ use std::alloc::{AllocError, Global};
 
 // The parts of a saved cookie, borrowed from its JSON value.
 #[derive(Clone, Copy)]
-struct BorrowedParts<'a> {
-    raw_cookie: &'a str,
-    path: &'a str,
-    from_attr: bool,
-    domain: BorrowedDomain<'a>,
-    ends: Option<&'a str>,
+pub(crate) struct BorrowedParts<'a> {
+    pub(crate) raw_cookie: &'a str,
+    pub(crate) path: &'a str,
+    pub(crate) from_attr: bool,
+    pub(crate) domain: BorrowedDomain<'a>,
+    pub(crate) ends: Option<&'a str>,
 }
 
 // A domain, borrowed from its JSON value.
 #[derive(Clone, Copy)]
-enum BorrowedDomain<'a> {
+pub(crate) enum BorrowedDomain<'a> {
     HostOnly(&'a str),
     Suffix(&'a str),
     NotPresent,
@@ -167,7 +167,7 @@ fn saved_from(alloc: Global, parts: BorrowedParts<'_>) -> Result<Saved, SavedErr
 }
 
 // Parses the expiry; `None` stands for a session cookie.
-fn expiry_at(ends: Option<&str>) -> Option<SavedExpiry>
+pub(crate) fn expiry_at(ends: Option<&str>) -> Option<SavedExpiry>
     ensures { option_map expiry_view result ≡ parsed_expiry (option_map (λ text. text.now) ends.entry) }
 {
     match ends {
@@ -177,7 +177,7 @@ fn expiry_at(ends: Option<&str>) -> Option<SavedExpiry>
 }
 
 // Copies the parts, with this expiry.
-fn copied(
+pub(crate) fn copied(
     alloc: Global,
     parts: BorrowedParts<'_>,
     expires: SavedExpiry,
@@ -250,12 +250,15 @@ fn domain_in(value: &Value) -> Option<BorrowedDomain<'_>>
 {
     match value.as_str() {
         Some(name) => domain_named(name),
-        None => domain_tagged(value),
+        None => {
+            let (tag, text) = tagged_in(value)?;
+            domain_tagged(tag, text)
+        }
     }
 }
 
 // Reads a domain without a string.
-fn domain_named(name: &str) -> Option<BorrowedDomain<'_>>
+pub(crate) fn domain_named(name: &str) -> Option<BorrowedDomain<'_>>
     ensures { option_map borrowed_domain result ≡ domain_named name.now }
 {
     match name {
@@ -266,10 +269,9 @@ fn domain_named(name: &str) -> Option<BorrowedDomain<'_>>
 }
 
 // Reads a domain with a string.
-fn domain_tagged(value: &Value) -> Option<BorrowedDomain<'_>>
-    ensures { option_map borrowed_domain result ≡ option_and_then domain_tagged (tagged_in (view value.now)) }
+pub(crate) fn domain_tagged<'a>(tag: &str, text: &'a str) -> Option<BorrowedDomain<'a>>
+    ensures { option_map borrowed_domain result ≡ domain_tagged (tag.now, text.now) }
 {
-    let (tag, text) = tagged_in(value)?;
     match tag {
         "HostOnly" => Some(BorrowedDomain::HostOnly(text)),
         "Suffix" => Some(BorrowedDomain::Suffix(text)),
@@ -284,12 +286,15 @@ fn expiry_in(value: &Value) -> Option<Option<&str>>
 {
     match value.as_str() {
         Some(name) => expiry_named(name),
-        None => expiry_tagged(value),
+        None => {
+            let (tag, text) = tagged_in(value)?;
+            expiry_tagged(tag, text)
+        }
     }
 }
 
 // Reads `SessionEnd`.
-fn expiry_named(name: &str) -> Option<Option<&str>>
+pub(crate) fn expiry_named(name: &str) -> Option<Option<&str>>
     ensures { option_map (λ o. option_map (λ text. text.now) o) result ≡ expiry_named name.now }
 {
     match name {
@@ -299,11 +304,9 @@ fn expiry_named(name: &str) -> Option<Option<&str>>
 }
 
 // Reads `{"AtUtc": ".."}`.
-fn expiry_tagged(value: &Value) -> Option<Option<&str>>
-    ensures { option_map (λ o. option_map (λ text. text.now) o) result
-        ≡ option_and_then expiry_tagged (tagged_in (view value.now)) }
+pub(crate) fn expiry_tagged<'a>(tag: &str, text: &'a str) -> Option<Option<&'a str>>
+    ensures { option_map (λ o. option_map (λ text. text.now) o) result ≡ expiry_tagged (tag.now, text.now) }
 {
-    let (tag, text) = tagged_in(value)?;
     match tag {
         "AtUtc" => Some(Some(text)),
         _ => None,

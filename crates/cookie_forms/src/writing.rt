@@ -45,8 +45,8 @@ pub fn list_to_value(alloc: Global, list: &[Saved]) -> Result<Value, SavedError>
     Ok(Value::Array(values_of(alloc, list)?))
 }
 
-// Whether any expiry in the list is before the year 0.
-fn any_early(list: &[Saved]) -> bool
+/// Whether any expiry in the list is before the year 0.
+pub fn any_early(list: &[Saved]) -> bool
     ensures { result ≡ list_any is_early (map saved_view list.now) }
 {
     for saved in list {
@@ -72,7 +72,7 @@ fn values_of(alloc: Global, list: &[Saved]) -> Result<Vec<Value>, SavedError>
 }
 
 // Whether the expiry is before the year 0.
-fn is_early(saved: &Saved) -> bool
+pub(crate) fn is_early(saved: &Saved) -> bool
     ensures { result ≡ is_early (saved_view saved.now) }
 {
     match saved.expires {

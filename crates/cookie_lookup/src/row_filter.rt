@@ -1,6 +1,6 @@
 //! The tests left for a row that was found under a candidate domain and a candidate path, RFC 6265
 //! 5.4.
-ghost use Rattle.std.specs.Prelude.{◌≡◌, false, unwrap_or, Some};
+ghost use Rattle.std.specs.Prelude.{◌≡◌, Some};
 ghost use Rattle.cookie_words.specs.Moments.{moment_of};
 ghost use Rattle.cookie_laws.specs.Given.{is_given};
 ghost use Rattle.cookie_lookup.specs.RowFilter.{is_given_under, is_host, is_name, is_of_host, kind_is_for, AgreesUnder};
@@ -60,8 +60,8 @@ impl<'a> RowFilter<'a> {
     {
         self.is_for(&cookie.domain)
             && !cookie.is_expired(self.time)
-            && (!is_set(cookie.raw().secure()) || is_secure(self.url))
-            && (!is_set(cookie.raw().http_only()) || is_http_scheme(self.url))
+            && (!cookie.raw().is_secure() || is_secure(self.url))
+            && (!cookie.raw().is_http_only() || is_http_scheme(self.url))
     }
 
     // Whether a domain of this kind matches the host.
@@ -96,11 +96,4 @@ fn is_name(text: &str) -> bool
     ensures { result ≡ is_name text.now }
 {
     !text.is_empty() && text != "."
-}
-
-// Whether the flag is present and true.
-fn is_set(flag: Option<bool>) -> bool
-    ensures { result ≡ unwrap_or flag false }
-{
-    flag.unwrap_or(false)
 }

@@ -2,10 +2,12 @@
 use Rattle.std.specs.Prelude.{◌≡◌, ℕ, ◌==◌, Bool, false, not, ◌&&◌, ◌||◌, nat_le, List, [], ◌∷◌, ◌++◌, length, slice_index, bytes_eq, codes, nat_eq, decimal, Option, Some, None, option_map, IsTrue, ◌⊎◌}
 use Rattle.std.specs.List.{list_all, list_any, ends_with, starts_with}
 use Rattle.std.specs.Net.Addr.{ipv4_octets, ipv6_segments}
+use Rattle.std.specs.Result.{result_ok}
 use Rattle.std.specs.Str.Parse.{digits_value}
 use Rattle.url.specs.Host.{host_text}
 use Rattle.url.specs.declared.host.Host.{Host}
 use Rattle.url.specs.declared.host.Host.TheVariants.{Domain, Ipv4, Ipv6}
+use Rattle.url.specs.Parser.{parse_url}
 use Rattle.url.specs.Parts.{Parts, nonempty_host}
 use Rattle.cookie_words.specs.Texts.{pieces}
 
@@ -13,6 +15,10 @@ use Rattle.cookie_words.specs.Texts.{pieces}
 abbrev pub passes : {T : Type 0} → (T → Bool) → Option T → Bool
 passes test None = false
 passes test (Some x) = test x
+
+-- the URL that a string parses to
+unfoldable pub url_at : List ℕ → Option Parts
+url_at text = result_ok (parse_url None text)
 
 -- the host of a URL as a string, if it has one that is not empty
 abbrev pub host_of : Parts → Option (List ℕ)

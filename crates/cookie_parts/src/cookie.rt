@@ -1,5 +1,5 @@
 //! Cookies with their domain, path and expiry, RFC 6265 5.3 and 5.4.
-ghost use Rattle.std.specs.Prelude.{◌≡◌, ◌&&◌, false, is_none, true, unwrap_or, Err, IfOk, MatchResult, Some};
+ghost use Rattle.std.specs.Prelude.{◌≡◌, ◌&&◌, false, is_none, true, Err, IfOk, MatchResult, Some};
 ghost use Rattle.std.specs.Option.{option_or};
 ghost use Rattle.cookie_words.specs.Moments.{moment_of};
 ghost use Rattle.cookie_raw.specs.Reading.{reading};
@@ -11,10 +11,10 @@ ghost use Rattle.cookie_parts.specs.Outcomes.{ReturnsOrMemory};
 ghost use Rattle.cookie_parts.specs.Path.{path_or_default};
 ghost use Rattle.cookie_parts.specs.Views.{domain_value, expiry_value};
 
-use crate::cookie_expiration::epoch;
 use crate::utils::{is_http_scheme, is_secure};
 use crate::{CookieDomain, CookieError, CookieExpiration, CookiePath, Error};
 use cookie_raw::{Expiration, RawCookie, RawCookieBuilder};
+use cookie_words::epoch;
 use jiff::civil::DateTime;
 use std::alloc::{AllocError, Global};
 use std::marker::Model;
@@ -158,8 +158,8 @@ impl<'a> Cookie<'a> {
     {
         self.domain.matches(url)
             && self.path.matches(url)
-            && (!is_set(self.raw.secure()) || is_secure(url))
-            && (!is_set(self.raw.http_only()) || is_http_scheme(url))
+            && (!self.raw.is_secure() || is_secure(url))
+            && (!self.raw.is_http_only() || is_http_scheme(url))
     }
 
     /// Returns whether the cookie is HttpOnly and the scheme of `url` does not begin with `http`.
@@ -307,18 +307,11 @@ fn with_domain(builder: RawCookieBuilder, domain: CookieDomain) -> RawCookieBuil
     }
 }
 
-// Whether the flag is present and set.
-fn is_set(flag: Option<bool>) -> bool
-    ensures { result ≡ unwrap_or flag false }
-{
-    flag.unwrap_or(false)
-}
-
 // Whether the cookie is HttpOnly and the URL's scheme does not begin with `http`.
 fn is_out_of_reach(raw: &RawCookie<'_>, url: &Url) -> bool
     ensures { result ≡ is_out_of_reach raw.now url.now }
 {
-    is_set(raw.http_only()) && !is_http_scheme(url)
+    raw.is_http_only() && !is_http_scheme(url)
 }
 
 // The error, if one can be found without allocating.

@@ -1,14 +1,14 @@
 //! When a cookie expires, RFC 6265 5.3 step 3.
 ghost use Rattle.std.specs.Prelude.{◌≡◌, min, pos, ◌+ℤ◌, ◌≤ℤ◌, ◌<ℤ◌, IsTrue};
 ghost use Rattle.jiff.specs.Words.{signed_nanos};
-ghost use Rattle.cookie_words.specs.Moments.{epoch, moment_of, nanoseconds, Moment};
+ghost use Rattle.cookie_words.specs.Moments.{moment_of, nanoseconds, Moment};
 ghost use Rattle.cookie_raw.specs.Reading.{of_seconds};
 ghost use Rattle.cookie_raw.specs.Views.{expires_value};
 ghost use Rattle.cookie_parts.specs.Expiry.{expiry_at_time, capped_at_latest, has_passed, latest, expiry_of_max_age, expiry_of_expires};
 ghost use Rattle.cookie_parts.specs.Views.{expiry_value};
 
 use cookie_raw::Expiration;
-use cookie_words::moments_round_trip;
+use cookie_words::{epoch, moments_round_trip};
 use jiff::SignedDuration;
 use jiff::civil::{DateTime, date};
 
@@ -118,13 +118,6 @@ fn whole_seconds(moment: DateTime) -> DateTime
     moment
         .date()
         .at(moment.hour(), moment.minute(), moment.second(), 0)
-}
-
-/// 1970-01-01T00:00:00.
-pub(crate) fn epoch() -> DateTime
-    ensures { moment_of result ≡ epoch }
-{
-    date(1970, 1, 1).at(0, 0, 0, 0)
 }
 
 // The latest expiry that is computed.

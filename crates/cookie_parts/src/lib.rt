@@ -10,7 +10,7 @@ mod cookie_expiration;
 pub mod cookie_path;
 mod error;
 pub mod laws;
-mod saved;
+mod saved_conversion;
 mod store_action;
 pub mod utils;
 

@@ -1,10 +1,38 @@
-//! Tests of URLs and hosts.
-ghost use Rattle.std.specs.Prelude.{◌≡◌};
+//! URLs and hosts.
+ghost use Rattle.std.specs.Prelude.{◌≡◌, ◌↔◌, IfOk, IsErr, IsErrAnd};
+ghost use Rattle.std.specs.Result.{result_ok};
 ghost use Rattle.url.specs.Host.{borrowed_host};
-ghost use Rattle.cookie_parts.specs.Hosts.{is_host_name, is_http_scheme, is_ipv4, is_loopback, is_secure};
+ghost use Rattle.url.specs.Parser.{IsOutOfRoom};
+ghost use Rattle.cookie_parts.specs.Hosts.{is_host_name, is_http_scheme, is_ipv4, is_loopback, is_secure, url_at};
 
+use std::alloc::{AllocError, Global};
 use std::net::Ipv4Addr;
-use url::{Host, Url};
+use url::{Host, ParseError, Url};
+
+/// Parses a URL. Returns `None` if `text` is not a valid URL.
+///
+/// # Errors
+///
+/// `AllocError`: out of memory, or the URL is longer than the parser can count.
+#[tactic(auto, unfolding(crate::specs::Hosts::url_at))]
+pub fn parse_url(alloc: Global, text: &str) -> Result<Option<Url>, AllocError>
+    ensures { IfOk result (λ url. url ≡ url_at text.now) }
+{
+    parsed_url(Url::parse(alloc, text))
+}
+
+// Maps the error of a parse. `OutOfMemory` and `Overflow` say nothing about the URL: `AllocError`.
+fn parsed_url(parsed: Result<Url, ParseError>) -> Result<Option<Url>, AllocError>
+    ensures url { IfOk result (λ url. url ≡ result_ok parsed) }
+    ensures room { IsErr result ↔ IsErrAnd parsed IsOutOfRoom }
+{
+    match parsed {
+        Ok(url) => Ok(Some(url)),
+        Err(ParseError::OutOfMemory) => Err(AllocError),
+        Err(ParseError::Overflow) => Err(AllocError),
+        Err(_) => Ok(None),
+    }
+}
 
 /// Returns whether the scheme of `url` begins with `http`, as HttpOnly cookies require.
 #[tactic(auto, unfolding(crate::specs::Hosts::is_http_scheme))]

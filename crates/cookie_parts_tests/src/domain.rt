@@ -2,7 +2,7 @@ use crate::checks::{are_ordered, is_equal};
 use crate::domain::Origin::{Host, Parts, Raw, Text};
 use crate::parts::{Hosts, domain_of, is_for};
 use cookie_parts::cookie_domain::is_match;
-use cookie_parts::utils::is_host_name;
+use cookie_parts::utils::{is_host_name, parse_url};
 use cookie_parts::{CookieDomain, CookieError, Error};
 use cookie_psl::List;
 use cookie_raw::RawCookie;
@@ -333,5 +333,22 @@ const NAMES: &[(&str, bool)] = &[
 fn an_address_is_no_name(rt: HostRuntime) {
     for (host, wanted) in NAMES {
         is_equal(&rt, is_host_name(host), *wanted, host);
+    }
+}
+
+// Strings, and whether they are URLs.
+const URLS: &[(&str, bool)] = &[
+    ("http://example.com/a?b#c", true),
+    ("mailto:a@example.com", true),
+    ("example.com", false),
+    ("http://", false),
+    ("", false),
+];
+
+#[test]
+fn urls_are_parsed(rt: HostRuntime) {
+    for (text, wanted) in URLS {
+        let url = parse_url(rt.alloc(), text).expect(&rt, "memory");
+        is_equal(&rt, url.is_some(), *wanted, text);
     }
 }

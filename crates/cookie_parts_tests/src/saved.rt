@@ -1,8 +1,8 @@
 use crate::checks::{holds, is_equal, is_text};
 use crate::parts::{Fields, moment_of};
 use cookie_saved::{
-    Saved, SavedError, SavedExpiry, from_value, list_from_value, list_to_text, list_to_value,
-    moment_text, read_moment, to_value,
+    Saved, SavedError, SavedExpiry, from_text, from_value, list_from_text, list_from_value,
+    list_to_text, list_to_value, moment_text, read_moment, to_text, to_value,
 };
 use jiff::civil::DateTime;
 use serde_json::Value;
@@ -189,6 +189,67 @@ fn reads_trees(rt: HostRuntime) {
     }
 }
 
+// JSON of a cookie, and the error, if there is one.
+const JSON: &[(&str, Option<SavedError>)] = &[
+    (WHOLE, None),
+    (
+        r#"{"path": ["\u002f", true], "path": ["/", false], "domain": {"Suffix": "a.com"},
+            "expires": "SessionEnd", "raw_cookie": "a=\"1\""}"#,
+        None,
+    ),
+    (
+        r#"{"x": [1, {"y": null}], "raw_cookie": "a=1", "path": ["/", true],
+            "domain": {"Suffix": "b", "Suffix": "a.com"}, "expires": "SessionEnd"}"#,
+        None,
+    ),
+    (
+        r#"{"x": 1.5, "raw_cookie": "a=1", "path": ["/", true],
+            "domain": "NotPresent", "expires": "SessionEnd"}"#,
+        Some(SavedError::Shape),
+    ),
+    (
+        r#"{"raw_cookie": "a=1", "path": ["/", true], "path": 1,
+            "domain": "NotPresent", "expires": "SessionEnd"}"#,
+        Some(SavedError::Shape),
+    ),
+    (NO_MOMENT, Some(SavedError::Moment)),
+    (NO_SHAPE, Some(SavedError::Shape)),
+    ("7", Some(SavedError::Shape)),
+    ("1e999", Some(SavedError::Json)),
+    ("{", Some(SavedError::Json)),
+];
+
+// The error of reading the JSON of a cookie, and of a list of it alone.
+fn text_refusals(alloc: Global, text: &str) -> (Option<SavedError>, Option<SavedError>) {
+    let list = format!(in alloc; "[{text}]");
+    (
+        from_text(alloc, text).err(),
+        list.map_err(SavedError::from)
+            .and_then(|list| list_from_text(alloc, &list))
+            .err(),
+    )
+}
+
+#[test]
+fn reads_texts(rt: HostRuntime) {
+    for (text, wanted) in JSON {
+        is_equal(
+            &rt,
+            text_refusals(rt.alloc(), text),
+            (*wanted, *wanted),
+            text,
+        );
+    }
+}
+
+#[test]
+fn a_cookie_is_written_as_it_was_read(rt: HostRuntime) {
+    let saved = from_text(rt.alloc(), WHOLE).expect(&rt, "a cookie");
+    let text = to_text(rt.alloc(), &saved).expect(&rt, "memory");
+    let is_same = tree(&rt, rt.alloc(), &text) == tree(&rt, rt.alloc(), WHOLE);
+    holds(&rt, is_same, &"a text");
+}
+
 // Asserts that the list is written as this JSON value, and its string is parsed as the same.
 fn is_written(rt: &impl Abort, alloc: Global, saved: &[Saved], list: &Value) {
     let written = list_to_value(alloc, saved).expect(rt, "memory");
@@ -214,16 +275,15 @@ fn early(rt: &impl Abort, alloc: Global) -> Saved {
 #[test]
 fn an_end_before_the_year_0_has_no_tree(rt: HostRuntime) {
     let list = [early(&rt, rt.alloc())];
-    let faults = (
+    let trees = (
         to_value(rt.alloc(), &list[0]).err(),
         list_to_value(rt.alloc(), &list).err(),
+    );
+    let texts = (
+        to_text(rt.alloc(), &list[0]).err(),
         list_to_text(rt.alloc(), &list).err(),
     );
     let fault = Some(SavedError::Moment);
-    is_equal(
-        &rt,
-        faults,
-        (fault, fault, fault),
-        &"a tree, a list, a text",
-    );
+    is_equal(&rt, trees, (fault, fault), &"a tree, a list");
+    is_equal(&rt, texts, (fault, fault), &"their texts");
 }

@@ -10,6 +10,7 @@ ghost use Rattle.cookie_raw.specs.Views.{expires_value};
 
 use crate::raw_cookie::name_and_value;
 use crate::{Expiration, SameSite, read_date};
+use cookie_words::is_digits;
 use jiff::SignedDuration;
 
 /// The attributes parsed so far. Strings are borrowed from the header value.
@@ -94,13 +95,6 @@ fn read_same_site(name: &str, value: &str) -> Option<SameSite>
     } else {
         None
     }
-}
-
-// Whether all bytes are ASCII digits.
-fn is_digits(text: &str) -> bool
-    ensures { result ≡ list_all is_ascii_digit text.now }
-{
-    text.as_bytes().iter().all(|byte| byte.is_ascii_digit())
 }
 
 // Parses a number of seconds, at most `i64::MAX`.

@@ -1,5 +1,5 @@
 //! The parts of a Set-Cookie header value, RFC 6265 5.2.
-ghost use Rattle.std.specs.Prelude.{◌≡◌, true, false, option_map, MatchOption, IfOk};
+ghost use Rattle.std.specs.Prelude.{◌≡◌, true, false, option_map, unwrap_or, MatchOption, IfOk};
 ghost use Rattle.std.specs.Cow.{cow_str_bytes};
 ghost use Rattle.std.specs.Option.{option_copied};
 ghost use Rattle.jiff.specs.Words.{signed_nanos};
@@ -195,12 +195,26 @@ impl<'a> RawCookie<'a> {
         self.secure
     }
 
+    /// Returns whether the cookie is Secure; false if that was not set.
+    pub fn is_secure(&self) -> bool
+        ensures { result ≡ unwrap_or self.now.secure false }
+    {
+        self.secure.unwrap_or(false)
+    }
+
     /// Returns whether the cookie is HttpOnly, or `None` if that was not set. For a parsed cookie
     /// this is `Some(true)` or `None`.
     pub fn http_only(&self) -> Option<bool>
         ensures { result ≡ self.now.http_only }
     {
         self.http_only
+    }
+
+    /// Returns whether the cookie is HttpOnly; false if that was not set.
+    pub fn is_http_only(&self) -> bool
+        ensures { result ≡ unwrap_or self.now.http_only false }
+    {
+        self.http_only.unwrap_or(false)
     }
 
     /// Returns the SameSite attribute.

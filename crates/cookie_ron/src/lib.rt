@@ -7,5 +7,5 @@ mod reading;
 mod texts;
 mod tokens;
 
-pub use printing::to_ron;
+pub use printing::{print_list, to_ron};
 pub use reading::from_ron;

@@ -7,7 +7,7 @@ ghost use Rattle.cookie_forms.specs.Saved.{domain_view, expiry_view, saved_view}
 ghost use Rattle.cookie_forms.specs.ToJson.{expires_early, is_early, with_expiry_text};
 ghost use Rattle.cookie_ron.specs.Printed.{printed_char, quoted, printed_path, printed_domain, printed_expiry, printed_cookie, printed_list, ron_written};
 
-use cookie_forms::{Saved, SavedDomain, SavedError, SavedExpiry, moment_text};
+use cookie_forms::{Saved, SavedDomain, SavedError, SavedExpiry, any_early, moment_text};
 use std::alloc::{AllocError, Global};
 
 /// Prints a list of saved cookies in RON, without a line feed at the end:
@@ -38,31 +38,22 @@ pub fn to_ron(alloc: Global, list: &[Saved]) -> Result<String, SavedError>
     if any_early(list) {
         return Err(SavedError::Moment);
     }
+    print_list(alloc, list)
+}
+
+/// Prints a list in which no expiry is before the year 0, as [`to_ron`] does.
+///
+/// # Errors
+///
+/// - `Memory`: out of memory.
+pub fn print_list(alloc: Global, list: &[Saved]) -> Result<String, SavedError>
+    requires { list_any is_early (map saved_view list.now) ≡ false }
+    ensures text { IfOk result (λ text. string_bytes text ≡ printed_list (map with_expiry_text (map saved_view list.now))) }
+    ensures refused { IfErr result (λ e. e ≡ SavedError.Memory) }
+{
     let mut text = String::new(alloc);
     push_list(alloc, &mut text, list)?;
     Ok(text)
-}
-
-// Whether any expiry in the list is before the year 0.
-fn any_early(list: &[Saved]) -> bool
-    ensures { result ≡ list_any is_early (map saved_view list.now) }
-{
-    for saved in list {
-        if is_early(saved.expires) {
-            return true;
-        }
-    }
-    false
-}
-
-// Whether the expiry is before the year 0.
-fn is_early(expires: SavedExpiry) -> bool
-    ensures { result ≡ expires_early (expiry_view expires) }
-{
-    match expires {
-        SavedExpiry::AtUtc(moment) => moment.year() < 0,
-        SavedExpiry::SessionEnd => false,
-    }
 }
 
 // Appends a list in which no expiry is before the year 0.

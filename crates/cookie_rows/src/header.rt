@@ -13,8 +13,8 @@ ghost use Rattle.cookie_rows.specs.Items.{bare, rows_in_order, AreItems};
 
 use crate::boxed::BoxedCookie;
 use crate::hashing::HashKey;
+use crate::map_search::{given_positions, item_at};
 use crate::paths::Paths;
-use crate::search::{given_positions, item_at};
 use crate::texts::path_text;
 use cookie_lookup::laws;
 use cookie_parts::Cookie;

@@ -10,11 +10,11 @@ mod copying;
 mod hashing;
 mod header;
 mod iter;
+mod map_search;
 mod names;
 mod paths;
 mod request;
 mod rows;
-mod search;
 mod texts;
 
 pub use hashing::{HashKey, StoreAlloc};

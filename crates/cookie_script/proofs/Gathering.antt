@@ -1,11 +1,12 @@
 -- How strings are buffered, one after the other.
-use Rattle.std.proofs.Common.{◌≡◌, ◌≤◌, ◌<◌, ℕ, ◌+◌, List, [], ◌∷◌, ◌++◌, Bor, Option, Result, Ok, Err, ap, append_assoc, append-nil, arith, codes, drop, flat_map, get_or, length, length-append, map, refl, suc, sym, take, ◌∙◌}
+use Rattle.std.proofs.Common.{◌≡◌, ◌≤◌, ◌<◌, ℕ, ◌+◌, List, [], ◌∷◌, ◌++◌, Bor, Result, Ok, Err, ap, append_assoc, append-nil, arith, codes, drop, flat_map, get_or, length, length-append, map, refl, suc, sym, take, ◌∙◌}
 use Rattle.std.proofs.Math.Seq.{take-suc}
 use Rattle.std.proofs.lemmas.Bool.{false≢true}
 use Rattle.std.proofs.lemmas.Grind.{flat_map-append}
 use Rattle.std.proofs.lemmas.List.{map-append, take-append-drop}
 use Rattle.std.proofs.lemmas.List.Folds.{flat_map-map}
 use Rattle.std.specs.Result.{IsErr}
+use Rattle.cookie_device.specs.Device.{SinkState}
 use Rattle.cookie_device.proofs.Sending.{nothing_part, nothing_put, part_longer, part_then, put_then}
 use Rattle.cookie_parts.specs.Cookie.{Row}
 use Rattle.cookie_store.specs.Header.{later_pair, pair_text}
@@ -13,10 +14,10 @@ use Rattle.cookie_script.specs.Answering.{Gathers}
 use Rattle.cookie_script.specs.Script.{header_text, line_text, row_line, rows_text}
 
 -- nothing was buffered
-pub gathers_nothing : {E : Type 0} (a : Option (List ℕ)) (g : List ℕ) (n : ℕ) → Gathers {T = Unit {0}} {E = E} (Ok tt) a a g g n n []
-gathers_nothing a g n = record {
-  whole = nothing_put a g;
-  part = nothing_part a (g ++ []);
+pub gathers_nothing : {E : Type 0} (a : SinkState) (g : List ℕ) → Gathers {T = Unit {0}} {E = E} (Ok tt) a a g g []
+gathers_nothing a g = record {
+  whole = nothing_put a.contents g;
+  part = nothing_part a.contents (g ++ []);
   buffered = λ fits. (refl, sym (append-nil g));
   count = refl;
 }
@@ -30,11 +31,11 @@ both_fit most g t u fits = (
 )
 
 -- one string was buffered, and then another
-pub gathers_then : {T U E : Type 0} (r : Result U E) (ok : T) {a b c : Option (List ℕ)} {g h k : List ℕ} {m n o : ℕ} (t u : List ℕ)
-    → Gathers {T = T} {E = E} (Ok ok) a b g h m n t → Gathers r b c h k n o u → Gathers r a c g k m o (t ++ u)
+pub gathers_then : {T U E : Type 0} (r : Result U E) (ok : T) {a b c : SinkState} {g h k : List ℕ} (t u : List ℕ)
+    → Gathers {T = T} {E = E} (Ok ok) a b g h t → Gathers r b c h k u → Gathers r a c g k (t ++ u)
 gathers_then (Ok done) ok {a} {b} {c} {g} {h} {k} t u first next = record {
-  whole = put_then a b c g t u h k first.whole next.whole;
-  part = part_then a b c g t u h first.whole next.part;
+  whole = put_then a.contents b.contents c.contents g t u h k first.whole next.whole;
+  part = part_then a.contents b.contents c.contents g t u h first.whole next.part;
   buffered = λ fits.
       let both = both_fit 65_536 g t u fits in
       let one = (first.buffered both.0).1 in
@@ -43,7 +44,7 @@ gathers_then (Ok done) ok {a} {b} {c} {g} {h} {k} t u first next = record {
 }
 gathers_then (Err fault) ok {a} {b} {c} {g} {h} {k} t u first next = record {
   whole = tt;
-  part = part_then a b c g t u h first.whole next.part;
+  part = part_then a.contents b.contents c.contents g t u h first.whole next.part;
   buffered = λ fits.
       let both = both_fit 65_536 g t u fits in
       absurd (false≢true (next.buffered (both.1 h (first.buffered both.0).1)).0);
@@ -51,13 +52,13 @@ gathers_then (Err fault) ok {a} {b} {c} {g} {h} {k} t u first next = record {
 }
 
 -- a write failed, before one more string
-pub gathers_stopped : {T U E : Type 0} (r : Result U E) (fault : E) {a b : Option (List ℕ)} {g h : List ℕ} {m n : ℕ} (t u : List ℕ)
-    → IsErr r → Gathers {T = T} {E = E} (Err fault) a b g h m n t → Gathers r a b g h m n (t ++ u)
+pub gathers_stopped : {T U E : Type 0} (r : Result U E) (fault : E) {a b : SinkState} {g h : List ℕ} (t u : List ℕ)
+    → IsErr r → Gathers {T = T} {E = E} (Err fault) a b g h t → Gathers r a b g h (t ++ u)
 gathers_stopped (Ok done) fault t u is first = absurd (false≢true is)
 gathers_stopped (Err line_result) fault {a} {b} {g} t u is first =
     record {
       whole = tt;
-      part = part_longer a b g t u first.part;
+      part = part_longer a.contents b.contents g t u first.part;
       buffered = λ fits. absurd (false≢true (first.buffered (both_fit 65_536 g t u fits).0).0);
       count = first.count;
     }

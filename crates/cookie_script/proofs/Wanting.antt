@@ -3,7 +3,8 @@ use Rattle.std.proofs.Common.{◌≡◌, ℕ, Bool, true, false, cond, ◌&&◌,
 use Rattle.std.specs.Option.{option_map_or}
 use Rattle.std.specs.Str.{is_utf8}
 use Rattle.cookie_forms.specs.MomentText.{parsed_moment}
-use Rattle.cookie_script.specs.Commands.{Command, Now, Get, ListRows, Clear, command_may_allocate, command_of, first_word, lone_command, may_allocate, one_word, remove_command, set_command, text_command, url_at, verb_command, verb_may_allocate}
+use Rattle.cookie_parts.specs.Hosts.{url_at}
+use Rattle.cookie_script.specs.Commands.{Command, Now, Get, ListRows, Clear, command_may_allocate, command_of, first_word, lone_command, may_allocate, one_word, remove_command, set_command, text_command, verb_command, verb_may_allocate}
 
 -- a command without a URL allocates nothing
 without_url : {X : Type 0} (f : X → Command) → ((x : X) → command_may_allocate (f x) ≡ false) → (o : Option X) (command : Command)

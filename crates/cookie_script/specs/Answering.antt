@@ -1,6 +1,6 @@
 -- The output of a line, and how it is buffered.
-use Rattle.std.specs.Prelude.{◌≡◌, ℕ, ◌+◌, ◌≤◌, List, [], ◌++◌, Option, Result, IsOk, OnOk, length, map}
-use Rattle.cookie_device.specs.Device.{AppendsPrefix, CountsFailure, Sends}
+use Rattle.std.specs.Prelude.{◌≡◌, ℕ, ◌+◌, ◌≤◌, List, [], ◌++◌, Result, IsOk, OnOk, length, map}
+use Rattle.cookie_device.specs.Device.{AppendsPrefix, CountsFailure, Sends, SinkState}
 use Rattle.cookie_script.specs.Script.{header_text, line_text, rows_text}
 use Rattle.cookie_script.specs.declared.answer.Answer.{Answer}
 use Rattle.cookie_script.specs.declared.answer.Answer.TheVariants.{Nothing, Line, Header, Rows}
@@ -14,8 +14,8 @@ answer_text (Rows rows) = rows_text rows
 
 -- The buffered bytes and the text were written, except what is buffered now; if both fit the buffer, nothing was
 -- written. If a write failed, a prefix of them was written.
-pub record Gathers {T E : Type 0} (outcome : Result T E) (old new : Option (List ℕ)) (before after : List ℕ) (failures then : ℕ) (text : List ℕ) : Type 0 where
-  pub whole : OnOk outcome (Sends old new (before ++ text) after)
-  pub part : AppendsPrefix old new (before ++ text)
+pub record Gathers {T E : Type 0} (outcome : Result T E) (old new : SinkState) (before after text : List ℕ) : Type 0 where
+  pub whole : OnOk outcome (Sends old.contents new.contents (before ++ text) after)
+  pub part : AppendsPrefix old.contents new.contents (before ++ text)
   pub buffered : length before + length text ≤ 65_536 → IsOk outcome × (after ≡ before ++ text)
-  pub count : CountsFailure outcome failures then
+  pub count : CountsFailure outcome old.failed new.failed

@@ -2,12 +2,11 @@
 use Rattle.std.specs.Prelude.{ℕ, ◌==◌, Bool, true, false, ◌&&◌, List, bytes_eq, codes, Option, Some, None, is_none, is_some, option_map, option_and_then, if◌then◌else◌}
 use Rattle.std.specs.List.{before_first, after_first, list_any}
 use Rattle.std.specs.Option.{option_map_or}
-use Rattle.std.specs.Result.{result_ok}
 use Rattle.std.specs.Str.{is_utf8}
-use Rattle.url.specs.Parser.{parse_url}
 use Rattle.url.specs.Parts.{Parts}
 use Rattle.cookie_words.specs.Moments.{Moment}
 use Rattle.cookie_parts.specs.Cookie.{early}
+use Rattle.cookie_parts.specs.Hosts.{url_at}
 use Rattle.cookie_raw.specs.Reading.{reading}
 use Rattle.cookie_forms.specs.MomentText.{parsed_moment}
 use Rattle.cookie_store.specs.Rows.{Key, key_at}
@@ -30,10 +29,6 @@ abbrev pub first_word : List ℕ → Option (List ℕ × List ℕ)
 first_word text =
     if list_any is_space text then Some (before_first is_space text, after_first is_space text)
     else None
-
--- the URL that a string parses to
-unfoldable pub url_at : List ℕ → Option Parts
-url_at text = result_ok (parse_url None text)
 
 -- the string, if it holds no space
 abbrev pub one_word : List ℕ → Option (List ℕ)

@@ -1,18 +1,17 @@
 -- Lines of JSON that are converted into a RON list.
-use Rattle.std.specs.Prelude.{◌≡◌, ◌⊎◌, ℕ, List, Option, Ok, Err}
+use Rattle.std.specs.Prelude.{◌⊎◌, ℕ, List, Option, Ok, Err}
 use Rattle.std.specs.Io.KnownBytes.{IsAtEnd, Keeps}
 use Rattle.std.specs.declared.alloc.Global.{Global}
 use Rattle.std.specs.declared.string.String.{String}
-use Rattle.cookie_device.specs.Device.{AppendsPrefix}
+use Rattle.cookie_device.specs.Device.{AppendsPrefix, SinkState, SourceState}
 use Rattle.cookie_parts.specs.declared.error.Error.{Error}
 use Rattle.cookie_parts.specs.declared.error.Error.TheVariants as Store
 use Rattle.cookie_store.specs.Lists.{WritesList}
-use Rattle.cookie_store.specs.Migration.{Migrates}
+use Rattle.cookie_store.specs.Migration.{FailsToMigrate, Migrates}
 use Rattle.cookie_store.specs.RonLists.{SerializesToRonList}
 use Rattle.cookie_store.specs.Rows.{RowsInOrder}
 use Rattle.cookie_store.specs.Saving.{line_text}
-use Rattle.cookie_store.specs.declared.serde.migration.MigrateError.{MigrateError}
-use Rattle.cookie_store.specs.declared.serde.migration.MigrateError.TheVariants as Migrate
+use Rattle.cookie_serde.specs.declared.migration.MigrateError.TheVariants as Migrate
 use Rattle.cookie_script.specs.declared.fault.ConvertFault.{ConvertFault}
 use Rattle.cookie_script.specs.declared.fault.ConvertFault.TheVariants.{Read, Write, Memory, BadLine}
 
@@ -32,10 +31,12 @@ RunsOutForList known = (kept : RowsInOrder) × Migrates known kept × Serializes
 
 -- Unless a write failed, nothing was written. A read failed, memory ran out, or this line is the first invalid
 -- one; or all lines were read and a store was built, and memory ran out for its list.
-abbrev pub FailsToConvert : (MigrateError → Type 0) → ConvertFault → Option (List ℕ) → Option (List ℕ) → Option (List ℕ) → Option (List ℕ) → Type 0
-FailsToConvert no_store_for Read known rest old new = no_store_for Migrate.Io × Keeps old new
-FailsToConvert no_store_for Write known rest old new = IsAtEnd rest × BeginsConversion known old new
-FailsToConvert no_store_for Memory known rest old new =
-    (no_store_for Migrate.Memory ⊎ (IsAtEnd rest × RunsOutForList known)) × Keeps old new
-FailsToConvert no_store_for (BadLine number) known rest old new =
-    ((error : Error) × no_store_for (Migrate.Line number error)) × Keeps old new
+abbrev pub FailsToConvert : ConvertFault → SourceState → SourceState → SinkState → SinkState → Type 0
+FailsToConvert Read old new before after = FailsToMigrate Migrate.Io old new × Keeps before.contents after.contents
+FailsToConvert Write old new before after =
+    IsAtEnd new.remaining × BeginsConversion old.remaining before.contents after.contents
+FailsToConvert Memory old new before after =
+    (FailsToMigrate Migrate.Memory old new ⊎ (IsAtEnd new.remaining × RunsOutForList old.remaining))
+    × Keeps before.contents after.contents
+FailsToConvert (BadLine number) old new before after =
+    ((error : Error) × FailsToMigrate (Migrate.Line number error) old new) × Keeps before.contents after.contents

@@ -6,8 +6,8 @@ use Rattle.cookie_device.specs.declared.lines.FillError.{FillError}
 use Rattle.cookie_device.specs.declared.lines.FillError.TheVariants as Fill
 use Rattle.cookie_psl.specs.declared.error.ListError.{ListError}
 use Rattle.cookie_psl.specs.declared.error.ListError.TheVariants as Psl
-use Rattle.cookie_store.specs.declared.serde.migration.MigrateError.{MigrateError}
-use Rattle.cookie_store.specs.declared.serde.migration.MigrateError.TheVariants as Migrate
+use Rattle.cookie_serde.specs.declared.migration.MigrateError.{MigrateError}
+use Rattle.cookie_serde.specs.declared.migration.MigrateError.TheVariants as Migrate
 use Rattle.cookie_script.specs.declared.fault.ConvertFault.{ConvertFault}
 use Rattle.cookie_script.specs.declared.fault.ConvertFault.TheVariants as Conversion
 use Rattle.cookie_script.specs.declared.fault.MainFault.{MainFault}

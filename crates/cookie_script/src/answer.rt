@@ -35,9 +35,8 @@ impl<'a> Answer<'a> {
     /// Appends the output to `out`. If a part no longer fits, the buffered bytes are written to
     /// `sink` first.
     pub fn put<W: Sink>(self, out: &mut Output, sink: &mut W) -> Result<(), DeviceFailed>
-        requires { W.failed sink.old < 2 ^ 64 - 1 }
-        ensures { Gathers result (W.contents sink.old) (W.contents sink.new) out.old out.new (W.failed sink.old) (W.failed sink.new)
-            (answer_text self.entry) }
+        requires { (W.state sink.old).failed < 2 ^ 64 - 1 }
+        ensures { Gathers result (W.state sink.old) (W.state sink.new) out.old out.new (answer_text self.entry) }
     {
         match self {
             Answer::Nothing => Ok(()),
@@ -65,9 +64,8 @@ fn put_line<W: Sink>(
     out: &mut Output,
     sink: &mut W,
 ) -> Result<(), DeviceFailed>
-    requires { W.failed sink.old < 2 ^ 64 - 1 }
-    ensures { Gathers result (W.contents sink.old) (W.contents sink.new) out.old out.new (W.failed sink.old) (W.failed sink.new)
-        (line_text (mark.now ++ text.now)) }
+    requires { (W.state sink.old).failed < 2 ^ 64 - 1 }
+    ensures { Gathers result (W.state sink.old) (W.state sink.new) out.old out.new (line_text (mark.now ++ text.now)) }
 {
     out.put_all(sink, &[mark, text, "\n"])
 }
@@ -78,9 +76,8 @@ fn put_header<W: Sink>(
     out: &mut Output,
     sink: &mut W,
 ) -> Result<(), DeviceFailed>
-    requires { W.failed sink.old < 2 ^ 64 - 1 }
-    ensures { Gathers result (W.contents sink.old) (W.contents sink.new) out.old out.new (W.failed sink.old) (W.failed sink.new)
-        (line_text (header_text (map (λ c. c.now) cookies.now))) }
+    requires { (W.state sink.old).failed < 2 ^ 64 - 1 }
+    ensures { Gathers result (W.state sink.old) (W.state sink.new) out.old out.new (line_text (header_text (map (λ c. c.now) cookies.now))) }
 {
     match cookies.split_first() {
         Some((first, others)) => {
@@ -97,9 +94,8 @@ fn put_others<W: Sink>(
     out: &mut Output,
     sink: &mut W,
 ) -> Result<(), DeviceFailed>
-    requires { W.failed sink.old < 2 ^ 64 - 1 }
-    ensures { Gathers result (W.contents sink.old) (W.contents sink.new) out.old out.new (W.failed sink.old) (W.failed sink.new)
-        (line_text (flat_map (λ c. later_pair c.now) cookies.now)) }
+    requires { (W.state sink.old).failed < 2 ^ 64 - 1 }
+    ensures { Gathers result (W.state sink.old) (W.state sink.new) out.old out.new (line_text (flat_map (λ c. later_pair c.now) cookies.now)) }
 {
     for cookie in cookies {
         put_pair("; ", cookie, out, sink)?;
@@ -114,18 +110,16 @@ fn put_pair<W: Sink>(
     out: &mut Output,
     sink: &mut W,
 ) -> Result<(), DeviceFailed>
-    requires { W.failed sink.old < 2 ^ 64 - 1 }
-    ensures { Gathers result (W.contents sink.old) (W.contents sink.new) out.old out.new (W.failed sink.old) (W.failed sink.new)
-        (mark.now ++ pair_text cookie.now) }
+    requires { (W.state sink.old).failed < 2 ^ 64 - 1 }
+    ensures { Gathers result (W.state sink.old) (W.state sink.new) out.old out.new (mark.now ++ pair_text cookie.now) }
 {
     out.put_all(sink, &[mark, cookie.name(), "=", cookie.value()])
 }
 
 // Appends a line for each row.
 fn put_rows<W: Sink>(rows: IterAny<'_>, out: &mut Output, sink: &mut W) -> Result<(), DeviceFailed>
-    requires { W.failed sink.old < 2 ^ 64 - 1 }
-    ensures { Gathers result (W.contents sink.old) (W.contents sink.new) out.old out.new (W.failed sink.old) (W.failed sink.new)
-        (rows_text rows.entry) }
+    requires { (W.state sink.old).failed < 2 ^ 64 - 1 }
+    ensures { Gathers result (W.state sink.old) (W.state sink.new) out.old out.new (rows_text rows.entry) }
 {
     for row in rows {
         put_row(row, out, sink)?;
@@ -139,9 +133,8 @@ fn put_row<W: Sink>(
     out: &mut Output,
     sink: &mut W,
 ) -> Result<(), DeviceFailed>
-    requires { W.failed sink.old < 2 ^ 64 - 1 }
-    ensures { Gathers result (W.contents sink.old) (W.contents sink.new) out.old out.new (W.failed sink.old) (W.failed sink.new)
-        (row_line row.now) }
+    requires { (W.state sink.old).failed < 2 ^ 64 - 1 }
+    ensures { Gathers result (W.state sink.old) (W.state sink.new) out.old out.new (row_line row.now) }
 {
     let domain = row.domain.as_str();
     out.put_all(

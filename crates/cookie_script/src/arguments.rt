@@ -1,14 +1,13 @@
 //! The command-line arguments.
 ghost use Rattle.std.specs.Prelude.{◌≡◌, ◌≤◌, drop, map, option_map, string_bytes, IfErr, IfOk, IfSome};
-ghost use Rattle.std.specs.Char.{is_ascii_digit};
 ghost use Rattle.std.specs.IoError.{error_kind};
-ghost use Rattle.std.specs.List.{list_all};
 ghost use Rattle.std.specs.Result.{result_ok};
 ghost use Rattle.cookie_script.specs.Arguments.{limit_of, option_alone, set_option, options_of, options_value};
 ghost use Rattle.cookie_script.specs.Faults.{words_fault};
 
 use crate::fault::{MainFault, RunFault};
 use crate::options::Options;
+use cookie_words::is_digits;
 use std::io;
 
 /// Returns the arguments after the first one, which is the program's name.
@@ -112,11 +111,4 @@ fn limit_of(word: &str) -> Option<usize>
         Ok(limit) if limit > 0 => Some(limit),
         _ => None,
     }
-}
-
-// Whether the argument consists of decimal digits alone, or is empty.
-fn is_digits(word: &str) -> bool
-    ensures { result ≡ list_all is_ascii_digit word.now }
-{
-    word.as_bytes().iter().all(|byte| byte.is_ascii_digit())
 }

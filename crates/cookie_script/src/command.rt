@@ -1,16 +1,16 @@
 //! Parses the lines of a script.
-ghost use Rattle.std.specs.Prelude.{◌≡◌, ◌↔◌, option_and_then, option_map, IfOk, IsErr, IsErrAnd, IsSome, IsTrue, OnErr};
-ghost use Rattle.std.specs.Result.{result_ok};
-ghost use Rattle.url.specs.Parser.{IsOutOfRoom};
+ghost use Rattle.std.specs.Prelude.{◌≡◌, option_and_then, option_map, IfOk, IsSome, IsTrue, OnErr};
+ghost use Rattle.cookie_parts.specs.Hosts.{url_at};
 ghost use Rattle.cookie_forms.specs.MomentText.{parsed_moment};
 ghost use Rattle.cookie_script.specs.Commands as Spec;
-ghost use Rattle.cookie_script.specs.Commands.{command_of, first_word, lone_command, may_allocate, one_word, remove_command, set_command, url_at, verb_command, verb_may_allocate};
+ghost use Rattle.cookie_script.specs.Commands.{command_of, first_word, lone_command, may_allocate, one_word, remove_command, set_command, verb_command, verb_may_allocate};
 ghost use Rattle.cookie_script.specs.CommandViews.{command_view, words_view};
 
 use cookie_store::saved::read_moment;
+use cookie_store::utils::parse_url;
 use jiff::civil::DateTime;
 use std::alloc::{AllocError, Global};
-use url::{ParseError, Url};
+use url::Url;
 
 /// A command of a script.
 #[derive(Drop)]
@@ -78,27 +78,6 @@ fn first_word(text: &str) -> Option<(&str, &str)>
     text.split_once(' ')
 }
 
-// Parses a URL.
-#[tactic(auto, unfolding(crate::specs::Commands::url_at))]
-fn read_url(alloc: Global, text: &str) -> Result<Option<Url>, AllocError>
-    ensures { IfOk result (λ url. url ≡ url_at text.now) }
-{
-    parsed_url(Url::parse(alloc, text))
-}
-
-// Maps the error of a parse. `OutOfMemory` and `Overflow` say nothing about the URL: `AllocError`.
-fn parsed_url(parsed: Result<Url, ParseError>) -> Result<Option<Url>, AllocError>
-    ensures url { IfOk result (λ url. url ≡ result_ok parsed) }
-    ensures room { IsErr result ↔ IsErrAnd parsed IsOutOfRoom }
-{
-    match parsed {
-        Ok(url) => Ok(Some(url)),
-        Err(ParseError::OutOfMemory) => Err(AllocError),
-        Err(ParseError::Overflow) => Err(AllocError),
-        Err(_) => Ok(None),
-    }
-}
-
 fn now_command<'a>(text: &str) -> Option<Command<'a>>
     ensures { option_map command_view result ≡ option_map Spec.Now (parsed_moment text.now) }
 {
@@ -116,7 +95,7 @@ fn set_command<'a>(alloc: Global, rest: &'a str) -> Result<Option<Command<'a>>, 
     let Some((url, text)) = first_word(rest) else {
         return Ok(None);
     };
-    match read_url(alloc, url)? {
+    match parse_url(alloc, url)? {
         Some(url) => Ok(Some(Command::Set(url, text))),
         None => Ok(None),
     }
@@ -131,7 +110,7 @@ fn get_command<'a>(alloc: Global, rest: &str) -> Result<Option<Command<'a>>, All
     if rest.as_bytes().contains(&b' ') {
         return Ok(None);
     }
-    match read_url(alloc, rest)? {
+    match parse_url(alloc, rest)? {
         Some(url) => Ok(Some(Command::Get(url))),
         None => Ok(None),
     }

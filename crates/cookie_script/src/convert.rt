@@ -4,7 +4,6 @@ ghost use Rattle.std.specs.Io.KnownBytes.{IsAtEnd};
 ghost use Rattle.cookie_script.specs.Conversion.{Converts, FailsToConvert};
 ghost use Rattle.cookie_script.specs.Faults.{CountsConvertFault};
 ghost use Rattle.cookie_store.specs.Loading.{ReadsEachOnce};
-ghost use Rattle.cookie_store.specs.Migration.{FailsToMigrate};
 
 use crate::fault::ConvertFault;
 use cookie_device::{Sink, Source};
@@ -21,16 +20,14 @@ pub fn convert<A: Into<StoreAlloc>, R: Source, W: Sink>(
     source: &mut R,
     sink: &mut W,
 ) -> Result<(), ConvertFault>
-    requires readable { R.failed source.old < 2 ^ 64 - 1 }
-    requires writable { W.failed sink.old < 2 ^ 64 - 1 }
-    ensures whole { OnOk result (Converts (R.remaining source.old) (W.contents sink.old) (W.contents sink.new)) }
-    ensures read { OnOk result (IsAtEnd (R.remaining source.new)) }
-    ensures failed { IfErr result (λ fault. FailsToConvert (λ error. FailsToMigrate error
-        (R.remaining source.old) (R.remaining source.new) (R.failed source.old) (R.failed source.new)
-        (R.reads_left source.old) (R.reads_left source.new))
-        fault (R.remaining source.old) (R.remaining source.new) (W.contents sink.old) (W.contents sink.new)) }
-    ensures count { CountsConvertFault result (R.failed source.old) (R.failed source.new) (W.failed sink.old) (W.failed sink.new) }
-    ensures reads { ReadsEachOnce (R.remaining source.old) (R.reads_left source.old) (R.reads_left source.new) }
+    requires readable { (R.state source.old).failed < 2 ^ 64 - 1 }
+    requires writable { (W.state sink.old).failed < 2 ^ 64 - 1 }
+    ensures whole { OnOk result (Converts (R.state source.old).remaining (W.state sink.old).contents (W.state sink.new).contents) }
+    ensures read { OnOk result (IsAtEnd (R.state source.new).remaining) }
+    ensures failed { IfErr result (λ fault. FailsToConvert fault (R.state source.old) (R.state source.new)
+        (W.state sink.old) (W.state sink.new)) }
+    ensures count { CountsConvertFault result (R.state source.old).failed (R.state source.new).failed (W.state sink.old).failed (W.state sink.new).failed }
+    ensures reads { ReadsEachOnce (R.state source.old) (R.state source.new) }
 {
     let store = migrate_lines(alloc, source)?;
     match ron::save_incl_expired_and_nonpersistent(&store, sink) {

@@ -10,7 +10,8 @@ use crate::answer::Answer;
 use crate::command::{Command, read_command};
 use cookie_store::psl::List;
 use cookie_store::{CookieError, CookieStore, InsertResult, StoreAlloc};
-use jiff::civil::{DateTime, date};
+use cookie_words::epoch;
+use jiff::civil::DateTime;
 use std::alloc::{AllocError, Global};
 use std::marker::Model;
 use url::Url;
@@ -67,7 +68,7 @@ impl Jar {
                 Some(limit) => store.with_domain_limit(limit),
                 None => store,
             },
-            moment: date(1970, 1, 1).at(0, 0, 0, 0),
+            moment: epoch(),
         }
     }
 

@@ -33,21 +33,21 @@ pub fn run<A: Into<StoreAlloc>, R: Source, W: Sink>(
     limit: Option<usize>,
 ) -> Result<(), RunFault>
     requires limit { IfSome limit (λ limit. 1 ≤ limit) }
-    requires readable { R.failed source.old < 2 ^ 64 - 1 }
-    requires writable { W.failed sink.old < 2 ^ 64 - 1 }
-    ensures whole { OnOk result (IfSome (R.remaining source.old) (λ input.
-        Appends (W.contents sink.old) (W.contents sink.new) (output_of (empty list limit) input))) }
-    ensures part { IfSome (R.remaining source.old) (λ input.
-        AppendsPrefix (W.contents sink.old) (W.contents sink.new) (output_of (empty list limit) input)) }
-    ensures read { result ≡ Err RunFault.Read → IfSome (R.remaining source.old) (λ input.
-        AnswersFirst (empty list limit) input (λ first more. AreRead input (R.remaining source.new) first)
-        (Appends (W.contents sink.old) (W.contents sink.new))) }
-    ensures memory { result ≡ Err RunFault.Memory → IfSome (R.remaining source.old) (λ input.
-        AnswersFirst (empty list limit) input (λ first more. AreRead input (R.remaining source.new) first ⊎ NextMayAllocate more)
-        (Appends (W.contents sink.old) (W.contents sink.new))) }
-    ensures count { CountsFault result (R.failed source.old) (R.failed source.new) (W.failed sink.old) (W.failed sink.new) }
-    ensures reads { IfSome (R.remaining source.old) (λ input.
-        R.reads_left source.old ≤ R.reads_left source.new + length input + 1) }
+    requires readable { (R.state source.old).failed < 2 ^ 64 - 1 }
+    requires writable { (W.state sink.old).failed < 2 ^ 64 - 1 }
+    ensures whole { OnOk result (IfSome (R.state source.old).remaining (λ input.
+        Appends (W.state sink.old).contents (W.state sink.new).contents (output_of (empty list limit) input))) }
+    ensures part { IfSome (R.state source.old).remaining (λ input.
+        AppendsPrefix (W.state sink.old).contents (W.state sink.new).contents (output_of (empty list limit) input)) }
+    ensures read { result ≡ Err RunFault.Read → IfSome (R.state source.old).remaining (λ input.
+        AnswersFirst (empty list limit) input (λ first more. AreRead input (R.state source.new).remaining first)
+        (Appends (W.state sink.old).contents (W.state sink.new).contents)) }
+    ensures memory { result ≡ Err RunFault.Memory → IfSome (R.state source.old).remaining (λ input.
+        AnswersFirst (empty list limit) input (λ first more. AreRead input (R.state source.new).remaining first ⊎ NextMayAllocate more)
+        (Appends (W.state sink.old).contents (W.state sink.new).contents)) }
+    ensures count { CountsFault result (R.state source.old).failed (R.state source.new).failed (W.state sink.old).failed (W.state sink.new).failed }
+    ensures reads { IfSome (R.state source.old).remaining (λ input.
+        (R.state source.old).reads_left ≤ (R.state source.new).reads_left + length input + 1) }
 {
     let alloc = alloc.into();
     let mut out = Output::new(alloc.alloc)?;
@@ -71,21 +71,21 @@ fn answer_lines<R: Source, W: Sink>(
     limit: Option<usize>,
 ) -> Result<(), RunFault>
     requires limit { IfSome limit (λ limit. 1 ≤ limit) }
-    requires readable { R.failed source.old < 2 ^ 64 - 1 }
-    requires writable { W.failed sink.old < 2 ^ 64 - 1 }
-    ensures whole { OnOk result (IfSome (R.remaining source.old) (λ input.
-        Sends (W.contents sink.old) (W.contents sink.new) (out.old ++ output_of (empty list limit) input) out.new)) }
-    ensures part { IfSome (R.remaining source.old) (λ input.
-        AppendsPrefix (W.contents sink.old) (W.contents sink.new) (out.old ++ output_of (empty list limit) input)) }
-    ensures read { result ≡ Err RunFault.Read → IfSome (R.remaining source.old) (λ input.
-        AnswersFirst (empty list limit) input (λ first more. AreRead input (R.remaining source.new) first)
-        (λ text. Appends (W.contents sink.old) (W.contents sink.new) (out.old ++ text))) }
-    ensures memory { result ≡ Err RunFault.Memory → IfSome (R.remaining source.old) (λ input.
-        AnswersFirst (empty list limit) input (λ first more. AreRead input (R.remaining source.new) first ⊎ NextMayAllocate more)
-        (λ text. Sends (W.contents sink.old) (W.contents sink.new) (out.old ++ text) out.new)) }
-    ensures count { CountsFault result (R.failed source.old) (R.failed source.new) (W.failed sink.old) (W.failed sink.new) }
-    ensures reads { IfSome (R.remaining source.old) (λ input.
-        R.reads_left source.old ≤ R.reads_left source.new + length input + 1) }
+    requires readable { (R.state source.old).failed < 2 ^ 64 - 1 }
+    requires writable { (W.state sink.old).failed < 2 ^ 64 - 1 }
+    ensures whole { OnOk result (IfSome (R.state source.old).remaining (λ input.
+        Sends (W.state sink.old).contents (W.state sink.new).contents (out.old ++ output_of (empty list limit) input) out.new)) }
+    ensures part { IfSome (R.state source.old).remaining (λ input.
+        AppendsPrefix (W.state sink.old).contents (W.state sink.new).contents (out.old ++ output_of (empty list limit) input)) }
+    ensures read { result ≡ Err RunFault.Read → IfSome (R.state source.old).remaining (λ input.
+        AnswersFirst (empty list limit) input (λ first more. AreRead input (R.state source.new).remaining first)
+        (λ text. Appends (W.state sink.old).contents (W.state sink.new).contents (out.old ++ text))) }
+    ensures memory { result ≡ Err RunFault.Memory → IfSome (R.state source.old).remaining (λ input.
+        AnswersFirst (empty list limit) input (λ first more. AreRead input (R.state source.new).remaining first ⊎ NextMayAllocate more)
+        (λ text. Sends (W.state sink.old).contents (W.state sink.new).contents (out.old ++ text) out.new)) }
+    ensures count { CountsFault result (R.state source.old).failed (R.state source.new).failed (W.state sink.old).failed (W.state sink.new).failed }
+    ensures reads { IfSome (R.state source.old).remaining (λ input.
+        (R.state source.old).reads_left ≤ (R.state source.new).reads_left + length input + 1) }
 {
     let mut input = LineBuffer::new(alloc.alloc);
     let mut jar = Jar::new(alloc, list, limit);
@@ -116,15 +116,15 @@ fn answer_line<W: Sink>(
     out: &mut Output,
     sink: &mut W,
 ) -> Result<(), RunFault>
-    requires { W.failed sink.old < 2 ^ 64 - 1 }
+    requires { (W.state sink.old).failed < 2 ^ 64 - 1 }
     ensures state { OnOk result (jar.new ≡ (run_line line.now jar.old).state) }
-    ensures whole { OnOk result (Sends (W.contents sink.old) (W.contents sink.new)
+    ensures whole { OnOk result (Sends (W.state sink.old).contents (W.state sink.new).contents
         (out.old ++ (run_line line.now jar.old).text) out.new) }
-    ensures part { AppendsPrefix (W.contents sink.old) (W.contents sink.new)
+    ensures part { AppendsPrefix (W.state sink.old).contents (W.state sink.new).contents
         (out.old ++ (run_line line.now jar.old).text) }
     ensures memory { result ≡ Err RunFault.Memory → IsTrue (may_allocate line.now)
-        × (out.new ≡ out.old) × (W.contents sink.new ≡ W.contents sink.old) }
-    ensures count { (reads : ℕ) → CountsFault result reads reads (W.failed sink.old) (W.failed sink.new) }
+        × (out.new ≡ out.old) × ((W.state sink.new).contents ≡ (W.state sink.old).contents) }
+    ensures count { (reads : ℕ) → CountsFault result reads reads (W.state sink.old).failed (W.state sink.new).failed }
 {
     let line_result = jar.run_line(alloc, line)?;
     Ok(jar.answer(line_result)?.put(out, sink)?)

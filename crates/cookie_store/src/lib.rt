@@ -8,22 +8,10 @@
 //! A store reads no clock: each call that depends on the time takes it as `now`, in UTC.
 #![tactic(auto)]
 
-mod bulk;
-mod call;
-mod cookie_store;
 pub mod device;
-mod header;
-mod insertion;
-mod json_lines;
-mod lists;
-mod loading;
-mod response;
 pub mod saved;
-mod saving;
-pub mod serde;
 
-pub use bulk::Bulk;
-pub use call::{Call, Reply, Stopped};
+pub use cookie_core::{AsStore, Call, CookieStore, InsertResult, Reply, Stopped};
 pub use cookie_laws as laws;
 pub use cookie_lookup as lookup;
 pub use cookie_lookup::Lookups;
@@ -36,4 +24,5 @@ pub use cookie_psl as psl;
 pub use cookie_raw as raw;
 pub use cookie_raw::{RawCookie, RawCookieParseError};
 pub use cookie_rows::{HashKey, IterAny, IterUnexpired, RequestCookies, RequestValues, StoreAlloc};
-pub use cookie_store::{CookieStore, InsertResult};
+pub use cookie_serde as serde;
+pub use cookie_serde::Bulk;

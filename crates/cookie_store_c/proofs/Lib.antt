@@ -5,4 +5,5 @@ mod StoreGlue
 mod Filling
 mod WrittenHeaders
 mod Loading
+mod Saving
 mod Passing

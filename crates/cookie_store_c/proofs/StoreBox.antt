@@ -14,8 +14,8 @@ use Rattle.std_alloc.proofs.boxed.Box.TheLaws as box_laws
 use Rattle.std_heap.specs.contracts.Global as global
 use Rattle.std_heap.proofs.Global.TheLaws as global_laws
 use Rattle.std_heap.specs.contracts.GlobalAllocator.TheImpl.{ghosts}
-use Rattle.cookie_store.specs.contracts.cookie_store.CookieStore as store
-use Rattle.cookie_store.proofs.cookie_store.CookieStore.TheLaws as store_laws
+use Rattle.cookie_core.specs.contracts.cookie_store.CookieStore as store
+use Rattle.cookie_core.proofs.cookie_store.CookieStore.TheLaws as store_laws
 
 abbrev pub Store : RattleType
 Store = store.the_row
@@ -44,7 +44,7 @@ HeapLaws = arg_laws (bare (layout Heap)) no Heap global_laws.the_row_laws refl
 
 -- how the two are dropped: the heap needs no drop
 abbrev pub store_drop : Dict
-store_drop = impl ("cookie_store_c::cookie_store++cookie_store++CookieStore+Destruct::drop" ∷ []) tnil dnil
+store_drop = impl ("cookie_store_c::cookie_core++cookie_store++CookieStore+Destruct::drop" ∷ []) tnil dnil
 
 abbrev pub heap_drop : Dict
 heap_drop = impl ("cookie_store_c::Destruct++none::drop" ∷ []) (tcons (layout HeapArg) tnil) dnil

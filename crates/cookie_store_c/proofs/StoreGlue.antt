@@ -17,9 +17,9 @@ use denote.Triple.Carry.{beside, spared}
 use denote.Triple.Spec.{Spec, triple_of}
 use denote.Triple.Table.{run_framed, widened}
 use Rattle.cookie_store_c.proofs.StoreBox.{Store, StoreArg, store_drop}
-use Rattle.cookie_store_c.proofs.cookie_store++cookie_store++CookieStore+Destruct.drop.Symbol as drop
-use Rattle.cookie_store_c.proofs.cookie_store++cookie_store++CookieStore+Destruct.drop.Met.{met}
-use Rattle.cookie_store_c.specs.contracts.cookie_store++cookie_store++CookieStore+Destruct.drop as f
+use Rattle.cookie_store_c.proofs.cookie_core++cookie_store++CookieStore+Destruct.drop.Symbol as drop
+use Rattle.cookie_store_c.proofs.cookie_core++cookie_store++CookieStore+Destruct.drop.Met.{met}
+use Rattle.cookie_store_c.specs.contracts.cookie_core++cookie_store++CookieStore+Destruct.drop as f
 
 pub store_glue : {M : Type 1} (𝓤 : Ura M) (𝓛 : Logic 𝓤) (𝓜 : Model 𝓤 𝓛.H) (𝓡 : Running 𝓤 𝓛.H 𝓜) → Wired 𝓡.env drop.code
     → Met 𝓛 𝓜 𝓡 𝓡.env StoreArg store_drop

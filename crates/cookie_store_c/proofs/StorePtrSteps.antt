@@ -21,7 +21,7 @@ use Rattle.std_heap.specs.contracts.GlobalAllocator.TheImpl.{ghosts}
 use Rattle.std_heap.specs.declared.Global.{Global}
 use Rattle.std_heap.proofs.Global.TheLaws as heap_laws
 use Rattle.cookie_laws.specs.Contents.{Contents}
-use Rattle.cookie_store.proofs.cookie_store.CookieStore.TheLaws as store_laws
+use Rattle.cookie_core.proofs.cookie_store.CookieStore.TheLaws as store_laws
 use Rattle.cookie_store_c.specs.StorePtrs.{boxed, holds}
 use Rattle.cookie_store_c.specs.contracts.store_ptr.StorePtr.{the_row, the_type}
 use Rattle.cookie_store_c.proofs.StoreBox.{Store, Heap}

@@ -1,11 +1,11 @@
 -- The arguments that C programs pass: strings, times and URLs, or the status of an invalid one.
 use Rattle.std.specs.Prelude.{◌≡◌, ◌⊎◌, ℕ, ◌&&◌, List, None, Result, Ok, Err, if◌then◌else◌, ℤ, pos, ◌-ℤ◌, ◌*ℤ◌, int_le}
-use Rattle.std.specs.Result.{result_map_both}
+use Rattle.std.specs.Option.{ok_or}
 use Rattle.std.specs.Str.{is_utf8}
-use Rattle.url.specs.Parser.{parse_url}
 use Rattle.url.specs.Parts.{Parts}
 use Rattle.cookie_words.specs.Moments.{Moment, moment_at}
 use Rattle.cookie_parts.specs.Cookie.{and_then}
+use Rattle.cookie_parts.specs.Hosts.{url_at}
 use Rattle.cookie_laws.specs.Rows.{key_at}
 use Rattle.cookie_laws.specs.Runs.{Call, Set, Remove}
 use Rattle.cookie_store_c.specs.declared.status.Status.{Status}
@@ -31,7 +31,7 @@ moment_in seconds =
 
 -- the URL that a string parses to
 unfoldable pub url_in : List ℕ → Result Parts Status
-url_in text = result_map_both (λ url. url) (λ _. BadUrl) (parse_url None text)
+url_in text = ok_or (url_at text) BadUrl
 
 -- the string of a URL, and a time
 abbrev pub text_and_time : List ℕ → ℤ → Result (List ℕ × Moment) Status

@@ -18,8 +18,8 @@ use Rattle.cookie_store.specs.Saving.{saved_rows}
 use Rattle.cookie_store_c.specs.Inputs.{moment_in, text_in}
 use Rattle.cookie_store_c.specs.Calls.{CallOutcome, refused}
 use Rattle.cookie_store_c.specs.Statuses.{error_status}
-use Rattle.cookie_store_c.specs.declared.lists.ListFormat.{ListFormat}
-use Rattle.cookie_store_c.specs.declared.lists.ListFormat.TheVariants.{Json, Ron}
+use Rattle.cookie_serde.specs.declared.list_format.ListFormat.{ListFormat}
+use Rattle.cookie_serde.specs.declared.list_format.ListFormat.TheVariants.{Json, Ron}
 use Rattle.cookie_store_c.specs.declared.status.Status.{Status}
 use Rattle.cookie_store_c.specs.declared.status.Status.TheVariants.{Done, HasStore}
 

@@ -59,8 +59,7 @@ reply_status (Removed (Some row)) = Done
 reply_status (Removed None) = NotFound
 reply_status Cleared = Done
 
--- the status of a failed save or load: readers and writers in memory fail only by allocation, and
--- no list fails with `Idna` or `Other`
+-- the status of a failed save or load; no list fails with `Io`, `Idna` or `Other`
 abbrev pub error_status : Error → Status
 error_status (fault.Cookie refusal) = refusal_status refusal
 error_status (fault.Saved saved.Json) = BadJson

@@ -6,7 +6,7 @@ use Rattle.std.specs.Box.Ownership.{box_owns}
 use Rattle.std.specs.contracts.impls.GlobalAllocator.TheImpl.{ghosts}
 use Rattle.std.specs.declared.alloc.Global.{Global}
 use Rattle.cookie_laws.specs.Contents.{Contents}
-use Rattle.cookie_store.specs.contracts.cookie_store.CookieStore.{the_row}
+use Rattle.cookie_core.specs.contracts.cookie_store.CookieStore.{the_row}
 
 -- the box of a store lies at this address, without its handle to the heap
 abbrev pub boxed : Global → Ptr → Contents → Fml

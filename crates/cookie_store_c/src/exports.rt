@@ -11,11 +11,11 @@ ghost use Rattle.cookie_store_c.specs.Statuses.{IsCodeOf};
 ghost use Rattle.cookie_store_c.specs.declared.status.Status.{Status};
 
 use crate::handle::StoreHandle;
-use crate::lists::ListFormat;
 use crate::rows::{self, CookieRow};
 use crate::status::Status;
 use crate::{calls, header, lists};
 use cookie_store::CookieStore;
+use cookie_store::serde::ListFormat;
 use std::alloc::Global;
 
 /// Creates a store without cookies, public suffix list or limit, whose maps hash by `key`.
@@ -362,7 +362,7 @@ pub extern "C" fn cookie_store_save_json(
     let Some(store) = handle.take(alloc) else {
         return Status::NoStore.code();
     };
-    let status = lists::save(ListFormat::Json, alloc, &store, now, all, out, needed);
+    let status = lists::save(ListFormat::Json, &store, now, all, out, needed);
     handle.put(alloc, store);
     status.code()
 }
@@ -398,7 +398,7 @@ pub extern "C" fn cookie_store_save_ron(
     let Some(store) = handle.take(alloc) else {
         return Status::NoStore.code();
     };
-    let status = lists::save(ListFormat::Ron, alloc, &store, now, all, out, needed);
+    let status = lists::save(ListFormat::Ron, &store, now, all, out, needed);
     handle.put(alloc, store);
     status.code()
 }

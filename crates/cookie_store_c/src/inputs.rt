@@ -1,16 +1,18 @@
 //! Reads the arguments that C programs pass: strings, times and URLs.
-ghost use Rattle.std.specs.Prelude.{◌≡◌, ◌↔◌, Err, IsErrAnd, IsOk};
+ghost use Rattle.std.specs.Prelude.{◌≡◌, Err, IsOk};
+ghost use Rattle.std.specs.Option.{ok_or};
 ghost use Rattle.std.specs.Result.{result_map_both};
-ghost use Rattle.url.specs.Parser.{IsOutOfRoom};
-ghost use Rattle.cookie_words.specs.Moments.{epoch, moment_of};
+ghost use Rattle.cookie_words.specs.Moments.{moment_of};
+ghost use Rattle.cookie_parts.specs.Cookie.{and_then};
 ghost use Rattle.cookie_store_c.specs.Inputs.{text_and_time, moment_in, request, text_in, url_in, GivesOrRunsOut};
 
 use crate::status::Status;
-use cookie_words::moments_round_trip;
+use cookie_store::utils::parse_url;
+use cookie_words::{epoch, moments_round_trip};
 use jiff::SignedDuration;
-use jiff::civil::{DateTime, date};
-use std::alloc::Global;
-use url::{ParseError, Url};
+use jiff::civil::DateTime;
+use std::alloc::{AllocError, Global};
+use url::Url;
 
 /// Returns the bytes as a string, or `NotUtf8` if they are not UTF-8.
 pub(crate) fn text_in(bytes: &[u8]) -> Result<&str, Status>
@@ -34,31 +36,22 @@ pub(crate) fn moment_in(seconds: i64) -> Result<DateTime, Status>
     }
 }
 
-/// Returns 1970-01-01T00:00:00.
-pub(crate) fn epoch() -> DateTime
-    ensures { moment_of result ≡ epoch }
-{
-    date(1970, 1, 1).at(0, 0, 0, 0)
-}
-
 // Parses a URL.
 #[tactic(auto, unfolding(crate::specs::Inputs::url_in))]
 fn url_in(alloc: Global, text: &str) -> Result<Url, Status>
     ensures { GivesOrRunsOut result (url_in text.now) }
 {
-    parsed_url(Url::parse(alloc, text))
+    url_or_status(parse_url(alloc, text))
 }
 
-// Maps the error of a parse. `OutOfMemory` and `Overflow` say nothing about the URL: `NoMemory`.
-fn parsed_url(parsed: Result<Url, ParseError>) -> Result<Url, Status>
-    ensures url { GivesOrRunsOut result (result_map_both (λ url. url) (λ _. Status.BadUrl) parsed) }
-    ensures room { result ≡ Err Status.NoMemory ↔ IsErrAnd parsed IsOutOfRoom }
+// The URL that was parsed, or `BadUrl` if there is none.
+fn url_or_status(parsed: Result<Option<Url>, AllocError>) -> Result<Url, Status>
+    ensures { result ≡ and_then (result_map_both (λ url. url) (λ _. Status.NoMemory) parsed) (λ url. ok_or url Status.BadUrl) }
 {
     match parsed {
-        Ok(url) => Ok(url),
-        Err(ParseError::OutOfMemory) => Err(Status::NoMemory),
-        Err(ParseError::Overflow) => Err(Status::NoMemory),
-        Err(_) => Err(Status::BadUrl),
+        Ok(Some(url)) => Ok(url),
+        Ok(None) => Err(Status::BadUrl),
+        Err(_) => Err(Status::NoMemory),
     }
 }
 

@@ -1,36 +1,26 @@
 //! Stores saved as a list, and loaded from one.
-ghost use Rattle.std.specs.Prelude.{◌≡◌, ◌⊎◌, Err, None, Ok, Some, IfErr, IfOk, IsOk};
-ghost use Rattle.std.specs.Result.{result_map_both};
+ghost use Rattle.std.specs.Prelude.{◌≡◌, ◌⊎◌, None, Some, IfErr, IfOk, IsOk};
 ghost use Rattle.cookie_words.specs.Moments.{moment_of};
+ghost use Rattle.cookie_laws.specs.Contents.{rows_in_order};
+ghost use Rattle.cookie_serde.specs.ListFormats.{ParsesTo, SerializesTo};
+ghost use Rattle.cookie_serde.specs.Lists.{BuildsFromText, FailsAtText};
 ghost use Rattle.cookie_store_c.specs.Buffers.{WritesText};
 ghost use Rattle.cookie_store_c.specs.Calls.{refused};
 ghost use Rattle.cookie_store_c.specs.Lists.{selected_rows, saved_as, saved_in, to_load, LoadsAt, LoadsText};
-ghost use Rattle.cookie_store_c.specs.Statuses.{error_status};
 
 use crate::buffer::copy_out;
 use crate::calls::hash_key;
 use crate::inputs::{moment_in, text_in};
 use crate::status::Status;
-use cookie_store::device::Counted;
-use cookie_store::serde::{json, ron};
+use cookie_store::serde::{ListFormat, json, ron};
 use cookie_store::{CookieStore, Error, StoreAlloc};
 use jiff::civil::DateTime;
 use std::alloc::Global;
 
-/// The format of a list.
-#[derive(Clone, Copy)]
-pub enum ListFormat {
-    /// A JSON array.
-    Json,
-    /// A RON list.
-    Ron,
-}
-
-/// Writes the rows as a list into `out`: all of them if `all` is true, otherwise the persistent
-/// cookies that have not expired at `now`.
+/// Writes the rows as a list and a line feed into `out`: all of them if `all` is true, otherwise
+/// the persistent cookies that have not expired at `now`.
 pub(crate) fn save(
     form: ListFormat,
-    alloc: Global,
     store: &CookieStore,
     now: i64,
     all: bool,
@@ -40,16 +30,15 @@ pub(crate) fn save(
     ensures { WritesText (saved_in form all now store.now.rows) (IsOk (saved_in form all now store.now.rows)) out.old result out.new needed.new }
 {
     let text = match moment_in(now) {
-        Ok(now) => text_of(form, alloc, store, now, all),
+        Ok(now) => line_of(form, store, now, all),
         Err(status) => Err(status),
     };
     copy_out(text, out, needed)
 }
 
-// Returns the selected rows as a list.
-fn text_of(
+// Returns the selected rows as a list and a line feed.
+fn line_of(
     form: ListFormat,
-    alloc: Global,
     store: &CookieStore,
     now: DateTime,
     all: bool,
@@ -58,50 +47,25 @@ fn text_of(
     ensures refused { IfErr result (λ status. (saved_as form (selected_rows all (moment_of now) store.now.rows) ≡ Err status)
         ⊎ ((status ≡ Status.NoMemory) × IsOk (saved_as form (selected_rows all (moment_of now) store.now.rows)))) }
 {
-    match form {
-        ListFormat::Json => json_text(alloc, store, now, all),
-        ListFormat::Ron => ron_text(alloc, store, now, all),
+    let mut text = match list_of(form, store, now, all) {
+        Ok(text) => text,
+        Err(error) => return Err(Status::of_error(error)),
+    };
+    match text.push('\n') {
+        Ok(()) => Ok(text.into_bytes()),
+        Err(_) => Err(Status::NoMemory),
     }
 }
 
-// Returns the selected rows as a JSON list.
-fn json_text(
-    alloc: Global,
-    store: &CookieStore,
-    now: DateTime,
-    all: bool,
-) -> Result<Vec<u8>, Status>
-    ensures text { IfOk result (λ text. saved_as ListFormat.Json (selected_rows all (moment_of now) store.now.rows) ≡ Ok text.items) }
-    ensures refused { IfErr result (λ status. (saved_as ListFormat.Json (selected_rows all (moment_of now) store.now.rows) ≡ Err status)
-        ⊎ ((status ≡ Status.NoMemory) × IsOk (saved_as ListFormat.Json (selected_rows all (moment_of now) store.now.rows)))) }
+// Returns the selected rows as a list.
+fn list_of(form: ListFormat, store: &CookieStore, now: DateTime, all: bool) -> Result<String, Error>
+    ensures { SerializesTo form (selected_rows all (moment_of now) store.now.rows) result }
 {
-    let mut writer = Counted::new(Vec::new(alloc));
-    let saved = if all {
-        json::save_incl_expired_and_nonpersistent(store, &mut writer)
-    } else {
-        json::save(store, &mut writer, now)
-    };
-    match saved {
-        Ok(()) => Ok(writer.into_inner()),
-        Err(fault) => Err(Status::of_error(fault)),
-    }
-}
-
-// Returns the selected rows as a RON list.
-fn ron_text(alloc: Global, store: &CookieStore, now: DateTime, all: bool) -> Result<Vec<u8>, Status>
-    ensures text { IfOk result (λ text. saved_as ListFormat.Ron (selected_rows all (moment_of now) store.now.rows) ≡ Ok text.items) }
-    ensures refused { IfErr result (λ status. (saved_as ListFormat.Ron (selected_rows all (moment_of now) store.now.rows) ≡ Err status)
-        ⊎ ((status ≡ Status.NoMemory) × IsOk (saved_as ListFormat.Ron (selected_rows all (moment_of now) store.now.rows)))) }
-{
-    let mut writer = Counted::new(Vec::new(alloc));
-    let saved = if all {
-        ron::save_incl_expired_and_nonpersistent(store, &mut writer)
-    } else {
-        ron::save(store, &mut writer, now)
-    };
-    match saved {
-        Ok(()) => Ok(writer.into_inner()),
-        Err(fault) => Err(Status::of_error(fault)),
+    match (form, all) {
+        (ListFormat::Json, true) => json::to_text_incl_expired_and_nonpersistent(store),
+        (ListFormat::Json, false) => json::to_text(store, now),
+        (ListFormat::Ron, true) => ron::to_text_incl_expired_and_nonpersistent(store),
+        (ListFormat::Ron, false) => ron::to_text(store, now),
     }
 }
 
@@ -136,21 +100,29 @@ fn store_of(
     ensures store { IfOk result (λ store. LoadsText form all (moment_of now) text.now (record { status = Status.Done; store = Some store })) }
     ensures refused { IfErr result (λ status. LoadsText form all (moment_of now) text.now (refused None status) ⊎ (status ≡ Status.NoMemory)) }
 {
-    let mut reader = Counted::new(text.as_bytes());
-    match (form, all) {
-        (ListFormat::Json, true) => loaded(json::load_all(alloc, &mut reader, now)),
-        (ListFormat::Json, false) => loaded(json::load(alloc, &mut reader, now)),
-        (ListFormat::Ron, true) => loaded(ron::load_all(alloc, &mut reader, now)),
-        (ListFormat::Ron, false) => loaded(ron::load(alloc, &mut reader, now)),
+    match parsed(form, alloc, text, now, all) {
+        Ok(store) => Ok(store),
+        Err(error) => Err(Status::of_error(error)),
     }
 }
 
-// Maps the error of a load to its status.
-fn loaded(read: Result<CookieStore, Error>) -> Result<CookieStore, Status>
-    ensures { result ≡ result_map_both (λ store. store) error_status read }
+// Parses a list into a store.
+fn parsed(
+    form: ListFormat,
+    alloc: StoreAlloc,
+    text: &str,
+    now: DateTime,
+    all: bool,
+) -> Result<CookieStore, Error>
+    ensures built { IfOk result (λ store. BuildsFromText (ParsesTo form) text.now all (moment_of now) (rows_in_order store)) }
+    ensures suffixes { IfOk result (λ store. store.suffixes ≡ None) }
+    ensures limit { IfOk result (λ store. store.limit ≡ None) }
+    ensures failed { IfErr result (λ error. FailsAtText (ParsesTo form) error text.now) }
 {
-    match read {
-        Ok(store) => Ok(store),
-        Err(fault) => Err(Status::of_error(fault)),
+    match (form, all) {
+        (ListFormat::Json, true) => json::from_text_all(alloc, text, now),
+        (ListFormat::Json, false) => json::from_text(alloc, text, now),
+        (ListFormat::Ron, true) => ron::from_text_all(alloc, text, now),
+        (ListFormat::Ron, false) => ron::from_text(alloc, text, now),
     }
 }

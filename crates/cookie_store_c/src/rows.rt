@@ -9,9 +9,9 @@ ghost use Rattle.cookie_store_c.specs.Rows.{end_second, nothing_written, row_tex
 ghost use Rattle.cookie_store_c.specs.declared.status.Status.TheVariants.{NoMemory};
 
 use crate::buffer::{put_all, with_lengths};
-use crate::inputs::epoch;
 use crate::status::Status;
 use cookie_store::{Cookie, CookieDomain, CookieExpiration, CookieStore, IterAny};
+use cookie_words::epoch;
 use jiff::civil::DateTime;
 
 /// A cookie without its strings, which are stored elsewhere: domain, path, name, value.
@@ -136,8 +136,8 @@ fn reported(row: &Cookie<'static>) -> CookieRow
         persistent: u8::from(row.is_persistent()),
         host_only: u8::from(matches!(row.domain, CookieDomain::HostOnly(_))),
         has_path: u8::from(row.path.is_from_path_attr()),
-        secure: u8::from(row.raw().secure().unwrap_or(false)),
-        http_only: u8::from(row.raw().http_only().unwrap_or(false)),
+        secure: u8::from(row.raw().is_secure()),
+        http_only: u8::from(row.raw().is_http_only()),
     }
 }
 

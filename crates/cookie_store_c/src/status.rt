@@ -98,8 +98,7 @@ impl Status {
         }
     }
 
-    /// Returns the status of a failed save or load. A reader or writer in memory fails only by
-    /// allocation, so `Io` is `NoMemory`.
+    /// Returns the status of a failed save or load. No list fails with `Io`, `Idna` or `Other`.
     pub(crate) fn of_error(fault: Error) -> Status
         ensures { result ≡ error_status fault }
     {

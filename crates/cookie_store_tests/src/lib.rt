@@ -24,6 +24,8 @@ mod insertion;
 #[cfg(test)]
 mod json;
 #[cfg(test)]
+mod list_texts;
+#[cfg(test)]
 mod lists;
 #[cfg(test)]
 mod loaded;

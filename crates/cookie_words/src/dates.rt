@@ -1,8 +1,15 @@
 //! Dates and times of day from numbers.
 ghost use Rattle.std.specs.Prelude.{◌≡◌, ◌<◌, pos, is_some, IfSome};
-ghost use Rattle.cookie_words.specs.Moments.{is_day, is_time};
+ghost use Rattle.cookie_words.specs.Moments.{epoch, is_day, is_time, moment_of};
 
-use jiff::civil::{Date, Time};
+use jiff::civil::{Date, DateTime, Time, date};
+
+/// Returns 1970-01-01T00:00:00.
+pub fn epoch() -> DateTime
+    ensures { moment_of result ≡ epoch }
+{
+    date(1970, 1, 1).at(0, 0, 0, 0)
+}
 
 /// Returns the date, or `None` if the calendar has no such day.
 pub fn calendar_date(year: u32, month: u32, day: u32) -> Option<Date>

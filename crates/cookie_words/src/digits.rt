@@ -4,6 +4,13 @@ ghost use Rattle.std.specs.Char.{is_ascii_digit};
 ghost use Rattle.std.specs.List.{list_all};
 ghost use Rattle.std.specs.Str.Parse.{digits_value};
 
+/// Returns whether all bytes are ASCII digits; true also for an empty string.
+pub fn is_digits(text: &str) -> bool
+    ensures { result ≡ list_all is_ascii_digit text.now }
+{
+    text.as_bytes().iter().all(|byte| byte.is_ascii_digit())
+}
+
 /// Returns the value of decimal digits, or `None` if a byte is not an ASCII digit.
 ///
 /// The value of an empty slice is 0.

@@ -10,8 +10,8 @@ ghost use Rattle.cookie_words.specs.Texts.{without_dot};
 mod dates;
 mod digits;
 
-pub use dates::{calendar_date, clock_time};
-pub use digits::digits_value;
+pub use dates::{calendar_date, clock_time, epoch};
+pub use digits::{digits_value, is_digits};
 
 /// Converting a `DateTime` of `jiff` to nanoseconds since 1970-01-01T00:00:00 and back gives the
 /// same date and time.

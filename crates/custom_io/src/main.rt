@@ -1,7 +1,7 @@
 //! Loads cookies from bytes in memory, and counts the bytes that saving them writes.
 #![tactic(auto)]
 
-ghost use Rattle.std.specs.Prelude.{Some};
+ghost use Rattle.std.specs.Prelude.{None, Some};
 
 use cookie_store::device::{DeviceFailed, Sink, Source};
 use cookie_store::{Bulk, Cookie, CookieStore, Error};
@@ -21,11 +21,7 @@ struct Bytes<'a> {
 }
 
 impl<'a> Source for Bytes<'a> {
-    ghost remaining = { λ s. Some s.left.now };
-
-    ghost failed = { λ s. s.failures };
-
-    ghost reads_left = { λ s. s.reads };
+    ghost state = { λ s. record { remaining = Some s.left.now; failed = s.failures; reads_left = s.reads } };
 
     fn read(&mut self, buf: &mut [u8]) -> Result<usize, DeviceFailed> {
         if self.reads == 0 {
@@ -53,7 +49,7 @@ struct Length {
 }
 
 impl Sink for Length {
-    ghost failed = { λ s. s.failures };
+    ghost state = { λ s. record { contents = None; failed = s.failures } };
 
     fn write(&mut self, buf: &[u8]) -> Result<usize, DeviceFailed> {
         match self.bytes.checked_add(buf.len() as u64) {

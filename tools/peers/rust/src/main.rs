@@ -1,7 +1,10 @@
 //! Runs the lines `set URL HEADER`, `get URL`, `remove DOMAIN PATH NAME` and `clear` of a script over the Rust crate
 //! `cookie_store`: a peer for tools/bench. The crate reads the system's clock, so `now` lines are skipped.
+//!
+//! With an argument it loads the JSON list in that file instead, and with a second one saves it in that file.
 use cookie_store::CookieStore;
 use std::io::{self, BufRead, BufReader, BufWriter, Write};
+use std::{env, fs};
 use url::Url;
 
 /// Parses a URL of a script. Scripts of tools/bench contain no malformed URL.
@@ -55,7 +58,20 @@ fn run(store: &mut CookieStore, line: &str, out: &mut impl Write) -> io::Result<
     }
 }
 
+/// Loads the JSON list in a file, and saves it in another if one is named.
+fn convert(input: &str, output: Option<&String>) -> io::Result<()> {
+    let store: CookieStore = serde_json::from_str(&fs::read_to_string(input)?)?;
+    match output {
+        Some(output) => fs::write(output, serde_json::to_string_pretty(&store)? + "\n"),
+        None => Ok(()),
+    }
+}
+
 fn main() -> io::Result<()> {
+    let words: Vec<String> = env::args().skip(1).collect();
+    if let Some(input) = words.first() {
+        return convert(input, words.get(1));
+    }
     let mut source = BufReader::with_capacity(1 << 16, io::stdin().lock());
     let mut out = BufWriter::with_capacity(1 << 16, io::stdout().lock());
     let mut store = CookieStore::default();

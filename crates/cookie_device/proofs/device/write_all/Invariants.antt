@@ -6,8 +6,8 @@ use Rattle.cookie_device.proofs.device.write_all.Given as goal
 abbrev pub invariant-loop-rest : goal.invariant-loop-rest
 invariant-loop-rest g l =
     (sent : List ℕ) × (l.fn.bytes ≡ sent ++ l.rest)
-    × Appends (g.W.Sink.contents l.initial.sink) (g.W.Sink.contents l.sink) sent
-    × (g.W.Sink.failed l.sink ≡ g.W.Sink.failed l.initial.sink)
+    × Appends (g.W.Sink.state l.initial.sink).contents (g.W.Sink.state l.sink).contents sent
+    × ((g.W.Sink.state l.sink).failed ≡ (g.W.Sink.state l.initial.sink).failed)
 
 abbrev pub decreases-loop-rest : goal.decreases-loop-rest
 decreases-loop-rest g l = length l.rest

@@ -5,10 +5,10 @@ use Rattle.cookie_device.proofs.reading.read_all.Given as goal
 
 abbrev pub invariant-loop-bytes : goal.invariant-loop-bytes
 invariant-loop-bytes g l = record {
-  came : Consumes (g.R.Source.remaining l.initial.source) (g.R.Source.remaining l.source) l.bytes.items;
-  brought : g.R.Source.reads_left l.initial.source ≤ g.R.Source.reads_left l.source + length l.bytes.items;
-  count : g.R.Source.failed l.source ≡ g.R.Source.failed l.initial.source;
+  came : Consumes (g.R.Source.state l.initial.source).remaining (g.R.Source.state l.source).remaining l.bytes.items;
+  brought : (g.R.Source.state l.initial.source).reads_left ≤ (g.R.Source.state l.source).reads_left + length l.bytes.items;
+  count : (g.R.Source.state l.source).failed ≡ (g.R.Source.state l.initial.source).failed;
 }
 
 abbrev pub decreases-loop-bytes : goal.decreases-loop-bytes
-decreases-loop-bytes g l = g.R.Source.reads_left l.source
+decreases-loop-bytes g l = (g.R.Source.state l.source).reads_left

@@ -1,11 +1,11 @@
-use Rattle.std.proofs.Common.{◌+◌, ◌++◌, ◌∷◌, [], codes}
+use Rattle.std.proofs.Common.{◌+◌, ◌∷◌, []}
 use Rattle.cookie_store.specs.Header.{later_pair}
 use Rattle.cookie_script.proofs.Gathering.{gathers_nothing, gathers_stopped, gathers_then, next_text, parts_text}
 use Rattle.std.proofs.lemmas.List.{take_all}
 use Rattle.cookie_script.proofs.answer.put_others.Goals as goal
 
 pub loop-cookie-init : goal.loop-cookie-init
-loop-cookie-init g c = gathers_nothing _ _ _
+loop-cookie-init g c = gathers_nothing _ _
 
 pub loop-cookie-preserved : goal.loop-cookie-preserved
 loop-cookie-preserved g c =

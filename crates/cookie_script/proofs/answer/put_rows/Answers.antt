@@ -3,7 +3,7 @@ use Rattle.cookie_script.proofs.answer.put_rows.Goals as goal
 
 pub loop-row-init : goal.loop-row-init
 loop-row-init g c =
-    record { can = tt; ends = tt; rest = c.into_iter-row-iterator.ensures.into_iter_gives; buffered = gathers_nothing _ _ _ }
+    record { can = tt; ends = tt; rest = c.into_iter-row-iterator.ensures.into_iter_gives; buffered = gathers_nothing _ _ }
 
 pub loop-row-preserved : goal.loop-row-preserved
 loop-row-preserved g c = record {

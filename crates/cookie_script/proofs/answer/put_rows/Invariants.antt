@@ -11,6 +11,6 @@ invariant-loop-row g l = record {
   ends : (goal.iterator-loop-row g).is_finite l.row-iterator;
   rest : map (λ c. c.now) l.yielded ++ l.row-iterator ≡ l.fn.rows;
   buffered :
-      Gathers {T = Unit {0}} {E = DeviceFailed} (Ok tt) (g.W.Sink.contents l.initial.sink) (g.W.Sink.contents l.sink) l.initial.out l.out
-      (g.W.Sink.failed l.initial.sink) (g.W.Sink.failed l.sink) (rows_text (map (λ c. c.now) l.yielded));
+      Gathers {T = Unit {0}} {E = DeviceFailed} (Ok tt) (g.W.Sink.state l.initial.sink) (g.W.Sink.state l.sink) l.initial.out l.out
+      (rows_text (map (λ c. c.now) l.yielded));
 }

@@ -8,6 +8,6 @@ returns-in-Ok-clause-whole g c = (rows_in_order c.in_ok-store.store, c.in_ok-sto
 pub returns-in-Err-Io-clause-failed : goal.returns-in-Err-Io-clause-failed
 returns-in-Err-Io-clause-failed g c = (
   c.in_ok-store.ensures.read.0,
-  not_written _ _ _ (rows_in_order c.in_ok-store.store) _ _ c.in_ok-store.ensures.built c.in_ok-store.ensures.saved
+  not_written _ _ _ (rows_in_order c.in_ok-store.store) c.in_ok-store.ensures.built c.in_ok-store.ensures.saved
       (rw c.in-Err-Io.field-0-is at c.in-Err-Io.ensures.stopped),
 )

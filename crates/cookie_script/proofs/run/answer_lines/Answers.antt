@@ -32,13 +32,13 @@ lines-init g c =
     record {
       reads = refl;
       writes = refl;
-      progress = rw (c.new-input.ensures, c.new-jar.ensures) (begun (empty c.args.list c.args.limit) (g.R.Source.remaining c.args.source.now) (g.W.Sink.contents c.args.sink.now) c.args.out.now);
+      progress = rw (c.new-input.ensures, c.new-jar.ensures) (begun (empty c.args.list c.args.limit) (g.R.Source.state c.args.source.now).remaining (g.W.Sink.state c.args.sink.now).contents c.args.out.now);
       turns = search rules;
     }
 
 pub returns-in_err-answer_line-clause-part : goal.returns-in_err-answer_line-clause-part
 returns-in_err-answer_line-clause-part g c =
-    IfSome_then (g.R.Source.remaining c.args.source.now) c.lines.invariant.progress
+    IfSome_then (g.R.Source.state c.args.source.now).remaining c.lines.invariant.progress
     (λ input p.
     let (more, known, next) = found c.lines.input c.line.result.now c.in-Some.end p c.in-Some.ensures.line c.line.ensures in
     next_part _ _ _ _ _ _ _ next c.in_err-answer_line.ensures.part)
@@ -50,19 +50,19 @@ lines-preserved-in-Some g c =
       writes = (c.in_ok-answer_line.ensures.count 0).1 ∙ c.lines.invariant.writes;
       progress =
           rw (c.pass.ensures, c.in_ok-answer_line.ensures.state)
-          (IfSome_then (g.R.Source.remaining c.args.source.now) c.lines.invariant.progress
+          (IfSome_then (g.R.Source.state c.args.source.now).remaining c.lines.invariant.progress
           (λ input p. line_answered c.lines.input c.line.result.now c.in-Some.end _ _ p (sym c.in-Some.ensures.first) c.in-Some.ensures.line c.line.ensures c.in_ok-answer_line.ensures.whole));
       turns = c.lines.invariant.turns;
     }
 
 pub returns-in_err-flush-clause-part : goal.returns-in_err-flush-clause-part
 returns-in_err-flush-clause-part g c =
-    IfSome_then (g.R.Source.remaining c.args.source.now) c.lines.invariant.progress
+    IfSome_then (g.R.Source.state c.args.source.now).remaining c.lines.invariant.progress
     (λ input p. flush_part c.lines.input _ p c.in_err-flush.ensures.part)
 
 pub returns-in_err-fill-clause-part : goal.returns-in_err-fill-clause-part
 returns-in_err-fill-clause-part g c =
-    IfSome_then (g.R.Source.remaining c.args.source.now) c.lines.invariant.progress
+    IfSome_then (g.R.Source.state c.args.source.now).remaining c.lines.invariant.progress
     (λ input p. part_so_far c.lines.input (flushed c.lines.input _ _ p c.in_ok-flush.ensures.whole c.in_ok-flush.ensures.empty))
 
 pub lines-preserved : goal.lines-preserved
@@ -71,10 +71,10 @@ lines-preserved g c =
       reads = c.in_ok-fill.ensures.count ∙ c.lines.invariant.reads;
       writes = c.in_ok-flush.ensures.count ∙ c.lines.invariant.writes;
       progress =
-          IfSome_then (g.R.Source.remaining c.args.source.now) c.lines.invariant.progress
+          IfSome_then (g.R.Source.state c.args.source.now).remaining c.lines.invariant.progress
           (λ input p. read_ahead c.lines.input c.fill.new.self _ (flushed c.lines.input _ _ p c.in_ok-flush.ensures.whole c.in_ok-flush.ensures.empty) c.in_ok-fill.ensures.bytes);
       turns =
-          IfSome_then (g.R.Source.remaining c.args.source.now) c.lines.invariant.turns
+          IfSome_then (g.R.Source.state c.args.source.now).remaining c.lines.invariant.turns
           (λ input gave.
           let (left, known, count) = gave in
           let (less, is, moved) = rw known at c.in_ok-fill.ensures.moved in
@@ -88,14 +88,14 @@ returns-then-is_empty-clause-whole g c =
     let end = c.in_ok-fill.ensures.end c.if-not-branch.true in
     let one : IsLastLine c.fill.new.self = subst IsLastLine (sym end.0) (c.line_end.ensures.last c.in_default.is) in
     let empty : length c.fill.new.self ≡ 0 = ap length (sym c.rest.ensures) ∙ eqb-true (length c.rest.result.now) 0 (sym c.if-is_empty.ensures) in
-    IfSome_then (g.R.Source.remaining c.args.source.now) c.lines.invariant.progress
+    IfSome_then (g.R.Source.state c.args.source.now).remaining c.lines.invariant.progress
     (λ input p.
     let ahead = read_ahead c.lines.input c.fill.new.self _ (flushed c.lines.input _ _ p c.in_ok-flush.ensures.whole c.in_ok-flush.ensures.empty) c.in_ok-fill.ensures.bytes in
     all_sent _ _ _ _ (no_line_left c.fill.new.self ahead end.1 one empty))
 
 pub returns-then-is_empty-clause-part : goal.returns-then-is_empty-clause-part
 returns-then-is_empty-clause-part g c =
-    IfSome_then (g.R.Source.remaining c.args.source.now) c.lines.invariant.progress
+    IfSome_then (g.R.Source.state c.args.source.now).remaining c.lines.invariant.progress
     (λ input p. part_so_far c.lines.input (flushed c.lines.input _ _ p c.in_ok-flush.ensures.whole c.in_ok-flush.ensures.empty))
 
 pub returns-clause-whole : goal.returns-clause-whole
@@ -105,7 +105,7 @@ returns-clause-whole g c =
     let some : length c.fill.new.self ≢ 0 = λ e. false≢true (c.if-is_empty.ensures ∙ eq-eqb (length c.rest.result.now) 0 (ap length c.rest.ensures ∙ e)) in
     on_ok c.answer_line-2.result
     (λ sends.
-    IfSome_then (g.R.Source.remaining c.args.source.now) c.lines.invariant.progress
+    IfSome_then (g.R.Source.state c.args.source.now).remaining c.lines.invariant.progress
     (λ input p.
     let ahead = read_ahead c.lines.input c.fill.new.self _ (flushed c.lines.input _ _ p c.in_ok-flush.ensures.whole c.in_ok-flush.ensures.empty) c.in_ok-fill.ensures.bytes in
     all_sent _ _ _ _ (next_answered _ _ _ _ _ _ _ _ (one_line_left c.fill.new.self c.rest-2.result.now ahead end.1 one some c.rest-2.ensures) sends)))
@@ -116,7 +116,7 @@ returns-clause-part g c =
     let end = c.in_ok-fill.ensures.end c.if-not-branch.true in
     let one : IsLastLine c.fill.new.self = subst IsLastLine (sym end.0) (c.line_end.ensures.last c.in_default.is) in
     let some : length c.fill.new.self ≢ 0 = λ e. false≢true (c.if-is_empty.ensures ∙ eq-eqb (length c.rest.result.now) 0 (ap length c.rest.ensures ∙ e)) in
-    IfSome_then (g.R.Source.remaining c.args.source.now) c.lines.invariant.progress
+    IfSome_then (g.R.Source.state c.args.source.now).remaining c.lines.invariant.progress
     (λ input p.
     let ahead = read_ahead c.lines.input c.fill.new.self _ (flushed c.lines.input _ _ p c.in_ok-flush.ensures.whole c.in_ok-flush.ensures.empty) c.in_ok-fill.ensures.bytes in
     next_part _ _ _ _ _ _ _ (one_line_left c.fill.new.self c.rest-2.result.now ahead end.1 one some c.rest-2.ensures) c.answer_line-2.ensures.part)
@@ -131,7 +131,7 @@ returns-clause-memory g c =
     let end = c.in_ok-fill.ensures.end c.if-not-branch.true in
     let one : IsLastLine c.fill.new.self = subst IsLastLine (sym end.0) (c.line_end.ensures.last c.in_default.is) in
     let some : length c.fill.new.self ≢ 0 = λ e. false≢true (c.if-is_empty.ensures ∙ eq-eqb (length c.rest.result.now) 0 (ap length c.rest.ensures ∙ e)) in
-    IfSome_then (g.R.Source.remaining c.args.source.now) c.lines.invariant.progress
+    IfSome_then (g.R.Source.state c.args.source.now).remaining c.lines.invariant.progress
     (λ input p.
     let ahead = read_ahead c.lines.input c.fill.new.self _ (flushed c.lines.input _ _ p c.in_ok-flush.ensures.whole c.in_ok-flush.ensures.empty) c.in_ok-fill.ensures.bytes in
     let left = one_line_left c.fill.new.self c.rest-2.result.now ahead end.1 one some c.rest-2.ensures in
@@ -148,7 +148,7 @@ returns-in_err-answer_line-clause-memory g c =
     λ want.
     let memory = passed_on c.in_err-answer_line.field-0.0 Memory c.from_residual.result c.from_residual.ensures.1 want in
     let (may, kept, none) = c.in_err-answer_line.ensures.memory (ap Err memory) in
-    IfSome_then (g.R.Source.remaining c.args.source.now) c.lines.invariant.progress
+    IfSome_then (g.R.Source.state c.args.source.now).remaining c.lines.invariant.progress
     (λ input p.
     let (more, known, next) = found c.lines.input c.line.result.now c.in-Some.end p c.in-Some.ensures.line c.line.ensures in
     (p.passed, c.line.result.now ∷ _, next.split, inr may, rw (kept, none) next.sends))
@@ -157,7 +157,7 @@ pub returns-in_err-fill-clause-read : goal.returns-in_err-fill-clause-read
 returns-in_err-fill-clause-read g c =
     λ failed.
     let none = ap (position (λ b. eqb b 10)) c.in_err-fill.ensures.err ∙ sym c.line_end.ensures.first ∙ c.in_default.is in
-    IfSome_then (g.R.Source.remaining c.args.source.now) c.lines.invariant.progress
+    IfSome_then (g.R.Source.state c.args.source.now).remaining c.lines.invariant.progress
     (λ input p.
     let ahead = read_ahead c.lines.input c.fill.new.self _ (flushed c.lines.input _ _ p c.in_ok-flush.ensures.whole c.in_ok-flush.ensures.empty) c.in_err-fill.ensures.bytes in
     (ahead.passed, _, ahead.answered.split, are_read c.fill.new.self ahead none, sent_all _ _ _ _ ahead.answered.sends c.in_ok-flush.ensures.empty))
@@ -166,7 +166,7 @@ pub returns-in_err-fill-clause-memory : goal.returns-in_err-fill-clause-memory
 returns-in_err-fill-clause-memory g c =
     λ want.
     let none = ap (position (λ b. eqb b 10)) c.in_err-fill.ensures.err ∙ sym c.line_end.ensures.first ∙ c.in_default.is in
-    IfSome_then (g.R.Source.remaining c.args.source.now) c.lines.invariant.progress
+    IfSome_then (g.R.Source.state c.args.source.now).remaining c.lines.invariant.progress
     (λ input p.
     let ahead = read_ahead c.lines.input c.fill.new.self _ (flushed c.lines.input _ _ p c.in_ok-flush.ensures.whole c.in_ok-flush.ensures.empty) c.in_err-fill.ensures.bytes in
     (ahead.passed, _, ahead.answered.split, inl (are_read c.fill.new.self ahead none), ahead.answered.sends))

@@ -7,14 +7,14 @@ use Rattle.cookie_script.proofs.run.answer_lines.Given as goal
 
 abbrev pub invariant-lines : goal.invariant-lines
 invariant-lines g l = record {
-  reads : g.R.Source.failed l.source ≡ g.R.Source.failed l.initial.source;
-  writes : g.W.Sink.failed l.sink ≡ g.W.Sink.failed l.initial.sink;
-  progress : IfSome (g.R.Source.remaining l.initial.source) (λ input.
-      Progress (empty l.fn.list l.fn.limit) input (g.W.Sink.contents l.initial.sink) l.initial.out l.input (g.R.Source.remaining l.source) l.jar (g.W.Sink.contents l.sink) l.out);
-  turns : IfSome (g.R.Source.remaining l.initial.source) (λ input. (left : List ℕ) × (g.R.Source.remaining l.source ≡ Some left)
-      × (g.R.Source.reads_left l.initial.source + length left ≤ g.R.Source.reads_left l.source + length input));
+  reads : (g.R.Source.state l.source).failed ≡ (g.R.Source.state l.initial.source).failed;
+  writes : (g.W.Sink.state l.sink).failed ≡ (g.W.Sink.state l.initial.sink).failed;
+  progress : IfSome (g.R.Source.state l.initial.source).remaining (λ input.
+      Progress (empty l.fn.list l.fn.limit) input (g.W.Sink.state l.initial.sink).contents l.initial.out l.input (g.R.Source.state l.source).remaining l.jar (g.W.Sink.state l.sink).contents l.out);
+  turns : IfSome (g.R.Source.state l.initial.source).remaining (λ input. (left : List ℕ) × ((g.R.Source.state l.source).remaining ≡ Some left)
+      × ((g.R.Source.state l.initial.source).reads_left + length left ≤ (g.R.Source.state l.source).reads_left + length input));
 }
 
 -- a read returns at most 4,096 bytes
 abbrev pub decreases-lines : goal.decreases-lines
-decreases-lines g l = 4097 * g.R.Source.reads_left l.source + length l.input
+decreases-lines g l = 4097 * (g.R.Source.state l.source).reads_left + length l.input

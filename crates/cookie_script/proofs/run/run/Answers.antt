@@ -23,37 +23,37 @@ none_read store (Some input) contents = ([], lines input, refl, inl ([], input, 
 
 pub returns-in_err-out-clause-part : goal.returns-in_err-out-clause-part
 returns-in_err-out-clause-part g c =
-    if_any _ (g.R.Source.remaining c.args.source.now) (λ input. nothing_part (g.W.Sink.contents c.args.sink.now) _)
+    if_any _ (g.R.Source.state c.args.source.now).remaining (λ input. nothing_part (g.W.Sink.state c.args.sink.now).contents _)
 
 pub returns-in_err-out-clause-memory : goal.returns-in_err-out-clause-memory
 returns-in_err-out-clause-memory g c =
-    λ wants. none_read (empty c.args.list c.args.limit) (g.R.Source.remaining c.args.source.now) (g.W.Sink.contents c.args.sink.now)
+    λ wants. none_read (empty c.args.list c.args.limit) (g.R.Source.state c.args.source.now).remaining (g.W.Sink.state c.args.sink.now).contents
 
 pub returns-in_err-flush-in-Err-Memory-clause-part : goal.returns-in_err-flush-in-Err-Memory-clause-part
 returns-in_err-flush-in-Err-Memory-clause-part g c =
     let memory = c.in-Err-Memory.ensures.memory cc in
-    IfSome_then (g.R.Source.remaining c.args.source.now) (rw c.in_ok-out.ensures at memory)
+    IfSome_then (g.R.Source.state c.args.source.now).remaining (rw c.in_ok-out.ensures at memory)
     (λ input first. first_part (empty c.args.list c.args.limit) input _ _ _ _ _ first c.in_err-flush-in-Err-Memory.ensures.part)
 
 pub returns-in-Err-Memory-clause-part : goal.returns-in-Err-Memory-clause-part
 returns-in-Err-Memory-clause-part g c =
     let memory = c.in-Err-Memory.ensures.memory cc in
-    IfSome_then (g.R.Source.remaining c.args.source.now) (rw c.in_ok-out.ensures at memory)
+    IfSome_then (g.R.Source.state c.args.source.now).remaining (rw c.in_ok-out.ensures at memory)
     (λ input first. first_part (empty c.args.list c.args.limit) input _ _ _ _ _ first c.in_ok-flush-in-Err-Memory.ensures.part)
 
 pub returns-in-Err-Memory-clause-memory : goal.returns-in-Err-Memory-clause-memory
 returns-in-Err-Memory-clause-memory g c =
     λ wants.
     let memory = c.in-Err-Memory.ensures.memory cc in
-    IfSome_then (g.R.Source.remaining c.args.source.now) (rw c.in_ok-out.ensures at memory)
+    IfSome_then (g.R.Source.state c.args.source.now).remaining (rw c.in_ok-out.ensures at memory)
     (λ input first. first_appended (empty c.args.list c.args.limit) input _ _ _ _ _ first c.in_ok-flush-in-Err-Memory.ensures.whole)
 
 pub returns-in_err-flush-in-Ok-clause-part : goal.returns-in_err-flush-in-Ok-clause-part
 returns-in_err-flush-in-Ok-clause-part g c =
-    IfSome_then (g.R.Source.remaining c.args.source.now) (rw c.in_ok-out.ensures at c.in-Ok.ensures.whole)
+    IfSome_then (g.R.Source.state c.args.source.now).remaining (rw c.in_ok-out.ensures at c.in-Ok.ensures.whole)
     (λ input sends. part_of_rest _ _ _ _ _ sends c.in_err-flush-in-Ok.ensures.part)
 
 pub returns-clause-part : goal.returns-clause-part
 returns-clause-part g c =
-    IfSome_then (g.R.Source.remaining c.args.source.now) (rw c.in_ok-out.ensures at c.in-Ok.ensures.whole)
+    IfSome_then (g.R.Source.state c.args.source.now).remaining (rw c.in_ok-out.ensures at c.in-Ok.ensures.whole)
     (λ input sends. part_of_rest _ _ _ _ _ sends c.in_ok-flush-in-Ok.ensures.part)

@@ -10,6 +10,6 @@ pub returns-then-text-gt-LIMIT-clause-whole : goal.returns-then-text-gt-LIMIT-cl
 returns-then-text-gt-LIMIT-clause-whole g c =
     rw c.in_ok-flush.ensures.empty
     (on_ok_weaker c.write_all.result
-    (λ (whole : Appends (g.W.Sink.contents c.flush.new.sink) (g.W.Sink.contents c.write_all.new.sink) c.args.text.now).
+    (λ (whole : Appends (g.W.Sink.state c.flush.new.sink).contents (g.W.Sink.state c.write_all.new.sink).contents c.args.text.now).
     sent_after _ _ _ _ _ _ c.in_ok-flush.ensures.whole (all_sent _ _ _ whole))
     c.write_all.ensures.whole)

@@ -21,11 +21,11 @@ returns-in_err-put-clause-part g c =
     let texts = c.args.texts.now in
     let text = c.as_bytes.result.now in
     let put = joined (take at texts) in
-    let from = g.W.Sink.contents c.args.sink.now in
-    let to = g.W.Sink.contents c.put.new.sink in
+    let from = (g.W.Sink.state c.args.sink.now).contents in
+    let to = (g.W.Sink.state c.put.new.sink).contents in
     rw (← joined_parts texts (at + 1), joined_next _ _ _ _ c.loop-text-test.true c.as_bytes.ensures.value)
     (part_longer from to c.args.self.now (put ++ text) (joined (drop (at + 1) texts))
-    (part_then from (g.W.Sink.contents c.loop-text.sink) to c.args.self.now put text c.loop-text.self c.loop-text.invariant.sent c.in_err-put.ensures.part))
+    (part_then from (g.W.Sink.state c.loop-text.sink).contents to c.args.self.now put text c.loop-text.self c.loop-text.invariant.sent c.in_err-put.ensures.part))
 
 pub returns-in_err-put-clause-buffered : goal.returns-in_err-put-clause-buffered
 returns-in_err-put-clause-buffered g c = λ fits.

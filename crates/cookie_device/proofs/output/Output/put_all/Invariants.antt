@@ -6,7 +6,7 @@ use Rattle.cookie_device.proofs.output.Output.put_all.Given as goal
 
 abbrev pub invariant-loop-text : goal.invariant-loop-text
 invariant-loop-text g l = record {
-  sent : Sends (g.W.Sink.contents l.initial.sink) (g.W.Sink.contents l.sink) (l.initial.self ++ joined (take l.text-index l.texts)) l.self;
+  sent : Sends (g.W.Sink.state l.initial.sink).contents (g.W.Sink.state l.sink).contents (l.initial.self ++ joined (take l.text-index l.texts)) l.self;
   buffered : length l.initial.self + length (joined l.texts) ≤ 65_536 → l.self ≡ l.initial.self ++ joined (take l.text-index l.texts);
-  count : g.W.Sink.failed l.sink ≡ g.W.Sink.failed l.initial.sink;
+  count : (g.W.Sink.state l.sink).failed ≡ (g.W.Sink.state l.initial.sink).failed;
 }

@@ -49,7 +49,7 @@ of_spec {M} 𝓤 𝓛 𝓜 𝓡 wired =
     let allocates = passed 𝓡.env (code.calls-std_heap::GlobalAllocator::allocate 𝓡.env wired) (code.calls-std_heap::GlobalAllocator::deallocate 𝓡.env wired)
     (code.calls-std_heap::GlobalAllocator::grow 𝓡.env wired) (code.calls-std_heap::GlobalAllocator::shrink 𝓡.env wired) M 𝓤 𝓛 𝓜 𝓡 in
     let heap_drops = glues "cookie_store_c::Destruct++none::drop" 𝓡.env (code.calls-cookie_store_c::Destruct++none::drop 𝓡.env wired) HeapArg HeapLaws M 𝓤 𝓛 𝓜 𝓡 in
-    let store_drops = store_glue 𝓤 𝓛 𝓜 𝓡 (code.calls-cookie_store_c::cookie_store++cookie_store++CookieStore+Destruct::drop 𝓡.env wired) in
+    let store_drops = store_glue 𝓤 𝓛 𝓜 𝓡 (code.calls-cookie_store_c::cookie_core++cookie_store++CookieStore+Destruct::drop 𝓡.env wired) in
     let known = met 𝓤 𝓛 𝓜 𝓡 (code.calls-std_alloc::boxed::Box::into_raw 𝓡.env wired) StoreArg HeapArg StoreLaws HeapLaws ghosts dict heap_drop store_drop
     allocates heap_drops store_drops in
     proved_at 𝓛 f.ended stayed c 𝓜 𝓡 (Goes-dropped 𝓛 0 (plain (λ _. Boxed)) no (λ κs x w. refl), tt)

@@ -1,0 +1,2 @@
+pub mod CallViews
+pub mod Responses

@@ -1,0 +1,580 @@
+//! The cookie store.
+ghost use Rattle.std.specs.Prelude.{◌≡◌, ◌≢◌, ◌≤◌, ◌+◌, ◌*◌, ◌-◌, ◌<◌, [], is_some, length, map, string_bytes, Err, None, Ok, Some, IfErr, IfOk, IsTrue, OnErr, OnOk, ◌⊎◌};
+ghost use Rattle.std.specs.Iterator.{IsFinite};
+ghost use Rattle.std.specs.Option.{option_copied};
+ghost use Rattle.cookie_words.specs.Moments.{moment_of};
+ghost use Rattle.cookie_raw.specs.Reading.{reading};
+ghost use Rattle.cookie_parts.specs.Cookie.{cookie_of, early, early_error};
+ghost use Rattle.cookie_parts.specs.declared.cookie_error.CookieError.TheVariants.{Memory};
+ghost use Rattle.cookie_parts.specs.declared.store_action.StoreAction.TheVariants.{Inserted};
+ghost use Rattle.cookie_laws.specs.Acceptance.{received, MayRefuse};
+ghost use Rattle.cookie_laws.specs.Contents.{contents_of, rows_in_order, unexpired, HasCreationOrder};
+ghost use Rattle.cookie_lookup.specs.SearchView.{domains_found, paths_found};
+ghost use Rattle.cookie_lookup.specs.Texts.{most_domains, most_paths};
+ghost use Rattle.cookie_rows.specs.Building.{Builds, FailsFirst, ReachesNewRow};
+ghost use Rattle.cookie_rows.specs.Requests.{name_and_value};
+ghost use Rattle.cookie_core.specs.CallViews.{call_view, reply_view, MayAllocate, StopsAfter, StopsAt};
+ghost use Rattle.cookie_laws.specs.Given.{given};
+ghost use Rattle.cookie_laws.specs.Header.{InHeaderOrder, IsCookieHeader};
+ghost use Rattle.cookie_laws.specs.Rows.{are_rows, if_live, key_at, live_rows, row_of};
+ghost use Rattle.cookie_laws.specs.Runs.{replies, step, store_after, Clear, Insert, IsReply, Remove, Removed, Set, Stored, UnlessMemory};
+
+use crate::call::{Call, Reply, Stopped, reply_or_memory};
+use crate::header::cookie_string;
+use crate::insertion::{accept, owned_cookie, owned_raw_cookie};
+use cookie_lookup::Lookups;
+use cookie_parts::{Cookie, CookieError, CookieResult, Error, StoreAction, StoreResult};
+use cookie_psl::List;
+use cookie_raw::RawCookie;
+use cookie_rows::{
+    HashKey, IterAny, IterUnexpired, RequestCookies, RequestValues, Rows, StoreAlloc,
+};
+use jiff::civil::DateTime;
+use std::alloc::{AllocError, Global};
+use std::marker::Model;
+use url::Url;
+
+/// The result of inserting a cookie: what the store did with it, or why it was not inserted.
+pub type InsertResult = Result<StoreAction, CookieError>;
+
+/// The cookies of a user agent, RFC 6265 5.3.
+///
+/// In the store's order, cookies are grouped by domain, and in a domain by path. A new cookie is
+/// the last of its group, and a new group is last; a cookie that replaces another takes its place.
+///
+/// Under a public suffix list, no domain cookie is inserted for a public suffix.
+#[derive(Drop)]
+pub struct CookieStore {
+    alloc: Global,
+    rows: Rows,
+    suffixes: Option<List>,
+    limit: Option<usize>,
+}
+
+impl Model for CookieStore {
+    ghost use Rattle.cookie_laws.specs.Contents.{contents_of, Contents};
+
+    ghost Value = { Contents };
+
+    ghost view = { λ s. contents_of s.rows s.suffixes s.limit };
+}
+
+impl Clone for CookieStore {
+    ghost use Rattle.std.specs.Prelude.{◌≡◌};
+
+    ghost is_clone = { λ store copy. copy ≡ store };
+
+    fn clone(&self) -> Result<CookieStore, AllocError> {
+        Ok(CookieStore {
+            alloc: self.alloc,
+            rows: self.rows.clone()?,
+            suffixes: self.suffixes.clone()?,
+            limit: self.limit,
+        })
+    }
+}
+
+impl CookieStore {
+    /// Returns an empty store without a public suffix list.
+    ///
+    /// Its maps hash by a fixed key: see [`with_hash_key`](Self::with_hash_key).
+    pub fn new(alloc: Global) -> CookieStore
+        ensures { result ≡ record { rows = []; created = []; suffixes = None; limit = None } }
+    {
+        CookieStore::new_with_public_suffix(alloc, None)
+    }
+
+    /// Returns an empty store without a public suffix list, as [`new`](Self::new) does.
+    pub fn default(alloc: Global) -> CookieStore
+        ensures { result ≡ record { rows = []; created = []; suffixes = None; limit = None } }
+    {
+        CookieStore::new(alloc)
+    }
+
+    /// Returns an empty store without a public suffix list, whose maps hash by `hash_key`.
+    ///
+    /// The key changes no result. Pass a random key if the store takes cookies from servers that
+    /// you do not trust.
+    pub fn with_hash_key(alloc: Global, hash_key: HashKey) -> CookieStore
+        ensures { result ≡ record { rows = []; created = []; suffixes = None; limit = None } }
+    {
+        CookieStore::from_rows(alloc, Rows::new(StoreAlloc { alloc, hash_key }))
+    }
+
+    /// Returns an empty store with this public suffix list, or with none.
+    pub fn new_with_public_suffix(alloc: Global, suffixes: Option<List>) -> CookieStore
+        ensures { result ≡ record { rows = []; created = []; suffixes = suffixes; limit = None } }
+    {
+        CookieStore {
+            alloc,
+            rows: Rows::new(alloc.into()),
+            suffixes,
+            limit: None,
+        }
+    }
+
+    /// Sets the public suffix list for later insertions. Cookies already stored are kept.
+    pub fn with_suffix_list(self, suffixes: List) -> CookieStore
+        ensures { result ≡ record self { suffixes = Some suffixes } }
+    {
+        CookieStore {
+            suffixes: Some(suffixes),
+            ..self
+        }
+    }
+
+    /// Limits each domain to `n` cookies, RFC 6265 6.1.
+    ///
+    /// Before a cookie is inserted into a domain that has `n` or more, cookies of that domain are
+    /// evicted until `n - 1` are left: first those that have expired, then the others, both in
+    /// creation order. Until then, cookies already stored are kept.
+    pub fn with_domain_limit(self, n: usize) -> CookieStore
+        requires { 1 ≤ n }
+        ensures { result ≡ record self { limit = Some n } }
+    {
+        CookieStore {
+            limit: Some(n),
+            ..self
+        }
+    }
+
+    /// Builds a store from the cookies of an iterator, without a public suffix list or a limit.
+    ///
+    /// A cookie replaces an earlier one with the same domain, path and name. Expired cookies are
+    /// skipped unless `include_expired`. Domains are not checked.
+    ///
+    /// # Errors
+    ///
+    /// At the first error no further item is taken from the iterator.
+    /// - The first error that the iterator returns.
+    /// - `Memory`: out of memory. Only at a cookie that is not skipped and replaces none.
+    pub fn from_cookies<
+        A: Into<StoreAlloc>,
+        I: Iterator<Item = Result<Cookie<'static>, Error>> + Drop,
+    >(alloc: A, cookies: I, include_expired: bool, now: DateTime) -> Result<CookieStore, Error>
+        requires can { I.can_next cookies }
+        requires ends { IsFinite (I.remaining cookies) }
+        ensures built { IfOk result (λ store. Builds I.next_gives cookies include_expired (moment_of now) (rows_in_order store)) }
+        ensures suffixes { IfOk result (λ store. store.suffixes ≡ None) }
+        ensures limit { IfOk result (λ store. store.limit ≡ None) }
+        ensures failed { IfErr result (λ error.
+            ((error ≡ Error.Memory) × ReachesNewRow I.next_gives cookies include_expired (moment_of now))
+            ⊎ FailsFirst I.next_gives cookies error) }
+    {
+        let alloc = alloc.into();
+        let rows = Rows::from_cookies(alloc, cookies, include_expired, now)?;
+        Ok(CookieStore::from_rows(alloc.alloc, rows))
+    }
+
+    /// Parses a `Set-Cookie` header value received from `url` and inserts the cookie, RFC 6265 5.3.
+    ///
+    /// This is [`Cookie::parse`] followed by [`insert`](Self::insert), and returns what `insert`
+    /// does. On any error, out of memory included, the store is unchanged.
+    ///
+    /// # Errors
+    ///
+    /// In the order in which they are checked:
+    /// - `Parse`: `text` is not a cookie.
+    /// - `NonHttpScheme`: the cookie is HttpOnly and the URL's scheme does not begin with `http`.
+    /// - `NonRelativeScheme`: the Domain attribute is missing or empty and the URL has no host.
+    /// - `Parse`: the Domain attribute is not a domain name.
+    /// - `DomainMismatch`: the cookie's domain does not match the URL's host.
+    /// - Those of [`insert`](Self::insert).
+    ///
+    /// `Memory`: out of memory, in place of success or of any of these but `Parse` and
+    /// `NonHttpScheme` at the beginning, and `NonRelativeScheme` if there is no Domain attribute.
+    pub fn parse(&mut self, text: &str, url: &Url, now: DateTime) -> InsertResult
+        ensures reply { IsReply result
+            (step (Set text.now url.now (moment_of now)) self.old).reply }
+        ensures store { UnlessMemory result
+            (self.new ≡ (step (Set text.now url.now (moment_of now)) self.old).store) }
+        ensures refused { OnErr result (self.new ≡ self.old) }
+        ensures early { (refusal : CookieError) → early (reading text.now) url.now ≡ Some refusal → result ≡ Err refusal }
+        ensures memory { result ≡ Err Memory → early (reading text.now) url.now ≡ None }
+    {
+        let created = owned_cookie(self.alloc, text, url, now);
+        self.insert_made(created, url, now)
+    }
+
+    /// Inserts a cookie received from `url`, RFC 6265 5.3.
+    ///
+    /// Returns `UpdatedExisting` if it replaces a stored cookie with the same domain, path and
+    /// name, and `Inserted` if there is none. If the cookie has expired and the stored one has not,
+    /// the stored one is expired: `ExpiredExisting`. A cookie whose domain is a public suffix on
+    /// the store's list, received from that very host, is stored as a host-only cookie. On any
+    /// error, out of memory included, the store is unchanged.
+    ///
+    /// # Errors
+    ///
+    /// In the order in which they are checked:
+    /// - `NonHttpScheme`: the cookie is HttpOnly and the URL's scheme does not begin with `http`.
+    /// - `PublicSuffix`: the cookie's domain is a public suffix on the store's list and not the
+    ///   URL's host.
+    /// - `DomainMismatch`: the cookie's domain does not match the URL's host.
+    /// - `NonHttpScheme`: the stored cookie is HttpOnly and has not expired, and the URL's scheme
+    ///   does not begin with `http`.
+    /// - `Expired`: the cookie has expired, and there is no stored cookie to expire.
+    /// - `Memory`: out of memory. Only if the cookie would be `Inserted`.
+    pub fn insert(&mut self, cookie: Cookie<'static>, url: &Url, now: DateTime) -> InsertResult
+        ensures reply { IsReply result
+            (step (Insert cookie.entry url.now (moment_of now)) self.old).reply }
+        ensures store { UnlessMemory result
+            (self.new ≡ (step (Insert cookie.entry url.now (moment_of now)) self.old).store) }
+        ensures refused { OnErr result (self.new ≡ self.old) }
+        ensures refusals { IfErr result MayRefuse }
+        ensures memory { result ≡ Err Memory
+            → (step (Insert cookie.entry url.now (moment_of now)) self.old).reply ≡ Stored (Ok Inserted) }
+    {
+        accept(
+            self.suffixes.as_ref(),
+            self.limit,
+            &mut self.rows,
+            cookie,
+            url,
+            now,
+        )
+    }
+
+    /// Inserts the cookie of a parsed `Set-Cookie` header value received from `url`, RFC 6265 5.3.
+    ///
+    /// This is [`Cookie::try_from_raw_cookie`] followed by [`insert`](Self::insert), and returns
+    /// what `insert` does. On any error, out of memory included, the store is unchanged.
+    ///
+    /// # Errors
+    ///
+    /// In the order in which they are checked:
+    /// - `NonHttpScheme`: the cookie is HttpOnly and the URL's scheme does not begin with `http`.
+    /// - `NonRelativeScheme`: the Domain attribute is missing or empty and the URL has no host.
+    /// - `Parse`: the Domain attribute is not a domain name.
+    /// - `DomainMismatch`: the cookie's domain does not match the URL's host.
+    /// - Those of [`insert`](Self::insert).
+    ///
+    /// `Memory`: out of memory, in place of success or of any of these but `NonHttpScheme` at the
+    /// beginning, and `NonRelativeScheme` if there is no Domain attribute.
+    pub fn insert_raw(&mut self, raw: &RawCookie<'_>, url: &Url, now: DateTime) -> InsertResult
+        ensures reply { IsReply result (Stored
+            (received self.old (cookie_of raw.now url.now (moment_of now)) url.now (moment_of now)).reply) }
+        ensures store { UnlessMemory result
+            (self.new ≡ (received self.old (cookie_of raw.now url.now (moment_of now)) url.now (moment_of now)).store) }
+        ensures refused { OnErr result (self.new ≡ self.old) }
+        ensures early { (refusal : CookieError) → early_error raw.now url.now ≡ Some refusal → result ≡ Err refusal }
+        ensures memory { result ≡ Err Memory → early_error raw.now url.now ≡ None }
+    {
+        let created = owned_raw_cookie(self.alloc, raw, url, now);
+        self.insert_made(created, url, now)
+    }
+
+    /// Returns the stored cookie with this domain, path and name, expired or not.
+    pub fn get_any(&self, domain: &str, path: &str, name: &str) -> Option<&Cookie<'static>>
+        ensures { option_copied result
+            ≡ row_of (key_at domain.now path.now name.now) self.now.rows }
+    {
+        self.rows.named(domain, path, name)
+    }
+
+    /// Returns the stored cookie with this domain, path and name, if it has not expired at `now`.
+    pub fn get(
+        &self,
+        domain: &str,
+        path: &str,
+        name: &str,
+        now: DateTime,
+    ) -> Option<&Cookie<'static>>
+        ensures { option_copied result
+            ≡ if_live (moment_of now) (row_of (key_at domain.now path.now name.now) self.now.rows) }
+    {
+        let cookie = self.get_any(domain, path, name)?;
+        if cookie.is_expired(now) {
+            None
+        } else {
+            Some(cookie)
+        }
+    }
+
+    /// Returns whether a cookie with this domain, path and name is stored, expired or not.
+    pub fn contains_any(&self, domain: &str, path: &str, name: &str) -> bool
+        ensures { result ≡ is_some (row_of (key_at domain.now path.now name.now) self.now.rows) }
+    {
+        self.get_any(domain, path, name).is_some()
+    }
+
+    /// Returns whether a cookie with this domain, path and name is stored and unexpired at `now`.
+    pub fn contains(&self, domain: &str, path: &str, name: &str, now: DateTime) -> bool
+        ensures { result
+            ≡ is_some (if_live (moment_of now) (row_of (key_at domain.now path.now name.now) self.now.rows)) }
+    {
+        self.get(domain, path, name, now).is_some()
+    }
+
+    /// Returns an iterator over all stored cookies, expired or not, in the store's order.
+    pub fn iter_any(&self) -> IterAny<'_>
+        ensures { result ≡ self.now.rows }
+    {
+        self.rows.iter()
+    }
+
+    /// Returns an iterator over the cookies that have not expired at `now`, in the store's order.
+    pub fn iter_unexpired(&self, now: DateTime) -> IterUnexpired<'_>
+        ensures { result ≡ live_rows (moment_of now) self.now.rows }
+    {
+        self.rows.iter_unexpired(now)
+    }
+
+    /// Removes and returns the cookie with this domain, path and name, expired or not.
+    ///
+    /// The others keep their order.
+    pub fn remove(&mut self, domain: &str, path: &str, name: &str) -> Option<Cookie<'static>>
+        ensures reply { Removed result
+            ≡ (step (Remove (key_at domain.now path.now name.now)) self.old).reply }
+        ensures store { self.new ≡ (step (Remove (key_at domain.now path.now name.now)) self.old).store }
+    {
+        self.rows.remove(domain, path, name)
+    }
+
+    /// Removes the cookies that have expired at `now`, RFC 6265 5.3, and returns how many.
+    ///
+    /// The others keep their order. Allocates nothing. At `now` and later,
+    /// [`matches`](Self::matches) returns the same cookies as without the removal, since it never
+    /// returns an expired cookie.
+    pub fn remove_expired(&mut self, now: DateTime) -> usize
+        ensures store { self.new ≡ unexpired (moment_of now) self.old }
+        ensures removed { result + length self.new.rows ≡ length self.old.rows }
+    {
+        self.rows.remove_expired(now)
+    }
+
+    /// Makes the store's maps hash by `hash_key`, also those of a store that was built or loaded.
+    ///
+    /// The cookies are copied once. The key changes no result.
+    ///
+    /// # Errors
+    ///
+    /// `AllocError`: out of memory. The store keeps its key and its cookies. An empty store never
+    /// fails.
+    pub fn set_hash_key(&mut self, hash_key: HashKey) -> Result<(), AllocError>
+        ensures store { self.new ≡ self.old }
+        ensures memory { OnErr result (self.old.rows ≢ []) }
+    {
+        self.rows.set_hash_key(self.alloc, hash_key)
+    }
+
+    /// Removes all cookies. The public suffix list and the limit are kept.
+    pub fn clear(&mut self)
+        ensures { self.new ≡ (step Clear self.old).store }
+    {
+        self.rows.clear();
+    }
+
+    /// Returns the cookies that match `url` and are unexpired at `now`, in the store's order.
+    ///
+    /// The tests are those of RFC 6265 5.4 step 1: domain, path, Secure and HttpOnly. For the
+    /// header of a request use [`cookie_header`](Self::cookie_header). Allocates only if a cookie
+    /// matches.
+    pub fn matches(&self, url: &Url, now: DateTime) -> Result<Vec<&Cookie<'static>>, AllocError>
+        ensures given { IfOk result
+            (λ cookies. map (λ c. c.now) cookies.items ≡ given url.now (moment_of now) self.now.rows) }
+        ensures in_order { IsTrue (are_rows self.now.rows) }
+        ensures has_creation_order { HasCreationOrder self.now }
+        ensures memory { OnErr result (given url.now (moment_of now) self.now.rows ≢ []) }
+    {
+        self.rows.given(self.alloc, url, now)
+    }
+
+    /// Returns what [`matches`](Self::matches) does, and the number of lookups in the store's maps.
+    ///
+    /// Domains are looked up at most once for each label of the URL's host, and paths at most
+    /// `2 * n + 1` times for each domain that is found, where `n` is the number of slashes in the
+    /// URL's path. The counts are at least the number of domains found, and of paths found in them.
+    /// Allocates only if a cookie matches.
+    pub fn matches_counted(
+        &self,
+        url: &Url,
+        now: DateTime,
+    ) -> Result<(Vec<&Cookie<'static>>, Lookups), AllocError>
+        ensures given { IfOk result
+            (λ found. map (λ c. c.now) found.0.items ≡ given url.now (moment_of now) self.now.rows) }
+        ensures in_order { IsTrue (are_rows self.now.rows) }
+        ensures has_creation_order { HasCreationOrder self.now }
+        ensures domains { IfOk result (λ found. found.1.domains ≤ most_domains url.now) }
+        ensures paths { IfOk result
+            (λ found. found.1.paths ≤ domains_found url.now self.now.rows * most_paths url.now) }
+        ensures every_domain { IfOk result (λ found. domains_found url.now self.now.rows ≤ found.1.domains) }
+        ensures every_path { IfOk result (λ found. paths_found url.now self.now.rows ≤ found.1.paths) }
+        ensures memory { OnErr result (given url.now (moment_of now) self.now.rows ≢ []) }
+    {
+        self.rows.given_counted(self.alloc, url, now)
+    }
+
+    /// Returns the cookies that [`matches`](Self::matches) does, in the order of the Cookie header.
+    ///
+    /// Cookies with longer paths come first, and among equal lengths those created first, RFC 6265
+    /// 5.4 step 2. A cookie that replaces another keeps its place in creation order, even if that
+    /// one had expired and was not yet removed. Loaded cookies are created in the order of the
+    /// list. Allocates only if a cookie matches.
+    pub fn cookies_in_order(
+        &self,
+        url: &Url,
+        now: DateTime,
+    ) -> Result<Vec<&Cookie<'static>>, AllocError>
+        ensures order { IfOk result
+            (λ cookies. InHeaderOrder url.now (moment_of now) self.now (map (λ c. c.now) cookies.items)) }
+        ensures memory { OnErr result (given url.now (moment_of now) self.now.rows ≢ []) }
+    {
+        self.rows.in_header_order(self.alloc, url, now)
+    }
+
+    /// Returns the value of the Cookie header for a request to `url`, RFC 6265 4.2.1 and 5.4.
+    ///
+    /// It lists the cookies of [`cookies_in_order`](Self::cookies_in_order), such as
+    /// `id=1; lang=de`. If none matches, the string is empty: send no header then. Allocates only
+    /// if a cookie matches.
+    pub fn cookie_header(&self, url: &Url, now: DateTime) -> Result<String, AllocError>
+        ensures header { IfOk result (λ text. IsCookieHeader url.now (moment_of now) self.now (string_bytes text)) }
+        ensures memory { OnErr result (given url.now (moment_of now) self.now.rows ≢ []) }
+    {
+        cookie_string(self.alloc, &self.cookies_in_order(url, now)?)
+    }
+
+    /// Returns the names and values of the cookies of [`matches`](Self::matches), in the same
+    /// order.
+    ///
+    /// Allocates only if a cookie matches.
+    pub fn get_request_values(
+        &self,
+        url: &Url,
+        now: DateTime,
+    ) -> Result<RequestValues<'_>, AllocError>
+        ensures values { IfOk result (λ values. values ≡ map name_and_value (given url.now (moment_of now) self.now.rows)) }
+        ensures memory { OnErr result (given url.now (moment_of now) self.now.rows ≢ []) }
+    {
+        self.rows.request_values(self.alloc, url, now)
+    }
+
+    /// Returns the raw cookies of the cookies of [`matches`](Self::matches), in the same order.
+    ///
+    /// Allocates only if a cookie matches.
+    #[deprecated(note = "use `get_request_values`")]
+    pub fn get_request_cookies(
+        &self,
+        url: &Url,
+        now: DateTime,
+    ) -> Result<RequestCookies<'_>, AllocError>
+        ensures cookies { IfOk result (λ cookies. cookies ≡ map (λ c. c.raw) (given url.now (moment_of now) self.now.rows)) }
+        ensures memory { OnErr result (given url.now (moment_of now) self.now.rows ≢ []) }
+    {
+        self.rows.request_cookies(self.alloc, url, now)
+    }
+
+    /// Executes a call and returns its reply.
+    ///
+    /// `Set` is [`parse`](Self::parse), `Insert` is [`insert`](Self::insert), `Remove` is
+    /// [`remove`](Self::remove), and `Clear` is [`clear`](Self::clear). A cookie that is rejected
+    /// is a reply, not an error.
+    ///
+    /// # Errors
+    ///
+    /// `AllocError`: out of memory, and the store is unchanged. `Remove` and `Clear` allocate
+    /// nothing, `Set` fails only where `parse` can return `Memory`, and `Insert` only if the cookie
+    /// would be inserted.
+    pub fn apply(&mut self, call: Call) -> Result<Reply, AllocError>
+        ensures reply { IfOk result (λ reply.
+            reply_view reply ≡ (step (call_view call) self.old).reply) }
+        ensures never_memory { IfOk result (λ reply. reply_view reply ≢ Stored (Err Memory)) }
+        ensures store { OnOk result (self.new ≡ (step (call_view call) self.old).store) }
+        ensures refused { OnErr result (self.new ≡ self.old) }
+        ensures memory { OnErr result
+            (MayAllocate (call_view call) (step (call_view call) self.old).reply) }
+    {
+        match call {
+            Call::Set { text, url, now } => reply_or_memory(self.parse(text.as_str(), &url, now)),
+            Call::Insert { cookie, url, now } => reply_or_memory(self.insert(cookie, &url, now)),
+            Call::Remove { domain, path, name } => Ok(Reply::Removed(self.remove(
+                domain.as_str(),
+                path.as_str(),
+                name.as_str(),
+            ))),
+            Call::Clear => {
+                self.clear();
+                Ok(Reply::Cleared)
+            }
+        }
+    }
+
+    /// Executes the calls in order and returns their replies.
+    ///
+    /// # Errors
+    ///
+    /// [`Stopped`]: out of memory. The calls before the one that failed remain in effect; `Stopped`
+    /// has their number and replies.
+    pub fn apply_all(&mut self, calls: Vec<Call>) -> Result<Vec<Reply>, Stopped>
+        ensures replies { IfOk result (λ reported.
+            map reply_view reported.items ≡ replies (map call_view calls.items) self.old) }
+        ensures store { OnOk result (self.new ≡ store_after (map call_view calls.items) self.old) }
+        ensures stopped { IfErr result (λ stopped. StopsAfter stopped (map call_view calls.items) self.old self.new) }
+        ensures wanting { IfErr result (λ stopped. StopsAt stopped.count (map call_view calls.items) self.new) }
+    {
+        // Room for all replies first, so that no reply is lost once its call was executed.
+        let Ok(mut reported) = Vec::with_capacity(self.alloc, calls.len()) else {
+            return Err(Stopped {
+                replies: Vec::new(self.alloc),
+                count: 0,
+            });
+        };
+        for call in calls {
+            match self.apply(call) {
+                Ok(reply) => reported.push(reply).unwrap(),
+                Err(AllocError) => {
+                    let count = reported.len();
+                    return Err(Stopped {
+                        replies: reported,
+                        count,
+                    });
+                }
+            }
+        }
+        Ok(reported)
+    }
+
+    // Inserts the cookie, or returns the error from making it.
+    fn insert_made(
+        &mut self,
+        created: CookieResult<'static>,
+        url: &Url,
+        now: DateTime,
+    ) -> InsertResult
+        ensures reply { IsReply result
+            (Stored (received self.old created.entry url.now (moment_of now)).reply) }
+        ensures store { UnlessMemory result (self.new ≡ (received self.old created.entry url.now (moment_of now)).store) }
+        ensures refused { OnErr result (self.new ≡ self.old) }
+        ensures unmade { (refusal : CookieError) → created.entry ≡ Err refusal → result ≡ Err refusal }
+        ensures memory { result ≡ Err Memory → (created.entry ≡ Err Memory)
+            ⊎ ((received self.old created.entry url.now (moment_of now)).reply ≡ Ok Inserted) }
+    {
+        let cookie = created?;
+        accept(
+            self.suffixes.as_ref(),
+            self.limit,
+            &mut self.rows,
+            cookie,
+            url,
+            now,
+        )
+    }
+
+    /// Returns a store of these rows, without a public suffix list or a limit.
+    pub fn from_rows(alloc: Global, rows: Rows) -> CookieStore
+        ensures { result ≡ contents_of rows None None }
+    {
+        CookieStore {
+            alloc,
+            rows,
+            suffixes: None,
+            limit: None,
+        }
+    }
+
+    /// Returns the allocator of the store.
+    pub fn allocator(&self) -> Global {
+        self.alloc
+    }
+}

@@ -1,0 +1,16 @@
+//! The cookie store: insertion, requests, responses, and calls as values.
+//!
+//! Saving and loading are in the crate above, `cookie_serde`. The crate `cookie_store` has both.
+#![tactic(auto)]
+
+mod as_store;
+mod call;
+mod cookie_store;
+mod header;
+mod insertion;
+mod response;
+
+pub use as_store::AsStore;
+pub use call::{Call, Reply, Stopped};
+pub use cookie_store::{CookieStore, InsertResult};
+pub use response::insert_each;

@@ -1,0 +1,24 @@
+-- Saved cookies among the tokens of a JSON text, for private contracts.
+use Rattle.std.specs.Prelude.{◌≡◌, ℕ, List, codes, false, Some, option_map}
+use Rattle.json.specs.Token.{Token}
+use Rattle.json.specs.Json.{Json, value}
+use Rattle.serde_json.specs.Data.{Data, string, Members}
+use Rattle.serde_json.specs.Find.{get_member}
+use Rattle.serde_json.specs.Read.{of_json}
+use Rattle.serde_json.specs.Written.{members_have_float}
+use Rattle.cookie_forms.specs.Borrowed.{borrowed_domain}
+use Rattle.cookie_forms.specs.ToJson.{path_tree, domain_tree, expiry_tree}
+use Rattle.cookie_forms.specs.declared.parsing.FoundMembers.{FoundMembers}
+
+-- the tokens `old` are those of a JSON value, nested at most `depth` deep and read as `tree`, and then `new`
+abbrev pub ReadsTo : ℕ → List Token → Data → List Token → Type 0
+ReadsTo depth old tree new = (j : Json) × (value depth old ≡ Some (j, new)) × (of_json j ≡ Some tree)
+
+-- the members have the values in `found` under the four names, and none that is not there; they contain no float
+abbrev pub AreFound : Members → FoundMembers → Type 0
+AreFound ms found =
+    (get_member (codes "raw_cookie") ms ≡ option_map (λ text. string text.now) found.raw_cookie)
+    × (get_member (codes "path") ms ≡ option_map (λ p. path_tree p.0.now p.1) found.path)
+    × (get_member (codes "domain") ms ≡ option_map (λ domain. domain_tree (borrowed_domain domain)) found.domain)
+    × (get_member (codes "expires") ms ≡ option_map (λ ends. expiry_tree (option_map (λ text. text.now) ends)) found.ends)
+    × (members_have_float ms ≡ false)

@@ -1,0 +1,16 @@
+pub mod CutRows
+pub mod LinesBack
+pub mod ListedRows
+pub mod LoadErrors
+pub mod LoadedAlike
+pub mod LoadedLines
+pub mod MadeOfJson
+pub mod MadeOfRon
+pub mod Migrated
+pub mod NoneEarly
+pub mod Pairs
+pub mod RonBack
+pub mod SavedAlike
+pub mod SavedLines
+pub mod StyledTexts
+pub mod Walked

@@ -1,0 +1,98 @@
+-- Rows that are iterated into a list, and cookies that come as a list.
+use Rattle.std.proofs.Common.{◌≡◌, ℕ, ◌+◌, Bool, true, List, [], ◌∷◌, ◌++◌, filter, Option, Result, Ok, Err, IfOk, IfErr, OnErr, OnOk, IsTrue, inr, map, Bor, refl, sym, ap, append_assoc, ◌∙◌}
+use Rattle.std.specs.Io.KnownBytes.{Appends}
+use Rattle.std.specs.Prelude.{◌≢◌}
+use Rattle.std.specs.Result.{result_map_both}
+use Rattle.std.specs.Str.{is_utf8}
+use Rattle.std.specs.declared.alloc.Global.{Global}
+use Rattle.std.specs.declared.string.String.{String}
+use Rattle.std.specs.declared.vec.Vec.{Vec}
+use Rattle.cookie_words.specs.Moments.{Moment}
+use Rattle.cookie_device.specs.Device.{AppendsPrefix, SinkState}
+use Rattle.cookie_forms.specs.Saved.{Parts}
+use Rattle.cookie_parts.specs.Cookie.{Row}
+use Rattle.cookie_parts.specs.SavedConversion.{cookie_of_saved}
+use Rattle.cookie_parts.specs.declared.cookie_error.CookieError.{CookieError}
+use Rattle.cookie_parts.specs.declared.error.Error.{Error}
+use Rattle.cookie_parts.specs.declared.error.Error.TheVariants.{Io}
+use Rattle.cookie_serde.specs.SavedForms.{cookies_of_saved}
+use Rattle.cookie_serde.specs.Lists.{FailsToSaveList, ParsesToCookies, ParsesToVec, RejectsText, WritesList}
+use Rattle.cookie_serde.specs.Saving.{line_text}
+use Rattle.cookie_serde.proofs.SavedLines.{filter_around}
+use Rattle.cookie_serde.proofs.Walked.{around}
+
+-- a list with an item is not empty
+with_item : {A : Type 0} (before : List A) (x : A) (after : List A) → before ++ x ∷ after ≢ []
+with_item [] x after is = absurd (cc)
+with_item (y ∷ before) x after is = absurd (cc)
+
+-- a filter keeps something if one item passes
+pub some_kept : {A : Type 0} (kept : A → Bool) (all before : List A) (x : A) (after : List A) → all ≡ before ++ x ∷ after → kept x ≡ true
+    → filter kept all ≢ []
+some_kept kept all before x after is passes none =
+    with_item (filter kept before) x (filter kept after) (sym (ap (filter kept) is ∙ filter_around kept before x after passes) ∙ none)
+
+-- a filter keeps something if an item reached by the iteration passes
+pub some_walked : {A : Type 0} (kept : A → Bool) (all : List A) (done : List (Bor A)) (x : Bor A) (left after : List A) → left ≡ x.now ∷ after
+    → map (λ c. c.now) done ++ left ≡ all → kept x.now ≡ true → filter kept all ≢ []
+some_walked kept all done x left after step so_far passes =
+    some_kept kept all (map (λ c. c.now) done) x.now after (around done x left after all step so_far) passes
+
+-- what always holds also holds on an error
+pub on_refusal : {T E P : Type 0} (answer : Result T E) → P → OnErr answer P
+on_refusal (Ok done) holds = tt
+on_refusal (Err error) holds = holds
+
+module _ (makes : List ℕ → Result (Vec Row Global) Error → Type 0) where
+  -- the cookies that a function returns for a string are those that it makes of it
+  pub made_at_once : (text : List ℕ) (answer : Result (Vec Row Global) Error) → IsTrue (is_utf8 text) → makes text answer
+      → IfOk answer (λ cookies. ParsesToCookies (ParsesToVec makes) text cookies.items)
+  made_at_once text (Ok cookies) valid answers = (valid, (Ok cookies, answers, refl))
+  made_at_once text (Err error) valid answers = tt
+
+  -- and if it returns an error, the string is rejected
+  pub refused_at_once : (text : List ℕ) (answer : Result (Vec Row Global) Error) → IsTrue (is_utf8 text) → makes text answer
+      → IfErr answer (λ error. RejectsText (ParsesToVec makes) error text)
+  refused_at_once text (Ok cookies) valid answers = tt
+  refused_at_once text (Err error) valid answers = inr (valid, (Err error, answers, refl))
+
+module _ (makes : List ℕ → Result (List Row) Error → Type 0) (text : List ℕ) where
+  -- the cookies of a list, or the error, as a result with a vector
+  pub list_made : (answer : Result (Vec Row Global) Error) → IsTrue (is_utf8 text)
+      → makes text (result_map_both (λ cookies. cookies.items) (λ error. error) answer)
+      → IfOk answer (λ cookies. ParsesToCookies makes text cookies.items)
+  list_made (Ok cookies) valid created = (valid, created)
+  list_made (Err error) valid created = tt
+
+  pub list_refused : (answer : Result (Vec Row Global) Error) → IsTrue (is_utf8 text)
+      → makes text (result_map_both (λ cookies. cookies.items) (λ error. error) answer)
+      → IfErr answer (λ error. RejectsText makes error text)
+  list_refused (Ok cookies) valid created = tt
+  list_refused (Err error) valid created = inr (valid, created)
+
+module _ (says : List Row → Result (String Global) Error → Type 0) (rows : List Row) (text : String Global) (said : says rows (Ok text)) {T : Type 0} where
+  -- the string of the rows and a line feed were written
+  pub list_written : (answer : Result T Error) (old new : Option (List ℕ)) → OnOk answer (Appends old new (line_text text))
+      → OnOk answer (WritesList says rows old new)
+  list_written (Ok done) old new appended = (text, said, appended)
+  list_written (Err error) old new appended = tt
+
+  -- or a beginning of them
+  pub list_begun : (answer : Result T Error) (old new : SinkState)
+      → IfErr answer (λ error. AppendsPrefix old.contents new.contents (line_text text) × (error ≡ Io) × (new.failed ≡ old.failed + 1))
+      → IfErr answer (λ error. FailsToSaveList says error rows old new)
+  list_begun (Ok done) old new begun = tt
+  list_begun (Err error) old new (begun, is, count) = inr (text, said, begun, is, count)
+
+-- a cookie in front of others is moved to the end of those before
+moved_over : (done : List Row) (cookie : Row) (others : Result (List Row) CookieError)
+    → result_map_both (λ cookies. done ++ cookies) (λ fault. fault) (result_map_both (λ cookies. cookie ∷ cookies) (λ fault. fault) others)
+    ≡ result_map_both (λ cookies. (done ++ cookie ∷ []) ++ cookies) (λ fault. fault) others
+moved_over done cookie (Ok cookies) = ap Ok (sym (append_assoc done (cookie ∷ []) cookies))
+moved_over done cookie (Err fault) = refl
+
+-- the cookie of the first saved form was made
+pub form_done : (done : List Row) (cookie : Row) (form : Parts Moment) (forms : List (Parts Moment)) → cookie_of_saved form ≡ Ok cookie
+    → result_map_both (λ cookies. done ++ cookies) (λ fault. fault) (cookies_of_saved (form ∷ forms))
+    ≡ result_map_both (λ cookies. (done ++ cookie ∷ []) ++ cookies) (λ fault. fault) (cookies_of_saved forms)
+form_done done cookie form forms is = rw is (moved_over done cookie (cookies_of_saved forms))

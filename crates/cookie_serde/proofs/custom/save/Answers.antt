@@ -1,0 +1,9 @@
+use Rattle.std.proofs.Common.{ap}
+use Rattle.cookie_laws.specs.Contents.{Contents}
+use Rattle.cookie_serde.proofs.custom.save.Goals as goal
+
+pub returns-clause-whole : goal.returns-clause-whole
+returns-clause-whole g c = rw (← ap (λ (s : Contents). s.rows) c.as_store.ensures) c.save_copies.ensures.whole
+
+pub returns-clause-stopped : goal.returns-clause-stopped
+returns-clause-stopped g c = rw (← ap (λ (s : Contents). s.rows) c.as_store.ensures) c.save_copies.ensures.stopped

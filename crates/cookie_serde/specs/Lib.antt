@@ -1,0 +1,11 @@
+pub mod Cuts
+pub mod JsonLines
+pub mod JsonLists
+pub mod ListFormats
+pub mod Lists
+pub mod LoadError
+pub mod Loading
+pub mod Migration
+pub mod RonLists
+pub mod SavedForms
+pub mod Saving

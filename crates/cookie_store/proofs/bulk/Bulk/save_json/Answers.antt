@@ -1,8 +1,0 @@
-use Rattle.std.proofs.Common.{ap, ◌∙◌}
-use Rattle.cookie_laws.specs.Contents.{Contents}
-use Rattle.cookie_laws.specs.Rows.{RowsInOrder}
-use Rattle.cookie_store.proofs.bulk.Bulk.save_json.Goals as goal
-
-pub returns-clause-stopped : goal.returns-clause-stopped
-returns-clause-stopped g c =
-    rw (← ap (λ (kept : RowsInOrder). kept.rows) c.rows.ensures ∙ ap (λ (s : Contents). s.rows) c.as_store-store.ensures) c.save_json_rows.ensures.stopped

@@ -1,5 +1,0 @@
-use Rattle.cookie_store.proofs.RonBack.{ron_back}
-use Rattle.cookie_store.proofs.serde.laws.ron_list_comes_back.Goals as goal
-
-pub returns : goal.returns
-returns c rows text all says = ron_back c.survives_saving.ensures c.printed_reads_back.ensures.line rows text all says
