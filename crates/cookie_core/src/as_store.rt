@@ -12,8 +12,8 @@ use cookie_raw::RawCookie;
 use jiff::civil::DateTime;
 use url::Url;
 
-/// A [`CookieStore`] behind a type parameter, so that calls which take functions or iterators do
-/// not name its lifetime.
+/// A [`CookieStore`] behind a type parameter: the calls that take functions or iterators are generic
+/// in it, since their proofs do not cover a signature that names `'static`, as a store's cookies do.
 pub trait AsStore: Drop {
     /// The store as contracts see it.
     ghost contents: { Self → Contents };

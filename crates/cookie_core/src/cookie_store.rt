@@ -23,7 +23,7 @@ use crate::call::{Call, Reply, Stopped, reply_or_memory};
 use crate::header::cookie_string;
 use crate::insertion::{accept, owned_cookie, owned_raw_cookie};
 use cookie_lookup::Lookups;
-use cookie_parts::{Cookie, CookieError, CookieResult, Error, StoreAction, StoreResult};
+use cookie_parts::{Cookie, CookieError, CookieResult, Error, StoreAction};
 use cookie_psl::List;
 use cookie_raw::RawCookie;
 use cookie_rows::{

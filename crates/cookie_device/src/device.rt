@@ -10,7 +10,7 @@ pub struct DeviceFailed;
 
 /// A reader. Each read may fail, and only finitely many can succeed.
 pub trait Source {
-    // What is left to be read, and the failed calls.
+    // What is left to be read, the failed calls, and the reads that may still succeed.
     ghost state: { Self → SourceState };
 
     /// Reads once into `buf` and returns the number of bytes read. `Ok(0)` means that the source is

@@ -1,5 +1,5 @@
 //! Parses saved cookies from JSON.
-ghost use Rattle.std.specs.Prelude.{◌≡◌, ◌≢◌, ◌⊎◌, ◌≤◌, [], ◌∷◌, ℕ, Err, IfErr, IfOk, IfSome, map, MatchOption, None, Ok, OnErr, OnSome, option_map, Some};
+ghost use Rattle.std.specs.Prelude.{◌≡◌, ◌≢◌, ◌⊎◌, ◌≤◌, [], ◌∷◌, ℕ, Err, IfErr, IfOk, IfSome, IsOk, map, MatchOption, None, Ok, OnErr, OnSome, option_map, Some};
 ghost use Rattle.json.specs.Reads.{token_of};
 ghost use Rattle.json.specs.Token.{begin_object};
 ghost use Rattle.serde_json.specs.Data.{Data, Members, put, string};
@@ -10,7 +10,7 @@ ghost use Rattle.cookie_forms.specs.FromJson.{list_at, list_in, saved_at, saved_
 ghost use Rattle.cookie_forms.specs.Saved.{saved_view};
 ghost use Rattle.cookie_forms.specs.Shape.{HasShape};
 ghost use Rattle.cookie_forms.specs.ToJson.{domain_tree, expiry_tree, path_tree, tagged_tree};
-ghost use Rattle.cookie_forms.specs.Tokens.{AreFound, ReadsTo};
+ghost use Rattle.cookie_forms.specs.Tokens.{AreFound, BeginWithSaved, BeginWithSavedItem, ReadsTo};
 
 use crate::reading::{
     BorrowedDomain, BorrowedParts, copied, domain_named, domain_tagged, expiry_at, expiry_named,
@@ -44,7 +44,7 @@ pub fn from_text(alloc: Global, text: &str) -> Result<Saved, SavedError>
     if let Some(saved) = saved_from_tokens(alloc, text)? {
         return Ok(saved);
     }
-    from_value(alloc, &json_value(alloc, text)?)
+    saved_of_value(alloc, json_value(alloc, text))
 }
 
 /// Parses a list of saved cookies from JSON: an array as [`list_from_value`] reads.
@@ -61,7 +61,7 @@ pub fn list_from_text(alloc: Global, text: &str) -> Result<Vec<Saved>, SavedErro
     if let Some(list) = list_from_tokens(alloc, text)? {
         return Ok(list);
     }
-    list_from_value(alloc, &json_value(alloc, text)?)
+    list_of_value(alloc, json_value(alloc, text))
 }
 
 // Parses a JSON value, or returns `Json` if `text` is not JSON.
@@ -75,6 +75,30 @@ fn json_value(alloc: Global, text: &str) -> Result<Value, SavedError>
         Err(error) if error.is_memory() => Err(SavedError::Memory),
         Err(_) => Err(SavedError::Json),
     }
+}
+
+// Reads a saved cookie from the JSON value that was parsed, or returns the error of parsing it.
+fn saved_of_value(alloc: Global, parsed: Result<Value, SavedError>) -> Result<Saved, SavedError>
+    ensures saved { (tree : Value) → parsed ≡ Ok tree → IfOk result (λ saved. saved_at (view tree) ≡ Ok (saved_view saved)) }
+    ensures refused { (tree : Value) → parsed ≡ Ok tree
+        → IfErr result (λ e. (e ≡ SavedError.Memory) ⊎ (saved_at (view tree) ≡ Err e)) }
+    ensures unparsed { (e : SavedError) → parsed ≡ Err e → result ≡ Err e }
+    ensures early { (tree : Value) (e : SavedError) → parsed ≡ Ok tree → saved_at (view tree) ≡ Err e → result ≡ Err e }
+{
+    from_value(alloc, &parsed?)
+}
+
+// Reads a list of saved cookies from the JSON value that was parsed, or returns the error of
+// parsing it.
+fn list_of_value(alloc: Global, parsed: Result<Value, SavedError>) -> Result<Vec<Saved>, SavedError>
+    ensures saved { (tree : Value) → parsed ≡ Ok tree → IfOk result (λ list. list_at (view tree) ≡ Ok (map saved_view list.items)) }
+    ensures refused { (tree : Value) → parsed ≡ Ok tree
+        → IfErr result (λ e. (e ≡ SavedError.Memory) ⊎ (list_at (view tree) ≡ Err e)) }
+    ensures unparsed { (e : SavedError) → parsed ≡ Err e → result ≡ Err e }
+    ensures early { (tree : Value) (e : SavedError) → parsed ≡ Ok tree → list_at (view tree) ≡ Err e → result ≡ Err e }
+    ensures memory { (tree : Value) → parsed ≡ Ok tree → list_at (view tree) ≡ Ok [] → IsOk result }
+{
+    list_from_value(alloc, &parsed?)
 }
 
 // Parses a saved cookie without building its JSON value. `None` if `text` is anything but an object
@@ -93,7 +117,7 @@ fn saved_from_tokens(alloc: Global, text: &str) -> Result<Option<Saved>, AllocEr
 }
 
 // Parses a list of saved cookies without building its JSON value. `None` if `text` is anything but
-// an array of such objects.
+// an array of saved cookies, each with a valid expiry.
 fn list_from_tokens(alloc: Global, text: &str) -> Result<Option<Vec<Saved>>, AllocError>
     ensures saved { IfOk result (λ found. IfSome found (λ list. list_in text.now ≡ Ok (map saved_view list.items))) }
     ensures memory { OnErr result (text.now ≢ []) }
@@ -107,11 +131,11 @@ fn list_from_tokens(alloc: Global, text: &str) -> Result<Option<Vec<Saved>>, All
     Ok(list)
 }
 
-// Reads an array of such objects, or returns `None`.
+// Reads an array of saved cookies, each with a valid expiry, or returns `None`.
 fn read_list(alloc: Global, reader: &mut Reader<'_>) -> Result<Option<Vec<Saved>>, AllocError>
     ensures saved { IfOk result (λ found. IfSome found (λ list. (depth : ℕ) → 3 ≤ depth
         → (tree : Data) × ReadsTo depth reader.old tree reader.new × (list_at tree ≡ Ok (map saved_view list.items)))) }
-    ensures memory { OnErr result (reader.old ≢ []) }
+    ensures memory { OnErr result (BeginWithSavedItem reader.old) }
 {
     let Some(Token::BeginArray) = next_token(reader) else {
         return Ok(None);
@@ -126,11 +150,11 @@ fn read_list(alloc: Global, reader: &mut Reader<'_>) -> Result<Option<Vec<Saved>
     Ok(Some(list))
 }
 
-// Reads such an object and copies its parts, or returns `None`.
+// Reads a saved cookie with a valid expiry and copies its parts, or returns `None`.
 fn read_saved(alloc: Global, reader: &mut Reader<'_>) -> Result<Option<Saved>, AllocError>
     ensures saved { IfOk result (λ found. IfSome found (λ saved. (depth : ℕ) → 2 ≤ depth
         → (tree : Data) × ReadsTo depth reader.old tree reader.new × (saved_at tree ≡ Ok (saved_view saved)))) }
-    ensures memory { OnErr result (reader.old ≢ []) }
+    ensures memory { OnErr result (BeginWithSaved reader.old) }
 {
     let Some(parts) = read_parts(reader) else {
         return Ok(None);
@@ -259,7 +283,7 @@ fn read_tagged<'a>(reader: &mut Reader<'a>) -> Option<(&'a str, &'a str)>
     Some((tag, text))
 }
 
-// The next token. `Reader::next` is inlined wherever it is called, and is 4 kB of code.
+// The next token. `Reader::next` is inlined wherever it is called, and is long.
 #[inline(never)]
 fn next_token<'a>(reader: &mut Reader<'a>) -> Option<Token<'a>>
     ensures { MatchOption result ((reader.old ≡ []) × (reader.new ≡ [])) (λ t. reader.old ≡ token_of t ∷ reader.new) }

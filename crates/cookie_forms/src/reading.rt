@@ -1,5 +1,5 @@
 //! Reads saved cookies from JSON values.
-ghost use Rattle.std.specs.Prelude.{◌≡◌, ◌⊎◌, [], IsOk, IfOk, IfErr, Ok, Err, map, option_map, option_and_then, is_some, None, Some};
+ghost use Rattle.std.specs.Prelude.{◌≡◌, ◌⊎◌, [], IsOk, IfOk, IfErr, Ok, Err, map, option_map, is_some, None, Some};
 ghost use Rattle.serde_json.specs.View.{view, items_view, members_view};
 ghost use Rattle.serde_json.specs.Written.{has_float};
 ghost use Rattle.cookie_forms.specs.Saved.{saved_view, domain_view, expiry_view};
@@ -13,7 +13,7 @@ use serde_json::Value;
 use serde_json::value::Map;
 use std::alloc::{AllocError, Global};
 
-// The parts of a saved cookie, borrowed from its JSON value.
+// The parts of a saved cookie, borrowed from its JSON value or text.
 #[derive(Clone, Copy)]
 pub(crate) struct BorrowedParts<'a> {
     pub(crate) raw_cookie: &'a str,
@@ -23,7 +23,7 @@ pub(crate) struct BorrowedParts<'a> {
     pub(crate) ends: Option<&'a str>,
 }
 
-// A domain, borrowed from its JSON value.
+// A domain, borrowed from its JSON value or text.
 #[derive(Clone, Copy)]
 pub(crate) enum BorrowedDomain<'a> {
     HostOnly(&'a str),

@@ -1,14 +1,17 @@
-use Rattle.std.proofs.Common.{arith}
+use Rattle.std.proofs.Common.{refl}
 use Rattle.cookie_forms.specs.Borrowed.{borrowed_parts}
 use Rattle.cookie_forms.specs.Saved.{expiry_view, saved_view}
-use Rattle.cookie_forms.proofs.ReadTexts.{on_err, saved_read}
-use Rattle.cookie_forms.proofs.ReadTokens.{not_empty}
+use Rattle.cookie_forms.specs.ToJson.{with_expiry}
+use Rattle.cookie_forms.proofs.ReadTexts.{begin_saved, on_err, saved_read}
 use Rattle.cookie_forms.proofs.parsing.read_saved.Goals as goal
 
 pub returns-in_err-copied-in-Some-expiry_at-clause-memory : goal.returns-in_err-copied-in-Some-expiry_at-clause-memory
 returns-in_err-copied-in-Some-expiry_at-clause-memory c =
-    let here = c.in-Some.ensures 2 (omega arith) in
-    on_err c.from_residual.result _ (not_empty 2 c.args.reader.now c.read_parts.new.reader here.0 here.1)
+    let parts = borrowed_parts c.in-Some.parts in
+    let ends = expiry_view c.in-Some-expiry_at.expires in
+    on_err c.from_residual.result _ (λ depth two.
+    let here = c.in-Some.ensures depth two in
+    begin_saved depth c.args.reader.now c.read_parts.new.reader here.0 (with_expiry parts ends) here.1 (saved_read here.0 parts ends (with_expiry parts ends) here.2 c.in-Some-expiry_at.ensures refl))
 
 pub returns-in_ok-copied-in-Some-expiry_at-clause-saved : goal.returns-in_ok-copied-in-Some-expiry_at-clause-saved
 returns-in_ok-copied-in-Some-expiry_at-clause-saved c =
