@@ -17,6 +17,6 @@ none_of None result never reported want = refl
 none_of (Some r) result never reported want = grind (arith, never, reported r refl, want)
 
 -- if out of memory, the cookie was not rejected early
-pub want_is_not_early : {T : Type 0} (read : Result Raw RawCookieParseError) (url : Parts) (result : Result T CookieError)
+pub memory_is_not_early : {T : Type 0} (read : Result Raw RawCookieParseError) (url : Parts) (result : Result T CookieError)
     → ((r : CookieError) → early read url ≡ Some r → result ≡ Err r) → result ≡ Err Memory → early read url ≡ None
-want_is_not_early read url result reported want = none_of (early read url) result (not_memory read url) reported want
+memory_is_not_early read url result reported want = none_of (early read url) result (not_memory read url) reported want

@@ -39,7 +39,7 @@ abbrev pub InsertsSome : {S : Type 0} → (S → Option Raw → S → Type 0) �
 InsertsSome {S} steps items url now old new = (rest : S) × InsertsUntil steps items rest url now old new
 
 -- the log line of a received cookie: of a Secure cookie the name only
-abbrev pub arrival_text : Raw → List ℕ
-arrival_text raw =
+abbrev pub received_line_text : Raw → List ℕ
+received_line_text raw =
     if is_secure_only raw then codes "inserting secure cookie '" ++ raw.name ++ codes "'"
     else codes "inserting Set-Cookie '" ++ cookie_text raw ++ codes "'"

@@ -32,7 +32,7 @@ pub trait AsStore: Drop {
             (received (contents self.old) (cookie_of raw.now url.now (moment_of now)) url.now (moment_of now)).reply) }
         ensures store { UnlessMemory result (contents self.new
             ≡ (received (contents self.old) (cookie_of raw.now url.now (moment_of now)) url.now (moment_of now)).store) }
-        ensures refused { OnErr result (contents self.new ≡ contents self.old) }
+        ensures unchanged { OnErr result (contents self.new ≡ contents self.old) }
         ensures early { (refusal : CookieError) → early_error raw.now url.now ≡ Some refusal → result ≡ Err refusal };
 }
 

@@ -1,5 +1,5 @@
 //! The cookie store.
-ghost use Rattle.std.specs.Prelude.{◌≡◌, ◌≢◌, ◌≤◌, ◌+◌, ◌*◌, ◌-◌, ◌<◌, [], is_some, length, map, string_bytes, Err, None, Ok, Some, IfErr, IfOk, IsTrue, OnErr, OnOk, ◌⊎◌};
+ghost use Rattle.std.specs.Prelude.{◌≡◌, ◌≢◌, ◌≤◌, ◌+◌, ◌*◌, [], is_some, length, map, string_bytes, Err, None, Ok, Some, IfErr, IfOk, IsTrue, OnErr, OnOk, ◌⊎◌};
 ghost use Rattle.std.specs.Iterator.{IsFinite};
 ghost use Rattle.std.specs.Option.{option_copied};
 ghost use Rattle.cookie_words.specs.Moments.{moment_of};
@@ -188,12 +188,12 @@ impl CookieStore {
             (step (Set text.now url.now (moment_of now)) self.old).reply }
         ensures store { UnlessMemory result
             (self.new ≡ (step (Set text.now url.now (moment_of now)) self.old).store) }
-        ensures refused { OnErr result (self.new ≡ self.old) }
+        ensures unchanged { OnErr result (self.new ≡ self.old) }
         ensures early { (refusal : CookieError) → early (reading text.now) url.now ≡ Some refusal → result ≡ Err refusal }
         ensures memory { result ≡ Err Memory → early (reading text.now) url.now ≡ None }
     {
         let created = owned_cookie(self.alloc, text, url, now);
-        self.insert_made(created, url, now)
+        self.insert_created(created, url, now)
     }
 
     /// Inserts a cookie received from `url`, RFC 6265 5.3.
@@ -220,8 +220,8 @@ impl CookieStore {
             (step (Insert cookie.entry url.now (moment_of now)) self.old).reply }
         ensures store { UnlessMemory result
             (self.new ≡ (step (Insert cookie.entry url.now (moment_of now)) self.old).store) }
-        ensures refused { OnErr result (self.new ≡ self.old) }
-        ensures refusals { IfErr result MayRefuse }
+        ensures unchanged { OnErr result (self.new ≡ self.old) }
+        ensures errors { IfErr result MayRefuse }
         ensures memory { result ≡ Err Memory
             → (step (Insert cookie.entry url.now (moment_of now)) self.old).reply ≡ Stored (Ok Inserted) }
     {
@@ -256,12 +256,12 @@ impl CookieStore {
             (received self.old (cookie_of raw.now url.now (moment_of now)) url.now (moment_of now)).reply) }
         ensures store { UnlessMemory result
             (self.new ≡ (received self.old (cookie_of raw.now url.now (moment_of now)) url.now (moment_of now)).store) }
-        ensures refused { OnErr result (self.new ≡ self.old) }
+        ensures unchanged { OnErr result (self.new ≡ self.old) }
         ensures early { (refusal : CookieError) → early_error raw.now url.now ≡ Some refusal → result ≡ Err refusal }
         ensures memory { result ≡ Err Memory → early_error raw.now url.now ≡ None }
     {
         let created = owned_raw_cookie(self.alloc, raw, url, now);
-        self.insert_made(created, url, now)
+        self.insert_created(created, url, now)
     }
 
     /// Returns the stored cookie with this domain, path and name, expired or not.
@@ -481,7 +481,7 @@ impl CookieStore {
             reply_view reply ≡ (step (call_view call) self.old).reply) }
         ensures never_memory { IfOk result (λ reply. reply_view reply ≢ Stored (Err Memory)) }
         ensures store { OnOk result (self.new ≡ (step (call_view call) self.old).store) }
-        ensures refused { OnErr result (self.new ≡ self.old) }
+        ensures unchanged { OnErr result (self.new ≡ self.old) }
         ensures memory { OnErr result
             (MayAllocate (call_view call) (step (call_view call) self.old).reply) }
     {
@@ -511,7 +511,7 @@ impl CookieStore {
             map reply_view reported.items ≡ replies (map call_view calls.items) self.old) }
         ensures store { OnOk result (self.new ≡ store_after (map call_view calls.items) self.old) }
         ensures stopped { IfErr result (λ stopped. StopsAfter stopped (map call_view calls.items) self.old self.new) }
-        ensures wanting { IfErr result (λ stopped. StopsAt stopped.count (map call_view calls.items) self.new) }
+        ensures stopping_point { IfErr result (λ stopped. StopsAt stopped.count (map call_view calls.items) self.new) }
     {
         // Room for all replies first, so that no reply is lost once its call was executed.
         let Ok(mut reported) = Vec::with_capacity(self.alloc, calls.len()) else {
@@ -536,7 +536,7 @@ impl CookieStore {
     }
 
     // Inserts the cookie, or returns the error from making it.
-    fn insert_made(
+    fn insert_created(
         &mut self,
         created: CookieResult<'static>,
         url: &Url,
@@ -545,8 +545,8 @@ impl CookieStore {
         ensures reply { IsReply result
             (Stored (received self.old created.entry url.now (moment_of now)).reply) }
         ensures store { UnlessMemory result (self.new ≡ (received self.old created.entry url.now (moment_of now)).store) }
-        ensures refused { OnErr result (self.new ≡ self.old) }
-        ensures unmade { (refusal : CookieError) → created.entry ≡ Err refusal → result ≡ Err refusal }
+        ensures unchanged { OnErr result (self.new ≡ self.old) }
+        ensures creation_error { (refusal : CookieError) → created.entry ≡ Err refusal → result ≡ Err refusal }
         ensures memory { result ≡ Err Memory → (created.entry ≡ Err Memory)
             ⊎ ((received self.old created.entry url.now (moment_of now)).reply ≡ Ok Inserted) }
     {

@@ -1,5 +1,5 @@
 //! Insertion of a cookie, RFC 6265 5.3.
-ghost use Rattle.std.specs.Prelude.{◌≡◌, ◌≢◌, Err, None, Ok, Some, IfErr, IfSome, OnErr, OnOk};
+ghost use Rattle.std.specs.Prelude.{◌≡◌, ◌≢◌, Err, Ok, Some, IfErr, IfSome, OnErr, OnOk};
 ghost use Rattle.std.specs.Option.{option_copied};
 ghost use Rattle.cookie_words.specs.Moments.{moment_of};
 ghost use Rattle.cookie_raw.specs.Reading.{reading};
@@ -63,7 +63,7 @@ pub(crate) fn owned_raw_cookie(
 }
 
 // The domain as a host-only domain.
-fn for_that_host(domain: CookieDomain) -> CookieDomain
+fn into_host_only(domain: CookieDomain) -> CookieDomain
     ensures { IfSome (text_if_any (domain_value domain)) (λ text. domain_value result ≡ HostOnly text) }
 {
     match domain {
@@ -93,7 +93,7 @@ fn by_list(
         return Err(CookieError::PublicSuffix);
     }
     let domain = mem::replace(&mut cookie.domain, CookieDomain::Empty);
-    cookie.domain = for_that_host(domain);
+    cookie.domain = into_host_only(domain);
     Ok(())
 }
 
@@ -125,7 +125,7 @@ fn reply_at(
     now: DateTime,
 ) -> InsertResult
     ensures value { result ≡ reply_at (option_copied row.entry) cookie.now url.now (moment_of now) }
-    ensures refusals { IfErr result (λ refusal. MayRefuse refusal × (refusal ≢ Memory)) }
+    ensures errors { IfErr result (λ refusal. MayRefuse refusal × (refusal ≢ Memory)) }
 {
     if let Some(row) = row
         && !row.is_expired(now)
@@ -161,8 +161,8 @@ pub(crate) fn accept(
         (accept (contents_of rows.old (option_copied suffixes.entry) limit) cookie.entry url.now (moment_of now)).reply) }
     ensures rows { UnlessMemory result (rows.new
         ≡ rows_in_order (accept (contents_of rows.old (option_copied suffixes.entry) limit) cookie.entry url.now (moment_of now)).store) }
-    ensures refused { OnErr result (rows.new ≡ rows.old) }
-    ensures refusals { IfErr result MayRefuse }
+    ensures unchanged { OnErr result (rows.new ≡ rows.old) }
+    ensures errors { IfErr result MayRefuse }
     ensures memory { result ≡ Err Memory
         → (accept (contents_of rows.old (option_copied suffixes.entry) limit) cookie.entry url.now (moment_of now)).reply ≡ Ok Inserted }
 {

@@ -17,15 +17,15 @@ use url::Url;
 
 // The log line of a received cookie. Of a Secure cookie it has the name only.
 #[derive(Drop)]
-struct Arrival<'a> {
+struct ReceivedLine<'a> {
     raw: &'a RawCookie<'a>,
 }
 
-impl<'a> fmt::Display for Arrival<'a> {
+impl<'a> fmt::Display for ReceivedLine<'a> {
     ghost use Rattle.std.specs.Prelude.{Some};
-    ghost use Rattle.cookie_core.specs.Responses.{arrival_text};
+    ghost use Rattle.cookie_core.specs.Responses.{received_line_text};
 
-    ghost output = { λ arrival. Some (arrival_text arrival.raw.now) };
+    ghost output = { λ arrival. Some (received_line_text arrival.raw.now) };
 
     fn fmt<W: fmt::Write>(&self, f: &mut fmt::Formatter<W>) -> fmt::Result {
         if self.raw.is_secure() {
@@ -52,7 +52,7 @@ pub fn insert_each<'c, S: AsStore, L: Log, I: Iterator<Item = RawCookie<'c>>>(
         (InsertsUntil I.next_gives cookies.old cookies.new url.now (moment_of now) (S.contents store.old) (S.contents store.new)) }
 {
     while let Some(raw) = cookies.next() {
-        log_arrival(logger, &raw);
+        log_received(logger, &raw);
         let refusal = refusal_of(store.take_raw(&raw, url, now))?;
         log_refusal(logger, refusal);
     }
@@ -72,8 +72,8 @@ fn refusal_of(reported: InsertResult) -> Result<Option<CookieError>, AllocError>
 }
 
 // Logs a received cookie.
-fn log_arrival<L: Log>(logger: &L, raw: &RawCookie<'_>) {
-    debug!(logger; "{}", Arrival { raw });
+fn log_received<L: Log>(logger: &L, raw: &RawCookie<'_>) {
+    debug!(logger; "{}", ReceivedLine { raw });
 }
 
 // Logs why a cookie was rejected, if it was.

@@ -12,7 +12,7 @@ mod tokens;
 mod writing;
 
 pub use error::SavedError;
-pub use moment::{moment_text, read_moment};
+pub use moment::{moment_bytes, moment_text, read_moment};
 pub use parsing::{from_text, list_from_text};
 pub use reading::{from_value, list_from_value};
 pub use saved::{Saved, SavedDomain, SavedExpiry};

@@ -34,8 +34,8 @@ pub(crate) fn written(alloc: Global, moment: DateTime) -> Result<String, AllocEr
     String::from_str(alloc, str::from_utf8(&moment_bytes(moment)).unwrap())
 }
 
-// Formats a time from the year 0 on in ASCII.
-pub(crate) fn moment_bytes(moment: DateTime) -> [u8; 20]
+/// Formats a time from the year 0 on, as [`moment_text`] does. The bytes are ASCII.
+pub fn moment_bytes(moment: DateTime) -> [u8; 20]
     requires { pos 0 ≤ℤ moment.date.year }
     ensures text { result ≡ moment_text (moment_of moment) }
     ensures utf8 { IsUtf8 result }

@@ -13,8 +13,8 @@
 
 use cookie_device::Counted;
 use cookie_psl::List;
-use cookie_script::fault::MainFault;
-use cookie_script::{HashKey, StoreAlloc, arguments, convert, fault, run, suffixes};
+use cookie_script::error::MainFault;
+use cookie_script::{HashKey, StoreAlloc, arguments, convert, error, run, suffixes};
 use std::hash::RandomState;
 use std::process::ExitCode;
 use std::{env, fs};
@@ -23,7 +23,7 @@ fn main(rt: HostRuntime) -> ExitCode {
     match work(&rt) {
         Ok(()) => ExitCode::SUCCESS,
         Err(fault) => {
-            let _told = eprintln!(rt; "{fault}");
+            let _ = eprintln!(rt; "{fault}");
             ExitCode::from(fault.status())
         }
     }
@@ -32,11 +32,11 @@ fn main(rt: HostRuntime) -> ExitCode {
 // Does what the command-line arguments say.
 fn work(rt: &HostRuntime) -> Result<(), MainFault> {
     let words: Vec<String> = env::args(rt)
-        .map_err(arguments::words_fault)?
+        .map_err(arguments::arguments_error)?
         .collect(rt.alloc())?;
-    let own = arguments::own_words(words.as_slice());
+    let own = arguments::own_arguments(words.as_slice());
     let options = arguments::options(own)?;
-    let hash_key = HashKey::Random(RandomState::new(rt).map_err(fault::random_key_fault)?);
+    let hash_key = HashKey::Random(RandomState::new(rt).map_err(error::random_key_error)?);
     let alloc = StoreAlloc {
         alloc: rt.alloc(),
         hash_key,
@@ -55,6 +55,6 @@ fn work(rt: &HostRuntime) -> Result<(), MainFault> {
 
 // Reads the public suffix list of a file.
 fn read_list(rt: &HostRuntime, file: &str) -> Result<List, MainFault> {
-    let bytes = fs::read(rt, file).map_err(suffixes::file_fault)?;
+    let bytes = fs::read(rt, file).map_err(suffixes::list_file_error)?;
     suffixes::list_of(rt.alloc(), bytes.as_slice())
 }

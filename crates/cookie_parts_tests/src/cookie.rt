@@ -112,7 +112,7 @@ const COOKIES: &[(&str, &str, Made)] = &[
 ];
 
 // Asserts that the result is what the row expects.
-fn is_wanted(rt: &impl Abort, made: &Result<Cookie<'_>, CookieError>, row: &(&str, &str, Made)) {
+fn is_expected(rt: &impl Abort, made: &Result<Cookie<'_>, CookieError>, row: &(&str, &str, Made)) {
     match (made, &row.2) {
         (Ok(cookie), Ok((hosts, path))) => {
             holds(rt, is_for(&cookie.domain, hosts), row);
@@ -125,11 +125,11 @@ fn is_wanted(rt: &impl Abort, made: &Result<Cookie<'_>, CookieError>, row: &(&st
 // Asserts that the row's header value gives the expected result at `now`.
 fn makes(rt: &impl Abort, alloc: Global, row: &(&str, &str, Made), now: DateTime) {
     let url = Url::parse(alloc, row.1).expect(rt, "a URL");
-    is_wanted(rt, &Cookie::parse(alloc, row.0, &url, now), row);
+    is_expected(rt, &Cookie::parse(alloc, row.0, &url, now), row);
 }
 
 #[test]
-fn a_text_makes_a_cookie(rt: HostRuntime) {
+fn header_values_are_parsed(rt: HostRuntime) {
     for row in COOKIES {
         makes(&rt, rt.alloc(), row, DateTime::MIN);
         makes(&rt, rt.alloc(), row, DateTime::MAX);
@@ -197,16 +197,16 @@ const FLAGS: &[(&str, &str, &str, bool)] = &[
     ),
 ];
 
-fn asks_so(rt: &impl Abort, alloc: Global, row: &(&str, &str, &str, bool)) -> bool {
+fn matches_as_expected(rt: &impl Abort, alloc: Global, row: &(&str, &str, &str, bool)) -> bool {
     let (text, from, at, wanted) = *row;
     let at = Url::parse(alloc, at).expect(rt, "a URL");
     cookie_from(rt, alloc, text, from, DateTime::ZERO).matches(&at) == wanted
 }
 
 #[test]
-fn a_cookie_asks_for_a_scheme(rt: HostRuntime) {
+fn a_cookie_requires_a_scheme(rt: HostRuntime) {
     for row in FLAGS {
-        holds(&rt, asks_so(&rt, rt.alloc(), row), row);
+        holds(&rt, matches_as_expected(&rt, rt.alloc(), row), row);
     }
 }
 
@@ -226,7 +226,7 @@ fn says(rt: &impl Abort, alloc: Global, text: &str, wanted: &str) {
 }
 
 #[test]
-fn a_cookie_says_what_it_is(rt: HostRuntime) {
+fn a_cookie_converts_to_its_raw_cookie(rt: HostRuntime) {
     let wanted = "a=1; Path=/x; Domain=a.com; Expires=Thu, 01 Jan 2026 00:00:05 GMT";
     says(&rt, rt.alloc(), TEXT, wanted)
 }
@@ -287,16 +287,16 @@ fn raw_cookie<'a>(rt: &impl Abort, alloc: Global, raw: &RawCookie<'a>) -> Cookie
 }
 
 // Asserts that the cookie of the raw cookie is the same.
-fn comes_from_raw(rt: &impl Abort, alloc: Global, text: &str) {
+fn is_same_from_raw(rt: &impl Abort, alloc: Global, text: &str) {
     let raw = RawCookie::parse(text).expect(rt, "a cookie");
     is_same(rt, alloc, &raw_cookie(rt, alloc, &raw), text);
 }
 
 #[test]
-fn a_cookie_is_kept_until_it_ends(rt: HostRuntime) {
+fn cookies_are_copied_and_expired(rt: HostRuntime) {
     for row in TEXTS {
         is_owned(&rt, rt.alloc(), row.0);
-        comes_from_raw(&rt, rt.alloc(), row.0);
+        is_same_from_raw(&rt, rt.alloc(), row.0);
         ends(&rt, rt.alloc(), row);
     }
 }

@@ -48,7 +48,7 @@ fn take_all(
 
 // Asserts the lines, each followed by '|', and the last bytes, read by at most `most` bytes at a
 // time.
-fn comes_as(
+fn lines_are_read_as(
     rt: &impl Abort,
     alloc: Global,
     input: &[u8],
@@ -72,18 +72,18 @@ const LINES: &[(&[u8], &[u8])] = &[
     (b"\n\n\nx\n", b"|||x|"),
 ];
 
-fn all_come_as(rt: &impl Abort, alloc: Global, fails_at: usize) {
+fn all_lines_are_read(rt: &impl Abort, alloc: Global, fails_at: usize) {
     for (input, wanted) in LINES {
         for most in [1, 2, 3, 5_000] {
-            comes_as(rt, alloc, input, wanted, most, fails_at);
+            lines_are_read_as(rt, alloc, input, wanted, most, fails_at);
         }
     }
 }
 
 #[test]
-fn lines_come_whole(rt: HostRuntime) {
+fn lines_are_read_whole(rt: HostRuntime) {
     for fails_at in 0..20 {
-        all_come_as(&rt, rt.alloc(), fails_at);
+        all_lines_are_read(&rt, rt.alloc(), fails_at);
     }
 }
 
@@ -94,17 +94,17 @@ fn long_line(rt: &impl Abort, alloc: Global, behind: &[u8]) -> Vec<u8> {
     text
 }
 
-fn long_lines_come_as(rt: &impl Abort, alloc: Global, input: &[u8], wanted: &[u8]) {
+fn long_lines_are_read_as(rt: &impl Abort, alloc: Global, input: &[u8], wanted: &[u8]) {
     for most in [1, 4_095, 4_096, 100_000] {
-        comes_as(rt, alloc, input, wanted, most, 0);
+        lines_are_read_as(rt, alloc, input, wanted, most, 0);
     }
 }
 
 #[test]
-fn a_long_line_comes_whole(rt: HostRuntime) {
+fn a_long_line_is_read_whole(rt: HostRuntime) {
     let input = long_line(&rt, rt.alloc(), b"\nshort\n");
     let wanted = long_line(&rt, rt.alloc(), b"|short|");
-    long_lines_come_as(&rt, rt.alloc(), &input, &wanted)
+    long_lines_are_read_as(&rt, rt.alloc(), &input, &wanted)
 }
 
 // Asserts that the answer is the expected bytes or error.
@@ -121,7 +121,7 @@ fn is_read(
 }
 
 // Asserts that all bytes are read, at most `most` at a time, unless a read fails.
-fn all_come(rt: &impl Abort, alloc: Global, input: &[u8], most: usize, fails_at: usize) {
+fn all_are_read(rt: &impl Abort, alloc: Global, input: &[u8], most: usize, fails_at: usize) {
     let mut source = Counted::new(Fake::new(input, most, fails_at));
     let answer = read_all(alloc, &mut source);
     let failures = u64::from(fails_at > 0);
@@ -134,19 +134,19 @@ fn all_come(rt: &impl Abort, alloc: Global, input: &[u8], most: usize, fails_at:
     is_read(rt, &answer, wanted, &(most, fails_at));
 }
 
-fn all_come_so(rt: &impl Abort, alloc: Global, input: &[u8]) {
+fn all_are_read_however_cut(rt: &impl Abort, alloc: Global, input: &[u8]) {
     for fails_at in 0..5 {
-        all_come(rt, alloc, input, 1_000, fails_at);
-        all_come(rt, alloc, input, 4_095, fails_at);
-        all_come(rt, alloc, input, 5_000, fails_at);
+        all_are_read(rt, alloc, input, 1_000, fails_at);
+        all_are_read(rt, alloc, input, 4_095, fails_at);
+        all_are_read(rt, alloc, input, 5_000, fails_at);
     }
 }
 
 #[test]
-fn all_bytes_come(rt: HostRuntime) {
+fn all_bytes_are_read(rt: HostRuntime) {
     let input = long_line(&rt, rt.alloc(), b"\nshort");
-    all_come_so(&rt, rt.alloc(), &input);
-    all_come(&rt, rt.alloc(), b"", 1, 0)
+    all_are_read_however_cut(&rt, rt.alloc(), &input);
+    all_are_read(&rt, rt.alloc(), b"", 1, 0)
 }
 
 // How a source is read: one byte, all that is left, or one read into the buffer.
@@ -562,7 +562,12 @@ fn joined(rt: &impl Abort, alloc: Global, texts: &[(&str, usize)]) -> String {
 }
 
 // Asserts whether each step succeeds, and returns how many failed.
-fn end_so(rt: &impl Abort, alloc: Global, sink: &mut Counted<Fake<Vec<u8>>>, row: &Steps) -> u64 {
+fn steps_end_as_expected(
+    rt: &impl Abort,
+    alloc: Global,
+    sink: &mut Counted<Fake<Vec<u8>>>,
+    row: &Steps,
+) -> u64 {
     let (most, fails_at, steps, calls, out) = *row;
     let mut output = Output::new(alloc).expect(rt, "memory");
     let mut failures = 0_u64;
@@ -575,10 +580,10 @@ fn end_so(rt: &impl Abort, alloc: Global, sink: &mut Counted<Fake<Vec<u8>>>, row
 }
 
 // Asserts that no call is repeated, and that exactly the row's bytes are written.
-fn go_out(rt: &impl Abort, alloc: Global, row: &Steps) {
+fn run_steps(rt: &impl Abort, alloc: Global, row: &Steps) {
     let (most, fails_at, _, calls, out) = *row;
     let mut sink = Counted::new(Fake::new(Vec::new(alloc), most, fails_at));
-    let failures = end_so(rt, alloc, &mut sink, row);
+    let failures = steps_end_as_expected(rt, alloc, &mut sink, row);
     is_equal(rt, sink.failures(), failures, &(most, fails_at, calls, out));
     let fake = sink.into_inner();
     is_equal(rt, fake.calls, calls, &(most, fails_at, calls, out));
@@ -588,8 +593,8 @@ fn go_out(rt: &impl Abort, alloc: Global, row: &Steps) {
 }
 
 #[test]
-fn texts_go_out_but_for_the_call_that_fails(rt: HostRuntime) {
+fn texts_are_written_except_by_the_failed_call(rt: HostRuntime) {
     for row in ROWS {
-        go_out(&rt, rt.alloc(), row);
+        run_steps(&rt, rt.alloc(), row);
     }
 }

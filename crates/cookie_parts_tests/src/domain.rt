@@ -121,7 +121,7 @@ fn fault_of(refusal: Option<CookieError>) -> Error {
 }
 
 #[test]
-fn a_text_that_is_no_domain_name_is_refused(rt: HostRuntime) {
+fn invalid_domain_names_are_rejected(rt: HostRuntime) {
     for (origin, refusal) in NO_DOMAINS {
         let fault = made(&rt, rt.alloc(), origin).err();
         is_equal(&rt, fault, Some(fault_of(*refusal)), origin);
@@ -261,7 +261,7 @@ const ORDERS: &[(Hosts, Hosts, Ordering)] = &[
     (Hosts::Empty, Hosts::Empty, Ordering::Equal),
 ];
 
-fn stand_so(rt: &impl Abort, alloc: Global, row: &(Hosts, Hosts, Ordering)) {
+fn are_compared(rt: &impl Abort, alloc: Global, row: &(Hosts, Hosts, Ordering)) {
     let (first, second, wanted) = row;
     let first = domain_of(rt, alloc, first);
     let second = domain_of(rt, alloc, second);
@@ -271,7 +271,7 @@ fn stand_so(rt: &impl Abort, alloc: Global, row: &(Hosts, Hosts, Ordering)) {
 #[test]
 fn domains_are_in_order(rt: HostRuntime) {
     for row in ORDERS {
-        stand_so(&rt, rt.alloc(), row);
+        are_compared(&rt, rt.alloc(), row);
     }
 }
 

@@ -5,7 +5,7 @@ use cookie_saved::SavedError;
 use std::alloc::{AllocError, AllocFailed, Global};
 use std::process::Abort;
 
-const REFUSALS: &[(CookieError, &str)] = &[
+const COOKIE_ERRORS: &[(CookieError, &str)] = &[
     (
         CookieError::NonHttpScheme,
         "request-uri is not an http scheme but HttpOnly attribute set",
@@ -46,8 +46,8 @@ fn fault_of(refusal: &CookieError) -> Error {
 }
 
 #[test]
-fn a_refusal_says_why(rt: HostRuntime) {
-    for (refusal, wanted) in REFUSALS {
+fn cookie_errors_have_texts(rt: HostRuntime) {
+    for (refusal, wanted) in COOKIE_ERRORS {
         is_equal(&rt, refusal.text(), *wanted, refusal);
         is_written_at_any_width(&rt, rt.alloc(), refusal, wanted);
         is_equal(&rt, Error::from(*refusal), fault_of(refusal), refusal);
@@ -78,7 +78,7 @@ fn error_from_saved(fault: &SavedError) -> Error {
 }
 
 #[test]
-fn a_fault_of_a_saved_form_is_a_fault(rt: HostRuntime) {
+fn saved_errors_convert(rt: HostRuntime) {
     for (fault, wanted) in SAVED {
         is_equal(&rt, Error::from(*fault), error_from_saved(fault), fault);
         is_told(&rt, rt.alloc(), Error::from(*fault), wanted);
@@ -95,7 +95,7 @@ fn is_told(rt: &impl Abort, alloc: Global, fault: Error, wanted: &str) {
 }
 
 #[test]
-fn each_fault_says_what_it_is(rt: HostRuntime) {
+fn errors_have_texts(rt: HostRuntime) {
     let mismatch = Error::Cookie(CookieError::DomainMismatch);
     let refusal = "request-uri does not domain-match the cookie";
     is_told(&rt, rt.alloc(), mismatch, refusal);
@@ -110,7 +110,7 @@ fn each_fault_says_what_it_is(rt: HostRuntime) {
 }
 
 #[test]
-fn other_faults_are_faults(rt: HostRuntime) {
+fn other_errors_convert(rt: HostRuntime) {
     let invalid = Error::from(idna::Errors::Invalid);
     let fault = IdnaErrors::from(idna::Errors::Invalid);
     is_equal(&rt, invalid, Error::Idna(fault), &"no name");
@@ -130,7 +130,7 @@ fn are_equal(rt: &impl Abort, alloc: Global, first: &str, second: &str, wanted: 
 }
 
 #[test]
-fn equal_faults_say_the_same(rt: HostRuntime) {
+fn equal_errors_have_equal_texts(rt: HostRuntime) {
     are_equal(&rt, rt.alloc(), "no such row", "no such row", true);
     are_equal(&rt, rt.alloc(), "", "", true);
     are_equal(&rt, rt.alloc(), "no such row", "no row", false);
@@ -151,7 +151,7 @@ fn is_among(rt: &impl Abort, fault: &Error, wanted: bool) {
 }
 
 #[test]
-fn faults_of_two_kinds_differ(rt: HostRuntime) {
+fn errors_of_two_kinds_differ(rt: HostRuntime) {
     is_among(&rt, &Error::Memory, false);
     is_among(&rt, &Error::Cookie(CookieError::Parse), false);
     is_among(&rt, &other(&rt, rt.alloc(), "out of memory"), false);

@@ -9,7 +9,7 @@ use std::process::Abort;
 
 // What gives a cookie's expiry.
 #[derive(Debug)]
-enum Saying {
+enum ExpirySource {
     // The expiry itself; `None` is a session cookie.
     End(Option<&'static str>),
     Moment(&'static str),
@@ -40,17 +40,20 @@ fn attribute(rt: &impl Abort, text: Option<&str>) -> CookieExpiration {
     })
 }
 
-fn end_of(rt: &impl Abort, alloc: Global, saying: &Saying) -> CookieExpiration {
-    match saying {
-        Saying::End(text) => end_at(rt, *text),
-        Saying::Moment(text) => CookieExpiration::from_moment(moment(rt, text)),
-        Saying::Seconds(seconds, from) => CookieExpiration::from_secs(*seconds, moment(rt, from)),
-        Saying::Duration(seconds, from) => {
+fn end_of(rt: &impl Abort, alloc: Global, expiry_source: &ExpirySource) -> CookieExpiration {
+    match expiry_source {
+        ExpirySource::End(text) => end_at(rt, *text),
+        ExpirySource::Moment(text) => CookieExpiration::from_moment(moment(rt, text)),
+        ExpirySource::Seconds(seconds, from) => CookieExpiration::from_secs(
+            *seconds,
+            moment(rt, from),
+        ),
+        ExpirySource::Duration(seconds, from) => {
             let duration = SignedDuration::from_secs(*seconds);
             CookieExpiration::from_duration(duration, moment(rt, from))
         }
-        Saying::Attribute(text) => attribute(rt, *text),
-        Saying::Text(text) => {
+        ExpirySource::Attribute(text) => attribute(rt, *text),
+        ExpirySource::Text(text) => {
             let now = moment(rt, NOW);
             cookie_from(rt, alloc, text, "http://example.com/", now).expires
         }
@@ -58,110 +61,122 @@ fn end_of(rt: &impl Abort, alloc: Global, saying: &Saying) -> CookieExpiration {
 }
 
 // An expiry, a time, and whether it has expired then.
-const MOMENTS: &[(Saying, &str, bool)] = &[
+const MOMENTS: &[(ExpirySource, &str, bool)] = &[
     (
-        Saying::End(Some("2015-10-21T07:28:00")),
+        ExpirySource::End(Some("2015-10-21T07:28:00")),
         "2015-10-21T07:27:59",
         false,
     ),
     (
-        Saying::End(Some("2015-10-21T07:28:00")),
+        ExpirySource::End(Some("2015-10-21T07:28:00")),
         "2015-10-21T07:28:00",
         true,
     ),
     (
-        Saying::End(Some("2015-10-21T07:28:00")),
+        ExpirySource::End(Some("2015-10-21T07:28:00")),
         "2015-10-21T07:28:01",
         true,
     ),
-    (Saying::End(None), "2015-10-21T07:27:59", false),
-    (Saying::End(None), "2015-10-21T07:28:00", false),
-    (Saying::End(None), "2015-10-21T07:28:01", false),
-    (Saying::End(None), LAST, false),
-    (Saying::Seconds(0, NOW), NOW, true),
-    (Saying::Seconds(0, NOW), "2025-12-31T00:00:00", true),
-    (Saying::Seconds(60, NOW), NOW, false),
-    (Saying::Seconds(60, NOW), "2026-01-01T00:02:00", true),
+    (ExpirySource::End(None), "2015-10-21T07:27:59", false),
+    (ExpirySource::End(None), "2015-10-21T07:28:00", false),
+    (ExpirySource::End(None), "2015-10-21T07:28:01", false),
+    (ExpirySource::End(None), LAST, false),
+    (ExpirySource::Seconds(0, NOW), NOW, true),
+    (ExpirySource::Seconds(0, NOW), "2025-12-31T00:00:00", true),
+    (ExpirySource::Seconds(60, NOW), NOW, false),
+    (ExpirySource::Seconds(60, NOW), "2026-01-01T00:02:00", true),
     (
-        Saying::Moment("2026-01-02T00:00:00"),
+        ExpirySource::Moment("2026-01-02T00:00:00"),
         "2026-01-03T00:00:00",
         true,
     ),
     (
-        Saying::Moment("2025-12-31T00:00:00"),
+        ExpirySource::Moment("2025-12-31T00:00:00"),
         "2025-12-30T00:00:00",
         false,
     ),
     // Max-Age takes precedence over Expires.
     (
-        Saying::Text("a=1; Max-Age=60; Expires=Wed, 31 Dec 2025 00:00:00 GMT"),
+        ExpirySource::Text("a=1; Max-Age=60; Expires=Wed, 31 Dec 2025 00:00:00 GMT"),
         NOW,
         false,
     ),
     (
-        Saying::Text("a=1; Expires=Wed, 31 Dec 2025 00:00:00 GMT; Max-Age=60"),
+        ExpirySource::Text("a=1; Expires=Wed, 31 Dec 2025 00:00:00 GMT; Max-Age=60"),
         NOW,
         false,
     ),
 ];
 
-fn has_come(rt: &impl Abort, alloc: Global, row: &(Saying, &str, bool)) {
-    let (saying, at, wanted) = row;
-    let end = end_of(rt, alloc, saying);
+fn is_expired_as_expected(rt: &impl Abort, alloc: Global, row: &(ExpirySource, &str, bool)) {
+    let (expiry_source, at, wanted) = row;
+    let end = end_of(rt, alloc, expiry_source);
     let at = moment(rt, at);
     let answers = (end.is_expired(at), end.expires_by(&at));
     is_equal(rt, answers, (*wanted, *wanted), row);
 }
 
 #[test]
-fn a_cookie_ends_at_its_moment(rt: HostRuntime) {
+fn a_cookie_expires_at_its_expiry_time(rt: HostRuntime) {
     for row in MOMENTS {
-        has_come(&rt, rt.alloc(), row);
+        is_expired_as_expected(&rt, rt.alloc(), row);
     }
 }
 
 // An expiry, and its time to the nanosecond; `None` is a session cookie.
-const ENDS: &[(Saying, Option<&str>)] = &[
-    (Saying::Seconds(u64::MAX, NOW), Some(LATEST)),
-    (Saying::Seconds(1, FIRST), Some("-009999-01-01T00:00:01")),
-    (Saying::Seconds(1, LAST), Some(LATEST)),
-    (Saying::Duration(-1, NOW), Some(EPOCH)),
-    (Saying::Duration(1, FIRST), Some("-009999-01-01T00:00:01")),
-    (Saying::Duration(1, NOW), Some("2026-01-01T00:00:01")),
-    (Saying::Duration(1, "9999-12-31T23:59:58.5"), Some(LATEST)),
-    (Saying::Duration(1, "9999-12-31T23:59:59.5"), Some(LATEST)),
-    (Saying::Duration(1, LAST), Some(LATEST)),
-    // Only the time of an Expires attribute may be after the latest expiry that is computed.
-    (Saying::Moment(LAST), Some(LATEST)),
-    (Saying::Attribute(None), None),
-    (Saying::Attribute(Some(LAST)), Some(LAST)),
+const EXPIRIES: &[(ExpirySource, Option<&str>)] = &[
+    (ExpirySource::Seconds(u64::MAX, NOW), Some(LATEST)),
     (
-        Saying::Text("a=1; Max-Age=9223372036854775808"),
+        ExpirySource::Seconds(1, FIRST),
+        Some("-009999-01-01T00:00:01"),
+    ),
+    (ExpirySource::Seconds(1, LAST), Some(LATEST)),
+    (ExpirySource::Duration(-1, NOW), Some(EPOCH)),
+    (
+        ExpirySource::Duration(1, FIRST),
+        Some("-009999-01-01T00:00:01"),
+    ),
+    (ExpirySource::Duration(1, NOW), Some("2026-01-01T00:00:01")),
+    (
+        ExpirySource::Duration(1, "9999-12-31T23:59:58.5"),
         Some(LATEST),
     ),
-    (Saying::Text("a=1; Max-Age=-1"), Some(EPOCH)),
-    (Saying::Text("a=1; Max-Age=1x"), None),
-    (Saying::Text("a=1; Max-Age="), None),
     (
-        Saying::Text("a=1; Max-Age=9; Max-Age=5; Max-Age=1x"),
+        ExpirySource::Duration(1, "9999-12-31T23:59:59.5"),
+        Some(LATEST),
+    ),
+    (ExpirySource::Duration(1, LAST), Some(LATEST)),
+    // Only the time of an Expires attribute may be after the latest expiry that is computed.
+    (ExpirySource::Moment(LAST), Some(LATEST)),
+    (ExpirySource::Attribute(None), None),
+    (ExpirySource::Attribute(Some(LAST)), Some(LAST)),
+    (
+        ExpirySource::Text("a=1; Max-Age=9223372036854775808"),
+        Some(LATEST),
+    ),
+    (ExpirySource::Text("a=1; Max-Age=-1"), Some(EPOCH)),
+    (ExpirySource::Text("a=1; Max-Age=1x"), None),
+    (ExpirySource::Text("a=1; Max-Age="), None),
+    (
+        ExpirySource::Text("a=1; Max-Age=9; Max-Age=5; Max-Age=1x"),
         Some("2026-01-01T00:00:05"),
     ),
 ];
 
-fn ends_so(rt: &impl Abort, alloc: Global, row: &(Saying, Option<&str>)) {
+fn gives_expiry(rt: &impl Abort, alloc: Global, row: &(ExpirySource, Option<&str>)) {
     let end = end_of(rt, alloc, &row.0);
     holds(rt, ends_at(rt, &end, row.1), row);
 }
 
 #[test]
-fn each_saying_has_its_end(rt: HostRuntime) {
-    for row in ENDS {
-        ends_so(&rt, rt.alloc(), row);
+fn each_source_gives_its_expiry(rt: HostRuntime) {
+    for row in EXPIRIES {
+        gives_expiry(&rt, rt.alloc(), row);
     }
 }
 
 #[test]
-fn the_moments_are_the_first_and_the_last(rt: HostRuntime) {
+fn the_times_are_the_first_and_the_last(rt: HostRuntime) {
     let moments = (moment(&rt, FIRST), moment(&rt, LAST));
     is_equal(&rt, moments, (DateTime::MIN, DateTime::MAX), &(FIRST, LAST));
 }

@@ -83,7 +83,7 @@ fn cookie_of(rt: &impl Abort, alloc: Global, row: &(Hosts, Option<&str>)) -> Coo
 }
 
 // Asserts that the cookie is saved and loaded with the same domain, path and expiry.
-fn comes_back(rt: &impl Abort, alloc: Global, cookie: &Cookie<'_>, row: &(Hosts, Option<&str>)) {
+fn converts_back(rt: &impl Abort, alloc: Global, cookie: &Cookie<'_>, row: &(Hosts, Option<&str>)) {
     let saved = cookie.to_saved(alloc).expect(rt, "memory");
     let back = Cookie::from_saved(alloc, saved).expect(rt, "a cookie");
     let hosts_and_path = (
@@ -95,14 +95,14 @@ fn comes_back(rt: &impl Abort, alloc: Global, cookie: &Cookie<'_>, row: &(Hosts,
     is_equal(rt, end_and_all, (true, true), row);
 }
 
-fn one_comes_back(rt: &impl Abort, alloc: Global, row: &(Hosts, Option<&str>)) {
-    comes_back(rt, alloc, &cookie_of(rt, alloc, row), row);
+fn one_converts_back(rt: &impl Abort, alloc: Global, row: &(Hosts, Option<&str>)) {
+    converts_back(rt, alloc, &cookie_of(rt, alloc, row), row);
 }
 
 #[test]
-fn a_cookie_comes_back_from_its_saved_form(rt: HostRuntime) {
+fn a_saved_cookie_converts_back(rt: HostRuntime) {
     for row in KINDS {
-        one_comes_back(&rt, rt.alloc(), row);
+        one_converts_back(&rt, rt.alloc(), row);
     }
 }
 
@@ -144,7 +144,7 @@ fn is_from_saved(rt: &impl Abort, alloc: Global, row: &(&str, (&str, bool), bool
 }
 
 #[test]
-fn a_path_is_kept_as_it_was_saved(rt: HostRuntime) {
+fn a_path_converts_as_it_was_saved(rt: HostRuntime) {
     for row in SAVED {
         is_from_saved(&rt, rt.alloc(), row);
     }

@@ -122,7 +122,7 @@ const B: Source = ("http://example.com/b/", Some("/b"));
 
 const B_OF_URL: Source = ("http://example.com/b/", None);
 
-fn stand_so(rt: &impl Abort, alloc: Global, row: &(Source, Source, Ordering)) {
+fn are_compared(rt: &impl Abort, alloc: Global, row: &(Source, Source, Ordering)) {
     let (first, second, wanted) = row;
     let first = path(rt, alloc, first);
     let second = path(rt, alloc, second);
@@ -132,6 +132,6 @@ fn stand_so(rt: &impl Abort, alloc: Global, row: &(Source, Source, Ordering)) {
 #[test]
 fn paths_are_in_order(rt: HostRuntime) {
     for row in ORDERS {
-        stand_so(&rt, rt.alloc(), row);
+        are_compared(&rt, rt.alloc(), row);
     }
 }

@@ -153,7 +153,7 @@ fn a_new_list_has_no_rules(rt: HostRuntime) {
 }
 
 #[test]
-fn says_why_a_text_is_no_list(rt: HostRuntime) {
+fn list_errors_have_texts(rt: HostRuntime) {
     let bad = ListError::BadRule { line: 7 };
     is_written_at_any_width(&rt, rt.alloc(), &bad, "a bad rule in line 7");
     is_written_at_any_width(&rt, rt.alloc(), &ListError::Memory, "out of memory")

@@ -205,7 +205,7 @@ fn reads_the_table(rt: HostRuntime) {
 }
 
 #[test]
-fn says_why_a_text_is_no_cookie(rt: HostRuntime) {
+fn parse_errors_have_texts(rt: HostRuntime) {
     is_written_at_any_width(
         &rt,
         rt.alloc(),
@@ -331,7 +331,7 @@ fn whole_cookie(rt: &impl Abort, alloc: Global) -> RawCookie<'static> {
         .build()
 }
 
-fn until_the_end_of(rt: &impl Abort, alloc: Global, year: i16) -> RawCookie<'static> {
+fn expiring_at_the_end_of(rt: &impl Abort, alloc: Global, year: i16) -> RawCookie<'static> {
     let end = DateTime::new(year, 12, 31, 0, 0, 0, 0).expect(rt, "a moment");
     let builder = builder(rt, alloc, "a", "1");
     builder.expires(Expiration::DateTime(end)).build()
@@ -350,7 +350,7 @@ fn made(rt: &impl Abort, alloc: Global, origin: &Origin) -> RawCookie<'static> {
             .same_site(SameSite::None)
             .build(),
         Origin::Whole => whole_cookie(rt, alloc),
-        Origin::Until(year) => until_the_end_of(rt, alloc, *year),
+        Origin::Until(year) => expiring_at_the_end_of(rt, alloc, *year),
         Origin::Renewed(text) => renewed(rt, alloc, text),
     }
 }

@@ -179,7 +179,7 @@ fn printed(
 }
 
 #[test]
-fn a_cookie_is_printed_or_refused(rt: HostRuntime) {
+fn a_cookie_is_printed_or_rejected(rt: HostRuntime) {
     let text = "a\t\"\u{7}é";
     let escaped = printed(&rt, rt.alloc(), text, SavedExpiry::SessionEnd);
     let wanted = list_with(&rt, rt.alloc(), r#"a\t\"\u{7}é"#);

@@ -220,7 +220,7 @@ const JSON: &[(&str, Option<SavedError>)] = &[
 ];
 
 // The error of reading the JSON of a cookie, and of a list of it alone.
-fn text_refusals(alloc: Global, text: &str) -> (Option<SavedError>, Option<SavedError>) {
+fn text_errors(alloc: Global, text: &str) -> (Option<SavedError>, Option<SavedError>) {
     let list = format!(in alloc; "[{text}]");
     (
         from_text(alloc, text).err(),
@@ -233,12 +233,7 @@ fn text_refusals(alloc: Global, text: &str) -> (Option<SavedError>, Option<Saved
 #[test]
 fn reads_texts(rt: HostRuntime) {
     for (text, wanted) in JSON {
-        is_equal(
-            &rt,
-            text_refusals(rt.alloc(), text),
-            (*wanted, *wanted),
-            text,
-        );
+        is_equal(&rt, text_errors(rt.alloc(), text), (*wanted, *wanted), text);
     }
 }
 
@@ -273,7 +268,7 @@ fn early(rt: &impl Abort, alloc: Global) -> Saved {
 }
 
 #[test]
-fn an_end_before_the_year_0_has_no_tree(rt: HostRuntime) {
+fn an_expiry_before_the_year_0_has_no_tree(rt: HostRuntime) {
     let list = [early(&rt, rt.alloc())];
     let trees = (
         to_value(rt.alloc(), &list[0]).err(),

@@ -7,7 +7,7 @@ ghost use Rattle.cookie_forms.specs.Saved.{domain_view, expiry_view, saved_view}
 ghost use Rattle.cookie_forms.specs.ToJson.{expires_early, is_early, with_expiry_text};
 ghost use Rattle.cookie_ron.specs.Printed.{printed_char, quoted, printed_path, printed_domain, printed_expiry, printed_cookie, printed_list, ron_written};
 
-use cookie_forms::{Saved, SavedDomain, SavedError, SavedExpiry, any_early, moment_text};
+use cookie_forms::{Saved, SavedDomain, SavedError, SavedExpiry, any_early, moment_bytes};
 use std::alloc::{AllocError, Global};
 
 /// Prints a list of saved cookies in RON, without a line feed at the end:
@@ -38,56 +38,48 @@ pub fn to_ron(alloc: Global, list: &[Saved]) -> Result<String, SavedError>
     if any_early(list) {
         return Err(SavedError::Moment);
     }
-    print_list(alloc, list)
+    Ok(print_list(alloc, list)?)
 }
 
 /// Prints a list in which no expiry is before the year 0, as [`to_ron`] does.
-///
-/// # Errors
-///
-/// - `Memory`: out of memory.
-pub fn print_list(alloc: Global, list: &[Saved]) -> Result<String, SavedError>
+pub fn print_list(alloc: Global, list: &[Saved]) -> Result<String, AllocError>
     requires { list_any is_early (map saved_view list.now) ≡ false }
     ensures text { IfOk result (λ text. string_bytes text ≡ printed_list (map with_expiry_text (map saved_view list.now))) }
-    ensures refused { IfErr result (λ e. e ≡ SavedError.Memory) }
 {
     let mut text = String::new(alloc);
-    push_list(alloc, &mut text, list)?;
+    push_list(&mut text, list)?;
     Ok(text)
 }
 
 // Appends a list in which no expiry is before the year 0.
-fn push_list(alloc: Global, text: &mut String, list: &[Saved]) -> Result<(), SavedError>
+fn push_list(text: &mut String, list: &[Saved]) -> Result<(), AllocError>
     requires { list_any is_early (map saved_view list.now) ≡ false }
-    ensures text { OnOk result (string_bytes text.new ≡ string_bytes text.old ++ printed_list (map with_expiry_text (map saved_view list.now))) }
-    ensures refused { IfErr result (λ e. e ≡ SavedError.Memory) }
+    ensures { OnOk result (string_bytes text.new ≡ string_bytes text.old ++ printed_list (map with_expiry_text (map saved_view list.now))) }
 {
     if list.is_empty() {
-        return Ok(text.push_str("[]")?);
+        return text.push_str("[]");
     }
     text.push_str("[\n")?;
-    push_cookies(alloc, text, list)?;
-    Ok(text.push(']')?)
+    push_cookies(text, list)?;
+    text.push(']')
 }
 
 // Appends the cookies, one after the other.
-fn push_cookies(alloc: Global, text: &mut String, list: &[Saved]) -> Result<(), SavedError>
+fn push_cookies(text: &mut String, list: &[Saved]) -> Result<(), AllocError>
     requires { list_any is_early (map saved_view list.now) ≡ false }
-    ensures text { OnOk result (string_bytes text.new ≡ string_bytes text.old
+    ensures { OnOk result (string_bytes text.new ≡ string_bytes text.old
         ++ flat_map printed_cookie (map with_expiry_text (map saved_view list.now))) }
-    ensures refused { IfErr result (λ e. e ≡ SavedError.Memory) }
 {
     for saved in list {
-        push_cookie(alloc, text, saved)?;
+        push_cookie(text, saved)?;
     }
     Ok(())
 }
 
 // Appends a cookie whose expiry is not before the year 0.
-fn push_cookie(alloc: Global, text: &mut String, saved: &Saved) -> Result<(), SavedError>
+fn push_cookie(text: &mut String, saved: &Saved) -> Result<(), AllocError>
     requires { is_early (saved_view saved.now) ≡ false }
-    ensures text { OnOk result (string_bytes text.new ≡ string_bytes text.old ++ printed_cookie (with_expiry_text (saved_view saved.now))) }
-    ensures refused { IfErr result (λ e. e ≡ SavedError.Memory) }
+    ensures { OnOk result (string_bytes text.new ≡ string_bytes text.old ++ printed_cookie (with_expiry_text (saved_view saved.now))) }
 {
     text.push_str("    (\n")?;
     push_name(text, "raw_cookie")?;
@@ -100,9 +92,9 @@ fn push_cookie(alloc: Global, text: &mut String, saved: &Saved) -> Result<(), Sa
     push_domain(text, &saved.domain)?;
     text.push_str(",\n")?;
     push_name(text, "expires")?;
-    push_expiry(alloc, text, saved.expires)?;
+    push_expiry(text, saved.expires)?;
     text.push_str(",\n")?;
-    Ok(text.push_str("    ),\n")?)
+    text.push_str("    ),\n")
 }
 
 // Appends a field's indent, name and colon.
@@ -138,17 +130,16 @@ fn push_domain(text: &mut String, domain: &SavedDomain) -> Result<(), AllocError
 }
 
 // Appends an expiry that is not before the year 0.
-fn push_expiry(alloc: Global, text: &mut String, expires: SavedExpiry) -> Result<(), SavedError>
+fn push_expiry(text: &mut String, expires: SavedExpiry) -> Result<(), AllocError>
     requires { expires_early (expiry_view expires) ≡ false }
-    ensures text { OnOk result (string_bytes text.new ≡ string_bytes text.old ++ printed_expiry (option_map moment_text (expiry_view expires))) }
-    ensures refused { IfErr result (λ e. e ≡ SavedError.Memory) }
+    ensures { OnOk result (string_bytes text.new ≡ string_bytes text.old ++ printed_expiry (option_map moment_text (expiry_view expires))) }
 {
     match expires {
         SavedExpiry::AtUtc(moment) => {
-            let written = moment_text(alloc, moment)?;
-            Ok(push_tagged(text, "AtUtc", &written)?)
+            let ascii = moment_bytes(moment);
+            push_tagged(text, "AtUtc", str::from_utf8(&ascii).unwrap())
         }
-        SavedExpiry::SessionEnd => Ok(text.push_str("SessionEnd")?),
+        SavedExpiry::SessionEnd => text.push_str("SessionEnd"),
     }
 }
 

@@ -10,7 +10,7 @@ use Rattle.cookie_device.specs.Device.{SinkState}
 use Rattle.cookie_device.proofs.Sending.{nothing_part, nothing_put, part_longer, part_then, put_then}
 use Rattle.cookie_parts.specs.Cookie.{Row}
 use Rattle.cookie_store.specs.Header.{later_pair, pair_text}
-use Rattle.cookie_script.specs.Answering.{Gathers}
+use Rattle.cookie_script.specs.LineOutput.{Gathers}
 use Rattle.cookie_script.specs.Script.{header_text, line_text, row_line, rows_text}
 
 -- nothing was buffered
@@ -55,7 +55,7 @@ gathers_then (Err fault) ok {a} {b} {c} {g} {h} {k} t u first next = record {
 pub gathers_stopped : {T U E : Type 0} (r : Result U E) (fault : E) {a b : SinkState} {g h : List ℕ} (t u : List ℕ)
     → IsErr r → Gathers {T = T} {E = E} (Err fault) a b g h t → Gathers r a b g h (t ++ u)
 gathers_stopped (Ok done) fault t u is first = absurd (false≢true is)
-gathers_stopped (Err line_result) fault {a} {b} {g} t u is first =
+gathers_stopped (Err error) fault {a} {b} {g} t u is first =
     record {
       whole = tt;
       part = part_longer a.contents b.contents g t u first.part;

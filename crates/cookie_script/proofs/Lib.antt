@@ -1,9 +1,9 @@
-pub mod Answered
+pub mod AllocatingLines
 pub mod Converted
 pub mod Gathering
+pub mod HasRunLines
 pub mod Limits
 pub mod OtherWords
 pub mod Progress
 pub mod StyledTexts
-pub mod Wanting
 pub mod WholeLines

@@ -8,7 +8,7 @@ use Rattle.cookie_device.proofs.Sending.{nothing_part, nothing_put}
 use Rattle.cookie_store.specs.Contents.{Contents}
 use Rattle.cookie_script.specs.Progress.{AreRead}
 use Rattle.cookie_script.specs.Script.{State, start, run_line, output_of}
-use Rattle.cookie_script.proofs.Answered.{Answered, gathered_sent, next_answered, part_sent}
+use Rattle.cookie_script.proofs.HasRunLines.{HasRunLines, gathered_sent, next_line_run, part_sent}
 use Rattle.cookie_script.proofs.WholeLines.{WholeLines, line_cut, no_lines, one_more}
 
 -- whole lines were consumed and run; the bytes read ahead and the rest of the source are still to be run
@@ -19,7 +19,7 @@ pub record Progress (store : Contents) (input : List ℕ) (old : Option (List �
   pub cut : input ≡ gone ++ left
   pub known : prepend_known at_hand rest ≡ Some left
   pub whole : WholeLines gone passed
-  pub answered : Answered store input old before passed (lines left) state new buffered
+  pub has_run : HasRunLines store input old before passed (lines left) state new buffered
 
 -- at first all of the input is left
 pub begun : (store : Contents) (rest : Option (List ℕ)) (a : Option (List ℕ)) (before : List ℕ)
@@ -32,7 +32,7 @@ begun store (Some input) a before = record {
   cut = refl;
   known = refl;
   whole = no_lines;
-  answered = record { split = refl; state_is = refl; sends = nothing_put a before };
+  has_run = record { split = refl; state_is = refl; sends = nothing_put a before };
 }
 
 -- the lines that are left, if a line was found in the bytes read ahead
@@ -90,19 +90,19 @@ module _ {store : Contents} {input : List ℕ} {old : Option (List ℕ)} {before
   -- the line that was found in the bytes read ahead comes next
   pub found : (at_hand line : List ℕ) (end : ℕ) (p : Progress store input old before at_hand rest state new g) → EndsLine at_hand end
       → line ≡ strip_carriage_return (take end at_hand)
-      → (more : List ℕ) × (rest ≡ Some more) × Answered store input old before p.passed (line ∷ lines (drop (end + 1) at_hand ++ more)) state new g
+      → (more : List ℕ) × (rest ≡ Some more) × HasRunLines store input old before p.passed (line ∷ lines (drop (end + 1) at_hand ++ more)) state new g
   found at_hand line end p ends is =
       let (more, known, ls) = left_lines at_hand p.left rest end p.known ends in (
         more,
         known,
-        subst (λ next. Answered store input old before p.passed next state new g) (ls ∙ ap (λ l. l ∷ lines (drop (end + 1) at_hand ++ more)) (sym is)) p.answered,
+        subst (λ next. HasRunLines store input old before p.passed next state new g) (ls ∙ ap (λ l. l ∷ lines (drop (end + 1) at_hand ++ more)) (sym is)) p.has_run,
       )
 
   -- it was run
-  pub line_answered : (at_hand line : List ℕ) (end : ℕ) (then : Option (List ℕ)) (h : List ℕ) → Progress store input old before at_hand rest state new g
+  pub line_run : (at_hand line : List ℕ) (end : ℕ) (then : Option (List ℕ)) (h : List ℕ) → Progress store input old before at_hand rest state new g
       → position (λ b. eqb b 10) at_hand ≡ Some end → EndsLine at_hand end → line ≡ strip_carriage_return (take end at_hand)
       → Sends new then (g ++ (run_line line state).text) h → Progress store input old before (drop (end + 1) at_hand) rest (run_line line state).state then h
-  line_answered at_hand line end then h p first ends is sends =
+  line_run at_hand line end then h p first ends is sends =
       let (more, known, next) = found at_hand line end p ends is in
       record {
         gone = p.gone ++ (take end at_hand ++ 10 ∷ []);
@@ -113,7 +113,7 @@ module _ {store : Contents} {input : List ℕ} {old : Option (List ℕ)} {before
         whole =
             subst (λ (l : List ℕ). WholeLines (p.gone ++ (take end at_hand ++ 10 ∷ [])) (p.passed ++ l ∷ [])) (sym is)
             (one_more p.gone at_hand p.passed end p.whole first);
-        answered = next_answered p.passed line (lines (drop (end + 1) at_hand ++ more)) state new then g h next sends;
+        has_run = next_line_run p.passed line (lines (drop (end + 1) at_hand ++ more)) state new then g h next sends;
       }
 
   -- the buffered bytes are written
@@ -126,7 +126,7 @@ module _ {store : Contents} {input : List ℕ} {old : Option (List ℕ)} {before
     cut = p.cut;
     known = p.known;
     whole = p.whole;
-    answered = gathered_sent p.passed (lines p.left) state new then g h p.answered out empty;
+    has_run = gathered_sent p.passed (lines p.left) state new then g h p.has_run out empty;
   }
 
   -- more bytes are read ahead
@@ -139,36 +139,36 @@ module _ {store : Contents} {input : List ℕ} {old : Option (List ℕ)} {before
     cut = p.cut;
     known = kept_known (prepend_known at_hand rest) (prepend_known more less) p.left p.known kept;
     whole = p.whole;
-    answered = p.answered;
+    has_run = p.has_run;
   }
 
   -- at the end of the source the bytes read ahead are the last line, unless there are none
   last_lines : (at_hand : List ℕ) (p : Progress store input old before at_hand rest state new g) → IsAtEnd rest → IsLastLine at_hand
-      → Answered store input old before p.passed (lines_of_parts (at_hand ∷ [])) state new g
+      → HasRunLines store input old before p.passed (lines_of_parts (at_hand ∷ [])) state new g
   last_lines at_hand p end one =
-      subst (λ next. Answered store input old before p.passed next state new g) (ap lines (all_at_hand at_hand p.left rest p.known end) ∙ one) p.answered
+      subst (λ next. HasRunLines store input old before p.passed next state new g) (ap lines (all_at_hand at_hand p.left rest p.known end) ∙ one) p.has_run
 
   -- no line is left to run
   pub no_line_left : (at_hand : List ℕ) (p : Progress store input old before at_hand rest state new g) → IsAtEnd rest → IsLastLine at_hand
-      → length at_hand ≡ 0 → Answered store input old before p.passed [] state new g
+      → length at_hand ≡ 0 → HasRunLines store input old before p.passed [] state new g
   no_line_left at_hand p end one empty =
-      subst (λ next. Answered store input old before p.passed next state new g) (nothing_last (length at_hand) at_hand empty) (last_lines at_hand p end one)
+      subst (λ next. HasRunLines store input old before p.passed next state new g) (nothing_last (length at_hand) at_hand empty) (last_lines at_hand p end one)
 
   -- one line is left to run
   pub one_line_left : (at_hand line : List ℕ) (p : Progress store input old before at_hand rest state new g) → IsAtEnd rest → IsLastLine at_hand
-      → length at_hand ≢ 0 → line ≡ at_hand → Answered store input old before p.passed (line ∷ []) state new g
+      → length at_hand ≢ 0 → line ≡ at_hand → HasRunLines store input old before p.passed (line ∷ []) state new g
   one_line_left at_hand line p end one some is =
-      subst (λ next. Answered store input old before p.passed next state new g)
+      subst (λ next. HasRunLines store input old before p.passed next state new g)
       (something_last (length at_hand) at_hand some ∙ ap (λ l. l ∷ []) (sym is)) (last_lines at_hand p end one)
 
   -- if a prefix of the buffered bytes is written, a prefix of the output was written
   pub flush_part : (at_hand : List ℕ) (then : Option (List ℕ)) → Progress store input old before at_hand rest state new g → AppendsPrefix new then g
       → AppendsPrefix old then (before ++ output_of store input)
-  flush_part at_hand then p part = part_sent p.passed (lines p.left) state new then g p.answered part
+  flush_part at_hand then p part = part_sent p.passed (lines p.left) state new then g p.has_run part
 
   -- what was written so far is a prefix of the output
   pub part_so_far : (at_hand : List ℕ) → Progress store input old before at_hand rest state new g → AppendsPrefix old new (before ++ output_of store input)
-  part_so_far at_hand p = part_sent p.passed (lines p.left) state new new g p.answered (nothing_part new g)
+  part_so_far at_hand p = part_sent p.passed (lines p.left) state new new g p.has_run (nothing_part new g)
 
   -- if no line feed was read ahead, the lines that were run are those that were read
   pub are_read : (at_hand : List ℕ) (p : Progress store input old before at_hand rest state new g) → position (λ b. eqb b 10) at_hand ≡ None

@@ -12,8 +12,8 @@ use Rattle.cookie_store.specs.RonLists.{SerializesToRonList}
 use Rattle.cookie_store.specs.Rows.{RowsInOrder}
 use Rattle.cookie_store.specs.Saving.{line_text}
 use Rattle.cookie_serde.specs.declared.migration.MigrateError.TheVariants as Migrate
-use Rattle.cookie_script.specs.declared.fault.ConvertFault.{ConvertFault}
-use Rattle.cookie_script.specs.declared.fault.ConvertFault.TheVariants.{Read, Write, Memory, BadLine}
+use Rattle.cookie_script.specs.declared.error.ConvertFault.{ConvertFault}
+use Rattle.cookie_script.specs.declared.error.ConvertFault.TheVariants.{Read, Write, Memory, BadLine}
 
 -- the RON list of the rows built from all cookies of the lines was written, and a line feed
 abbrev pub Converts : Option (List ℕ) → Option (List ℕ) → Option (List ℕ) → Type 0

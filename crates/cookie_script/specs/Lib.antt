@@ -1,10 +1,10 @@
-pub mod Answering
 pub mod Arguments
 pub mod CommandViews
 pub mod Commands
 pub mod Conversion
-pub mod Faults
+pub mod Errors
+pub mod LineOutput
+pub mod LineResult
 pub mod Progress
 pub mod Script
 pub mod Suffixes
-pub mod LineResult

@@ -21,6 +21,6 @@ NextMayAllocate [] = ⊥
 NextMayAllocate (line ∷ more) = IsTrue (may_allocate line)
 
 -- what was written is the whole output of some first lines, and the condition holds of these and the other lines
-abbrev pub AnswersFirst : Contents → List ℕ → (List (List ℕ) → List (List ℕ) → Type 0) → (List ℕ → Type 0) → Type 0
-AnswersFirst store input Holds WentOut = (first more : List (List ℕ)) × (lines input ≡ first ++ more)
-    × Holds first more × WentOut (outputs first (start store))
+abbrev pub WritesOutputOfFirstLines : Contents → List ℕ → (List (List ℕ) → List (List ℕ) → Type 0) → (List ℕ → Type 0) → Type 0
+WritesOutputOfFirstLines store input Holds Written = (first more : List (List ℕ)) × (lines input ≡ first ++ more)
+    × Holds first more × Written (outputs first (start store))

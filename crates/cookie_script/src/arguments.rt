@@ -3,15 +3,15 @@ ghost use Rattle.std.specs.Prelude.{◌≡◌, ◌≤◌, drop, map, option_map,
 ghost use Rattle.std.specs.IoError.{error_kind};
 ghost use Rattle.std.specs.Result.{result_ok};
 ghost use Rattle.cookie_script.specs.Arguments.{limit_of, option_alone, set_option, options_of, options_value};
-ghost use Rattle.cookie_script.specs.Faults.{words_fault};
+ghost use Rattle.cookie_script.specs.Errors.{arguments_error};
 
-use crate::fault::{MainFault, RunFault};
+use crate::error::{MainFault, RunFault};
 use crate::options::Options;
 use cookie_words::is_digits;
 use std::io;
 
 /// Returns the arguments after the first one, which is the program's name.
-pub fn own_words(words: &[String]) -> &[String]
+pub fn own_arguments(words: &[String]) -> &[String]
     ensures { result.now ≡ drop 1 words.now }
 {
     words.get(1..).unwrap_or(&[])
@@ -19,8 +19,8 @@ pub fn own_words(words: &[String]) -> &[String]
 
 /// Returns the error for arguments that cannot be read: `Run(Memory)` if memory ran out, otherwise
 /// `BadArguments`, as for an argument that is not UTF-8.
-pub fn words_fault(error: io::Error) -> MainFault
-    ensures { result ≡ words_fault (error_kind error) }
+pub fn arguments_error(error: io::Error) -> MainFault
+    ensures { result ≡ arguments_error (error_kind error) }
 {
     match error.kind() {
         io::ErrorKind::OutOfMemory => MainFault::Run(RunFault::Memory),

@@ -2,10 +2,10 @@
 ghost use Rattle.std.specs.Prelude.{◌-◌, ◌^◌, ◌<◌, IfErr, OnOk};
 ghost use Rattle.std.specs.Io.KnownBytes.{IsAtEnd};
 ghost use Rattle.cookie_script.specs.Conversion.{Converts, FailsToConvert};
-ghost use Rattle.cookie_script.specs.Faults.{CountsConvertFault};
+ghost use Rattle.cookie_script.specs.Errors.{CountsConvertFailure};
 ghost use Rattle.cookie_store.specs.Loading.{ReadsEachOnce};
 
-use crate::fault::ConvertFault;
+use crate::error::ConvertFault;
 use cookie_device::{Sink, Source};
 use cookie_store::serde::{migrate_lines, ron};
 use cookie_store::{Error, StoreAlloc};
@@ -26,7 +26,7 @@ pub fn convert<A: Into<StoreAlloc>, R: Source, W: Sink>(
     ensures read { OnOk result (IsAtEnd (R.state source.new).remaining) }
     ensures failed { IfErr result (λ fault. FailsToConvert fault (R.state source.old) (R.state source.new)
         (W.state sink.old) (W.state sink.new)) }
-    ensures count { CountsConvertFault result (R.state source.old).failed (R.state source.new).failed (W.state sink.old).failed (W.state sink.new).failed }
+    ensures count { CountsConvertFailure result (R.state source.old).failed (R.state source.new).failed (W.state sink.old).failed (W.state sink.new).failed }
     ensures reads { ReadsEachOnce (R.state source.old) (R.state source.new) }
 {
     let store = migrate_lines(alloc, source)?;

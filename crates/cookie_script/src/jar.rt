@@ -1,13 +1,13 @@
 //! The state of a script, and the effect of a line.
 ghost use Rattle.std.specs.Prelude.{◌≡◌, ◌≢◌, ◌≤◌, [], Err, IfOk, IfSome, IsTrue, OnErr, OnOk, Some};
-ghost use Rattle.cookie_script.specs.Answering.{answer_text};
+ghost use Rattle.cookie_script.specs.LineOutput.{line_output_text};
 ghost use Rattle.cookie_script.specs.LineResult.{cookies_to_write, result_may_allocate, line_result_text};
 ghost use Rattle.cookie_script.specs.CommandViews.{command_view};
 ghost use Rattle.cookie_script.specs.Commands.{command_may_allocate, may_allocate};
 ghost use Rattle.cookie_script.specs.Script.{run_command, empty, start, run_line};
 
-use crate::answer::Answer;
 use crate::command::{Command, read_command};
+use crate::line_output::LineOutput;
 use cookie_store::psl::List;
 use cookie_store::{CookieError, CookieStore, InsertResult, StoreAlloc};
 use cookie_words::epoch;
@@ -75,31 +75,31 @@ impl Jar {
     /// Runs a line.
     ///
     /// The state is unchanged on an error, and also if the output of the line may allocate.
-    #[tactic(auto, using(crate::proofs::Wanting::line_wants), unfolding(crate::specs::Script::run_command))]
+    #[tactic(auto, using(crate::proofs::AllocatingLines::line_allocates), unfolding(crate::specs::Script::run_command))]
     pub fn run_line(&mut self, alloc: Global, line: &[u8]) -> Result<LineResult, AllocError>
         ensures state { OnOk result (self.new ≡ (run_line line.now self.old).state) }
         ensures line_result { IfOk result (λ line_result. line_result_text line_result self.new ≡ (run_line line.now self.old).text) }
-        ensures answered { IfOk result (λ line_result. IsTrue (result_may_allocate line_result)
+        ensures allocating_output { IfOk result (λ line_result. IsTrue (result_may_allocate line_result)
             → IsTrue (may_allocate line.now) × (self.new ≡ self.old)) }
-        ensures wants { OnErr result (IsTrue (may_allocate line.now)) }
-        ensures kept { OnErr result (self.new ≡ self.old) }
+        ensures memory { OnErr result (IsTrue (may_allocate line.now)) }
+        ensures unchanged { OnErr result (self.new ≡ self.old) }
     {
         match read_command(alloc, line)? {
-            Some(command) => self.obey(command),
+            Some(command) => self.run_command(command),
             None => Ok(LineResult::BadLine),
         }
     }
 
     // Runs a command. A `set` that is rejected early allocates nothing.
     #[tactic(auto, unfolding(crate::specs::Script::run_command))]
-    fn obey(&mut self, command: Command<'_>) -> Result<LineResult, AllocError>
+    fn run_command(&mut self, command: Command<'_>) -> Result<LineResult, AllocError>
         ensures state { OnOk result (self.new ≡ (run_command (Some (command_view command.entry)) self.old).state) }
         ensures line_result { IfOk result (λ line_result.
             line_result_text line_result self.new ≡ (run_command (Some (command_view command.entry)) self.old).text) }
-        ensures answered { IfOk result (λ line_result. IsTrue (result_may_allocate line_result)
+        ensures allocating_output { IfOk result (λ line_result. IsTrue (result_may_allocate line_result)
             → IsTrue (command_may_allocate (command_view command.entry)) × (self.new ≡ self.old)) }
-        ensures wants { OnErr result (IsTrue (command_may_allocate (command_view command.entry))) }
-        ensures kept { OnErr result (self.new ≡ self.old) }
+        ensures memory { OnErr result (IsTrue (command_may_allocate (command_view command.entry))) }
+        ensures unchanged { OnErr result (self.new ≡ self.old) }
     {
         match command {
             Command::Now(moment) => {
@@ -122,31 +122,34 @@ impl Jar {
 
     /// Returns the output of a line from its result. Allocates only for the cookies of a URL, if
     /// there are any.
-    pub fn answer(&self, line_result: LineResult) -> Result<Answer<'_>, AllocError>
-        ensures text { IfOk result (λ answer. answer_text answer ≡ line_result_text line_result self.now) }
-        ensures wants { OnErr result (IsTrue (result_may_allocate line_result)) }
+    pub fn line_output(&self, line_result: LineResult) -> Result<LineOutput<'_>, AllocError>
+        ensures text { IfOk result (λ output. line_output_text output ≡ line_result_text line_result self.now) }
+        ensures memory { OnErr result (IsTrue (result_may_allocate line_result)) }
         ensures given { OnErr result (cookies_to_write line_result self.now ≢ []) }
     {
         match line_result {
-            LineResult::Nothing => Ok(Answer::Nothing),
-            LineResult::BadLine => Ok(Answer::Line("", "bad line")),
-            LineResult::Stored(line_result) => Ok(Answer::of_insert_result(line_result)),
-            LineResult::Removed(true) => Ok(Answer::Line("", "removed")),
-            LineResult::Removed(false) => Ok(Answer::Line("", "none")),
-            LineResult::Cleared => Ok(Answer::Line("", "cleared")),
-            LineResult::Cookies(url) => Ok(Answer::Header(self.store.matches(&url, self.moment)?)),
-            LineResult::Rows => Ok(Answer::Rows(self.store.iter_any())),
+            LineResult::Nothing => Ok(LineOutput::Nothing),
+            LineResult::BadLine => Ok(LineOutput::Line("", "bad line")),
+            LineResult::Stored(inserted) => Ok(LineOutput::of_insert_result(inserted)),
+            LineResult::Removed(true) => Ok(LineOutput::Line("", "removed")),
+            LineResult::Removed(false) => Ok(LineOutput::Line("", "none")),
+            LineResult::Cleared => Ok(LineOutput::Line("", "cleared")),
+            LineResult::Cookies(url) => {
+                let cookies = self.store.matches(&url, self.moment)?;
+                Ok(LineOutput::Header(cookies))
+            }
+            LineResult::Rows => Ok(LineOutput::Rows(self.store.iter_any())),
         }
     }
 }
 
 // Returns the result of an insertion, or `AllocError` if memory ran out.
-fn result_or_memory(line_result: InsertResult) -> Result<LineResult, AllocError>
-    ensures outcome { IfOk result (λ outcome. (outcome ≡ LineResult.Stored line_result) × (line_result ≢ Err CookieError.Memory)) }
-    ensures memory { OnErr result (line_result ≡ Err CookieError.Memory) }
+fn result_or_memory(inserted: InsertResult) -> Result<LineResult, AllocError>
+    ensures outcome { IfOk result (λ outcome. (outcome ≡ LineResult.Stored inserted) × (inserted ≢ Err CookieError.Memory)) }
+    ensures memory { OnErr result (inserted ≡ Err CookieError.Memory) }
 {
-    match line_result {
+    match inserted {
         Err(CookieError::Memory) => Err(AllocError),
-        line_result => Ok(LineResult::Stored(line_result)),
+        inserted => Ok(LineResult::Stored(inserted)),
     }
 }

@@ -6,12 +6,12 @@
 //! parsed into a command, the jar runs it, and `run` writes its output.
 #![tactic(auto)]
 
-mod answer;
 pub mod arguments;
 mod command;
 pub mod convert;
-pub mod fault;
+pub mod error;
 mod jar;
+mod line_output;
 pub mod options;
 pub mod run;
 pub mod suffixes;

@@ -3,11 +3,11 @@ ghost use Rattle.std.specs.Prelude.{◌≡◌, ℕ, ◌+◌, ◌-◌, ◌^◌, �
 ghost use Rattle.std.specs.Io.KnownBytes.{Appends};
 ghost use Rattle.cookie_device.specs.Device.{AppendsPrefix, Sends};
 ghost use Rattle.cookie_script.specs.Commands.{may_allocate};
-ghost use Rattle.cookie_script.specs.Faults.{CountsFault};
-ghost use Rattle.cookie_script.specs.Progress.{AnswersFirst, AreRead, NextMayAllocate};
+ghost use Rattle.cookie_script.specs.Errors.{CountsRunFailure};
+ghost use Rattle.cookie_script.specs.Progress.{WritesOutputOfFirstLines, AreRead, NextMayAllocate};
 ghost use Rattle.cookie_script.specs.Script.{empty, output_of, run_line};
 
-use crate::fault::RunFault;
+use crate::error::RunFault;
 use crate::jar::Jar;
 use cookie_device::{LineBuffer, Output, Sink, Source};
 use cookie_store::StoreAlloc;
@@ -40,18 +40,18 @@ pub fn run<A: Into<StoreAlloc>, R: Source, W: Sink>(
     ensures part { IfSome (R.state source.old).remaining (λ input.
         AppendsPrefix (W.state sink.old).contents (W.state sink.new).contents (output_of (empty list limit) input)) }
     ensures read { result ≡ Err RunFault.Read → IfSome (R.state source.old).remaining (λ input.
-        AnswersFirst (empty list limit) input (λ first more. AreRead input (R.state source.new).remaining first)
+        WritesOutputOfFirstLines (empty list limit) input (λ first more. AreRead input (R.state source.new).remaining first)
         (Appends (W.state sink.old).contents (W.state sink.new).contents)) }
     ensures memory { result ≡ Err RunFault.Memory → IfSome (R.state source.old).remaining (λ input.
-        AnswersFirst (empty list limit) input (λ first more. AreRead input (R.state source.new).remaining first ⊎ NextMayAllocate more)
+        WritesOutputOfFirstLines (empty list limit) input (λ first more. AreRead input (R.state source.new).remaining first ⊎ NextMayAllocate more)
         (Appends (W.state sink.old).contents (W.state sink.new).contents)) }
-    ensures count { CountsFault result (R.state source.old).failed (R.state source.new).failed (W.state sink.old).failed (W.state sink.new).failed }
+    ensures count { CountsRunFailure result (R.state source.old).failed (R.state source.new).failed (W.state sink.old).failed (W.state sink.new).failed }
     ensures reads { IfSome (R.state source.old).remaining (λ input.
         (R.state source.old).reads_left ≤ (R.state source.new).reads_left + length input + 1) }
 {
     let alloc = alloc.into();
     let mut out = Output::new(alloc.alloc)?;
-    match answer_lines(alloc, source, &mut out, sink, list, limit) {
+    match run_and_buffer_lines(alloc, source, &mut out, sink, list, limit) {
         Err(RunFault::Memory) => {
             out.flush(sink)?;
             Err(RunFault::Memory)
@@ -62,7 +62,7 @@ pub fn run<A: Into<StoreAlloc>, R: Source, W: Sink>(
 }
 
 // Runs the lines of the source up to its end.
-fn answer_lines<R: Source, W: Sink>(
+fn run_and_buffer_lines<R: Source, W: Sink>(
     alloc: StoreAlloc,
     source: &mut R,
     out: &mut Output,
@@ -78,12 +78,12 @@ fn answer_lines<R: Source, W: Sink>(
     ensures part { IfSome (R.state source.old).remaining (λ input.
         AppendsPrefix (W.state sink.old).contents (W.state sink.new).contents (out.old ++ output_of (empty list limit) input)) }
     ensures read { result ≡ Err RunFault.Read → IfSome (R.state source.old).remaining (λ input.
-        AnswersFirst (empty list limit) input (λ first more. AreRead input (R.state source.new).remaining first)
+        WritesOutputOfFirstLines (empty list limit) input (λ first more. AreRead input (R.state source.new).remaining first)
         (λ text. Appends (W.state sink.old).contents (W.state sink.new).contents (out.old ++ text))) }
     ensures memory { result ≡ Err RunFault.Memory → IfSome (R.state source.old).remaining (λ input.
-        AnswersFirst (empty list limit) input (λ first more. AreRead input (R.state source.new).remaining first ⊎ NextMayAllocate more)
+        WritesOutputOfFirstLines (empty list limit) input (λ first more. AreRead input (R.state source.new).remaining first ⊎ NextMayAllocate more)
         (λ text. Sends (W.state sink.old).contents (W.state sink.new).contents (out.old ++ text) out.new)) }
-    ensures count { CountsFault result (R.state source.old).failed (R.state source.new).failed (W.state sink.old).failed (W.state sink.new).failed }
+    ensures count { CountsRunFailure result (R.state source.old).failed (R.state source.new).failed (W.state sink.old).failed (W.state sink.new).failed }
     ensures reads { IfSome (R.state source.old).remaining (λ input.
         (R.state source.old).reads_left ≤ (R.state source.new).reads_left + length input + 1) }
 {
@@ -92,10 +92,10 @@ fn answer_lines<R: Source, W: Sink>(
     // for the checker: the label names the loop's invariant
     'lines: loop {
         if let Some(end) = input.line_end() {
-            answer_line(alloc.alloc, &mut jar, input.line(end), out, sink)?;
+            run_and_buffer_line(alloc.alloc, &mut jar, input.line(end), out, sink)?;
             input.pass(end + 1);
         } else {
-            // Who drives the other end has each answer before the next line has to come.
+            // A peer gets the output of each line before it has to send the next one.
             out.flush(sink)?;
             if !input.fill(source)? {
                 break;
@@ -105,11 +105,11 @@ fn answer_lines<R: Source, W: Sink>(
     if input.rest().is_empty() {
         return Ok(());
     }
-    answer_line(alloc.alloc, &mut jar, input.rest(), out, sink)
+    run_and_buffer_line(alloc.alloc, &mut jar, input.rest(), out, sink)
 }
 
 // Runs a line, and buffers its output.
-fn answer_line<W: Sink>(
+fn run_and_buffer_line<W: Sink>(
     alloc: Global,
     jar: &mut Jar,
     line: &[u8],
@@ -124,8 +124,8 @@ fn answer_line<W: Sink>(
         (out.old ++ (run_line line.now jar.old).text) }
     ensures memory { result ≡ Err RunFault.Memory → IsTrue (may_allocate line.now)
         × (out.new ≡ out.old) × ((W.state sink.new).contents ≡ (W.state sink.old).contents) }
-    ensures count { (reads : ℕ) → CountsFault result reads reads (W.state sink.old).failed (W.state sink.new).failed }
+    ensures count { (reads : ℕ) → CountsRunFailure result reads reads (W.state sink.old).failed (W.state sink.new).failed }
 {
     let line_result = jar.run_line(alloc, line)?;
-    Ok(jar.answer(line_result)?.put(out, sink)?)
+    Ok(jar.line_output(line_result)?.put(out, sink)?)
 }

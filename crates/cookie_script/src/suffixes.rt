@@ -3,10 +3,10 @@ ghost use Rattle.std.specs.Prelude.{◌≡◌, false, Err};
 ghost use Rattle.std.specs.IoError.{error_kind};
 ghost use Rattle.std.specs.Result.{result_map_both};
 ghost use Rattle.std.specs.Str.{is_utf8};
-ghost use Rattle.cookie_script.specs.Faults.{file_fault, list_fault};
-ghost use Rattle.cookie_script.specs.Suffixes.{list_at, ParsesList};
+ghost use Rattle.cookie_script.specs.Errors.{list_file_error, main_error_of_list};
+ghost use Rattle.cookie_script.specs.Suffixes.{list_in_file, ParsesListFile};
 
-use crate::fault::{MainFault, RunFault};
+use crate::error::{MainFault, RunFault};
 use cookie_store::psl::{List, ListError};
 use std::alloc::Global;
 use std::io;
@@ -19,20 +19,20 @@ use std::io;
 /// - `CannotReadList`: the bytes are not UTF-8.
 /// - `BadRule`: a line is malformed, with the number of the first one.
 /// - `Run(Memory)`: out of memory. It may come instead of `BadRule`.
-#[tactic(auto, unfolding(crate::specs::Suffixes::list_at))]
+#[tactic(auto, unfolding(crate::specs::Suffixes::list_in_file))]
 pub fn list_of(alloc: Global, bytes: &[u8]) -> Result<List, MainFault>
-    ensures value { ParsesList result (list_at bytes.now) }
+    ensures value { ParsesListFile result (list_in_file bytes.now) }
     ensures utf8 { is_utf8 bytes.now ≡ false → result ≡ Err MainFault.CannotReadList }
 {
     let Ok(text) = str::from_utf8(bytes) else {
         return Err(MainFault::CannotReadList);
     };
-    list_or_fault(List::from_text(alloc, text))
+    list_or_error(List::from_text(alloc, text))
 }
 
 // Maps the error of a list.
-fn list_or_fault(read: Result<List, ListError>) -> Result<List, MainFault>
-    ensures { result ≡ result_map_both (λ list. list) list_fault read }
+fn list_or_error(read: Result<List, ListError>) -> Result<List, MainFault>
+    ensures { result ≡ result_map_both (λ list. list) main_error_of_list read }
 {
     match read {
         Ok(list) => Ok(list),
@@ -42,8 +42,8 @@ fn list_or_fault(read: Result<List, ListError>) -> Result<List, MainFault>
 
 /// Returns the error for a file that cannot be read: `Run(Memory)` if memory ran out, otherwise
 /// `CannotReadList`.
-pub fn file_fault(error: io::Error) -> MainFault
-    ensures { result ≡ file_fault (error_kind error) }
+pub fn list_file_error(error: io::Error) -> MainFault
+    ensures { result ≡ list_file_error (error_kind error) }
 {
     match error.kind() {
         io::ErrorKind::OutOfMemory => MainFault::Run(RunFault::Memory),

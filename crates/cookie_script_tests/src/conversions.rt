@@ -2,7 +2,7 @@
 use cookie_device::{Counted, Sink, Source};
 use cookie_fakes::Fake;
 use cookie_script::convert::convert;
-use cookie_script::fault::ConvertFault;
+use cookie_script::error::ConvertFault;
 use std::alloc::Global;
 use std::fmt::Debug;
 use std::process::Abort;
@@ -115,7 +115,7 @@ fn has_failed_once(rt: &impl Abort, fails_at: usize) {
 }
 
 #[test]
-fn a_failed_read_ends_the_conversion(rt: HostRuntime) {
+fn a_failed_read_stops_the_conversion(rt: HostRuntime) {
     for fails_at in 1..1_000 {
         if is_read_whole(&rt, rt.alloc(), fails_at) {
             return has_failed_once(&rt, fails_at);
@@ -146,7 +146,7 @@ fn is_written_whole(rt: &impl Abort, alloc: Global, fails_at: usize) -> bool {
 }
 
 #[test]
-fn a_failed_write_ends_the_conversion(rt: HostRuntime) {
+fn a_failed_write_stops_the_conversion(rt: HostRuntime) {
     for fails_at in 1..1_000 {
         if is_written_whole(&rt, rt.alloc(), fails_at) {
             return has_failed_once(&rt, fails_at);

@@ -2,7 +2,7 @@
 use crate::scripts::{HOSTS, HOSTS_OUTPUT, output};
 use cookie_device::Counted;
 use cookie_fakes::Fake;
-use cookie_script::fault::RunFault;
+use cookie_script::error::RunFault;
 use cookie_script::run::run;
 use std::alloc::Global;
 use std::process::Abort;
@@ -104,7 +104,7 @@ fn each_read_fails(rt: &impl Abort, alloc: Global, most: usize) -> Result<(), Fa
 }
 
 #[test]
-fn a_failed_read_ends_the_script(rt: HostRuntime) -> Result<(), Fail> {
+fn a_failed_read_stops_the_script(rt: HostRuntime) -> Result<(), Fail> {
     each_read_fails(&rt, rt.alloc(), 1)?;
     each_read_fails(&rt, rt.alloc(), 7)
 }
@@ -139,7 +139,7 @@ fn each_write_fails(rt: &impl Abort, alloc: Global) -> Result<(), Fail> {
 }
 
 #[test]
-fn a_failed_write_ends_the_script(rt: HostRuntime) -> Result<(), Fail> {
+fn a_failed_write_stops_the_script(rt: HostRuntime) -> Result<(), Fail> {
     each_write_fails(&rt, rt.alloc())
 }
 

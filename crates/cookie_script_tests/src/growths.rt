@@ -2,7 +2,7 @@
 use crate::lists::LIST;
 use cookie_device::Counted;
 use cookie_psl::List;
-use cookie_script::fault::{MainFault, RunFault};
+use cookie_script::error::{MainFault, RunFault};
 use cookie_script::run::run;
 use cookie_script::suffixes::list_of;
 use std::alloc::Global;
@@ -31,7 +31,7 @@ const OUTPUT: &str = "inserted\ninserted\nupdated\n\
     a.com / x\na.com /p z\nxn--bcher-kva.example / d\nremoved\nCookie: d=1\ncleared\n";
 
 // The output of each of its lines.
-const ANSWERS: [&str; 12] = [
+const LINE_OUTPUTS: [&str; 12] = [
     "",
     "inserted\n",
     "inserted\n",
@@ -60,7 +60,7 @@ fn is_all(rt: &impl Abort, written: &[u8]) {
     assert_eq!(rt; written, OUTPUT.as_bytes());
 }
 
-fn is_want_of_memory(rt: &impl Abort, fault: MainFault) {
+fn is_out_of_memory(rt: &impl Abort, fault: MainFault) {
     assert_eq!(rt; fault, MainFault::Run(RunFault::Memory));
 }
 
@@ -70,9 +70,9 @@ fn behind<'a>(text: &'a [u8], answer: &str) -> Option<&'a [u8]> {
 }
 
 // The output is that of some first lines, each whole.
-fn is_of_whole_answers(rt: &impl Abort, written: &[u8]) {
+fn is_of_whole_outputs(rt: &impl Abort, written: &[u8]) {
     let mut rest = written;
-    for answer in &ANSWERS {
+    for answer in &LINE_OUTPUTS {
         match behind(rest, answer) {
             Some(more) => rest = more,
             None => break,
@@ -81,12 +81,12 @@ fn is_of_whole_answers(rt: &impl Abort, written: &[u8]) {
     assert!(rt; rest.is_empty());
 }
 
-fn is_all_or_answers(rt: &impl Abort, outcome: Result<(), RunFault>, written: &[u8]) {
+fn is_all_or_whole_outputs(rt: &impl Abort, outcome: Result<(), RunFault>, written: &[u8]) {
     match outcome {
         Ok(()) => is_all(rt, written),
         Err(fault) => {
-            is_want_of_memory(rt, MainFault::Run(fault));
-            is_of_whole_answers(rt, written);
+            is_out_of_memory(rt, MainFault::Run(fault));
+            is_of_whole_outputs(rt, written);
         }
     }
 }
@@ -96,7 +96,7 @@ fn a_script(rt: HostRuntime) -> Result<(), Fail> {
     let mut room = [0; 512];
     let _start: Vec<u8> = Vec::with_capacity(rt.alloc(), START)?;
     let (outcome, count) = run_into(rt.alloc(), &mut room);
-    is_all_or_answers(&rt, outcome, &room[..count.min(room.len())]);
+    is_all_or_whole_outputs(&rt, outcome, &room[..count.min(room.len())]);
     Ok(())
 }
 
@@ -111,7 +111,7 @@ fn a_list(rt: HostRuntime) -> Result<(), Fail> {
     let _start: Vec<u8> = Vec::with_capacity(rt.alloc(), START)?;
     match list_of(rt.alloc(), LIST) {
         Ok(list) => has_rules(&rt, &list),
-        Err(fault) => is_want_of_memory(&rt, fault),
+        Err(fault) => is_out_of_memory(&rt, fault),
     }
     Ok(())
 }

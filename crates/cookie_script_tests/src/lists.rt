@@ -1,6 +1,6 @@
 //! Scripts under a public suffix list.
 use crate::scripts::{is_text, output};
-use cookie_script::fault::MainFault;
+use cookie_script::error::MainFault;
 use cookie_script::suffixes::list_of;
 use std::alloc::Global;
 use std::process::Abort;
@@ -26,7 +26,7 @@ fn written_under_a_list(alloc: Global) -> Result<Vec<u8>, Fail> {
 }
 
 #[test]
-fn obeys_a_public_suffix_list(rt: HostRuntime) -> Result<(), Fail> {
+fn a_public_suffix_list_is_applied(rt: HostRuntime) -> Result<(), Fail> {
     let written = written_under_a_list(rt.alloc())?;
     is_text(
         &rt,
@@ -43,14 +43,14 @@ const BAD_LISTS: [(&[u8], MainFault); 3] = [
     (b"a..b\n\xff\n", MainFault::CannotReadList),
 ];
 
-fn is_refused(rt: &impl Abort, alloc: Global, bytes: &[u8], fault: MainFault) {
+fn is_rejected(rt: &impl Abort, alloc: Global, bytes: &[u8], fault: MainFault) {
     let actual = list_of(alloc, bytes).err();
     assert_eq!(rt; actual, Some(fault), "at {bytes:?}");
 }
 
 #[test]
-fn tells_what_is_no_list(rt: HostRuntime) {
+fn invalid_list_files_are_reported(rt: HostRuntime) {
     for (bytes, fault) in &BAD_LISTS {
-        is_refused(&rt, rt.alloc(), bytes, *fault);
+        is_rejected(&rt, rt.alloc(), bytes, *fault);
     }
 }

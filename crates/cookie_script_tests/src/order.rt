@@ -1,7 +1,7 @@
 //! When output is written.
 use cookie_device::Counted;
 use cookie_fakes::Fake;
-use cookie_script::fault::RunFault;
+use cookie_script::error::RunFault;
 use cookie_script::run::run;
 use std::alloc::{AllocError, Global};
 use std::cell::Cell;
@@ -68,7 +68,7 @@ const LINES: &[u8] = b"now 2026-01-01T00:00:00Z\n\
 
 // Returns how many bytes were written at each read of a script that is read line by line, and the
 // number of reads.
-fn seen_at_reads(
+fn written_at_reads(
     alloc: Global,
     script: &[u8],
     out: &Cell<usize>,
@@ -86,9 +86,9 @@ fn seen_at_reads(
 }
 
 #[test]
-fn answers_are_out_before_the_next_read(rt: HostRuntime) -> Result<(), Fail> {
+fn output_is_written_before_the_next_read(rt: HostRuntime) -> Result<(), Fail> {
     let out = Cell::new(0);
-    let (seen, calls) = seen_at_reads(rt.alloc(), LINES, &out)?;
+    let (seen, calls) = written_at_reads(rt.alloc(), LINES, &out)?;
     is_count(&rt, calls, 6);
     // The lines write 0, 9, 12, 9 and 8 bytes.
     assert_eq!(rt; seen, [0, 0, 9, 21, 30, 30]);
@@ -121,7 +121,7 @@ fn calls_of(alloc: Global, script: &[u8]) -> Result<(usize, usize, usize), RunFa
 }
 
 #[test]
-fn answers_go_out_together(rt: HostRuntime) -> Result<(), Fail> {
+fn output_is_written_together(rt: HostRuntime) -> Result<(), Fail> {
     let script = repeated(rt.alloc(), b"", b"get http://a.com/\n", 1_000)?;
     // The script has 18,000 bytes, and the last read reports its end.
     let (reads, writes, written) = calls_of(rt.alloc(), &script)?;
@@ -134,7 +134,7 @@ fn answers_go_out_together(rt: HostRuntime) -> Result<(), Fail> {
 const TWO: &[u8] = b"now 2026-01-01T00:00:00Z\nset http://a.com/ a=1\nset http://a.com/ b=2\n";
 
 #[test]
-fn answers_of_many_pieces_go_out_together(rt: HostRuntime) -> Result<(), Fail> {
+fn output_of_many_parts_is_written_together(rt: HostRuntime) -> Result<(), Fail> {
     let script = repeated(rt.alloc(), TWO, b"get http://a.com/\nlist\n", 500)?;
     // The script has 69 bytes and 500 times 23, and the last read reports its end.
     let (reads, writes, written) = calls_of(rt.alloc(), &script)?;

@@ -264,7 +264,7 @@ fn writes(
 }
 
 #[test]
-fn answers_scripts(rt: HostRuntime) -> Result<(), Fail> {
+fn scripts_have_their_output(rt: HostRuntime) -> Result<(), Fail> {
     for (name, script, wanted) in &SCRIPTS {
         writes(&rt, rt.alloc(), script, None, wanted, name)?;
     }
@@ -272,7 +272,7 @@ fn answers_scripts(rt: HostRuntime) -> Result<(), Fail> {
 }
 
 #[test]
-fn answers_scripts_under_a_limit(rt: HostRuntime) -> Result<(), Fail> {
+fn scripts_under_a_limit_have_their_output(rt: HostRuntime) -> Result<(), Fail> {
     for (name, limit, script, wanted) in &LIMITED {
         // for the checker: `max` shows that the limit is at least 1
         writes(&rt, rt.alloc(), script, Some((*limit).max(1)), wanted, name)?;
@@ -281,7 +281,7 @@ fn answers_scripts_under_a_limit(rt: HostRuntime) -> Result<(), Fail> {
 }
 
 #[test]
-fn tells_bad_lines(rt: HostRuntime) -> Result<(), Fail> {
+fn bad_lines_are_reported(rt: HostRuntime) -> Result<(), Fail> {
     for (name, line) in &BAD_LINES {
         writes(&rt, rt.alloc(), line, None, "bad line\n", name)?;
     }

@@ -1,5 +1,5 @@
 //! The command-line arguments and the errors.
-use cookie_script::fault::{ConvertFault, MainFault, RunFault};
+use cookie_script::error::{ConvertFault, MainFault, RunFault};
 use cookie_script::options::Options;
 use cookie_script::{arguments, suffixes};
 use std::alloc::{AllocError, Global};
@@ -11,7 +11,7 @@ use std::test::Fail;
 type OptionsCase = (Option<&'static str>, Option<usize>, bool);
 
 // Arguments and their options, or `None` if they are invalid.
-static WORDS: [(&[&str], Option<OptionsCase>); 38] = [
+static ARGUMENTS: [(&[&str], Option<OptionsCase>); 38] = [
     (&[], Some((None, None, false))),
     (
         &["--suffixes", "list.dat"],
@@ -79,7 +79,7 @@ fn owned(alloc: Global, words: &[&str]) -> Result<Vec<String>, AllocError> {
 }
 
 // The arguments have these options, or are invalid.
-fn asks_for(rt: &impl Abort, words: &[String], wanted: Option<OptionsCase>) {
+fn parses_to(rt: &impl Abort, words: &[String], wanted: Option<OptionsCase>) {
     let wanted = match wanted {
         Some((suffixes, limit, convert)) => Ok(Options {
             suffixes,
@@ -93,9 +93,9 @@ fn asks_for(rt: &impl Abort, words: &[String], wanted: Option<OptionsCase>) {
 
 #[test]
 fn the_list_the_limit_and_the_conversion_are_the_only_options(rt: HostRuntime) -> Result<(), Fail> {
-    for (words, wanted) in &WORDS {
+    for (words, wanted) in &ARGUMENTS {
         let owned = owned(rt.alloc(), words)?;
-        asks_for(&rt, owned.as_slice(), *wanted);
+        parses_to(&rt, owned.as_slice(), *wanted);
     }
     Ok(())
 }
@@ -108,8 +108,8 @@ const COMMAND_LINES: [(&[&str], &[&str]); 4] = [
     (&[], &[]),
 ];
 
-fn has_own_words(rt: &impl Abort, words: &[String], own: &[String]) {
-    assert_eq!(rt; arguments::own_words(words), own);
+fn has_own_arguments(rt: &impl Abort, words: &[String], own: &[String]) {
+    assert_eq!(rt; arguments::own_arguments(words), own);
 }
 
 #[test]
@@ -117,7 +117,7 @@ fn the_name_is_no_argument(rt: HostRuntime) -> Result<(), Fail> {
     for (words, own) in &COMMAND_LINES {
         let words = owned(rt.alloc(), words)?;
         let own = owned(rt.alloc(), own)?;
-        has_own_words(&rt, words.as_slice(), own.as_slice());
+        has_own_arguments(&rt, words.as_slice(), own.as_slice());
     }
     Ok(())
 }
@@ -141,19 +141,23 @@ const KINDS: [(ErrorKind, MainFault, MainFault); 3] = [
     ),
 ];
 
-fn is_fault(rt: &impl Abort, actual: &MainFault, fault: &MainFault) {
+fn is_main_error(rt: &impl Abort, actual: &MainFault, fault: &MainFault) {
     assert_eq!(rt; actual, fault);
 }
 
 #[test]
-fn what_cannot_be_read_is_a_fault(rt: HostRuntime) {
+fn unreadable_arguments_and_files_are_errors(rt: HostRuntime) {
     for (kind, of_words, of_file) in &KINDS {
-        is_fault(&rt, &arguments::words_fault(Error::from(*kind)), of_words);
-        is_fault(&rt, &suffixes::file_fault(Error::from(*kind)), of_file);
+        is_main_error(
+            &rt,
+            &arguments::arguments_error(Error::from(*kind)),
+            of_words,
+        );
+        is_main_error(&rt, &suffixes::list_file_error(Error::from(*kind)), of_file);
     }
 }
 
-static FAULTS: [(MainFault, u8, &str); 11] = [
+static MAIN_ERRORS: [(MainFault, u8, &str); 11] = [
     (MainFault::BadArguments, 2, "cookie_jar: bad arguments"),
     (MainFault::CannotReadList, 2, "cookie_jar: cannot read list"),
     (MainFault::BadRule(17), 2, "cookie_jar: bad rule in line 17"),
@@ -218,8 +222,8 @@ fn has_text_at_a_width(
 }
 
 #[test]
-fn faults_have_a_status_and_a_text(rt: HostRuntime) -> Result<(), Fail> {
-    for (fault, status, text) in &FAULTS {
+fn errors_have_a_status_and_a_text(rt: HostRuntime) -> Result<(), Fail> {
+    for (fault, status, text) in &MAIN_ERRORS {
         has_status(&rt, *fault, *status);
         has_text(&rt, rt.alloc(), *fault, text)?;
         has_text_at_a_width(&rt, rt.alloc(), *fault, text)?;
@@ -227,7 +231,7 @@ fn faults_have_a_status_and_a_text(rt: HostRuntime) -> Result<(), Fail> {
     Ok(())
 }
 
-const RUN_FAULTS: [(RunFault, &str); 3] = [
+const RUN_ERRORS: [(RunFault, &str); 3] = [
     (RunFault::Read, "read failed"),
     (RunFault::Write, "write failed"),
     (RunFault::Memory, "out of memory"),
@@ -242,8 +246,8 @@ fn is_printed(rt: &impl Abort, alloc: Global, fault: RunFault, text: &str) -> Re
 }
 
 #[test]
-fn faults_of_a_script_have_a_text(rt: HostRuntime) -> Result<(), Fail> {
-    for (fault, text) in &RUN_FAULTS {
+fn errors_of_a_script_have_a_text(rt: HostRuntime) -> Result<(), Fail> {
+    for (fault, text) in &RUN_ERRORS {
         is_printed(&rt, rt.alloc(), *fault, text)?;
     }
     Ok(())

@@ -19,15 +19,15 @@ use Rattle.cookie_parts.specs.Expiry.{Expiry, AtUtc, SessionEnd}
 use Rattle.cookie_parts.specs.declared.error.Error.{Error}
 use Rattle.cookie_parts.specs.SavedConversion.{cookie_of_saved, saved_expires, saved_of}
 use Rattle.cookie_laws.specs.Rows.{are_rows, key_of}
-use Rattle.cookie_serde.specs.Cuts.{cut_end, cut_row, cut_rows, ReadsBack}
+use Rattle.cookie_serde.specs.Cuts.{cut_expiry, cut_row, cut_rows, ReadsBack}
 use Rattle.cookie_serde.specs.JsonLists.{json_cookies, SerializesToJsonList, SerializesToLines}
 use Rattle.cookie_serde.specs.SavedForms.{cookies_of_saved, read_cookies}
 use Rattle.cookie_serde.specs.Saving.{line_text}
-use Rattle.cookie_serde.proofs.MadeOfJson.{list_of_tree}
+use Rattle.cookie_serde.proofs.ParsedJson.{list_of_tree}
 use Rattle.cookie_forms.specs.MomentText.{whole_seconds}
 
 -- cutting an expiry commutes with saving it
-end_cut : (end : Expiry) → saved_expires (cut_end end) ≡ option_map whole_seconds (saved_expires end)
+end_cut : (end : Expiry) → saved_expires (cut_expiry end) ≡ option_map whole_seconds (saved_expires end)
 end_cut (AtUtc end) = refl
 end_cut SessionEnd = refl
 
@@ -59,12 +59,12 @@ module _ (survives_saving : (cookie : Row) → reading (cookie_text cookie.raw) 
         → SerializesToLines reported (Ok text) → json_cookies (line_text text) ≡ Ok (cut_rows rows)
     text_comes_back rows (Ok tree) text all reads (is, is_read) =
         ap read_cookies (list_of_tree (line_text text) tree (blank (string_bytes text) ∙ is_read)) ∙ tree_comes_back rows tree all (reads tree refl)
-    text_comes_back rows (Err fault) text all reads says = absurd (cc)
+    text_comes_back rows (Err fault) text all reads written_as = absurd (cc)
 
     pub said_comes_back : (rows : List Row) (text : String Global) → All ReadsBack rows
         → ((tree : Data) → list_written (map saved_of rows) ≡ Ok tree → list_at tree ≡ Ok (map cut (map saved_of rows)))
         → SerializesToJsonList rows (Ok text) → json_cookies (line_text text) ≡ Ok (cut_rows rows)
-    said_comes_back rows text all reads says = text_comes_back rows (list_written (map saved_of rows)) text all reads says
+    said_comes_back rows text all reads written_as = text_comes_back rows (list_written (map saved_of rows)) text all reads written_as
 
 -- a cut row has the key of the row
 keys_cut : (rows : List Row) → map key_of (cut_rows rows) ≡ map key_of rows

@@ -4,11 +4,11 @@ pub mod ListedRows
 pub mod LoadErrors
 pub mod LoadedAlike
 pub mod LoadedLines
-pub mod MadeOfJson
-pub mod MadeOfRon
 pub mod Migrated
 pub mod NoneEarly
 pub mod Pairs
+pub mod ParsedJson
+pub mod ParsedRon
 pub mod RonBack
 pub mod SavedAlike
 pub mod SavedLines

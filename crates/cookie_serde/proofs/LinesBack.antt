@@ -29,7 +29,7 @@ use Rattle.cookie_serde.specs.Loading.{AreCookies}
 use Rattle.cookie_serde.specs.SavedForms.{read_cookie}
 use Rattle.cookie_serde.specs.Saving.{lines_text, AreTexts}
 use Rattle.cookie_serde.proofs.CutRows.{form_ends, row_cut}
-use Rattle.cookie_serde.proofs.MadeOfJson.{saved_of_tree}
+use Rattle.cookie_serde.proofs.ParsedJson.{saved_of_tree}
 
 -- a line reads as a cookie
 abbrev ReadsAs : List ℕ → Row → Type 0
@@ -86,17 +86,17 @@ module _ (survives_saving : (cookie : Row) → reading (cookie_text cookie.raw) 
   of_tree : (row : Row) (reported : Result Data SavedError) (text : String Global) → ReadsBack row → written (saved_of row) ≡ reported
       → SerializesToLine reported (Ok text)
       → (has_no_control (string_bytes text) ≡ true) × (json_cookie (string_bytes text) ≡ Ok (cut_row row))
-  of_tree row (Ok tree) text back is (says, reads) = (
-    subst (λ t. has_no_control t ≡ true) (sym says) (are_lines (saved_of row) tree is),
+  of_tree row (Ok tree) text back is (written_as, reads) = (
+    subst (λ t. has_no_control t ≡ true) (sym written_as) (are_lines (saved_of row) tree is),
     ap read_cookie (saved_of_tree (string_bytes text) tree reads ∙ reads_back (saved_of row) tree (form_ends ends row back) is)
         ∙ ap (result_map_both (λ cookie. cookie) Cookie) (row_cut survives_saving row back),
   )
-  of_tree row (Err fault) text back is says = absurd (cc)
+  of_tree row (Err fault) text back is written_as = absurd (cc)
 
   -- the string of a row is one line, which reads as the cut row
   said_back : (row : Row) (text : String Global) → ReadsBack row → SerializesToJson row (Ok text)
       → (has_no_control (string_bytes text) ≡ true) × (json_cookie (string_bytes text) ≡ Ok (cut_row row))
-  said_back row text back says = of_tree row (written (saved_of row)) text back refl says
+  said_back row text back written_as = of_tree row (written (saved_of row)) text back refl written_as
 
   -- so the strings of rows are as many lines
   lines_back : (rows : List Row) (texts : List (String Global)) → All ReadsBack rows → AreTexts SerializesToJson rows texts

@@ -1,6 +1,6 @@
 -- Rows that are iterated into a list, and cookies that come as a list.
-use Rattle.std.proofs.Common.{◌≡◌, ℕ, ◌+◌, Bool, true, List, [], ◌∷◌, ◌++◌, filter, Option, Result, Ok, Err, IfOk, IfErr, OnErr, OnOk, IsTrue, inr, map, Bor, refl, sym, ap, append_assoc, ◌∙◌}
-use Rattle.std.specs.Io.KnownBytes.{Appends}
+use Rattle.std.proofs.Common.{◌≡◌, ℕ, ◌+◌, Bool, true, List, [], ◌∷◌, ◌++◌, filter, Option, Result, Ok, Err, IfOk, IfErr, OnErr, OnOk, IsTrue, inl, inr, map, Bor, refl, sym, ap, append_assoc, ◌∙◌}
+use Rattle.std.specs.Io.KnownBytes.{Appends, IsAtEnd}
 use Rattle.std.specs.Prelude.{◌≢◌}
 use Rattle.std.specs.Result.{result_map_both}
 use Rattle.std.specs.Str.{is_utf8}
@@ -8,15 +8,16 @@ use Rattle.std.specs.declared.alloc.Global.{Global}
 use Rattle.std.specs.declared.string.String.{String}
 use Rattle.std.specs.declared.vec.Vec.{Vec}
 use Rattle.cookie_words.specs.Moments.{Moment}
-use Rattle.cookie_device.specs.Device.{AppendsPrefix, SinkState}
+use Rattle.cookie_device.specs.Device.{AppendsPrefix, SinkState, SourceState}
 use Rattle.cookie_forms.specs.Saved.{Parts}
 use Rattle.cookie_parts.specs.Cookie.{Row}
 use Rattle.cookie_parts.specs.SavedConversion.{cookie_of_saved}
 use Rattle.cookie_parts.specs.declared.cookie_error.CookieError.{CookieError}
 use Rattle.cookie_parts.specs.declared.error.Error.{Error}
 use Rattle.cookie_parts.specs.declared.error.Error.TheVariants.{Io}
+use Rattle.cookie_laws.specs.Rows.{RowsInOrder}
 use Rattle.cookie_serde.specs.SavedForms.{cookies_of_saved}
-use Rattle.cookie_serde.specs.Lists.{FailsToSaveList, ParsesToCookies, ParsesToVec, RejectsText, WritesList}
+use Rattle.cookie_serde.specs.Lists.{BuildsFromList, BuildsFromText, FailsAtText, FailsToLoadList, FailsToSaveList, IsAll, ParsesToCookies, ParsesToVec, RejectsText, WritesList}
 use Rattle.cookie_serde.specs.Saving.{line_text}
 use Rattle.cookie_serde.proofs.SavedLines.{filter_around}
 use Rattle.cookie_serde.proofs.Walked.{around}
@@ -39,48 +40,48 @@ some_walked kept all done x left after step so_far passes =
     some_kept kept all (map (λ c. c.now) done) x.now after (around done x left after all step so_far) passes
 
 -- what always holds also holds on an error
-pub on_refusal : {T E P : Type 0} (answer : Result T E) → P → OnErr answer P
-on_refusal (Ok done) holds = tt
-on_refusal (Err error) holds = holds
+pub on_error : {T E P : Type 0} (answer : Result T E) → P → OnErr answer P
+on_error (Ok done) holds = tt
+on_error (Err error) holds = holds
 
-module _ (makes : List ℕ → Result (Vec Row Global) Error → Type 0) where
-  -- the cookies that a function returns for a string are those that it makes of it
-  pub made_at_once : (text : List ℕ) (answer : Result (Vec Row Global) Error) → IsTrue (is_utf8 text) → makes text answer
-      → IfOk answer (λ cookies. ParsesToCookies (ParsesToVec makes) text cookies.items)
-  made_at_once text (Ok cookies) valid answers = (valid, (Ok cookies, answers, refl))
-  made_at_once text (Err error) valid answers = tt
+module _ (Parses : List ℕ → Result (Vec Row Global) Error → Type 0) where
+  -- the cookies that a function returns for a string are those that it may return
+  pub parsed_at_once : (text : List ℕ) (answer : Result (Vec Row Global) Error) → IsTrue (is_utf8 text) → Parses text answer
+      → IfOk answer (λ cookies. ParsesToCookies (ParsesToVec Parses) text cookies.items)
+  parsed_at_once text (Ok cookies) valid answers = (valid, (Ok cookies, answers, refl))
+  parsed_at_once text (Err error) valid answers = tt
 
   -- and if it returns an error, the string is rejected
-  pub refused_at_once : (text : List ℕ) (answer : Result (Vec Row Global) Error) → IsTrue (is_utf8 text) → makes text answer
-      → IfErr answer (λ error. RejectsText (ParsesToVec makes) error text)
-  refused_at_once text (Ok cookies) valid answers = tt
-  refused_at_once text (Err error) valid answers = inr (valid, (Err error, answers, refl))
+  pub rejected_at_once : (text : List ℕ) (answer : Result (Vec Row Global) Error) → IsTrue (is_utf8 text) → Parses text answer
+      → IfErr answer (λ error. RejectsText (ParsesToVec Parses) error text)
+  rejected_at_once text (Ok cookies) valid answers = tt
+  rejected_at_once text (Err error) valid answers = inr (valid, (Err error, answers, refl))
 
-module _ (makes : List ℕ → Result (List Row) Error → Type 0) (text : List ℕ) where
-  -- the cookies of a list, or the error, as a result with a vector
-  pub list_made : (answer : Result (Vec Row Global) Error) → IsTrue (is_utf8 text)
-      → makes text (result_map_both (λ cookies. cookies.items) (λ error. error) answer)
-      → IfOk answer (λ cookies. ParsesToCookies makes text cookies.items)
-  list_made (Ok cookies) valid created = (valid, created)
-  list_made (Err error) valid created = tt
+module _ (Parses : List ℕ → Result (List Row) Error → Type 0) (old : SourceState) (text : List ℕ) (all : IsAll old.remaining text) (valid : IsTrue (is_utf8 text)) where
+  -- rows built from all bytes of the source, as a string
+  pub list_built : (include_expired : Bool) (now : Moment) (answer : Result RowsInOrder Error)
+      → IfOk answer (BuildsFromText Parses text include_expired now) → IfOk answer (BuildsFromList Parses old.remaining include_expired now)
+  list_built include_expired now (Ok kept) (cookies, parsed, is) = (text, cookies, all, (valid, parsed), is)
+  list_built include_expired now (Err error) built = tt
 
-  pub list_refused : (answer : Result (Vec Row Global) Error) → IsTrue (is_utf8 text)
-      → makes text (result_map_both (λ cookies. cookies.items) (λ error. error) answer)
-      → IfErr answer (λ error. RejectsText makes error text)
-  list_refused (Ok cookies) valid created = tt
-  list_refused (Err error) valid created = inr (valid, created)
+  -- or the error of that string, once all was read
+  pub list_rejected : {T : Type 0} (answer : Result T Error) (new : SourceState) → IsAtEnd new.remaining → new.failed ≡ old.failed
+      → IfErr answer (λ error. FailsAtText Parses error text) → IfErr answer (λ error. FailsToLoadList Parses error old new)
+  list_rejected (Ok rows) new end count failed = tt
+  list_rejected (Err error) new end count (inl rejected) = inl ((text, all, inl (inr (valid, rejected))), end, count)
+  list_rejected (Err error) new end count (inr (is, cookies, parsed, some)) = inl ((text, all, inr (is, cookies, (valid, parsed), some)), end, count)
 
-module _ (says : List Row → Result (String Global) Error → Type 0) (rows : List Row) (text : String Global) (said : says rows (Ok text)) {T : Type 0} where
+module _ (Serializes : List Row → Result (String Global) Error → Type 0) (rows : List Row) (text : String Global) (said : Serializes rows (Ok text)) {T : Type 0} where
   -- the string of the rows and a line feed were written
   pub list_written : (answer : Result T Error) (old new : Option (List ℕ)) → OnOk answer (Appends old new (line_text text))
-      → OnOk answer (WritesList says rows old new)
+      → OnOk answer (WritesList Serializes rows old new)
   list_written (Ok done) old new appended = (text, said, appended)
   list_written (Err error) old new appended = tt
 
   -- or a beginning of them
   pub list_begun : (answer : Result T Error) (old new : SinkState)
       → IfErr answer (λ error. AppendsPrefix old.contents new.contents (line_text text) × (error ≡ Io) × (new.failed ≡ old.failed + 1))
-      → IfErr answer (λ error. FailsToSaveList says error rows old new)
+      → IfErr answer (λ error. FailsToSaveList Serializes error rows old new)
   list_begun (Ok done) old new begun = tt
   list_begun (Err error) old new (begun, is, count) = inr (text, said, begun, is, count)
 

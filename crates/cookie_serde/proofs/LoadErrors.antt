@@ -12,25 +12,25 @@ use Rattle.cookie_serde.specs.Loading.{FailsAtLine, FailsToLoad, StopsWithinLine
 use Rattle.cookie_serde.specs.declared.loading.LoadError.{LoadError}
 use Rattle.cookie_serde.specs.declared.loading.LoadError.TheVariants.{Source, Line}
 
-module _ (makes : List ℕ → Result Row Error → Type 0) where
+module _ (Parses : List ℕ → Result Row Error → Type 0) where
   -- an error at a line that is reached
   pub stops_at : (fault : LoadError) (number : ℕ) (line : List ℕ) (old new : SourceState)
-      → (error : Error) × (fault ≡ Line number error) × FailsAtLine makes error line → IsReachedAt makes number line old.remaining
-      → new.failed ≡ old.failed → StopsLoading makes fault old new
+      → (error : Error) × (fault ≡ Line number error) × FailsAtLine Parses error line → IsReachedAt Parses number line old.remaining
+      → new.failed ≡ old.failed → StopsLoading Parses fault old new
   stops_at fault number line old new (error, is, fails) reached count =
       rw is (line, fails, reached, count)
 
   -- an error of the source
   pub stops_reading : (fault : FillError) (old new : SourceState) (between : ℕ)
-      → IfSome old.remaining (StopsWithinLine makes old new) → CountsReadFailure {T = ℕ} (Err fault) between new.failed
-      → between ≡ old.failed → StopsLoading makes (Source fault) old new
+      → IfSome old.remaining (StopsWithinLine Parses old new) → CountsReadFailure {T = ℕ} (Err fault) between new.failed
+      → between ≡ old.failed → StopsLoading Parses (Source fault) old new
   stops_reading Fill.Read old new between within count same = (within, rw (← same) count)
   stops_reading Fill.Memory old new between within count same = (within, rw (← same) count)
 
   -- an error with a line number is the same error without it
   pub fails_by : (fault : LoadError) (old new : SourceState)
-      → StopsLoading makes fault old new
-      → FailsToLoad makes (error_of fault) old new
+      → StopsLoading Parses fault old new
+      → FailsToLoad Parses (error_of fault) old new
   fails_by (Line number error) old new
       (line, fails, (before, cookies, are_made, is, first), count) =
       inl ((line, fails, IfSome_then old.remaining first (λ text behind. (before, behind.0, cookies, behind.1, are_made))), count)

@@ -15,42 +15,42 @@ use Rattle.cookie_serde.specs.declared.loading.LoadError.{LoadError}
 use Rattle.cookie_serde.specs.declared.loading.LoadError.TheVariants.{Line, Source}
 use Rattle.cookie_serde.proofs.Pairs.{AllZip-then}
 
-module _ {makes yields : List ℕ → Result Row Error → Type 0}
-    (kept : (line : List ℕ) (answer : Result Row Error) → makes line answer → yields line answer) where
-  made_alike : (line : List ℕ) (cookie : Row) → ParsesToCookie makes line cookie → ParsesToCookie yields line cookie
-  made_alike line cookie (valid, created) = (valid, kept line (Ok cookie) created)
+module _ {Parses Other : List ℕ → Result Row Error → Type 0}
+    (implies : (line : List ℕ) (answer : Result Row Error) → Parses line answer → Other line answer) where
+  made_alike : (line : List ℕ) (cookie : Row) → ParsesToCookie Parses line cookie → ParsesToCookie Other line cookie
+  made_alike line cookie (valid, created) = (valid, implies line (Ok cookie) created)
 
-  refused_alike : (error : Error) (line : List ℕ) → RejectsLine makes error line → RejectsLine yields error line
+  refused_alike : (error : Error) (line : List ℕ) → RejectsLine Parses error line → RejectsLine Other error line
   refused_alike error line (inl not_utf8) = inl not_utf8
-  refused_alike error line (inr (valid, refused)) = inr (valid, kept line (Err error) refused)
+  refused_alike error line (inr (valid, refused)) = inr (valid, implies line (Err error) refused)
 
-  failed_alike : (error : Error) (line : List ℕ) → FailsAtLine makes error line → FailsAtLine yields error line
+  failed_alike : (error : Error) (line : List ℕ) → FailsAtLine Parses error line → FailsAtLine Other error line
   failed_alike error line (inl (want, cookie, created)) = inl (want, cookie, made_alike line cookie created)
   failed_alike error line (inr refused) = inr (refused_alike error line refused)
 
-  cookies_alike : (texts : List (List ℕ)) (cookies : List Row) → AreCookies makes texts cookies → AreCookies yields texts cookies
+  cookies_alike : (texts : List (List ℕ)) (cookies : List Row) → AreCookies Parses texts cookies → AreCookies Other texts cookies
   cookies_alike texts cookies created = AllZip-then made_alike texts cookies created
 
-  reached_alike : (number : ℕ) (line : List ℕ) (known : Option (List ℕ)) → IsReachedAt makes number line known → IsReachedAt yields number line known
+  reached_alike : (number : ℕ) (line : List ℕ) (known : Option (List ℕ)) → IsReachedAt Parses number line known → IsReachedAt Other number line known
   reached_alike number line known (before, cookies, created, is, first) = (before, cookies, cookies_alike before cookies created, is, first)
 
-  ends_within_alike : (bytes : List ℕ) → EndsWithinLine makes bytes → EndsWithinLine yields bytes
+  ends_within_alike : (bytes : List ℕ) → EndsWithinLine Parses bytes → EndsWithinLine Other bytes
   ends_within_alike bytes (front, part, before, cookies, split, none, are_lines, created) =
       (front, part, before, cookies, split, none, are_lines, cookies_alike before cookies created)
 
   stops_within_alike : (old new : SourceState) (text : List ℕ)
-      → StopsWithinLine makes old new text → StopsWithinLine yields old new text
+      → StopsWithinLine Parses old new text → StopsWithinLine Other old new text
   stops_within_alike old new text (given, left, split, known, ends, brought) =
       (given, left, split, known, ends_within_alike given ends, brought)
 
   pub builds_alike : (known : Option (List ℕ)) (include_expired : Bool) (now : Moment) (loaded : RowsInOrder)
-      → BuildsFrom makes known include_expired now loaded → BuildsFrom yields known include_expired now loaded
+      → BuildsFrom Parses known include_expired now loaded → BuildsFrom Other known include_expired now loaded
   builds_alike known include_expired now loaded (texts, cookies, created, are_built, known_lines) =
       (texts, cookies, cookies_alike texts cookies created, are_built, known_lines)
 
   pub stops_alike : (fault : LoadError) (old new : SourceState)
-      → StopsLoading makes fault old new
-      → StopsLoading yields fault old new
+      → StopsLoading Parses fault old new
+      → StopsLoading Other fault old new
   stops_alike (Line number error) old new (line, fails, reached, count) =
       (line, failed_alike error line fails, reached_alike number line old.remaining reached, count)
   stops_alike (Source Fill.Read) old new (within, count) =
@@ -60,15 +60,15 @@ module _ {makes yields : List ℕ → Result Row Error → Type 0}
 
 -- the same for what the contract of a call with a function ensures
 pub loaded_alike : {F : Type 0} (g : Shared F (Bor (List ℕ) × Unit {0}) (Result Row Error)) (f : F)
-    (yields : List ℕ → Result Row Error → Type 0)
-    → ((line : List ℕ) (answer : Result Row Error) → FnReturnsAt g f line answer → yields line answer)
+    (Other : List ℕ → Result Row Error → Type 0)
+    → ((line : List ℕ) (answer : Result Row Error) → FnReturnsAt g f line answer → Other line answer)
     → (result : Result RowsInOrder LoadError) (old new : SourceState)
     → (include_expired : Bool) (now : Moment)
     → IfErr result (λ fault. StopsLoading (FnReturnsAt g f) fault old new)
     → IfOk result (λ loaded. BuildsFrom (FnReturnsAt g f) old.remaining include_expired now loaded)
-    → IfErr result (λ fault. StopsLoading yields fault old new)
-    × IfOk result (λ loaded. BuildsFrom yields old.remaining include_expired now loaded)
-loaded_alike g f yields kept (Ok loaded) old new include_expired now stops built =
-    (tt, builds_alike kept old.remaining include_expired now loaded built)
-loaded_alike g f yields kept (Err fault) old new include_expired now stops built =
-    (stops_alike kept fault old new stops, tt)
+    → IfErr result (λ fault. StopsLoading Other fault old new)
+    × IfOk result (λ loaded. BuildsFrom Other old.remaining include_expired now loaded)
+loaded_alike g f Other implies (Ok loaded) old new include_expired now stops built =
+    (tt, builds_alike implies old.remaining include_expired now loaded built)
+loaded_alike g f Other implies (Err fault) old new include_expired now stops built =
+    (stops_alike implies fault old new stops, tt)

@@ -30,26 +30,26 @@ passed_over front at_hand behind more count is =
 grown : (old new : List ℕ) → StartsWith new old → new ≡ old ++ drop (length old) new
 grown old new starts = sym (take-append-drop (length old) new) ∙ ap (λ xs. xs ++ drop (length old) new) starts
 
-module _ (makes : List ℕ → Result Row Error → Type 0) where
-  -- a cookie that the function returns for a line is one that it makes of it
-  pub created : (line : List ℕ) (answer : Result Row Error) → IsTrue (is_utf8 line) → makes line answer
-      → IfOk answer (λ cookie. ParsesToCookie makes line cookie)
+module _ (Parses : List ℕ → Result Row Error → Type 0) where
+  -- a cookie that the function returns for a line is one that it may return
+  pub created : (line : List ℕ) (answer : Result Row Error) → IsTrue (is_utf8 line) → Parses line answer
+      → IfOk answer (λ cookie. ParsesToCookie Parses line cookie)
   created line (Ok cookie) valid answers = (valid, answers)
   created line (Err error) valid answers = tt
 
   -- and if it returns an error, the line is rejected
-  pub refused : (line : List ℕ) (answer : Result Row Error) → IsTrue (is_utf8 line) → makes line answer
-      → IfErr answer (λ error. RejectsLine makes error line)
+  pub refused : (line : List ℕ) (answer : Result Row Error) → IsTrue (is_utf8 line) → Parses line answer
+      → IfErr answer (λ error. RejectsLine Parses error line)
   refused line (Ok cookie) valid answers = tt
   refused line (Err error) valid answers = inr (valid, answers)
 
   -- each line that is loaded adds one cookie
   pub taken_built : (line : List ℕ) (include_expired : Bool) (now : Moment) (old new : RowsInOrder) (cookies : List Row)
-      → InsertsLine makes line include_expired now old new → old ≡ built include_expired now cookies
-      → (cookie : Row) × ParsesToCookie makes line cookie × (new ≡ built include_expired now (cookies ++ cookie ∷ []))
-  taken_built line include_expired now old new cookies (cookie, makes_it, taken) are_built = (
+      → InsertsLine Parses line include_expired now old new → old ≡ built include_expired now cookies
+      → (cookie : Row) × ParsesToCookie Parses line cookie × (new ≡ built include_expired now (cookies ++ cookie ∷ []))
+  taken_built line include_expired now old new cookies (cookie, parses_it, taken) are_built = (
     cookie,
-    makes_it,
+    parses_it,
     taken cookies are_built,
   )
 
@@ -142,11 +142,11 @@ pub last_found : (text last : List ℕ) (done : List (List ℕ)) → IsEnded las
 last_found text last done is some = is ∙ ap (λ ls. done ++ ls) (ap (λ test. cond test [] (last ∷ [])) (sym some))
 
 -- without a line feed in the buffer, reading is within a line; each successful read gave at least a byte
-pub within : (makes : List ℕ → Result Row Error → Type 0) (text at_hand : List ℕ) (done : List (List ℕ)) (cookies : List Row)
-    (old new : SourceState) → AreCookies makes done cookies → Loaded text at_hand new.remaining done
+pub within : (Parses : List ℕ → Result Row Error → Type 0) (text at_hand : List ℕ) (done : List (List ℕ)) (cookies : List Row)
+    (old new : SourceState) → AreCookies Parses done cookies → Loaded text at_hand new.remaining done
     → IfSome new.remaining (λ left. old.reads_left + length left ≤ new.reads_left + length text)
-    → position (λ b. eqb b 10) at_hand ≡ None → StopsWithinLine makes old new text
-within makes text at_hand done cookies old new are_made l brought none =
+    → position (λ b. eqb b 10) at_hand ≡ None → StopsWithinLine Parses old new text
+within Parses text at_hand done cookies old new are_made l brought none =
     let whole = append-nil at_hand in
     let split = ap (λ xs. lines (l.front ++ xs)) (sym whole) ∙ l.split [] ∙ ap (λ xs. done ++ lines xs) whole in
     let is = l.whole ∙ sym (append_assoc l.front at_hand l.left) in

@@ -27,28 +27,28 @@ filter_around p before x after passes = filter-append p before (x ∷ after) ∙
 pub filter_past : {A : Type 0} (p : A → Bool) (before : List A) (x : A) → p x ≡ false → filter p (before ++ x ∷ []) ≡ filter p before
 filter_past p before x fails = grind (arith, filter-append p before (x ∷ []), append-nil (filter p before))
 
-module _ (says : Row → Result (String Global) Error → Type 0) where
+module _ (Serializes : Row → Result (String Global) Error → Type 0) where
   -- no row has no line
-  pub writes_none : (a : Option (List ℕ)) → WritesRows says [] a a
+  pub writes_none : (a : Option (List ℕ)) → WritesRows Serializes [] a a
   writes_none a = ([], tt, Appends-nil a)
 
   -- the line of one row more
-  pub writes_more : (before : List Row) (row : Row) (a b c : Option (List ℕ)) → WritesRows says before a b → WritesRow says row b c
-      → WritesRows says (before ++ row ∷ []) a c
+  pub writes_more : (before : List Row) (row : Row) (a b c : Option (List ℕ)) → WritesRows Serializes before a b → WritesRow Serializes row b c
+      → WritesRows Serializes (before ++ row ∷ []) a c
   writes_more before row a b c lines line =
       let texts = lines.0 in
       let text = line.0 in (
         texts ++ text ∷ [],
-        AllZip-more (λ row text. says row (Ok text)) before texts row text lines.1 line.1,
+        AllZip-more (λ row text. Serializes row (Ok text)) before texts row text lines.1 line.1,
         subst (Appends a c) (flat_map_more line_text [] texts text)
             (Appends-trans a b c (lines_text texts) (line_text text) lines.2 line.2),
       )
 
   -- the rows before one were written, and then the function returned an error for it, or a beginning of its line was written
   pub stopped_at : (error : Error) (rows before : List Row) (row : Row) (after : List Row) (a b c : Option (List ℕ)) (n m k : ℕ)
-      → rows ≡ before ++ row ∷ after → WritesRows says before a b → m ≡ n
-      → (says row (Err error) × Keeps b c × (k ≡ m)) ⊎ (BeginsRow says row b c × (error ≡ Io) × (k ≡ m + 1))
-      → (StopsAtRow says error rows a c × (k ≡ n)) ⊎ (StopsWithinRow says rows a c × (error ≡ Io) × (k ≡ n + 1))
+      → rows ≡ before ++ row ∷ after → WritesRows Serializes before a b → m ≡ n
+      → (Serializes row (Err error) × Keeps b c × (k ≡ m)) ⊎ (BeginsRow Serializes row b c × (error ≡ Io) × (k ≡ m + 1))
+      → (StopsAtRow Serializes error rows a c × (k ≡ n)) ⊎ (StopsWithinRow Serializes rows a c × (error ≡ Io) × (k ≡ n + 1))
   stopped_at error rows before row after a b c n m k split lines same (inl (refused, kept, count)) =
       inl ((before, row, after, split, refused, (lines.0, lines.1, Appends-kept a b c (lines_text lines.0) lines.2 kept)), count ∙ same)
   stopped_at error rows before row after a b c n m k split lines same (inr (begun, is, count)) =

@@ -14,13 +14,13 @@ abbrev pub ReadsBack : Row → Type 0
 ReadsBack row = (reading (cookie_text row.raw) ≡ Ok row.raw) × (form : Saved) × (saved_view form ≡ saved_of row)
 
 -- an expiry, cut to whole seconds
-abbrev pub cut_end : Expiry → Expiry
-cut_end (AtUtc end) = AtUtc (whole_seconds end)
-cut_end SessionEnd = SessionEnd
+abbrev pub cut_expiry : Expiry → Expiry
+cut_expiry (AtUtc end) = AtUtc (whole_seconds end)
+cut_expiry SessionEnd = SessionEnd
 
 -- a row, with its expiry cut to whole seconds
 abbrev pub cut_row : Row → Row
-cut_row row = record row { expires = cut_end row.expires }
+cut_row row = record row { expires = cut_expiry row.expires }
 
 -- rows, with their expiries cut to whole seconds
 abbrev pub cut_rows : List Row → List Row

@@ -15,36 +15,36 @@ use Rattle.cookie_parts.specs.declared.error.Error.TheVariants.{Io, Memory, NotU
 use Rattle.cookie_laws.specs.Rows.{RowsInOrder, built}
 use Rattle.cookie_serde.specs.Saving.{line_text}
 
-module _ (says : List Row → Result (String Global) Error → Type 0) where
+module _ (Serializes : List Row → Result (String Global) Error → Type 0) where
   -- a string for the rows and a line feed were written
   abbrev pub WritesList : List Row → Option (List ℕ) → Option (List ℕ) → Type 0
-  WritesList rows old new = (text : String Global) × says rows (Ok text) × Appends old new (line_text text)
+  WritesList rows old new = (text : String Global) × Serializes rows (Ok text) × Appends old new (line_text text)
 
   -- the function returned an error and nothing was written; or a write failed, which added one to the failures, after a beginning of
   -- the string and its line feed
   abbrev pub FailsToSaveList : Error → List Row → SinkState → SinkState → Type 0
   FailsToSaveList error rows old new =
-      (says rows (Err error) × Keeps old.contents new.contents × (new.failed ≡ old.failed))
-      ⊎ ((text : String Global) × says rows (Ok text) × AppendsPrefix old.contents new.contents (line_text text)
+      (Serializes rows (Err error) × Keeps old.contents new.contents × (new.failed ≡ old.failed))
+      ⊎ ((text : String Global) × Serializes rows (Ok text) × AppendsPrefix old.contents new.contents (line_text text)
       × (error ≡ Io) × (new.failed ≡ old.failed + 1))
 
 -- the result of a function on copies of the rows, or out of memory for the copies
 abbrev pub SerializesCopies : (Vec Row Global → Result (String Global) Error → Type 0) → List Row → Result (String Global) Error → Type 0
-SerializesCopies says rows answer =
-    ((copies : Vec Row Global) × (copies.items ≡ rows) × says copies answer) ⊎ ((answer ≡ Err Memory) × (rows ≢ []))
+SerializesCopies Serializes rows answer =
+    ((copies : Vec Row Global) × (copies.items ≡ rows) × Serializes copies answer) ⊎ ((answer ≡ Err Memory) × (rows ≢ []))
 
 -- these are all bytes of the source, if they are known
 abbrev pub IsAll : Option (List ℕ) → List ℕ → Type 0
 IsAll known text = IfSome known (λ all. all ≡ text)
 
-module _ (makes : List ℕ → Result (List Row) Error → Type 0) where
+module _ (Parses : List ℕ → Result (List Row) Error → Type 0) where
   -- the bytes are UTF-8, and the function may return these cookies for them
   abbrev pub ParsesToCookies : List ℕ → List Row → Type 0
-  ParsesToCookies text cookies = IsTrue (is_utf8 text) × makes text (Ok cookies)
+  ParsesToCookies text cookies = IsTrue (is_utf8 text) × Parses text (Ok cookies)
 
   -- the bytes are not UTF-8, or the function returns an error
   abbrev pub RejectsText : Error → List ℕ → Type 0
-  RejectsText error text = ((is_utf8 text ≡ false) × (error ≡ NotUtf8)) ⊎ (IsTrue (is_utf8 text) × makes text (Err error))
+  RejectsText error text = ((is_utf8 text ≡ false) × (error ≡ NotUtf8)) ⊎ (IsTrue (is_utf8 text) × Parses text (Err error))
 
   -- the rows built from the cookies of all bytes of the source
   abbrev pub BuildsFromList : Option (List ℕ) → Bool → Moment → RowsInOrder → Type 0
@@ -54,11 +54,11 @@ module _ (makes : List ℕ → Result (List Row) Error → Type 0) where
 
   -- the rows built from the cookies that the function may return for the string
   abbrev pub BuildsFromText : List ℕ → Bool → Moment → RowsInOrder → Type 0
-  BuildsFromText text include_expired now kept = (cookies : List Row) × makes text (Ok cookies) × (kept ≡ built include_expired now cookies)
+  BuildsFromText text include_expired now kept = (cookies : List Row) × Parses text (Ok cookies) × (kept ≡ built include_expired now cookies)
 
   -- the function returns the error, or it ran out of memory for the cookies
   abbrev pub FailsAtText : Error → List ℕ → Type 0
-  FailsAtText error text = makes text (Err error) ⊎ ((error ≡ Memory) × (cookies : List Row) × makes text (Ok cookies) × (cookies ≢ []))
+  FailsAtText error text = Parses text (Err error) ⊎ ((error ≡ Memory) × (cookies : List Row) × Parses text (Ok cookies) × (cookies ≢ []))
 
   -- all bytes were read: they are rejected, or it ran out of memory for their cookies
   abbrev pub RejectsList : Error → Option (List ℕ) → Type 0
@@ -73,13 +73,13 @@ StopsWithin old new text =
 
 -- all bytes were read and loading failed; or reading stopped: a read failed, which added one to the failures, or it ran out of memory
 abbrev pub FailsToLoadList : (List ℕ → Result (List Row) Error → Type 0) → Error → SourceState → SourceState → Type 0
-FailsToLoadList makes error old new =
-    (RejectsList makes error old.remaining × IsAtEnd new.remaining × (new.failed ≡ old.failed))
+FailsToLoadList Parses error old new =
+    (RejectsList Parses error old.remaining × IsAtEnd new.remaining × (new.failed ≡ old.failed))
     ⊎ (IfSome old.remaining (StopsWithin old new)
     × (((error ≡ Io) × (new.failed ≡ old.failed + 1)) ⊎ ((error ≡ Memory) × (new.failed ≡ old.failed))))
 
 -- the result of a function that returns a vector
 abbrev pub ParsesToVec : (List ℕ → Result (Vec Row Global) Error → Type 0) → List ℕ → Result (List Row) Error → Type 0
-ParsesToVec makes text answer =
-    (reported : Result (Vec Row Global) Error) × makes text reported
+ParsesToVec Parses text answer =
+    (reported : Result (Vec Row Global) Error) × Parses text reported
     × (answer ≡ result_map_both (λ cookies. cookies.items) (λ error. error) reported)

@@ -20,19 +20,19 @@ error_of (Line number error) = error
 abbrev pub number_behind : {T : Type 0} → List T → ℕ
 number_behind before = min (length before + 1) (2 ^ 64 - 1)
 
-module _ (makes : List ℕ → Result Row Error → Type 0) where
+module _ (Parses : List ℕ → Result Row Error → Type 0) where
   -- the line has this number, and all lines before it are cookies
   abbrev pub IsReachedAt : ℕ → List ℕ → Option (List ℕ) → Type 0
   IsReachedAt number line known =
-      (before : List (List ℕ)) × (cookies : List Row) × AreCookies makes before cookies × (number ≡ number_behind before)
+      (before : List (List ℕ)) × (cookies : List Row) × AreCookies Parses before cookies × (number ≡ number_behind before)
       × IfSome known (λ text. (after : List (List ℕ)) × (lines text ≡ before ++ line ∷ after))
 
   -- Loading fails at the line of this number; or within a line: a read failed, which added one to the failures, or it ran out of
   -- memory.
   abbrev pub StopsLoading : LoadError → SourceState → SourceState → Type 0
   StopsLoading (Line number error) old new =
-      (line : List ℕ) × FailsAtLine makes error line × IsReachedAt number line old.remaining × (new.failed ≡ old.failed)
+      (line : List ℕ) × FailsAtLine Parses error line × IsReachedAt number line old.remaining × (new.failed ≡ old.failed)
   StopsLoading (Source Fill.Read) old new =
-      IfSome old.remaining (StopsWithinLine makes old new) × (new.failed ≡ old.failed + 1)
+      IfSome old.remaining (StopsWithinLine Parses old new) × (new.failed ≡ old.failed + 1)
   StopsLoading (Source Fill.Memory) old new =
-      IfSome old.remaining (StopsWithinLine makes old new) × (new.failed ≡ old.failed)
+      IfSome old.remaining (StopsWithinLine Parses old new) × (new.failed ≡ old.failed)

@@ -12,14 +12,14 @@ use Rattle.cookie_parts.specs.declared.error.Error.TheVariants.{Io, Memory, NotU
 use Rattle.cookie_laws.specs.Rows.{RowsInOrder, built}
 use Rattle.cookie_rows.specs.Building.{TakesCookie}
 
-module _ (makes : List ℕ → Result Row Error → Type 0) where
+module _ (Parses : List ℕ → Result Row Error → Type 0) where
   -- the line is UTF-8, and the function may return this cookie for it
   abbrev pub ParsesToCookie : List ℕ → Row → Type 0
-  ParsesToCookie line cookie = IsTrue (is_utf8 line) × makes line (Ok cookie)
+  ParsesToCookie line cookie = IsTrue (is_utf8 line) × Parses line (Ok cookie)
 
   -- the line is not UTF-8, or the function returns an error
   abbrev pub RejectsLine : Error → List ℕ → Type 0
-  RejectsLine error line = ((is_utf8 line ≡ false) × (error ≡ NotUtf8)) ⊎ (IsTrue (is_utf8 line) × makes line (Err error))
+  RejectsLine error line = ((is_utf8 line ≡ false) × (error ≡ NotUtf8)) ⊎ (IsTrue (is_utf8 line) × Parses line (Err error))
 
   -- loading fails with this error at the line: out of memory for its cookie, or the line is rejected
   abbrev pub FailsAtLine : Error → List ℕ → Type 0

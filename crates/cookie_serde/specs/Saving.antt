@@ -32,18 +32,18 @@ line_text text = string_bytes text ++ 10 ∷ []
 abbrev pub lines_text : List (String Global) → List ℕ
 lines_text texts = flat_map line_text texts
 
-module _ (says : Row → Result (String Global) Error → Type 0) where
+module _ (Serializes : Row → Result (String Global) Error → Type 0) where
   -- strings that the function may return for these rows, one for each
   abbrev pub AreTexts : List Row → List (String Global) → Type 0
-  AreTexts rows texts = AllZip (λ row text. says row (Ok text)) rows texts
+  AreTexts rows texts = AllZip (λ row text. Serializes row (Ok text)) rows texts
 
   -- the line of the row was written
   abbrev pub WritesRow : Row → Option (List ℕ) → Option (List ℕ) → Type 0
-  WritesRow row old new = (text : String Global) × says row (Ok text) × Appends old new (line_text text)
+  WritesRow row old new = (text : String Global) × Serializes row (Ok text) × Appends old new (line_text text)
 
   -- a beginning of the row's line was written
   abbrev pub BeginsRow : Row → Option (List ℕ) → Option (List ℕ) → Type 0
-  BeginsRow row old new = (text : String Global) × says row (Ok text) × AppendsPrefix old new (line_text text)
+  BeginsRow row old new = (text : String Global) × Serializes row (Ok text) × AppendsPrefix old new (line_text text)
 
   -- the line of each row was written, in order, and nothing else
   abbrev pub WritesRows : List Row → Option (List ℕ) → Option (List ℕ) → Type 0
@@ -53,14 +53,14 @@ module _ (says : Row → Result (String Global) Error → Type 0) where
   abbrev pub StopsAtRow : Error → List Row → Option (List ℕ) → Option (List ℕ) → Type 0
   StopsAtRow error rows old new =
       (before : List Row) × (row : Row) × (after : List Row) × (rows ≡ before ++ row ∷ after)
-      × says row (Err error) × WritesRows before old new
+      × Serializes row (Err error) × WritesRows before old new
 
   -- the lines of the rows before one were written, and a beginning of its own
   abbrev pub StopsWithinRow : List Row → Option (List ℕ) → Option (List ℕ) → Type 0
   StopsWithinRow rows old new =
       (before : List Row) × (row : Row) × (after : List Row) × (rows ≡ before ++ row ∷ after)
       × (texts : List (String Global)) × AreTexts before texts
-      × (text : String Global) × says row (Ok text)
+      × (text : String Global) × Serializes row (Ok text)
       × (part : List ℕ) × (rest : List ℕ) × (line_text text ≡ part ++ rest) × Appends old new (lines_text texts ++ part)
 
   -- the function returned an error for a row, or a write failed within a row's line, which added one to the failures

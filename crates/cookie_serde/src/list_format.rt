@@ -9,7 +9,7 @@ ghost use Rattle.cookie_forms.specs.ToJson.{is_early};
 ghost use Rattle.cookie_parts.specs.SavedConversion.{saved_of};
 ghost use Rattle.cookie_serde.specs.ListFormats.{ParsesTo, SerializesTo};
 ghost use Rattle.cookie_serde.specs.JsonLists.{JsonListParsesTo};
-ghost use Rattle.cookie_serde.specs.Lists.{BuildsFromList, BuildsFromText, FailsAtText, FailsToLoadList, FailsToSaveList, ParsesToCookies, RejectsText, WritesList};
+ghost use Rattle.cookie_serde.specs.Lists.{BuildsFromList, BuildsFromText, FailsAtText, FailsToLoadList, FailsToSaveList, WritesList};
 ghost use Rattle.cookie_serde.specs.Loading.{ReadsEachOnce};
 ghost use Rattle.cookie_serde.specs.RonLists.{RonListParsesTo};
 ghost use Rattle.cookie_serde.specs.SavedForms.{cookies_of_saved};
@@ -119,8 +119,10 @@ pub(crate) fn load_as<R: Source>(
     ensures reads { ReadsEachOnce (R.state source.old) (R.state source.new) }
 {
     let bytes = read_bytes(alloc.alloc, source)?;
-    let cookies = cookies_of_bytes(form, alloc.alloc, &bytes)?;
-    rows_of(alloc, cookies, include_expired, now)
+    match str::from_utf8(&bytes) {
+        Ok(text) => parse_as(form, alloc, text, include_expired, now),
+        Err(_) => Err(Error::NotUtf8),
+    }
 }
 
 /// The rows of the list that `text` is. Expired cookies are skipped unless `include_expired`.
@@ -136,21 +138,6 @@ pub(crate) fn parse_as(
 {
     let cookies = cookies_of_text(form, alloc.alloc, text)?;
     rows_of(alloc, cookies, include_expired, now)
-}
-
-// The cookies of a list, or `NotUtf8`.
-fn cookies_of_bytes(
-    form: ListFormat,
-    alloc: Global,
-    bytes: &[u8],
-) -> Result<Vec<Cookie<'static>>, Error>
-    ensures created { IfOk result (λ cookies. ParsesToCookies (ParsesTo form) bytes.now cookies.items) }
-    ensures refused { IfErr result (λ error. RejectsText (ParsesTo form) error bytes.now) }
-{
-    match str::from_utf8(bytes) {
-        Ok(text) => cookies_of_text(form, alloc, text),
-        Err(_) => Err(Error::NotUtf8),
-    }
 }
 
 // The cookies of a list in this format.

@@ -157,7 +157,7 @@ fn insert_line<F: Fn(&str) -> Result<Cookie<'_>, Error>>(
     ensures taken { OnOk result (InsertsLine (FnReturnsAt F.Fn cookie_of.now) line.now include_expired (moment_of now)
         rows.old rows.new) }
     ensures failed { IfErr result (λ error. FailsAtLine (FnReturnsAt F.Fn cookie_of.now) error line.now) }
-    ensures kept { OnErr result (rows.new ≡ rows.old) }
+    ensures unchanged { OnErr result (rows.new ≡ rows.old) }
 {
     let cookie = parse_line(line, cookie_of)?;
     let Ok(cookie) = cookie.into_owned(alloc) else {
@@ -175,7 +175,7 @@ fn parse_line<'l, F: Fn(&str) -> Result<Cookie<'_>, Error>>(
     cookie_of: &F,
 ) -> Result<Cookie<'l>, Error>
     requires { F.IsAlwaysCallable cookie_of.now }
-    ensures created { IfOk result (λ cookie. ParsesToCookie (FnReturnsAt F.Fn cookie_of.now) line.now cookie) }
+    ensures parsed { IfOk result (λ cookie. ParsesToCookie (FnReturnsAt F.Fn cookie_of.now) line.now cookie) }
     ensures refused { IfErr result (λ error. RejectsLine (FnReturnsAt F.Fn cookie_of.now) error line.now) }
 {
     match str::from_utf8(line) {

@@ -9,15 +9,15 @@ use Rattle.cookie_serde.specs.ListFormats.{ParsesTo}
 use Rattle.cookie_serde.specs.Lists.{BuildsFromText, FailsAtText}
 use Rattle.cookie_serde.specs.declared.list_format.ListFormat.{ListFormat}
 use Rattle.cookie_serde.specs.declared.list_format.ListFormat.TheVariants.{Json, Ron}
-use Rattle.cookie_store_c.specs.Calls.{refused}
+use Rattle.cookie_store_c.specs.Calls.{error_outcome}
 use Rattle.cookie_store_c.specs.Lists.{LoadsText, ParsesAs}
 use Rattle.cookie_store_c.specs.Statuses.{error_status}
 use Rattle.cookie_store_c.specs.declared.status.Status.TheVariants.{Done, NoMemory}
 
 -- the cookies that parsing may return are those of the list
 created : (form : ListFormat) (text : List ℕ) (cookies : List Row) → ParsesTo form text (Ok cookies) → ParsesAs form text (Ok cookies)
-created Json text cookies makes = makes
-created Ron text cookies makes = makes
+created Json text cookies parsed = parsed
+created Ron text cookies parsed = parsed
 
 -- the error that it may return is the list's, or memory ran out
 rejected : (form : ListFormat) (text : List ℕ) (error : Error) → ParsesTo form text (Err error)
@@ -31,9 +31,9 @@ module _ (form : ListFormat) (all : Bool) (now : Moment) (text : List ℕ) where
   -- a store that was created
   pub loads : (store : Contents) → BuildsFromText (ParsesTo form) text all now (rows_in_order store) → store.suffixes ≡ None
       → store.limit ≡ None → LoadsText form all now text (record { status = Done; store = Some store })
-  loads store (cookies, makes, kept) suffixes limit = (
+  loads store (cookies, parsed, kept) suffixes limit = (
     Ok cookies,
-    created form text cookies makes,
+    created form text cookies parsed,
     λ i. record {
       status = Done;
       store = Some (record { rows = (kept i).rows; created = (kept i).created; suffixes = suffixes i; limit = limit i });
@@ -41,13 +41,13 @@ module _ (form : ListFormat) (all : Bool) (now : Moment) (text : List ℕ) where
   )
 
   -- the list is rejected
-  refuses : (error : Error) → ParsesAs form text (Err error) ⊎ (error ≡ Memory)
-      → LoadsText form all now text (refused None (error_status error)) ⊎ (error_status error ≡ NoMemory)
-  refuses error (inl is) = inl (Err error, is, refl)
-  refuses error (inr memory) = inr (ap error_status memory)
+  rejects : (error : Error) → ParsesAs form text (Err error) ⊎ (error ≡ Memory)
+      → LoadsText form all now text (error_outcome None (error_status error)) ⊎ (error_status error ≡ NoMemory)
+  rejects error (inl is) = inl (Err error, is, refl)
+  rejects error (inr memory) = inr (ap error_status memory)
 
   -- there is no store
   pub fails : (error : Error) → FailsAtText (ParsesTo form) error text
-      → LoadsText form all now text (refused None (error_status error)) ⊎ (error_status error ≡ NoMemory)
-  fails error (inl makes) = refuses error (rejected form text error makes)
-  fails error (inr (memory, cookies, makes, some)) = inr (ap error_status memory)
+      → LoadsText form all now text (error_outcome None (error_status error)) ⊎ (error_status error ≡ NoMemory)
+  fails error (inl parsed) = rejects error (rejected form text error parsed)
+  fails error (inr (memory, cookies, parsed, some)) = inr (ap error_status memory)

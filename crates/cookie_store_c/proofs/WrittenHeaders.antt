@@ -1,5 +1,5 @@
 -- The header that is written is that of the request.
-use Rattle.std.proofs.Common.{◌≡◌, ◌≢◌, ◌⊎◌, ℕ, ℤ, List, [], Result, Ok, Err, IfErr, IfOk, IsOk, ap, inl, inr, refl, subst, sym, ◌∙◌}
+use Rattle.std.proofs.Common.{◌≡◌, ℕ, ℤ, List, Result, Ok, Err, IfErr, IfOk, IsOk, ap, inl, inr, refl, subst, sym, ◌∙◌}
 use Rattle.std.specs.Result.{result_map_both}
 use Rattle.url.specs.Parts.{Parts}
 use Rattle.cookie_words.specs.Moments.{Moment}

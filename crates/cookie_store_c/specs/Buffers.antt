@@ -31,16 +31,16 @@ text_outcome (Ok text) buffer = write_if_fits text buffer
 text_outcome (Err status) buffer = record { status = status; buffer = buffer; needed = 0 }
 
 -- memory ran out, which it may if `MayAllocate` holds; the buffer is unchanged and the length is 0
-abbrev pub WritesNothing : Type 0 → List ℕ → Status → List ℕ → ℕ → Type 0
-WritesNothing MayAllocate old status new needed = (status ≡ NoMemory) × MayAllocate × (new ≡ old) × (needed ≡ 0)
+abbrev pub RunsOutWriting : Type 0 → List ℕ → Status → List ℕ → ℕ → Type 0
+RunsOutWriting MayAllocate old status new needed = (status ≡ NoMemory) × MayAllocate × (new ≡ old) × (needed ≡ 0)
 
 -- the outcome is that of this result, or memory ran out
 abbrev pub WritesText : Result (List ℕ) Status → Type 0 → List ℕ → Status → List ℕ → ℕ → Type 0
 WritesText answer MayAllocate old status new needed =
-    (record { status = status; buffer = new; needed = needed } ≡ text_outcome answer old) ⊎ WritesNothing MayAllocate old status new needed
+    (record { status = status; buffer = new; needed = needed } ≡ text_outcome answer old) ⊎ RunsOutWriting MayAllocate old status new needed
 
 -- the outcome is that of a result with this property, or memory ran out
 abbrev pub WritesSomeText : (Result (List ℕ) Status → Type 0) → Type 0 → List ℕ → Status → List ℕ → ℕ → Type 0
-WritesSomeText IsAnswer MayAllocate old status new needed =
-    ((answer : Result (List ℕ) Status) × IsAnswer answer × (record { status = status; buffer = new; needed = needed } ≡ text_outcome answer old))
-    ⊎ WritesNothing MayAllocate old status new needed
+WritesSomeText IsResult MayAllocate old status new needed =
+    ((answer : Result (List ℕ) Status) × IsResult answer × (record { status = status; buffer = new; needed = needed } ≡ text_outcome answer old))
+    ⊎ RunsOutWriting MayAllocate old status new needed

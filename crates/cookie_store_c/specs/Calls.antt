@@ -4,7 +4,7 @@ use Rattle.cookie_words.specs.Moments.{Moment}
 use Rattle.cookie_psl.specs.Reading.{rules_from}
 use Rattle.cookie_psl.specs.Rules.{RuleList, SameRules}
 use Rattle.cookie_psl.specs.declared.error.ListError.{ListError}
-use Rattle.cookie_psl.specs.declared.error.ListError.TheVariants as fault
+use Rattle.cookie_psl.specs.declared.error.ListError.TheVariants as ListCase
 use Rattle.cookie_parts.specs.Cookie.{Row}
 use Rattle.cookie_laws.specs.Contents.{Contents, unexpired}
 use Rattle.cookie_laws.specs.Runs.{Call, step}
@@ -19,41 +19,41 @@ pub record CallOutcome : Type 0 where
   pub store : Option Contents
 
 -- an error that leaves the store unchanged
-abbrev pub refused : Option Contents → Status → CallOutcome
-refused store status = record { status = status; store = store }
+abbrev pub error_outcome : Option Contents → Status → CallOutcome
+error_outcome store status = record { status = status; store = store }
 
 -- a call on a store; or the status of an invalid argument, which leaves the store unchanged
 abbrev pub store_outcome : Contents → Result Call Status → CallOutcome
 store_outcome store (Ok call) = record { status = reply_status (step call store).reply; store = Some (step call store).store }
-store_outcome store (Err status) = refused (Some store) status
+store_outcome store (Err status) = error_outcome (Some store) status
 
 -- a call on a store, or `NoStore` if there is none
 abbrev pub call_outcome : Option Contents → Result Call Status → CallOutcome
-call_outcome None call = refused None NoStore
+call_outcome None call = error_outcome None NoStore
 call_outcome (Some store) call = store_outcome store call
 
 -- an empty store is created, or `HasStore` if there is one
 abbrev pub new_outcome : Option Contents → CallOutcome
 new_outcome None = record { status = Done; store = Some (record { rows = []; created = []; suffixes = None; limit = None }) }
-new_outcome (Some store) = refused (Some store) HasStore
+new_outcome (Some store) = error_outcome (Some store) HasStore
 
 -- the call succeeds and the store is unchanged
 abbrev pub unchanged_outcome : Option Contents → CallOutcome
-unchanged_outcome None = refused None NoStore
+unchanged_outcome None = error_outcome None NoStore
 unchanged_outcome (Some store) = record { status = Done; store = Some store }
 
 -- each domain is limited to n cookies, and n is at least 1
 abbrev pub limit_outcome : ℕ → Option Contents → CallOutcome
-limit_outcome n None = refused None NoStore
+limit_outcome n None = error_outcome None NoStore
 limit_outcome n (Some store) =
-    if n == 0 then refused (Some store) BadLimit
+    if n == 0 then error_outcome (Some store) BadLimit
     else record { status = Done; store = Some (record store { limit = Some n }) }
 
 -- the expired cookies are removed, unless the time is out of range
 abbrev pub expired_outcome : Result Moment Status → Option Contents → CallOutcome
-expired_outcome now None = refused None NoStore
+expired_outcome now None = error_outcome None NoStore
 expired_outcome (Ok now) (Some store) = record { status = Done; store = Some (unexpired now store) }
-expired_outcome (Err status) (Some store) = refused (Some store) status
+expired_outcome (Err status) (Some store) = error_outcome (Some store) status
 
 -- memory ran out, which it may if `MayAllocate` holds, and the store is unchanged
 abbrev pub RunsOut : Type 0 → Option Contents → Status → Option Contents → Type 0
@@ -61,30 +61,30 @@ RunsOut MayAllocate old status new = (status ≡ NoMemory) × MayAllocate × (ne
 
 -- the call had this outcome, or memory ran out
 abbrev pub HasOutcome : CallOutcome → Type 0 → Option Contents → Status → Option Contents → Type 0
-HasOutcome call_outcome MayAllocate old status new =
-    (record { status = status; store = new } ≡ call_outcome) ⊎ RunsOut MayAllocate old status new
+HasOutcome outcome MayAllocate old status new =
+    (record { status = status; store = new } ≡ outcome) ⊎ RunsOut MayAllocate old status new
 
 -- the status of a list's error, and its malformed line
 abbrev pub list_error_status : ListError → Status × ℕ
-list_error_status (fault.BadRule line) = (BadRule, line)
-list_error_status fault.Memory = (NoMemory, 0)
+list_error_status (ListCase.BadRule line) = (BadRule, line)
+list_error_status ListCase.Memory = (NoMemory, 0)
 
 -- the store is put under a list of these rules and is otherwise unchanged; or a line is malformed
 abbrev pub UsesRules : Contents → Result RuleList ℕ → ℕ → CallOutcome → Type 0
-UsesRules store (Ok rules) line call_outcome =
+UsesRules store (Ok rules) line outcome =
     (list : RuleList) × SameRules list rules × (line ≡ 0)
-    × (call_outcome ≡ record { status = Done; store = Some (record store { suffixes = Some list }) })
-UsesRules store (Err bad) line call_outcome = (line ≡ bad) × (call_outcome ≡ refused (Some store) BadRule)
+    × (outcome ≡ record { status = Done; store = Some (record store { suffixes = Some list }) })
+UsesRules store (Err bad) line outcome = (line ≡ bad) × (outcome ≡ error_outcome (Some store) BadRule)
 
 -- the same for the string of a list
 abbrev pub UsesSuffixText : Contents → Result (List ℕ) Status → ℕ → CallOutcome → Type 0
-UsesSuffixText store (Ok text) line call_outcome = UsesRules store (rules_from text) line call_outcome
-UsesSuffixText store (Err status) line call_outcome = (line ≡ 0) × (call_outcome ≡ refused (Some store) status)
+UsesSuffixText store (Ok text) line outcome = UsesRules store (rules_from text) line outcome
+UsesSuffixText store (Err status) line outcome = (line ≡ 0) × (outcome ≡ error_outcome (Some store) status)
 
 -- the same for a list in bytes, if there is a store
 abbrev pub UsesSuffixes : Option Contents → List ℕ → ℕ → CallOutcome → Type 0
-UsesSuffixes None list line call_outcome = (line ≡ 0) × (call_outcome ≡ refused None NoStore)
-UsesSuffixes (Some store) list line call_outcome = UsesSuffixText store (text_in list) line call_outcome
+UsesSuffixes None list line outcome = (line ≡ 0) × (outcome ≡ error_outcome None NoStore)
+UsesSuffixes (Some store) list line outcome = UsesSuffixText store (text_in list) line outcome
 
 -- what is made of the rows of a store, or `NoStore` if there is none
 abbrev pub in_store : {T : Type 0} → (List Row → Result T Status) → Option Contents → Result T Status

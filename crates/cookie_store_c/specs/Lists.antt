@@ -16,7 +16,7 @@ use Rattle.cookie_store.specs.JsonLists.{json_cookies}
 use Rattle.cookie_store.specs.RonLists.{RonCookies}
 use Rattle.cookie_store.specs.Saving.{saved_rows}
 use Rattle.cookie_store_c.specs.Inputs.{moment_in, text_in}
-use Rattle.cookie_store_c.specs.Calls.{CallOutcome, refused}
+use Rattle.cookie_store_c.specs.Calls.{CallOutcome, error_outcome}
 use Rattle.cookie_store_c.specs.Statuses.{error_status}
 use Rattle.cookie_serde.specs.declared.list_format.ListFormat.{ListFormat}
 use Rattle.cookie_serde.specs.declared.list_format.ListFormat.TheVariants.{Json, Ron}
@@ -37,8 +37,8 @@ saved_as Json rows = as_line (result_map_both pretty_text (λ why. why) (list_wr
 saved_as Ron rows = as_line (ron_written (map saved_of rows))
 
 -- the selected rows of a store as a list
-abbrev pub saved_in : ListFormat → Bool → ℤ → List Row → Result (List ℕ) Status
-saved_in form all now rows = and_then (moment_in now) (λ moment. saved_as form (selected_rows all moment rows))
+abbrev pub saved_list_in : ListFormat → Bool → ℤ → List Row → Result (List ℕ) Status
+saved_list_in form all now rows = and_then (moment_in now) (λ moment. saved_as form (selected_rows all moment rows))
 
 -- what a list in JSON or RON parses to
 abbrev pub ParsesAs : ListFormat → List ℕ → Result (List Row) Error → Type 0
@@ -48,11 +48,11 @@ ParsesAs Ron text answer = RonCookies text answer
 -- a store is created of all cookies of the list, or of those that have not expired; or the error
 abbrev pub loaded : Bool → Moment → Result (List Row) Error → CallOutcome
 loaded all now (Ok cookies) = record { status = Done; store = Some (contents_of (built all now cookies) None None) }
-loaded all now (Err why) = refused None (error_status why)
+loaded all now (Err why) = error_outcome None (error_status why)
 
 -- a string was loaded
 abbrev pub LoadsText : ListFormat → Bool → Moment → List ℕ → CallOutcome → Type 0
-LoadsText form all now text call_outcome = (answer : Result (List Row) Error) × ParsesAs form text answer × (call_outcome ≡ loaded all now answer)
+LoadsText form all now text outcome = (answer : Result (List Row) Error) × ParsesAs form text answer × (outcome ≡ loaded all now answer)
 
 -- the time and the string of a list to be loaded
 abbrev pub to_load : ℤ → List ℕ → Result (Moment × List ℕ) Status
@@ -60,10 +60,10 @@ to_load now list = and_then (moment_in now) (λ moment. and_then (text_in list) 
 
 -- a list was loaded at this time
 abbrev pub LoadsAt : ListFormat → Bool → Result (Moment × List ℕ) Status → CallOutcome → Type 0
-LoadsAt form all (Ok given) call_outcome = LoadsText form all given.0 given.1 call_outcome
-LoadsAt form all (Err status) call_outcome = call_outcome ≡ refused None status
+LoadsAt form all (Ok given) outcome = LoadsText form all given.0 given.1 outcome
+LoadsAt form all (Err status) outcome = outcome ≡ error_outcome None status
 
 -- the same, or `HasStore` if there is a store
 abbrev pub Loads : ListFormat → Option Contents → Bool → ℤ → List ℕ → CallOutcome → Type 0
-Loads form None all now list call_outcome = LoadsAt form all (to_load now list) call_outcome
-Loads form (Some store) all now list call_outcome = call_outcome ≡ refused (Some store) HasStore
+Loads form None all now list outcome = LoadsAt form all (to_load now list) outcome
+Loads form (Some store) all now list outcome = outcome ≡ error_outcome (Some store) HasStore

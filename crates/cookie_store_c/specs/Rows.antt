@@ -12,9 +12,9 @@ use Rattle.cookie_store_c.specs.declared.status.Status.{Status}
 use Rattle.cookie_store_c.specs.declared.status.Status.TheVariants.{Done, NoMemory, NoRoom, NoStore}
 
 -- the second of the expiry, counted from the epoch and rounded down; 0 for a session cookie
-abbrev pub end_second : Expiry → ℤ
-end_second (AtUtc end) = int_div_euclid (nanoseconds end) (pos 1_000_000_000)
-end_second SessionEnd = pos 0
+abbrev pub expiry_second : Expiry → ℤ
+expiry_second (AtUtc end) = int_div_euclid (nanoseconds end) (pos 1_000_000_000)
+expiry_second SessionEnd = pos 0
 
 -- RFC 6265 5.3 step 6: the host-only-flag
 abbrev pub is_host_only : DomainValue → Bool
@@ -32,7 +32,7 @@ cookie_row row = record {
   path_len = length row.path.text;
   name_len = length row.raw.name;
   value_len = length row.raw.value;
-  ends_at = end_second row.expires;
+  ends_at = expiry_second row.expires;
   persistent = flag (is_persistent row.expires);
   host_only = flag (is_host_only row.domain);
   has_path = flag (row.path.is_from_attribute);
@@ -73,12 +73,12 @@ rows_outcome all rows texts =
     else lengths_outcome all rows texts
 
 -- the number of rows or the length of all strings is 2^64 or more
-abbrev pub IsBeyond : List Row → Type 0
-IsBeyond rows = (2 ^ 64 ≤ length rows) ⊎ (2 ^ 64 ≤ length (flat_map row_texts rows))
+abbrev pub IsTooLong : List Row → Type 0
+IsTooLong rows = (2 ^ 64 ≤ length rows) ⊎ (2 ^ 64 ≤ length (flat_map row_texts rows))
 
 -- the rows of a store are written if they fit; `NoMemory` if a length is too great, `NoStore` without a store
 abbrev pub ReportsRows : Option Contents → List CookieRow → List ℕ → BufferOutcome → Type 0
 ReportsRows None rows texts reported = reported ≡ nothing_written NoStore rows texts
 ReportsRows (Some store) rows texts reported =
     (reported ≡ rows_outcome store.rows rows texts)
-    ⊎ (IsBeyond store.rows × (reported ≡ nothing_written NoMemory rows texts))
+    ⊎ (IsTooLong store.rows × (reported ≡ nothing_written NoMemory rows texts))

@@ -1,11 +1,11 @@
 -- The statuses that calls return, and their numbers.
 use Rattle.std.specs.Prelude.{◌≡◌, ℕ, Some, None, Ok, Err}
-use Rattle.cookie_forms.specs.declared.error.SavedError.TheVariants as saved
+use Rattle.cookie_forms.specs.declared.error.SavedError.TheVariants as SavedCase
 use Rattle.cookie_parts.specs.declared.cookie_error.CookieError.{CookieError}
-use Rattle.cookie_parts.specs.declared.cookie_error.CookieError.TheVariants as refused
+use Rattle.cookie_parts.specs.declared.cookie_error.CookieError.TheVariants as CookieCase
 use Rattle.cookie_parts.specs.declared.error.Error.{Error}
-use Rattle.cookie_parts.specs.declared.error.Error.TheVariants as fault
-use Rattle.cookie_parts.specs.declared.store_action.StoreAction.TheVariants as action
+use Rattle.cookie_parts.specs.declared.error.Error.TheVariants as ErrorCase
+use Rattle.cookie_parts.specs.declared.store_action.StoreAction.TheVariants as ActionCase
 use Rattle.cookie_laws.specs.Runs.{Reply, Stored, Removed, Cleared}
 use Rattle.cookie_store_c.specs.declared.status.Status.{Status}
 use Rattle.cookie_store_c.specs.declared.status.Status.TheVariants.{Done, Inserted, Updated, ExpiredExisting, NonHttpScheme, NonRelativeScheme, DomainMismatch, Expired, Parse, PublicSuffix, UnspecifiedDomain, NoMemory, BadUrl, NotUtf8, BadMoment, NoStore, HasStore, NoRoom, NotFound, BadLimit, BadRule, BadJson, BadShape, BadRon, BadEnd}
@@ -40,20 +40,20 @@ status_code BadEnd = 34
 
 -- the status of an insertion error
 abbrev pub refusal_status : CookieError → Status
-refusal_status refused.NonHttpScheme = NonHttpScheme
-refusal_status refused.NonRelativeScheme = NonRelativeScheme
-refusal_status refused.DomainMismatch = DomainMismatch
-refusal_status refused.Expired = Expired
-refusal_status refused.Parse = Parse
-refusal_status refused.PublicSuffix = PublicSuffix
-refusal_status refused.UnspecifiedDomain = UnspecifiedDomain
-refusal_status refused.Memory = NoMemory
+refusal_status CookieCase.NonHttpScheme = NonHttpScheme
+refusal_status CookieCase.NonRelativeScheme = NonRelativeScheme
+refusal_status CookieCase.DomainMismatch = DomainMismatch
+refusal_status CookieCase.Expired = Expired
+refusal_status CookieCase.Parse = Parse
+refusal_status CookieCase.PublicSuffix = PublicSuffix
+refusal_status CookieCase.UnspecifiedDomain = UnspecifiedDomain
+refusal_status CookieCase.Memory = NoMemory
 
 -- the status of a reply of the store
 abbrev pub reply_status : Reply → Status
-reply_status (Stored (Ok action.Inserted)) = Inserted
-reply_status (Stored (Ok action.UpdatedExisting)) = Updated
-reply_status (Stored (Ok action.ExpiredExisting)) = ExpiredExisting
+reply_status (Stored (Ok ActionCase.Inserted)) = Inserted
+reply_status (Stored (Ok ActionCase.UpdatedExisting)) = Updated
+reply_status (Stored (Ok ActionCase.ExpiredExisting)) = ExpiredExisting
 reply_status (Stored (Err refusal)) = refusal_status refusal
 reply_status (Removed (Some row)) = Done
 reply_status (Removed None) = NotFound
@@ -61,17 +61,17 @@ reply_status Cleared = Done
 
 -- the status of a failed save or load; no list fails with `Io`, `Idna` or `Other`
 abbrev pub error_status : Error → Status
-error_status (fault.Cookie refusal) = refusal_status refusal
-error_status (fault.Saved saved.Json) = BadJson
-error_status (fault.Saved saved.Shape) = BadShape
-error_status (fault.Saved saved.Ron) = BadRon
-error_status (fault.Saved saved.Moment) = BadEnd
-error_status fault.NotUtf8 = NotUtf8
-error_status (fault.Saved saved.Memory) = NoMemory
-error_status fault.Memory = NoMemory
-error_status fault.Io = NoMemory
-error_status (fault.Idna why) = NoMemory
-error_status (fault.Other text) = NoMemory
+error_status (ErrorCase.Cookie refusal) = refusal_status refusal
+error_status (ErrorCase.Saved SavedCase.Json) = BadJson
+error_status (ErrorCase.Saved SavedCase.Shape) = BadShape
+error_status (ErrorCase.Saved SavedCase.Ron) = BadRon
+error_status (ErrorCase.Saved SavedCase.Moment) = BadEnd
+error_status ErrorCase.NotUtf8 = NotUtf8
+error_status (ErrorCase.Saved SavedCase.Memory) = NoMemory
+error_status ErrorCase.Memory = NoMemory
+error_status ErrorCase.Io = NoMemory
+error_status (ErrorCase.Idna why) = NoMemory
+error_status (ErrorCase.Other text) = NoMemory
 
 -- the number is that of a status with this property
 abbrev pub IsCodeOf : ℕ → (Status → Type 0) → Type 0

@@ -5,7 +5,7 @@ ghost use Rattle.cookie_store_c.specs.Inputs.{text_and_time, moment_in, remove_c
 ghost use Rattle.cookie_store_c.specs.Buffers.{WritesText, WritesSomeText};
 ghost use Rattle.cookie_store_c.specs.Calls.{count_of, expired_outcome, in_store, unchanged_outcome, limit_outcome, new_outcome, rows_count, call_outcome, HasOutcome, UsesSuffixes, RunsOut};
 ghost use Rattle.cookie_store_c.specs.Headers.{IsHeaderIn};
-ghost use Rattle.cookie_store_c.specs.Lists.{saved_in, to_load, Loads};
+ghost use Rattle.cookie_store_c.specs.Lists.{saved_list_in, to_load, Loads};
 ghost use Rattle.cookie_store_c.specs.Rows.{ReportsRows};
 ghost use Rattle.cookie_store_c.specs.Statuses.{IsCodeOf};
 ghost use Rattle.cookie_store_c.specs.declared.status.Status.{Status};
@@ -354,8 +354,8 @@ pub extern "C" fn cookie_store_save_json(
     out: &mut [u8],
     needed: &mut usize,
 ) -> u32
-    ensures text { IsCodeOf result (λ status. WritesText (in_store (saved_in ListFormat.Json all now) handle.old.store_ptr.store)
-        (IsOk (in_store (saved_in ListFormat.Json all now) handle.old.store_ptr.store)) out.old status out.new needed.new) }
+    ensures text { IsCodeOf result (λ status. WritesText (in_store (saved_list_in ListFormat.Json all now) handle.old.store_ptr.store)
+        (IsOk (in_store (saved_list_in ListFormat.Json all now) handle.old.store_ptr.store)) out.old status out.new needed.new) }
     ensures store { handle.new.store_ptr.store ≡ handle.old.store_ptr.store }
 {
     *needed = 0;
@@ -390,8 +390,8 @@ pub extern "C" fn cookie_store_save_ron(
     out: &mut [u8],
     needed: &mut usize,
 ) -> u32
-    ensures text { IsCodeOf result (λ status. WritesText (in_store (saved_in ListFormat.Ron all now) handle.old.store_ptr.store)
-        (IsOk (in_store (saved_in ListFormat.Ron all now) handle.old.store_ptr.store)) out.old status out.new needed.new) }
+    ensures text { IsCodeOf result (λ status. WritesText (in_store (saved_list_in ListFormat.Ron all now) handle.old.store_ptr.store)
+        (IsOk (in_store (saved_list_in ListFormat.Ron all now) handle.old.store_ptr.store)) out.old status out.new needed.new) }
     ensures store { handle.new.store_ptr.store ≡ handle.old.store_ptr.store }
 {
     *needed = 0;

@@ -61,15 +61,15 @@ impl StoreHandle {
 }
 
 // Compiles only for a type that is `Send`.
-fn sent<T: Send>(value: T) -> T
+fn require_send<T: Send>(value: T) -> T
     ensures { result ≡ value }
 {
     value
 }
 
 /// For the checker: shows that `StoreHandle` is `Send`. It is never called.
-pub(crate) fn goes(handle: StoreHandle) -> StoreHandle
+pub(crate) fn handle_is_send(handle: StoreHandle) -> StoreHandle
     ensures { result ≡ handle }
 {
-    sent(handle)
+    require_send(handle)
 }

@@ -5,8 +5,8 @@ ghost use Rattle.cookie_laws.specs.Contents.{rows_in_order};
 ghost use Rattle.cookie_serde.specs.ListFormats.{ParsesTo, SerializesTo};
 ghost use Rattle.cookie_serde.specs.Lists.{BuildsFromText, FailsAtText};
 ghost use Rattle.cookie_store_c.specs.Buffers.{WritesText};
-ghost use Rattle.cookie_store_c.specs.Calls.{refused};
-ghost use Rattle.cookie_store_c.specs.Lists.{selected_rows, saved_as, saved_in, to_load, LoadsAt, LoadsText};
+ghost use Rattle.cookie_store_c.specs.Calls.{error_outcome};
+ghost use Rattle.cookie_store_c.specs.Lists.{selected_rows, saved_as, saved_list_in, to_load, LoadsAt, LoadsText};
 
 use crate::buffer::copy_out;
 use crate::calls::hash_key;
@@ -27,7 +27,7 @@ pub(crate) fn save(
     out: &mut [u8],
     needed: &mut usize,
 ) -> Status
-    ensures { WritesText (saved_in form all now store.now.rows) (IsOk (saved_in form all now store.now.rows)) out.old result out.new needed.new }
+    ensures { WritesText (saved_list_in form all now store.now.rows) (IsOk (saved_list_in form all now store.now.rows)) out.old result out.new needed.new }
 {
     let text = match moment_in(now) {
         Ok(now) => line_of(form, store, now, all),
@@ -80,7 +80,7 @@ pub(crate) fn load(
     all: bool,
 ) -> Result<CookieStore, Status>
     ensures store { IfOk result (λ store. LoadsAt form all (to_load now list.now) (record { status = Status.Done; store = Some store })) }
-    ensures refused { IfErr result (λ status. LoadsAt form all (to_load now list.now) (refused None status)
+    ensures refused { IfErr result (λ status. LoadsAt form all (to_load now list.now) (error_outcome None status)
         ⊎ ((status ≡ Status.NoMemory) × IsOk (to_load now list.now))) }
 {
     let now = moment_in(now)?;
@@ -98,7 +98,7 @@ fn store_of(
     all: bool,
 ) -> Result<CookieStore, Status>
     ensures store { IfOk result (λ store. LoadsText form all (moment_of now) text.now (record { status = Status.Done; store = Some store })) }
-    ensures refused { IfErr result (λ status. LoadsText form all (moment_of now) text.now (refused None status) ⊎ (status ≡ Status.NoMemory)) }
+    ensures refused { IfErr result (λ status. LoadsText form all (moment_of now) text.now (error_outcome None status) ⊎ (status ≡ Status.NoMemory)) }
 {
     match parsed(form, alloc, text, now, all) {
         Ok(store) => Ok(store),

@@ -1,11 +1,11 @@
 //! Lists all cookies of a store, as a cookie editor shows them.
-ghost use Rattle.std.specs.Prelude.{◌≡◌, ◌⊎◌, ◌+◌, ◌^◌, ◌≤◌, flat_map, length, map, pos};
+ghost use Rattle.std.specs.Prelude.{◌≡◌, ◌⊎◌, ◌^◌, ◌≤◌, flat_map, length, map, pos};
 ghost use Rattle.std.specs.Option.{MatchOption};
 ghost use Rattle.std.specs.Int.{int_div_euclid};
 ghost use Rattle.cookie_words.specs.Moments.{moment_of, nanoseconds};
 ghost use Rattle.cookie_parts.specs.Views.{expiry_value};
 ghost use Rattle.cookie_store_c.specs.Buffers.{at_front};
-ghost use Rattle.cookie_store_c.specs.Rows.{end_second, nothing_written, row_texts, cookie_row, rows_outcome, IsBeyond};
+ghost use Rattle.cookie_store_c.specs.Rows.{expiry_second, nothing_written, row_texts, cookie_row, rows_outcome, IsTooLong};
 ghost use Rattle.cookie_store_c.specs.declared.status.Status.TheVariants.{NoMemory};
 
 use crate::buffer::{put_all, with_lengths};
@@ -44,7 +44,7 @@ pub(crate) fn write_rows(
 ) -> Status
     ensures { (record { status = result; rows = rows.new; texts = texts.new; rows_needed = rows_needed.new; texts_needed = texts_needed.new }
         ≡ rows_outcome store.now.rows rows.old texts.old)
-        ⊎ (IsBeyond store.now.rows
+        ⊎ (IsTooLong store.now.rows
         × (record { status = result; rows = rows.new; texts = texts.new; rows_needed = rows_needed.new; texts_needed = texts_needed.new }
         ≡ nothing_written NoMemory rows.old texts.old)) }
 {
@@ -132,7 +132,7 @@ fn reported(row: &Cookie<'static>) -> CookieRow
         path_len: row.path.as_str().len(),
         name_len: row.name().len(),
         value_len: row.value().len(),
-        ends_at: end_second(&row.expires),
+        ends_at: expiry_second(&row.expires),
         persistent: u8::from(row.is_persistent()),
         host_only: u8::from(matches!(row.domain, CookieDomain::HostOnly(_))),
         has_path: u8::from(row.path.is_from_path_attr()),
@@ -141,8 +141,8 @@ fn reported(row: &Cookie<'static>) -> CookieRow
     }
 }
 
-fn end_second(end: &CookieExpiration) -> i64
-    ensures { result ≡ end_second (expiry_value end.now) }
+fn expiry_second(end: &CookieExpiration) -> i64
+    ensures { result ≡ expiry_second (expiry_value end.now) }
 {
     match end {
         CookieExpiration::AtUtc(moment) => second_of(*moment),

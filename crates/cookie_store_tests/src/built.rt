@@ -8,7 +8,7 @@ use std::process::Abort;
 use std::vec::IntoIter;
 
 // A URL and a `Set-Cookie` value received from it.
-pub type Came = (&'static str, &'static str);
+pub type UrlAndValue = (&'static str, &'static str);
 
 pub type Item = Result<Cookie<'static>, Error>;
 
@@ -18,7 +18,7 @@ pub fn cookie(rt: &impl Abort, alloc: Global, came: &(&str, &str)) -> Cookie<'st
     cookie.into_owned(alloc).expect(rt, "memory")
 }
 
-pub fn items(rt: &impl Abort, alloc: Global, came: &[Came]) -> Vec<Item> {
+pub fn items(rt: &impl Abort, alloc: Global, came: &[UrlAndValue]) -> Vec<Item> {
     let mut items = Vec::new(alloc);
     for came in came {
         let cookie = cookie(rt, alloc, came);
@@ -41,29 +41,34 @@ pub fn built(
 }
 
 // The store of the cookies.
-fn store_with(rt: &impl Abort, alloc: Global, came: &[Came], include_expired: bool) -> CookieStore {
+fn store_with(
+    rt: &impl Abort,
+    alloc: Global,
+    came: &[UrlAndValue],
+    include_expired: bool,
+) -> CookieStore {
     let items = items(rt, alloc, came).into_iter();
     built(alloc, items, include_expired).expect(rt, "a store")
 }
 
 // A store of the cookies, expired ones included.
-pub fn store_of(rt: &impl Abort, alloc: Global, came: &[Came]) -> CookieStore {
+pub fn store_of(rt: &impl Abort, alloc: Global, came: &[UrlAndValue]) -> CookieStore {
     store_with(rt, alloc, came, true)
 }
 
-const ENDED_AGAIN: [Came; 2] = [
+const EXPIRED_SECOND: [UrlAndValue; 2] = [
     ("http://a.com/", "a=1"),
     ("http://a.com/", "a=2; Max-Age=0"),
 ];
 
-const ENDED_BETWEEN: [Came; 4] = [
+const EXPIRED_BETWEEN: [UrlAndValue; 4] = [
     ("http://a.com/", "a=1"),
     ("http://a.com/", "b=1"),
     ("http://a.com/", "a=2; Max-Age=0"),
     ("http://a.com/", "c=1; Max-Age=-1"),
 ];
 
-const TWO_DOMAINS: [Came; 5] = [
+const TWO_DOMAINS: [UrlAndValue; 5] = [
     ("http://a.com/", "x=1"),
     ("http://b.com/", "y=1"),
     ("http://a.com/", "z=1; Path=/p"),
@@ -74,7 +79,7 @@ const TWO_DOMAINS: [Came; 5] = [
 // Cookies, whether expired ones are included, the stored cookies, and the headers of all and of the
 // unexpired ones.
 type Case = (
-    &'static [Came],
+    &'static [UrlAndValue],
     bool,
     &'static str,
     &'static str,
@@ -83,17 +88,17 @@ type Case = (
 
 static BUILT: [Case; 6] = [
     (&[], true, "", "", ""),
-    (&ENDED_AGAIN, false, "a.com / a", "a=1", "a=1"),
-    (&ENDED_AGAIN, true, "a.com / a", "a=2", ""),
+    (&EXPIRED_SECOND, false, "a.com / a", "a=1", "a=1"),
+    (&EXPIRED_SECOND, true, "a.com / a", "a=2", ""),
     (
-        &ENDED_BETWEEN,
+        &EXPIRED_BETWEEN,
         false,
         "a.com / a, a.com / b",
         "a=1; b=1",
         "a=1; b=1",
     ),
     (
-        &ENDED_BETWEEN,
+        &EXPIRED_BETWEEN,
         true,
         "a.com / a, a.com / b, a.com / c",
         "a=2; b=1; c=1",
@@ -129,9 +134,9 @@ fn each_cookie_is_put(rt: HostRuntime) {
     }
 }
 
-const BEFORE: [Came; 1] = [("http://a.com/", "a=1")];
+const BEFORE: [UrlAndValue; 1] = [("http://a.com/", "a=1")];
 
-const AFTER: Came = ("http://a.com/", "b=1");
+const AFTER: UrlAndValue = ("http://a.com/", "b=1");
 
 fn items_with_errors(rt: &impl Abort, alloc: Global) -> Vec<Item> {
     let mut items = items(rt, alloc, &BEFORE);
@@ -144,7 +149,7 @@ fn items_with_errors(rt: &impl Abort, alloc: Global) -> Vec<Item> {
 }
 
 #[test]
-fn the_first_error_ends_the_building(rt: HostRuntime) {
+fn the_first_error_stops_the_building(rt: HostRuntime) {
     let mut items = items_with_errors(&rt, rt.alloc()).into_iter();
     let outcome = CookieStore::from_cookies(rt.alloc(), &mut items, true, new_year());
     is_equal(&rt, &end_of(&outcome), &"first", &"the first error");

@@ -107,7 +107,7 @@ fn are_replies(rt: &impl Abort, replies: &[Reply], calls: &[(CallCase, &'static 
 }
 
 // Checks the replies, and what the store returns for `FROM` after those calls.
-pub fn are_told(rt: &impl Abort, alloc: Global, store: &CookieStore, replies: &[Reply]) {
+pub fn are_done(rt: &impl Abort, alloc: Global, store: &CookieStore, replies: &[Reply]) {
     are_replies(rt, replies, &CALLS);
     let after = after(replies.len());
     are_given(rt, alloc, store, (FROM, after), new_year(), &replies.len());
@@ -137,7 +137,7 @@ fn are_done_together(rt: &impl Abort, alloc: Global, store: &mut CookieStore, ca
     let count = calls.len();
     let replies = store.apply_all(calls).expect(rt, "memory");
     is_equal(rt, &replies.len(), &count, &"the replies");
-    are_told(rt, alloc, store, replies.as_slice());
+    are_done(rt, alloc, store, replies.as_slice());
 }
 
 #[test]

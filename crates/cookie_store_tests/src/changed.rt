@@ -42,7 +42,7 @@ const THREE: [Step; 3] = [
 ];
 
 // Under a limit of one they are kept until a cookie is inserted, and then all are evicted.
-const ONE_STANDS: [Step; 8] = [
+const ONE_STORED: [Step; 8] = [
     Step::Listed("a.com / x, a.com / y, a.com / z"),
     Step::Set(FROM, "x=2", UPDATED),
     Step::Set(FROM, "e=1; Max-Age=0", Err(CookieError::Expired)),
@@ -54,7 +54,7 @@ const ONE_STANDS: [Step; 8] = [
 ];
 
 // Under a limit of three, the cookie that was created first is evicted.
-const FIRST_LEAVES: [Step; 3] = [
+const FIRST_EVICTED: [Step; 3] = [
     Step::Listed("a.com / x, a.com / y, a.com / z"),
     Step::Set(FROM, "w=1", INSERTED),
     Step::Listed("a.com / y, a.com / z, a.com / w"),
@@ -73,9 +73,13 @@ type Run = (&'static [Step], &'static [Change], &'static [Step]);
 static RUNS: [Run; 6] = [
     (&ONE, &[Change::List(LIST)], &OTHER_LIST),
     (&ONE, &[Change::List(LIST), Change::NoRule], &EMPTY_LIST),
-    (&THREE, &[Change::One], &ONE_STANDS),
-    (&THREE, &[Change::Three, Change::Copy], &FIRST_LEAVES),
-    (&THREE, &[Change::Three, Change::List("com")], &FIRST_LEAVES),
+    (&THREE, &[Change::One], &ONE_STORED),
+    (&THREE, &[Change::Three, Change::Copy], &FIRST_EVICTED),
+    (
+        &THREE,
+        &[Change::Three, Change::List("com")],
+        &FIRST_EVICTED,
+    ),
     (&THREE, &[Change::Key], &KEYED),
 ];
 
@@ -101,7 +105,7 @@ fn exchanged(
     }
 }
 
-fn keeps_its_rows(rt: &impl Abort, alloc: Global, run: &Run, key: HashKey) {
+fn has_its_rows(rt: &impl Abort, alloc: Global, run: &Run, key: HashKey) {
     let (before, changes, after) = *run;
     let mut store = CookieStore::new_with_public_suffix(alloc, None);
     take_all(rt, alloc, &mut store, before, new_year());
@@ -115,6 +119,6 @@ fn keeps_its_rows(rt: &impl Abort, alloc: Global, run: &Run, key: HashKey) {
 fn a_store_keeps_its_rows(rt: HostRuntime) {
     let state = RandomState::new(&rt).expect(&rt, "random bytes");
     for run in &RUNS {
-        keeps_its_rows(&rt, rt.alloc(), run, HashKey::Random(state));
+        has_its_rows(&rt, rt.alloc(), run, HashKey::Random(state));
     }
 }

@@ -1,7 +1,7 @@
 //! Readers and writers that fail, for each format of saving and loading.
 use crate::built::store_of;
 use crate::checks::{end_of, has_the_same_rows, is_equal};
-use crate::forms::{CAME, CASES, Case, FROM, Shape, load, save};
+use crate::forms::{CASES, Case, FROM, RECEIVED, Shape, load, save};
 use crate::saved::Which;
 use crate::steps::new_year;
 use crate::texts::url;
@@ -80,8 +80,8 @@ fn each_write_fails(
 }
 
 #[test]
-fn a_failed_write_ends_the_saving(rt: HostRuntime) {
-    let store = store_of(&rt, rt.alloc(), &CAME);
+fn a_failed_write_stops_the_saving(rt: HostRuntime) {
+    let store = store_of(&rt, rt.alloc(), &RECEIVED);
     for case in &CASES {
         for most in &[1, 3, usize::MAX] {
             each_write_fails(&rt, rt.alloc(), &store, case, &Which::All, *most);
@@ -105,7 +105,7 @@ fn nothing_is_taken(
 
 #[test]
 fn a_writer_that_takes_nothing_has_failed(rt: HostRuntime) {
-    let store = store_of(&rt, rt.alloc(), &CAME);
+    let store = store_of(&rt, rt.alloc(), &RECEIVED);
     for (shape, _) in &CASES {
         nothing_is_taken(&rt, rt.alloc(), &store, *shape, &Which::All);
         nothing_is_taken(&rt, rt.alloc(), &store, *shape, &Which::At(new_year()));
@@ -113,7 +113,7 @@ fn a_writer_that_takes_nothing_has_failed(rt: HostRuntime) {
 }
 
 // Checks that both loadings had the same outcome and the same cookies.
-fn have_ended_alike(
+fn have_same_outcome(
     rt: &impl Abort,
     outcome: &Result<CookieStore, Error>,
     wanted: &Result<CookieStore, Error>,
@@ -136,7 +136,7 @@ fn is_loaded_so(
 ) {
     let (outcome, failures, _) = load(alloc, row.0, url, row.1, fake);
     is_equal(rt, &failures, &0, row);
-    have_ended_alike(rt, &outcome, wanted, row);
+    have_same_outcome(rt, &outcome, wanted, row);
 }
 
 // The outcome of loading the bytes without failures.
@@ -218,8 +218,8 @@ fn each_read_fails(
 }
 
 #[test]
-fn a_failed_read_ends_the_loading(rt: HostRuntime) {
-    let store = store_of(&rt, rt.alloc(), &CAME);
+fn a_failed_read_stops_the_loading(rt: HostRuntime) {
+    let store = store_of(&rt, rt.alloc(), &RECEIVED);
     for case in &CASES {
         for most in &[1, 3, usize::MAX] {
             each_read_fails(&rt, rt.alloc(), &store, case, &Which::All, *most);

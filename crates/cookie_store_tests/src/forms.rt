@@ -1,5 +1,5 @@
 //! Saving and loading in each format.
-use crate::built::{Came, store_of};
+use crate::built::{UrlAndValue, store_of};
 use crate::checks::{end_of, has_the_same_rows, is_equal};
 use crate::json::{fault_of, load_json_from, save_json};
 use crate::lists::{Form, load_list, load_text, save_list, save_text};
@@ -58,7 +58,7 @@ pub fn load<'a>(
 
 pub const FROM: &str = "http://b.a.com/p/q";
 
-pub const CAME: [Came; 2] = [
+pub const RECEIVED: [UrlAndValue; 2] = [
     (FROM, "a=1; Max-Age=300"),
     (FROM, "b=2; Path=/; Domain=a.com; Max-Age=300"),
 ];
@@ -118,7 +118,7 @@ const RON: &str = r#"[
 ]
 "#;
 
-// A format, and what `CAME` is saved as, with either `Which`, and loaded from.
+// A format, and what `RECEIVED` is saved as, with either `Which`, and loaded from.
 pub type Case = (Shape, &'static str);
 
 pub const IN_JSON: Shape = Shape::List(Form::Json);
@@ -134,7 +134,7 @@ pub static CASES: [Case; 5] = [
 ];
 
 // Cookies of one URL, two of which have expired.
-const ROWS: [Came; 7] = [
+const ROWS: [UrlAndValue; 7] = [
     (loaded::FROM, "a=1"),
     (loaded::FROM, "b=2; Domain=b.example.com; Path=/"),
     (
@@ -148,15 +148,15 @@ const ROWS: [Came; 7] = [
 ];
 
 // A cookie that has expired.
-const HAS_ENDED: [Came; 1] = [(
+const EXPIRED_ROW: [UrlAndValue; 1] = [(
     "http://test.com/",
     "1=one; SameSite=None; Secure; Path=/; Expires=Thu, 03 Aug 2000 00:38:37 GMT",
 )];
 
-const LASTS: [Came; 1] = [lists::LASTS];
+const LASTS: [UrlAndValue; 1] = [lists::LASTS];
 
 // A format, cookies, and what they are saved as: all, and those that `save` selects at new year.
-type Written = (Shape, &'static [Came], &'static str, &'static str);
+type Written = (Shape, &'static [UrlAndValue], &'static str, &'static str);
 
 static WRITTEN: [Written; 13] = [
     (
@@ -167,17 +167,22 @@ static WRITTEN: [Written; 13] = [
         d=4; Domain=example.com; Max-Age=300\n",
         "d=4; Domain=example.com; Max-Age=300\n",
     ),
-    (Shape::Lines, &CAME, LINES, LINES),
-    (Shape::JsonLines, &CAME, JSON_LINES, JSON_LINES),
-    (IN_JSON, &CAME, JSON, JSON),
-    (IN_RON, &CAME, RON, RON),
-    (Shape::JsonLines, &json::CAME, json::LINES, json::LASTING),
-    (IN_JSON, &lists::CAME, lists::BOTH, lists::LASTING),
-    (IN_RON, &lists::CAME, ron::BOTH, ron::LASTING),
+    (Shape::Lines, &RECEIVED, LINES, LINES),
+    (Shape::JsonLines, &RECEIVED, JSON_LINES, JSON_LINES),
+    (IN_JSON, &RECEIVED, JSON, JSON),
+    (IN_RON, &RECEIVED, RON, RON),
+    (
+        Shape::JsonLines,
+        &json::RECEIVED,
+        json::LINES,
+        json::LASTING,
+    ),
+    (IN_JSON, &lists::RECEIVED, lists::BOTH, lists::LASTING),
+    (IN_RON, &lists::RECEIVED, ron::BOTH, ron::LASTING),
     (IN_JSON, &LASTS, lists::LASTING, lists::LASTING),
     (IN_RON, &LASTS, ron::LASTING, ron::LASTING),
-    (IN_JSON, &HAS_ENDED, lists::ENDED, "[]\n"),
-    (IN_RON, &HAS_ENDED, ron::ENDED, "[]\n"),
+    (IN_JSON, &EXPIRED_ROW, lists::ENDED, "[]\n"),
+    (IN_RON, &EXPIRED_ROW, ron::ENDED, "[]\n"),
     (IN_RON, &[], "[]\n", "[]\n"),
 ];
 
@@ -234,7 +239,7 @@ fn loads_again(rt: &impl Abort, alloc: Global, store: &CookieStore, written: &Wr
 }
 
 // Checks that `load` skips the expired cookies.
-fn loads_what_lives(rt: &impl Abort, alloc: Global, store: &CookieStore, written: &Written) {
+fn loads_unexpired(rt: &impl Abort, alloc: Global, store: &CookieStore, written: &Written) {
     let (shape, _, all, _) = *written;
     let live = unexpired(rt, alloc, store, new_year());
     let live = listed(rt, alloc, live.as_slice());
@@ -270,14 +275,14 @@ fn what_is_saved_loads_again(rt: HostRuntime) {
         let store = store_of(&rt, rt.alloc(), written.1);
         is_written(&rt, rt.alloc(), &store, written);
         loads_again(&rt, rt.alloc(), &store, written);
-        loads_what_lives(&rt, rt.alloc(), &store, written);
+        loads_unexpired(&rt, rt.alloc(), &store, written);
     }
 }
 
 const LASTING_TEXT: &str = "a=1; Max-Age=300|b=1; Max-Age=300|c=1; Max-Age=300\n";
 
 #[test]
-fn a_function_says_all_rows_at_once(rt: HostRuntime) {
+fn a_function_formats_all_rows_at_once(rt: HostRuntime) {
     let store = store_of(&rt, rt.alloc(), &LASTING);
     let later = date(2026, 1, 1).at(0, 5, 0, 0);
     for (which, wanted) in &[
@@ -290,7 +295,7 @@ fn a_function_says_all_rows_at_once(rt: HostRuntime) {
 }
 
 // A format, a text, and the cookies loaded from it: at new year, a minute later, and all.
-type Kept = (
+type LoadedAt = (
     Shape,
     &'static str,
     &'static str,
@@ -298,7 +303,7 @@ type Kept = (
     &'static str,
 );
 
-static KEPT: [Kept; 8] = [
+static LOADED_AT: [LoadedAt; 8] = [
     (Shape::Lines, "", "", "", ""),
     (
         Shape::Lines,
@@ -327,18 +332,18 @@ static KEPT: [Kept; 8] = [
     ),
 ];
 
-fn are_kept(rt: &impl Abort, alloc: Global, kept: &Kept, which: &Which, wanted: &str) {
+fn are_loaded_at(rt: &impl Abort, alloc: Global, kept: &LoadedAt, which: &Which, wanted: &str) {
     let store = loaded(rt, alloc, kept.0, FROM, which, kept.1);
     are_all(rt, alloc, &store, wanted, &kept.1);
 }
 
 #[test]
-fn cookies_that_have_ended_are_passed_over(rt: HostRuntime) {
+fn expired_cookies_are_skipped(rt: HostRuntime) {
     let later = Which::At(date(2026, 1, 1).at(0, 1, 0, 0));
-    for kept in &KEPT {
-        are_kept(&rt, rt.alloc(), kept, &Which::At(new_year()), kept.2);
-        are_kept(&rt, rt.alloc(), kept, &later, kept.3);
-        are_kept(&rt, rt.alloc(), kept, &Which::All, kept.4);
+    for kept in &LOADED_AT {
+        are_loaded_at(&rt, rt.alloc(), kept, &Which::At(new_year()), kept.2);
+        are_loaded_at(&rt, rt.alloc(), kept, &later, kept.3);
+        are_loaded_at(&rt, rt.alloc(), kept, &Which::All, kept.4);
     }
 }
 
@@ -371,7 +376,7 @@ const LIST: [(&[u8], &str); 1] = [(
 const TEXTS: [(&[u8], &str); 2] = [(b"a=1|b", "no cookie"), (b"a=1\xff", "no UTF-8")];
 
 // Checks the error of loading the bytes.
-fn is_refused(
+fn is_rejected(
     rt: &impl Abort,
     alloc: Global,
     shape: Shape,
@@ -391,19 +396,19 @@ fn is_refused(
 }
 
 #[test]
-fn what_is_not_of_the_form_is_refused(rt: HostRuntime) {
+fn input_in_another_form_is_rejected(rt: HostRuntime) {
     let tables: [(Shape, &[(&[u8], &str)]); 6] = [
-        (Shape::JsonLines, &json::REFUSED),
-        (IN_JSON, &lists::REFUSED),
-        (IN_RON, &ron::REFUSED),
+        (Shape::JsonLines, &json::REJECTED),
+        (IN_JSON, &lists::REJECTED),
+        (IN_RON, &ron::REJECTED),
         (IN_JSON, &LINE),
         (Shape::JsonLines, &LIST),
         (Shape::Text, &TEXTS),
     ];
     for (shape, table) in &tables {
         for (bytes, wanted) in *table {
-            is_refused(&rt, rt.alloc(), *shape, &Which::All, bytes, wanted);
-            is_refused(
+            is_rejected(&rt, rt.alloc(), *shape, &Which::All, bytes, wanted);
+            is_rejected(
                 &rt,
                 rt.alloc(),
                 *shape,
@@ -438,14 +443,14 @@ fn no_list_nests_deep(rt: HostRuntime) {
         let bytes = text.as_bytes();
         for which in &[Which::All, Which::At(new_year())] {
             let shape = Shape::List(*form);
-            is_refused(&rt, rt.alloc(), shape, which, bytes, wanted);
+            is_rejected(&rt, rt.alloc(), shape, which, bytes, wanted);
         }
     }
 }
 
 // Each proper prefix of a list is rejected, but for the one that lacks the line feed only.
 #[test]
-fn a_list_that_is_cut_off_is_refused(rt: HostRuntime) {
+fn a_truncated_list_is_rejected(rt: HostRuntime) {
     let lists = [
         (IN_JSON, lists::BOTH, "no JSON"),
         (IN_RON, ron::BOTH, "no RON"),
@@ -456,7 +461,7 @@ fn a_list_that_is_cut_off_is_refused(rt: HostRuntime) {
             let is_whole = length.saturating_add(1) == bytes.len();
             let wanted = if is_whole { "none" } else { fault };
             let front = &bytes[..length];
-            is_refused(&rt, rt.alloc(), *shape, &Which::All, front, wanted);
+            is_rejected(&rt, rt.alloc(), *shape, &Which::All, front, wanted);
         }
     }
 }
@@ -469,8 +474,8 @@ fn ends_within_an_object(bytes: &[u8], length: usize) -> bool {
 
 // Checks that a prefix of the lines loads as the first cookies.
 fn has_first_rows(rt: &impl Abort, alloc: Global, front: &str) {
-    let count = front.lines().count().min(json::CAME.len());
-    let same = store_of(rt, alloc, &json::CAME[..count]);
+    let count = front.lines().count().min(json::RECEIVED.len());
+    let same = store_of(rt, alloc, &json::RECEIVED[..count]);
     let store = loaded(rt, alloc, Shape::JsonLines, FROM, &Which::All, front);
     has_the_same_rows(rt, &store, &same);
 }
@@ -478,12 +483,12 @@ fn has_first_rows(rt: &impl Abort, alloc: Global, front: &str) {
 // A prefix that ends within an object is not JSON. Any other prefix loads as the objects that it
 // has, the last one also without its line feed.
 #[test]
-fn lines_that_are_cut_off_within_an_object_are_refused(rt: HostRuntime) {
+fn lines_truncated_within_an_object_are_rejected(rt: HostRuntime) {
     let bytes = json::LINES.as_bytes();
     for length in 0..bytes.len() {
         let front = &bytes[..length];
         if ends_within_an_object(bytes, length) {
-            is_refused(
+            is_rejected(
                 &rt,
                 rt.alloc(),
                 Shape::JsonLines,

@@ -1,11 +1,11 @@
 //! Each call that allocates returns what it does with enough memory, or out of memory.
 //! `tools/refuse.c` makes each allocation fail in turn.
-use crate::built::{Came, built, items, store_of};
-use crate::calls::{CALLS, all_calls, are_told};
+use crate::built::{UrlAndValue, built, items, store_of};
+use crate::calls::{CALLS, all_calls, are_done};
 use crate::checks::{end_of, has_the_same_rows, is_equal};
 use crate::forms;
 use crate::forms::{CASES as FORMS, Shape};
-use crate::insertion::{Way, reply_by};
+use crate::insertion::{InsertCall, reply_by};
 use crate::lists::Form;
 use crate::lookups::{Wanted, are_between};
 use crate::responses::raw_cookies;
@@ -70,7 +70,7 @@ fn store_of_texts(rt: &impl Abort, alloc: Global, texts: &[&str]) -> CookieStore
 }
 
 // Checks that the store has that list.
-fn obeys_its_list(rt: &impl Abort, store: &mut CookieStore, url: &Url) {
+fn rejects_by_its_list(rt: &impl Abort, store: &mut CookieStore, url: &Url) {
     let reply = store.parse("s=1; Domain=com", url, new_year());
     is_equal(rt, &reply, &Err(CookieError::PublicSuffix), &"the list");
 }
@@ -108,10 +108,10 @@ static CASES: [Case; 6] = [
 
 // Whether the call may return out of memory: with a cookie already made, only if it would be
 // inserted.
-fn may_allocate(way: Way, wanted: InsertResult) -> bool {
+fn may_allocate(way: InsertCall, wanted: InsertResult) -> bool {
     match way {
-        Way::Parse | Way::InsertRaw | Way::ApplySet => true,
-        Way::Insert | Way::ApplyInsert => wanted == INSERTED,
+        InsertCall::Parse | InsertCall::InsertRaw | InsertCall::ApplySet => true,
+        InsertCall::Insert | InsertCall::ApplyInsert => wanted == INSERTED,
     }
 }
 
@@ -121,11 +121,11 @@ fn has_the_four_rows(rt: &impl Abort, alloc: Global, store: &CookieStore) {
 }
 
 // Checks what the store returns after the reply, or that it is unchanged if out of memory.
-fn is_answered(
+fn has_outcome(
     rt: &impl Abort,
     alloc: Global,
     store: &CookieStore,
-    way: Way,
+    way: InsertCall,
     case: &Case,
     reply: InsertResult,
 ) {
@@ -139,39 +139,39 @@ fn is_answered(
     }
 }
 
-fn are_answered(rt: &impl Abort, alloc: Global, way: Way) {
+fn have_outcomes(rt: &impl Abort, alloc: Global, way: InsertCall) {
     let url = url(rt, alloc, FROM);
     for case in &CASES {
         let mut store = store_of_texts(rt, alloc, &ROWS);
         let reply = reply_by(rt, alloc, way, &mut store, (FROM, case.0), &url);
-        is_answered(rt, alloc, &store, way, case, reply);
-        obeys_its_list(rt, &mut store, &url);
+        has_outcome(rt, alloc, &store, way, case, reply);
+        rejects_by_its_list(rt, &mut store, &url);
     }
 }
 
 #[test]
 fn parse(rt: HostRuntime) {
-    are_answered(&rt, rt.alloc(), Way::Parse);
+    have_outcomes(&rt, rt.alloc(), InsertCall::Parse);
 }
 
 #[test]
 fn insert_raw(rt: HostRuntime) {
-    are_answered(&rt, rt.alloc(), Way::InsertRaw);
+    have_outcomes(&rt, rt.alloc(), InsertCall::InsertRaw);
 }
 
 #[test]
 fn insert(rt: HostRuntime) {
-    are_answered(&rt, rt.alloc(), Way::Insert);
+    have_outcomes(&rt, rt.alloc(), InsertCall::Insert);
 }
 
 #[test]
 fn apply(rt: HostRuntime) {
-    are_answered(&rt, rt.alloc(), Way::ApplySet);
-    are_answered(&rt, rt.alloc(), Way::ApplyInsert);
+    have_outcomes(&rt, rt.alloc(), InsertCall::ApplySet);
+    have_outcomes(&rt, rt.alloc(), InsertCall::ApplyInsert);
 }
 
 // With a limit of two, the cookie that was created first is evicted, and after it the next.
-const ONE_LEAVES: Case = (
+const ONE_EVICTED: Case = (
     "v=1; Domain=b.example.com; Path=/p/q",
     INSERTED,
     "z=1; v=1; y=1; u=1",
@@ -180,9 +180,16 @@ const ONE_LEAVES: Case = (
 const ANOTHER: &str = "w=1; Domain=b.example.com; Path=/";
 
 // Checks this by what the store returns after one more cookie.
-fn one_leaves(rt: &impl Abort, alloc: Global, store: &mut CookieStore, url: &Url) {
-    let reply = reply_by(rt, alloc, Way::Parse, store, (FROM, ONE_LEAVES.0), url);
-    is_answered(rt, alloc, store, Way::Parse, &ONE_LEAVES, reply);
+fn evicts_one(rt: &impl Abort, alloc: Global, store: &mut CookieStore, url: &Url) {
+    let reply = reply_by(
+        rt,
+        alloc,
+        InsertCall::Parse,
+        store,
+        (FROM, ONE_EVICTED.0),
+        url,
+    );
+    has_outcome(rt, alloc, store, InsertCall::Parse, &ONE_EVICTED, reply);
     store.parse(ANOTHER, url, new_year()).expect(rt, "memory");
     let left = if reply == INSERTED {
         "v=1; w=1; y=1; u=1"
@@ -196,12 +203,12 @@ fn one_leaves(rt: &impl Abort, alloc: Global, store: &mut CookieStore, url: &Url
 fn parse_under_a_limit(rt: HostRuntime) {
     let url = url(&rt, rt.alloc(), FROM);
     let mut store = store_of_texts(&rt, rt.alloc(), &ROWS).with_domain_limit(2);
-    one_leaves(&rt, rt.alloc(), &mut store, &url);
+    evicts_one(&rt, rt.alloc(), &mut store, &url);
 }
 
 // The calls that do not change the store.
 #[derive(Clone, Copy)]
-pub enum Asking {
+pub enum ReadCall {
     Matches,
     Counted,
     InOrder,
@@ -324,35 +331,35 @@ fn copy_of(rt: &impl Abort, alloc: Global, store: &CookieStore, url: &Url) -> bo
             new_year(),
             &"the copied rows",
         );
-        obeys_its_list(rt, copy, url);
+        rejects_by_its_list(rt, copy, url);
     }
     outcome.is_ok()
 }
 
-fn is_answered_by(
+fn reads_or_runs_out(
     rt: &impl Abort,
     alloc: Global,
     store: &CookieStore,
     url: &Url,
-    asking: Asking,
+    call: ReadCall,
 ) -> bool {
-    match asking {
-        Asking::Matches => cookies_of(rt, alloc, store, url),
-        Asking::Counted => counted_cookies(rt, alloc, store, url),
-        Asking::InOrder => ordered_cookies(rt, alloc, store, url),
-        Asking::Header => header_of(rt, alloc, store, url),
-        Asking::Values => values_of(rt, alloc, store, url),
-        Asking::Cookies => raw_cookies_of(rt, alloc, store, url),
-        Asking::Clone => copy_of(rt, alloc, store, url),
+    match call {
+        ReadCall::Matches => cookies_of(rt, alloc, store, url),
+        ReadCall::Counted => counted_cookies(rt, alloc, store, url),
+        ReadCall::InOrder => ordered_cookies(rt, alloc, store, url),
+        ReadCall::Header => header_of(rt, alloc, store, url),
+        ReadCall::Values => values_of(rt, alloc, store, url),
+        ReadCall::Cookies => raw_cookies_of(rt, alloc, store, url),
+        ReadCall::Clone => copy_of(rt, alloc, store, url),
     }
 }
 
 // Checks a call on a store of five cookies, which keeps them. Returns whether there was enough
 // memory.
-pub fn answers(rt: &impl Abort, alloc: Global, asking: Asking) -> bool {
+pub fn reads_or_keeps(rt: &impl Abort, alloc: Global, call: ReadCall) -> bool {
     let url = url(rt, alloc, FROM);
     let store = store_of_texts(rt, alloc, &FIVE);
-    let is_answered = is_answered_by(rt, alloc, &store, &url, asking);
+    let had_memory = reads_or_runs_out(rt, alloc, &store, &url, call);
     are_given(
         rt,
         alloc,
@@ -361,42 +368,42 @@ pub fn answers(rt: &impl Abort, alloc: Global, asking: Asking) -> bool {
         new_year(),
         &"the rows that stay",
     );
-    is_answered
+    had_memory
 }
 
 #[test]
 fn matches(rt: HostRuntime) {
-    let _is_answered = answers(&rt, rt.alloc(), Asking::Matches);
+    let _had_memory = reads_or_keeps(&rt, rt.alloc(), ReadCall::Matches);
 }
 
 #[test]
 fn matches_counted(rt: HostRuntime) {
-    let _is_answered = answers(&rt, rt.alloc(), Asking::Counted);
+    let _had_memory = reads_or_keeps(&rt, rt.alloc(), ReadCall::Counted);
 }
 
 #[test]
 fn cookies_in_order(rt: HostRuntime) {
-    let _is_answered = answers(&rt, rt.alloc(), Asking::InOrder);
+    let _had_memory = reads_or_keeps(&rt, rt.alloc(), ReadCall::InOrder);
 }
 
 #[test]
 fn cookie_header(rt: HostRuntime) {
-    let _is_answered = answers(&rt, rt.alloc(), Asking::Header);
+    let _had_memory = reads_or_keeps(&rt, rt.alloc(), ReadCall::Header);
 }
 
 #[test]
 fn get_request_values(rt: HostRuntime) {
-    let _is_answered = answers(&rt, rt.alloc(), Asking::Values);
+    let _had_memory = reads_or_keeps(&rt, rt.alloc(), ReadCall::Values);
 }
 
 #[test]
 fn get_request_cookies(rt: HostRuntime) {
-    let _is_answered = answers(&rt, rt.alloc(), Asking::Cookies);
+    let _had_memory = reads_or_keeps(&rt, rt.alloc(), ReadCall::Cookies);
 }
 
 #[test]
 fn clone(rt: HostRuntime) {
-    let _is_answered = answers(&rt, rt.alloc(), Asking::Clone);
+    let _had_memory = reads_or_keeps(&rt, rt.alloc(), ReadCall::Clone);
 }
 
 #[test]
@@ -416,7 +423,7 @@ fn set_hash_key(rt: HostRuntime) {
     );
 }
 
-const CAME: [Came; 5] = [
+const RECEIVED: [UrlAndValue; 5] = [
     ("http://a.com/", "x=1"),
     ("http://b.com/", "y=1"),
     ("http://a.com/", "z=1; Path=/p"),
@@ -428,7 +435,7 @@ const BUILT: &str = "a.com / x, a.com / w, a.com /p z, b.com / y, b.com / v";
 
 #[test]
 fn from_cookies(rt: HostRuntime) {
-    let items = items(&rt, rt.alloc(), &CAME).into_iter();
+    let items = items(&rt, rt.alloc(), &RECEIVED).into_iter();
     start(rt.alloc());
     let outcome = built(rt.alloc(), items, false);
     end(rt.alloc());
@@ -466,7 +473,7 @@ fn apply_all(rt: HostRuntime) {
     let mut store = store_under(&rt, rt.alloc(), "com");
     let calls = all_calls(&rt, rt.alloc());
     let replies = replies_to_all(&rt, rt.alloc(), &mut store, calls);
-    are_told(&rt, rt.alloc(), &store, replies.as_slice());
+    are_done(&rt, rt.alloc(), &store, replies.as_slice());
 }
 
 // The cookies of a response, one of which is rejected, and what the store of four cookies returns
@@ -515,7 +522,7 @@ fn store_response_cookies(rt: HostRuntime) {
     let count = stored_of_response(&rt, rt.alloc(), &mut store, &mut cookies, &url);
     let wanted = AFTER.get(count).expect(&rt, "no more cookies than came");
     are_given(&rt, rt.alloc(), &store, (FROM, wanted), new_year(), &count);
-    obeys_its_list(&rt, &mut store, &url);
+    rejects_by_its_list(&rt, &mut store, &url);
 }
 
 // Whether the output is well formed if out of memory: whole lines of the first cookies, or nothing
@@ -542,7 +549,7 @@ fn is_saved(rt: &impl Abort, case: &forms::Case, outcome: &Result<(), Error>, wr
 
 // Checks that the cookies are saved, or out of memory, and that the store keeps them.
 fn are_saved_as(rt: &impl Abort, alloc: Global, case: &forms::Case, which: &Which) {
-    let store = store_of(rt, alloc, &forms::CAME);
+    let store = store_of(rt, alloc, &forms::RECEIVED);
     let room = Vec::with_capacity(alloc, 1_024).expect(rt, "memory");
     let fake = Fake::new(room, usize::MAX, 0);
     start(alloc);
@@ -550,7 +557,7 @@ fn are_saved_as(rt: &impl Abort, alloc: Global, case: &forms::Case, which: &Whic
     end(alloc);
     is_equal(rt, &failures, &0, case);
     is_saved(rt, case, &outcome, fake.inner.as_slice());
-    has_the_same_rows(rt, &store, &store_of(rt, alloc, &forms::CAME));
+    has_the_same_rows(rt, &store, &store_of(rt, alloc, &forms::RECEIVED));
 }
 
 // In each format.

@@ -1,5 +1,5 @@
 //! Insertion of cookies, by each call that inserts.
-use crate::built::Came;
+use crate::built::UrlAndValue;
 use crate::calls::{CallCase, call};
 use crate::checks::is_equal;
 use crate::growths::{end, start};
@@ -12,7 +12,7 @@ use url::Url;
 
 // A call that inserts a cookie.
 #[derive(Clone, Copy, Debug)]
-pub enum Way {
+pub enum InsertCall {
     Parse,
     InsertRaw,
     Insert,
@@ -20,7 +20,7 @@ pub enum Way {
     ApplyInsert,
 }
 
-const WANTING: InsertResult = Err(CookieError::Memory);
+const OUT_OF_MEMORY: InsertResult = Err(CookieError::Memory);
 
 fn reply_to_text(alloc: Global, store: &mut CookieStore, text: &str, url: &Url) -> InsertResult {
     start(alloc);
@@ -71,11 +71,11 @@ fn reply_to_call(
     end(alloc);
     if let Ok(Reply::Stored(reply)) = &outcome {
         // Out of memory is an error of `apply`, never a reply.
-        is_equal(rt, &(*reply == WANTING), &false, requested);
+        is_equal(rt, &(*reply == OUT_OF_MEMORY), &false, requested);
         *reply
     } else {
         is_equal(rt, &outcome.is_err(), &true, requested);
-        WANTING
+        OUT_OF_MEMORY
     }
 }
 
@@ -83,18 +83,23 @@ fn reply_to_call(
 pub fn reply_by(
     rt: &impl Abort,
     alloc: Global,
-    way: Way,
+    way: InsertCall,
     store: &mut CookieStore,
-    came: Came,
+    came: UrlAndValue,
     url: &Url,
 ) -> InsertResult {
     let (from, text) = came;
     match way {
-        Way::Parse => reply_to_text(alloc, store, text, url),
-        Way::InsertRaw => reply_to_raw(rt, alloc, store, text, url),
-        Way::Insert => reply_to_cookie(rt, alloc, store, text, url),
-        Way::ApplySet => reply_to_call(rt, alloc, store, &CallCase::Set(from, text, INSERTED)),
-        Way::ApplyInsert => reply_to_call(
+        InsertCall::Parse => reply_to_text(alloc, store, text, url),
+        InsertCall::InsertRaw => reply_to_raw(rt, alloc, store, text, url),
+        InsertCall::Insert => reply_to_cookie(rt, alloc, store, text, url),
+        InsertCall::ApplySet => reply_to_call(
+            rt,
+            alloc,
+            store,
+            &CallCase::Set(from, text, INSERTED),
+        ),
+        InsertCall::ApplyInsert => reply_to_call(
             rt,
             alloc,
             store,
@@ -131,16 +136,16 @@ static REPLIES: [Received; 8] = [
 ];
 
 // A domain, a path, a name, and whether the stored cookie has expired; `None` if there is none.
-type Left = (&'static str, &'static str, &'static str, Option<bool>);
+type StoredRow = (&'static str, &'static str, &'static str, Option<bool>);
 
-static LEFT: [Left; 4] = [
+static LEFT: [StoredRow; 4] = [
     ("example.com", "/foo", "c", Some(true)),
     ("example.com", "/", "c", None),
     ("bar.example.com", "/foo", "c", None),
     ("example.com", "/foo", "d", None),
 ];
 
-fn is_left(rt: &impl Abort, way: Way, store: &CookieStore, left: &Left) {
+fn has_stored_row(rt: &impl Abort, way: InsertCall, store: &CookieStore, left: &StoredRow) {
     let (domain, path, name, has_ended) = *left;
     let is_expired = match store.get_any(domain, path, name) {
         Some(row) => Some(row.is_expired(new_year())),
@@ -152,7 +157,7 @@ fn is_left(rt: &impl Abort, way: Way, store: &CookieStore, left: &Left) {
 fn is_replied(
     rt: &impl Abort,
     alloc: Global,
-    way: Way,
+    way: InsertCall,
     store: &mut CookieStore,
     received: &Received,
 ) {
@@ -163,14 +168,19 @@ fn is_replied(
 }
 
 #[test]
-fn cookies_come_in_each_way(rt: HostRuntime) {
-    for way in &[Way::Parse, Way::InsertRaw, Way::Insert, Way::ApplySet] {
+fn cookies_are_inserted_by_each_call(rt: HostRuntime) {
+    for way in &[
+        InsertCall::Parse,
+        InsertCall::InsertRaw,
+        InsertCall::Insert,
+        InsertCall::ApplySet,
+    ] {
         let mut store = CookieStore::new(rt.alloc());
         for received in &REPLIES {
             is_replied(&rt, rt.alloc(), *way, &mut store, received);
         }
         for left in &LEFT {
-            is_left(&rt, *way, &store, left);
+            has_stored_row(&rt, *way, &store, left);
         }
     }
 }

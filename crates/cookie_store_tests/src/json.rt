@@ -1,5 +1,5 @@
 //! Cookies as lines of JSON.
-use crate::built::Came;
+use crate::built::UrlAndValue;
 use crate::saved::Which;
 use crate::steps::new_year;
 use cookie_fakes::Fake;
@@ -55,7 +55,7 @@ pub fn fault_of(outcome: &Result<CookieStore, Error>) -> &'static str {
     }
 }
 
-pub const CAME: [Came; 4] = [
+pub const RECEIVED: [UrlAndValue; 4] = [
     (
         "http://foo.example.com/foo",
         "cookie3=value3; Path=/foo/bar",
@@ -89,7 +89,7 @@ pub const LASTING: &str =
 "#;
 
 // Lines that are rejected, and the error.
-pub const REFUSED: [(&[u8], &str); 14] = [
+pub const REJECTED: [(&[u8], &str); 14] = [
     (b"{\n", "no JSON"),
     (b"\n", "no JSON"),
     (b"[\n{}\n]\n", "no JSON"),

@@ -2,7 +2,7 @@
 use crate::built::store_of;
 use crate::checks::{end_of, has_the_same_rows, is_equal};
 use crate::json::fault_of;
-use crate::lists::{self, CAME, Form};
+use crate::lists::{self, Form, RECEIVED};
 use crate::ron;
 use crate::saved::Which;
 use crate::steps::new_year;
@@ -61,7 +61,7 @@ fn is_listed(rt: &impl Abort, outcome: &Result<String, Error>, listed: &Listed) 
 
 #[test]
 fn lists_are_formatted(rt: HostRuntime) {
-    let store = store_of(&rt, rt.alloc(), &CAME);
+    let store = store_of(&rt, rt.alloc(), &RECEIVED);
     for listed in &LISTS {
         let outcome = text_of(listed.0, &store, &which_of(listed.1));
         is_equal(&rt, &end_of(&outcome), &"done", listed);
@@ -71,7 +71,7 @@ fn lists_are_formatted(rt: HostRuntime) {
 
 // Loads the list and checks its rows, or that memory ran out.
 fn is_parsed(rt: &impl Abort, alloc: Global, listed: &Listed, ample: bool) {
-    let wanted = store_of(rt, alloc, &CAME[..if listed.1 { 2 } else { 1 }]);
+    let wanted = store_of(rt, alloc, &RECEIVED[..if listed.1 { 2 } else { 1 }]);
     crate::growths::start(alloc);
     let outcome = store_in(listed.0, alloc, listed.2, &which_of(listed.1));
     crate::growths::end(alloc);
@@ -89,7 +89,7 @@ fn lists_are_parsed(rt: HostRuntime) {
 }
 
 // Checks the error for a string, if the bytes are one.
-fn is_refused(rt: &impl Abort, alloc: Global, form: Form, refused: &(&[u8], &str)) {
+fn is_rejected(rt: &impl Abort, alloc: Global, form: Form, refused: &(&[u8], &str)) {
     if let Ok(text) = str::from_utf8(refused.0) {
         let outcome = store_in(form, alloc, text, &Which::All);
         is_equal(rt, &fault_of(&outcome), &refused.1, &(form, text));
@@ -98,22 +98,22 @@ fn is_refused(rt: &impl Abort, alloc: Global, form: Form, refused: &(&[u8], &str
 
 #[test]
 fn other_strings_are_rejected(rt: HostRuntime) {
-    for refused in &lists::REFUSED {
-        is_refused(&rt, rt.alloc(), Form::Json, refused);
+    for refused in &lists::REJECTED {
+        is_rejected(&rt, rt.alloc(), Form::Json, refused);
     }
-    for refused in &ron::REFUSED {
-        is_refused(&rt, rt.alloc(), Form::Ron, refused);
+    for refused in &ron::REJECTED {
+        is_rejected(&rt, rt.alloc(), Form::Ron, refused);
     }
 }
 
 mod growths {
-    use super::{CAME, LISTS, is_listed, is_parsed, text_of, which_of};
+    use super::{LISTS, RECEIVED, is_listed, is_parsed, text_of, which_of};
     use crate::built::store_of;
     use crate::growths::{end, start};
 
     #[test]
     fn to_text(rt: HostRuntime) {
-        let store = store_of(&rt, rt.alloc(), &CAME);
+        let store = store_of(&rt, rt.alloc(), &RECEIVED);
         for listed in &LISTS {
             start(rt.alloc());
             let outcome = text_of(listed.0, &store, &which_of(listed.1));

@@ -1,5 +1,5 @@
 //! Cookies as one list: by functions, in JSON or in RON.
-use crate::built::Came;
+use crate::built::UrlAndValue;
 use crate::loaded::{Loaded, cookie_of};
 use crate::saved::{Saved, Which};
 use crate::steps::new_year;
@@ -103,12 +103,12 @@ pub fn load_list<'a>(form: Form, alloc: Global, which: &Which, fake: Fake<&'a [u
 }
 
 // A persistent cookie.
-pub const LASTS: Came = (
+pub const LASTS: UrlAndValue = (
     "http://test.com/",
     "2=two; SameSite=None; Secure; Path=/; Expires=Tue, 03 Aug 2100 00:38:37 GMT",
 );
 
-pub const CAME: [Came; 2] = [LASTS, ("http://test.com/a/b", "s=\"\\")];
+pub const RECEIVED: [UrlAndValue; 2] = [LASTS, ("http://test.com/a/b", "s=\"\\")];
 
 // The list of all of these.
 pub const BOTH: &str = r#"[
@@ -176,7 +176,7 @@ pub const ENDED: &str = r#"[
 "#;
 
 // Bytes that are rejected, and the error.
-pub const REFUSED: [(&[u8], &str); 21] = [
+pub const REJECTED: [(&[u8], &str); 21] = [
     (b"", "no JSON"),
     (b"\n", "no JSON"),
     (b"[", "no JSON"),

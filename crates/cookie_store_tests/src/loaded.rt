@@ -109,7 +109,7 @@ static LINES: [Noted; 14] = [
 ];
 
 // The first error stops loading, here with reads of one byte.
-static REFUSED: [Noted; 7] = [
+static REJECTED: [Noted; 7] = [
     (b"a\nb\nc\n", "a|b|", b"c\n", "b"),
     (b"a\nb", "a|b|", b"", "b"),
     (b"b\r\n\xff\n", "b|", b"\xff\n", "b"),
@@ -132,9 +132,9 @@ fn is_noted(rt: &impl Abort, alloc: Global, url: &Url, noted: &Noted, most: usiz
 }
 
 #[test]
-fn each_line_is_given_up_to_a_refusal(rt: HostRuntime) {
+fn lines_are_passed_until_one_is_rejected(rt: HostRuntime) {
     let url = url(&rt, rt.alloc(), FROM);
-    let tables: [(&[usize], &[Noted]); 2] = [(&[1, 3, usize::MAX], &LINES), (&[1], &REFUSED)];
+    let tables: [(&[usize], &[Noted]); 2] = [(&[1, 3, usize::MAX], &LINES), (&[1], &REJECTED)];
     for (sizes, table) in &tables {
         for noted in *table {
             for most in *sizes {

@@ -134,7 +134,7 @@ fn many_lines_are_loaded(rt: HostRuntime) {
 }
 
 #[test]
-fn a_long_text_enters(rt: HostRuntime) {
+fn a_long_value_is_inserted(rt: HostRuntime) {
     let mut store = CookieStore::new(rt.alloc());
     let url = url_of(&rt, rt.alloc(), 0);
     let value = format!(in rt.alloc(); "{0:0>50000}{0:0>50000}", 1).expect(&rt, "memory");

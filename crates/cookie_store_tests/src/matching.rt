@@ -1,7 +1,7 @@
 //! Cookies that match a URL.
 use crate::checks::is_equal;
 use crate::forms::{FROM as ORIGIN, IN_RON, loaded};
-use crate::growths::{Asking, answers};
+use crate::growths::{ReadCall, reads_or_keeps};
 use crate::saved::Which;
 use crate::steps::{INSERTED, Step, UPDATED, new_year, take_all};
 use cookie_store::{CookieError, CookieStore};
@@ -39,7 +39,7 @@ static IN_ORDER: [Step; 19] = [
 
 // The earliest time that there is; a script of the program cannot name it.
 #[test]
-fn gives_in_order_at_the_first_moment(rt: HostRuntime) {
+fn cookies_match_in_order_at_the_earliest_time(rt: HostRuntime) {
     let mut store = CookieStore::default(rt.alloc());
     take_all(&rt, rt.alloc(), &mut store, &IN_ORDER, DateTime::MIN);
 }
@@ -59,7 +59,7 @@ const LOADED: &str = r#"[
 ]"#;
 
 // All are stored, and only the last one matches a URL.
-static STANDING: [Step; 9] = [
+static LOADED_ROWS: [Step; 9] = [
     Step::Listed(" / a,  / b,  / c,  / d, . / e, . / f, a.com  g, a.com p h, a.com / k"),
     Step::Given("http://a.com/p", "k=1"),
     Step::Given("http://a.com./p", ""),
@@ -74,23 +74,23 @@ static STANDING: [Step; 9] = [
 #[test]
 fn a_row_of_no_name_or_no_absolute_path_is_given_for_no_url(rt: HostRuntime) {
     let mut store = loaded(&rt, rt.alloc(), IN_RON, ORIGIN, &Which::All, LOADED);
-    take_all(&rt, rt.alloc(), &mut store, &STANDING, new_year());
+    take_all(&rt, rt.alloc(), &mut store, &LOADED_ROWS, new_year());
 }
 
-const ASKED: [(Asking, &str); 7] = [
-    (Asking::Matches, "matches"),
-    (Asking::Counted, "matches_counted"),
-    (Asking::InOrder, "cookies_in_order"),
-    (Asking::Header, "cookie_header"),
-    (Asking::Values, "get_request_values"),
-    (Asking::Cookies, "get_request_cookies"),
-    (Asking::Clone, "clone"),
+const READ_CALLS: [(ReadCall, &str); 7] = [
+    (ReadCall::Matches, "matches"),
+    (ReadCall::Counted, "matches_counted"),
+    (ReadCall::InOrder, "cookies_in_order"),
+    (ReadCall::Header, "cookie_header"),
+    (ReadCall::Values, "get_request_values"),
+    (ReadCall::Cookies, "get_request_cookies"),
+    (ReadCall::Clone, "clone"),
 ];
 
 #[test]
-fn all_that_is_asked_is_answered(rt: HostRuntime) {
-    for (asking, name) in &ASKED {
-        let is_answered = answers(&rt, rt.alloc(), *asking);
-        is_equal(&rt, &is_answered, &true, name);
+fn calls_that_read_return_the_cookies(rt: HostRuntime) {
+    for (call, name) in &READ_CALLS {
+        let had_memory = reads_or_keeps(&rt, rt.alloc(), *call);
+        is_equal(&rt, &had_memory, &true, name);
     }
 }

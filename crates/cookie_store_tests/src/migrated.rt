@@ -1,7 +1,7 @@
 //! Stores loaded from lines of JSON, and the first line that is rejected.
 use crate::built::store_of;
 use crate::checks::{has_the_same_rows, is_equal};
-use crate::forms::{CAME, IN_RON, Shape, save};
+use crate::forms::{IN_RON, RECEIVED, Shape, save};
 use crate::lists::{Form, load_list};
 use crate::saved::Which;
 use crate::texts::all_rows;
@@ -89,7 +89,7 @@ fn is_told(rt: &impl Abort, alloc: Global, case: &(&'static [u8], &str)) {
 }
 
 #[test]
-fn lines_are_taken_up_to_the_first_that_is_refused(rt: HostRuntime) {
+fn lines_are_loaded_until_one_is_rejected(rt: HostRuntime) {
     for case in &CASES {
         is_told(&rt, rt.alloc(), case);
     }
@@ -109,7 +109,7 @@ fn is_whole(rt: &impl Abort, alloc: Global, fails_at: usize) -> bool {
 }
 
 #[test]
-fn a_failed_read_ends_the_migration(rt: HostRuntime) {
+fn a_failed_read_stops_the_migration(rt: HostRuntime) {
     for fails_at in 1..1_000 {
         if is_whole(&rt, rt.alloc(), fails_at) {
             return;
@@ -140,7 +140,7 @@ fn loads_as(rt: &impl Abort, alloc: Global, list: &[u8], store: &CookieStore) {
 
 #[test]
 fn what_is_migrated_loads_again(rt: HostRuntime) {
-    let store = store_of(&rt, rt.alloc(), &CAME);
+    let store = store_of(&rt, rt.alloc(), &RECEIVED);
     let lines = saved_in(&rt, rt.alloc(), Shape::JsonLines, &store);
     let list = list_of(&rt, rt.alloc(), &lines);
     loads_as(&rt, rt.alloc(), &list, &store);

@@ -40,7 +40,7 @@ pub const ENDED: &str = r#"[
 "#;
 
 // Lists that are rejected, and the error.
-pub const REFUSED: [(&[u8], &str); 31] = [
+pub const REJECTED: [(&[u8], &str); 31] = [
     (b"", "no RON"),
     (b"\n", "no RON"),
     (b"[", "no RON"),

@@ -1,5 +1,5 @@
 //! Cookies saved as lines.
-use crate::built::{Came, store_of};
+use crate::built::{UrlAndValue, store_of};
 use crate::checks::{end_of, is_equal};
 use crate::steps::new_year;
 use cookie_fakes::Fake;
@@ -79,14 +79,14 @@ pub fn save_lines(
 
 const FROM: &str = "http://a.com/";
 
-pub const LASTING: [Came; 3] = [
+pub const LASTING: [UrlAndValue; 3] = [
     (FROM, "a=1; Max-Age=300"),
     (FROM, "b=1; Max-Age=300"),
     (FROM, "c=1; Max-Age=300"),
 ];
 
 // Cookies that expire after five minutes or one, a session cookie, and an expired one.
-const LIVES: [Came; 6] = [
+const LIVES: [UrlAndValue; 6] = [
     ("http://a.com/", "a=1; Max-Age=300"),
     ("http://b.com/", "b=1; Max-Age=300"),
     ("http://a.com/", "s=1"),
@@ -98,7 +98,7 @@ const LIVES: [Came; 6] = [
 // The name with an error, what is written, and the names of the cookies passed to the function.
 type Row = (&'static str, &'static str, &'static str);
 
-const REFUSED: [Row; 4] = [
+const REJECTED: [Row; 4] = [
     ("", "a\nb\nc\n", "a\nb\nc\n"),
     ("a", "", "a\n"),
     ("b", "a\n", "a\nb\n"),
@@ -119,9 +119,9 @@ fn is_saved(rt: &impl Abort, alloc: Global, store: &CookieStore, which: &Which, 
 }
 
 #[test]
-fn the_first_refusal_ends_the_saving(rt: HostRuntime) {
+fn the_first_error_stops_the_saving(rt: HostRuntime) {
     let store = store_of(&rt, rt.alloc(), &LASTING);
-    for row in &REFUSED {
+    for row in &REJECTED {
         is_saved(&rt, rt.alloc(), &store, &Which::All, row);
         is_saved(&rt, rt.alloc(), &store, &Which::At(new_year()), row);
     }

@@ -12,7 +12,7 @@ use Rattle.cookie_laws.specs.Acceptance.{received}
 use Rattle.cookie_laws.specs.Runs.{UnlessMemory}
 use Rattle.cookie_laws.specs.Contents.{Contents}
 use Rattle.cookie_core.specs.Responses.{Inserts}
-use Rattle.cookie_core.proofs.EarlyRefusals.{want_is_not_early}
+use Rattle.cookie_core.proofs.EarlyRefusals.{memory_is_not_early}
 use Rattle.cookie_core.proofs.response.insert_each.Goals as goal
 
 -- what holds unless out of memory holds if it is not
@@ -39,6 +39,6 @@ pub returns-in_err-refusal-clause-stopped : goal.returns-in_err-refusal-clause-s
 returns-in_err-refusal-clause-stopped g c =
     let p = err_from_is_err_and c.from_residual.result c.from_residual.ensures.1 in
     let want = c.in_err-refusal.ensures.memory in
-    let not_early = want_is_not_early (Ok c.in-Some.raw) c.args.url.now c.take_raw.result c.take_raw.ensures.early want in
-    let kept = rw want at c.take_raw.ensures.refused in
+    let not_early = memory_is_not_early (Ok c.in-Some.raw) c.args.url.now c.take_raw.result c.take_raw.ensures.early want in
+    let kept = rw want at c.take_raw.ensures.unchanged in
     rw (p.1, kept) (c.loop-raw.yielded, c.in-Some.raw, search rules, not_early, c.loop-raw.invariant.taken)

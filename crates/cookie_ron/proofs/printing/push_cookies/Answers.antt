@@ -26,7 +26,7 @@ loop-saved-preserved c =
     let left : drop at list ≡ get_or list at saved ∷ drop (at + 1) list = drop_more list at saved c.loop-saved-test.true in
     let taken = take_more list at saved c.loop-saved-test.true in (
       (both_false (is_early (saved_view (get_or list at saved))) (list_any is_early (map saved_view (drop (at + 1) list))) (sym (ap (λ l. list_any is_early (map saved_view l)) left) ∙ c.loop-saved.invariant.0)).1,
-      c.in_ok-push_cookie.ensures.text
+      c.in_ok-push_cookie.ensures
           ∙ ap (λ front. front ++ printed_cookie (with_expiry_text (saved_view saved))) c.loop-saved.invariant.1
           ∙ more (string_bytes c.args.text.now) (take at list) saved
           ∙ ap (λ l. string_bytes c.args.text.now ++ printed l) (ap (λ s. take at list ++ s ∷ []) c.saved-item.is ∙ sym taken),

@@ -5,9 +5,9 @@ use Rattle.std.proofs.lemmas.Option.{IfSome_then}
 use Rattle.std.proofs.KnownBytes.{Appends-nil}
 use Rattle.cookie_device.proofs.Sending.{nothing_part, part_of_rest}
 use Rattle.cookie_store.specs.Contents.{Contents}
-use Rattle.cookie_script.specs.Progress.{AnswersFirst, AreRead, NextMayAllocate}
+use Rattle.cookie_script.specs.Progress.{WritesOutputOfFirstLines, AreRead, NextMayAllocate}
 use Rattle.cookie_script.specs.Script.{empty}
-use Rattle.cookie_script.proofs.Answered.{first_appended, first_part}
+use Rattle.cookie_script.proofs.HasRunLines.{first_appended, first_part}
 use Rattle.cookie_script.proofs.run.run.Goals as goal
 
 -- what holds for each value holds for an optional one
@@ -17,7 +17,7 @@ if_any P (Some x) each = each x
 
 -- before the first read no line was read, and none was run
 none_read : (store : Contents) (rest contents : Option (List ℕ)) → IfSome rest (λ input.
-    AnswersFirst store input (λ first more. AreRead input rest first ⊎ NextMayAllocate more) (Appends contents contents))
+    WritesOutputOfFirstLines store input (λ first more. AreRead input rest first ⊎ NextMayAllocate more) (Appends contents contents))
 none_read store None contents = tt
 none_read store (Some input) contents = ([], lines input, refl, inl ([], input, refl, refl, refl), Appends-nil contents)
 
@@ -27,7 +27,7 @@ returns-in_err-out-clause-part g c =
 
 pub returns-in_err-out-clause-memory : goal.returns-in_err-out-clause-memory
 returns-in_err-out-clause-memory g c =
-    λ wants. none_read (empty c.args.list c.args.limit) (g.R.Source.state c.args.source.now).remaining (g.W.Sink.state c.args.sink.now).contents
+    λ failed. none_read (empty c.args.list c.args.limit) (g.R.Source.state c.args.source.now).remaining (g.W.Sink.state c.args.sink.now).contents
 
 pub returns-in_err-flush-in-Err-Memory-clause-part : goal.returns-in_err-flush-in-Err-Memory-clause-part
 returns-in_err-flush-in-Err-Memory-clause-part g c =
@@ -43,7 +43,7 @@ returns-in-Err-Memory-clause-part g c =
 
 pub returns-in-Err-Memory-clause-memory : goal.returns-in-Err-Memory-clause-memory
 returns-in-Err-Memory-clause-memory g c =
-    λ wants.
+    λ failed.
     let memory = c.in-Err-Memory.ensures.memory cc in
     IfSome_then (g.R.Source.state c.args.source.now).remaining (rw c.in_ok-out.ensures at memory)
     (λ input first. first_appended (empty c.args.list c.args.limit) input _ _ _ _ _ first c.in_ok-flush-in-Err-Memory.ensures.whole)

@@ -7,22 +7,22 @@ use Rattle.cookie_psl.specs.Lists as Psl
 use Rattle.cookie_psl.specs.Reading.{rules_from}
 use Rattle.cookie_psl.specs.Rules.{RuleList}
 use Rattle.cookie_psl.specs.declared.error.ListError.{ListError}
-use Rattle.cookie_psl.specs.declared.error.ListError.TheVariants as LineResult
+use Rattle.cookie_psl.specs.declared.error.ListError.TheVariants as ListCase
 use Rattle.cookie_psl.specs.declared.list as Declared
-use Rattle.cookie_script.specs.Faults.{list_fault}
-use Rattle.cookie_script.specs.Suffixes.{list_at, ParsesList}
-use Rattle.cookie_script.specs.declared.fault.MainFault.{MainFault}
-use Rattle.cookie_script.specs.declared.fault.MainFault.TheVariants.{CannotReadList, BadRule}
+use Rattle.cookie_script.specs.Errors.{main_error_of_list}
+use Rattle.cookie_script.specs.Suffixes.{list_in_file, ParsesListFile}
+use Rattle.cookie_script.specs.declared.error.MainFault.{MainFault}
+use Rattle.cookie_script.specs.declared.error.MainFault.TheVariants.{CannotReadList, BadRule}
 use Rattle.cookie_script.proofs.suffixes.list_of.Goals as goal
 
 -- bytes that are not UTF-8 are no list
-not_text : (bytes : List ℕ) → (IsUtf8 bytes → ⊥) → list_at bytes ≡ Err CannotReadList
-unfolding list_at
+not_text : (bytes : List ℕ) → (IsUtf8 bytes → ⊥) → list_in_file bytes ≡ Err CannotReadList
+unfolding list_in_file
 not_text bytes no_text = rw (false_from_ne_true _ (λ valid. no_text (IsUtf8-from_is_utf8 bytes valid)))
 
 -- a string has its rules, or a malformed line
-of_text : (bytes text : List ℕ) → text ≡ bytes → IsUtf8 bytes → list_at bytes ≡ result_map_both (λ rules. rules) BadRule (rules_from text)
-unfolding list_at
+of_text : (bytes text : List ℕ) → text ≡ bytes → IsUtf8 bytes → list_in_file bytes ≡ result_map_both (λ rules. rules) BadRule (rules_from text)
+unfolding list_in_file
 of_text bytes text same valid = rw (is_utf8-from_IsUtf8 bytes valid, same)
 
 -- a string is UTF-8
@@ -31,18 +31,18 @@ no_other bytes valid other = let is : is_utf8 bytes ≡ true = is_utf8-from_IsUt
 
 -- what was parsed is the list, or the error of the program for its error
 of_read : (read : Result Declared.List.List ListError) (rules : Result RuleList ℕ) (answer : Result RuleList MainFault)
-    → Psl.ParsesList read rules → answer ≡ result_map_both (λ rules. rules) BadRule rules → ParsesList (result_map_both (λ list. list) list_fault read) answer
+    → Psl.ParsesList read rules → answer ≡ result_map_both (λ rules. rules) BadRule rules → ParsesListFile (result_map_both (λ list. list) main_error_of_list read) answer
 of_read (Ok list) rules answer (given, is, same) answered = (given, answered ∙ ap (result_map_both (λ rules. rules) BadRule) is, same)
-of_read (Err (LineResult.BadRule line)) rules answer given answered = answered ∙ ap (result_map_both (λ rules. rules) BadRule) given
-of_read (Err LineResult.Memory) rules answer given answered = tt
+of_read (Err (ListCase.BadRule line)) rules answer given answered = answered ∙ ap (result_map_both (λ rules. rules) BadRule) given
+of_read (Err ListCase.Memory) rules answer given answered = tt
 
 pub returns-in_default-clause-value : goal.returns-in_default-clause-value
 returns-in_default-clause-value c = not_text _ c.in_default.ensures.cases.0
 
 pub returns-clause-value : goal.returns-clause-value
 returns-clause-value c =
-    subst (λ line_result. ParsesList line_result (list_at c.args.bytes.now)) (sym c.list_or_fault.ensures)
-    (of_read c.from_text.result (rules_from c.in-Ok.text.now) (list_at c.args.bytes.now) c.from_text.ensures
+    subst (λ parsed. ParsesListFile parsed (list_in_file c.args.bytes.now)) (sym c.list_or_error.ensures)
+    (of_read c.from_text.result (rules_from c.in-Ok.text.now) (list_in_file c.args.bytes.now) c.from_text.ensures
     (of_text c.args.bytes.now _ c.in-Ok.ensures.cases.0 c.in-Ok.ensures.cases.1))
 
 pub returns-clause-utf8 : goal.returns-clause-utf8

@@ -3,21 +3,21 @@ use Rattle.std.specs.Fn.{FnReturnsAt}
 use Rattle.std.proofs.lemmas.Bool.{false_from_ne_true}
 use Rattle.std.proofs.lemmas.Fn.{says_at}
 use Rattle.std.proofs.lemmas.Str.{IsUtf8-from_is_utf8, is_utf8-from_IsUtf8}
-use Rattle.cookie_serde.proofs.ListedRows.{made_at_once, refused_at_once}
+use Rattle.cookie_serde.proofs.ListedRows.{parsed_at_once, rejected_at_once}
 use Rattle.cookie_serde.proofs.custom.parse_list.Goals as goal
 
-pub returns-in-Ok-clause-created : goal.returns-in-Ok-clause-created
-returns-in-Ok-clause-created g c =
+pub returns-in-Ok-clause-parsed : goal.returns-in-Ok-clause-parsed
+returns-in-Ok-clause-parsed g c =
     let (same, valid) = c.in-Ok.ensures.cases in
     let answers = says_at g.F.Fn c.cookies_of.ensures refl in
-    made_at_once (FnReturnsAt g.F.Fn c.args.cookies_of.now) c.args.bytes.now c.cookies_of.result (is_utf8-from_IsUtf8 _ valid)
+    parsed_at_once (FnReturnsAt g.F.Fn c.args.cookies_of.now) c.args.bytes.now c.cookies_of.result (is_utf8-from_IsUtf8 _ valid)
     (rw same at answers)
 
 pub returns-in-Ok-clause-refused : goal.returns-in-Ok-clause-refused
 returns-in-Ok-clause-refused g c =
     let (same, valid) = c.in-Ok.ensures.cases in
     let answers = says_at g.F.Fn c.cookies_of.ensures refl in
-    refused_at_once (FnReturnsAt g.F.Fn c.args.cookies_of.now) c.args.bytes.now c.cookies_of.result (is_utf8-from_IsUtf8 _ valid)
+    rejected_at_once (FnReturnsAt g.F.Fn c.args.cookies_of.now) c.args.bytes.now c.cookies_of.result (is_utf8-from_IsUtf8 _ valid)
     (rw same at answers)
 
 pub returns-in-Err-clause-refused : goal.returns-in-Err-clause-refused

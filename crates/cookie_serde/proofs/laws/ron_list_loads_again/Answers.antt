@@ -8,8 +8,8 @@ use Rattle.cookie_serde.proofs.CutRows.{cookies_in, rows_cut}
 use Rattle.cookie_serde.proofs.laws.ron_list_loads_again.Goals as goal
 
 pub returns : goal.returns
-returns c rows loaded written now are all (text, says, appended) (whole, cookies, known, (valid, (answer, reported, created)), builds) =
+returns c rows loaded written now are all (text, written_as, appended) (whole, cookies, known, (valid, (answer, reported, created)), builds) =
     let same : line_text text ≡ whole = sym appended ∙ known in
-    let (read, reads, are_cut) = subst (λ t. RonCookies t (Ok (cut_rows rows))) same (c.ron_list_comes_back.ensures rows text all says) in
+    let (read, reads, are_cut) = subst (λ t. RonCookies t (Ok (cut_rows rows))) same (c.ron_list_comes_back.ensures rows text all written_as) in
     let one = created ∙ ap read_cookies (c.results_are_unique.ensures whole answer read reported reads) ∙ sym are_cut in
     ap (λ (kept : RowsInOrder). kept.rows) (builds ∙ ap (built true now) (ap cookies_in one)) ∙ c.rebuilt.ensures (cut_rows rows) now (rows_cut rows are)

@@ -6,8 +6,8 @@ use Rattle.std.proofs.lemmas.Str.{IsUtf8-from_is_utf8, is_utf8-from_IsUtf8}
 use Rattle.cookie_serde.proofs.LoadedLines.{created, refused}
 use Rattle.cookie_serde.proofs.loading.parse_line.Goals as goal
 
-pub returns-in-Ok-clause-created : goal.returns-in-Ok-clause-created
-returns-in-Ok-clause-created g c =
+pub returns-in-Ok-clause-parsed : goal.returns-in-Ok-clause-parsed
+returns-in-Ok-clause-parsed g c =
     let (same, valid) = c.in-Ok.ensures.cases in
     let answers = says_at g.F.Fn c.cookie_of.ensures refl in
     created (FnReturnsAt g.F.Fn c.args.cookie_of.now) c.args.line.now c.cookie_of.result (is_utf8-from_IsUtf8 _ valid)

@@ -8,5 +8,5 @@ returns-in-Ok-clause-whole g c =
 
 pub returns-clause-stopped : goal.returns-clause-stopped
 returns-clause-stopped g c =
-    let says = says_at g.F.Fn c.text_of.ensures c.in_ok-text.was in
-    inr ((c.in_ok-text.text, says, rw (sym c.as_bytes.ensures.value) c.in-Err.ensures.part), refl, c.in-Err.ensures.count)
+    let written_as = says_at g.F.Fn c.text_of.ensures c.in_ok-text.was in
+    inr ((c.in_ok-text.text, written_as, rw (sym c.as_bytes.ensures.value) c.in-Err.ensures.part), refl, c.in-Err.ensures.count)

@@ -1,8 +1,8 @@
 use Rattle.cookie_raw.specs.Reading.{reading}
-use Rattle.cookie_core.proofs.EarlyRefusals.{want_is_not_early}
+use Rattle.cookie_core.proofs.EarlyRefusals.{memory_is_not_early}
 use Rattle.cookie_core.proofs.cookie_store.CookieStore.parse.Goals as goal
 
 pub returns-clause-memory : goal.returns-clause-memory
 returns-clause-memory c =
-    want_is_not_early (reading c.args.text.now) c.args.url.now c.insert_made.result
-    (λ r is. c.insert_made.ensures.unmade r (c.owned_cookie-created.ensures.early r is))
+    memory_is_not_early (reading c.args.text.now) c.args.url.now c.insert_created.result
+    (λ r is. c.insert_created.ensures.creation_error r (c.owned_cookie-created.ensures.early r is))

@@ -1,0 +1,20 @@
+use Rattle.std.proofs.Common.{◌∙◌, ap}
+use Rattle.cookie_words.specs.Moments.{moment_of}
+use Rattle.cookie_laws.specs.Acceptance.{accept}
+use Rattle.cookie_laws.specs.Contents.{Contents, contents_of}
+use Rattle.cookie_laws.specs.Rows.{RowsInOrder}
+use Rattle.cookie_core.proofs.Entered.{accept_keeps, unless_then}
+use Rattle.cookie_core.proofs.cookie_store.CookieStore.insert_created.Goals as goal
+
+pub returns-clause-store : goal.returns-clause-store
+returns-clause-store c =
+    let now = moment_of c.args.now in
+    let cookie = c.in_ok-cookie.cookie in
+    let suffixes = c.self.inside.suffixes in
+    let limit = c.self.inside.limit in
+    let begun = contents_of c.self.inside.rows suffixes limit in
+    rw c.in_ok-cookie.was
+    (unless_then c.accept.result
+    (λ is. ap (λ (kept : RowsInOrder). contents_of kept suffixes limit) is ∙ accept_keeps begun cookie c.args.url.now now
+    ∙ ap (λ (store : Contents). (accept store cookie c.args.url.now now).store) c.self.view_is)
+    (rw c.as_ref.ensures.value at c.accept.ensures.rows))

@@ -1,0 +1,38 @@
+-- What a list in RON reads as.
+use Rattle.std.proofs.Common.{◌≡◌, ℕ, List, [], Result, Ok, Err, inl, inr, refl, sym, ◌∙◌}
+use Rattle.std.specs.Prelude.{◌≢◌, ◌⊎◌, IfOk, IfErr}
+use Rattle.std.specs.Result.{result_map_both}
+use Rattle.std.specs.declared.alloc.Global.{Global}
+use Rattle.std.specs.declared.vec.Vec.{Vec}
+use Rattle.cookie_words.specs.Moments.{Moment}
+use Rattle.cookie_forms.specs.Saved.{Parts}
+use Rattle.cookie_forms.specs.declared.saved.Saved.{Saved}
+use Rattle.cookie_forms.specs.declared.error.SavedError.{SavedError}
+use Rattle.cookie_forms.specs.declared.error.SavedError.TheVariants as ErrorCase
+use Rattle.cookie_ron.specs.RonLists.{RonParsesTo}
+use Rattle.cookie_parts.specs.Cookie.{Row}
+use Rattle.cookie_parts.specs.Errors.{error_from_saved}
+use Rattle.cookie_parts.specs.declared.error.Error.{Error}
+use Rattle.cookie_parts.specs.declared.error.Error.TheVariants.{Cookie, Memory}
+use Rattle.cookie_serde.specs.RonLists.{RonListParsesTo}
+use Rattle.cookie_serde.specs.SavedForms.{cookies_of_saved}
+
+module _ (text : List ℕ) (result : Result (Vec Saved Global) SavedError) (empty : text ≡ [] → result ≡ Err ErrorCase.Ron) where
+  is_some : (e : SavedError) → result ≡ Err e → e ≡ ErrorCase.Memory → text ≢ []
+  is_some e reported memory none = let fault = sym reported ∙ empty none in absurd (cc)
+
+  -- a string reads as its list does
+  pub ron_parses : (saved : Vec Saved Global) → result ≡ Ok saved → (list : List (Parts Moment)) (answer : Result (Vec Row Global) Error) → RonParsesTo text (Ok list)
+      → IfOk answer (λ cookies. cookies_of_saved list ≡ Ok cookies.items)
+      → IfErr answer (λ error. (error ≡ Memory) ⊎ (result_map_both (λ cookies. cookies) Cookie (cookies_of_saved list) ≡ Err error))
+      → RonListParsesTo text (result_map_both (λ cookies. cookies.items) (λ error. error) answer)
+  ron_parses saved read list (Ok cookies) parses created refused = (Ok list, parses, rw created refl)
+  ron_parses saved read list (Err error) parses created (inl memory) = inr (memory, λ none. let clash = sym read ∙ empty none in absurd (cc))
+  ron_parses saved read list (Err error) parses created (inr refused) = inl (Ok list, parses, sym refused)
+
+  -- and the error of parsing the string is the error of reading it
+  pub ron_error : (fault : SavedError) → result ≡ Err fault → (fault ≡ ErrorCase.Memory) ⊎ RonParsesTo text (Err fault)
+      → RonListParsesTo text (Err (error_from_saved fault))
+  ron_error fault reported (inl memory) = rw memory (inr (refl, is_some fault reported memory))
+  ron_error fault reported (inr (inl (ron, none))) = rw ron (inl (Err ErrorCase.Ron, inl (refl, none), refl))
+  ron_error fault reported (inr (inr (moment, parts, are, none))) = rw moment (inl (Err ErrorCase.Moment, inr (refl, parts, are, none), refl))
