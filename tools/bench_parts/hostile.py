@@ -10,6 +10,7 @@ from bench_parts.scripts import CLEAR, NOW, removals, saved_lines, sets
 TARGET = 0.1  # seconds that a run repeats the operation
 PATIENCE = 40.0  # seconds: a larger input is skipped if it may take longer
 STEEPEST = 1.15  # the greatest exponent of a family that must be linear
+ATTEMPTS = 3  # a family that seems steeper is measured again, since the machine may have been busy
 LABELS = ['a'] * 122 + ['com']
 DEEP = '.'.join(LABELS)  # a host of 247 bytes
 
@@ -136,12 +137,21 @@ def exponent(took):
     return round(math.log(took[-1] / took[-2], 4), 2) + 0.0  # no -0
 
 
-def measure(meter, own, *peers, families):
-    """Each family with the seconds at its sizes by program name."""
+def least(*measured):
+    """The least seconds of several measurements."""
+    return {name: list(map(min, *(took[name] for took in measured))) for name in measured[0]}
+
+
+def measure(meter, own, *peers, families, steepest=math.inf):
+    """Each family with the seconds at its sizes by program name, the least of several attempts if the first is too steep."""
     grown = []
     for family in families:
         programs = [own, *peers] if family.has_peer else [own]
         if len(programs) > 1:
             meter.compare(programs, family.task(family.least).script(1))
-        grown.append((family, grow(meter, programs, family)))
+        took = grow(meter, programs, family)
+        for _ in range(1, ATTEMPTS):
+            if (exponent(took[own.name]) or 0) > steepest:
+                took = least(took, grow(meter, programs, family))
+        grown.append((family, took))
     return grown
