@@ -357,7 +357,7 @@ class HeaderTests(unittest.TestCase):
         self.assertEqual({'OK' if name == 'DONE' else name: number for name, number in shout.items()}, {status.name: status.value for status in Status})
 
     def test_proved_structs(self):
-        body = re.search(r'pub struct CookieRow \{(.*?)\}', (PROVED / 'rows.rt').read_text(), re.S).group(1)
+        body = re.search(r'pub struct CookieRow \{(.*?)\}', (PROVED / 'cookie_row.rt').read_text(), re.S).group(1)
         fields = [(name, self.in_c([kind])[0]) for name, kind in re.findall(r'pub (\w+): (\w+),', body)]
         self.assertEqual(fields, cookie_store._Row._fields_)
         self.assertRegex((PROVED / 'handle.rt').read_text(), r'#\[repr\(C\)\]\npub struct StoreHandle \{\n    live: bool,\n    pub store_ptr: StorePtr,')

@@ -35,6 +35,20 @@ def spans(text):
     return SPAN.findall(text)
 
 
+def folders(text, listed, crate):
+    """Differences between the folders that the quick start copies and the crates that `crate` needs, by crates.txt."""
+    uses = {line.split(':')[0].split()[0]: line.split(':')[1].split() for line in listed.split('\n') if ':' in line and line[0] != '#'}
+    needed, left = set(), [crate]
+    while left:
+        name = left.pop()
+        if name in uses and name not in needed:
+            needed.add(name)
+            left += uses[name]
+    step = text[text.index('1. Copy the folders'):text.index('\n2. ')]
+    for name in sorted(needed ^ {span for span in spans(step) if span in uses}):
+        yield f'{FILE}: {name}: step 1 of the quick start differs from crates.txt'
+
+
 def without_generics(name):
     return re.sub(r'<.*>$', '', name)
 

@@ -7,7 +7,7 @@ use Rattle.cookie_parts.specs.declared.cookie_error.CookieError.{CookieError}
 use Rattle.cookie_parts.specs.declared.cookie_error.CookieError.TheVariants.{Memory}
 use Rattle.cookie_parts.specs.declared.store_action.StoreAction.{StoreAction}
 use Rattle.cookie_parts.specs.declared.store_action.StoreAction.TheVariants.{Inserted, ExpiredExisting, UpdatedExisting}
-use Rattle.cookie_laws.specs.Acceptance.{accept, admitted, entered, reply_at, store_by}
+use Rattle.cookie_laws.specs.Acceptance.{accept, admitted, outcome_after_checks, reply_at, store_by}
 use Rattle.cookie_laws.specs.Contents.{Contents, contents_of, rows_in_order}
 use Rattle.cookie_laws.specs.Rows.{key_of, row_of}
 use Rattle.cookie_laws.specs.Runs.{UnlessMemory}
@@ -18,13 +18,13 @@ store_by_keeps : (reply : Result StoreAction CookieError) (store : Contents) (co
 store_by_keeps (Ok Inserted) store cookie now = refl
 store_by_keeps (Ok UpdatedExisting) store cookie now = refl
 store_by_keeps (Ok ExpiredExisting) store cookie now = refl
-store_by_keeps (Err refusal) store cookie now = refl
+store_by_keeps (Err rejection) store cookie now = refl
 
 -- so what follows the checks of the cookie does not, whether they passed or not
-entered_keeps : (created : Result Row CookieError) (url : Parts) (now : Moment) (store : Contents)
-    → contents_of (rows_in_order (entered created url now store).store) store.suffixes store.limit ≡ (entered created url now store).store
+entered_keeps : (cookie_result : Result Row CookieError) (url : Parts) (now : Moment) (store : Contents)
+    → contents_of (rows_in_order (outcome_after_checks cookie_result url now store).store) store.suffixes store.limit ≡ (outcome_after_checks cookie_result url now store).store
 entered_keeps (Ok cookie) url now store = store_by_keeps (reply_at (row_of (key_of cookie) store.rows) cookie url now) store cookie now
-entered_keeps (Err refusal) url now store = refl
+entered_keeps (Err rejection) url now store = refl
 
 -- so no insertion does
 pub accept_keeps : (store : Contents) (cookie : Row) (url : Parts) (now : Moment)
@@ -36,4 +36,4 @@ accept_keeps store cookie url now = entered_keeps (admitted store.suffixes url c
 pub unless_then : {P Q : Type 0} (result : Result StoreAction CookieError) → (P → Q) → UnlessMemory result P → UnlessMemory result Q
 unless_then (Ok action) follows p = follows p
 unless_then (Err Memory) follows p = tt
-unless_then (Err refusal) follows p = follows p
+unless_then (Err rejection) follows p = follows p

@@ -1,5 +1,5 @@
 pub mod CookieStrings
-pub mod EarlyRefusals
+pub mod EarlyErrors
 pub mod Entered
 pub mod LongerRuns
 pub mod StyledTexts

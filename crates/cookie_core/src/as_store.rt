@@ -33,7 +33,7 @@ pub trait AsStore: Drop {
         ensures store { UnlessMemory result (contents self.new
             ≡ (received (contents self.old) (cookie_of raw.now url.now (moment_of now)) url.now (moment_of now)).store) }
         ensures unchanged { OnErr result (contents self.new ≡ contents self.old) }
-        ensures early { (refusal : CookieError) → early_error raw.now url.now ≡ Some refusal → result ≡ Err refusal };
+        ensures early { (error : CookieError) → early_error raw.now url.now ≡ Some error → result ≡ Err error };
 }
 
 impl AsStore for CookieStore {

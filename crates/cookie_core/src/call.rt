@@ -1,10 +1,10 @@
 //! Calls of a store and their replies, as values.
-ghost use Rattle.std.specs.Prelude.{◌≡◌, ◌≢◌, Err, IfOk, OnErr};
+ghost use Rattle.std.specs.Prelude.{◌≡◌, ◌≢◌, map, Err, IfErr, IfOk, OnErr, OnOk};
 ghost use Rattle.cookie_parts.specs.declared.cookie_error.CookieError.TheVariants.{Memory};
-ghost use Rattle.cookie_core.specs.CallViews.{reply_view};
-ghost use Rattle.cookie_laws.specs.Runs as Runs;
+ghost use Rattle.cookie_core.specs.CallViews.{call_view, reply_view, MayAllocate, StopsAfter, StopsAt};
+ghost use Rattle.cookie_laws.specs.Runs.{replies, step, store_after, Stored};
 
-use crate::InsertResult;
+use crate::{CookieStore, InsertResult};
 use cookie_parts::{Cookie, CookieError};
 use itoa::Buffer;
 use jiff::civil::DateTime;
@@ -85,9 +85,81 @@ impl fmt::Display for Stopped {
 
 impl std::error::Error for Stopped {}
 
-/// The reply for the result of an insertion, or `AllocError` if it is `Memory`.
-pub(crate) fn reply_or_memory(reported: InsertResult) -> Result<Reply, AllocError>
-    ensures reply { IfOk result (λ reply. (reply_view reply ≡ Runs.Stored reported) × (reported ≢ Err Memory)) }
+impl CookieStore {
+    /// Executes a call and returns its reply.
+    ///
+    /// `Set` is [`parse`](Self::parse), `Insert` is [`insert`](Self::insert), `Remove` is
+    /// [`remove`](Self::remove), and `Clear` is [`clear`](Self::clear). A cookie that is rejected
+    /// is a reply, not an error.
+    ///
+    /// # Errors
+    ///
+    /// `AllocError`: out of memory, and the store is unchanged. `Remove` and `Clear` allocate
+    /// nothing, `Set` fails only if `parse` can return `Memory`, and `Insert` only if the cookie
+    /// would be inserted.
+    pub fn apply(&mut self, call: Call) -> Result<Reply, AllocError>
+        ensures reply { IfOk result (λ reply.
+            reply_view reply ≡ (step (call_view call) self.old).reply) }
+        ensures never_memory { IfOk result (λ reply. reply_view reply ≢ Stored (Err Memory)) }
+        ensures store { OnOk result (self.new ≡ (step (call_view call) self.old).store) }
+        ensures unchanged { OnErr result (self.new ≡ self.old) }
+        ensures memory { OnErr result
+            (MayAllocate (call_view call) (step (call_view call) self.old).reply) }
+    {
+        match call {
+            Call::Set { text, url, now } => reply_or_memory(self.parse(text.as_str(), &url, now)),
+            Call::Insert { cookie, url, now } => reply_or_memory(self.insert(cookie, &url, now)),
+            Call::Remove { domain, path, name } => Ok(Reply::Removed(self.remove(
+                domain.as_str(),
+                path.as_str(),
+                name.as_str(),
+            ))),
+            Call::Clear => {
+                self.clear();
+                Ok(Reply::Cleared)
+            }
+        }
+    }
+
+    /// Executes the calls in order and returns their replies.
+    ///
+    /// # Errors
+    ///
+    /// [`Stopped`]: out of memory. The calls before the one that failed remain in effect; `Stopped`
+    /// has their number and replies.
+    pub fn apply_all(&mut self, calls: Vec<Call>) -> Result<Vec<Reply>, Stopped>
+        ensures replies { IfOk result (λ reported.
+            map reply_view reported.items ≡ replies (map call_view calls.items) self.old) }
+        ensures store { OnOk result (self.new ≡ store_after (map call_view calls.items) self.old) }
+        ensures stopped { IfErr result (λ stopped. StopsAfter stopped (map call_view calls.items) self.old self.new) }
+        ensures stopping_point { IfErr result (λ stopped. StopsAt stopped.count (map call_view calls.items) self.new) }
+    {
+        // Room for all replies first, so that no reply is lost once its call was executed.
+        let Ok(mut reported) = Vec::with_capacity(self.allocator(), calls.len()) else {
+            return Err(Stopped {
+                replies: Vec::new(self.allocator()),
+                count: 0,
+            });
+        };
+        for call in calls {
+            match self.apply(call) {
+                Ok(reply) => reported.push(reply).unwrap(),
+                Err(AllocError) => {
+                    let count = reported.len();
+                    return Err(Stopped {
+                        replies: reported,
+                        count,
+                    });
+                }
+            }
+        }
+        Ok(reported)
+    }
+}
+
+// Returns the reply for the result of an insertion, or `AllocError` if it is `Memory`.
+fn reply_or_memory(reported: InsertResult) -> Result<Reply, AllocError>
+    ensures reply { IfOk result (λ reply. (reply_view reply ≡ Stored reported) × (reported ≢ Err Memory)) }
     ensures memory { OnErr result (reported ≡ Err Memory) }
 {
     match reported {

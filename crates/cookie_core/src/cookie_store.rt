@@ -1,5 +1,5 @@
 //! The cookie store.
-ghost use Rattle.std.specs.Prelude.{◌≡◌, ◌≢◌, ◌≤◌, ◌+◌, ◌*◌, [], is_some, length, map, string_bytes, Err, None, Ok, Some, IfErr, IfOk, IsTrue, OnErr, OnOk, ◌⊎◌};
+ghost use Rattle.std.specs.Prelude.{◌≡◌, ◌≢◌, ◌≤◌, ◌+◌, ◌*◌, [], is_some, length, map, Err, None, Ok, Some, IfErr, IfOk, IsTrue, OnErr, ◌⊎◌};
 ghost use Rattle.std.specs.Iterator.{IsFinite};
 ghost use Rattle.std.specs.Option.{option_copied};
 ghost use Rattle.cookie_words.specs.Moments.{moment_of};
@@ -7,20 +7,17 @@ ghost use Rattle.cookie_raw.specs.Reading.{reading};
 ghost use Rattle.cookie_parts.specs.Cookie.{cookie_of, early, early_error};
 ghost use Rattle.cookie_parts.specs.declared.cookie_error.CookieError.TheVariants.{Memory};
 ghost use Rattle.cookie_parts.specs.declared.store_action.StoreAction.TheVariants.{Inserted};
-ghost use Rattle.cookie_laws.specs.Acceptance.{received, MayRefuse};
+ghost use Rattle.cookie_laws.specs.Acceptance.{received, IsInsertionError};
 ghost use Rattle.cookie_laws.specs.Contents.{contents_of, rows_in_order, unexpired, HasCreationOrder};
 ghost use Rattle.cookie_lookup.specs.SearchView.{domains_found, paths_found};
-ghost use Rattle.cookie_lookup.specs.Texts.{most_domains, most_paths};
+ghost use Rattle.cookie_lookup.specs.Candidates.{most_domains, most_paths};
 ghost use Rattle.cookie_rows.specs.Building.{Builds, FailsFirst, ReachesNewRow};
 ghost use Rattle.cookie_rows.specs.Requests.{name_and_value};
-ghost use Rattle.cookie_core.specs.CallViews.{call_view, reply_view, MayAllocate, StopsAfter, StopsAt};
 ghost use Rattle.cookie_laws.specs.Given.{given};
-ghost use Rattle.cookie_laws.specs.Header.{InHeaderOrder, IsCookieHeader};
-ghost use Rattle.cookie_laws.specs.Rows.{are_rows, if_live, key_at, live_rows, row_of};
-ghost use Rattle.cookie_laws.specs.Runs.{replies, step, store_after, Clear, Insert, IsReply, Remove, Removed, Set, Stored, UnlessMemory};
+ghost use Rattle.cookie_laws.specs.Header.{InHeaderOrder};
+ghost use Rattle.cookie_laws.specs.Rows.{are_rows, if_unexpired, key_at, unexpired_rows, row_of};
+ghost use Rattle.cookie_laws.specs.Runs.{step, Clear, Insert, IsReply, Remove, Removed, Set, Stored, UnlessMemory};
 
-use crate::call::{Call, Reply, Stopped, reply_or_memory};
-use crate::header::cookie_string;
 use crate::insertion::{accept, owned_cookie, owned_raw_cookie};
 use cookie_lookup::Lookups;
 use cookie_parts::{Cookie, CookieError, CookieResult, Error, StoreAction};
@@ -46,8 +43,8 @@ pub type InsertResult = Result<StoreAction, CookieError>;
 #[derive(Drop)]
 pub struct CookieStore {
     alloc: Global,
-    rows: Rows,
-    suffixes: Option<List>,
+    pub(crate) rows: Rows,
+    pub(crate) suffixes: Option<List>,
     limit: Option<usize>,
 }
 
@@ -189,7 +186,7 @@ impl CookieStore {
         ensures store { UnlessMemory result
             (self.new ≡ (step (Set text.now url.now (moment_of now)) self.old).store) }
         ensures unchanged { OnErr result (self.new ≡ self.old) }
-        ensures early { (refusal : CookieError) → early (reading text.now) url.now ≡ Some refusal → result ≡ Err refusal }
+        ensures early { (error : CookieError) → early (reading text.now) url.now ≡ Some error → result ≡ Err error }
         ensures memory { result ≡ Err Memory → early (reading text.now) url.now ≡ None }
     {
         let created = owned_cookie(self.alloc, text, url, now);
@@ -221,7 +218,7 @@ impl CookieStore {
         ensures store { UnlessMemory result
             (self.new ≡ (step (Insert cookie.entry url.now (moment_of now)) self.old).store) }
         ensures unchanged { OnErr result (self.new ≡ self.old) }
-        ensures errors { IfErr result MayRefuse }
+        ensures errors { IfErr result IsInsertionError }
         ensures memory { result ≡ Err Memory
             → (step (Insert cookie.entry url.now (moment_of now)) self.old).reply ≡ Stored (Ok Inserted) }
     {
@@ -257,7 +254,7 @@ impl CookieStore {
         ensures store { UnlessMemory result
             (self.new ≡ (received self.old (cookie_of raw.now url.now (moment_of now)) url.now (moment_of now)).store) }
         ensures unchanged { OnErr result (self.new ≡ self.old) }
-        ensures early { (refusal : CookieError) → early_error raw.now url.now ≡ Some refusal → result ≡ Err refusal }
+        ensures early { (error : CookieError) → early_error raw.now url.now ≡ Some error → result ≡ Err error }
         ensures memory { result ≡ Err Memory → early_error raw.now url.now ≡ None }
     {
         let created = owned_raw_cookie(self.alloc, raw, url, now);
@@ -281,7 +278,7 @@ impl CookieStore {
         now: DateTime,
     ) -> Option<&Cookie<'static>>
         ensures { option_copied result
-            ≡ if_live (moment_of now) (row_of (key_at domain.now path.now name.now) self.now.rows) }
+            ≡ if_unexpired (moment_of now) (row_of (key_at domain.now path.now name.now) self.now.rows) }
     {
         let cookie = self.get_any(domain, path, name)?;
         if cookie.is_expired(now) {
@@ -301,7 +298,7 @@ impl CookieStore {
     /// Returns whether a cookie with this domain, path and name is stored and unexpired at `now`.
     pub fn contains(&self, domain: &str, path: &str, name: &str, now: DateTime) -> bool
         ensures { result
-            ≡ is_some (if_live (moment_of now) (row_of (key_at domain.now path.now name.now) self.now.rows)) }
+            ≡ is_some (if_unexpired (moment_of now) (row_of (key_at domain.now path.now name.now) self.now.rows)) }
     {
         self.get(domain, path, name, now).is_some()
     }
@@ -315,7 +312,7 @@ impl CookieStore {
 
     /// Returns an iterator over the cookies that have not expired at `now`, in the store's order.
     pub fn iter_unexpired(&self, now: DateTime) -> IterUnexpired<'_>
-        ensures { result ≡ live_rows (moment_of now) self.now.rows }
+        ensures { result ≡ unexpired_rows (moment_of now) self.now.rows }
     {
         self.rows.iter_unexpired(now)
     }
@@ -423,18 +420,6 @@ impl CookieStore {
         self.rows.in_header_order(self.alloc, url, now)
     }
 
-    /// Returns the value of the Cookie header for a request to `url`, RFC 6265 4.2.1 and 5.4.
-    ///
-    /// It lists the cookies of [`cookies_in_order`](Self::cookies_in_order), such as
-    /// `id=1; lang=de`. If none matches, the string is empty: send no header then. Allocates only
-    /// if a cookie matches.
-    pub fn cookie_header(&self, url: &Url, now: DateTime) -> Result<String, AllocError>
-        ensures header { IfOk result (λ text. IsCookieHeader url.now (moment_of now) self.now (string_bytes text)) }
-        ensures memory { OnErr result (given url.now (moment_of now) self.now.rows ≢ []) }
-    {
-        cookie_string(self.alloc, &self.cookies_in_order(url, now)?)
-    }
-
     /// Returns the names and values of the cookies of [`matches`](Self::matches), in the same
     /// order.
     ///
@@ -465,77 +450,7 @@ impl CookieStore {
         self.rows.request_cookies(self.alloc, url, now)
     }
 
-    /// Executes a call and returns its reply.
-    ///
-    /// `Set` is [`parse`](Self::parse), `Insert` is [`insert`](Self::insert), `Remove` is
-    /// [`remove`](Self::remove), and `Clear` is [`clear`](Self::clear). A cookie that is rejected
-    /// is a reply, not an error.
-    ///
-    /// # Errors
-    ///
-    /// `AllocError`: out of memory, and the store is unchanged. `Remove` and `Clear` allocate
-    /// nothing, `Set` fails only where `parse` can return `Memory`, and `Insert` only if the cookie
-    /// would be inserted.
-    pub fn apply(&mut self, call: Call) -> Result<Reply, AllocError>
-        ensures reply { IfOk result (λ reply.
-            reply_view reply ≡ (step (call_view call) self.old).reply) }
-        ensures never_memory { IfOk result (λ reply. reply_view reply ≢ Stored (Err Memory)) }
-        ensures store { OnOk result (self.new ≡ (step (call_view call) self.old).store) }
-        ensures unchanged { OnErr result (self.new ≡ self.old) }
-        ensures memory { OnErr result
-            (MayAllocate (call_view call) (step (call_view call) self.old).reply) }
-    {
-        match call {
-            Call::Set { text, url, now } => reply_or_memory(self.parse(text.as_str(), &url, now)),
-            Call::Insert { cookie, url, now } => reply_or_memory(self.insert(cookie, &url, now)),
-            Call::Remove { domain, path, name } => Ok(Reply::Removed(self.remove(
-                domain.as_str(),
-                path.as_str(),
-                name.as_str(),
-            ))),
-            Call::Clear => {
-                self.clear();
-                Ok(Reply::Cleared)
-            }
-        }
-    }
-
-    /// Executes the calls in order and returns their replies.
-    ///
-    /// # Errors
-    ///
-    /// [`Stopped`]: out of memory. The calls before the one that failed remain in effect; `Stopped`
-    /// has their number and replies.
-    pub fn apply_all(&mut self, calls: Vec<Call>) -> Result<Vec<Reply>, Stopped>
-        ensures replies { IfOk result (λ reported.
-            map reply_view reported.items ≡ replies (map call_view calls.items) self.old) }
-        ensures store { OnOk result (self.new ≡ store_after (map call_view calls.items) self.old) }
-        ensures stopped { IfErr result (λ stopped. StopsAfter stopped (map call_view calls.items) self.old self.new) }
-        ensures stopping_point { IfErr result (λ stopped. StopsAt stopped.count (map call_view calls.items) self.new) }
-    {
-        // Room for all replies first, so that no reply is lost once its call was executed.
-        let Ok(mut reported) = Vec::with_capacity(self.alloc, calls.len()) else {
-            return Err(Stopped {
-                replies: Vec::new(self.alloc),
-                count: 0,
-            });
-        };
-        for call in calls {
-            match self.apply(call) {
-                Ok(reply) => reported.push(reply).unwrap(),
-                Err(AllocError) => {
-                    let count = reported.len();
-                    return Err(Stopped {
-                        replies: reported,
-                        count,
-                    });
-                }
-            }
-        }
-        Ok(reported)
-    }
-
-    // Inserts the cookie, or returns the error from making it.
+    // Inserts the cookie, or returns the error of creating it.
     fn insert_created(
         &mut self,
         created: CookieResult<'static>,
@@ -546,7 +461,7 @@ impl CookieStore {
             (Stored (received self.old created.entry url.now (moment_of now)).reply) }
         ensures store { UnlessMemory result (self.new ≡ (received self.old created.entry url.now (moment_of now)).store) }
         ensures unchanged { OnErr result (self.new ≡ self.old) }
-        ensures creation_error { (refusal : CookieError) → created.entry ≡ Err refusal → result ≡ Err refusal }
+        ensures creation_error { (error : CookieError) → created.entry ≡ Err error → result ≡ Err error }
         ensures memory { result ≡ Err Memory → (created.entry ≡ Err Memory)
             ⊎ ((received self.old created.entry url.now (moment_of now)).reply ≡ Ok Inserted) }
     {

@@ -1,17 +1,33 @@
 //! The Cookie header of a request, RFC 6265 4.2.1.
 ghost use Rattle.std.specs.Option.{MatchOption};
 ghost use Rattle.std.specs.Prelude.{◌≡◌, ◌≢◌, ◌+◌, ◌^◌, ◌≤◌, [], ◌++◌, flat_map, length, map, string_bytes, IfOk, OnErr, OnOk};
-ghost use Rattle.cookie_laws.specs.Header.{cookie_string, later_pair, pair_text};
+ghost use Rattle.cookie_words.specs.Moments.{moment_of};
+ghost use Rattle.cookie_laws.specs.Given.{given};
+ghost use Rattle.cookie_laws.specs.Header.{IsCookieHeader, cookie_string, later_pair, pair_text};
 
+use crate::CookieStore;
 use cookie_parts::Cookie;
+use jiff::civil::DateTime;
 use std::alloc::{AllocError, Global};
+use url::Url;
 
-/// Returns the cookie-string of the cookies: `name=value` of each, with `; ` between them. Allocates
-/// nothing if there are none.
-pub(crate) fn cookie_string(
-    alloc: Global,
-    cookies: &[&Cookie<'static>],
-) -> Result<String, AllocError>
+impl CookieStore {
+    /// Returns the value of the Cookie header for a request to `url`, RFC 6265 4.2.1 and 5.4.
+    ///
+    /// It lists the cookies of [`cookies_in_order`](Self::cookies_in_order), such as
+    /// `id=1; lang=de`. If none matches, the string is empty: send no header then. Allocates only
+    /// if a cookie matches.
+    pub fn cookie_header(&self, url: &Url, now: DateTime) -> Result<String, AllocError>
+        ensures header { IfOk result (λ text. IsCookieHeader url.now (moment_of now) self.now (string_bytes text)) }
+        ensures memory { OnErr result (given url.now (moment_of now) self.now.rows ≢ []) }
+    {
+        cookie_string(self.allocator(), &self.cookies_in_order(url, now)?)
+    }
+}
+
+// Returns the cookie-string of the cookies: `name=value` of each, with `; ` between them. Allocates
+// nothing if there are none.
+fn cookie_string(alloc: Global, cookies: &[&Cookie<'static>]) -> Result<String, AllocError>
     ensures text { IfOk result (λ text. string_bytes text ≡ cookie_string (map (λ c. c.now) cookies.now)) }
     ensures memory { OnErr result (cookies.now ≢ []) }
 {

@@ -1,19 +1,19 @@
 //! Insertion of a cookie, RFC 6265 5.3.
-ghost use Rattle.std.specs.Prelude.{◌≡◌, ◌≢◌, Err, Ok, Some, IfErr, IfSome, OnErr, OnOk};
+ghost use Rattle.std.specs.Prelude.{◌≡◌, ◌≢◌, ℕ, true, if◌then◌else◌, Option, Err, Ok, Some, IfErr, IfOk, IfSome, OnErr, OnOk};
 ghost use Rattle.std.specs.Option.{option_copied};
 ghost use Rattle.cookie_words.specs.Moments.{moment_of};
 ghost use Rattle.cookie_raw.specs.Reading.{reading};
 ghost use Rattle.cookie_parts.specs.Cookie.{cookie_from_header, cookie_of, early, early_error};
-ghost use Rattle.cookie_parts.specs.Domain.{text_if_any, HostOnly};
+ghost use Rattle.cookie_parts.specs.Domain.{domain_text, host_is_identical, text_if_any, HostOnly};
 ghost use Rattle.cookie_parts.specs.Outcomes.{ReturnsOrMemory};
 ghost use Rattle.cookie_parts.specs.Views.{domain_value};
 ghost use Rattle.cookie_parts.specs.declared.cookie_error.CookieError.TheVariants.{Memory};
 ghost use Rattle.cookie_parts.specs.declared.store_action.StoreAction.TheVariants.{Inserted};
-ghost use Rattle.cookie_laws.specs.Acceptance.{accept, admitted, by_list, reply_at, MayRefuse};
+ghost use Rattle.cookie_laws.specs.Acceptance.{accept, admitted, by_list, reply_at, IsInsertionError};
 ghost use Rattle.cookie_laws.specs.Contents.{contents_of, rows_in_order};
-ghost use Rattle.cookie_laws.specs.Runs.{IsReply, Stored, UnlessMemory};
+ghost use Rattle.cookie_laws.specs.Runs.{step, Insert, IsReply, Stored, UnlessMemory};
 
-use crate::InsertResult;
+use crate::{CookieStore, InsertResult};
 use cookie_parts::{Cookie, CookieDomain, CookieError, CookieResult, StoreAction};
 use cookie_psl::List;
 use cookie_raw::RawCookie;
@@ -22,6 +22,17 @@ use jiff::civil::DateTime;
 use std::alloc::{AllocError, Global};
 use std::mem;
 use url::Url;
+
+impl CookieStore {
+    /// Returns what [`insert`](Self::insert) would return for the cookie, but never `Memory`. The
+    /// store is unchanged. Allocates nothing.
+    pub fn check_insert(&self, cookie: &Cookie<'static>, url: &Url, now: DateTime) -> InsertResult
+        ensures reply { Stored result ≡ (step (Insert cookie.now url.now (moment_of now)) self.now).reply }
+        ensures errors { IfErr result (λ error. IsInsertionError error × (error ≢ Memory)) }
+    {
+        check(self.suffixes.as_ref(), &self.rows, cookie, url, now)
+    }
+}
 
 fn owned(alloc: Global, cookie: Cookie<'_>) -> CookieResult<'static>
     ensures { ReturnsOrMemory (λ cookie. cookie) result (Ok cookie.entry) }
@@ -40,7 +51,7 @@ pub(crate) fn owned_cookie(
     now: DateTime,
 ) -> CookieResult<'static>
     ensures value { ReturnsOrMemory (λ cookie. cookie) result (cookie_from_header text.now url.now (moment_of now)) }
-    ensures early { (refusal : CookieError) → early (reading text.now) url.now ≡ Some refusal → result ≡ Err refusal }
+    ensures early { (error : CookieError) → early (reading text.now) url.now ≡ Some error → result ≡ Err error }
 {
     // A `?` would move the cookie once more.
     match Cookie::parse(alloc, text, url, now) {
@@ -57,7 +68,7 @@ pub(crate) fn owned_raw_cookie(
     now: DateTime,
 ) -> CookieResult<'static>
     ensures value { ReturnsOrMemory (λ cookie. cookie) result (cookie_of raw.now url.now (moment_of now)) }
-    ensures early { (refusal : CookieError) → early_error raw.now url.now ≡ Some refusal → result ≡ Err refusal }
+    ensures early { (error : CookieError) → early_error raw.now url.now ≡ Some error → result ≡ Err error }
 {
     owned(alloc, Cookie::try_from_raw_cookie(alloc, raw, url, now)?)
 }
@@ -72,29 +83,29 @@ fn into_host_only(domain: CookieDomain) -> CookieDomain
     }
 }
 
-// RFC 6265 5.3 step 5: a cookie whose domain is a public suffix becomes host-only if the domain is
-// the URL's host, and is rejected otherwise.
-fn by_list(
+// RFC 6265 5.3 step 5: whether the list makes the cookie host-only, which it does if the cookie's
+// domain is a public suffix and the URL's host.
+fn is_made_host_only(
     suffixes: Option<&List>,
-    cookie: &mut Cookie<'static>,
+    cookie: &Cookie<'static>,
     url: &Url,
-) -> Result<(), CookieError>
-    ensures accepted { OnOk result (by_list (option_copied suffixes.entry) url.now cookie.old ≡ Ok cookie.new) }
-    ensures rejected { IfErr result (λ error. by_list (option_copied suffixes.entry) url.now cookie.old ≡ Err error) }
+) -> Result<bool, CookieError>
+    ensures accepted { IfOk result (λ is_host_only. by_list (option_copied suffixes.entry) url.now cookie.now
+        ≡ Ok (if is_host_only then record cookie.now { domain = HostOnly (domain_text cookie.now.domain) } else cookie.now)) }
+    ensures identical { IfOk result (λ is_host_only. is_host_only ≡ true → host_is_identical cookie.now.domain url.now ≡ true) }
+    ensures rejected { IfErr result (λ error. by_list (option_copied suffixes.entry) url.now cookie.now ≡ Err error) }
     ensures errors { IfErr result (λ error. error ≡ CookieError.PublicSuffix) }
 {
     let Some(list) = suffixes else {
-        return Ok(());
+        return Ok(false);
     };
     if !cookie.domain.is_public_suffix(list) {
-        return Ok(());
+        return Ok(false);
     }
     if !cookie.domain.host_is_identical(url) {
         return Err(CookieError::PublicSuffix);
     }
-    let domain = mem::replace(&mut cookie.domain, CookieDomain::Empty);
-    cookie.domain = into_host_only(domain);
-    Ok(())
+    Ok(true)
 }
 
 // The checks that depend on no stored cookie: RFC 6265 5.3 steps 10, 5 and 6, in that order.
@@ -105,12 +116,15 @@ fn admit(
 ) -> Result<(), CookieError>
     ensures admitted { OnOk result (admitted (option_copied suffixes.entry) url.now cookie.old ≡ Ok cookie.new) }
     ensures rejected { IfErr result (λ error. admitted (option_copied suffixes.entry) url.now cookie.old ≡ Err error) }
-    ensures errors { IfErr result (λ error. MayRefuse error × (error ≢ Memory)) }
+    ensures errors { IfErr result (λ error. IsInsertionError error × (error ≢ Memory)) }
 {
     if cookie.is_out_of_reach(url) {
         return Err(CookieError::NonHttpScheme);
     }
-    by_list(suffixes, cookie, url)?;
+    if is_made_host_only(suffixes, cookie, url)? {
+        let domain = mem::replace(&mut cookie.domain, CookieDomain::Empty);
+        cookie.domain = into_host_only(domain);
+    }
     if !cookie.domain.matches(url) {
         return Err(CookieError::DomainMismatch);
     }
@@ -125,7 +139,7 @@ fn reply_at(
     now: DateTime,
 ) -> InsertResult
     ensures value { result ≡ reply_at (option_copied row.entry) cookie.now url.now (moment_of now) }
-    ensures errors { IfErr result (λ refusal. MayRefuse refusal × (refusal ≢ Memory)) }
+    ensures errors { IfErr result (λ error. IsInsertionError error × (error ≢ Memory)) }
 {
     if let Some(row) = row
         && !row.is_expired(now)
@@ -146,6 +160,29 @@ fn reply_at(
     }
 }
 
+// The result of `accept`, which is never `Memory`.
+#[tactic(auto, unfolding(cookie_laws::specs::Acceptance::accept))]
+fn check(
+    suffixes: Option<&List>,
+    rows: &Rows,
+    cookie: &Cookie<'static>,
+    url: &Url,
+    now: DateTime,
+) -> InsertResult
+    ensures reply { (limit : Option ℕ) → result
+        ≡ (accept (contents_of rows.now (option_copied suffixes.entry) limit) cookie.now url.now (moment_of now)).reply }
+    ensures errors { IfErr result (λ error. IsInsertionError error × (error ≢ Memory)) }
+{
+    if cookie.is_out_of_reach(url) {
+        return Err(CookieError::NonHttpScheme);
+    }
+    // A cookie that the list makes host-only is for the URL's host.
+    if !is_made_host_only(suffixes, cookie, url)? && !cookie.domain.matches(url) {
+        return Err(CookieError::DomainMismatch);
+    }
+    reply_at(rows.row_of(cookie), cookie, url, now)
+}
+
 /// Inserts a cookie received from `url`, under the list and the limit. On any error, out of memory
 /// included, the rows are unchanged.
 #[tactic(auto, unfolding(cookie_laws::specs::Acceptance::accept))]
@@ -162,7 +199,7 @@ pub(crate) fn accept(
     ensures rows { UnlessMemory result (rows.new
         ≡ rows_in_order (accept (contents_of rows.old (option_copied suffixes.entry) limit) cookie.entry url.now (moment_of now)).store) }
     ensures unchanged { OnErr result (rows.new ≡ rows.old) }
-    ensures errors { IfErr result MayRefuse }
+    ensures errors { IfErr result IsInsertionError }
     ensures memory { result ≡ Err Memory
         → (accept (contents_of rows.old (option_copied suffixes.entry) limit) cookie.entry url.now (moment_of now)).reply ≡ Ok Inserted }
 {

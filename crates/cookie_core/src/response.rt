@@ -53,21 +53,21 @@ pub fn insert_each<'c, S: AsStore, L: Log, I: Iterator<Item = RawCookie<'c>>>(
 {
     while let Some(raw) = cookies.next() {
         log_received(logger, &raw);
-        let refusal = refusal_of(store.take_raw(&raw, url, now))?;
-        log_refusal(logger, refusal);
+        let rejection = rejection_of(store.take_raw(&raw, url, now))?;
+        log_rejection(logger, rejection);
     }
     Ok(())
 }
 
 // The error of a rejected cookie, if it was rejected; `AllocError` if out of memory.
-fn refusal_of(reported: InsertResult) -> Result<Option<CookieError>, AllocError>
-    ensures refusal { IfOk result (λ refusal. (refusal ≡ result_err reported) × (reported ≢ Err Memory)) }
+fn rejection_of(reported: InsertResult) -> Result<Option<CookieError>, AllocError>
+    ensures rejection { IfOk result (λ rejection. (rejection ≡ result_err reported) × (reported ≢ Err Memory)) }
     ensures memory { OnErr result (reported ≡ Err Memory) }
 {
     match reported {
         Ok(_) => Ok(None),
         Err(CookieError::Memory) => Err(AllocError),
-        Err(refusal) => Ok(Some(refusal)),
+        Err(rejection) => Ok(Some(rejection)),
     }
 }
 
@@ -77,8 +77,8 @@ fn log_received<L: Log>(logger: &L, raw: &RawCookie<'_>) {
 }
 
 // Logs why a cookie was rejected, if it was.
-fn log_refusal<L: Log>(logger: &L, refusal: Option<CookieError>) {
-    if let Some(refusal) = refusal {
-        debug!(logger; "unable to store Set-Cookie: {refusal}");
+fn log_rejection<L: Log>(logger: &L, rejection: Option<CookieError>) {
+    if let Some(rejection) = rejection {
+        debug!(logger; "unable to store Set-Cookie: {rejection}");
     }
 }

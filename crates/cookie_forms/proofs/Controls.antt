@@ -7,7 +7,7 @@ use Rattle.serde_json.specs.Data.{Data, boolean, string}
 use Rattle.serde_json.specs.Written.{compact_text}
 use Rattle.cookie_words.specs.Moments.{Moment}
 use Rattle.cookie_forms.specs.Saved.{Domain, host_only, suffix, not_present, empty, Parts}
-use Rattle.cookie_forms.specs.Texts.{has_no_control}
+use Rattle.cookie_forms.specs.JsonText.{has_no_control}
 use Rattle.cookie_forms.specs.ToJson.{cookie_tree, domain_tree, expiry_tree, path_tree, tagged_tree, with_expiry_text, is_early, written}
 use Rattle.cookie_forms.specs.declared.error.SavedError.TheVariants as ErrorCase
 use Rattle.cookie_forms.proofs.TreesPlain.{same_tree}
@@ -54,7 +54,7 @@ named name d rest of_data of_rest = both (quoted name) (58 ∷ (compact_text d +
 of_cookie : (p : Parts (List ℕ)) → has_no_control (compact_text (cookie_tree p)) ≡ true
 of_cookie p =
     named (codes "domain") (domain_tree p.domain) _ (of_domain p.domain)
-    (named (codes "expires") (expiry_tree p.ends) _ (of_ends p.ends)
+    (named (codes "expires") (expiry_tree p.expires) _ (of_ends p.expires)
     (named (codes "path") (path_tree p.path p.from_attr) _ (of_path p.path p.from_attr)
     (named (codes "raw_cookie") (string p.raw_cookie) _ (in_quotes p.raw_cookie) refl)))
 

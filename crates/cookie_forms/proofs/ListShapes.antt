@@ -64,6 +64,6 @@ list_read_shaped d qs e =
     let r = read_of (has_float d) all_with_parsed_expiry (option_and_then all_parts_in (as_array d)) qs e in
     (r.0, list_shaped d r.0 r.1 r.2, r.3)
 
-pub list_shapeless_refused : (d : Data) → ((ps : List (Parts (List ℕ))) → ¬ HasListShape d ps) → list_at d ≡ Err ErrorCase.Shape
-list_shapeless_refused d none =
+pub list_shapeless_rejected : (d : Data) → ((ps : List (Parts (List ℕ))) → ¬ HasListShape d ps) → list_at d ≡ Err ErrorCase.Shape
+list_shapeless_rejected d none =
     refused_by (has_float d) all_with_parsed_expiry (option_and_then all_parts_in (as_array d)) (λ ps plain e. none ps (list_shaped d ps plain e))

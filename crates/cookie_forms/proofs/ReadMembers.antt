@@ -15,11 +15,11 @@ use Rattle.cookie_forms.specs.Borrowed.{borrowed_domain, borrowed_parts}
 use Rattle.cookie_forms.specs.Shape.{HasShape}
 use Rattle.cookie_forms.specs.ToJson.{domain_tree, expiry_tree, path_tree}
 use Rattle.cookie_forms.specs.Tokens.{AreFound, ReadsTo}
-use Rattle.cookie_forms.specs.declared.parsing.FoundMembers.{FoundMembers}
-use Rattle.cookie_forms.specs.declared.reading.BorrowedDomain.{BorrowedDomain}
-use Rattle.cookie_forms.specs.declared.reading.BorrowedParts.{BorrowedParts}
-use Rattle.cookie_forms.proofs.ReadTokens.{ends_view, shorter}
-use Rattle.cookie_forms.proofs.TreesPlain.{domain_plain, ends_plain, first_false, second_false}
+use Rattle.cookie_forms.specs.declared.text_reader.FoundMembers.{FoundMembers}
+use Rattle.cookie_forms.specs.declared.value_reader.BorrowedDomain.{BorrowedDomain}
+use Rattle.cookie_forms.specs.declared.value_reader.BorrowedParts.{BorrowedParts}
+use Rattle.cookie_forms.proofs.ReadTokens.{expires_view, shorter}
+use Rattle.cookie_forms.proofs.TreesPlain.{domain_plain, expires_plain, first_false, second_false}
 
 -- ---- one more member
 
@@ -43,7 +43,7 @@ apart q k d ms o other e = get_member-put_other q k d ms other ∙ e
 
 module _ (ms : Members) (found : FoundMembers) (at : AreFound ms found) where
   pub raw_cookie_found : (k : List ℕ) (text : Bor (List ℕ)) → k ≡ codes "raw_cookie"
-      → AreFound (put k (string text.now) ms) (record { raw_cookie = Some text; path = found.path; domain = found.domain; ends = found.ends })
+      → AreFound (put k (string text.now) ms) (record { raw_cookie = Some text; path = found.path; domain = found.domain; expires = found.expires })
   raw_cookie_found k text is =
       rw is (
         get_member-put (codes "raw_cookie") (string text.now) ms,
@@ -54,7 +54,7 @@ module _ (ms : Members) (found : FoundMembers) (at : AreFound ms found) where
       )
 
   pub path_found : (k : List ℕ) (p : Bor (List ℕ) × Bool) → k ≡ codes "path"
-      → AreFound (put k (path_tree p.0.now p.1) ms) (record { raw_cookie = found.raw_cookie; path = Some p; domain = found.domain; ends = found.ends })
+      → AreFound (put k (path_tree p.0.now p.1) ms) (record { raw_cookie = found.raw_cookie; path = Some p; domain = found.domain; expires = found.expires })
   path_found k p is =
       let d = path_tree p.0.now p.1 in
       rw is (
@@ -66,7 +66,7 @@ module _ (ms : Members) (found : FoundMembers) (at : AreFound ms found) where
       )
 
   pub domain_found : (k : List ℕ) (domain : BorrowedDomain) → k ≡ codes "domain"
-      → AreFound (put k (domain_tree (borrowed_domain domain)) ms) (record { raw_cookie = found.raw_cookie; path = found.path; domain = Some domain; ends = found.ends })
+      → AreFound (put k (domain_tree (borrowed_domain domain)) ms) (record { raw_cookie = found.raw_cookie; path = found.path; domain = Some domain; expires = found.expires })
   domain_found k domain is =
       let d = domain_tree (borrowed_domain domain) in
       rw is (
@@ -77,16 +77,16 @@ module _ (ms : Members) (found : FoundMembers) (at : AreFound ms found) where
         plain_put (codes "domain") d ms (domain_plain (borrowed_domain domain)) at.4,
       )
 
-  pub ends_found : (k : List ℕ) (ends : Option (Bor (List ℕ))) → k ≡ codes "expires"
-      → AreFound (put k (expiry_tree (ends_view ends)) ms) (record { raw_cookie = found.raw_cookie; path = found.path; domain = found.domain; ends = Some ends })
-  ends_found k ends is =
-      let d = expiry_tree (ends_view ends) in
+  pub expires_found : (k : List ℕ) (expires : Option (Bor (List ℕ))) → k ≡ codes "expires"
+      → AreFound (put k (expiry_tree (expires_view expires)) ms) (record { raw_cookie = found.raw_cookie; path = found.path; domain = found.domain; expires = Some expires })
+  expires_found k expires is =
+      let d = expiry_tree (expires_view expires) in
       rw is (
         apart (codes "raw_cookie") (codes "expires") d ms _ (λ h. cc) at.0,
         apart (codes "path") (codes "expires") d ms _ (λ h. cc) at.1,
         apart (codes "domain") (codes "expires") d ms _ (λ h. cc) at.2,
         get_member-put (codes "expires") d ms,
-        plain_put (codes "expires") d ms (ends_plain (ends_view ends)) at.4,
+        plain_put (codes "expires") d ms (expires_plain (expires_view expires)) at.4,
       )
 
 -- ---- the loop over the members
@@ -99,7 +99,7 @@ MembersRead depth first now found =
     → (all : json.Members) × (members (value depth) (length first) first ≡ Some (all, rest)) × (of_members all no_members ≡ of_members more ms))
     × AreFound ms found
 
-pub no_member_read : (depth : ℕ) (first : List Token) → MembersRead depth first first (record { raw_cookie = None; path = None; domain = None; ends = None })
+pub no_member_read : (depth : ℕ) (first : List Token) → MembersRead depth first first (record { raw_cookie = None; path = None; domain = None; expires = None })
 no_member_read depth first = (length first, no_members, omega arith, λ more rest e. (more, e, refl), (refl, refl, refl, refl, refl))
 
 -- of_members of one more
@@ -140,12 +140,12 @@ members_are_read depth first now r found some so_far key =
 
 -- the four members make a saved cookie
 pub shape_found : (ms : Members) (found : FoundMembers) (parts : BorrowedParts) → AreFound ms found
-    → found.raw_cookie ≡ Some parts.raw_cookie → found.path ≡ Some (parts.path, parts.from_attr) → found.domain ≡ Some parts.domain → found.ends ≡ Some parts.ends
+    → found.raw_cookie ≡ Some parts.raw_cookie → found.path ≡ Some (parts.path, parts.from_attr) → found.domain ≡ Some parts.domain → found.expires ≡ Some parts.expires
     → HasShape (object ms) (borrowed_parts parts)
-shape_found ms found parts at raw path domain ends = (
+shape_found ms found parts at raw path domain expires = (
   at.0 ∙ ap (option_map (λ text. string text.now)) raw,
   at.1 ∙ ap (option_map (λ p. path_tree p.0.now p.1)) path,
   at.2 ∙ ap (option_map (λ d. domain_tree (borrowed_domain d))) domain,
-  at.3 ∙ ap (option_map (λ e. expiry_tree (ends_view e))) ends,
+  at.3 ∙ ap (option_map (λ e. expiry_tree (expires_view e))) expires,
   at.4,
 )

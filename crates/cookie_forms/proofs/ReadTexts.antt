@@ -26,9 +26,9 @@ on_err (Ok a) P h = tt
 on_err (Err e) P h = h
 
 -- an object of the shape, with its expiry parsed
-pub saved_read : (d : Data) (p : Parts (List ℕ)) (ends : Option Moment) (q : Parts Moment) → HasShape d p → Some ends ≡ parsed_expiry p.ends → q ≡ with_expiry p ends
+pub saved_read : (d : Data) (p : Parts (List ℕ)) (expires : Option Moment) (q : Parts Moment) → HasShape d p → Some expires ≡ parsed_expiry p.expires → q ≡ with_expiry p expires
     → saved_at d ≡ Ok q
-saved_read d p ends q shape is copied =
+saved_read d p expires q shape is copied =
     shape_read d p shape ∙ ap (λ o. ok_or (option_map (λ e. with_expiry p e) o) ErrorCase.Moment) (sym is) ∙ ap Ok (sym copied)
 
 pub begin_saved : (depth : ℕ) (old new : List Token) (tree : Data) (q : Parts Moment) → ReadsTo depth old tree new → saved_at tree ≡ Ok q

@@ -11,8 +11,8 @@ use Rattle.cookie_forms.specs.FromJson.{domain_in, domain_named, domain_tagged, 
 use Rattle.cookie_forms.specs.Saved.{Domain}
 use Rattle.cookie_forms.specs.ToJson.{domain_tree, expiry_tree, path_tree, tagged_tree}
 use Rattle.cookie_forms.specs.Tokens.{ReadsTo}
-use Rattle.cookie_forms.specs.declared.reading.BorrowedDomain.{BorrowedDomain}
-use Rattle.cookie_forms.proofs.Shapes.{domain_of, ends_of, or_none}
+use Rattle.cookie_forms.specs.declared.value_reader.BorrowedDomain.{BorrowedDomain}
+use Rattle.cookie_forms.proofs.Shapes.{domain_of, expires_of, or_none}
 
 -- a value is at least one token
 pub shorter : (depth : ℕ) (old new : List Token) (tree : Data) → ReadsTo depth old tree new → length new < length old
@@ -66,27 +66,27 @@ tagged_domain_read (Some domain) tag text old new e read =
 
 -- ---- expiries
 
-abbrev pub ends_view : Option (Bor (List ℕ)) → Option (List ℕ)
-ends_view o = option_map (λ text. text.now) o
+abbrev pub expires_view : Option (Bor (List ℕ)) → Option (List ℕ)
+expires_view o = option_map (λ text. text.now) o
 
-name_of_ends : (name : List ℕ) (ends : Option (List ℕ)) → expiry_named name ≡ Some ends → string name ≡ expiry_tree ends
+name_of_ends : (name : List ℕ) (expires : Option (List ℕ)) → expiry_named name ≡ Some expires → string name ≡ expiry_tree expires
 unfolding expiry_in
-name_of_ends name ends e = ends_of (string name) ends (or_none (expiry_named name) ∙ e)
+name_of_ends name expires e = expires_of (string name) expires (or_none (expiry_named name) ∙ e)
 
-tag_of_ends : (tag text : List ℕ) (ends : Option (List ℕ)) → expiry_tagged (tag, text) ≡ Some ends → tagged_tree tag text ≡ expiry_tree ends
+tag_of_ends : (tag text : List ℕ) (expires : Option (List ℕ)) → expiry_tagged (tag, text) ≡ Some expires → tagged_tree tag text ≡ expiry_tree expires
 unfolding expiry_in
-tag_of_ends tag text ends e = ends_of (tagged_tree tag text) ends e
+tag_of_ends tag text expires e = expires_of (tagged_tree tag text) expires e
 
 abbrev EndsRead : List Token → Option (Option (Bor (List ℕ))) → List Token → Type 0
-EndsRead old o new = IfSome o (λ ends. (depth : ℕ) → 1 ≤ depth → ReadsTo depth old (expiry_tree (ends_view ends)) new)
+EndsRead old o new = IfSome o (λ expires. (depth : ℕ) → 1 ≤ depth → ReadsTo depth old (expiry_tree (expires_view expires)) new)
 
-pub named_ends_read : (o : Option (Option (Bor (List ℕ)))) (name : List ℕ) (r : List Token) → option_map ends_view o ≡ expiry_named name → EndsRead (Token.string name ∷ r) o r
+pub named_ends_read : (o : Option (Option (Bor (List ℕ)))) (name : List ℕ) (r : List Token) → option_map expires_view o ≡ expiry_named name → EndsRead (Token.string name ∷ r) o r
 named_ends_read None name r e = tt
-named_ends_read (Some ends) name r e =
-    λ depth some. subst (λ d. ReadsTo depth (Token.string name ∷ r) d r) (name_of_ends name (ends_view ends) (sym e)) (text_read depth name r)
+named_ends_read (Some expires) name r e =
+    λ depth some. subst (λ d. ReadsTo depth (Token.string name ∷ r) d r) (name_of_ends name (expires_view expires) (sym e)) (text_read depth name r)
 
-pub tagged_ends_read : (o : Option (Option (Bor (List ℕ)))) (tag text : List ℕ) (old new : List Token) → option_map ends_view o ≡ expiry_tagged (tag, text)
+pub tagged_ends_read : (o : Option (Option (Bor (List ℕ)))) (tag text : List ℕ) (old new : List Token) → option_map expires_view o ≡ expiry_tagged (tag, text)
     → ((depth : ℕ) → 1 ≤ depth → ReadsTo depth old (tagged_tree tag text) new) → EndsRead old o new
 tagged_ends_read None tag text old new e read = tt
-tagged_ends_read (Some ends) tag text old new e read =
-    λ depth some. subst (λ d. ReadsTo depth old d new) (tag_of_ends tag text (ends_view ends) (sym e)) (read depth some)
+tagged_ends_read (Some expires) tag text old new e read =
+    λ depth some. subst (λ d. ReadsTo depth old d new) (tag_of_ends tag text (expires_view expires) (sym e)) (read depth some)

@@ -13,7 +13,7 @@ use Rattle.cookie_forms.specs.FromJson.{only_text, pair_in, path_in, domain_name
 use Rattle.cookie_forms.specs.ToJson.{tagged_tree, path_tree, domain_tree, expiry_tree}
 use Rattle.cookie_forms.specs.declared.error.SavedError.{SavedError}
 use Rattle.cookie_forms.specs.declared.error.SavedError.TheVariants as ErrorCase
-use Rattle.cookie_forms.proofs.TreesBack.{domain_back, ends_back, path_back}
+use Rattle.cookie_forms.proofs.TreesBack.{domain_back, expires_back, path_back}
 
 -- ---- the JSON values that a part is read from
 
@@ -103,32 +103,32 @@ domain_of (object ms) domain e =
     (λ h. ap (λ tag. tagged_tree tag t.1) ((bytes_eq-Decides t.0 (codes "HostOnly")).0 h))
     (λ h. ap (λ tag. tagged_tree tag t.1) ((bytes_eq-Decides t.0 (codes "Suffix")).0 h)) named)
 
-by_end : (this : Bool) (d : Data) (a ends : Option (List ℕ)) → (this ≡ true → d ≡ expiry_tree a)
-    → (if this then Some a else None) ≡ Some ends → d ≡ expiry_tree ends
-by_end true d a ends is_a e = is_a refl ∙ ap expiry_tree (same_Some a ends e)
-by_end false d a ends is_a e = cc
+by_end : (this : Bool) (d : Data) (a expires : Option (List ℕ)) → (this ≡ true → d ≡ expiry_tree a)
+    → (if this then Some a else None) ≡ Some expires → d ≡ expiry_tree expires
+by_end true d a expires is_a e = is_a refl ∙ ap expiry_tree (same_Some a expires e)
+by_end false d a expires is_a e = cc
 
-pub ends_of : (d : Data) (ends : Option (List ℕ)) → expiry_in d ≡ Some ends → d ≡ expiry_tree ends
+pub expires_of : (d : Data) (expires : Option (List ℕ)) → expiry_in d ≡ Some expires → d ≡ expiry_tree expires
 unfolding expiry_in
-ends_of null ends e = cc
-ends_of (boolean b) ends e = cc
-ends_of (number n) ends e = cc
-ends_of (string s) ends e =
-    by_end (bytes_eq s (codes "SessionEnd")) (string s) None ends (λ h. ap string ((bytes_eq-Decides s (codes "SessionEnd")).0 h))
+expires_of null expires e = cc
+expires_of (boolean b) expires e = cc
+expires_of (number n) expires e = cc
+expires_of (string s) expires e =
+    by_end (bytes_eq s (codes "SessionEnd")) (string s) None expires (λ h. ap string ((bytes_eq-Decides s (codes "SessionEnd")).0 h))
     (sym (or_none (expiry_named s)) ∙ e)
-ends_of (array ds) ends e = cc
-ends_of (object ms) ends e =
-    option_and_then_some expiry_tagged (only_text ms) ends e (λ t here named.
+expires_of (array ds) expires e = cc
+expires_of (object ms) expires e =
+    option_and_then_some expiry_tagged (only_text ms) expires e (λ t here named.
     tagged_of ms t here
-    ∙ by_end (bytes_eq t.0 (codes "AtUtc")) (tagged_tree t.0 t.1) (Some t.1) ends
+    ∙ by_end (bytes_eq t.0 (codes "AtUtc")) (tagged_tree t.0 t.1) (Some t.1) expires
     (λ h. ap (λ tag. tagged_tree tag t.1) ((bytes_eq-Decides t.0 (codes "AtUtc")).0 h)) named)
 
 -- ---- a cookie
 
 pub parts_read : (d : Data) (p : Parts (List ℕ)) → HasShape d p → parts_in d ≡ Some p
 unfolding parts_in
-parts_read d p (raw, path, domain, ends, plain) =
-    rw (raw, path, domain, ends, path_back p.path p.from_attr, domain_back p.domain, ends_back p.ends) refl
+parts_read d p (raw, path, domain, expires, plain) =
+    rw (raw, path, domain, expires, path_back p.path p.from_attr, domain_back p.domain, expires_back p.expires) refl
 
 pub parts_shaped : (d : Data) (p : Parts (List ℕ)) → has_float d ≡ false → parts_in d ≡ Some p → HasShape d p
 unfolding parts_in
@@ -140,12 +140,12 @@ parts_shaped d p plain e =
     option_and_then_some _ (get (codes "domain") d) p e4 (λ kind kind_is e5.
     option_and_then_some _ (domain_in kind) p e5 (λ domain domain_is e6.
     option_and_then_some _ (get (codes "expires") d) p e6 (λ end end_is e7.
-    option_and_then_some _ (expiry_in end) p e7 (λ ends ends_is e8.
+    option_and_then_some _ (expiry_in end) p e7 (λ expires ends_is e8.
     subst (λ q. HasShape d q) (same_Some _ p e8) (
       raw_is ∙ ap Some (text_of raw raw_cookie text_is),
       pair_is ∙ ap Some (path_of pair path path_is),
       kind_is ∙ ap Some (domain_of kind domain domain_is),
-      end_is ∙ ap Some (ends_of end ends ends_is),
+      end_is ∙ ap Some (expires_of end expires ends_is),
       plain,
     )))))))))
 
@@ -177,5 +177,5 @@ read_shaped d q e =
     let r = read_of (has_float d) with_parsed_expiry (parts_in d) q e in
     (r.0, parts_shaped d r.0 r.1 r.2, r.3)
 
-pub shapeless_refused : (d : Data) → ((p : Parts (List ℕ)) → ¬ HasShape d p) → saved_at d ≡ Err ErrorCase.Shape
-shapeless_refused d none = refused_by (has_float d) with_parsed_expiry (parts_in d) (λ p plain e. none p (parts_shaped d p plain e))
+pub shapeless_rejected : (d : Data) → ((p : Parts (List ℕ)) → ¬ HasShape d p) → saved_at d ≡ Err ErrorCase.Shape
+shapeless_rejected d none = refused_by (has_float d) with_parsed_expiry (parts_in d) (λ p plain e. none p (parts_shaped d p plain e))

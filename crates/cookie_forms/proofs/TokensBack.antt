@@ -15,7 +15,7 @@ use Rattle.serde_json.specs.Written.{compact_text, items_outline, members_outlin
 use Rattle.serde_json.proofs.Texts.{print-outline}
 use Rattle.cookie_words.specs.Moments.{Moment}
 use Rattle.cookie_forms.specs.Saved.{Domain, host_only, suffix, not_present, empty, Parts}
-use Rattle.cookie_forms.specs.Texts.{pretty_text, tokens_of_tree}
+use Rattle.cookie_forms.specs.JsonText.{pretty_text, tokens_of_tree}
 use Rattle.cookie_forms.specs.ToJson.{cookie_tree, domain_tree, expiry_tree, is_early, list_tree, list_written, saved_tree, with_expiry_text, written}
 use Rattle.cookie_forms.proofs.TreesPlain.{list_nests, saved_nests}
 
@@ -51,7 +51,7 @@ expiry_read None = refl
 expiry_read (Some text) = refl
 
 cookie_read : (p : Parts (List ℕ)) → of_json (outline (cookie_tree p)) ≡ Some (cookie_tree p)
-cookie_read p = rw (domain_read p.domain, expiry_read p.ends) refl
+cookie_read p = rw (domain_read p.domain, expiry_read p.expires) refl
 
 items_read : (ps : List (Parts Moment)) → of_items (items_outline (items_of (map saved_tree ps))) ≡ Some (items_of (map saved_tree ps))
 items_read [] = refl

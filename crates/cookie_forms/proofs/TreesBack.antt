@@ -24,10 +24,10 @@ domain_back (suffix text) = refl
 domain_back not_present = refl
 domain_back empty = refl
 
-pub ends_back : (o : Option (List ℕ)) → expiry_in (expiry_tree o) ≡ Some o
+pub expires_back : (o : Option (List ℕ)) → expiry_in (expiry_tree o) ≡ Some o
 unfolding expiry_in
-ends_back None = refl
-ends_back (Some text) = refl
+expires_back None = refl
+expires_back (Some text) = refl
 
 pub path_back : (path : List ℕ) (from_attr : Bool) → path_in (path_tree path from_attr) ≡ Some (path, from_attr)
 unfolding path_in
@@ -35,7 +35,7 @@ path_back path from_attr = refl
 
 parts_back : (p : Parts (List ℕ)) → parts_in (cookie_tree p) ≡ Some p
 unfolding parts_in
-parts_back p = rw (path_back p.path p.from_attr, domain_back p.domain, ends_back p.ends) refl
+parts_back p = rw (path_back p.path p.from_attr, domain_back p.domain, expires_back p.expires) refl
 
 -- the expiry of a saved cookie is a valid time
 pub end_is_moment : (e : SavedExpiry) → IfSome (expiry_view e) IsValidTime
@@ -47,15 +47,15 @@ from_zero : (z : ℤ) → int_lt z (pos 0) ≡ false → pos 0 ≤ℤ z
 from_zero (pos n) h = omega (arith, signed_arith)
 from_zero (negsuc n) h = absurd (true≢false h)
 
-ends_kept : (o : Option Moment) → IfSome o IsValidTime → expires_early o ≡ false
+expires_kept : (o : Option Moment) → IfSome o IsValidTime → expires_early o ≡ false
     → parsed_expiry (option_map moment_text o) ≡ Some (option_map whole_seconds o)
-ends_kept (Some m) (d, is) h =
+expires_kept (Some m) (d, is) h =
     subst (λ m. expires_early (Some m) ≡ false → parsed_expiry (Some (moment_text m)) ≡ Some (Some (whole_seconds m))) is
     (λ early. ap (option_map (λ m. Some m)) (moment_back d (from_zero d.date.year early))) h
-ends_kept None _ h = refl
+expires_kept None _ h = refl
 
 kept : (p : Parts Moment) → HasValidExpiry p → is_early p ≡ false → with_parsed_expiry (with_expiry_text p) ≡ Some (cut p)
-kept p at h = ap (option_map (λ ends. with_expiry p ends)) (ends_kept p.ends at h)
+kept p at h = ap (option_map (λ expires. with_expiry p expires)) (expires_kept p.expires at h)
 
 all_kept : (ps : List (Parts Moment)) → All HasValidExpiry ps → list_any is_early ps ≡ false
     → all_with_parsed_expiry (map with_expiry_text ps) ≡ Some (map cut ps)

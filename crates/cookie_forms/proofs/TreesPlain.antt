@@ -39,20 +39,20 @@ domain_plain (suffix text) = refl
 domain_plain not_present = refl
 domain_plain empty = refl
 
-pub ends_plain : (o : Option (List ℕ)) → has_float (expiry_tree o) ≡ false
-ends_plain None = refl
-ends_plain (Some text) = refl
+pub expires_plain : (o : Option (List ℕ)) → has_float (expiry_tree o) ≡ false
+expires_plain None = refl
+expires_plain (Some text) = refl
 
 pub cookie_plain : (p : Parts (List ℕ)) → has_float (cookie_tree p) ≡ false
-cookie_plain p = rw (domain_plain p.domain, ends_plain p.ends) refl
+cookie_plain p = rw (domain_plain p.domain, expires_plain p.expires) refl
 
 pub items_plain : (ps : List (Parts Moment)) → items_have_float (items_of (map saved_tree ps)) ≡ false
 items_plain [] = refl
 items_plain (p ∷ ps) = rw (cookie_plain (with_expiry_text p), items_plain ps) refl
 
 -- how deep these JSON values nest
-parts_nest : (domain : Domain) (ends : Option (List ℕ)) (rest : ℕ) → rest ≡ 1
-    → suc (max (depth (domain_tree domain)) (max (depth (expiry_tree ends)) rest)) ≡ 2
+parts_nest : (domain : Domain) (expires : Option (List ℕ)) (rest : ℕ) → rest ≡ 1
+    → suc (max (depth (domain_tree domain)) (max (depth (expiry_tree expires)) rest)) ≡ 2
 parts_nest (host_only text) None rest e = rw e refl
 parts_nest (host_only text) (Some end) rest e = rw e refl
 parts_nest (suffix text) None rest e = rw e refl
@@ -63,7 +63,7 @@ parts_nest empty None rest e = rw e refl
 parts_nest empty (Some end) rest e = rw e refl
 
 cookie_nests : (p : Parts (List ℕ)) → depth (cookie_tree p) ≡ 2
-cookie_nests p = parts_nest p.domain p.ends _ refl
+cookie_nests p = parts_nest p.domain p.expires _ refl
 
 items_nest : (ps : List (Parts Moment)) → items_depth (items_of (map saved_tree ps)) ≤ 2
 items_nest [] = omega arith

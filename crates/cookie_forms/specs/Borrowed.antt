@@ -1,9 +1,9 @@
 -- The parts of a saved cookie, borrowed from its JSON value, as contracts see them.
 use Rattle.std.specs.Prelude.{List, ℕ, option_map}
 use Rattle.cookie_forms.specs.Saved.{Domain, host_only, suffix, not_present, empty, Parts}
-use Rattle.cookie_forms.specs.declared.reading.BorrowedParts.{BorrowedParts}
-use Rattle.cookie_forms.specs.declared.reading.BorrowedDomain.{BorrowedDomain}
-use Rattle.cookie_forms.specs.declared.reading.BorrowedDomain.TheVariants as Borrowed
+use Rattle.cookie_forms.specs.declared.value_reader.BorrowedParts.{BorrowedParts}
+use Rattle.cookie_forms.specs.declared.value_reader.BorrowedDomain.{BorrowedDomain}
+use Rattle.cookie_forms.specs.declared.value_reader.BorrowedDomain.TheVariants as Borrowed
 
 -- a borrowed domain as contracts see it
 abbrev pub borrowed_domain : BorrowedDomain → Domain
@@ -19,5 +19,5 @@ borrowed_parts p = record {
   path = p.path.now;
   from_attr = p.from_attr;
   domain = borrowed_domain p.domain;
-  ends = option_map (λ text. text.now) p.ends;
+  expires = option_map (λ text. text.now) p.expires;
 }

@@ -77,13 +77,13 @@ parts_in d = do
   kind ← get (codes "domain") d
   domain ← domain_in kind
   end ← get (codes "expires") d
-  ends ← expiry_in end
+  expires ← expiry_in end
   Some (record {
     raw_cookie = raw_cookie;
     path = path.0;
     from_attr = path.1;
     domain = domain;
-    ends = ends;
+    expires = expires;
   })
 
 -- the parts of each item, if all items have the shape
@@ -98,7 +98,7 @@ parsed_expiry (Some text) = option_map (λ m. Some m) (parsed_moment text)
 
 -- the parts with their expiry parsed
 abbrev pub with_parsed_expiry : Parts (List ℕ) → Option (Parts Moment)
-with_parsed_expiry p = option_map (λ ends. with_expiry p ends) (parsed_expiry p.ends)
+with_parsed_expiry p = option_map (λ expires. with_expiry p expires) (parsed_expiry p.expires)
 
 -- the same for a list, if all expiries are valid
 abbrev pub all_with_parsed_expiry : List (Parts (List ℕ)) → Option (List (Parts Moment))
@@ -132,4 +132,4 @@ list_in text = elim (read text) [ None ↦ Err ErrorCase.Json | Some tree ↦ li
 
 -- a saved cookie with its expiry cut to whole seconds, as it is after writing and reading
 abbrev pub cut : Parts Moment → Parts Moment
-cut p = with_expiry p (option_map whole_seconds p.ends)
+cut p = with_expiry p (option_map whole_seconds p.expires)

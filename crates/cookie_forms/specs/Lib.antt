@@ -4,6 +4,6 @@ pub mod MomentText
 pub mod FromJson
 pub mod Saved
 pub mod Shape
-pub mod Texts
+pub mod JsonText
 pub mod Tokens
 pub mod ToJson

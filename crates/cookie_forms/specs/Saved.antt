@@ -21,7 +21,7 @@ pub record Parts (T : Type 0) : Type 0 where
   pub path : List ℕ
   pub from_attr : Bool
   pub domain : Domain
-  pub ends : Option T
+  pub expires : Option T
 
 -- a valid time: the view of some `DateTime`
 abbrev pub IsValidTime : Moment → Type 0
@@ -29,7 +29,7 @@ IsValidTime m = (time : DateTime) × (moment_of time ≡ m)
 
 -- the expiry, if there is one, is a valid time
 abbrev pub HasValidExpiry : Parts Moment → Type 0
-HasValidExpiry p = IfSome p.ends IsValidTime
+HasValidExpiry p = IfSome p.expires IsValidTime
 
 -- a `SavedDomain` as contracts see it
 abbrev pub domain_view : SavedDomain → Domain
@@ -50,5 +50,5 @@ saved_view s = record {
   path = string_bytes s.path;
   from_attr = s.from_attr;
   domain = domain_view s.domain;
-  ends = expiry_view s.expires;
+  expires = expiry_view s.expires;
 }

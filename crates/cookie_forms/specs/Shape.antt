@@ -14,7 +14,7 @@ HasShape d p =
     (get (codes "raw_cookie") d ≡ Some (string p.raw_cookie))
     × (get (codes "path") d ≡ Some (path_tree p.path p.from_attr))
     × (get (codes "domain") d ≡ Some (domain_tree p.domain))
-    × (get (codes "expires") d ≡ Some (expiry_tree p.ends))
+    × (get (codes "expires") d ≡ Some (expiry_tree p.expires))
     × (has_float d ≡ false)
 
 -- an array of such objects, one for each cookie

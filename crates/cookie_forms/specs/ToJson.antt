@@ -34,23 +34,23 @@ abbrev pub cookie_tree : Parts (List ℕ) → Data
 cookie_tree p =
     object
     (member (codes "domain") (domain_tree p.domain)
-    (member (codes "expires") (expiry_tree p.ends)
+    (member (codes "expires") (expiry_tree p.expires)
     (member (codes "path") (path_tree p.path p.from_attr)
     (member (codes "raw_cookie") (string p.raw_cookie) no_members))))
 
 -- the parts with another expiry
 abbrev pub with_expiry : {S T : Type 0} → Parts S → Option T → Parts T
-with_expiry p ends = record {
+with_expiry p expires = record {
   raw_cookie = p.raw_cookie;
   path = p.path;
   from_attr = p.from_attr;
   domain = p.domain;
-  ends = ends;
+  expires = expires;
 }
 
 -- the parts with the expiry as a string
 abbrev pub with_expiry_text : Parts Moment → Parts (List ℕ)
-with_expiry_text p = with_expiry p (option_map moment_text p.ends)
+with_expiry_text p = with_expiry p (option_map moment_text p.expires)
 
 -- the JSON value of a saved cookie whose expiry is not before the year 0
 abbrev pub saved_tree : Parts Moment → Data
@@ -62,11 +62,11 @@ list_tree ps = array (items_of (map saved_tree ps))
 
 -- the expiry is before the year 0, so it has no string form
 abbrev pub expires_early : Option Moment → Bool
-expires_early ends = unwrap_or (option_map (λ m. int_lt m.year (pos 0)) ends) false
+expires_early expires = unwrap_or (option_map (λ m. int_lt m.year (pos 0)) expires) false
 
 -- the saved cookie expires before the year 0
 abbrev pub is_early : Parts Moment → Bool
-is_early p = expires_early p.ends
+is_early p = expires_early p.expires
 
 -- the JSON value of a saved cookie, or `Moment` if its expiry is before the year 0
 abbrev pub written : Parts Moment → Result Data SavedError

@@ -9,7 +9,7 @@ use Rattle.serde_json.specs.Written.{members_have_float}
 use Rattle.cookie_forms.specs.Borrowed.{borrowed_domain}
 use Rattle.cookie_forms.specs.FromJson.{saved_at}
 use Rattle.cookie_forms.specs.ToJson.{path_tree, domain_tree, expiry_tree}
-use Rattle.cookie_forms.specs.declared.parsing.FoundMembers.{FoundMembers}
+use Rattle.cookie_forms.specs.declared.text_reader.FoundMembers.{FoundMembers}
 
 -- the tokens `old` are those of a JSON value, nested at most `depth` deep and read as `tree`, and then `new`
 abbrev pub ReadsTo : ℕ → List Token → Data → List Token → Type 0
@@ -29,5 +29,5 @@ AreFound ms found =
     (get_member (codes "raw_cookie") ms ≡ option_map (λ text. string text.now) found.raw_cookie)
     × (get_member (codes "path") ms ≡ option_map (λ p. path_tree p.0.now p.1) found.path)
     × (get_member (codes "domain") ms ≡ option_map (λ domain. domain_tree (borrowed_domain domain)) found.domain)
-    × (get_member (codes "expires") ms ≡ option_map (λ ends. expiry_tree (option_map (λ text. text.now) ends)) found.ends)
+    × (get_member (codes "expires") ms ≡ option_map (λ expires. expiry_tree (option_map (λ text. text.now) expires)) found.expires)
     × (members_have_float ms ≡ false)

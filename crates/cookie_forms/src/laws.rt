@@ -10,7 +10,7 @@ ghost use Rattle.cookie_forms.specs.MomentText.{parsed_moment, moment_text, whol
 ghost use Rattle.cookie_forms.specs.FromJson.{all_with_parsed_expiry, cut, list_at, saved_at, with_parsed_expiry};
 ghost use Rattle.cookie_forms.specs.Saved.{HasValidExpiry, Parts, saved_view};
 ghost use Rattle.cookie_forms.specs.Shape.{HasListShape, HasShape};
-ghost use Rattle.cookie_forms.specs.Texts.{has_no_control};
+ghost use Rattle.cookie_forms.specs.JsonText.{has_no_control};
 ghost use Rattle.cookie_forms.specs.ToJson.{list_written, written};
 ghost use Rattle.cookie_forms.specs.declared.error.SavedError.TheVariants as ErrorCase;
 ghost use Rattle.cookie_forms.specs.declared.saved.Saved.{Saved};
@@ -36,7 +36,7 @@ pub fn list_reads_back()
 {}
 
 /// The expiry of every `Saved` is a valid time, so `reads_back` and `list_reads_back` apply to it.
-pub fn ends_are_moments()
+pub fn expiries_are_moments()
     ensures { (saved : Saved) → HasValidExpiry (saved_view saved) }
 {}
 
@@ -61,7 +61,7 @@ pub fn shapes_are_read()
         → saved_at tree ≡ ok_or (with_parsed_expiry parts) ErrorCase.Moment }
     ensures only { (tree : Data) (saved : Parts Moment) → saved_at tree ≡ Ok saved
         → (parts : Parts (List ℕ)) × HasShape tree parts × (with_parsed_expiry parts ≡ Some saved) }
-    ensures refused { (tree : Data) → ((parts : Parts (List ℕ)) → ¬ HasShape tree parts) → saved_at tree ≡ Err ErrorCase.Shape }
+    ensures errors { (tree : Data) → ((parts : Parts (List ℕ)) → ¬ HasShape tree parts) → saved_at tree ≡ Err ErrorCase.Shape }
 {}
 
 /// A JSON value of the shape of a list is read, or `Moment` is returned if an expiry is not a valid
@@ -71,7 +71,7 @@ pub fn list_shapes_are_read()
         → list_at tree ≡ ok_or (all_with_parsed_expiry parts) ErrorCase.Moment }
     ensures only { (tree : Data) (list : List (Parts Moment)) → list_at tree ≡ Ok list
         → (parts : List (Parts (List ℕ))) × HasListShape tree parts × (all_with_parsed_expiry parts ≡ Some list) }
-    ensures refused { (tree : Data) → ((parts : List (Parts (List ℕ))) → ¬ HasListShape tree parts)
+    ensures errors { (tree : Data) → ((parts : List (Parts (List ℕ))) → ¬ HasListShape tree parts)
         → list_at tree ≡ Err ErrorCase.Shape }
 {}
 

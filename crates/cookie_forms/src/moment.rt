@@ -18,7 +18,7 @@ use std::alloc::{AllocError, Global};
 pub fn moment_text(alloc: Global, moment: DateTime) -> Result<String, SavedError>
     ensures text { IfOk result (λ text. string_bytes text ≡ moment_text (moment_of moment)) }
     ensures early { (moment.date.year <ℤ pos 0) ↔ (result ≡ Err SavedError.Moment) }
-    ensures refused { IfErr result (λ e. (e ≡ SavedError.Moment) ⊎ (e ≡ SavedError.Memory)) }
+    ensures errors { IfErr result (λ e. (e ≡ SavedError.Moment) ⊎ (e ≡ SavedError.Memory)) }
 {
     if moment.year() < 0 {
         return Err(SavedError::Moment);

@@ -6,7 +6,7 @@ ghost use Rattle.json.specs.Reads.{token_of};
 ghost use Rattle.json.specs.Token.{Token as SpecToken};
 ghost use Rattle.cookie_forms.specs.MomentText.{moment_text};
 ghost use Rattle.cookie_forms.specs.Saved.{saved_view, domain_view, expiry_view};
-ghost use Rattle.cookie_forms.specs.Texts.{tokens_of_tree};
+ghost use Rattle.cookie_forms.specs.JsonText.{tokens_of_tree};
 ghost use Rattle.cookie_forms.specs.ToJson.{domain_tree, expires_early, expiry_tree, is_early, list_tree, path_tree, saved_tree, tagged_tree};
 
 use crate::moment::moment_bytes;

@@ -10,19 +10,19 @@ use Rattle.cookie_parts.specs.declared.cookie_error.CookieError.{CookieError}
 use Rattle.cookie_parts.specs.declared.cookie_error.CookieError.TheVariants.{NonHttpScheme, DomainMismatch, PublicSuffix}
 use Rattle.cookie_laws.specs.Contents.{Contents}
 use Rattle.cookie_laws.specs.Rows.{Key, key_of, row_of}
-use Rattle.cookie_laws.specs.Acceptance.{Outcome, by_scheme, is_listed, by_list, by_domain, admitted, reply_at, outcome_by, entered, accept}
+use Rattle.cookie_laws.specs.Acceptance.{Outcome, by_scheme, is_listed, by_list, by_domain, admitted, reply_at, outcome_by, outcome_after_checks, accept}
 use Rattle.cookie_laws.proofs.RowsOfKeys.{IsByDomain, row_of-passing}
 use Rattle.cookie_laws.proofs.StoresOfKeys.{passing_store, store_by-other, store_by-passing}
 
 -- the cookie has the key, if there is one
 abbrev pub HasKey : Key → Result Row CookieError → Type 0
 HasKey key (Ok cookie) = key_of cookie ≡ key
-HasKey key (Err refusal) = Unit {0}
+HasKey key (Err rejection) = Unit {0}
 
 -- a step after another keeps the key
-and_then-HasKey : (key : Key) (created : Result Row CookieError) (next : Row → Result Row CookieError) → HasKey key created → ((cookie : Row) → key_of cookie ≡ key → HasKey key (next cookie)) → HasKey key (and_then created next)
+and_then-HasKey : (key : Key) (cookie_result : Result Row CookieError) (next : Row → Result Row CookieError) → HasKey key cookie_result → ((cookie : Row) → key_of cookie ≡ key → HasKey key (next cookie)) → HasKey key (and_then cookie_result next)
 and_then-HasKey key (Ok cookie) next same after = after cookie same
-and_then-HasKey key (Err refusal) next same after = tt
+and_then-HasKey key (Err rejection) next same after = tt
 
 -- each step keeps the key of its cookie
 by_scheme-HasKey : (key : Key) (url : Parts) (cookie : Row) → key_of cookie ≡ key → HasKey key (by_scheme url cookie)
@@ -53,20 +53,20 @@ passing_outcome test outcome = record { reply = outcome.reply; store = passing_s
 
 module _ (test : Key → Bool) (by_domain : IsByDomain test) where
   -- an admitted cookie whose key passes has the same outcome among the rows that pass
-  entered-passing : (key : Key) (created : Result Row CookieError) (url : Parts) (now : Moment) (store : Contents) → HasKey key created → test key ≡ true
-      → entered created url now (passing_store test store) ≡ passing_outcome test (entered created url now store)
-  entered-passing key (Err refusal) url now store same here = refl
-  entered-passing key (Ok cookie) url now store same here =
+  outcome_after_checks-passing : (key : Key) (cookie_result : Result Row CookieError) (url : Parts) (now : Moment) (store : Contents) → HasKey key cookie_result → test key ≡ true
+      → outcome_after_checks cookie_result url now (passing_store test store) ≡ passing_outcome test (outcome_after_checks cookie_result url now store)
+  outcome_after_checks-passing key (Err rejection) url now store same here = refl
+  outcome_after_checks-passing key (Ok cookie) url now store same here =
       let passes : test (key_of cookie) ≡ true = ap test same ∙ here in
       let reply = reply_at (row_of (key_of cookie) store.rows) cookie url now in
       ap (λ row. outcome_by (reply_at row cookie url now) (passing_store test store) cookie now) (row_of-passing test (key_of cookie) store.rows passes)
       ∙ ap {B = Outcome} (λ after. record { reply = reply; store = after }) (store_by-passing test by_domain reply store cookie now passes)
 
   -- one whose key does not pass changes nothing among them
-  entered-other : (key : Key) (created : Result Row CookieError) (url : Parts) (now : Moment) (store : Contents) → HasKey key created → test key ≡ false
-      → passing_store test (entered created url now store).store ≡ passing_store test store
-  entered-other key (Err refusal) url now store same away = refl
-  entered-other key (Ok cookie) url now store same away =
+  outcome_after_checks-other : (key : Key) (cookie_result : Result Row CookieError) (url : Parts) (now : Moment) (store : Contents) → HasKey key cookie_result → test key ≡ false
+      → passing_store test (outcome_after_checks cookie_result url now store).store ≡ passing_store test store
+  outcome_after_checks-other key (Err rejection) url now store same away = refl
+  outcome_after_checks-other key (Ok cookie) url now store same away =
       store_by-other test by_domain (reply_at (row_of (key_of cookie) store.rows) cookie url now) store cookie now (ap test same ∙ away)
 
   -- the same for any received cookie
@@ -74,10 +74,10 @@ module _ (test : Key → Bool) (by_domain : IsByDomain test) where
       → accept (passing_store test store) cookie url now ≡ passing_outcome test (accept store cookie url now)
   unfolding accept
   accept-passing store cookie url now here =
-      entered-passing (key_of cookie) (admitted store.suffixes url cookie) url now store (admitted-HasKey store.suffixes url cookie) here
+      outcome_after_checks-passing (key_of cookie) (admitted store.suffixes url cookie) url now store (admitted-HasKey store.suffixes url cookie) here
 
   pub accept-other : (store : Contents) (cookie : Row) (url : Parts) (now : Moment) → test (key_of cookie) ≡ false
       → passing_store test (accept store cookie url now).store ≡ passing_store test store
   unfolding accept
   accept-other store cookie url now away =
-      entered-other (key_of cookie) (admitted store.suffixes url cookie) url now store (admitted-HasKey store.suffixes url cookie) away
+      outcome_after_checks-other (key_of cookie) (admitted store.suffixes url cookie) url now store (admitted-HasKey store.suffixes url cookie) away

@@ -11,7 +11,7 @@ use Rattle.cookie_parts.specs.declared.store_action.StoreAction.{StoreAction}
 use Rattle.cookie_parts.specs.declared.store_action.StoreAction.TheVariants.{Inserted, ExpiredExisting, UpdatedExisting}
 use Rattle.cookie_laws.specs.Contents.{Contents, is_none_of, evicted, without}
 use Rattle.cookie_laws.specs.Rows.{key_of, has_key, in_domain, in_group, row_of, after_last, changed, replaced, removed, placed, put}
-use Rattle.cookie_laws.specs.Acceptance.{IsPut, accept, admitted, entered, received, reply_at, store_by}
+use Rattle.cookie_laws.specs.Acceptance.{IsPut, accept, admitted, outcome_after_checks, received, reply_at, store_by}
 use Rattle.cookie_laws.specs.Confinement.{Accepts, Offers, RepliesStored}
 use Rattle.cookie_laws.specs.Runs.{Call, Set, Insert, Remove, Clear, Stored, rows_after, step}
 
@@ -56,20 +56,20 @@ store_by-suffixes : (reply : Result StoreAction CookieError) (store : Contents) 
 store_by-suffixes (Ok Inserted) store cookie now = refl
 store_by-suffixes (Ok UpdatedExisting) store cookie now = refl
 store_by-suffixes (Ok ExpiredExisting) store cookie now = refl
-store_by-suffixes (Err refusal) store cookie now = refl
+store_by-suffixes (Err rejection) store cookie now = refl
 
 -- so no cookie does
-entered-suffixes : (created : Result Row CookieError) (url : Parts) (now : Moment) (store : Contents) → (entered created url now store).store.suffixes ≡ store.suffixes
-entered-suffixes (Err refusal) url now store = refl
-entered-suffixes (Ok cookie) url now store = store_by-suffixes (reply_at (row_of (key_of cookie) store.rows) cookie url now) store cookie now
+outcome_after_checks-suffixes : (cookie_result : Result Row CookieError) (url : Parts) (now : Moment) (store : Contents) → (outcome_after_checks cookie_result url now store).store.suffixes ≡ store.suffixes
+outcome_after_checks-suffixes (Err rejection) url now store = refl
+outcome_after_checks-suffixes (Ok cookie) url now store = store_by-suffixes (reply_at (row_of (key_of cookie) store.rows) cookie url now) store cookie now
 
 accept-suffixes : (store : Contents) (cookie : Row) (url : Parts) (now : Moment) → (accept store cookie url now).store.suffixes ≡ store.suffixes
 unfolding accept
-accept-suffixes store cookie url now = entered-suffixes (admitted store.suffixes url cookie) url now store
+accept-suffixes store cookie url now = outcome_after_checks-suffixes (admitted store.suffixes url cookie) url now store
 
-received-suffixes : (store : Contents) (created : Result Row CookieError) (url : Parts) (now : Moment) → (received store created url now).store.suffixes ≡ store.suffixes
+received-suffixes : (store : Contents) (cookie_result : Result Row CookieError) (url : Parts) (now : Moment) → (received store cookie_result url now).store.suffixes ≡ store.suffixes
 received-suffixes store (Ok cookie) url now = accept-suffixes store cookie url now
-received-suffixes store (Err refusal) url now = refl
+received-suffixes store (Err rejection) url now = refl
 
 -- and no call
 step-suffixes : (call : Call) (store : Contents) → (step call store).store.suffixes ≡ store.suffixes
@@ -109,13 +109,13 @@ module _ (P : Row → Type 0) (ends : (row : Row) → P row → P (expired_row r
       All-put rest.rows cookie (new (inl refl)) (All-filter (λ row. is_none_of (evicted store now (key_of cookie)) (key_of row)) P store.rows old)
   All-store_by (Ok UpdatedExisting) store cookie now new old = All-put store.rows cookie (new (inr refl)) old
   All-store_by (Ok ExpiredExisting) store cookie now new old = All-changed P (has_key (key_of cookie)) expired_row ends store.rows old
-  All-store_by (Err refusal) store cookie now new old = old
+  All-store_by (Err rejection) store cookie now new old = old
 
   -- after an admitted cookie, or an error
-  All-entered : (created : Result Row CookieError) (url : Parts) (now : Moment) (store : Contents)
-      → ((cookie : Row) → created ≡ Ok cookie → IsPut (entered created url now store).reply → P cookie) → All P store.rows → All P (entered created url now store).store.rows
-  All-entered (Err refusal) url now store new old = old
-  All-entered (Ok cookie) url now store new old =
+  All-outcome_after_checks : (cookie_result : Result Row CookieError) (url : Parts) (now : Moment) (store : Contents)
+      → ((cookie : Row) → cookie_result ≡ Ok cookie → IsPut (outcome_after_checks cookie_result url now store).reply → P cookie) → All P store.rows → All P (outcome_after_checks cookie_result url now store).store.rows
+  All-outcome_after_checks (Err rejection) url now store new old = old
+  All-outcome_after_checks (Ok cookie) url now store new old =
       All-store_by (reply_at (row_of (key_of cookie) store.rows) cookie url now) store cookie now (new cookie refl) old
 
   -- after a received cookie
@@ -123,23 +123,23 @@ module _ (P : Row → Type 0) (ends : (row : Row) → P row → P (expired_row r
       → ((cookie : Row) → admitted store.suffixes url given ≡ Ok cookie → IsPut (accept store given url now).reply → P cookie)
       → All P store.rows → All P (accept store given url now).store.rows
   unfolding accept
-  All-accept store given url now new old = All-entered (admitted store.suffixes url given) url now store new old
+  All-accept store given url now new old = All-outcome_after_checks (admitted store.suffixes url given) url now store new old
 
   -- after a received cookie, or the error from making it
-  All-received : (store : Contents) (created : Result Row CookieError) (url : Parts) (now : Moment)
-      → ((cookie : Row) → and_then created (admitted store.suffixes url) ≡ Ok cookie → IsPut (received store created url now).reply → P cookie)
-      → All P store.rows → All P (received store created url now).store.rows
+  All-received : (store : Contents) (cookie_result : Result Row CookieError) (url : Parts) (now : Moment)
+      → ((cookie : Row) → and_then cookie_result (admitted store.suffixes url) ≡ Ok cookie → IsPut (received store cookie_result url now).reply → P cookie)
+      → All P store.rows → All P (received store cookie_result url now).store.rows
   All-received store (Ok given) url now new old = All-accept store given url now new old
-  All-received store (Err refusal) url now new old = old
+  All-received store (Err rejection) url now new old = old
 
   -- after a call
   All-step : (call : Call) (store : Contents)
       → ((from : Parts) (cookie : Row) → Offers store.suffixes call from cookie → RepliesStored (Some (step call store).reply) → P cookie)
       → All P store.rows → All P (step call store).store.rows
   All-step (Set text url now) store new old =
-      let created = cookie_from_header text url now in
-      All-received store created url now
-      (λ cookie enters is_put. new url cookie (refl, enters) (says_put (received store created url now).reply is_put))
+      let cookie_result = cookie_from_header text url now in
+      All-received store cookie_result url now
+      (λ cookie enters is_put. new url cookie (refl, enters) (says_put (received store cookie_result url now).reply is_put))
       old
   All-step (Insert given url now) store new old =
       All-accept store given url now

@@ -15,7 +15,7 @@ use Rattle.cookie_parts.specs.Hosts.{covers, host_of, passes}
 use Rattle.cookie_parts.specs.declared.cookie_error.CookieError.{CookieError}
 use Rattle.cookie_parts.specs.declared.cookie_error.CookieError.TheVariants.{DomainMismatch, PublicSuffix}
 use Rattle.cookie_laws.specs.Acceptance.{admitted, by_domain, by_list, by_scheme, is_listed}
-use Rattle.cookie_laws.specs.Confinement.{Accepts, Offers, HaveOneHost, IsConfined, IsConfinedAsPut, IsShared, IsPutOrExpired, IsUnlisted}
+use Rattle.cookie_laws.specs.Confinement.{Accepts, Offers, HaveOneHost, IsConfined, IsConfinedAsPut, IsShared, IsPutOrExpired, IsUnlisted, WasAccepted}
 use Rattle.cookie_laws.specs.Contents.{Contents}
 use Rattle.cookie_laws.specs.Given.{given, is_given}
 use Rattle.cookie_laws.specs.Runs.{Call, Set, Insert, Remove, Clear, rows_after}
@@ -27,19 +27,19 @@ abbrev pub SharesUnlisted : Option RuleList → Row → Type 0
 SharesUnlisted suffixes cookie = (domain : List ℕ) → cookie.domain ≡ Suffix domain → IsUnlisted suffixes domain
 
 -- the cookie may come from this URL
-pub record MayCome (suffixes : Option RuleList) (url : Parts) (cookie : Row) : Type 0 where
+pub record MayBeReceived (suffixes : Option RuleList) (url : Parts) (cookie : Row) : Type 0 where
   pub matches : domain_matches cookie.domain url ≡ true
   pub shares : SharesUnlisted suffixes cookie
 
 -- what holds of the made cookie, if there is one
-pub IfOk_at : (P : Row → Type 0) (created : Result Row CookieError) (cookie : Row) → IfOk created P → created ≡ Ok cookie → P cookie
-IfOk_at P created cookie holds is = subst (λ r. IfOk r P) is holds
+pub IfOk_at : (P : Row → Type 0) (cookie_result : Result Row CookieError) (cookie : Row) → IfOk cookie_result P → cookie_result ≡ Ok cookie → P cookie
+IfOk_at P cookie_result cookie holds is = subst (λ r. IfOk r P) is holds
 
 -- what a step after another gives
-and_then-IfOk : (P : Row → Type 0) (created : Result Row CookieError) (next : Row → Result Row CookieError)
-    → ((cookie : Row) → created ≡ Ok cookie → IfOk (next cookie) P) → IfOk (and_then created next) P
+and_then-IfOk : (P : Row → Type 0) (cookie_result : Result Row CookieError) (next : Row → Result Row CookieError)
+    → ((cookie : Row) → cookie_result ≡ Ok cookie → IfOk (next cookie) P) → IfOk (and_then cookie_result next) P
 and_then-IfOk P (Ok cookie) next after = after cookie refl
-and_then-IfOk P (Err refusal) next after = tt
+and_then-IfOk P (Err rejection) next after = tt
 
 -- step 5 admits no domain cookie with a listed domain
 by_list-shares : (suffixes : Option RuleList) (url : Parts) (cookie : Row) → IfOk (by_list suffixes url cookie) (SharesUnlisted suffixes)
@@ -51,36 +51,31 @@ by_list-shares suffixes url cookie =
     (λ _ domain is. cc) (λ _. tt))
 
 -- step 6 admits what matches the host
-by_domain-MayCome : (suffixes : Option RuleList) (url : Parts) (cookie : Row) → SharesUnlisted suffixes cookie → IfOk (by_domain url cookie) (MayCome suffixes url)
-by_domain-MayCome suffixes url cookie shares =
-    cond_both (domain_matches cookie.domain url) (Ok cookie) (Err DomainMismatch) (λ r. IfOk r (MayCome suffixes url))
+by_domain-MayBeReceived : (suffixes : Option RuleList) (url : Parts) (cookie : Row) → SharesUnlisted suffixes cookie → IfOk (by_domain url cookie) (MayBeReceived suffixes url)
+by_domain-MayBeReceived suffixes url cookie shares =
+    cond_both (domain_matches cookie.domain url) (Ok cookie) (Err DomainMismatch) (λ r. IfOk r (MayBeReceived suffixes url))
     (λ matches. record { matches = matches; shares = shares }) (λ _. tt)
 
 -- an admitted cookie may come from its URL
-pub admitted-MayCome : (suffixes : Option RuleList) (url : Parts) (cookie : Row) → IfOk (admitted suffixes url cookie) (MayCome suffixes url)
-admitted-MayCome suffixes url cookie =
-    let created = and_then (by_scheme url cookie) (by_list suffixes url) in
-    let shares : IfOk created (SharesUnlisted suffixes) = and_then-IfOk (SharesUnlisted suffixes) (by_scheme url cookie) (by_list suffixes url) (λ passed _. by_list-shares suffixes url passed) in
-    and_then-IfOk (MayCome suffixes url) created (by_domain url)
-    (λ passed is. by_domain-MayCome suffixes url passed (IfOk_at (SharesUnlisted suffixes) created passed shares is))
+pub admitted-MayBeReceived : (suffixes : Option RuleList) (url : Parts) (cookie : Row) → IfOk (admitted suffixes url cookie) (MayBeReceived suffixes url)
+admitted-MayBeReceived suffixes url cookie =
+    let cookie_result = and_then (by_scheme url cookie) (by_list suffixes url) in
+    let shares : IfOk cookie_result (SharesUnlisted suffixes) = and_then-IfOk (SharesUnlisted suffixes) (by_scheme url cookie) (by_list suffixes url) (λ passed _. by_list-shares suffixes url passed) in
+    and_then-IfOk (MayBeReceived suffixes url) cookie_result (by_domain url)
+    (λ passed is. by_domain-MayBeReceived suffixes url passed (IfOk_at (SharesUnlisted suffixes) cookie_result passed shares is))
 
 -- so may the cookie that a call brings
-Offers-MayCome : (suffixes : Option RuleList) (call : Call) (from : Parts) (cookie : Row) → Offers suffixes call from cookie → MayCome suffixes from cookie
-Offers-MayCome suffixes (Set text url now) from cookie brings =
-    let may : MayCome suffixes url cookie = IfOk_at (MayCome suffixes url) (and_then (cookie_from_header text url now) (admitted suffixes url)) cookie
-    (and_then-IfOk (MayCome suffixes url) (cookie_from_header text url now) (admitted suffixes url) (λ created _. admitted-MayCome suffixes url created))
+Offers-MayBeReceived : (suffixes : Option RuleList) (call : Call) (from : Parts) (cookie : Row) → Offers suffixes call from cookie → MayBeReceived suffixes from cookie
+Offers-MayBeReceived suffixes (Set text url now) from cookie brings =
+    let may : MayBeReceived suffixes url cookie = IfOk_at (MayBeReceived suffixes url) (and_then (cookie_from_header text url now) (admitted suffixes url)) cookie
+    (and_then-IfOk (MayBeReceived suffixes url) (cookie_from_header text url now) (admitted suffixes url) (λ cookie_result _. admitted-MayBeReceived suffixes url cookie_result))
     brings.1 in
-    subst (λ place. MayCome suffixes place cookie) (sym brings.0) may
-Offers-MayCome suffixes (Insert given url now) from cookie brings =
-    let may : MayCome suffixes url cookie = IfOk_at (MayCome suffixes url) (admitted suffixes url given) cookie (admitted-MayCome suffixes url given) brings.1 in
-    subst (λ place. MayCome suffixes place cookie) (sym brings.0) may
-Offers-MayCome suffixes (Remove key) from cookie brings = absurd brings
-Offers-MayCome suffixes Clear from cookie brings = absurd brings
-
--- a call of the run stored the row, which may have been expired since
-abbrev WasAccepted : List Call → Contents → Row → Type 0
-WasAccepted calls store row =
-    (place : ℕ) × (from : Parts) × (accepted : Row) × Accepts calls store place from accepted × IsPutOrExpired accepted row
+    subst (λ place. MayBeReceived suffixes place cookie) (sym brings.0) may
+Offers-MayBeReceived suffixes (Insert given url now) from cookie brings =
+    let may : MayBeReceived suffixes url cookie = IfOk_at (MayBeReceived suffixes url) (admitted suffixes url given) cookie (admitted-MayBeReceived suffixes url given) brings.1 in
+    subst (λ place. MayBeReceived suffixes place cookie) (sym brings.0) may
+Offers-MayBeReceived suffixes (Remove key) from cookie brings = absurd brings
+Offers-MayBeReceived suffixes Clear from cookie brings = absurd brings
 
 -- a stored row remains so when it expires
 ends-IsPutOrExpired : (accepted row : Row) → IsPutOrExpired accepted row → IsPutOrExpired accepted (expired_row row)
@@ -93,7 +88,7 @@ same_domain accepted row (inl is) = sym (ap (λ c. c.domain) is)
 same_domain accepted row (inr is) = sym (ap (λ c. c.domain) is)
 
 -- each row was stored
-rows-accepted : (calls : List Call) (store : Contents) → store.rows ≡ [] → All (WasAccepted calls store) (rows_after calls store)
+pub rows-accepted : (calls : List Call) (store : Contents) → store.rows ≡ [] → All (WasAccepted calls store) (rows_after calls store)
 rows-accepted calls store empty =
     All-rows_after (WasAccepted calls store) (λ row was. (was.0, was.1, was.2, was.3, ends-IsPutOrExpired was.2 row was.4)) calls store
     (λ place from cookie accepts. (place, from, cookie, accepts, inl refl))
@@ -144,7 +139,7 @@ row-confined url now calls store row was is =
     let from = was.1 in
     let accepted = was.2 in
     let same : accepted.domain ≡ row.domain = same_domain accepted row was.4 in
-    let may = Offers-MayCome store.suffixes was.3.0.0 from accepted was.3.0.2 in
+    let may = Offers-MayBeReceived store.suffixes was.3.0.0 from accepted was.3.0.2 in
     let first : domain_matches row.domain from ≡ true = sym (ap (λ domain. domain_matches domain from) same) ∙ may.matches in
     let shares = λ (domain : List ℕ) (suffix : row.domain ≡ Suffix domain). may.shares domain (same ∙ suffix) in
     (was.0, from, accepted, was.3, was.4, hosts_of store.suffixes row from url row.domain refl shares first (given-matches url now row is))

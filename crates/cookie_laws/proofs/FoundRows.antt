@@ -55,8 +55,8 @@ row_of-put_other key rows cookie away =
     sym (row_of-passing test key (put rows cookie) here) ∙ ap (row_of key) (put-other test rows cookie away) ∙ row_of-passing test key rows here
 
 -- nor does expiring the row of another key
-pub row_of-ended_other : (key own : Key) (rows : List Row) → same_key key own ≡ false → row_of key (changed (has_key own) expired_row rows) ≡ row_of key rows
-row_of-ended_other key own rows away =
+pub row_of-expired_other : (key own : Key) (rows : List Row) → same_key key own ≡ false → row_of key (changed (has_key own) expired_row rows) ≡ row_of key rows
+row_of-expired_other key own rows away =
     let test = same_key key in
     let here : test key ≡ true = same_key_equiv.refl key in
     sym (row_of-passing test key (changed (has_key own) expired_row rows) here) ∙ ap (row_of key) (expired_row-other test own rows away) ∙ row_of-passing test key rows here

@@ -4,14 +4,15 @@ pub mod CallsOfDomain
 pub mod ConfinedRows
 pub mod CountedKeys
 pub mod CoveredHosts
+pub mod CreationKeys
 pub mod DifferentKeys
+pub mod DomainEvictionOrder
+pub mod EvictedKeys
 pub mod Filtered
 pub mod FoundRows
 pub mod HeaderOrder
-pub mod KeptByCalls
-pub mod LeavingKeys
 pub mod LimitedRows
-pub mod MadeKeys
+pub mod PreservedByCalls
 pub mod RebuiltRows
 pub mod ReceivedCookies
 pub mod RelatedCalls
@@ -20,5 +21,4 @@ pub mod RunsOfKeys
 pub mod SameCounts
 pub mod SingleInsertions
 pub mod StoresOfKeys
-pub mod TurnsToLeave
 pub mod UnexpiredRows

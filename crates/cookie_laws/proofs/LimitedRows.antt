@@ -12,7 +12,7 @@ use Rattle.cookie_parts.specs.Domain.{domain_text}
 use Rattle.cookie_parts.specs.declared.cookie_error.CookieError.{CookieError}
 use Rattle.cookie_parts.specs.declared.store_action.StoreAction.{StoreAction}
 use Rattle.cookie_parts.specs.declared.store_action.StoreAction.TheVariants.{Inserted, ExpiredExisting, UpdatedExisting}
-use Rattle.cookie_laws.specs.Acceptance.{accept, admitted, entered, put_action, received, reply_at, store_by}
+use Rattle.cookie_laws.specs.Acceptance.{accept, admitted, outcome_after_checks, put_action, received, reply_at, store_by}
 use Rattle.cookie_laws.specs.Contents.{Contents, HasCreationOrder, is_none_of, evicted, without}
 use Rattle.cookie_laws.specs.Related.{domain_keys, domain_rows}
 use Rattle.cookie_laws.specs.Rows.{Key, has_key, key_of, add_created, removed, row_of, same_domain, same_domain_equiv, same_key}
@@ -21,9 +21,9 @@ use Rattle.cookie_laws.proofs.AcceptanceOfKeys.{HasKey, admitted-HasKey}
 use Rattle.cookie_laws.proofs.CallsOfDomain.{is_in}
 use Rattle.cookie_laws.proofs.CountedKeys.{alike-any, pushed-count}
 use Rattle.cookie_laws.proofs.Filtered.{none-filter}
-use Rattle.cookie_laws.proofs.KeptByCalls.{store_after-keeps}
-use Rattle.cookie_laws.proofs.LeavingKeys.{filter-fewer, own-count, removed-fewer}
-use Rattle.cookie_laws.proofs.MadeKeys.{MadeOnce, once-none, once-removed, once-store_by, once_from_made}
+use Rattle.cookie_laws.proofs.PreservedByCalls.{store_after-keeps}
+use Rattle.cookie_laws.proofs.EvictedKeys.{filter-fewer, own-count, removed-fewer}
+use Rattle.cookie_laws.proofs.CreationKeys.{AreCreationKeys, once-none, once-removed, once-store_by, once_from_made}
 use Rattle.cookie_laws.proofs.StoresOfKeys.{add_created-other}
 
 -- a reply shows whether there was a row of the key
@@ -56,7 +56,7 @@ found-any test [] = refl
 found-any test (x ∷ xs) = grind (arith, found-any test xs)
 
 -- the key is in the creation order if it has a row
-pub row-created : (key : Key) (store : Contents) → MadeOnce store.rows store.created
+pub row-created : (key : Key) (store : Contents) → AreCreationKeys store.rows store.created
     → is_some (row_of key store.rows) ≡ list_any (same_key key) store.created
 row-created key store once = found-any (has_key key) store.rows ∙ alike-any store.rows store.created once.0 (same_key key)
 
@@ -69,7 +69,7 @@ own_keys key store = length (filter (same_domain key) store.created)
 -- with a limit greater than zero
 module _ (limit : ℕ) (some : 0 < limit) where
   -- after a new key there is one more of its domain than before, but at most the limit
-  inserted-count : (store : Contents) (cookie : Row) (now : Moment) → store.limit ≡ Some limit → MadeOnce store.rows store.created
+  inserted-count : (store : Contents) (cookie : Row) (now : Moment) → store.limit ≡ Some limit → AreCreationKeys store.rows store.created
       → list_any (same_key (key_of cookie)) store.created ≡ false
       → own_keys (key_of cookie) (store_by (Ok Inserted) store cookie now) ≡ min limit (own_keys (key_of cookie) store + 1)
   inserted-count store cookie now under once new =
@@ -86,7 +86,7 @@ module _ (limit : ℕ) (some : 0 < limit) where
   -- the keys are counted as the rows, the limit is this one, and of the domain there are at most so many keys
   abbrev Within : List ℕ → ℕ → Contents → Type 0
   Within domain most store =
-      MadeOnce store.rows store.created × (store.limit ≡ Some limit) × (length (domain_keys domain store.created) ≤ most)
+      AreCreationKeys store.rows store.created × (store.limit ≡ Some limit) × (length (domain_keys domain store.created) ≤ most)
 
   -- of a domain no more than so many, which are no fewer than the limit
   module _ (domain : List ℕ) (most : ℕ) (above : limit ≤ most) where
@@ -125,7 +125,7 @@ module _ (limit : ℕ) (some : 0 < limit) where
         (once, within.1, subst (λ keys. length (domain_keys domain keys) ≤ most) (sym same) within.2)
     store_by-within (Ok ExpiredExisting) store cookie now new old within =
         (once-store_by (Ok ExpiredExisting) store cookie now within.0, within.1, within.2)
-    store_by-within (Err refusal) store cookie now new old within = within
+    store_by-within (Err rejection) store cookie now new old within = within
 
     -- after the outcome of an admitted cookie
     answer-within : (store : Contents) (cookie : Row) (url : Parts) (now : Moment) → Within domain most store
@@ -155,7 +155,7 @@ abbrev domain_count : List ℕ → Contents → ℕ
 domain_count domain store = length (domain_rows domain store.rows)
 
 -- as many as keys
-rows-as-keys : (domain : List ℕ) (store : Contents) → MadeOnce store.rows store.created
+rows-as-keys : (domain : List ℕ) (store : Contents) → AreCreationKeys store.rows store.created
     → domain_count domain store ≡ length (domain_keys domain store.created)
 rows-as-keys domain store once = once.0 (is_in domain)
 
@@ -177,11 +177,11 @@ abbrev Fills : ℕ → List ℕ → Contents → Contents → Type 0
 Fills limit domain before after = domain_count domain after ≡ min limit (domain_count domain before + 1)
 
 -- an admitted cookie of the key, or an error
-entered-fills : (key : Key) (created : Result Row CookieError) (url : Parts) (now : Moment) (store : Contents) (limit : ℕ) → HasKey key created
-    → MadeOnce store.rows store.created → store.limit ≡ Some limit → 0 < limit → (entered created url now store).reply ≡ Ok Inserted
-    → Fills limit key.domain store (entered created url now store).store
-entered-fills key (Err refusal) url now store limit same once under some is = absurd (grind (arith, is))
-entered-fills key (Ok cookie) url now store limit same once under some is =
+outcome_after_checks-fills : (key : Key) (cookie_result : Result Row CookieError) (url : Parts) (now : Moment) (store : Contents) (limit : ℕ) → HasKey key cookie_result
+    → AreCreationKeys store.rows store.created → store.limit ≡ Some limit → 0 < limit → (outcome_after_checks cookie_result url now store).reply ≡ Ok Inserted
+    → Fills limit key.domain store (outcome_after_checks cookie_result url now store).store
+outcome_after_checks-fills key (Err rejection) url now store limit same once under some is = absurd (grind (arith, is))
+outcome_after_checks-fills key (Ok cookie) url now store limit same once under some is =
     let own = key_of cookie in
     let row = row_of own store.rows in
     let new = sym (row-created own store once) ∙ reply_at-new row cookie url now is in
@@ -189,7 +189,7 @@ entered-fills key (Ok cookie) url now store limit same once under some is =
     let after = rows-as-keys own.domain (store_by (Ok Inserted) store cookie now) (once-store_by (Ok Inserted) store cookie now once) in
     let fills : Fills limit own.domain store (store_by (Ok Inserted) store cookie now) =
     after ∙ inserted-count limit some store cookie now under once new ∙ ap (λ n. min limit (n + 1)) (sym before) in
-    subst (λ k. Fills limit k.domain store (entered (Ok cookie) url now store).store) same
+    subst (λ k. Fills limit k.domain store (outcome_after_checks (Ok cookie) url now store).store) same
     (subst (λ reply. Fills limit own.domain store (store_by reply store cookie now)) (sym is) fills)
 
 -- any received cookie
@@ -198,14 +198,14 @@ accept-fills : (store : Contents) (cookie : Row) (url : Parts) (now : Moment) (l
     → Fills limit (domain_text cookie.domain) store (accept store cookie url now).store
 unfolding accept
 accept-fills store cookie url now limit has under some is =
-    entered-fills (key_of cookie) (admitted store.suffixes url cookie) url now store limit (admitted-HasKey store.suffixes url cookie)
+    outcome_after_checks-fills (key_of cookie) (admitted store.suffixes url cookie) url now store limit (admitted-HasKey store.suffixes url cookie)
     (once_from_made store has) under some is
 
 -- and a received cookie, or the error from making it
-pub inserted_rows : (store : Contents) (created : Result Row CookieError) (url : Parts) (now : Moment) (cookie : Row) (limit : ℕ)
-    → HasCreationOrder store → store.limit ≡ Some limit → 0 < limit → created ≡ Ok cookie → (received store created url now).reply ≡ Ok Inserted
-    → length (domain_rows (domain_text cookie.domain) (received store created url now).store.rows)
+pub inserted_rows : (store : Contents) (cookie_result : Result Row CookieError) (url : Parts) (now : Moment) (cookie : Row) (limit : ℕ)
+    → HasCreationOrder store → store.limit ≡ Some limit → 0 < limit → cookie_result ≡ Ok cookie → (received store cookie_result url now).reply ≡ Ok Inserted
+    → length (domain_rows (domain_text cookie.domain) (received store cookie_result url now).store.rows)
     ≡ min limit (length (domain_rows (domain_text cookie.domain) store.rows) + 1)
-inserted_rows store created url now cookie limit has under some is inserted =
+inserted_rows store cookie_result url now cookie limit has under some is inserted =
     subst (λ m. Fills limit (domain_text cookie.domain) store (received store m url now).store) (sym is)
     (accept-fills store cookie url now limit has under some (sym (ap (λ m. (received store m url now).reply) is) ∙ inserted))

@@ -28,18 +28,18 @@ abbrev passing_step : (Key → Bool) → Step → Step
 passing_step test after = record { reply = after.reply; store = passing_store test after.store }
 
 -- a made cookie whose key passes, or an error
-received-passing : (test : Key → Bool) → IsByDomain test → (store : Contents) (created : Result Row CookieError) (url : Parts) (now : Moment)
-    → ((key : Key) → option_map key_of (result_ok created) ≡ Some key → test key ≡ true)
-    → received (passing_store test store) created url now ≡ passing_outcome test (received store created url now)
+received-passing : (test : Key → Bool) → IsByDomain test → (store : Contents) (cookie_result : Result Row CookieError) (url : Parts) (now : Moment)
+    → ((key : Key) → option_map key_of (result_ok cookie_result) ≡ Some key → test key ≡ true)
+    → received (passing_store test store) cookie_result url now ≡ passing_outcome test (received store cookie_result url now)
 received-passing test by_domain store (Ok cookie) url now here = accept-passing test by_domain store cookie url now (here (key_of cookie) refl)
-received-passing test by_domain store (Err refusal) url now here = refl
+received-passing test by_domain store (Err rejection) url now here = refl
 
 -- and one whose key does not
-received-other : (test : Key → Bool) → IsByDomain test → (store : Contents) (created : Result Row CookieError) (url : Parts) (now : Moment)
-    → ((key : Key) → option_map key_of (result_ok created) ≡ Some key → test key ≡ false)
-    → passing_store test (received store created url now).store ≡ passing_store test store
+received-other : (test : Key → Bool) → IsByDomain test → (store : Contents) (cookie_result : Result Row CookieError) (url : Parts) (now : Moment)
+    → ((key : Key) → option_map key_of (result_ok cookie_result) ≡ Some key → test key ≡ false)
+    → passing_store test (received store cookie_result url now).store ≡ passing_store test store
 received-other test by_domain store (Ok cookie) url now away = accept-other test by_domain store cookie url now (away (key_of cookie) refl)
-received-other test by_domain store (Err refusal) url now away = refl
+received-other test by_domain store (Err rejection) url now away = refl
 
 -- a call that is kept does the same among the rows that pass
 step-kept : {test : Key → Bool} {keeps : Call → Bool} → IsOfKeys test keeps → (call : Call) (store : Contents) → keeps call ≡ true

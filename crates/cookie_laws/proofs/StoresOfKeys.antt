@@ -10,7 +10,7 @@ use Rattle.cookie_parts.specs.declared.cookie_error.CookieError.{CookieError}
 use Rattle.cookie_parts.specs.declared.store_action.StoreAction.{StoreAction}
 use Rattle.cookie_parts.specs.declared.store_action.StoreAction.TheVariants.{Inserted, ExpiredExisting, UpdatedExisting}
 use Rattle.cookie_laws.specs.Acceptance.{store_by}
-use Rattle.cookie_laws.specs.Contents.{Contents, over_limit, eviction_order, has_expired, is_none_of, keep, evicted, without}
+use Rattle.cookie_laws.specs.Contents.{Contents, over_limit, eviction_order, has_expired, is_none_of, with_cookie, evicted, without}
 use Rattle.cookie_laws.specs.Rows.{Key, key_of, add_created, removed, same_domain, same_key, same_key-true}
 use Rattle.cookie_laws.proofs.Filtered.{filter-alike, filter-swap, filter-within, list_any-kept, none-append, none-apart, none-filter, none-take, removed-kept, removed-lost}
 use Rattle.cookie_laws.proofs.RowsOfKeys.{IsByDomain, cond_alike, expired_row-other, expired_row-passing, passing, put-other, put-passing, row_of-passing}
@@ -48,15 +48,15 @@ add_created-other test created key away =
     (λ _. filter-append test created (key ∷ []) ∙ ap (λ b. filter test created ++ (if b then key ∷ [] else [])) away ∙ append-nil (filter test created))
 
 -- a cookie is kept whose key passes
-keep-passing : (test : Key → Bool) → IsByDomain test → (store : Contents) (cookie : Row) → test (key_of cookie) ≡ true → passing_store test (keep store cookie) ≡ keep (passing_store test store) cookie
-keep-passing test by_domain store cookie here =
+with_cookie-passing : (test : Key → Bool) → IsByDomain test → (store : Contents) (cookie : Row) → test (key_of cookie) ≡ true → passing_store test (with_cookie store cookie) ≡ with_cookie (passing_store test store) cookie
+with_cookie-passing test by_domain store cookie here =
     let rows = put-passing test by_domain store.rows cookie here in
     let created = add_created-passing test store.created (key_of cookie) here in
     λ i. record store { rows = rows i; created = created i }
 
 -- a cookie is kept whose key does not pass
-keep-other : (test : Key → Bool) (store : Contents) (cookie : Row) → test (key_of cookie) ≡ false → passing_store test (keep store cookie) ≡ passing_store test store
-keep-other test store cookie away =
+with_cookie-other : (test : Key → Bool) (store : Contents) (cookie : Row) → test (key_of cookie) ≡ false → passing_store test (with_cookie store cookie) ≡ passing_store test store
+with_cookie-other test store cookie away =
     let rows = put-other test store.rows cookie away in
     let created = add_created-other test store.created (key_of cookie) away in
     λ i. record store { rows = rows i; created = created i }
@@ -121,24 +121,24 @@ pub store_by-passing : (test : Key → Bool) → IsByDomain test → (reply : Re
     → store_by reply (passing_store test store) cookie now ≡ passing_store test (store_by reply store cookie now)
 store_by-passing test by_domain (Ok Inserted) store cookie now here =
     let keys = evicted store now (key_of cookie) in
-    ap (λ leaves. keep (without leaves (passing_store test store)) cookie) (evicted-passing test by_domain store now (key_of cookie) here)
-    ∙ ap (λ rest. keep rest cookie) (sym (without-passing test keys store))
-    ∙ sym (keep-passing test by_domain (without keys store) cookie here)
-store_by-passing test by_domain (Ok UpdatedExisting) store cookie now here = sym (keep-passing test by_domain store cookie here)
+    ap (λ leaves. with_cookie (without leaves (passing_store test store)) cookie) (evicted-passing test by_domain store now (key_of cookie) here)
+    ∙ ap (λ rest. with_cookie rest cookie) (sym (without-passing test keys store))
+    ∙ sym (with_cookie-passing test by_domain (without keys store) cookie here)
+store_by-passing test by_domain (Ok UpdatedExisting) store cookie now here = sym (with_cookie-passing test by_domain store cookie here)
 store_by-passing test by_domain (Ok ExpiredExisting) store cookie now here =
     let rows = expired_row-passing test (key_of cookie) store.rows here in
     λ i. record (passing_store test store) { rows = sym rows i }
-store_by-passing test by_domain (Err refusal) store cookie now here = refl
+store_by-passing test by_domain (Err rejection) store cookie now here = refl
 
 -- and for one whose key does not
 pub store_by-other : (test : Key → Bool) → IsByDomain test → (reply : Result StoreAction CookieError) (store : Contents) (cookie : Row) (now : Moment) → test (key_of cookie) ≡ false
     → passing_store test (store_by reply store cookie now) ≡ passing_store test store
 store_by-other test by_domain (Ok Inserted) store cookie now away =
     let keys = evicted store now (key_of cookie) in
-    keep-other test (without keys store) cookie away
+    with_cookie-other test (without keys store) cookie away
     ∙ without-other test keys (evicted-other test by_domain store now (key_of cookie) away) store
-store_by-other test by_domain (Ok UpdatedExisting) store cookie now away = keep-other test store cookie away
+store_by-other test by_domain (Ok UpdatedExisting) store cookie now away = with_cookie-other test store cookie away
 store_by-other test by_domain (Ok ExpiredExisting) store cookie now away =
     let rows = expired_row-other test (key_of cookie) store.rows away in
     λ i. record (passing_store test store) { rows = rows i }
-store_by-other test by_domain (Err refusal) store cookie now away = refl
+store_by-other test by_domain (Err rejection) store cookie now away = refl

@@ -10,7 +10,7 @@ use Rattle.cookie_parts.specs.Cookie.{Row, is_expired}
 use Rattle.cookie_parts.specs.Hosts.{passes}
 use Rattle.cookie_laws.specs.Contents.{Contents, HasCreationOrder, has_expired, unexpired}
 use Rattle.cookie_laws.specs.Given.{given, is_given}
-use Rattle.cookie_laws.specs.Rows.{Key, differ, has_key, is_live, key_of, live_rows, row_of, same_key, same_key_equiv}
+use Rattle.cookie_laws.specs.Rows.{Key, differ, has_key, is_unexpired, key_of, unexpired_rows, row_of, same_key, same_key_equiv}
 use Rattle.cookie_laws.proofs.CountedKeys.{CountAlike, alike-stays}
 use Rattle.cookie_laws.proofs.DifferentKeys.{differ-filter, differ-permutation}
 use Rattle.cookie_laws.proofs.Filtered.{filter-within}
@@ -19,18 +19,18 @@ use Rattle.cookie_laws.proofs.SameCounts.{alike_from_permutation, permutation_fr
 -- the cookies for a URL
 
 -- what has expired remains so
-expired-later : (now later : Moment) (row : Row) → nanoseconds now ≤ℤ nanoseconds later → is_live later row ≡ true → is_live now row ≡ true
+expired-later : (now later : Moment) (row : Row) → nanoseconds now ≤ℤ nanoseconds later → is_unexpired later row ≡ true → is_unexpired now row ≡ true
 expired-later now later row after live = grind (arith, ints, after, live)
 
 -- a row that is given later has not expired
-given-live : (url : Parts) (now later : Moment) (row : Row) → nanoseconds now ≤ℤ nanoseconds later → is_given url later row ≡ true → is_live now row ≡ true
+given-live : (url : Parts) (now later : Moment) (row : Row) → nanoseconds now ≤ℤ nanoseconds later → is_given url later row ≡ true → is_unexpired now row ≡ true
 given-live url now later row after is = expired-later now later row after (and_parts _ _ (and_parts _ _ (and_parts _ _ is).0).0).0
 
 -- so the same rows are given of those that have not
 pub given-unexpired : (store : Contents) (url : Parts) (now later : Moment) → nanoseconds now ≤ℤ nanoseconds later
     → given url later (unexpired now store).rows ≡ given url later store.rows
 given-unexpired store url now later after =
-    filter-within (is_live now) (is_given url later) (λ row is. given-live url now later row after is) store.rows
+    filter-within (is_unexpired now) (is_given url later) (λ row is. given-live url now later row after is) store.rows
 
 -- the keys in creation order
 
@@ -63,7 +63,7 @@ found-own (row ∷ rows) d =
 
 -- so a row has expired if and only if that of its key has
 live-own : (now : Moment) (all rows : List Row) → AllByRecursion (λ r. row_of (key_of r) all ≡ Some r) rows
-    → AllByRecursion (λ r. is_live now r ≡ not (has_expired now all (key_of r))) rows
+    → AllByRecursion (λ r. is_unexpired now r ≡ not (has_expired now all (key_of r))) rows
 live-own now all [] found = tt
 live-own now all (row ∷ rows) found = (ap (λ r. not (passes (is_expired now) r)) (sym found.0), live-own now all rows found.1)
 
@@ -74,8 +74,8 @@ created-unexpired store now has =
     let created = store.created in
     let stays = λ (key : Key). not (has_expired now rows key) in
     let keys = differ-permutation same_key same_key_equiv.symm created (map key_of rows) (IsPermutation-sym (map key_of rows) created has.0) has.1 in
-    let same = filter-same (is_live now) (λ (row : Row). stays (key_of row)) rows (live-own now rows rows (found-own rows keys)) in
+    let same = filter-same (is_unexpired now) (λ (row : Row). stays (key_of row)) rows (live-own now rows rows (found-own rows keys)) in
     let alike = alike-stays rows created (alike_from_permutation rows created has.0) stays in (
-      permutation_from_alike (live_rows now rows) (filter stays created) (subst (λ (calls_related_to : List Row). CountAlike calls_related_to (filter stays created)) (sym same) alike),
+      permutation_from_alike (unexpired_rows now rows) (filter stays created) (subst (λ (calls_related_to : List Row). CountAlike calls_related_to (filter stays created)) (sym same) alike),
       differ-filter same_key stays created has.1,
     )

@@ -12,8 +12,8 @@ use Rattle.cookie_parts.specs.declared.cookie_error.CookieError.{CookieError}
 use Rattle.cookie_parts.specs.declared.cookie_error.CookieError.TheVariants.{NonHttpScheme, NonRelativeScheme, DomainMismatch, Expired, Parse, PublicSuffix, UnspecifiedDomain}
 use Rattle.cookie_parts.specs.declared.store_action.StoreAction.{StoreAction}
 use Rattle.cookie_parts.specs.declared.store_action.StoreAction.TheVariants.{Inserted, ExpiredExisting, UpdatedExisting}
-use Rattle.cookie_laws.specs.Contents.{Contents, keep, evicted, without}
-use Rattle.cookie_laws.specs.Rows.{Key, changed, has_key, is_live, key_of, row_of, same_key}
+use Rattle.cookie_laws.specs.Contents.{Contents, with_cookie, evicted, without}
+use Rattle.cookie_laws.specs.Rows.{Key, changed, has_key, is_unexpired, key_of, row_of, same_key}
 
 -- the result of an insertion, and the store after it
 pub record Outcome : Type 0 where
@@ -56,53 +56,53 @@ put_action row = if is_some row then UpdatedExisting else Inserted
 -- otherwise: `Expired`. If none of these holds, the cookie is stored
 abbrev pub reply_at : Option Row → Row → Parts → Moment → Result StoreAction CookieError
 reply_at row cookie url now =
-    if passes (λ r. is_live now r && is_out_of_reach r.raw url) row then Err NonHttpScheme
-    else (if passes (is_live now) row && is_expired now cookie then Ok ExpiredExisting
+    if passes (λ r. is_unexpired now r && is_out_of_reach r.raw url) row then Err NonHttpScheme
+    else (if passes (is_unexpired now) row && is_expired now cookie then Ok ExpiredExisting
     else (if is_expired now cookie then Err Expired
     else Ok (put_action row)))
 
 -- the store after each result. Inserted: rows over the limit are evicted, then the cookie is added.
 -- Updated: the row is replaced. ExpiredExisting: the stored row is expired. Error: unchanged
 abbrev pub store_by : Result StoreAction CookieError → Contents → Row → Moment → Contents
-store_by (Ok Inserted) store cookie now = keep (without (evicted store now (key_of cookie)) store) cookie
-store_by (Ok UpdatedExisting) store cookie now = keep store cookie
+store_by (Ok Inserted) store cookie now = with_cookie (without (evicted store now (key_of cookie)) store) cookie
+store_by (Ok UpdatedExisting) store cookie now = with_cookie store cookie
 store_by (Ok ExpiredExisting) store cookie now =
     record store { rows = changed (has_key (key_of cookie)) expired_row store.rows }
-store_by (Err refusal) store cookie now = store
+store_by (Err rejection) store cookie now = store
 
 -- a result, and the store after it
 abbrev pub outcome_by : Result StoreAction CookieError → Contents → Row → Moment → Outcome
 outcome_by reply store cookie now = record { reply = reply; store = store_by reply store cookie now }
 
 -- step 11 after the other checks: on an error the store is unchanged
-abbrev pub entered : Result Row CookieError → Parts → Moment → Contents → Outcome
-entered (Err refusal) url now store = record { reply = Err refusal; store = store }
-entered (Ok cookie) url now store =
+abbrev pub outcome_after_checks : Result Row CookieError → Parts → Moment → Contents → Outcome
+outcome_after_checks (Err rejection) url now store = record { reply = Err rejection; store = store }
+outcome_after_checks (Ok cookie) url now store =
     outcome_by (reply_at (row_of (key_of cookie) store.rows) cookie url now) store cookie now
 
 -- 5.3: the outcome of inserting a cookie received from the URL at this time
 unfoldable pub accept : Contents → Row → Parts → Moment → Outcome
-accept store cookie url now = entered (admitted store.suffixes url cookie) url now store
+accept store cookie url now = outcome_after_checks (admitted store.suffixes url cookie) url now store
 
--- 5.3: the same for a cookie, or the error from making it; on that error the store is unchanged
+-- 5.3: the same for a cookie, or the error from creating it; on that error the store is unchanged
 abbrev pub received : Contents → Result Row CookieError → Parts → Moment → Outcome
-received store (Err refusal) url now = record { reply = Err refusal; store = store }
+received store (Err rejection) url now = record { reply = Err rejection; store = store }
 received store (Ok cookie) url now = accept store cookie url now
 
 -- the cookie was stored: inserted, or updated an existing row
 abbrev pub IsPut : Result StoreAction CookieError → Type 0
 IsPut reply = (reply ≡ Ok Inserted) ⊎ (reply ≡ Ok UpdatedExisting)
 
--- the errors that inserting a made cookie may return
-abbrev pub MayRefuse : CookieError → Type 0
-MayRefuse NonRelativeScheme = ⊥
-MayRefuse Parse = ⊥
-MayRefuse UnspecifiedDomain = ⊥
-MayRefuse other = ⊤
+-- the errors that inserting a created cookie may return
+abbrev pub IsInsertionError : CookieError → Type 0
+IsInsertionError NonRelativeScheme = ⊥
+IsInsertionError Parse = ⊥
+IsInsertionError UnspecifiedDomain = ⊥
+IsInsertionError other = ⊤
 
--- the row of the key is evicted for a cookie that was made and is inserted
+-- the row of the key is evicted for a cookie that was created and is inserted
 abbrev pub IsEvicted : Contents → Result Row CookieError → Parts → Moment → Key → Type 0
-IsEvicted store created url now key =
-    (cookie : Row) × (created ≡ Ok cookie) × ((received store created url now).reply ≡ Ok Inserted)
+IsEvicted store cookie_result url now key =
+    (cookie : Row) × (cookie_result ≡ Ok cookie) × ((received store cookie_result url now).reply ≡ Ok Inserted)
     × IsTrue (list_any (same_key key) (evicted store now (key_of cookie)))
-    × (row_of key (received store created url now).store.rows ≡ None)
+    × (row_of key (received store cookie_result url now).store.rows ≡ None)

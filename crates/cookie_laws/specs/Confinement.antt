@@ -33,6 +33,11 @@ Accepts calls store place from cookie =
 abbrev pub IsPutOrExpired : Row → Row → Type 0
 IsPutOrExpired accepted cookie = (cookie ≡ accepted) ⊎ (cookie ≡ expired_row accepted)
 
+-- a call of the run from this store accepted this cookie, which may have been expired since
+abbrev pub WasAccepted : List Call → Contents → Row → Type 0
+WasAccepted calls store row =
+    (place : ℕ) × (from : Parts) × (accepted : Row) × Accepts calls store place from accepted × IsPutOrExpired accepted row
+
 -- both URLs have a host, and the hosts are equal
 abbrev pub HaveOneHost : Parts → Parts → Type 0
 HaveOneHost a b = (host : List ℕ) × (host_of a ≡ Some host) × (host_of b ≡ Some host)

@@ -6,7 +6,7 @@ use Rattle.cookie_words.specs.Moments.{Moment}
 use Rattle.cookie_psl.specs.Rules.{RuleList}
 use Rattle.cookie_parts.specs.Cookie.{Row, is_expired}
 use Rattle.cookie_parts.specs.Hosts.{passes}
-use Rattle.cookie_laws.specs.Rows.{Key, RowsInOrder, differ, key_of, live_rows, add_created, put, row_of, same_domain, same_key}
+use Rattle.cookie_laws.specs.Rows.{Key, RowsInOrder, differ, key_of, unexpired_rows, add_created, put, row_of, same_domain, same_key}
 
 -- The contents of a store:
 -- - `rows`: the stored cookies
@@ -63,11 +63,11 @@ without keys store = record store {
 -- RFC 6265 5.3: the store without its expired cookies
 abbrev pub unexpired : Moment → Contents → Contents
 unexpired now store = record store {
-  rows = live_rows now store.rows;
+  rows = unexpired_rows now store.rows;
   created = filter (λ key. not (has_expired now store.rows key)) store.created;
 }
 
 -- the store with the cookie stored: it replaces the row of its key, which keeps its place in the
 -- creation order, or it is a new row, created last
-abbrev pub keep : Contents → Row → Contents
-keep store cookie = record store { rows = put store.rows cookie; created = add_created store.created (key_of cookie) }
+abbrev pub with_cookie : Contents → Row → Contents
+with_cookie store cookie = record store { rows = put store.rows cookie; created = add_created store.created (key_of cookie) }

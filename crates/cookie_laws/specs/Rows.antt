@@ -74,17 +74,17 @@ abbrev pub row_of : Key → List Row → Option Row
 row_of key rows = find (has_key key) rows
 
 -- the row has not expired
-abbrev pub is_live : Moment → Row → Bool
-is_live now row = not (is_expired now row)
+abbrev pub is_unexpired : Moment → Row → Bool
+is_unexpired now row = not (is_expired now row)
 
 -- the row, if there is one and it has not expired
-abbrev pub if_live : Moment → Option Row → Option Row
-if_live now None = None
-if_live now (Some row) = if is_live now row then Some row else None
+abbrev pub if_unexpired : Moment → Option Row → Option Row
+if_unexpired now None = None
+if_unexpired now (Some row) = if is_unexpired now row then Some row else None
 
 -- the rows that have not expired
-abbrev pub live_rows : Moment → List Row → List Row
-live_rows now rows = filter (is_live now) rows
+abbrev pub unexpired_rows : Moment → List Row → List Row
+unexpired_rows now rows = filter (is_unexpired now) rows
 
 -- the list with y inserted right after the last item that passes the test, or at the end if none
 -- does
@@ -136,7 +136,7 @@ add_all_created created (key ∷ keys) = add_all_created (add_created created ke
 
 -- all of the cookies, or only those that have not expired
 abbrev pub included : Bool → Moment → List Row → List Row
-included include_expired now cookies = if include_expired then cookies else live_rows now cookies
+included include_expired now cookies = if include_expired then cookies else unexpired_rows now cookies
 
 -- rows, and their keys in creation order, oldest first
 pub record RowsInOrder : Type 0 where

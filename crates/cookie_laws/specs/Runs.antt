@@ -65,7 +65,7 @@ rows_after calls store = (store_after calls store).rows
 abbrev pub IsReply : Result StoreAction CookieError → Reply → Type 0
 IsReply (Ok action) reply = reply ≡ Stored (Ok action)
 IsReply (Err Memory) reply = ⊤
-IsReply (Err refusal) reply = reply ≡ Stored (Err refusal)
+IsReply (Err rejection) reply = reply ≡ Stored (Err rejection)
 
 -- the proposition, unless the result is out of memory
 abbrev pub UnlessMemory : Result StoreAction CookieError → Type 0 → Type 0

@@ -13,12 +13,12 @@ ghost use Rattle.cookie_parts.specs.Hosts.{host_of};
 ghost use Rattle.cookie_parts.specs.declared.cookie_error.CookieError.{CookieError};
 ghost use Rattle.cookie_parts.specs.declared.store_action.StoreAction.TheVariants.{ExpiredExisting, Inserted};
 ghost use Rattle.cookie_laws.specs.Acceptance.{admitted, is_listed, received, IsPut, IsEvicted};
-ghost use Rattle.cookie_laws.specs.Confinement.{IsConfined, IsConfinedAsPut};
+ghost use Rattle.cookie_laws.specs.Confinement.{IsConfined, IsConfinedAsPut, WasAccepted};
 ghost use Rattle.cookie_laws.specs.Contents.{contents_of, has_expired, evicted, unexpired, Contents, HasCreationOrder};
 ghost use Rattle.cookie_laws.specs.Given.{given, is_given};
 ghost use Rattle.cookie_laws.specs.Header.{InHeaderOrder};
 ghost use Rattle.cookie_laws.specs.Related.{may_affect, domain_calls, domain_keys, domain_rows, is_of_domain, is_related, calls_related_to, replies_to};
-ghost use Rattle.cookie_laws.specs.Rows.{are_rows, built, changed, has_key, is_live, key_of, row_of, same_domain, same_key, Key};
+ghost use Rattle.cookie_laws.specs.Rows.{are_rows, built, changed, has_key, is_unexpired, key_of, row_of, same_domain, same_key, Key};
 ghost use Rattle.cookie_laws.specs.Runs.{Call, replies, rows_after, store_after};
 ghost use Rattle.cookie_psl.specs.Rules.{RuleList};
 ghost use Rattle.cookie_words.specs.Moments.{epoch, nanoseconds, Moment};
@@ -42,7 +42,7 @@ pub fn isolated()
 pub fn per_domain()
     ensures rows { (domain : List ℕ) (calls : List Call) (store : Contents)
         → domain_rows domain (rows_after calls store) ≡ domain_rows domain (rows_after (domain_calls domain calls) store) }
-    ensures created { (domain : List ℕ) (calls : List Call) (store : Contents)
+    ensures creation_order { (domain : List ℕ) (calls : List Call) (store : Contents)
         → domain_keys domain (store_after calls store).created ≡ domain_keys domain (store_after (domain_calls domain calls) store).created }
     ensures replies { (domain : List ℕ) (calls : List Call) (store : Contents)
         → replies_to (is_of_domain domain) calls store ≡ replies (domain_calls domain calls) store }
@@ -55,12 +55,12 @@ pub fn per_domain()
 pub fn limited()
     ensures rows { (domain : List ℕ) (calls : List Call) (store : Contents) (limit : ℕ) → HasCreationOrder store → store.limit ≡ Some limit
         → 0 < limit → length (domain_rows domain (rows_after calls store)) ≤ max limit (length (domain_rows domain store.rows)) }
-    ensures inserted { (store : Contents) (created : Result Row CookieError) (url : Parts) (now : Moment) (cookie : Row) (limit : ℕ)
+    ensures inserted { (store : Contents) (cookie_result : Result Row CookieError) (url : Parts) (now : Moment) (cookie : Row) (limit : ℕ)
         → HasCreationOrder store → store.limit ≡ Some limit → 0 < limit
-        → created ≡ Ok cookie → (received store created url now).reply ≡ Ok Inserted
-        → length (domain_rows (domain_text cookie.domain) (received store created url now).store.rows)
+        → cookie_result ≡ Ok cookie → (received store cookie_result url now).reply ≡ Ok Inserted
+        → length (domain_rows (domain_text cookie.domain) (received store cookie_result url now).store.rows)
         ≡ min limit (length (domain_rows (domain_text cookie.domain) store.rows) + 1) }
-    ensures created { (calls : List Call) (store : Contents) → HasCreationOrder store → HasCreationOrder (store_after calls store) }
+    ensures has_creation_order { (calls : List Call) (store : Contents) → HasCreationOrder store → HasCreationOrder (store_after calls store) }
     ensures built { (include_expired : Bool) (now : Moment) (cookies : List Row) (suffixes : Option RuleList) (limit : Option ℕ)
         → HasCreationOrder (contents_of (built include_expired now cookies) suffixes limit) }
 {}
@@ -74,7 +74,7 @@ pub fn evicted_in_order()
         → list_any (same_key later) (evicted store now new) ≡ true
         → has_expired now store.rows first ≡ true → has_expired now store.rows later ≡ false
         → list_any (same_key first) (evicted store now new) ≡ true }
-    ensures created { (store : Contents) (now : Moment) (new first later : Key) → HasCreationOrder store → same_domain first later ≡ true
+    ensures older_first { (store : Contents) (now : Moment) (new first later : Key) → HasCreationOrder store → same_domain first later ≡ true
         → list_any (same_key later) (evicted store now new) ≡ true
         → has_expired now store.rows first ≡ has_expired now store.rows later
         → (front between back : List Key) → store.created ≡ front ++ first ∷ (between ++ later ∷ back)
@@ -94,42 +94,57 @@ pub fn confined()
 {}
 
 /// A cookie that is stored is the row of its key. If its domain is a listed public suffix, it is a
-/// host-only cookie for the host it came from. In this law and the next two `created` is the result
-/// of making the cookie, a cookie or an error; `insert` takes the cookie.
+/// host-only cookie for the host it came from. In this law and the next two `cookie_result` is
+/// the result of creating the cookie, a cookie or an error; `insert` takes the cookie.
 pub fn listed_is_for_its_host()
-    ensures { (store : Contents) (created : Result Row CookieError) (url : Parts) (now : Moment)
-        → IsPut (received store created url now).reply → (cookie : Row) × (entered : Row)
-        × (created ≡ Ok cookie) × (admitted store.suffixes url cookie ≡ Ok entered)
-        × (row_of (key_of cookie) (received store created url now).store.rows ≡ Some entered)
+    ensures { (store : Contents) (cookie_result : Result Row CookieError) (url : Parts) (now : Moment)
+        → IsPut (received store cookie_result url now).reply → (cookie : Row) × (entered : Row)
+        × (cookie_result ≡ Ok cookie) × (admitted store.suffixes url cookie ≡ Ok entered)
+        × (row_of (key_of cookie) (received store cookie_result url now).store.rows ≡ Some entered)
         × (is_listed store.suffixes entered.domain ≡ true → (entered.domain ≡ HostOnly (domain_text entered.domain))
         × (host_of url ≡ Some (domain_text entered.domain))) }
 {}
 
-/// An insertion returns `ExpiredExisting` only if a cookie was made and the row of its key exists
+/// An insertion returns `ExpiredExisting` only if a cookie was created and the row of its key exists
 /// and has not expired. That row is expired, and everything else is unchanged.
 pub fn expires_one_row()
-    ensures live { (store : Contents) (created : Result Row CookieError) (url : Parts) (now : Moment)
-        → (received store created url now).reply ≡ Ok ExpiredExisting → (cookie : Row) × (row : Row)
-        × (created ≡ Ok cookie) × (row_of (key_of cookie) store.rows ≡ Some row) × (is_live now row ≡ true) }
-    ensures store { (store : Contents) (created : Result Row CookieError) (url : Parts) (now : Moment)
-        (cookie : Row) → created ≡ Ok cookie → (received store created url now).reply ≡ Ok ExpiredExisting
-        → (received store created url now).store ≡ record store { rows = changed (has_key (key_of cookie)) expired_row store.rows } }
-    ensures ends { (store : Contents) (created : Result Row CookieError) (url : Parts) (now : Moment)
-        (cookie row : Row) → created ≡ Ok cookie → (received store created url now).reply ≡ Ok ExpiredExisting
+    ensures was_unexpired { (store : Contents) (cookie_result : Result Row CookieError) (url : Parts) (now : Moment)
+        → (received store cookie_result url now).reply ≡ Ok ExpiredExisting → (cookie : Row) × (row : Row)
+        × (cookie_result ≡ Ok cookie) × (row_of (key_of cookie) store.rows ≡ Some row) × (is_unexpired now row ≡ true) }
+    ensures store { (store : Contents) (cookie_result : Result Row CookieError) (url : Parts) (now : Moment)
+        (cookie : Row) → cookie_result ≡ Ok cookie → (received store cookie_result url now).reply ≡ Ok ExpiredExisting
+        → (received store cookie_result url now).store ≡ record store { rows = changed (has_key (key_of cookie)) expired_row store.rows } }
+    ensures row_expired { (store : Contents) (cookie_result : Result Row CookieError) (url : Parts) (now : Moment)
+        (cookie row : Row) → cookie_result ≡ Ok cookie → (received store cookie_result url now).reply ≡ Ok ExpiredExisting
         → row_of (key_of cookie) store.rows ≡ Some row
-        → row_of (key_of cookie) (received store created url now).store.rows ≡ Some (expired_row row) }
-    ensures others { (store : Contents) (created : Result Row CookieError) (url : Parts) (now : Moment)
-        (cookie : Row) (key : Key) → created ≡ Ok cookie → (received store created url now).reply ≡ Ok ExpiredExisting
+        → row_of (key_of cookie) (received store cookie_result url now).store.rows ≡ Some (expired_row row) }
+    ensures others { (store : Contents) (cookie_result : Result Row CookieError) (url : Parts) (now : Moment)
+        (cookie : Row) (key : Key) → cookie_result ≡ Ok cookie → (received store cookie_result url now).reply ≡ Ok ExpiredExisting
         → same_key key (key_of cookie) ≡ false
-        → row_of key (received store created url now).store.rows ≡ row_of key store.rows }
+        → row_of key (received store cookie_result url now).store.rows ≡ row_of key store.rows }
 {}
 
 /// No insertion from a scheme that is not HTTP replaces or expires an HttpOnly row that has not
 /// expired. With a domain limit, such a row may be evicted for a cookie that is inserted.
 pub fn guarded()
-    ensures { (store : Contents) (created : Result Row CookieError) (url : Parts) (now : Moment)
-        (key : Key) (row : Row) → row_of key store.rows ≡ Some row → is_live now row ≡ true → is_out_of_reach row.raw url ≡ true
-        → (row_of key (received store created url now).store.rows ≡ Some row) ⊎ IsEvicted store created url now key }
+    ensures { (store : Contents) (cookie_result : Result Row CookieError) (url : Parts) (now : Moment)
+        (key : Key) (row : Row) → row_of key store.rows ≡ Some row → is_unexpired now row ≡ true → is_out_of_reach row.raw url ≡ true
+        → (row_of key (received store cookie_result url now).store.rows ≡ Some row) ⊎ IsEvicted store cookie_result url now key }
+{}
+
+/// An insertion leaves the row of every other key as it is. With a domain limit, it may be evicted
+/// for a cookie that is inserted.
+pub fn keeps_other_rows()
+    ensures { (store : Contents) (cookie_result : Result Row CookieError) (url : Parts) (now : Moment)
+        (cookie : Row) (key : Key) (row : Row) → cookie_result ≡ Ok cookie → same_key key (key_of cookie) ≡ false
+        → row_of key store.rows ≡ Some row
+        → (row_of key (received store cookie_result url now).store.rows ≡ Some row) ⊎ IsEvicted store cookie_result url now key }
+{}
+
+/// Every row after calls on a store without rows was stored by one of these calls, and may have
+/// been expired since.
+pub fn accepted()
+    ensures { (calls : List Call) (store : Contents) → store.rows ≡ [] → All (WasAccepted calls store) (rows_after calls store) }
 {}
 
 /// Building a store from all the rows of a store, in their order, gives the same rows in the same
@@ -156,5 +171,5 @@ pub fn one_header_order()
 pub fn given_without_expired()
     ensures given { (store : Contents) (url : Parts) (now later : Moment) → nanoseconds now ≤ℤ nanoseconds later
         → given url later (unexpired now store).rows ≡ given url later store.rows }
-    ensures created { (store : Contents) (now : Moment) → HasCreationOrder store → HasCreationOrder (unexpired now store) }
+    ensures has_creation_order { (store : Contents) (now : Moment) → HasCreationOrder store → HasCreationOrder (unexpired now store) }
 {}

@@ -8,7 +8,7 @@ use Rattle.std.proofs.lemmas.Slice.Eq.{bytes_eq-Decides}
 use Rattle.cookie_parts.specs.Cookie.{Row}
 use Rattle.cookie_laws.specs.Rows.{differ}
 use Rattle.cookie_lookup.specs.Groups.{PathGroups, DomainGroups}
-use Rattle.cookie_lookup.specs.SearchView.{RowPosition, place_of, under, row_positions, path_positions, domain_positions, at_path, at_domain}
+use Rattle.cookie_lookup.specs.SearchView.{RowPosition, group_position, under, row_positions, path_positions, domain_positions, at_path, at_domain}
 use Rattle.cookie_lookup.proofs.Cuts.{bool_cases}
 
 module _ {X : Type 0} (F : ℕ → List X → ℕ) where
@@ -33,11 +33,11 @@ module _ {X : Type 0} (F : ℕ → List X → ℕ) where
   one_later n None g gs = refl
   one_later n (Some p) g gs = let e : n + suc p ≡ n + 1 + p = omega arith in ap (λ m. F m (under p gs)) e
 
-  pub answer_value : (n : ℕ) (text : List ℕ) (gs : List (List ℕ × List X)) → answer n (place_of text gs) gs ≡ value n text gs
-  answer_value n text [] = refl
-  answer_value n text (g ∷ gs) = elim (bool_cases (bytes_eq text g.0)) [
+  pub position_value : (n : ℕ) (text : List ℕ) (gs : List (List ℕ × List X)) → answer n (group_position text gs) gs ≡ value n text gs
+  position_value n text [] = refl
+  position_value n text (g ∷ gs) = elim (bool_cases (bytes_eq text g.0)) [
     | inl e ↦ let z : n + 0 ≡ n = omega arith in rw e (ap (λ m. F m g.1) z)
-    | inr e ↦ rw e (one_later n (place_of text gs) g gs ∙ answer_value (n + 1) text gs)
+    | inr e ↦ rw e (one_later n (group_position text gs) g gs ∙ position_value (n + 1) text gs)
   ]
 
   zeros : (h : List ℕ → ℕ) → ((t : List ℕ) → h t ≡ 0) → (ts : List (List ℕ)) → sum_by h ts ≡ 0
@@ -104,9 +104,9 @@ module _ (test : Row → Bool) (f : RowPosition → ℕ) where
   rows_sum d p rows = sum_by f (row_positions test d p 0 rows)
 
   path_sum : (d : ℕ) (paths : PathGroups) (text : List ℕ) → sum_by f (at_path test d paths text) ≡ value (rows_sum d) 0 text paths
-  path_sum d paths text = go d paths text (place_of text paths) refl ∙ answer_value (rows_sum d) 0 text paths
+  path_sum d paths text = go d paths text (group_position text paths) refl ∙ position_value (rows_sum d) 0 text paths
     where
-      go : (d : ℕ) (paths : PathGroups) (text : List ℕ) (o : Option ℕ) → place_of text paths ≡ o → sum_by f (at_path test d paths text) ≡ answer (rows_sum d) 0 (place_of text paths) paths
+      go : (d : ℕ) (paths : PathGroups) (text : List ℕ) (o : Option ℕ) → group_position text paths ≡ o → sum_by f (at_path test d paths text) ≡ answer (rows_sum d) 0 (group_position text paths) paths
       go d paths text None e = rw (at_path, e) refl
       go d paths text (Some p) e = let z : 0 + p ≡ p = omega arith in rw (at_path, e) (sym (ap (λ m. rows_sum d m (under p paths)) z))
 
@@ -125,9 +125,9 @@ module _ (test : Row → Bool) (f : RowPosition → ℕ) where
   paths_sum texts d paths = sum_by f (flat_map (at_path test d paths) texts)
 
   domain_sum : (texts : List (List ℕ)) (groups : DomainGroups) (text : List ℕ) → sum_by f (at_domain test groups texts text) ≡ value (paths_sum texts) 0 text groups
-  domain_sum texts groups text = go texts groups text (place_of text groups) refl ∙ answer_value (paths_sum texts) 0 text groups
+  domain_sum texts groups text = go texts groups text (group_position text groups) refl ∙ position_value (paths_sum texts) 0 text groups
     where
-      go : (texts : List (List ℕ)) (groups : DomainGroups) (text : List ℕ) (o : Option ℕ) → place_of text groups ≡ o → sum_by f (at_domain test groups texts text) ≡ answer (paths_sum texts) 0 (place_of text groups) groups
+      go : (texts : List (List ℕ)) (groups : DomainGroups) (text : List ℕ) (o : Option ℕ) → group_position text groups ≡ o → sum_by f (at_domain test groups texts text) ≡ answer (paths_sum texts) 0 (group_position text groups) groups
       go texts groups text None e = rw (at_domain, e) refl
       go texts groups text (Some p) e = let z : 0 + p ≡ p = omega arith in rw (at_domain, e) (sym (ap (λ m. paths_sum texts m (under p groups)) z))
 

@@ -7,9 +7,9 @@ use Rattle.std.proofs.Math.Nat.{mul-le-mul_left, mul-le-mul_right}
 use Rattle.url.specs.Parts.{Parts}
 use Rattle.cookie_parts.specs.Cookie.{Row}
 use Rattle.cookie_parts.specs.Hosts.{host_of}
-use Rattle.cookie_lookup.specs.Groups.{PathGroups, DomainGroups, flat_paths, flat, Of, Filled, ArePaths, AreGroups}
-use Rattle.cookie_lookup.specs.SearchView.{place_of, how_many_found, domains_found, is_of_domain}
-use Rattle.cookie_lookup.specs.Texts.{url_candidate_domains, dots, slashes, most_domains}
+use Rattle.cookie_lookup.specs.Groups.{PathGroups, DomainGroups, flat_paths, flat, HasDomainAndPath, Filled, ArePaths, AreGroups}
+use Rattle.cookie_lookup.specs.SearchView.{group_position, how_many_found, domains_found, has_domain}
+use Rattle.cookie_lookup.specs.Candidates.{url_candidate_domains, dots, slashes, most_domains}
 use Rattle.cookie_lookup.proofs.Cuts.{bool_cases}
 use Rattle.cookie_lookup.proofs.PathTexts.{any_append}
 
@@ -35,46 +35,46 @@ pub domains_most : (url : Parts) (host : List ℕ) (old new : ℕ) → Some host
 domains_most url host old new e o h = rw (most_domains, ← e) (omega (arith, o, h))
 
 -- rows of one domain have this one if and only if it is theirs
-of_rows : (text domain path : List ℕ) (rows : List Row) → AllByRecursion (Of domain path) rows → list_any (is_of_domain text) rows ≡ cond (bytes_eq text domain) (list_any (λ _. true) rows) false
+of_rows : (text domain path : List ℕ) (rows : List Row) → AllByRecursion (HasDomainAndPath domain path) rows → list_any (has_domain text) rows ≡ cond (bytes_eq text domain) (list_any (λ _. true) rows) false
 of_rows text domain path [] a = elim (bool_cases (bytes_eq text domain)) [ inl e ↦ rw e refl | inr e ↦ rw e refl ]
 of_rows text domain path (row ∷ rows) a =
-    let same : is_of_domain text row ≡ bytes_eq text domain = ap (bytes_eq text) a.0.0 in
+    let same : has_domain text row ≡ bytes_eq text domain = ap (bytes_eq text) a.0.0 in
     elim (bool_cases (bytes_eq text domain)) [
       | inl e ↦ rw (same, e) refl
       | inr e ↦ rw (same, e) (of_rows text domain path rows a.1 ∙ rw e refl)
     ]
 
 -- none of another domain's
-not_of_paths : (text domain : List ℕ) (paths : PathGroups) → Filled domain paths → bytes_eq text domain ≡ false → list_any (is_of_domain text) (flat_paths paths) ≡ false
+not_of_paths : (text domain : List ℕ) (paths : PathGroups) → Filled domain paths → bytes_eq text domain ≡ false → list_any (has_domain text) (flat_paths paths) ≡ false
 not_of_paths text domain [] a e = refl
 not_of_paths text domain (p ∷ ps) a e =
-    any_append (is_of_domain text) p.1 (flat_paths ps)
+    any_append (has_domain text) p.1 (flat_paths ps)
     ∙ rw (of_rows text domain p.0 p.1 a.0.1, e, not_of_paths text domain ps a.1 e) refl
 
 -- one of its own
-some_of_rows : (text domain path : List ℕ) (rows : List Row) → 0 < length rows → AllByRecursion (Of domain path) rows → bytes_eq text domain ≡ true → list_any (is_of_domain text) rows ≡ true
+some_of_rows : (text domain path : List ℕ) (rows : List Row) → 0 < length rows → AllByRecursion (HasDomainAndPath domain path) rows → bytes_eq text domain ≡ true → list_any (has_domain text) rows ≡ true
 some_of_rows text domain path [] h a e = absurd (omega (arith, h))
 some_of_rows text domain path (row ∷ rows) h a e =
-    let same : is_of_domain text row ≡ true = ap (bytes_eq text) a.0.0 ∙ e in
+    let same : has_domain text row ≡ true = ap (bytes_eq text) a.0.0 ∙ e in
     rw same refl
 
-some_of_paths : (text domain : List ℕ) (paths : PathGroups) → 0 < length paths → Filled domain paths → bytes_eq text domain ≡ true → list_any (is_of_domain text) (flat_paths paths) ≡ true
+some_of_paths : (text domain : List ℕ) (paths : PathGroups) → 0 < length paths → Filled domain paths → bytes_eq text domain ≡ true → list_any (has_domain text) (flat_paths paths) ≡ true
 some_of_paths text domain [] h a e = absurd (omega (arith, h))
 some_of_paths text domain (p ∷ ps) h a e =
-    any_append (is_of_domain text) p.1 (flat_paths ps) ∙ rw (some_of_rows text domain p.0 p.1 a.0.0 a.0.1 e) refl
+    any_append (has_domain text) p.1 (flat_paths ps) ∙ rw (some_of_rows text domain p.0 p.1 a.0.0 a.0.1 e) refl
 
 pub some_later : (o : Option ℕ) → is_some (option_map suc o) ≡ is_some o
 some_later None = refl
 some_later (Some n) = refl
 
 -- a domain has a group if and only if a row has that domain
-pub found_where : (text : List ℕ) (gs : DomainGroups) → AllByRecursion (λ g. (0 < length g.1) × ArePaths g.0 g.1) gs → is_some (place_of text gs) ≡ list_any (is_of_domain text) (flat gs)
+pub found_where : (text : List ℕ) (gs : DomainGroups) → AllByRecursion (λ g. (0 < length g.1) × ArePaths g.0 g.1) gs → is_some (group_position text gs) ≡ list_any (has_domain text) (flat gs)
 found_where text [] a = refl
 found_where text (g ∷ gs) a =
-    let split = any_append (is_of_domain text) (flat_paths g.1) (flat gs) in
+    let split = any_append (has_domain text) (flat_paths g.1) (flat gs) in
     elim (bool_cases (bytes_eq text g.0)) [
       | inl e ↦ rw e (sym (split ∙ rw (some_of_paths text g.0 g.1 a.0.0 a.0.1.1 e) refl))
-      | inr e ↦ rw e (some_later (place_of text gs) ∙ found_where text gs a.1 ∙ sym (split ∙ rw (not_of_paths text g.0 g.1 a.0.1.1 e) refl))
+      | inr e ↦ rw e (some_later (group_position text gs) ∙ found_where text gs a.1 ∙ sym (split ∙ rw (not_of_paths text g.0 g.1 a.0.1.1 e) refl))
     ]
 
 pub counts_alike : {T : Type 0} (p q : T → Bool) → ((t : T) → p t ≡ q t) → (ts : List T) → count_by p ts ≡ count_by q ts
@@ -83,4 +83,4 @@ counts_alike p q e (t ∷ ts) =
     sum_by-cons (λ y. cond (p y) 1 0) t ts ∙ ap (λ b. cond b 1 0 + count_by p ts) (e t) ∙ ap (λ n. cond (q t) 1 0 + n) (counts_alike p q e ts) ∙ sym (sum_by-cons (λ y. cond (q y) 1 0) t ts)
 
 pub found_are : (url : Parts) (gs : DomainGroups) → AreGroups gs → how_many_found gs (url_candidate_domains url) ≡ domains_found url (flat gs)
-found_are url gs a = counts_alike (λ text. is_some (place_of text gs)) (λ text. list_any (is_of_domain text) (flat gs)) (λ text. found_where text gs a.1) (url_candidate_domains url)
+found_are url gs a = counts_alike (λ text. is_some (group_position text gs)) (λ text. list_any (has_domain text) (flat gs)) (λ text. found_where text gs a.1) (url_candidate_domains url)

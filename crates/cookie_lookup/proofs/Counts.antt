@@ -3,21 +3,21 @@ use Rattle.std.proofs.Common.{◌≡◌, ℕ, ◌+◌, ◌*◌, ◌≤◌, Bool,
 use Rattle.std.specs.Prelude.{is_some}
 use Rattle.std.proofs.lemmas.List.Sums.{sum_by-cons}
 use Rattle.cookie_lookup.specs.Groups.{DomainGroups}
-use Rattle.cookie_lookup.specs.SearchView.{place_of, how_many_found}
+use Rattle.cookie_lookup.specs.SearchView.{group_position, how_many_found}
 
 found_cons : (groups : DomainGroups) (text : List ℕ) (texts : List (List ℕ)) → how_many_found groups (text ∷ texts) ≡ how_many_found groups (text ∷ []) + how_many_found groups texts
 found_cons groups text texts =
-    let p : List ℕ → ℕ = λ t. cond (is_some (place_of t groups)) 1 0 in
+    let p : List ℕ → ℕ = λ t. cond (is_some (group_position t groups)) 1 0 in
     omega (arith, sum_by-cons p text texts, sum_by-cons p text [])
 
 -- a candidate that has a group counts one
-pub one_found : (groups : DomainGroups) (text : List ℕ) (d : ℕ) → Some d ≡ place_of text groups → how_many_found groups (text ∷ []) ≡ 1
-one_found groups text d e = sum_by-cons (λ t. cond (is_some (place_of t groups)) 1 0) text [] ∙ ap (λ o. cond (is_some o) 1 0 + 0) (sym e) ∙ omega arith
+pub one_found : (groups : DomainGroups) (text : List ℕ) (d : ℕ) → Some d ≡ group_position text groups → how_many_found groups (text ∷ []) ≡ 1
+one_found groups text d e = sum_by-cons (λ t. cond (is_some (group_position t groups)) 1 0) text [] ∙ ap (λ o. cond (is_some o) 1 0 + 0) (sym e) ∙ omega arith
 
 one_at_most : (groups : DomainGroups) (text : List ℕ) → how_many_found groups (text ∷ []) ≤ 1
 one_at_most groups text =
-    let p : List ℕ → ℕ = λ t. cond (is_some (place_of t groups)) 1 0 in
-    omega (arith, sum_by-cons p text [], below (is_some (place_of text groups)))
+    let p : List ℕ → ℕ = λ t. cond (is_some (group_position t groups)) 1 0 in
+    omega (arith, sum_by-cons p text [], below (is_some (group_position text groups)))
   where
     below : (b : Bool) → cond {A = ℕ} b 1 0 ≤ 1
     below true = omega arith

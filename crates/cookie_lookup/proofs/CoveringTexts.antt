@@ -10,7 +10,7 @@ use Rattle.std.proofs.lemmas.Bool.{or_cases, or_left, or_right}
 use Rattle.std.proofs.lemmas.Bool.Decides.{nat_tests, Decides-eqb}
 use Rattle.std.proofs.lemmas.Slice.Eq.{bytes_eq-Decides, starts_is}
 use Rattle.cookie_parts.specs.Path.{CoversPath}
-use Rattle.cookie_lookup.specs.Texts.{ends_candidate, front_texts, is_candidate_path, candidate_paths, IsCandidatePath, IsCandidateDomain}
+use Rattle.cookie_lookup.specs.Candidates.{ends_candidate, front_texts, is_candidate_path, candidate_paths, IsCandidatePath, IsCandidateDomain}
 use Rattle.cookie_lookup.proofs.Cuts.{bool_cases, cut_boundary}
 use Rattle.cookie_lookup.proofs.PathTexts.{any_append}
 

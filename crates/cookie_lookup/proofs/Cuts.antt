@@ -6,7 +6,7 @@ use Rattle.std.proofs.lemmas.Str.{IsCharBoundary-after_ascii, IsCharBoundary-end
 use Rattle.std.proofs.lemmas.Bool.Decides.{nat_tests}
 use Rattle.std.proofs.lemmas.List.{drop_more}
 use Rattle.cookie_laws.specs.Related.{after_dots}
-use Rattle.cookie_lookup.specs.Texts.{ends_candidate, front_texts}
+use Rattle.cookie_lookup.specs.Candidates.{ends_candidate, front_texts}
 
 pub bool_cases : (b : Bool) → (b ≡ true) ⊎ (b ≡ false)
 bool_cases true = inl refl

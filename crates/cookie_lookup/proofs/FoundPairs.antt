@@ -9,10 +9,10 @@ use Rattle.url.specs.Parts.{Parts}
 use Rattle.cookie_parts.specs.Cookie.{Row}
 use Rattle.cookie_parts.specs.Hosts.{host_of}
 use Rattle.cookie_laws.specs.Rows.{differ}
-use Rattle.cookie_lookup.specs.Groups.{PathGroups, DomainGroups, flat_paths, flat, Of, Filled, ArePaths, AreGroups}
-use Rattle.cookie_lookup.specs.SearchView.{place_of, under, how_many_found, how_many_paths, paths_at_domain, how_many_pairs_found, is_of_texts, of_host, paths_found}
-use Rattle.cookie_lookup.specs.Texts.{url_candidate_domains, candidate_paths, candidate_domains}
-use Rattle.cookie_lookup.proofs.Agree.{value, answer, answer_value, sum_alike}
+use Rattle.cookie_lookup.specs.Groups.{PathGroups, DomainGroups, flat_paths, flat, HasDomainAndPath, Filled, ArePaths, AreGroups}
+use Rattle.cookie_lookup.specs.SearchView.{group_position, under, how_many_found, how_many_paths, paths_at_domain, how_many_pairs_found, has_domain_and_path, of_host, paths_found}
+use Rattle.cookie_lookup.specs.Candidates.{url_candidate_domains, candidate_paths, candidate_domains}
+use Rattle.cookie_lookup.proofs.Agree.{value, answer, position_value, sum_alike}
 use Rattle.cookie_lookup.proofs.Bounds.{counted, counts_alike, some_later}
 use Rattle.cookie_lookup.proofs.Cuts.{bool_cases}
 use Rattle.cookie_lookup.proofs.Listed.{no_place, shared_all}
@@ -21,7 +21,7 @@ use Rattle.cookie_lookup.proofs.PathTexts.{any_append}
 -- no more are found than there are
 
 pub found_counted : (groups : DomainGroups) (texts : List (List ℕ)) → how_many_found groups texts ≤ length texts
-found_counted groups texts = counted (λ t. is_some (place_of t groups)) texts
+found_counted groups texts = counted (λ t. is_some (group_position t groups)) texts
 
 -- the candidates of the host that are found are those of the URL
 pub found_of_host : (groups : DomainGroups) (url : Parts) → of_host (λ host. how_many_found groups (candidate_domains host)) url ≡ how_many_found groups (url_candidate_domains url)
@@ -32,22 +32,22 @@ found_of_host groups url = go (host_of url) refl
     go (Some host) e = rw (of_host, url_candidate_domains, e) refl
 
 pub paths_counted : (paths : PathGroups) (texts : List (List ℕ)) → how_many_paths paths texts ≤ length texts
-paths_counted paths texts = counted (λ t. is_some (place_of t paths)) texts
+paths_counted paths texts = counted (λ t. is_some (group_position t paths)) texts
 
 pub at_least : (old few many new : ℕ) → new ≡ old + many → few ≤ many → old + few ≤ new
 at_least old few many new e h = omega (arith, e, h)
 
 -- if no domain is found, no path is
-pub none_at_domain : (groups : DomainGroups) (texts : List (List ℕ)) (text : List ℕ) → None ≡ place_of text groups → paths_at_domain groups texts text ≡ 0
+pub none_at_domain : (groups : DomainGroups) (texts : List (List ℕ)) (text : List ℕ) → None ≡ group_position text groups → paths_at_domain groups texts text ≡ 0
 none_at_domain groups texts text e = rw (paths_at_domain, ← e) refl
 
-some_at_domain : (groups : DomainGroups) (texts : List (List ℕ)) (text : List ℕ) (d : ℕ) → Some d ≡ place_of text groups
+some_at_domain : (groups : DomainGroups) (texts : List (List ℕ)) (text : List ℕ) (d : ℕ) → Some d ≡ group_position text groups
     → paths_at_domain groups texts text ≡ how_many_paths (under d groups) texts
 some_at_domain groups texts text d e = rw (paths_at_domain, ← e) refl
 
 -- the paths of a domain that was found
 pub domain_looked_up : (groups now : DomainGroups) (texts given : List (List ℕ)) (text : List ℕ) (d old before after : ℕ) → now ≡ groups → given ≡ texts → before ≡ old
-    → Some d ≡ place_of text groups → before + how_many_paths (under d now) given ≤ after → old + paths_at_domain groups texts text ≤ after
+    → Some d ≡ group_position text groups → before + how_many_paths (under d now) given ≤ after → old + paths_at_domain groups texts text ≤ after
 domain_looked_up groups now texts given text d old before after g t o e h =
     omega (arith, h, o, some_at_domain groups texts text d e, ap (λ gs. how_many_paths (under d gs) texts) g, ap (how_many_paths (under d now)) t)
 
@@ -71,7 +71,7 @@ module _ (cs : List (List ℕ)) (c : differ bytes_eq cs ≡ true) where
   listed_paths paths k =
       let listed : List (List ℕ) = filter (λ t. list_any (bytes_eq t) cs) (map (λ p. p.0) paths) in
       let same : how_many_paths paths listed ≡ how_many_paths paths cs =
-      shared_all (λ t. cond (is_some (place_of t paths)) 1 0) cs (map (λ p. p.0) paths) c k (λ t none. ap (λ o. cond (is_some o) 1 0) (no_place t paths none)) in
+      shared_all (λ t. cond (is_some (group_position t paths)) 1 0) cs (map (λ p. p.0) paths) c k (λ t none. ap (λ o. cond (is_some o) 1 0) (no_place t paths none)) in
       omega (arith, same, paths_counted paths listed)
 
   pub listed_pairs : (groups : DomainGroups) (texts : List (List ℕ)) → differ bytes_eq (map (λ g. g.0) groups) ≡ true
@@ -82,47 +82,47 @@ module _ (cs : List (List ℕ)) (c : differ bytes_eq cs ≡ true) where
 -- a pair has a group if and only if a row has that domain and path
 
 -- the rows of one domain and path all have both, or none does
-no_pair : (text path domain p : List ℕ) (rows : List Row) → AllByRecursion (Of domain p) rows → (bytes_eq text domain && bytes_eq path p) ≡ false → list_any (is_of_texts text path) rows ≡ false
+no_pair : (text path domain p : List ℕ) (rows : List Row) → AllByRecursion (HasDomainAndPath domain p) rows → (bytes_eq text domain && bytes_eq path p) ≡ false → list_any (has_domain_and_path text path) rows ≡ false
 no_pair text path domain p [] a e = refl
 no_pair text path domain p (row ∷ rows) a e =
-    let same : is_of_texts text path row ≡ false = ap (λ d. bytes_eq text d && bytes_eq path row.path.text) a.0.0 ∙ ap (λ q. bytes_eq text domain && bytes_eq path q) a.0.1 ∙ e in
+    let same : has_domain_and_path text path row ≡ false = ap (λ d. bytes_eq text d && bytes_eq path row.path.text) a.0.0 ∙ ap (λ q. bytes_eq text domain && bytes_eq path q) a.0.1 ∙ e in
     rw same (no_pair text path domain p rows a.1 e)
 
-some_pair : (text path domain p : List ℕ) (rows : List Row) → 0 < length rows → AllByRecursion (Of domain p) rows → (bytes_eq text domain && bytes_eq path p) ≡ true → list_any (is_of_texts text path) rows ≡ true
+some_pair : (text path domain p : List ℕ) (rows : List Row) → 0 < length rows → AllByRecursion (HasDomainAndPath domain p) rows → (bytes_eq text domain && bytes_eq path p) ≡ true → list_any (has_domain_and_path text path) rows ≡ true
 some_pair text path domain p [] h a e = absurd (omega (arith, h))
 some_pair text path domain p (row ∷ rows) h a e =
-    let same : is_of_texts text path row ≡ true = ap (λ d. bytes_eq text d && bytes_eq path row.path.text) a.0.0 ∙ ap (λ q. bytes_eq text domain && bytes_eq path q) a.0.1 ∙ e in
+    let same : has_domain_and_path text path row ≡ true = ap (λ d. bytes_eq text d && bytes_eq path row.path.text) a.0.0 ∙ ap (λ q. bytes_eq text domain && bytes_eq path q) a.0.1 ∙ e in
     rw same refl
 
 -- a path has a group in its domain if and only if a row has both
-in_domain : (text domain path : List ℕ) (paths : PathGroups) → Filled domain paths → bytes_eq text domain ≡ true → is_some (place_of path paths) ≡ list_any (is_of_texts text path) (flat_paths paths)
+in_domain : (text domain path : List ℕ) (paths : PathGroups) → Filled domain paths → bytes_eq text domain ≡ true → is_some (group_position path paths) ≡ list_any (has_domain_and_path text path) (flat_paths paths)
 in_domain text domain path [] a e = refl
 in_domain text domain path (p ∷ ps) a e =
-    let split = any_append (is_of_texts text path) p.1 (flat_paths ps) in
+    let split = any_append (has_domain_and_path text path) p.1 (flat_paths ps) in
     elim (bool_cases (bytes_eq path p.0)) [
       | inl i ↦
           let both : (bytes_eq text domain && bytes_eq path p.0) ≡ true = rw (e, i) refl in
           rw i (sym (split ∙ rw (some_pair text path domain p.0 p.1 a.0.0 a.0.1 both) refl))
       | inr i ↦
           let other : (bytes_eq text domain && bytes_eq path p.0) ≡ false = rw (e, i) refl in
-          rw i (some_later (place_of path ps) ∙ in_domain text domain path ps a.1 e ∙ sym (split ∙ rw (no_pair text path domain p.0 p.1 a.0.1 other) refl))
+          rw i (some_later (group_position path ps) ∙ in_domain text domain path ps a.1 e ∙ sym (split ∙ rw (no_pair text path domain p.0 p.1 a.0.1 other) refl))
     ]
 
 -- no row of another domain has this one
-not_in_domain : (text domain path : List ℕ) (paths : PathGroups) → Filled domain paths → bytes_eq text domain ≡ false → list_any (is_of_texts text path) (flat_paths paths) ≡ false
+not_in_domain : (text domain path : List ℕ) (paths : PathGroups) → Filled domain paths → bytes_eq text domain ≡ false → list_any (has_domain_and_path text path) (flat_paths paths) ≡ false
 not_in_domain text domain path [] a e = refl
 not_in_domain text domain path (p ∷ ps) a e =
     let other : (bytes_eq text domain && bytes_eq path p.0) ≡ false = rw e refl in
-    any_append (is_of_texts text path) p.1 (flat_paths ps)
+    any_append (has_domain_and_path text path) p.1 (flat_paths ps)
     ∙ rw (no_pair text path domain p.0 p.1 a.0.1 other, not_in_domain text domain path ps a.1 e) refl
 
 not_in_groups : (text path : List ℕ) (gs : DomainGroups) → AllByRecursion (λ g. (0 < length g.1) × ArePaths g.0 g.1) gs → list_any (bytes_eq text) (map (λ g. g.0) gs) ≡ false
-    → list_any (is_of_texts text path) (flat gs) ≡ false
+    → list_any (has_domain_and_path text path) (flat gs) ≡ false
 not_in_groups text path [] a e = refl
 not_in_groups text path (g ∷ gs) a e =
     let other : bytes_eq text g.0 ≡ false = grind (arith, nat_tests, e) in
     let later : list_any (bytes_eq text) (map (λ g. g.0) gs) ≡ false = grind (arith, nat_tests, e) in
-    any_append (is_of_texts text path) (flat_paths g.1) (flat gs)
+    any_append (has_domain_and_path text path) (flat_paths g.1) (flat gs)
     ∙ rw (not_in_domain text g.0 path g.1 a.0.1.1 other, not_in_groups text path gs a.1 later) refl
 
 none_counted : (texts : List (List ℕ)) → count_by (λ _. false) texts ≡ 0
@@ -139,34 +139,34 @@ module _ (texts : List (List ℕ)) where
   texts_in n paths = how_many_paths paths texts
 
   at_value : (groups : DomainGroups) (text : List ℕ) → paths_at_domain groups texts text ≡ value texts_in 0 text groups
-  at_value groups text = go (place_of text groups) refl ∙ answer_value texts_in 0 text groups
+  at_value groups text = go (group_position text groups) refl ∙ position_value texts_in 0 text groups
     where
-      go : (o : Option ℕ) → place_of text groups ≡ o → paths_at_domain groups texts text ≡ answer texts_in 0 (place_of text groups) groups
+      go : (o : Option ℕ) → group_position text groups ≡ o → paths_at_domain groups texts text ≡ answer texts_in 0 (group_position text groups) groups
       go None e = rw (paths_at_domain, e) refl
       go (Some p) e = rw (paths_at_domain, e) refl
 
   of_text : (text : List ℕ) (n : ℕ) (gs : DomainGroups) → differ bytes_eq (map (λ g. g.0) gs) ≡ true → AllByRecursion (λ g. (0 < length g.1) × ArePaths g.0 g.1) gs
-      → value texts_in n text gs ≡ count_by (λ path. list_any (is_of_texts text path) (flat gs)) texts
+      → value texts_in n text gs ≡ count_by (λ path. list_any (has_domain_and_path text path) (flat gs)) texts
   of_text text n [] d a = sym (none_counted texts)
   of_text text n (g ∷ gs) d a =
       let after : differ bytes_eq (map (λ g. g.0) gs) ≡ true = grind (arith, nat_tests, d) in
       let here : list_any (bytes_eq g.0) (map (λ g. g.0) gs) ≡ false = grind (arith, nat_tests, d) in
-      let all : List ℕ → Bool = λ path. list_any (is_of_texts text path) (flat (g ∷ gs)) in
-      let split : (path : List ℕ) → all path ≡ (list_any (is_of_texts text path) (flat_paths g.1) || list_any (is_of_texts text path) (flat gs)) =
-      λ path. any_append (is_of_texts text path) (flat_paths g.1) (flat gs) in
+      let all : List ℕ → Bool = λ path. list_any (has_domain_and_path text path) (flat (g ∷ gs)) in
+      let split : (path : List ℕ) → all path ≡ (list_any (has_domain_and_path text path) (flat_paths g.1) || list_any (has_domain_and_path text path) (flat gs)) =
+      λ path. any_append (has_domain_and_path text path) (flat_paths g.1) (flat gs) in
       elim (bool_cases (bytes_eq text g.0)) [
         | inl e ↦
             let same : g.0 ≡ text = sym ((bytes_eq-Decides text g.0).0 e) in
             let apart : list_any (bytes_eq text) (map (λ g. g.0) gs) ≡ false = subst (λ x. list_any (bytes_eq x) (map (λ g. g.0) gs) ≡ false) same here in
-            rw e (counts_alike (λ path. is_some (place_of path g.1)) all (λ path. in_domain text g.0 path g.1 a.0.1.1 e
-            ∙ sym (split path ∙ or_none (list_any (is_of_texts text path) (flat_paths g.1)) (list_any (is_of_texts text path) (flat gs)) (not_in_groups text path gs a.1 apart))) texts)
+            rw e (counts_alike (λ path. is_some (group_position path g.1)) all (λ path. in_domain text g.0 path g.1 a.0.1.1 e
+            ∙ sym (split path ∙ or_none (list_any (has_domain_and_path text path) (flat_paths g.1)) (list_any (has_domain_and_path text path) (flat gs)) (not_in_groups text path gs a.1 apart))) texts)
         | inr e ↦
             rw e (of_text text (n + 1) gs after a.1
-            ∙ counts_alike (λ path. list_any (is_of_texts text path) (flat gs)) all (λ path. sym (split path ∙ rw (not_in_domain text g.0 path g.1 a.0.1.1 e) refl)) texts)
+            ∙ counts_alike (λ path. list_any (has_domain_and_path text path) (flat gs)) all (λ path. sym (split path ∙ rw (not_in_domain text g.0 path g.1 a.0.1.1 e) refl)) texts)
       ]
 
 pub pairs_are : (url : Parts) (gs : DomainGroups) → AreGroups gs → how_many_pairs_found gs (candidate_paths url.path) (url_candidate_domains url) ≡ paths_found url (flat gs)
 pairs_are url gs a =
     let texts = candidate_paths url.path in
-    sum_alike (paths_at_domain gs texts) (λ domain. count_by (λ path. list_any (is_of_texts domain path) (flat gs)) texts)
+    sum_alike (paths_at_domain gs texts) (λ domain. count_by (λ path. list_any (has_domain_and_path domain path) (flat gs)) texts)
     (λ text. at_value texts gs text ∙ of_text texts text 0 gs a.0 a.1) (url_candidate_domains url)

@@ -9,7 +9,7 @@ use Rattle.std.proofs.lemmas.Slice.Eq.{bytes_eq-Decides}
 use Rattle.std.proofs.lemmas.List.Sums.{sum_by-cons}
 use Rattle.cookie_laws.specs.Related.{after_dots}
 use Rattle.cookie_laws.specs.Rows.{differ}
-use Rattle.cookie_lookup.specs.Texts.{IsCandidateDomain, candidate_domains, dots}
+use Rattle.cookie_lookup.specs.Candidates.{IsCandidateDomain, candidate_domains, dots}
 use Rattle.cookie_lookup.proofs.Cuts.{bool_cases}
 
 -- a longer string is another

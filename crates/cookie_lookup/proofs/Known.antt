@@ -11,8 +11,8 @@ use Rattle.cookie_parts.specs.Cookie.{Row}
 use Rattle.cookie_laws.specs.Given.{is_given}
 use Rattle.cookie_lookup.specs.RowFilter.{is_given_under, AgreesUnder}
 use Rattle.cookie_lookup.specs.Groups.{PathGroups, DomainGroups, Filled, ArePaths, AreGroups}
-use Rattle.cookie_lookup.specs.SearchView.{RowPosition, place_of, under, row_positions, at_path, at_domain}
-use Rattle.cookie_lookup.specs.Texts.{candidate_paths, IsCandidatePath}
+use Rattle.cookie_lookup.specs.SearchView.{RowPosition, group_position, under, row_positions, at_path, at_domain}
+use Rattle.cookie_lookup.specs.Candidates.{candidate_paths, IsCandidatePath}
 use Rattle.cookie_lookup.proofs.CoveringTexts.{path_texts_are}
 use Rattle.cookie_lookup.proofs.Cuts.{bool_cases}
 use Rattle.cookie_lookup.proofs.Positions.{domain_some}
@@ -31,7 +31,7 @@ module _ (test other : Row → Bool) where
 
   module _ (domain path : List ℕ) (agrees : AgreesUnder domain test other path) (d : ℕ) where
     -- for one path
-    same_group : (text : List ℕ) → IsCandidatePath path text → (paths : PathGroups) → Filled domain paths → (p : ℕ) → Some p ≡ place_of text paths → (m : ℕ)
+    same_group : (text : List ℕ) → IsCandidatePath path text → (paths : PathGroups) → Filled domain paths → (p : ℕ) → Some p ≡ group_position text paths → (m : ℕ)
         → row_positions test d m 0 (under p paths) ≡ row_positions other d m 0 (under p paths)
     same_group text is [] all p e m = absurd (cc)
     same_group text is (g ∷ gs) all p e m = elim (bool_cases (bytes_eq text g.0)) [
@@ -41,7 +41,7 @@ module _ (test other : Row → Bool) where
           let same : text ≡ g.0 = (bytes_eq-Decides text g.0).0 s in
           subst (λ q. row_positions test d m 0 (under q (g ∷ gs)) ≡ row_positions other d m 0 (under q (g ∷ gs))) (sym z)
           (same_rows (λ row of. agrees row of.0 (subst (IsCandidatePath path) (same ∙ sym of.1) is)) d m 0 g.1 all.0.1)
-      | inr s ↦ let e' = rw s at e in later g gs m (place_of text gs) p e' (λ q k. same_group text is gs all.1 q k m)
+      | inr s ↦ let e' = rw s at e in later g gs m (group_position text gs) p e' (λ q k. same_group text is gs all.1 q k m)
     ]
       where
         later : (g : List ℕ × List Row) (gs : PathGroups) (m : ℕ) (o : Option ℕ) (p : ℕ) → Some p ≡ option_map suc o
@@ -51,9 +51,9 @@ module _ (test other : Row → Bool) where
         later g gs m (Some q) p h k = let e : p ≡ suc q = cc in rw e (k q refl)
 
     same_path : (paths : PathGroups) → Filled domain paths → (text : List ℕ) → IsCandidatePath path text → at_path test d paths text ≡ at_path other d paths text
-    same_path paths all text is = by_place (place_of text paths) refl
+    same_path paths all text is = by_place (group_position text paths) refl
       where
-        by_place : (o : Option ℕ) → o ≡ place_of text paths → at_path test d paths text ≡ at_path other d paths text
+        by_place : (o : Option ℕ) → o ≡ group_position text paths → at_path test d paths text ≡ at_path other d paths text
         by_place None e = rw (at_path, ← e) refl
         by_place (Some p) e = rw (at_path, ← e) (same_group text is paths all p e p)
 
@@ -66,12 +66,12 @@ module _ (test other : Row → Bool) where
         rw (here, next) refl
 
   -- for one domain
-  pub same_under : (domain path : List ℕ) → AgreesUnder domain test other path → (groups : DomainGroups) → AreGroups groups → (d : ℕ) → Some d ≡ place_of domain groups
+  pub same_under : (domain path : List ℕ) → AgreesUnder domain test other path → (groups : DomainGroups) → AreGroups groups → (d : ℕ) → Some d ≡ group_position domain groups
       → flat_map (at_path test d (under d groups)) (candidate_paths path) ≡ flat_map (at_path other d (under d groups)) (candidate_paths path)
   same_under domain path agrees groups are d found =
       same_paths domain path agrees d (under d groups) (filled groups are.1 d found) (candidate_paths path) (λ text. (path_texts_are path text).0)
     where
-      filled : (groups : DomainGroups) → AllByRecursion (λ g. (0 < length g.1) × ArePaths g.0 g.1) groups → (d : ℕ) → Some d ≡ place_of domain groups → Filled domain (under d groups)
+      filled : (groups : DomainGroups) → AllByRecursion (λ g. (0 < length g.1) × ArePaths g.0 g.1) groups → (d : ℕ) → Some d ≡ group_position domain groups → Filled domain (under d groups)
       filled [] all d e = absurd (cc)
       filled (g ∷ gs) all d e = elim (bool_cases (bytes_eq domain g.0)) [
         | inl s ↦
@@ -79,7 +79,7 @@ module _ (test other : Row → Bool) where
             let z : d ≡ 0 = cc in
             let same : domain ≡ g.0 = (bytes_eq-Decides domain g.0).0 s in
             subst (λ q. Filled domain (under q (g ∷ gs))) (sym z) (subst (λ t. Filled t g.1) (sym same) all.0.1.1)
-        | inr s ↦ let e' = rw s at e in later g gs (place_of domain gs) d e' (λ q k. filled gs all.1 q k)
+        | inr s ↦ let e' = rw s at e in later g gs (group_position domain gs) d e' (λ q k. filled gs all.1 q k)
       ]
         where
           later : (g : List ℕ × PathGroups) (gs : DomainGroups) (o : Option ℕ) (d : ℕ) → Some d ≡ option_map suc o
@@ -88,19 +88,19 @@ module _ (test other : Row → Bool) where
           later g gs (Some q) d h k = let e : d ≡ suc q = cc in rw e (k q refl)
 
   -- what a lookup of a domain finds
-  pub known_domain : (domain path : List ℕ) → AgreesUnder domain test other path → (groups : DomainGroups) → AreGroups groups → (d : ℕ) → Some d ≡ place_of domain groups
+  pub known_domain : (domain path : List ℕ) → AgreesUnder domain test other path → (groups : DomainGroups) → AreGroups groups → (d : ℕ) → Some d ≡ group_position domain groups
       → flat_map (at_path test d (under d groups)) (candidate_paths path) ≡ at_domain other groups (candidate_paths path) domain
   known_domain domain path agrees groups are d found =
       same_under domain path agrees groups are d found ∙ sym (domain_some other groups (candidate_paths path) domain d found)
 
 -- the tests left under a candidate domain find the given rows there
-pub known_look_up : (host_only suffix : Bool) (text : List ℕ) (url asked_url : Parts) (now asked_now : DateTime) → asked_url ≡ url → asked_now ≡ now
+pub known_look_up : (host_only suffix : Bool) (text : List ℕ) (url candidates_url : Parts) (now candidates_now : DateTime) → candidates_url ≡ url → candidates_now ≡ now
     → AgreesUnder text (is_given_under host_only suffix url (moment_of now)) (is_given url (moment_of now)) url.path
-    → (groups asked_groups : DomainGroups) → AreGroups groups → asked_groups ≡ groups → (d : ℕ) → Some d ≡ place_of text groups
-    → flat_map (at_path (is_given_under host_only suffix asked_url (moment_of asked_now)) d (under d asked_groups)) (candidate_paths asked_url.path)
+    → (groups candidate_groups : DomainGroups) → AreGroups groups → candidate_groups ≡ groups → (d : ℕ) → Some d ≡ group_position text groups
+    → flat_map (at_path (is_given_under host_only suffix candidates_url (moment_of candidates_now)) d (under d candidate_groups)) (candidate_paths candidates_url.path)
     ≡ at_domain (is_given url (moment_of now)) groups (candidate_paths url.path) text
-known_look_up host_only suffix text url asked_url now asked_now same_url same_now agrees groups asked_groups are same_groups d found =
+known_look_up host_only suffix text url candidates_url now candidates_now same_url same_now agrees groups candidate_groups are same_groups d found =
     let look : Parts → DateTime → DomainGroups → List RowPosition =
     λ u m gs. flat_map (at_path (is_given_under host_only suffix u (moment_of m)) d (under d gs)) (candidate_paths u.path) in
-    ap (λ u. look u asked_now asked_groups) same_url ∙ ap (λ m. look url m asked_groups) same_now ∙ ap (λ gs. look url now gs) same_groups
+    ap (λ u. look u candidates_now candidate_groups) same_url ∙ ap (λ m. look url m candidate_groups) same_now ∙ ap (λ gs. look url now gs) same_groups
     ∙ known_domain (is_given_under host_only suffix url (moment_of now)) (is_given url (moment_of now)) text url.path agrees groups are d found

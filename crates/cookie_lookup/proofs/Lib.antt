@@ -1,5 +1,4 @@
 pub mod Agree
-pub mod RowFilters
 pub mod Bounds
 pub mod Counts
 pub mod CoveringTexts
@@ -11,9 +10,10 @@ pub mod Known
 pub mod Listed
 pub mod Order
 pub mod PathTexts
+pub mod Positions
 pub mod RelatedRows
 pub mod Results
-pub mod Positions
+pub mod RowFilters
 pub mod Steps
 pub mod SuffixTexts
 pub mod Whole

@@ -9,10 +9,10 @@ use Rattle.std.proofs.lemmas.Option.{slice_get_cases}
 use Rattle.cookie_parts.specs.Cookie.{Row}
 use Rattle.cookie_laws.specs.Rows.{differ}
 use Rattle.cookie_lookup.specs.Groups.{PathGroups, DomainGroups, ArePaths, AreGroups}
-use Rattle.cookie_lookup.specs.SearchView.{RowPosition, place_of, under, at_domain, at_path, how_many_found}
+use Rattle.cookie_lookup.specs.SearchView.{RowPosition, group_position, under, at_domain, at_path, how_many_found}
 use Rattle.cookie_lookup.specs.Positions.{SamePositions}
 use Rattle.cookie_lookup.proofs.Agree.{sum_flat, sum_alike}
-use Rattle.cookie_lookup.specs.Texts.{candidate_paths, slashes}
+use Rattle.cookie_lookup.specs.Candidates.{candidate_paths, slashes}
 use Rattle.cookie_lookup.proofs.Cuts.{bool_cases}
 use Rattle.cookie_lookup.proofs.PathTexts.{length_paths, path_differ}
 use Rattle.cookie_lookup.proofs.Positions.{drop_at, some_given}
@@ -109,7 +109,7 @@ shared_most cs ks c d =
     at_most p (t ∷ ts) = omega (arith, sum_by-cons (λ t. cond (p t) 1 0) t ts, below (p t), at_most p ts)
 
 -- a name without a group has no position
-pub no_place : {X : Type 0} (text : List ℕ) (gs : List (List ℕ × X)) → list_any (bytes_eq text) (map (λ g. g.0) gs) ≡ false → place_of text gs ≡ None
+pub no_place : {X : Type 0} (text : List ℕ) (gs : List (List ℕ × X)) → list_any (bytes_eq text) (map (λ g. g.0) gs) ≡ false → group_position text gs ≡ None
 no_place text [] h = refl
 no_place text (g ∷ gs) h =
     let other : bytes_eq text g.0 ≡ false = grind (arith, nat_tests, h) in
@@ -127,31 +127,31 @@ paths_differ groups are d = walk groups are.1 d
 
 module _ (test : Row → Bool) (d : ℕ) (paths : PathGroups) (cs : List (List ℕ)) (c : differ bytes_eq cs ≡ true) (k : differ bytes_eq (map (λ p. p.0) paths) ≡ true) where
   -- lookups of the stored candidates find what lookups of all the candidates do
-  pub listed_spots : SamePositions (flat_map (at_path test d paths) (filter (λ t. list_any (bytes_eq t) cs) (map (λ p. p.0) paths))) (flat_map (at_path test d paths) cs)
-  listed_spots f =
+  pub listed_positions : SamePositions (flat_map (at_path test d paths) (filter (λ t. list_any (bytes_eq t) cs) (map (λ p. p.0) paths))) (flat_map (at_path test d paths) cs)
+  listed_positions f =
       sum_flat f (at_path test d paths) (filter (λ t. list_any (bytes_eq t) cs) (map (λ p. p.0) paths))
       ∙ shared_all (λ t. sum_by f (at_path test d paths t)) cs (map (λ p. p.0) paths) c k (λ t none. ap (sum_by f) (nothing t (no_place t paths none)))
       ∙ sym (sum_flat f (at_path test d paths) cs)
     where
-      nothing : (t : List ℕ) → place_of t paths ≡ None → at_path test d paths t ≡ []
+      nothing : (t : List ℕ) → group_position t paths ≡ None → at_path test d paths t ≡ []
       nothing t e = rw (at_path, e) refl
 
 -- the same of domains
 module _ (test : Row → Bool) (groups : DomainGroups) (texts cs : List (List ℕ)) (c : differ bytes_eq cs ≡ true) (k : differ bytes_eq (map (λ g. g.0) groups) ≡ true) where
-  pub listed_domain_spots : SamePositions (flat_map (at_domain test groups texts) (filter (λ t. list_any (bytes_eq t) cs) (map (λ g. g.0) groups))) (flat_map (at_domain test groups texts) cs)
-  listed_domain_spots f =
+  pub listed_domain_positions : SamePositions (flat_map (at_domain test groups texts) (filter (λ t. list_any (bytes_eq t) cs) (map (λ g. g.0) groups))) (flat_map (at_domain test groups texts) cs)
+  listed_domain_positions f =
       sum_flat f (at_domain test groups texts) (filter (λ t. list_any (bytes_eq t) cs) (map (λ g. g.0) groups))
       ∙ shared_all (λ t. sum_by f (at_domain test groups texts t)) cs (map (λ g. g.0) groups) c k (λ t none. ap (sum_by f) (nothing t (no_place t groups none)))
       ∙ sym (sum_flat f (at_domain test groups texts) cs)
     where
-      nothing : (t : List ℕ) → place_of t groups ≡ None → at_domain test groups texts t ≡ []
+      nothing : (t : List ℕ) → group_position t groups ≡ None → at_domain test groups texts t ≡ []
       nothing t e = rw (at_domain, e) refl
 
 -- as many of them are found as of the candidates
 pub listed_found : (groups : DomainGroups) (cs : List (List ℕ)) → differ bytes_eq cs ≡ true → differ bytes_eq (map (λ g. g.0) groups) ≡ true
     → how_many_found groups (filter (λ t. list_any (bytes_eq t) cs) (map (λ g. g.0) groups)) ≡ how_many_found groups cs
 listed_found groups cs c k =
-    shared_all (λ t. cond (is_some (place_of t groups)) 1 0) cs (map (λ g. g.0) groups) c k (λ t none. ap (λ o. cond (is_some o) 1 0) (no_place t groups none))
+    shared_all (λ t. cond (is_some (group_position t groups)) 1 0) cs (map (λ g. g.0) groups) c k (λ t none. ap (λ o. cond (is_some o) 1 0) (no_place t groups none))
 
 -- the steps of a walk over names that skips those that fail a test
 
@@ -220,8 +220,8 @@ listed_most path ks k = omega (arith, shared_most (candidate_paths path) ks (pat
 
 -- positions in any order
 
-pub same_spots : (xs ys : List RowPosition) → xs ≡ ys → SamePositions xs ys
-same_spots xs ys e = λ f. ap (sum_by f) e
+pub same_positions_of_equal : (xs ys : List RowPosition) → xs ≡ ys → SamePositions xs ys
+same_positions_of_equal xs ys e = λ f. ap (sum_by f) e
 
 pub same_after : (new old xs ys : List RowPosition) → new ≡ old ++ xs → SamePositions xs ys → SamePositions new (old ++ ys)
 same_after new old xs ys e same = λ f. ap (sum_by f) e ∙ sum_by-append f old xs ∙ ap (λ n. sum_by f old + n) (same f) ∙ sym (sum_by-append f old ys)

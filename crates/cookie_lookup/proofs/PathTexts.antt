@@ -8,7 +8,7 @@ use Rattle.std.proofs.lemmas.Slice.Eq.{bytes_eq-Decides}
 use Rattle.std.proofs.lemmas.List.Sums.{count_by_more_yes, count_by_more_no}
 use Rattle.std.proofs.lemmas.List.{get_or_past}
 use Rattle.cookie_laws.specs.Rows.{differ}
-use Rattle.cookie_lookup.specs.Texts.{ends_candidate, front_texts, candidate_paths, slashes}
+use Rattle.cookie_lookup.specs.Candidates.{ends_candidate, front_texts, candidate_paths, slashes}
 use Rattle.cookie_lookup.proofs.Cuts.{bool_cases}
 use Rattle.cookie_lookup.proofs.HostTexts.{longer}
 

@@ -7,7 +7,7 @@ use Rattle.std.proofs.lemmas.List.{drop_more}
 use Rattle.std.proofs.lemmas.Grind.{flat_map-append}
 use Rattle.cookie_parts.specs.Cookie.{Row}
 use Rattle.cookie_lookup.specs.Groups.{PathGroups, DomainGroups}
-use Rattle.cookie_lookup.specs.SearchView.{RowPosition, place_of, under, row_positions, at_path, at_domain}
+use Rattle.cookie_lookup.specs.SearchView.{RowPosition, group_position, under, row_positions, at_path, at_domain}
 use Rattle.cookie_lookup.proofs.Cuts.{bool_cases}
 
 -- the rows of a group
@@ -52,27 +52,27 @@ some_pass test d p k (r ∷ rows) (suc n) row here t none = elim (bool_cases (te
 
 -- the group of a name
 
-pub place_below : {X : Type 0} (text : List ℕ) (gs : List (List ℕ × X)) (n : ℕ) → Some n ≡ place_of text gs → n < length gs
+pub place_below : {X : Type 0} (text : List ℕ) (gs : List (List ℕ × X)) (n : ℕ) → Some n ≡ group_position text gs → n < length gs
 place_below text [] n h = absurd (cc)
 place_below text (g ∷ gs) n h = elim (bool_cases (bytes_eq text g.0)) [
   | inl e ↦ let h' = rw e at h in let z : n ≡ 0 = cc in omega (arith, z)
-  | inr e ↦ let h' = rw e at h in later (place_of text gs) n h' (λ m k. place_below text gs m k)
+  | inr e ↦ let h' = rw e at h in later (group_position text gs) n h' (λ m k. place_below text gs m k)
 ]
   where
     later : {b : ℕ} (o : Option ℕ) (n : ℕ) → Some n ≡ option_map suc o → ((m : ℕ) → Some m ≡ o → m < b) → n < suc b
     later None n h k = absurd (cc)
     later (Some m) n h k = let e : n ≡ suc m = cc in omega (arith, e, k m refl)
 
-pub path_some : (test : Row → Bool) (d : ℕ) (paths : PathGroups) (text : List ℕ) (p : ℕ) → Some p ≡ place_of text paths → at_path test d paths text ≡ row_positions test d p 0 (under p paths)
+pub path_some : (test : Row → Bool) (d : ℕ) (paths : PathGroups) (text : List ℕ) (p : ℕ) → Some p ≡ group_position text paths → at_path test d paths text ≡ row_positions test d p 0 (under p paths)
 path_some test d paths text p e = rw (at_path, ← e) refl
 
-pub path_none : (test : Row → Bool) (d : ℕ) (paths : PathGroups) (text : List ℕ) → None ≡ place_of text paths → at_path test d paths text ≡ []
+pub path_none : (test : Row → Bool) (d : ℕ) (paths : PathGroups) (text : List ℕ) → None ≡ group_position text paths → at_path test d paths text ≡ []
 path_none test d paths text e = rw (at_path, ← e) refl
 
-pub domain_some : (test : Row → Bool) (groups : DomainGroups) (texts : List (List ℕ)) (text : List ℕ) (d : ℕ) → Some d ≡ place_of text groups → at_domain test groups texts text ≡ flat_map (at_path test d (under d groups)) texts
+pub domain_some : (test : Row → Bool) (groups : DomainGroups) (texts : List (List ℕ)) (text : List ℕ) (d : ℕ) → Some d ≡ group_position text groups → at_domain test groups texts text ≡ flat_map (at_path test d (under d groups)) texts
 domain_some test groups texts text d e = rw (at_domain, ← e) refl
 
-pub domain_none : (test : Row → Bool) (groups : DomainGroups) (texts : List (List ℕ)) (text : List ℕ) → None ≡ place_of text groups → at_domain test groups texts text ≡ []
+pub domain_none : (test : Row → Bool) (groups : DomainGroups) (texts : List (List ℕ)) (text : List ℕ) → None ≡ group_position text groups → at_domain test groups texts text ≡ []
 domain_none test groups texts text e = rw (at_domain, ← e) refl
 
 -- what several lookups find, one after another

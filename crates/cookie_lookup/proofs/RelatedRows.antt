@@ -9,7 +9,7 @@ use Rattle.cookie_parts.specs.Hosts.{host_of, passes}
 use Rattle.cookie_parts.specs.Path.{covers_path}
 use Rattle.cookie_laws.specs.Given.{is_given}
 use Rattle.cookie_laws.specs.Related.{is_related}
-use Rattle.cookie_lookup.specs.Texts.{candidate_domains, url_candidate_domains}
+use Rattle.cookie_lookup.specs.Candidates.{candidate_domains, url_candidate_domains}
 
 -- a related domain is a candidate of the URL
 pub related_among : (url : Parts) (domain : List ℕ) → is_related url domain ≡ true → list_any (bytes_eq domain) (url_candidate_domains url) ≡ true

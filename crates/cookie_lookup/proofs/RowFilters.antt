@@ -14,7 +14,7 @@ use Rattle.cookie_parts.specs.Hosts.{host_of, covers, is_host_name, is_http_sche
 use Rattle.cookie_parts.specs.Path.{covers_path, is_absolute, path_matches, CoversPath}
 use Rattle.cookie_laws.specs.Given.{is_given}
 use Rattle.cookie_lookup.specs.RowFilter.{is_given_under, is_host, is_name, is_of_host, kind_is_for, AgreesUnder}
-use Rattle.cookie_lookup.specs.Texts.{IsCandidatePath, IsCandidateDomain}
+use Rattle.cookie_lookup.specs.Candidates.{IsCandidatePath, IsCandidateDomain}
 use Rattle.cookie_lookup.proofs.CoveringTexts.{covers_it}
 use Rattle.cookie_lookup.proofs.Cuts.{bool_cases}
 
@@ -76,10 +76,10 @@ module _ (ended secure http : Bool) where
       turned true true false = grind (arith, nat_tests)
 
 -- so the tests left decide whether the row is given
-pub asked_given : (url : Parts) (now : Moment) (host text : List ℕ) → Some host ≡ host_of url → IsCandidateDomain host text
+pub candidates_given : (url : Parts) (now : Moment) (host text : List ℕ) → Some host ≡ host_of url → IsCandidateDomain host text
     → ((path request : List ℕ) → CoversPath path request → IsTrue (covers_path path request))
     → AgreesUnder text (is_given_under (is_host text host) (is_of_host text host) url now) (is_given url now) url.path
-asked_given url now host text here related match row of path =
+candidates_given url now host text here related match row of path =
     let covered : covers_path row.path.text url.path ≡ true = match row.path.text url.path (covers_it url.path row.path.text path) in
     let path_is : path_matches row.path.text url ≡ true = rw (can_be_a_base url row.path.text path, covered) refl in
     other_order (is_expired now row) (not (is_secure_only row.raw) || is_secure url) (not (is_http_only row.raw) || is_http_scheme url)

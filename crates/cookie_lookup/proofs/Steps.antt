@@ -7,7 +7,7 @@ use Rattle.std.proofs.lemmas.List.Sums.{sum_by-append}
 use Rattle.cookie_laws.specs.Related.{after_dots}
 use Rattle.cookie_lookup.specs.SearchView.{RowPosition}
 use Rattle.cookie_lookup.specs.Positions.{SamePositions}
-use Rattle.cookie_lookup.specs.Texts.{ends_candidate, front_texts, candidate_paths, candidate_domains, slashes}
+use Rattle.cookie_lookup.specs.Candidates.{ends_candidate, front_texts, candidate_paths, candidate_domains, slashes}
 use Rattle.cookie_lookup.proofs.Cuts.{at_dot, at_no_dot, dots_suffix, front_more, front_prefix, front_same}
 use Rattle.cookie_lookup.proofs.PathTexts.{length_paths}
 use Rattle.cookie_lookup.proofs.Positions.{some_given}

@@ -7,7 +7,7 @@ use Rattle.std.proofs.Math.Seq.{get_or-append_seam}
 use Rattle.std.proofs.lemmas.Bool.{and_parts, or_cases}
 use Rattle.std.proofs.lemmas.Bool.Decides.{nat_tests, Decides-eqb}
 use Rattle.std.proofs.lemmas.Slice.Eq.{ends_is}
-use Rattle.cookie_lookup.specs.Texts.{is_candidate_domain, candidate_domains, IsCandidateDomain}
+use Rattle.cookie_lookup.specs.Candidates.{is_candidate_domain, candidate_domains, IsCandidateDomain}
 use Rattle.cookie_lookup.proofs.CoveringTexts.{take_next}
 use Rattle.cookie_lookup.proofs.Cuts.{after_byte, bool_cases}
 use Rattle.cookie_lookup.proofs.HostTexts.{related_texts_are}

@@ -10,7 +10,7 @@ use Rattle.cookie_words.specs.Moments.{Moment}
 use Rattle.cookie_parts.specs.Cookie.{Row}
 use Rattle.cookie_parts.specs.Domain.{domain_text}
 use Rattle.cookie_parts.specs.Hosts.{host_of}
-use Rattle.cookie_lookup.specs.Texts.{candidate_domains, url_candidate_domains, candidate_paths, most_paths}
+use Rattle.cookie_lookup.specs.Candidates.{candidate_domains, url_candidate_domains, candidate_paths, most_paths}
 use Rattle.cookie_laws.specs.Given.{is_given}
 use Rattle.cookie_lookup.specs.Groups.{PathGroups, DomainGroups, AreGroups, ArePaths, Filled}
 use Rattle.cookie_lookup.specs.SearchView.{RowPosition, row_positions, path_positions, domain_positions, given_positions, at_domain, how_many_found, of_host}
@@ -18,7 +18,7 @@ use Rattle.cookie_lookup.specs.Positions.{SamePositions}
 use Rattle.cookie_lookup.proofs.Cuts.{bool_cases}
 use Rattle.cookie_lookup.proofs.HostTexts.{related_differ}
 use Rattle.cookie_lookup.proofs.PathTexts.{path_differ}
-use Rattle.cookie_lookup.proofs.Order.{Ascends, ascends_append, all_append, all_weaker, stands_before, stands_tests, sorted_is}
+use Rattle.cookie_lookup.proofs.Order.{Ascends, ascends_append, all_append, all_weaker, is_position_before, position_before_tests, sorted_is}
 use Rattle.cookie_lookup.proofs.Agree.{Missed, Agree, rows_sum, paths_sum, paths_agree, domains_agree}
 
 -- the walk ascends
@@ -32,14 +32,14 @@ FromPath d p s = (s.0 ≡ d) × (p ≤ s.1)
 abbrev pub FromDomain : ℕ → RowPosition → Type 0
 FromDomain d s = d ≤ s.0
 
-row_later : (d p n : ℕ) (y : RowPosition) → FromRow d p (n + 1) y → stands_before y (d, p, n) ≡ false
-row_later d p n y h = stands_tests y (d, p, n) ∙ grind (arith, nat_tests, h.0, h.1, h.2)
+row_later : (d p n : ℕ) (y : RowPosition) → FromRow d p (n + 1) y → is_position_before y (d, p, n) ≡ false
+row_later d p n y h = position_before_tests y (d, p, n) ∙ grind (arith, nat_tests, h.0, h.1, h.2)
 
-path_later : (d p : ℕ) (x y : RowPosition) → FromRow d p 0 x → FromPath d (p + 1) y → stands_before y x ≡ false
-path_later d p x y h k = stands_tests y x ∙ grind (arith, nat_tests, h.0, h.1, k.0, k.1)
+path_later : (d p : ℕ) (x y : RowPosition) → FromRow d p 0 x → FromPath d (p + 1) y → is_position_before y x ≡ false
+path_later d p x y h k = position_before_tests y x ∙ grind (arith, nat_tests, h.0, h.1, k.0, k.1)
 
-domain_later : (d : ℕ) (x y : RowPosition) → FromPath d 0 x → FromDomain (d + 1) y → stands_before y x ≡ false
-domain_later d x y h k = stands_tests y x ∙ grind (arith, nat_tests, h.0, k)
+domain_later : (d : ℕ) (x y : RowPosition) → FromPath d 0 x → FromDomain (d + 1) y → is_position_before y x ≡ false
+domain_later d x y h k = position_before_tests y x ∙ grind (arith, nat_tests, h.0, k)
 
 module _ (test : Row → Bool) where
   rows_from : (d p n : ℕ) (rows : List Row) → AllByRecursion (FromRow d p n) (row_positions test d p n rows)
@@ -52,7 +52,7 @@ module _ (test : Row → Bool) where
   rows_ascend d p n [] = tt
   rows_ascend d p n (row ∷ rows) =
       elim (bool_cases (test row)) [
-        | inl e ↦ rw e (all_weaker (FromRow d p (n + 1)) (λ y. stands_before y (d, p, n) ≡ false) (row_later d p n) (row_positions test d p (n + 1) rows) (rows_from d p (n + 1) rows), rows_ascend d p (n + 1) rows)
+        | inl e ↦ rw e (all_weaker (FromRow d p (n + 1)) (λ y. is_position_before y (d, p, n) ≡ false) (row_later d p n) (row_positions test d p (n + 1) rows) (rows_from d p (n + 1) rows), rows_ascend d p (n + 1) rows)
         | inr e ↦ rw e (rows_ascend d p (n + 1) rows)
       ]
 
@@ -101,11 +101,11 @@ fails true c h k = absurd (cc (h refl))
 fails false c h k = refl
 
 -- the domain and the path of a given row are candidates of the URL
-abbrev pub AreAsked : Parts → Moment → Type 0
-AreAsked url now = (row : Row) → is_given url now row ≡ true
+abbrev pub AreCandidates : Parts → Moment → Type 0
+AreCandidates url now = (row : Row) → is_given url now row ≡ true
     → (list_any (bytes_eq (domain_text row.domain)) (url_candidate_domains url) ≡ true) × (list_any (bytes_eq row.path.text) (candidate_paths url.path) ≡ true)
 
-module _ (url : Parts) (now : Moment) (row_filter : AreAsked url now) where
+module _ (url : Parts) (now : Moment) (row_filter : AreCandidates url now) where
   given_domain : (host : List ℕ) → host_of url ≡ Some host → (row : Row) → is_given url now row ≡ true → list_any (bytes_eq (domain_text row.domain)) (candidate_domains host) ≡ true
   given_domain host e row h = let r = (row_filter row h).0 in rw (url_candidate_domains, e) at r
 
@@ -147,7 +147,7 @@ module _ (url : Parts) (now : Moment) (row_filter : AreAsked url now) where
 
   -- what is found is sorted into what a walk gives
   pub found_sorted : (host : List ℕ) → Some host ≡ host_of url → (groups : DomainGroups) → AreGroups groups → (unsorted sorted : List RowPosition)
-      → SamePositions unsorted (flat_map (at_domain (is_given url now) groups (candidate_paths url.path)) (candidate_domains host)) → IsPermutation unsorted sorted → IsSortedBy stands_before sorted
+      → SamePositions unsorted (flat_map (at_domain (is_given url now) groups (candidate_paths url.path)) (candidate_domains host)) → IsPermutation unsorted sorted → IsSortedBy is_position_before sorted
       → sorted ≡ given_positions url now groups
   found_sorted host e groups a unsorted sorted u p up =
       sorted_is unsorted sorted (given_positions url now groups) (λ f. u f ∙ same_sums f host (sym e) groups a) (domains_ascend (is_given url now) 0 groups) p up

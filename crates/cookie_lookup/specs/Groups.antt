@@ -24,12 +24,12 @@ flat groups = flat_map (λ g. flat_paths g.1) groups
 -- what holds of all groups
 
 -- the row has this domain and path
-abbrev pub Of : List ℕ → List ℕ → Row → Type 0
-Of domain path row = (domain_text row.domain ≡ domain) × (row.path.text ≡ path)
+abbrev pub HasDomainAndPath : List ℕ → List ℕ → Row → Type 0
+HasDomainAndPath domain path row = (domain_text row.domain ≡ domain) × (row.path.text ≡ path)
 
 -- each path of the domain has at least one row, and its rows have that domain and path
 abbrev pub Filled : List ℕ → PathGroups → Type 0
-Filled domain paths = AllByRecursion (λ p. (0 < length p.1) × AllByRecursion (Of domain p.0) p.1) paths
+Filled domain paths = AllByRecursion (λ p. (0 < length p.1) × AllByRecursion (HasDomainAndPath domain p.0) p.1) paths
 
 -- in addition the paths differ
 abbrev pub ArePaths : List ℕ → PathGroups → Type 0

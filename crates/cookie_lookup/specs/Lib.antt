@@ -2,4 +2,4 @@ pub mod RowFilter
 pub mod Groups
 pub mod SearchView
 pub mod Positions
-pub mod Texts
+pub mod Candidates

@@ -7,7 +7,7 @@ use Rattle.cookie_parts.specs.Cookie.{Row, is_expired, is_http_only, is_secure_o
 use Rattle.cookie_parts.specs.Domain as Domain
 use Rattle.cookie_parts.specs.Domain.{DomainValue, domain_text}
 use Rattle.cookie_parts.specs.Hosts.{is_host_name, is_http_scheme, is_secure}
-use Rattle.cookie_lookup.specs.Texts.{IsCandidatePath}
+use Rattle.cookie_lookup.specs.Candidates.{IsCandidatePath}
 
 -- the domain is neither empty nor `.`
 abbrev pub is_name : List ℕ → Bool

@@ -8,7 +8,7 @@ use Rattle.cookie_parts.specs.Domain.{domain_text}
 use Rattle.cookie_parts.specs.Hosts.{host_of}
 use Rattle.cookie_laws.specs.Given.{is_given}
 use Rattle.cookie_lookup.specs.Groups.{PathGroups, DomainGroups}
-use Rattle.cookie_lookup.specs.Texts.{url_candidate_domains, candidate_paths}
+use Rattle.cookie_lookup.specs.Candidates.{url_candidate_domains, candidate_paths}
 
 -- the groups, the number of lookups of domains and of paths so far, and the rows of the current
 -- group: the path group found last
@@ -19,9 +19,9 @@ pub record SearchView : Type 0 where
   pub current : Option (List Row)
 
 -- the position of the group of this name, if there is one
-abbrev pub place_of : {X : Type 0} → List ℕ → List (List ℕ × X) → Option ℕ
-place_of text [] = None
-place_of text (g ∷ gs) = if bytes_eq text g.0 then Some 0 else option_map suc (place_of text gs)
+abbrev pub group_position : {X : Type 0} → List ℕ → List (List ℕ × X) → Option ℕ
+group_position text [] = None
+group_position text (g ∷ gs) = if bytes_eq text g.0 then Some 0 else option_map suc (group_position text gs)
 
 -- the content of the group at a position
 abbrev pub under : {X : Type 0} → ℕ → List (List ℕ × List X) → List X
@@ -68,23 +68,23 @@ given_positions url now groups = domain_positions (is_given url now) 0 groups
 
 -- the positions under a path of the domain at d
 abbrev pub at_path : (Row → Bool) → ℕ → PathGroups → List ℕ → List RowPosition
-at_path test d paths text = elim (place_of text paths) [ None ↦ [] | Some p ↦ row_positions test d p 0 (under p paths) ]
+at_path test d paths text = elim (group_position text paths) [ None ↦ [] | Some p ↦ row_positions test d p 0 (under p paths) ]
 
 -- the positions under a domain, and in it under these paths
 abbrev pub at_domain : (Row → Bool) → DomainGroups → List (List ℕ) → List ℕ → List RowPosition
-at_domain test groups texts text = elim (place_of text groups) [ None ↦ [] | Some d ↦ flat_map (at_path test d (under d groups)) texts ]
+at_domain test groups texts text = elim (group_position text groups) [ None ↦ [] | Some d ↦ flat_map (at_path test d (under d groups)) texts ]
 
 -- how many of these domains have a group
 abbrev pub how_many_found : DomainGroups → List (List ℕ) → ℕ
-how_many_found groups texts = count_by (λ text. is_some (place_of text groups)) texts
+how_many_found groups texts = count_by (λ text. is_some (group_position text groups)) texts
 
 -- how many of these paths have a group in the domain
 abbrev pub how_many_paths : PathGroups → List (List ℕ) → ℕ
-how_many_paths paths texts = count_by (λ text. is_some (place_of text paths)) texts
+how_many_paths paths texts = count_by (λ text. is_some (group_position text paths)) texts
 
 -- how many of these paths have a group in this domain; 0 if the domain has none
 abbrev pub paths_at_domain : DomainGroups → List (List ℕ) → List ℕ → ℕ
-paths_at_domain groups texts text = elim (place_of text groups) [ None ↦ 0 | Some d ↦ how_many_paths (under d groups) texts ]
+paths_at_domain groups texts text = elim (group_position text groups) [ None ↦ 0 | Some d ↦ how_many_paths (under d groups) texts ]
 
 -- how many pairs of one of these domains and one of these paths have a group
 abbrev pub how_many_pairs_found : DomainGroups → List (List ℕ) → List (List ℕ) → ℕ
@@ -97,22 +97,22 @@ of_host count url = elim (host_of url) [ None ↦ 0 | Some host ↦ count host ]
 -- the rows at positions
 
 -- the row has this domain
-abbrev pub is_of_domain : List ℕ → Row → Bool
-is_of_domain text row = bytes_eq text (domain_text row.domain)
+abbrev pub has_domain : List ℕ → Row → Bool
+has_domain text row = bytes_eq text (domain_text row.domain)
 
 -- how many candidate domains of the URL are the domain of a row
 abbrev pub domains_found : Parts → List Row → ℕ
-domains_found url rows = count_by (λ text. list_any (is_of_domain text) rows) (url_candidate_domains url)
+domains_found url rows = count_by (λ text. list_any (has_domain text) rows) (url_candidate_domains url)
 
 -- the row has this domain and path
-abbrev pub is_of_texts : List ℕ → List ℕ → Row → Bool
-is_of_texts domain path row = is_of_domain domain row && bytes_eq path row.path.text
+abbrev pub has_domain_and_path : List ℕ → List ℕ → Row → Bool
+has_domain_and_path domain path row = has_domain domain row && bytes_eq path row.path.text
 
 -- how many pairs of a candidate domain and a candidate path of the URL are the domain and path of a
 -- row
 abbrev pub paths_found : Parts → List Row → ℕ
 paths_found url rows =
-    sum_by (λ domain. count_by (λ path. list_any (is_of_texts domain path) rows) (candidate_paths url.path)) (url_candidate_domains url)
+    sum_by (λ domain. count_by (λ path. list_any (has_domain_and_path domain path) rows) (candidate_paths url.path)) (url_candidate_domains url)
 
 -- the list of the value, if there is one
 abbrev pub list_of : {X : Type 0} → Option X → List X

@@ -6,7 +6,7 @@ ghost use Rattle.cookie_laws.specs.Given.{is_given};
 ghost use Rattle.cookie_lookup.specs.RowFilter.{is_given_under};
 ghost use Rattle.cookie_lookup.specs.SearchView.{at_domain, at_path, given_positions, how_many_found, how_many_pairs_found, of_host, paths_at_domain, row_positions, rows_in, under};
 ghost use Rattle.cookie_lookup.specs.Positions.{SamePositions};
-ghost use Rattle.cookie_lookup.specs.Texts.{url_candidate_domains, dots, ends_candidate, most_domains, most_paths, candidate_paths, candidate_domains, IsCandidateDomain};
+ghost use Rattle.cookie_lookup.specs.Candidates.{url_candidate_domains, dots, ends_candidate, most_domains, most_paths, candidate_paths, candidate_domains, IsCandidateDomain};
 ghost use Rattle.cookie_parts.specs.Hosts.{host_of, is_host_name};
 
 use crate::laws;

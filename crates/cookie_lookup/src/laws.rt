@@ -10,7 +10,7 @@ ghost use Rattle.cookie_laws.specs.Given.{given, is_given};
 ghost use Rattle.cookie_laws.specs.Rows.{differ};
 ghost use Rattle.cookie_lookup.specs.Groups.{flat, AreGroups, DomainGroups};
 ghost use Rattle.cookie_lookup.specs.SearchView.{domains_found, given_positions, how_many_found, how_many_pairs_found, paths_found, rows_at};
-ghost use Rattle.cookie_lookup.specs.Texts.{url_candidate_domains, dots, candidate_paths, candidate_domains, slashes, IsCandidatePath, IsCandidateDomain};
+ghost use Rattle.cookie_lookup.specs.Candidates.{url_candidate_domains, dots, candidate_paths, candidate_domains, slashes, IsCandidatePath, IsCandidateDomain};
 ghost use Rattle.url.specs.Parts.{Parts};
 
 /// The candidate domains and paths are exactly those that the definitions `IsCandidateDomain` and

@@ -8,7 +8,7 @@ ghost use Rattle.cookie_lookup.specs.RowFilter.{is_given_under};
 ghost use Rattle.cookie_lookup.specs.Groups.{DomainGroups};
 ghost use Rattle.cookie_lookup.specs.SearchView.{at_domain, at_path, how_many_found, how_many_pairs_found, how_many_paths, under};
 ghost use Rattle.cookie_lookup.specs.Positions.{SamePositions};
-ghost use Rattle.cookie_lookup.specs.Texts.{dots, is_candidate_domain, is_candidate_path, most_paths, candidate_paths, candidate_domains};
+ghost use Rattle.cookie_lookup.specs.Candidates.{dots, is_candidate_domain, is_candidate_path, most_paths, candidate_paths, candidate_domains};
 ghost use Rattle.cookie_parts.specs.Hosts.{host_of};
 
 use crate::finding::{ends_candidate, push_domain, push_domains, push_path, push_paths};

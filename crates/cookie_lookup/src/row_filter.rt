@@ -4,8 +4,8 @@ ghost use Rattle.std.specs.Prelude.{◌≡◌, Some};
 ghost use Rattle.cookie_words.specs.Moments.{moment_of};
 ghost use Rattle.cookie_laws.specs.Given.{is_given};
 ghost use Rattle.cookie_lookup.specs.RowFilter.{is_given_under, is_host, is_name, is_of_host, kind_is_for, AgreesUnder};
-ghost use Rattle.cookie_lookup.specs.Texts.{IsCandidateDomain};
-ghost use Rattle.cookie_parts.specs.Hosts.{host_of, is_host_name, is_http_scheme, is_secure};
+ghost use Rattle.cookie_lookup.specs.Candidates.{IsCandidateDomain};
+ghost use Rattle.cookie_parts.specs.Hosts.{host_of, is_host_name};
 ghost use Rattle.cookie_parts.specs.Views.{domain_value};
 
 use cookie_parts::laws::path_match_is_tested;

@@ -1,7 +1,7 @@
 //! The interface of a store that can be searched.
 ghost use Rattle.std.specs.Prelude.{◌≡◌, ◌<◌, ◌+◌, ◌^◌, length, map, option_map, slice_get, IfSome};
 ghost use Rattle.cookie_lookup.specs.Groups.{AreGroups};
-ghost use Rattle.cookie_lookup.specs.SearchView.{SearchView, now_at, place_of, rows_in, under};
+ghost use Rattle.cookie_lookup.specs.SearchView.{SearchView, now_at, group_position, rows_in, under};
 
 use cookie_parts::Cookie;
 
@@ -15,7 +15,7 @@ pub trait Search {
     /// Returns the position of the domain's group.
     fn domain(&mut self, text: &str) -> Option<usize>
         requires { (view_of self.old).domains + 1 < 2 ^ 128 }
-        ensures answer { result ≡ place_of text.now (view_of self.old).groups }
+        ensures answer { result ≡ group_position text.now (view_of self.old).groups }
         ensures view_of { view_of self.new ≡ record (view_of self.old) { domains = (view_of self.old).domains + 1 } };
 
     /// Returns the position of the path's group in the domain at position `domain`. If it is found,
@@ -23,7 +23,7 @@ pub trait Search {
     fn path(&mut self, domain: usize, text: &str) -> Option<usize>
         requires room { (view_of self.old).paths + 1 < 2 ^ 128 }
         requires domain { domain < length (view_of self.old).groups }
-        ensures answer { result ≡ place_of text.now (under domain (view_of self.old).groups) }
+        ensures answer { result ≡ group_position text.now (under domain (view_of self.old).groups) }
         ensures view_of { view_of self.new ≡ record (view_of self.old) {
           paths = (view_of self.old).paths + 1;
           current = now_at result (under domain (view_of self.old).groups) (view_of self.old).current;

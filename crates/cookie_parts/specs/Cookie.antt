@@ -9,7 +9,7 @@ use Rattle.cookie_raw.specs.Raw.{Raw, ExpiresValue, At, pair}
 use Rattle.cookie_raw.specs.SameParts.{same_parts, same_parts_equiv}
 use Rattle.cookie_raw.specs.Reading.{reading}
 use Rattle.cookie_raw.specs.declared.parse.RawCookieParseError.{RawCookieParseError}
-use Rattle.cookie_parts.specs.Domain.{DomainValue, domain_matches, domain_from_attribute, same_domain, same_domain_equiv}
+use Rattle.cookie_parts.specs.Domain.{DomainValue, domain_matches, domain_from_attribute, same_domain_value, same_domain_value_equiv}
 use Rattle.cookie_parts.specs.Domain as Domain
 use Rattle.cookie_parts.specs.Expiry.{Expiry, AtUtc, SessionEnd, expiry_of, has_passed, same_expiry, same_expiry_equiv}
 use Rattle.cookie_parts.specs.Hosts.{host_of, is_http_scheme, is_secure}
@@ -44,7 +44,7 @@ domain_for (Some Domain.Empty) url = host_only_domain (host_of url)
 -- the next step applied to the value of the first, or the error of the first
 abbrev pub and_then : {S T E : Type 0} → Result S E → (S → Result T E) → Result T E
 and_then (Ok value) next = next value
-and_then (Err refusal) next = Err refusal
+and_then (Err rejection) next = Err rejection
 
 -- the http-only-flag
 abbrev pub is_http_only : Raw → Bool
@@ -82,7 +82,7 @@ early_error raw url =
 -- the same for the parse result of a Set-Cookie header value
 abbrev pub early : Result Raw RawCookieParseError → Parts → Option CookieError
 early (Ok raw) url = early_error raw url
-early (Err refusal) url = Some Parse
+early (Err rejection) url = Some Parse
 
 -- 5.2 and 5.3: the cookie of a Set-Cookie header value received from the URL at `now`, or the error
 abbrev pub cookie_from_header : List ℕ → Parts → Moment → Result Row CookieError
@@ -111,13 +111,13 @@ expired_row cookie = record cookie { expires = AtUtc epoch }
 abbrev pub same_cookie : Row → Row → Bool
 same_cookie a b =
     (same_parts a.raw b.raw && same_path a.path b.path)
-    && (same_domain a.domain b.domain && same_expiry a.expires b.expires)
+    && (same_domain_value a.domain b.domain && same_expiry a.expires b.expires)
 
 -- `same_cookie` is an equivalence
 pub same_cookie_equiv : IsEquivalence same_cookie
 same_cookie_equiv =
     and_equiv (and_equiv (on_equiv (λ c. c.raw) same_parts_equiv) (on_equiv (λ c. c.path) same_path_equiv))
-    (and_equiv (on_equiv (λ c. c.domain) same_domain_equiv) (on_equiv (λ c. c.expires) same_expiry_equiv))
+    (and_equiv (on_equiv (λ c. c.domain) same_domain_value_equiv) (on_equiv (λ c. c.expires) same_expiry_equiv))
 
 -- the Expires attribute of a persistent cookie
 abbrev pub expires_attribute : Expiry → Option ExpiresValue

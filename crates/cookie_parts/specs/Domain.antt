@@ -34,12 +34,12 @@ kind_of NotPresent = 2
 kind_of Empty = 3
 
 -- the same kind and string
-abbrev pub same_domain : DomainValue → DomainValue → Bool
-same_domain = eq_of_both (on kind_of nat_eq) (on domain_text (pointwise nat_eq))
+abbrev pub same_domain_value : DomainValue → DomainValue → Bool
+same_domain_value = eq_of_both (on kind_of nat_eq) (on domain_text (pointwise nat_eq))
 
--- `same_domain` is an equivalence
-pub same_domain_equiv : IsEquivalence same_domain
-same_domain_equiv = and_equiv (on_equiv kind_of nat_eq_equiv) (on_texts_equal domain_text)
+-- `same_domain_value` is an equivalence
+pub same_domain_value_equiv : IsEquivalence same_domain_value
+same_domain_value_equiv = and_equiv (on_equiv kind_of nat_eq_equiv) (on_texts_equal domain_text)
 
 -- ordered by kind, then by string
 abbrev pub compare_domains : DomainValue → DomainValue → Ordering

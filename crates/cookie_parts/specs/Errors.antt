@@ -24,7 +24,7 @@ cookie_error_text Memory = codes "out of memory"
 
 -- the message of an error of other calls; those of `idna`, saved forms and the caller have their own
 abbrev pub store_error_text : Error → List ℕ
-store_error_text (ErrorCase.Cookie refusal) = cookie_error_text refusal
+store_error_text (ErrorCase.Cookie rejection) = cookie_error_text rejection
 store_error_text (ErrorCase.Idna errors) = errors_text errors.fault
 store_error_text ErrorCase.Io = codes "a read or a write failed"
 store_error_text (ErrorCase.Saved fault) = saved_error_text fault
@@ -40,7 +40,7 @@ styled_error_text other = Some (store_error_text other)
 -- the conversion from `CookieError`: out of memory is `Memory`, not `Cookie`
 abbrev pub error_from_cookie : CookieError → Error
 error_from_cookie Memory = ErrorCase.Memory
-error_from_cookie refusal = ErrorCase.Cookie refusal
+error_from_cookie rejection = ErrorCase.Cookie rejection
 
 -- the conversion from `idna::Errors`: out of memory is `Memory`, not `Idna`
 abbrev pub error_from_idna : Errors → Error

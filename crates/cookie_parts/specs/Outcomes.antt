@@ -15,7 +15,7 @@ use Rattle.cookie_parts.specs.declared.error.Error.TheVariants as ErrorCase
 abbrev pub ReturnsOrMemory : {T U : Type 0} → (T → U) → Result T CookieError → Result U CookieError → Type 0
 ReturnsOrMemory view (Ok value) answer = answer ≡ Ok (view value)
 ReturnsOrMemory view (Err Memory) answer = ⊤
-ReturnsOrMemory view (Err refusal) answer = answer ≡ Err refusal
+ReturnsOrMemory view (Err rejection) answer = answer ≡ Err rejection
 
 -- the result is the domain, or `Idna` if there is none, unless it is `Memory`
 abbrev pub ReturnsDomain : Result CookieDomain Error → Option DomainValue → Type 0

@@ -40,7 +40,7 @@ saved_of cookie = record {
   path = cookie.path.text;
   from_attr = cookie.path.is_from_attribute;
   domain = saved_domain cookie.domain;
-  ends = saved_expires cookie.expires;
+  expires = saved_expires cookie.expires;
 }
 
 -- the cookie of a saved form: its header value parsed, or `Parse`, and all else as saved
@@ -49,5 +49,5 @@ cookie_of_saved saved = and_then (raw_cookie saved.raw_cookie) (λ raw. Ok (reco
   raw = raw;
   domain = domain_of_saved saved.domain;
   path = record { text = saved.path; is_from_attribute = saved.from_attr };
-  expires = expires_of_saved saved.ends;
+  expires = expires_of_saved saved.expires;
 }))

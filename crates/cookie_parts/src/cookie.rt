@@ -66,7 +66,7 @@ impl<'a> Cookie<'a> {
     ///   `NonRelativeScheme` without a Domain attribute.
     pub fn parse(alloc: Global, text: &'a str, url: &Url, now: DateTime) -> CookieResult<'a>
         ensures value { ReturnsOrMemory (λ cookie. cookie) result (cookie_from_header text.now url.now (moment_of now)) }
-        ensures early { (refusal : CookieError) → early (reading text.now) url.now ≡ Some refusal → result ≡ Err refusal }
+        ensures early { (error : CookieError) → early (reading text.now) url.now ≡ Some error → result ≡ Err error }
     {
         match RawCookie::parse(text) {
             Ok(raw) => Cookie::from_raw_cookie(alloc, raw, url, now),
@@ -93,10 +93,10 @@ impl<'a> Cookie<'a> {
         now: DateTime,
     ) -> CookieResult<'a>
         ensures value { ReturnsOrMemory (λ cookie. cookie) result (cookie_of raw.now url.now (moment_of now)) }
-        ensures early { (refusal : CookieError) → early_error raw.now url.now ≡ Some refusal → result ≡ Err refusal }
+        ensures early { (error : CookieError) → early_error raw.now url.now ≡ Some error → result ≡ Err error }
     {
-        if let Some(refusal) = early_error(raw, url) {
-            return Err(refusal);
+        if let Some(error) = early_error(raw, url) {
+            return Err(error);
         }
         match raw.clone() {
             Ok(raw) => Cookie::from_raw_cookie(alloc, raw, url, now),
@@ -113,7 +113,7 @@ impl<'a> Cookie<'a> {
         now: DateTime,
     ) -> CookieResult<'a>
         ensures value { ReturnsOrMemory (λ cookie. cookie) result (cookie_of raw.entry url.now (moment_of now)) }
-        ensures early { (refusal : CookieError) → early_error raw.entry url.now ≡ Some refusal → result ≡ Err refusal }
+        ensures early { (error : CookieError) → early_error raw.entry url.now ≡ Some error → result ≡ Err error }
     {
         if is_out_of_reach(&raw, url) {
             return Err(CookieError::NonHttpScheme);
@@ -359,7 +359,7 @@ fn domain_for(alloc: Global, raw: &RawCookie<'_>, url: &Url) -> Result<CookieDom
 
 // The Path attribute if it begins with `/`, else the default-path, RFC 6265 5.2.4.
 fn path_for(alloc: Global, raw: &RawCookie<'_>, url: &Url) -> Result<CookiePath, CookieError>
-    ensures { MatchResult result (λ path. path ≡ path_or_default raw.now.path url.now) (λ refusal. refusal ≡ CookieError.Memory) }
+    ensures { MatchResult result (λ path. path ≡ path_or_default raw.now.path url.now) (λ error. error ≡ CookieError.Memory) }
 {
     let chosen = match raw.path() {
         Some(path) => CookiePath::new(alloc, path, url),

@@ -230,8 +230,9 @@ fn is_listed(list: &List, domain: &str) -> bool
     }
 }
 
-// RFC 6265 5.1.3: the host is the domain, or a host name that ends in a dot and the domain.
-fn covers(domain: &str, host: &str) -> bool
+/// Returns whether a domain cookie for `domain` matches `host`, RFC 6265 5.1.3: the host is the
+/// domain, or a host name that ends in a dot and the domain.
+pub fn covers(domain: &str, host: &str) -> bool
     ensures { result ≡ covers domain.now host.now }
 {
     host == domain || is_below(host, domain) && is_host_name(host)

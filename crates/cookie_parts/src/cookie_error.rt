@@ -66,7 +66,7 @@ impl From<RawCookieParseError> for CookieError {
     ghost use Rattle.std.specs.Prelude.{◌≡◌};
     ghost use Rattle.cookie_parts.specs.declared.cookie_error.CookieError.TheVariants.{Parse};
 
-    ghost from_gives = { λ _ refusal. refusal ≡ Parse };
+    ghost from_gives = { λ _ error. error ≡ Parse };
 
     fn from(_error: RawCookieParseError) -> CookieError {
         CookieError::Parse

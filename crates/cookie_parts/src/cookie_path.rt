@@ -226,9 +226,9 @@ fn covers_url(path: &str, url: &Url) -> bool
     !url.cannot_be_a_base() && covers(path.as_bytes(), url.path().as_bytes())
 }
 
-// RFC 6265 5.1.4, path-match: the request path begins with the path, and either they are equal,
-// or the path ends with `/`, or the next byte of the request path is `/`.
-fn covers(path: &[u8], request: &[u8]) -> bool
+/// Returns whether `request` path-matches `path`, RFC 6265 5.1.4: it begins with the path, and
+/// either they are equal, or the path ends with `/`, or the next byte of `request` is `/`.
+pub fn covers(path: &[u8], request: &[u8]) -> bool
     ensures value { result ≡ covers_path path.now request.now }
     ensures meaning { IsTrue result ↔ CoversPath path.now request.now }
 {

@@ -62,7 +62,7 @@ impl fmt::Display for Error {
 
     fn fmt<W: fmt::Write>(&self, f: &mut fmt::Formatter<W>) -> fmt::Result {
         match self {
-            Error::Cookie(refusal) => refusal.fmt(f),
+            Error::Cookie(error) => error.fmt(f),
             Error::Idna(fault) => fault.fmt(f),
             Error::Io => f.write_str("a read or a write failed"),
             Error::Saved(fault) => fault.fmt(f),
@@ -80,12 +80,12 @@ impl From<CookieError> for Error {
     ghost use Rattle.std.specs.Prelude.{◌≡◌};
     ghost use Rattle.cookie_parts.specs.Errors.{error_from_cookie};
 
-    ghost from_gives = { λ refusal e. e ≡ error_from_cookie refusal };
+    ghost from_gives = { λ error e. e ≡ error_from_cookie error };
 
-    fn from(refusal: CookieError) -> Error {
-        match refusal {
+    fn from(error: CookieError) -> Error {
+        match error {
             CookieError::Memory => Error::Memory,
-            refusal => Error::Cookie(refusal),
+            error => Error::Cookie(error),
         }
     }
 }

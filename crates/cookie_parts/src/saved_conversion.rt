@@ -37,7 +37,7 @@ impl Cookie<'static> {
     /// - `Memory`: out of memory. Never returned in place of `Cookie(Parse)`.
     pub fn from_saved(alloc: Global, saved: Saved) -> Result<Cookie<'static>, Error>
         ensures cookie { IfOk result (λ cookie. cookie_of_saved (saved_view saved) ≡ Ok cookie) }
-        ensures refused { IfErr result (λ e. (e ≡ Error.Memory)
+        ensures errors { IfErr result (λ e. (e ≡ Error.Memory)
             ⊎ ((e ≡ Error.Cookie CookieError.Parse) × (cookie_of_saved (saved_view saved) ≡ Err CookieError.Parse))) }
         ensures early { cookie_of_saved (saved_view saved) ≡ Err CookieError.Parse
             → result ≡ Err (Error.Cookie CookieError.Parse) }

@@ -113,18 +113,18 @@ const NO_DOMAINS: &[(Origin, Option<CookieError>)] = &[
 ];
 
 // The error about a cookie, or that of `idna`.
-fn fault_of(refusal: Option<CookieError>) -> Error {
-    match refusal {
-        Some(refusal) => Error::Cookie(refusal),
+fn fault_of(error: Option<CookieError>) -> Error {
+    match error {
+        Some(error) => Error::Cookie(error),
         None => Error::from(idna::Errors::Invalid),
     }
 }
 
 #[test]
 fn invalid_domain_names_are_rejected(rt: HostRuntime) {
-    for (origin, refusal) in NO_DOMAINS {
+    for (origin, error) in NO_DOMAINS {
         let fault = made(&rt, rt.alloc(), origin).err();
-        is_equal(&rt, fault, Some(fault_of(*refusal)), origin);
+        is_equal(&rt, fault, Some(fault_of(*error)), origin);
     }
 }
 

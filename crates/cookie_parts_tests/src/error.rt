@@ -38,19 +38,19 @@ const COOKIE_ERRORS: &[(CookieError, &str)] = &[
 ];
 
 // The expected conversion: out of memory is `Memory`, not `Cookie`.
-fn fault_of(refusal: &CookieError) -> Error {
-    match refusal {
+fn fault_of(error: &CookieError) -> Error {
+    match error {
         CookieError::Memory => Error::Memory,
-        refusal => Error::Cookie(*refusal),
+        error => Error::Cookie(*error),
     }
 }
 
 #[test]
 fn cookie_errors_have_texts(rt: HostRuntime) {
-    for (refusal, wanted) in COOKIE_ERRORS {
-        is_equal(&rt, refusal.text(), *wanted, refusal);
-        is_written_at_any_width(&rt, rt.alloc(), refusal, wanted);
-        is_equal(&rt, Error::from(*refusal), fault_of(refusal), refusal);
+    for (error, wanted) in COOKIE_ERRORS {
+        is_equal(&rt, error.text(), *wanted, error);
+        is_written_at_any_width(&rt, rt.alloc(), error, wanted);
+        is_equal(&rt, Error::from(*error), fault_of(error), error);
     }
 }
 
@@ -97,8 +97,8 @@ fn is_told(rt: &impl Abort, alloc: Global, fault: Error, wanted: &str) {
 #[test]
 fn errors_have_texts(rt: HostRuntime) {
     let mismatch = Error::Cookie(CookieError::DomainMismatch);
-    let refusal = "request-uri does not domain-match the cookie";
-    is_told(&rt, rt.alloc(), mismatch, refusal);
+    let error = "request-uri does not domain-match the cookie";
+    is_told(&rt, rt.alloc(), mismatch, error);
     is_told(&rt, rt.alloc(), Error::Io, "a read or a write failed");
     let other = other(&rt, rt.alloc(), "no such row");
     is_told(&rt, rt.alloc(), other, "no such row");
@@ -119,8 +119,8 @@ fn other_errors_convert(rt: HostRuntime) {
     is_equal(&rt, Error::from(AllocError), Error::Memory, &"a growth");
     let kept = Error::from(AllocFailed { value: 5_u8 });
     is_equal(&rt, kept, Error::Memory, &"a value without room");
-    let refusal = CookieError::from(RawCookieParseError::EmptyName);
-    is_equal(&rt, refusal, CookieError::Parse, &"an empty name");
+    let error = CookieError::from(RawCookieParseError::EmptyName);
+    is_equal(&rt, error, CookieError::Parse, &"an empty name");
 }
 
 // Asserts whether two errors of a caller's own function are equal.

@@ -1,6 +1,6 @@
 //! Reading and buffering when out of memory.
 use crate::checks::{holds, is_equal};
-use crate::device;
+use crate::device_reads;
 use cookie_device::{Counted, FillError, LineBuffer, Output};
 use cookie_fakes::Fake;
 use std::alloc::{AllocError, Global};
@@ -32,9 +32,9 @@ fn fill(rt: HostRuntime) {
 fn fill_again(rt: HostRuntime) {
     let mut source = Counted::new(Fake::new(b"onetwo".as_slice(), 3, 0));
     let mut lines = LineBuffer::new(rt.alloc());
-    let first = device::fill(&mut lines, &mut source);
+    let first = device_reads::fill(&mut lines, &mut source);
     start(&rt, rt.alloc());
-    let second = device::fill(&mut lines, &mut source);
+    let second = device_reads::fill(&mut lines, &mut source);
     let rest = (lines.rest(), source.into_inner().calls);
     let wanted: (Option<Result<bool, FillError>>, (&[u8], usize)) = if second == Some(Ok(true)) {
         (Some(Ok(true)), (b"onetwo", 2))

@@ -5,9 +5,13 @@
 #[cfg(test)]
 mod checks;
 #[cfg(test)]
+mod conversion;
+#[cfg(test)]
 mod cookie;
 #[cfg(test)]
-mod device;
+mod device_reads;
+#[cfg(test)]
+mod device_writes;
 #[cfg(test)]
 mod domain;
 #[cfg(test)]
@@ -18,8 +22,6 @@ mod expiry;
 mod growths;
 #[cfg(test)]
 mod parts;
-#[cfg(test)]
-mod passage;
 #[cfg(test)]
 mod path;
 #[cfg(test)]

@@ -172,7 +172,7 @@ fn tree_of(rt: &impl Abort, alloc: Global, given: &Given) -> Value {
     }
 }
 
-fn refusal_of(alloc: Global, tree: &Value, is_cookie: bool) -> Option<SavedError> {
+fn error_of(alloc: Global, tree: &Value, is_cookie: bool) -> Option<SavedError> {
     if is_cookie {
         from_value(alloc, tree).err()
     } else {
@@ -184,8 +184,8 @@ fn refusal_of(alloc: Global, tree: &Value, is_cookie: bool) -> Option<SavedError
 fn reads_trees(rt: HostRuntime) {
     for (given, wanted) in TREES {
         let is_cookie = matches!(given, Given::Cookie(_));
-        let refusal = refusal_of(rt.alloc(), &tree_of(&rt, rt.alloc(), given), is_cookie);
-        is_equal(&rt, refusal, *wanted, given);
+        let error = error_of(rt.alloc(), &tree_of(&rt, rt.alloc(), given), is_cookie);
+        is_equal(&rt, error, *wanted, given);
     }
 }
 

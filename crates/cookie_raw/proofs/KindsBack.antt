@@ -9,7 +9,7 @@ use Rattle.cookie_words.specs.Texts.{without_dot}
 use Rattle.cookie_raw.specs.CookieText.{site_text, rfc1123_date, age_text, has_four_digits, expires_text}
 use Rattle.cookie_raw.specs.PlainCookie.{is_plain_age, is_plain_year, is_plain_moment, is_plain_expires}
 use Rattle.cookie_raw.specs.Raw.{ExpiresValue, At, Session}
-use Rattle.cookie_raw.specs.Reading.{is_named, value_of, expires_from, max_age_from, domain_from, path_from, secure_from, http_only_from, site_of, same_site_from, last, last_accepted, accepted_value}
+use Rattle.cookie_raw.specs.Reading.{attribute_is_named, value_of, expires_from, max_age_from, domain_from, path_from, secure_from, http_only_from, site_of, same_site_from, last, last_accepted, accepted_value}
 use Rattle.cookie_raw.specs.declared.same_site.SameSite.{SameSite}
 use Rattle.cookie_raw.specs.declared.same_site.SameSite.TheVariants as same_site
 use Rattle.cookie_raw.proofs.AgesBack.{age_back, age_is_plain}
@@ -20,13 +20,13 @@ use Rattle.cookie_raw.proofs.PrintedAttributes.{flag_attribute, value_attribute,
 
 -- the kind accepts no other name
 abbrev pub TakesOnly : {T : Type 0} → List ℕ → (List ℕ → List ℕ → Option T) → Type 0
-TakesOnly kind from = (name value : List ℕ) → is_named kind name ≡ false → from name value ≡ None
+TakesOnly kind from = (name value : List ℕ) → attribute_is_named kind name ≡ false → from name value ≡ None
 
 -- the pieces of the attributes of one name
 abbrev pub pieces_named : List ℕ → List Attribute → List (Option (List ℕ))
 pieces_named kind [] = []
 pieces_named kind (attribute ∷ more) =
-    if is_named kind attribute.name then attribute.piece ∷ pieces_named kind more else pieces_named kind more
+    if attribute_is_named kind attribute.name then attribute.piece ∷ pieces_named kind more else pieces_named kind more
 
 -- the value of a piece depends on its name
 said_by_name : {T : Type 0} (from : List ℕ → List ℕ → Option T) (name piece : List ℕ) → IsPiece name piece
@@ -36,7 +36,7 @@ said_by_name from name piece h = ap (λ n. from n (value_of piece)) h.named
 -- one more attribute, of this kind or another
 one_more : {T : Type 0} (kind : List ℕ) (from : List ℕ → List ℕ → Option T) → TakesOnly kind from
     → (name : List ℕ) (piece : Option (List ℕ)) (rest : List (List ℕ)) (of_kind : List (Option (List ℕ))) (is_kind : Bool)
-    → is_named kind name ≡ is_kind → IfSome piece (IsPiece name)
+    → attribute_is_named kind name ≡ is_kind → IfSome piece (IsPiece name)
     → filter_map (accepted_value from) rest ≡ filter_map (option_and_then (accepted_value from)) of_kind
     → filter_map (accepted_value from) (cons_option piece rest)
     ≡ filter_map (option_and_then (accepted_value from)) (if is_kind then piece ∷ of_kind else of_kind)
@@ -56,7 +56,7 @@ given_by_name : {T : Type 0} (kind : List ℕ) (from : List ℕ → List ℕ →
 given_by_name kind from only [] h = refl
 given_by_name kind from only (attribute ∷ more) h =
     one_more kind from only attribute.name attribute.piece (present more) (pieces_named kind more)
-    (is_named kind attribute.name) refl h.0
+    (attribute_is_named kind attribute.name) refl h.0
     (given_by_name kind from only more h.1)
 
 -- the last of at most one element

@@ -46,12 +46,12 @@ abbrev pub value_of : List ℕ → List ℕ
 value_of piece = trim (after_first is_equals piece)
 
 -- the attribute has this name, ignoring case
-abbrev pub is_named : List ℕ → List ℕ → Bool
-is_named name attribute = str_eq_ignore_ascii_case attribute name
+abbrev pub attribute_is_named : List ℕ → List ℕ → Bool
+attribute_is_named name attribute = str_eq_ignore_ascii_case attribute name
 
 -- 5.2.1: Expires, ignored if its value is not a cookie-date
 abbrev pub expires_from : List ℕ → List ℕ → Option ExpiresValue
-expires_from name value = if is_named (codes "Expires") name then option_map At (cookie_date value) else None
+expires_from name value = if attribute_is_named (codes "Expires") name then option_map At (cookie_date value) else None
 
 -- seconds in nanoseconds
 abbrev pub of_seconds : ℕ → ℤ
@@ -66,35 +66,35 @@ age_of value =
 
 -- 5.2.2: Max-Age, ignored if its value has another form
 abbrev pub max_age_from : List ℕ → List ℕ → Option ℤ
-max_age_from name value = if is_named (codes "Max-Age") name then age_of value else None
+max_age_from name value = if attribute_is_named (codes "Max-Age") name then age_of value else None
 
 -- 5.2.3: Domain, ignored if its value is empty
 abbrev pub domain_from : List ℕ → List ℕ → Option (List ℕ)
 domain_from name value =
-    if is_named (codes "Domain") name && not (length value == 0) then Some value else None
+    if attribute_is_named (codes "Domain") name && not (length value == 0) then Some value else None
 
 -- 5.2.4: Path
 abbrev pub path_from : List ℕ → List ℕ → Option (List ℕ)
-path_from name value = if is_named (codes "Path") name then Some value else None
+path_from name value = if attribute_is_named (codes "Path") name then Some value else None
 
 -- 5.2.5: Secure, whatever its value
 abbrev pub secure_from : List ℕ → List ℕ → Option Bool
-secure_from name value = if is_named (codes "Secure") name then Some true else None
+secure_from name value = if attribute_is_named (codes "Secure") name then Some true else None
 
 -- 5.2.6: HttpOnly, whatever its value
 abbrev pub http_only_from : List ℕ → List ℕ → Option Bool
-http_only_from name value = if is_named (codes "HttpOnly") name then Some true else None
+http_only_from name value = if attribute_is_named (codes "HttpOnly") name then Some true else None
 
 -- the value of SameSite
 unfoldable pub site_of : List ℕ → Option SameSite
 site_of value =
-    if is_named (codes "Strict") value then Some same_site.Strict
-    else (if is_named (codes "Lax") value then Some same_site.Lax
-    else (if is_named (codes "None") value then Some same_site.None else None))
+    if attribute_is_named (codes "Strict") value then Some same_site.Strict
+    else (if attribute_is_named (codes "Lax") value then Some same_site.Lax
+    else (if attribute_is_named (codes "None") value then Some same_site.None else None))
 
 -- SameSite, which is not in RFC 6265; ignored if its value is unknown
 abbrev pub same_site_from : List ℕ → List ℕ → Option SameSite
-same_site_from name value = if is_named (codes "SameSite") name then site_of value else None
+same_site_from name value = if attribute_is_named (codes "SameSite") name then site_of value else None
 
 -- the value of an attribute of one kind, if it is of that kind and its value is accepted
 abbrev pub accepted_value : {T : Type 0} → (List ℕ → List ℕ → Option T) → List ℕ → Option T

@@ -10,7 +10,7 @@ use Rattle.std.proofs.lemmas.Option.{option_and_then_some, same_Some, cond_some}
 use Rattle.std.proofs.lemmas.List.{append_assoc, take-append-drop, get_or_append_left}
 use Rattle.std.proofs.lemmas.List.Sums.{passes_at_first, position_or_len_is, AllPass-from_list_all}
 use Rattle.std.proofs.Math.Seq.{drop-cons, take-append_seam, drop-append-add, get_or-append_seam}
-use Rattle.cookie_ron.specs.Grammar.{escaped_by, HasHexValue, StandsFor}
+use Rattle.cookie_ron.specs.Grammar.{escaped_by, HasHexValue, CharForm}
 use Rattle.cookie_ron.specs.Reading.{hex_value, byte_at, code_of, brace_in, in_braces, code_at, escape_at, char_at}
 use Rattle.cookie_ron.proofs.Fronts.{Front, Takes}
 
@@ -153,7 +153,7 @@ differ : (c d : ℕ) → (c == d) ≡ false → c ≢ d
 differ c d h = grind (arith, nat_tests)
 
 -- after a backslash
-escape_sound : (s rest : List ℕ) (c : ℕ) → escape_at s ≡ Some (c, rest) → Front (StandsFor c) (92 ∷ s) rest
+escape_sound : (s rest : List ℕ) (c : ℕ) → escape_at s ≡ Some (c, rest) → Front (CharForm c) (92 ∷ s) rest
 escape_sound [] rest c e = cc
 escape_sound (h ∷ s) rest c e =
     choice (h == 120) (byte_at s) _ (Some (c, rest)) e
@@ -181,11 +181,11 @@ escape_sound (h ∷ s) rest c e =
       holds = inr (inl (h, refl, d.1 ∙ ap (λ q. Some q.0) d.2));
     }))
 
-pub char_front : (s rest : List ℕ) (c : ℕ) → char_at s ≡ Some (c, rest) → Front (StandsFor c) s rest
+pub char_front : (s rest : List ℕ) (c : ℕ) → char_at s ≡ Some (c, rest) → Front (CharForm c) s rest
 char_front [] rest c e = cc
 char_front (h ∷ s) rest c e =
     choice (h == 92) (escape_at s) _ (Some (c, rest)) e
-    (λ is e1. subst (λ x. Front (StandsFor c) (x ∷ s) rest) (sym (is_same h 92 is)) (escape_sound s rest c e1))
+    (λ is e1. subst (λ x. Front (CharForm c) (x ∷ s) rest) (sym (is_same h 92 is)) (escape_sound s rest c e1))
     (λ no_escape e1. choice (h == 34) None (Some (h, s)) (Some (c, rest)) e1
     (λ _ e2. cc)
     (λ no_quote e2.
@@ -203,7 +203,7 @@ none_some c e = cc
 no_letter : (letter other c : ℕ) → escaped_by other ≡ None → escaped_by letter ≡ Some c → (letter == other) ≡ false
 no_letter letter other c none is = not_same letter other (λ same. none_some c (sym none ∙ ap escaped_by (sym same) ∙ is))
 
-pub char_takes : (c : ℕ) → Takes (StandsFor c) char_at (λ rest. (c, rest))
+pub char_takes : (c : ℕ) → Takes (CharForm c) char_at (λ rest. (c, rest))
 char_takes c = record {
   at = λ front rest stands. elim stands [
     | inl (is, no_quote, no_escape) ↦

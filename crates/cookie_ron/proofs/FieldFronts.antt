@@ -215,7 +215,7 @@ cookie_front {s} {rest} {p} e =
       path = first.0.1.0;
       from_attr = first.0.1.1;
       domain = behind.0.0;
-      ends = behind.0.1;
+      expires = behind.0.1;
     } in
     at_rest Cookie made p rest (same_Some (made, end) (p, rest) e5)
     (joined (sign_front (codes "(") open_is)
@@ -233,7 +233,7 @@ cookie_takes p =
     (chain _ (first_takes (p.raw_cookie, (p.path, p.from_attr)))
     (chain _ (sign_takes (codes ",") refl)
     (takes_of in_groups
-    (chain _ (last_takes (p.domain, p.ends)) (last _ (close_takes (codes ")") refl refl) (λ r. refl)))))))
+    (chain _ (last_takes (p.domain, p.expires)) (last _ (close_takes (codes ")") refl refl) (λ r. refl)))))))
 
 -- no cookie begins with a closing bracket
 pub cookie_misses : (p : Parts (List ℕ)) → Misses (Cookie p) (λ s. token_at (codes "]") s)

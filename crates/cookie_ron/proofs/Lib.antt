@@ -4,15 +4,15 @@ pub mod Digits
 pub mod EndsRead
 pub mod FieldFronts
 pub mod Fronts
+mod HasRule
 pub mod ListFronts
 mod MomentTexts
-mod OneAnswer
+mod OneResult
 pub mod Onto
 pub mod Powers
 mod PrintedBack
 mod PrintedChars
 mod PrintedLists
-mod Says
+pub mod RonResults
 pub mod SignFronts
 pub mod TextFronts
-pub mod RonResults

@@ -11,7 +11,7 @@ use Rattle.jiff_core.proofs.SignedLemmas.{signed_arith}
 use Rattle.jiff.specs.declared.civil.datetimes.DateTime.{DateTime}
 use Rattle.cookie_words.specs.Moments.{moment_of}
 use Rattle.cookie_forms.specs.MomentText.{moment_text, date_text, clock_text, two_digits, four_digits}
-use Rattle.cookie_ron.proofs.Says.{ascii_utf8}
+use Rattle.cookie_ron.proofs.HasRule.{ascii_utf8}
 
 digit : (k : ℕ) → k ≤ 9 → is_ascii (48 + k) ≡ true
 digit k small = grind (arith, nat_tests)

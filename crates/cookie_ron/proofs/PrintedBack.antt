@@ -32,7 +32,7 @@ end_kept back (Expiry.AtUtc time) h = ap (option_map (λ m. Some m)) (back time 
 end_kept back Expiry.SessionEnd h = refl
 
 kept : ReadsBack → (s : Saved) → is_early (saved_view s) ≡ false → with_parsed_expiry (with_expiry_text (saved_view s)) ≡ Some (cut (saved_view s))
-kept back s h = ap (option_map (λ ends. with_expiry (saved_view s) ends)) (end_kept back s.expires h)
+kept back s h = ap (option_map (λ expires. with_expiry (saved_view s) expires)) (end_kept back s.expires h)
 
 all_kept : ReadsBack → (list : List Saved) → list_any is_early (map saved_view list) ≡ false
     → all_with_parsed_expiry (map with_expiry_text (map saved_view list)) ≡ Some (map cut (map saved_view list))

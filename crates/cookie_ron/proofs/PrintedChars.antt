@@ -10,10 +10,10 @@ use Rattle.std.specs.Fmt.{digits}
 use Rattle.std.specs.List.{list_all}
 use Rattle.std.specs.Str.{IsUtf8, all_scalars, chars}
 use Rattle.std.specs.Str.Parse.{AllDigits, digits_value}
-use Rattle.cookie_ron.specs.Grammar.{StandsFor, StandFor, Text, escaped_by, is_blank}
+use Rattle.cookie_ron.specs.Grammar.{CharForm, CharForms, Text, escaped_by, is_blank}
 use Rattle.cookie_ron.specs.Printed.{printed_char, quoted}
 use Rattle.cookie_ron.proofs.Bools.{both_false, both_true}
-use Rattle.cookie_ron.proofs.Says.{Says, both, ascii_chars, ascii_utf8, just, token}
+use Rattle.cookie_ron.proofs.HasRule.{HasRule, both, ascii_chars, ascii_utf8, just, token}
 
 -- one of two strings, by a test
 choose : (P : List ℕ → Type 0) (test : Bool) (a b : List ℕ) → (test ≡ true → P a) → (test ≡ false → P b) → P (if test then a else b)
@@ -21,7 +21,7 @@ choose P true a b here there = here refl
 choose P false a b here there = there refl
 
 -- a one-letter escape
-short : (c letter : ℕ) → is_ascii letter ≡ true → escaped_by letter ≡ Some c → Says (StandsFor c) (codes "\\" ++ letter ∷ [])
+short : (c letter : ℕ) → is_ascii letter ≡ true → escaped_by letter ≡ Some c → HasRule (CharForm c) (codes "\\" ++ letter ∷ [])
 short c letter low is =
     let all_low : list_all is_ascii (codes "\\" ++ letter ∷ []) ≡ true = rw low refl in
     record {
@@ -30,19 +30,19 @@ short c letter low is =
     }
 
 -- a quote or a backslash
-escaped : (c : ℕ) → (c ≡ 34) ⊎ (c ≡ 92) → Says (StandsFor c) (codes "\\" ++ c ∷ [])
-escaped c (inl quote) = subst (λ x. Says (StandsFor x) (codes "\\" ++ x ∷ [])) (sym quote) (short 34 34 refl refl)
-escaped c (inr slash) = subst (λ x. Says (StandsFor x) (codes "\\" ++ x ∷ [])) (sym slash) (short 92 92 refl refl)
+escaped : (c : ℕ) → (c ≡ 34) ⊎ (c ≡ 92) → HasRule (CharForm c) (codes "\\" ++ c ∷ [])
+escaped c (inl quote) = subst (λ x. HasRule (CharForm x) (codes "\\" ++ x ∷ [])) (sym quote) (short 34 34 refl refl)
+escaped c (inr slash) = subst (λ x. HasRule (CharForm x) (codes "\\" ++ x ∷ [])) (sym slash) (short 92 92 refl refl)
 
 is_escaped : (c : ℕ) → ((c == 34) || (c == 92)) ≡ true → (c ≡ 34) ⊎ (c ≡ 92)
 is_escaped c h = grind (arith, nat_tests)
 
 -- another character with a one-letter escape
-lettered : (c d letter : ℕ) → (c == d) ≡ true → is_ascii letter ≡ true → escaped_by letter ≡ Some d → Says (StandsFor c) (codes "\\" ++ letter ∷ [])
-lettered c d letter h low is = subst (λ x. Says (StandsFor x) (codes "\\" ++ letter ∷ [])) (sym (eqb-true c d h)) (short d letter low is)
+lettered : (c d letter : ℕ) → (c == d) ≡ true → is_ascii letter ≡ true → escaped_by letter ≡ Some d → HasRule (CharForm c) (codes "\\" ++ letter ∷ [])
+lettered c d letter h low is = subst (λ x. HasRule (CharForm x) (codes "\\" ++ letter ∷ [])) (sym (eqb-true c d h)) (short d letter low is)
 
 -- a character as itself
-plain : (c : ℕ) → IsScalar c → ((c == 34) || (c == 92)) ≡ false → Says (StandsFor c) (encode_utf8 c)
+plain : (c : ℕ) → IsScalar c → ((c == 34) || (c == 92)) ≡ false → HasRule (CharForm c) (encode_utf8 c)
 plain c s h = record {
   utf8 = IsUtf8-encode c s;
   says = inl (
@@ -70,7 +70,7 @@ low_digits (x ∷ ds) h =
 
 -- a character by its number, in hexadecimal digits
 numbered : (c : ℕ) (ds : List ℕ) → IsScalar c → AllDigits 16 ds → 1 ≤ length ds → length ds ≤ 6 → digits_value 16 ds ≡ c
-    → Says (StandsFor c) (codes "\\u{" ++ ds ++ codes "}")
+    → HasRule (CharForm c) (codes "\\u{" ++ ds ++ codes "}")
 numbered c ds s all some few is =
     let hex : list_all is_ascii_hexdigit ds ≡ true = hexdigits ds all in
     let low : list_all is_ascii (ds ++ codes "}") ≡ true = rw (list_all-append is_ascii ds (codes "}"), low_digits ds hex) refl in
@@ -87,27 +87,27 @@ one_or_two c small (inl one) = omega (arith, ap length (hex_one_digit false c on
 one_or_two c small (inr two) = omega (arith, ap length (hex_two_digits false c two small))
 
 -- a control character
-control : (c : ℕ) → IsScalar c → is_control c ≡ true → Says (StandsFor c) (codes "\\u{" ++ digits 16 false c ++ codes "}")
+control : (c : ℕ) → IsScalar c → is_control c ≡ true → HasRule (CharForm c) (codes "\\u{" ++ digits 16 false c ++ codes "}")
 control c s h =
     let small : c < 256 = control_below c h in
     let is = digits_is_IsNumeral 16 false (omega arith) (omega arith) c (omega arith) in
     numbered c (digits 16 false c) s is.0.1 is.0.0 (one_or_two c small (grind arith)) is.1
 
-pub stands_for : (c : ℕ) → IsScalar c → Says (StandsFor c) (printed_char c)
-stands_for c s =
-    choose (Says (StandsFor c)) ((c == 34) || (c == 92)) (codes "\\" ++ c ∷ []) _ (λ h. escaped c (is_escaped c h)) (λ not_escaped.
-    choose (Says (StandsFor c)) (c == 10) (codes "\\n") _ (λ h. lettered c 10 110 h refl refl) (λ _.
-    choose (Says (StandsFor c)) (c == 13) (codes "\\r") _ (λ h. lettered c 13 114 h refl refl) (λ _.
-    choose (Says (StandsFor c)) (c == 9) (codes "\\t") _ (λ h. lettered c 9 116 h refl refl) (λ _.
-    choose (Says (StandsFor c)) (is_control c) (codes "\\u{" ++ digits 16 false c ++ codes "}") (encode_utf8 c) (control c s) (λ _.
+pub char_form : (c : ℕ) → IsScalar c → HasRule (CharForm c) (printed_char c)
+char_form c s =
+    choose (HasRule (CharForm c)) ((c == 34) || (c == 92)) (codes "\\" ++ c ∷ []) _ (λ h. escaped c (is_escaped c h)) (λ not_escaped.
+    choose (HasRule (CharForm c)) (c == 10) (codes "\\n") _ (λ h. lettered c 10 110 h refl refl) (λ _.
+    choose (HasRule (CharForm c)) (c == 13) (codes "\\r") _ (λ h. lettered c 13 114 h refl refl) (λ _.
+    choose (HasRule (CharForm c)) (c == 9) (codes "\\t") _ (λ h. lettered c 9 116 h refl refl) (λ _.
+    choose (HasRule (CharForm c)) (is_control c) (codes "\\u{" ++ digits 16 false c ++ codes "}") (encode_utf8 c) (control c s) (λ _.
     plain c s not_escaped)))))
 
-pub stand_for : (cs : List ℕ) → all_scalars cs ≡ true → Says (StandFor cs) (flat_map printed_char cs)
-stand_for [] h = record { utf8 = IsUtf8-nil; says = ([], chars-nil, tt) }
-stand_for (c ∷ cs) h =
+pub char_forms : (cs : List ℕ) → all_scalars cs ≡ true → HasRule (CharForms cs) (flat_map printed_char cs)
+char_forms [] h = record { utf8 = IsUtf8-nil; says = ([], chars-nil, tt) }
+char_forms (c ∷ cs) h =
     let each = both_true _ (all_scalars cs) h in
-    let one = stands_for c each.0 in
-    let others = stand_for cs each.1 in
+    let one = char_form c each.0 in
+    let others = char_forms cs each.1 in
     record {
       utf8 = IsUtf8-append (printed_char c) (flat_map printed_char cs) one.utf8 others.utf8;
       says = (
@@ -119,9 +119,9 @@ stand_for (c ∷ cs) h =
 
 -- a quoted string
 pub text_in_quotes : (blanks text : List ℕ) → list_all is_blank blanks ≡ true → list_all is_ascii (blanks ++ codes "\"") ≡ true → IsUtf8 text
-    → Says (Text text) (blanks ++ quoted text)
+    → HasRule (Text text) (blanks ++ quoted text)
 text_in_quotes blanks text b low u =
-    let whole = both (token blanks (codes "\"") b low) (both (stand_for (chars text) (scalars-chars text u)) (just (codes "\"") refl)) in
-    let said : Says (Text text) ((blanks ++ codes "\"") ++ (flat_map printed_char (chars text) ++ codes "\"")) =
+    let whole = both (token blanks (codes "\"") b low) (both (char_forms (chars text) (scalars-chars text u)) (just (codes "\"") refl)) in
+    let said : HasRule (Text text) ((blanks ++ codes "\"") ++ (flat_map printed_char (chars text) ++ codes "\"")) =
     record { utf8 = whole.utf8; says = (chars text, sym (encodes-chars text u), whole.says) } in
-    subst (Says (Text text)) (append_assoc blanks (codes "\"") (flat_map printed_char (chars text) ++ codes "\"")) said
+    subst (HasRule (Text text)) (append_assoc blanks (codes "\"") (flat_map printed_char (chars text) ++ codes "\"")) said

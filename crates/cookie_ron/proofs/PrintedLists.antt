@@ -14,32 +14,32 @@ use Rattle.cookie_ron.specs.Grammar.{Blanks, Flag, Argument, PathPair, DomainFor
 use Rattle.cookie_ron.specs.Printed.{quoted, printed_flag, printed_path, printed_domain, printed_expiry, printed_cookie, printed_list}
 use Rattle.cookie_ron.proofs.MomentTexts.{moment_utf8}
 use Rattle.cookie_ron.proofs.PrintedChars.{text_in_quotes}
-use Rattle.cookie_ron.proofs.Says.{Says, ascii_chars, ascii_utf8, both, close, close_comma, token}
+use Rattle.cookie_ron.proofs.HasRule.{HasRule, ascii_chars, ascii_utf8, both, close, close_comma, token}
 
 -- a string in parentheses
-argument : (text : List ℕ) → IsUtf8 text → Says (Argument text) (codes "(" ++ (quoted text ++ codes ")"))
+argument : (text : List ℕ) → IsUtf8 text → HasRule (Argument text) (codes "(" ++ (quoted text ++ codes ")"))
 argument text u = both (token [] (codes "(") refl refl) (both (text_in_quotes [] text refl refl u) (close (token [] (codes ")") refl refl)))
 
-flag : (b : Bool) → Says (Flag b) (codes " " ++ printed_flag b)
+flag : (b : Bool) → HasRule (Flag b) (codes " " ++ printed_flag b)
 flag true = token (codes " ") (codes "true") refl refl
 flag false = token (codes " ") (codes "false") refl refl
 
 in_row : (a b c d : List ℕ) → a ++ b ++ c ++ d ≡ a ++ (b ++ (c ++ d))
 in_row a b c d = simp append_assoc
 
-path_pair : (text : List ℕ) (b : Bool) → IsUtf8 text → Says (PathPair text b) (codes " " ++ printed_path text b)
+path_pair : (text : List ℕ) (b : Bool) → IsUtf8 text → HasRule (PathPair text b) (codes " " ++ printed_path text b)
 path_pair text b u =
-    let said : Says (PathPair text b) (codes " (" ++ (quoted text ++ (codes "," ++ ((codes " " ++ printed_flag b) ++ codes ")")))) =
+    let said : HasRule (PathPair text b) (codes " (" ++ (quoted text ++ (codes "," ++ ((codes " " ++ printed_flag b) ++ codes ")")))) =
     both (token (codes " ") (codes "(") refl refl) (both (text_in_quotes [] text refl refl u) (both (token [] (codes ",") refl refl) (both (flag b) (close (token [] (codes ")") refl refl))))) in
-    subst (λ s. Says (PathPair text b) (codes " (" ++ s)) (sym (in_row (quoted text) (codes ", ") (printed_flag b) (codes ")"))) said
+    subst (λ s. HasRule (PathPair text b) (codes " (" ++ s)) (sym (in_row (quoted text) (codes ", ") (printed_flag b) (codes ")"))) said
 
-domain : (d : SavedDomain) → Says (DomainForm (domain_view d)) (codes " " ++ printed_domain (domain_view d))
+domain : (d : SavedDomain) → HasRule (DomainForm (domain_view d)) (codes " " ++ printed_domain (domain_view d))
 domain (Kind.HostOnly text) = both (token (codes " ") (codes "HostOnly") refl refl) (argument (string_bytes text) (IsUtf8-string_bytes text))
 domain (Kind.Suffix text) = both (token (codes " ") (codes "Suffix") refl refl) (argument (string_bytes text) (IsUtf8-string_bytes text))
 domain Kind.NotPresent = token (codes " ") (codes "NotPresent") refl refl
 domain Kind.Empty = token (codes " ") (codes "Empty") refl refl
 
-end : (e : SavedExpiry) → Says (ExpiryForm (option_map moment_text (expiry_view e))) (codes " " ++ printed_expiry (option_map moment_text (expiry_view e)))
+end : (e : SavedExpiry) → HasRule (ExpiryForm (option_map moment_text (expiry_view e))) (codes " " ++ printed_expiry (option_map moment_text (expiry_view e)))
 end (Expiry.AtUtc time) = both (token (codes " ") (codes "AtUtc") refl refl) (argument _ (moment_utf8 time))
 end Expiry.SessionEnd = token (codes " ") (codes "SessionEnd") refl refl
 
@@ -50,7 +50,7 @@ body p =
     ++ (codes "        raw_cookie: " ++ (quoted p.raw_cookie ++ (codes ",\n"
     ++ (codes "        path: " ++ (printed_path p.path p.from_attr ++ (codes ",\n"
     ++ (codes "        domain: " ++ (printed_domain p.domain ++ (codes ",\n"
-    ++ (codes "        expires: " ++ (printed_expiry p.ends ++ (codes ",\n"
+    ++ (codes "        expires: " ++ (printed_expiry p.expires ++ (codes ",\n"
     ++ codes "    )"))))))))))))
 
 -- the lines of four fields
@@ -62,9 +62,9 @@ lines head name1 value1 name2 value2 name3 value3 name4 value4 stop foot comma =
 body_is : (p : Parts (List ℕ)) → codes "\n" ++ printed_cookie p ≡ body p ++ codes ",\n"
 body_is p =
     lines (codes "\n    (\n") (codes "        raw_cookie: ") (quoted p.raw_cookie) (codes "        path: ") (printed_path p.path p.from_attr)
-    (codes "        domain: ") (printed_domain p.domain) (codes "        expires: ") (printed_expiry p.ends) (codes ",\n") (codes "    )") (codes ",\n")
+    (codes "        domain: ") (printed_domain p.domain) (codes "        expires: ") (printed_expiry p.expires) (codes ",\n") (codes "    )") (codes ",\n")
 
-cookie : (s : Saved) → Says (Cookie (with_expiry_text (saved_view s))) (body (with_expiry_text (saved_view s)))
+cookie : (s : Saved) → HasRule (Cookie (with_expiry_text (saved_view s))) (body (with_expiry_text (saved_view s)))
 cookie s =
     both (token (codes "\n    ") (codes "(") refl refl)
     (both (both (token (codes "\n        ") (codes "raw_cookie") refl refl) (both (token [] (codes ":") refl refl) (text_in_quotes (codes " ") (string_bytes s.raw_cookie) refl refl (IsUtf8-string_bytes s.raw_cookie))))
@@ -87,22 +87,22 @@ step p rest =
 abbrev parts : List Saved → List (Parts (List ℕ))
 parts list = map with_expiry_text (map saved_view list)
 
-cookies : (s : Saved) (list : List Saved) → Says (Cookies (parts (s ∷ list))) (codes "\n" ++ (flat_map printed_cookie (parts (s ∷ list)) ++ codes "]"))
+cookies : (s : Saved) (list : List Saved) → HasRule (Cookies (parts (s ∷ list))) (codes "\n" ++ (flat_map printed_cookie (parts (s ∷ list)) ++ codes "]"))
 cookies s [] =
-    subst (Says (Cookies (parts (s ∷ [])))) (sym (step (with_expiry_text (saved_view s)) []))
+    subst (HasRule (Cookies (parts (s ∷ [])))) (sym (step (with_expiry_text (saved_view s)) []))
     (both (cookie s) (close_comma (both (token [] (codes ",") refl refl) (token (codes "\n") (codes "]") refl refl))))
 cookies s (t ∷ list) =
-    subst (Says (Cookies (parts (s ∷ t ∷ list)))) (sym (step (with_expiry_text (saved_view s)) (flat_map printed_cookie (parts (t ∷ list)))))
+    subst (HasRule (Cookies (parts (s ∷ t ∷ list)))) (sym (step (with_expiry_text (saved_view s)) (flat_map printed_cookie (parts (t ∷ list)))))
     (both (cookie s) (both (token [] (codes ",") refl refl) (cookies t list)))
 
-no_blanks : Says Blanks []
+no_blanks : HasRule Blanks []
 no_blanks = record { utf8 = IsUtf8-nil; says = rw chars-nil refl }
 
-line_feed : Says Blanks (10 ∷ [])
+line_feed : HasRule Blanks (10 ∷ [])
 line_feed = record { utf8 = ascii_utf8 (10 ∷ []) refl; says = rw (ascii_chars (10 ∷ []) refl) refl }
 
 -- a printed list, blanks after it allowed; the strings of saved cookies are UTF-8
-said : (list : List Saved) {blanks : List ℕ} → Says Blanks blanks → Says (IsList (parts list)) (printed_list (parts list) ++ blanks)
+said : (list : List Saved) {blanks : List ℕ} → HasRule Blanks blanks → HasRule (IsList (parts list)) (printed_list (parts list) ++ blanks)
 said [] blanks = both (token [] (codes "[") refl refl) (both (token [] (codes "]") refl refl) blanks)
 said (s ∷ list) blanks = both (token [] (codes "[") refl refl) (both (cookies s list) blanks)
 

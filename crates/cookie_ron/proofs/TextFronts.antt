@@ -5,7 +5,7 @@ use Rattle.std.specs.List.{AllZip}
 use Rattle.std.specs.Str.{encode_utf8_all}
 use Rattle.std.proofs.lemmas.Option.{option_and_then_some}
 use Rattle.std.proofs.lemmas.List.{append_assoc}
-use Rattle.cookie_ron.specs.Grammar.{◌▸◌, Exactly, StandsFor, StandFor, Text}
+use Rattle.cookie_ron.specs.Grammar.{◌▸◌, Exactly, CharForm, CharForms, Text}
 use Rattle.cookie_ron.specs.Reading.{behind, token_at, char_at, onto, chars_behind, chars_at, text_at}
 use Rattle.cookie_ron.proofs.Onto.{onto_both}
 use Rattle.cookie_ron.proofs.Fronts.{Front, Takes, joined, front_of, front_shorter, chain}
@@ -13,7 +13,7 @@ use Rattle.cookie_ron.proofs.SignFronts.{behind_front, sign_front, sign_takes}
 use Rattle.cookie_ron.proofs.CharFronts.{map_some, char_front, char_takes}
 
 -- a character of a string, escaped or not, is not empty
-part_fits : (c : ℕ) (part : List ℕ) → StandsFor c part → 0 < length part
+part_fits : (c : ℕ) (part : List ℕ) → CharForm c part → 0 < length part
 part_fits c [] h = let none = (char_takes c).at [] [] h in cc
 part_fits c (x ∷ xs) h = omega arith
 
@@ -48,9 +48,9 @@ chars_turn front text s rest c e is =
 -- ---- the characters
 
 abbrev Chars : List ℕ → List ℕ → Type 0
-Chars cs = StandFor cs ▸ Exactly (codes "\"")
+Chars cs = CharForms cs ▸ Exactly (codes "\"")
 
-chars_more : (c : ℕ) (cs : List ℕ) (s : List ℕ) → (StandsFor c ▸ Chars cs) s → Chars (c ∷ cs) s
+chars_more : (c : ℕ) (cs : List ℕ) (s : List ℕ) → (CharForm c ▸ Chars cs) s → Chars (c ∷ cs) s
 chars_more c cs s (x, y, e, this, (x', y', e', (parts, is, all), quote)) =
     (x ++ x', y', e ∙ ap (λ t. x ++ t) e' ∙ sym (append_assoc x x' y'), (x ∷ parts, ap (λ t. x ++ t) is, (this, all)), quote)
 
@@ -78,7 +78,7 @@ chars_front : (n : ℕ) (s text rest : List ℕ) → chars_at n s ≡ Some (text
 chars_front zero s text rest e = cc
 chars_front (suc n) s text rest e = chars_cases n s text rest (char_at s) refl e (λ t text rest e. chars_front n t text rest e)
 
-chars_over : (cs : List ℕ) (parts : List (List ℕ)) (n : ℕ) (rest : List ℕ) → AllZip StandsFor cs parts
+chars_over : (cs : List ℕ) (parts : List (List ℕ)) (n : ℕ) (rest : List ℕ) → AllZip CharForm cs parts
     → length (flat_map (λ part. part) parts ++ 34 ∷ rest) < n
     → chars_at n (flat_map (λ part. part) parts ++ 34 ∷ rest) ≡ Some (encode_utf8_all cs, rest)
 chars_over cs parts zero rest all few = absurd (omega (arith, few))

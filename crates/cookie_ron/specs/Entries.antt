@@ -10,5 +10,5 @@ entry_view e = record {
   path = string_bytes e.path;
   from_attr = e.from_attr;
   domain = domain_view e.domain;
-  ends = option_map string_bytes e.ends;
+  expires = option_map string_bytes e.expires;
 }

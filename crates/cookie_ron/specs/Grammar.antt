@@ -63,16 +63,16 @@ IsUnicodeEscape c s =
     × (1 ≤ length digits) × (length digits ≤ 6) × HasHexValue c digits × IsScalar c
 
 -- a character of a string, as itself or as an escape
-abbrev pub StandsFor : ℕ → List ℕ → Type 0
-StandsFor c s = IsUnescaped c s ⊎ IsLetterEscape c s ⊎ IsByteEscape c s ⊎ IsUnicodeEscape c s
+abbrev pub CharForm : ℕ → List ℕ → Type 0
+CharForm c s = IsUnescaped c s ⊎ IsLetterEscape c s ⊎ IsByteEscape c s ⊎ IsUnicodeEscape c s
 
 -- the characters of a string, one after the other
-abbrev pub StandFor : List ℕ → List ℕ → Type 0
-StandFor cs s = (parts : List (List ℕ)) × (s ≡ flat_map (λ part. part) parts) × AllZip StandsFor cs parts
+abbrev pub CharForms : List ℕ → List ℕ → Type 0
+CharForms cs s = (parts : List (List ℕ)) × (s ≡ flat_map (λ part. part) parts) × AllZip CharForm cs parts
 
 -- a quoted string
 abbrev pub Text : List ℕ → List ℕ → Type 0
-Text text s = (cs : List ℕ) × (text ≡ encode_utf8_all cs) × (Token (codes "\"") ▸ StandFor cs ▸ Exactly (codes "\"")) s
+Text text s = (cs : List ℕ) × (text ≡ encode_utf8_all cs) × (Token (codes "\"") ▸ CharForms cs ▸ Exactly (codes "\"")) s
 
 -- `true` or `false`
 abbrev pub Flag : Bool → List ℕ → Type 0
@@ -109,7 +109,7 @@ Cookie p =
     ▸ Field (codes "raw_cookie") (Text p.raw_cookie) ▸ Token (codes ",")
     ▸ Field (codes "path") (PathPair p.path p.from_attr) ▸ Token (codes ",")
     ▸ Field (codes "domain") (DomainForm p.domain) ▸ Token (codes ",")
-    ▸ Field (codes "expires") (ExpiryForm p.ends)
+    ▸ Field (codes "expires") (ExpiryForm p.expires)
     ▸ Close (codes ")")
 
 -- cookies, separated by commas, and the closing bracket

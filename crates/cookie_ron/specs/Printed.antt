@@ -54,7 +54,7 @@ printed_cookie p =
     ++ printed_field (codes "raw_cookie") (quoted p.raw_cookie)
     ++ printed_field (codes "path") (printed_path p.path p.from_attr)
     ++ printed_field (codes "domain") (printed_domain p.domain)
-    ++ printed_field (codes "expires") (printed_expiry p.ends)
+    ++ printed_field (codes "expires") (printed_expiry p.expires)
     ++ codes "    ),\n"
 
 -- a list: `[]` if empty, else a bracket on a line of its own, the cookies, and a bracket

@@ -158,8 +158,8 @@ unfoldable pub last_fields_at : List ℕ → Option ((Domain × Option (List ℕ
 last_fields_at s = do
   domain ← field_at (codes "domain") domain_at s
   second ← token_at (codes ",") domain.1
-  ends ← field_at (codes "expires") expiry_text_at second
-  Some ((domain.0, ends.0), ends.1)
+  expires ← field_at (codes "expires") expiry_text_at second
+  Some ((domain.0, expires.0), expires.1)
 
 -- a saved cookie
 unfoldable pub cookie_at : List ℕ → Option (Parts (List ℕ) × List ℕ)
@@ -175,7 +175,7 @@ cookie_at s = do
       path = first.0.1.0;
       from_attr = first.0.1.1;
       domain = last.0.0;
-      ends = last.0.1;
+      expires = last.0.1;
     },
     rest,
   )

@@ -33,7 +33,7 @@ use std::alloc::{AllocError, Global};
 pub fn to_ron(alloc: Global, list: &[Saved]) -> Result<String, SavedError>
     ensures text { IfOk result (λ text. ron_written (map saved_view list.now) ≡ Ok (string_bytes text)) }
     ensures early { ron_written (map saved_view list.now) ≡ Err SavedError.Moment → result ≡ Err SavedError.Moment }
-    ensures refused { IfErr result (λ e. (e ≡ SavedError.Memory) ⊎ (ron_written (map saved_view list.now) ≡ Err e)) }
+    ensures errors { IfErr result (λ e. (e ≡ SavedError.Memory) ⊎ (ron_written (map saved_view list.now) ≡ Err e)) }
 {
     if any_early(list) {
         return Err(SavedError::Moment);
@@ -162,7 +162,7 @@ fn push_quoted(text: &mut String, content: &str) -> Result<(), AllocError>
     text.push('"')
 }
 
-// Appends the characters of a string, escaped where necessary.
+// Appends the characters of a string, escaped if necessary.
 fn push_chars(text: &mut String, content: &str) -> Result<(), AllocError>
     ensures { OnOk result (string_bytes text.new ≡ string_bytes text.old ++ flat_map printed_char (chars content.now)) }
 {

@@ -21,7 +21,7 @@ struct Entry {
     path: String,
     from_attr: bool,
     domain: SavedDomain,
-    ends: Option<String>,
+    expires: Option<String>,
 }
 
 /// Reads a list of saved cookies in RON.
@@ -45,7 +45,7 @@ struct Entry {
 ///   `text` is always `Ron`.
 pub fn from_ron(alloc: Global, text: &str) -> Result<Vec<Saved>, SavedError>
     ensures list { IfOk result (λ list. RonParsesTo text.now (Ok (map saved_view list.items))) }
-    ensures refused { IfErr result (λ e. (e ≡ SavedError.Memory) ⊎ RonParsesTo text.now (Err e)) }
+    ensures errors { IfErr result (λ e. (e ≡ SavedError.Memory) ⊎ RonParsesTo text.now (Err e)) }
     ensures empty { text.now ≡ [] → result ≡ Err SavedError.Ron }
 {
     if text.is_empty() {
@@ -66,7 +66,7 @@ fn chars_of(alloc: Global, text: &str) -> Result<Vec<char>, AllocError>
 #[tactic(auto, using(crate::proofs::EndsRead::end_steps))]
 fn with_parsed_expiries(alloc: Global, entries: Vec<Entry>) -> Result<Vec<Saved>, SavedError>
     ensures read { IfOk result (λ list. all_with_parsed_expiry (map entry_view entries.items) ≡ Some (map saved_view list.items)) }
-    ensures refused { IfErr result (λ e. (e ≡ SavedError.Memory)
+    ensures errors { IfErr result (λ e. (e ≡ SavedError.Memory)
         ⊎ ((e ≡ SavedError.Moment) × (all_with_parsed_expiry (map entry_view entries.items) ≡ None))) }
     ensures memory { result ≡ Err SavedError.Memory → entries.items ≢ [] }
 {
@@ -80,9 +80,9 @@ fn with_parsed_expiries(alloc: Global, entries: Vec<Entry>) -> Result<Vec<Saved>
 // Parses the expiry of a cookie.
 fn saved_from(entry: Entry) -> Result<Saved, SavedError>
     ensures read { IfOk result (λ saved. with_parsed_expiry (entry_view entry) ≡ Some (saved_view saved)) }
-    ensures refused { IfErr result (λ e. (e ≡ SavedError.Moment) × (with_parsed_expiry (entry_view entry) ≡ None)) }
+    ensures errors { IfErr result (λ e. (e ≡ SavedError.Moment) × (with_parsed_expiry (entry_view entry) ≡ None)) }
 {
-    let expires = expiry_at(&entry.ends)?;
+    let expires = expiry_at(&entry.expires)?;
     Ok(Saved {
         raw_cookie: entry.raw_cookie,
         path: entry.path,
@@ -93,11 +93,11 @@ fn saved_from(entry: Entry) -> Result<Saved, SavedError>
 }
 
 // Parses an expiry; `None` stands for a session cookie.
-fn expiry_at(ends: &Option<String>) -> Result<SavedExpiry, SavedError>
-    ensures read { IfOk result (λ expires. parsed_expiry (option_map string_bytes ends.now) ≡ Some (expiry_view expires)) }
-    ensures refused { IfErr result (λ e. (e ≡ SavedError.Moment) × (parsed_expiry (option_map string_bytes ends.now) ≡ None)) }
+fn expiry_at(expires: &Option<String>) -> Result<SavedExpiry, SavedError>
+    ensures read { IfOk result (λ expiry. parsed_expiry (option_map string_bytes expires.now) ≡ Some (expiry_view expiry)) }
+    ensures errors { IfErr result (λ e. (e ≡ SavedError.Moment) × (parsed_expiry (option_map string_bytes expires.now) ≡ None)) }
 {
-    match ends {
+    match expires {
         Some(text) => Ok(SavedExpiry::AtUtc(read_moment(text).ok_or(SavedError::Moment)?)),
         None => Ok(SavedExpiry::SessionEnd),
     }
@@ -107,7 +107,7 @@ fn expiry_at(ends: &Option<String>) -> Result<SavedExpiry, SavedError>
 #[tactic(auto, unfolding(crate::specs::Reading::list_at))]
 fn list_at(alloc: Global, input: &[char]) -> Result<Vec<Entry>, SavedError>
     ensures read { IfOk result (λ list. list_at input.now ≡ Some (map entry_view list.items)) }
-    ensures refused { IfErr result (λ e. (e ≡ SavedError.Memory)
+    ensures errors { IfErr result (λ e. (e ≡ SavedError.Memory)
         ⊎ ((e ≡ SavedError.Ron) × (list_at input.now ≡ None))) }
     ensures memory { list_at input.now ≡ Some [] → IsOk result }
 {
@@ -121,7 +121,7 @@ fn list_at(alloc: Global, input: &[char]) -> Result<Vec<Entry>, SavedError>
 // Reads the cookies of a list, up to its closing bracket.
 fn cookies_at(alloc: Global, input: &[char]) -> Result<(Vec<Entry>, &[char]), SavedError>
     ensures read { IfOk result (λ p. cookies_at (suc (length input.now)) input.now ≡ Some (map entry_view p.0.items, p.1.now)) }
-    ensures refused { IfErr result (λ e. (e ≡ SavedError.Memory)
+    ensures errors { IfErr result (λ e. (e ≡ SavedError.Memory)
         ⊎ ((e ≡ SavedError.Ron) × (cookies_at (suc (length input.now)) input.now ≡ None))) }
     ensures memory { (rest : List ℕ) → cookies_at (suc (length input.now)) input.now ≡ Some ([], rest) → IsOk result }
 {
@@ -144,18 +144,18 @@ fn cookies_at(alloc: Global, input: &[char]) -> Result<(Vec<Entry>, &[char]), Sa
 #[tactic(auto, unfolding(crate::specs::Reading::cookie_at))]
 fn cookie_at(alloc: Global, input: &[char]) -> Result<(Entry, &[char]), SavedError>
     ensures read { IfOk result (λ p. cookie_at input.now ≡ Some (entry_view p.0, p.1.now)) }
-    ensures refused { IfErr result (λ e. (e ≡ SavedError.Memory)
+    ensures errors { IfErr result (λ e. (e ≡ SavedError.Memory)
         ⊎ ((e ≡ SavedError.Ron) × (cookie_at input.now ≡ None))) }
 {
     let (raw_cookie, path, from_attr, rest) = first_fields_at(alloc, token_at(b"(", input)?)?;
-    let (domain, ends, rest) = last_fields_at(alloc, token_at(b",", rest)?)?;
+    let (domain, expires, rest) = last_fields_at(alloc, token_at(b",", rest)?)?;
     let rest = close_at(b")", rest)?;
     let entry = Entry {
         raw_cookie,
         path,
         from_attr,
         domain,
-        ends,
+        expires,
     };
     Ok((entry, rest))
 }
@@ -167,7 +167,7 @@ fn first_fields_at(
     input: &[char],
 ) -> Result<(String, String, bool, &[char]), SavedError>
     ensures read { IfOk result (λ p. first_fields_at input.now ≡ Some ((string_bytes p.0, (string_bytes p.1, p.2)), p.3.now)) }
-    ensures refused { IfErr result (λ e. (e ≡ SavedError.Memory)
+    ensures errors { IfErr result (λ e. (e ≡ SavedError.Memory)
         ⊎ ((e ≡ SavedError.Ron) × (first_fields_at input.now ≡ None))) }
 {
     let (raw_cookie, rest) = text_at(alloc, name_at(b"raw_cookie", input)?)?;
@@ -183,20 +183,20 @@ fn last_fields_at(
     input: &[char],
 ) -> Result<(SavedDomain, Option<String>, &[char]), SavedError>
     ensures read { IfOk result (λ p. last_fields_at input.now ≡ Some ((domain_view p.0, option_map string_bytes p.1), p.2.now)) }
-    ensures refused { IfErr result (λ e. (e ≡ SavedError.Memory)
+    ensures errors { IfErr result (λ e. (e ≡ SavedError.Memory)
         ⊎ ((e ≡ SavedError.Ron) × (last_fields_at input.now ≡ None))) }
 {
     let (domain, rest) = domain_at(alloc, name_at(b"domain", input)?)?;
     let second = token_at(b",", rest)?;
-    let (ends, rest) = expiry_text_at(alloc, name_at(b"expires", second)?)?;
-    Ok((domain, ends, rest))
+    let (expires, rest) = expiry_text_at(alloc, name_at(b"expires", second)?)?;
+    Ok((domain, expires, rest))
 }
 
 // Reads a path, and whether a Path attribute set it.
 #[tactic(auto, unfolding(crate::specs::Reading::path_at))]
 fn path_at(alloc: Global, input: &[char]) -> Result<(String, bool, &[char]), SavedError>
     ensures read { IfOk result (λ p. path_at input.now ≡ Some ((string_bytes p.0, p.1), p.2.now)) }
-    ensures refused { IfErr result (λ e. (e ≡ SavedError.Memory)
+    ensures errors { IfErr result (λ e. (e ≡ SavedError.Memory)
         ⊎ ((e ≡ SavedError.Ron) × (path_at input.now ≡ None))) }
 {
     let (path, rest) = text_at(alloc, token_at(b"(", input)?)?;
@@ -208,7 +208,7 @@ fn path_at(alloc: Global, input: &[char]) -> Result<(String, bool, &[char]), Sav
 #[tactic(auto, unfolding(crate::specs::Reading::flag_at))]
 fn flag_at(input: &[char]) -> Result<(bool, &[char]), SavedError>
     ensures read { IfOk result (λ p. flag_at input.now ≡ Some (p.0, p.1.now)) }
-    ensures refused { IfErr result (λ e. (e ≡ SavedError.Ron) × (flag_at input.now ≡ None)) }
+    ensures errors { IfErr result (λ e. (e ≡ SavedError.Ron) × (flag_at input.now ≡ None)) }
 {
     match token_at(b"true", input) {
         Ok(rest) => Ok((true, rest)),
@@ -220,7 +220,7 @@ fn flag_at(input: &[char]) -> Result<(bool, &[char]), SavedError>
 #[tactic(auto, unfolding(crate::specs::Reading::domain_at))]
 fn domain_at(alloc: Global, input: &[char]) -> Result<(SavedDomain, &[char]), SavedError>
     ensures read { IfOk result (λ p. domain_at input.now ≡ Some (domain_view p.0, p.1.now)) }
-    ensures refused { IfErr result (λ e. (e ≡ SavedError.Memory)
+    ensures errors { IfErr result (λ e. (e ≡ SavedError.Memory)
         ⊎ ((e ≡ SavedError.Ron) × (domain_at input.now ≡ None))) }
 {
     if let Ok(rest) = token_at(b"HostOnly", input) {
@@ -241,7 +241,7 @@ fn domain_at(alloc: Global, input: &[char]) -> Result<(SavedDomain, &[char]), Sa
 #[tactic(auto, unfolding(crate::specs::Reading::expiry_text_at))]
 fn expiry_text_at(alloc: Global, input: &[char]) -> Result<(Option<String>, &[char]), SavedError>
     ensures read { IfOk result (λ p. expiry_text_at input.now ≡ Some (option_map string_bytes p.0, p.1.now)) }
-    ensures refused { IfErr result (λ e. (e ≡ SavedError.Memory)
+    ensures errors { IfErr result (λ e. (e ≡ SavedError.Memory)
         ⊎ ((e ≡ SavedError.Ron) × (expiry_text_at input.now ≡ None))) }
 {
     match token_at(b"AtUtc", input) {
@@ -257,7 +257,7 @@ fn expiry_text_at(alloc: Global, input: &[char]) -> Result<(Option<String>, &[ch
 #[tactic(auto, unfolding(crate::specs::Reading::argument_at))]
 fn argument_at(alloc: Global, input: &[char]) -> Result<(String, &[char]), SavedError>
     ensures read { IfOk result (λ p. argument_at input.now ≡ Some (string_bytes p.0, p.1.now)) }
-    ensures refused { IfErr result (λ e. (e ≡ SavedError.Memory)
+    ensures errors { IfErr result (λ e. (e ≡ SavedError.Memory)
         ⊎ ((e ≡ SavedError.Ron) × (argument_at input.now ≡ None))) }
 {
     let (text, rest) = text_at(alloc, token_at(b"(", input)?)?;

@@ -118,7 +118,7 @@ fn char_at(input: &[char]) -> Option<(char, &[char])>
 #[tactic(auto, unfolding(crate::specs::Reading::text_at))]
 pub(crate) fn text_at(alloc: Global, input: &[char]) -> Result<(String, &[char]), SavedError>
     ensures read { IfOk result (λ p. text_at input.now ≡ Some (string_bytes p.0, p.1.now)) }
-    ensures refused { IfErr result (λ e. (e ≡ SavedError.Memory)
+    ensures errors { IfErr result (λ e. (e ≡ SavedError.Memory)
         ⊎ ((e ≡ SavedError.Ron) × (text_at input.now ≡ None))) }
 {
     let mut text = String::new(alloc);

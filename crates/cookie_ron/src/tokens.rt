@@ -29,7 +29,7 @@ pub(crate) fn drop_blanks(input: &[char]) -> &[char]
 // The rest of the input after exactly these characters.
 pub(crate) fn behind<'a>(token: &[u8], input: &'a [char]) -> Result<&'a [char], SavedError>
     ensures read { IfOk result (λ rest. behind token.now input.now ≡ Some rest.now) }
-    ensures refused { IfErr result (λ e. (e ≡ SavedError.Ron) × (behind token.now input.now ≡ None)) }
+    ensures errors { IfErr result (λ e. (e ≡ SavedError.Ron) × (behind token.now input.now ≡ None)) }
 {
     let mut rest = input;
     for byte in token {
@@ -49,7 +49,7 @@ pub(crate) fn behind<'a>(token: &[u8], input: &'a [char]) -> Result<&'a [char], 
 // The rest of the input after a token, with any blanks before it.
 pub(crate) fn token_at<'a>(token: &[u8], input: &'a [char]) -> Result<&'a [char], SavedError>
     ensures read { IfOk result (λ rest. token_at token.now input.now ≡ Some rest.now) }
-    ensures refused { IfErr result (λ e. (e ≡ SavedError.Ron) × (token_at token.now input.now ≡ None)) }
+    ensures errors { IfErr result (λ e. (e ≡ SavedError.Ron) × (token_at token.now input.now ≡ None)) }
 {
     behind(token, drop_blanks(input))
 }
@@ -57,7 +57,7 @@ pub(crate) fn token_at<'a>(token: &[u8], input: &'a [char]) -> Result<&'a [char]
 // The rest of the input after a closing bracket or parenthesis, with an optional comma before it.
 pub(crate) fn close_at<'a>(token: &[u8], input: &'a [char]) -> Result<&'a [char], SavedError>
     ensures read { IfOk result (λ rest. close_at token.now input.now ≡ Some rest.now) }
-    ensures refused { IfErr result (λ e. (e ≡ SavedError.Ron) × (close_at token.now input.now ≡ None)) }
+    ensures errors { IfErr result (λ e. (e ≡ SavedError.Ron) × (close_at token.now input.now ≡ None)) }
 {
     match token_at(b",", input) {
         Ok(rest) => token_at(token, rest),
@@ -69,7 +69,7 @@ pub(crate) fn close_at<'a>(token: &[u8], input: &'a [char]) -> Result<&'a [char]
 #[tactic(auto, unfolding(crate::specs::Reading::name_at))]
 pub(crate) fn name_at<'a>(name: &[u8], input: &'a [char]) -> Result<&'a [char], SavedError>
     ensures read { IfOk result (λ rest. name_at name.now input.now ≡ Some rest.now) }
-    ensures refused { IfErr result (λ e. (e ≡ SavedError.Ron) × (name_at name.now input.now ≡ None)) }
+    ensures errors { IfErr result (λ e. (e ≡ SavedError.Ron) × (name_at name.now input.now ≡ None)) }
 {
     token_at(b":", token_at(name, input)?)
 }

@@ -6,11 +6,11 @@ use Rattle.cookie_parts.specs.Cookie.{Row, expired_row}
 use Rattle.cookie_laws.specs.Rows.{Key, key_of, same_key, has_key, are_rows, row_of, put, add_created, changed, removed, differ}
 use Rattle.cookie_lookup.specs.Groups.{flat, flat_paths, AreGroups, Filled}
 use Rattle.cookie_rows.specs.Items.{Item, ItemGroups, ItemPaths, AreItems, Below, bare, bare_paths, rows_in_order, by_number, creation_order, put_items, expire_items, remove_items, find_items, rows_of}
-use Rattle.cookie_rows.proofs.Bare.{bare_put, bare_end, bare_remove, bare_found}
-use Rattle.cookie_rows.proofs.FoundRows.{found_in_groups, ended_in_groups, removed_in_groups}
-use Rattle.cookie_rows.proofs.RowsInOrder.{groups_put, groups_ended, groups_removed}
+use Rattle.cookie_rows.proofs.Bare.{bare_put, bare_expire, bare_remove, bare_found}
+use Rattle.cookie_rows.proofs.FoundRows.{found_in_groups, expired_in_groups, removed_in_groups}
+use Rattle.cookie_rows.proofs.RowsInOrder.{groups_put, groups_expired, groups_removed}
 use Rattle.cookie_rows.proofs.KeptOrder.{are_rows-put, are_rows-expired_row}
-use Rattle.cookie_rows.proofs.Made.{made_put, below_put, differ_put, numbered_end, made_remove, below_remove, differ_remove, stays_numbered}
+use Rattle.cookie_rows.proofs.Made.{made_put, below_put, differ_put, numbered_expire, made_remove, below_remove, differ_remove, stays_numbered}
 use Rattle.cookie_rows.proofs.Puts.{put_in_groups}
 use Rattle.cookie_rows.proofs.Removed.{are_rows-removed}
 
@@ -52,20 +52,20 @@ module _ (n : ℕ) (gs : ItemGroups) (a : AreItems n gs) where
     -- a row is expired
 
     -- the rows
-    rows_ended : flat (bare (expire_items key gs)) ≡ changed (has_key key) expired_row (flat (bare gs))
-    rows_ended = ap flat (bare_end key gs) ∙ sym (ended_in_groups key (bare gs) a.0)
+    rows_expired : flat (bare (expire_items key gs)) ≡ changed (has_key key) expired_row (flat (bare gs))
+    rows_expired = ap flat (bare_expire key gs) ∙ sym (expired_in_groups key (bare gs) a.0)
 
     -- the rows and the keys
-    pub kept_ended : rows_in_order (expire_items key gs) ≡ record (rows_in_order gs) { rows = changed (has_key key) expired_row (flat (bare gs)) }
-    kept_ended = λ i. record { rows = rows_ended i; created = map (λ x. x.0) (by_number (numbered_end key gs i)) }
+    pub kept_expired : rows_in_order (expire_items key gs) ≡ record (rows_in_order gs) { rows = changed (has_key key) expired_row (flat (bare gs)) }
+    kept_expired = λ i. record { rows = rows_expired i; created = map (λ x. x.0) (by_number (numbered_expire key gs i)) }
 
     -- the groups
-    pub items_ended : AreItems n (expire_items key gs)
-    items_ended = (
-      subst AreGroups (sym (bare_end key gs)) (groups_ended key (bare gs) a.0),
-      subst (λ rows. IsTrue (are_rows rows)) (sym rows_ended) (are_rows-expired_row (has_key key) (flat (bare gs)) a.1),
-      subst (AllByRecursion (λ x. x.1 < n)) (sym (numbered_end key gs)) a.2,
-      ap (λ xs. differ nat_eq (map (λ x. x.1) xs)) (numbered_end key gs) ∙ a.3,
+    pub items_expired : AreItems n (expire_items key gs)
+    items_expired = (
+      subst AreGroups (sym (bare_expire key gs)) (groups_expired key (bare gs) a.0),
+      subst (λ rows. IsTrue (are_rows rows)) (sym rows_expired) (are_rows-expired_row (has_key key) (flat (bare gs)) a.1),
+      subst (AllByRecursion (λ x. x.1 < n)) (sym (numbered_expire key gs)) a.2,
+      ap (λ xs. differ nat_eq (map (λ x. x.1) xs)) (numbered_expire key gs) ∙ a.3,
     )
 
     -- a row is removed

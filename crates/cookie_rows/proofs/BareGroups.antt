@@ -14,8 +14,8 @@ put_name row [] = row ∷ []
 put_name row (x ∷ xs) = if is_named row.raw.name x then row ∷ xs else x ∷ put_name row xs
 
 -- the rows with that one expired
-abbrev pub end_name : List ℕ → List Row → List Row
-end_name name rows = changed (is_named name) expired_row rows
+abbrev pub expire_name : List ℕ → List Row → List Row
+expire_name name rows = changed (is_named name) expired_row rows
 
 -- the rows without it
 abbrev pub remove_name : List ℕ → List Row → List Row
@@ -40,12 +40,12 @@ abbrev pub put_groups : Row → DomainGroups → DomainGroups
 put_groups row groups = put_at (put_paths row) (domain_text row.domain) groups
 
 -- the row of a path and a name expired
-abbrev pub end_paths : List ℕ → List ℕ → PathGroups → PathGroups
-end_paths path name paths = changed_at (end_name name) path paths
+abbrev pub expire_paths : List ℕ → List ℕ → PathGroups → PathGroups
+expire_paths path name paths = changed_at (expire_name name) path paths
 
 -- the row of a key expired
-abbrev pub end_groups : Key → DomainGroups → DomainGroups
-end_groups key groups = changed_at (end_paths key.path key.name) key.domain groups
+abbrev pub expire_groups : Key → DomainGroups → DomainGroups
+expire_groups key groups = changed_at (expire_paths key.path key.name) key.domain groups
 
 -- the row of a path and a name removed
 abbrev pub remove_paths : List ℕ → List ℕ → PathGroups → PathGroups

@@ -10,7 +10,7 @@ use Rattle.cookie_parts.specs.Domain.{domain_text}
 use Rattle.cookie_parts.specs.declared.store_action.StoreAction.TheVariants.{Inserted}
 use Rattle.cookie_laws.specs.Acceptance.{store_by}
 use Rattle.cookie_laws.specs.Contents as Store
-use Rattle.cookie_laws.specs.Contents.{Contents, eviction_order, contents_of, has_expired, keep, evicted, without}
+use Rattle.cookie_laws.specs.Contents.{Contents, eviction_order, contents_of, has_expired, with_cookie, evicted, without}
 use Rattle.cookie_laws.specs.Rows.{Key, RowsInOrder, differ, key_at, key_of, add_created, put, row_of, same_domain, same_key}
 use Rattle.cookie_lookup.specs.Groups.{flat}
 use Rattle.cookie_rows.specs.Groups.{lessened_at}
@@ -18,12 +18,12 @@ use Rattle.cookie_rows.specs.Items.{AreItems, Item, ItemGroups, ItemPaths, bare,
 use Rattle.cookie_rows.specs.Eviction.{InsertsInDomains, IsFirstSurvivor, EvictionRank, comes_before, insert_in_domains, filter_paths, paths_of, survives, rank_of, ranks_of}
 use Rattle.cookie_rows.proofs.AreItems.{found_items, items_put, kept_put}
 use Rattle.cookie_rows.proofs.ByNumber.{all_map}
-use Rattle.cookie_rows.proofs.Entering.{entered_is}
+use Rattle.cookie_rows.proofs.StoredThenEvicted.{entered_is}
 use Rattle.cookie_rows.proofs.FilteredGroups.{all_append, all_filter, all_take, differ-filter, made_domain, made_near, map-filter, none_elsewhere, numbered_near}
-use Rattle.cookie_rows.proofs.LeftItems.{Agrees, EachIn, agrees, each_in_both, each_numbered, each_of_domain, has_ended_item, items_left, kept_left}
+use Rattle.cookie_rows.proofs.LeftItems.{Agrees, EachIn, agrees, each_in_both, each_numbered, each_of_domain, has_expired_item, items_left, kept_left}
 use Rattle.cookie_rows.proofs.Made.{keys_differ, texts_differ}
 use Rattle.cookie_rows.proofs.RankOrder.{not_before_itself, rank_at_place, ranks_order}
-use Rattle.cookie_rows.proofs.Eviction.{entry_rank, in_turn, leaving_entries, ordered_filtered, ordered_moved, sorted_ranks, ranks_before}
+use Rattle.cookie_rows.proofs.Eviction.{entry_rank, in_eviction_order, leaving_entries, ordered_filtered, ordered_moved, sorted_ranks, ranks_before}
 
 -- double negation
 not_not : (b : Bool) → not (not b) ≡ b
@@ -118,15 +118,15 @@ module _ (n limit : ℕ) (gs : ItemGroups) (a : AreItems n gs) (row : Row) (now 
   turned_are : (xs : List (Key × ℕ)) → eviction_order now (flat (bare gs)) (map (λ x. x.0) xs)
       ≡ map (λ x. x.0) (filter expired_row xs ++ filter (λ e. not (expired_row e)) xs)
   turned_are xs =
-      let now_ended = has_expired now (flat (bare gs)) in
-      ap₂ (λ ks ls. ks ++ ls) (sym (map-filter (λ (x : Key × ℕ). x.0) now_ended xs)) (sym (map-filter (λ (x : Key × ℕ). x.0) (λ key. not (now_ended key)) xs))
+      let now_expired = has_expired now (flat (bare gs)) in
+      ap₂ (λ ks ls. ks ++ ls) (sym (map-filter (λ (x : Key × ℕ). x.0) now_expired xs)) (sym (map-filter (λ (x : Key × ℕ). x.0) (λ key. not (now_expired key)) xs))
       ∙ sym (map-append (λ (x : Key × ℕ). x.0) (filter expired_row xs) (filter (λ e. not (expired_row e)) xs))
 
   -- how many of them are evicted
   count : length (filter (same_domain (key_of row)) (creation_order gs)) ≡ length entries
   count = ap length made_are ∙ length-map (by_number entries) (λ x. x.0) ∙ length_ordered entries
 
-  leave_is : leave ≡ take (length entries + 1 - limit) (map (λ x. x.0) (in_turn expired_row entries))
+  leave_is : leave ≡ take (length entries + 1 - limit) (map (λ x. x.0) (in_eviction_order expired_row entries))
   leave_is = λ i. take (count i + 1 - limit) ((ap (eviction_order now (flat (bare gs))) made_are ∙ turned_are (by_number entries)) i)
 
   -- they are of the domain
@@ -140,12 +140,12 @@ module _ (n limit : ℕ) (gs : ItemGroups) (a : AreItems n gs) (row : Row) (now 
       (all_append near (filter past mine) (filter (λ key. not (past key)) mine) (all_filter near past mine all) (all_filter near (λ key. not (past key)) mine all))
 
   -- the row of each entry has expired as its item's has
-  ended_are : EachIn (λ p x. expired_row (key_at domain p x.row.raw.name, x.number) ≡ is_expired now x.row) (paths_of domain gs)
-  ended_are = each_of_domain (λ d p x. has_expired now (flat (bare gs)) (key_at d p x.row.raw.name) ≡ is_expired now x.row) domain gs (has_ended_item n gs a now)
+  expired_are : EachIn (λ p x. expired_row (key_at domain p x.row.raw.name, x.number) ≡ is_expired now x.row) (paths_of domain gs)
+  expired_are = each_of_domain (λ d p x. has_expired now (flat (bare gs)) (key_at d p x.row.raw.name) ≡ is_expired now x.row) domain gs (has_expired_item n gs a now)
 
   -- the ranks of the entries are those of the items
   ranks_are : map (entry_rank expired_row) entries ≡ ranks_of now (paths_of domain gs)
-  ranks_are = entry_ranks domain now expired_row (paths_of domain gs) ended_are
+  ranks_are = entry_ranks domain now expired_row (paths_of domain gs) expired_are
 
   -- what the groups keep when it is put into them
 
@@ -154,8 +154,8 @@ module _ (n limit : ℕ) (gs : ItemGroups) (a : AreItems n gs) (row : Row) (now 
       → rows_in_order new ≡ Store.rows_in_order (store_by (Ok Inserted) store row now)
   enters_room new room is =
       let few : length entries < limit = subst (λ k. k < limit) (sym (ap length ranks_are) ∙ length-map entries (entry_rank expired_row)) room in
-      let none : leave ≡ [] = leave_is ∙ ap (λ k. take k (map (λ (x : Key × ℕ). x.0) (in_turn expired_row entries))) (no_more (length entries) limit few) in
-      ap rows_in_order is ∙ kept_put n gs a row ∙ ap (λ (s : Contents). Store.rows_in_order (keep s row)) (sym (ap (λ ks. without ks store) none ∙ without_none store))
+      let none : leave ≡ [] = leave_is ∙ ap (λ k. take k (map (λ (x : Key × ℕ). x.0) (in_eviction_order expired_row entries))) (no_more (length entries) limit few) in
+      ap rows_in_order is ∙ kept_put n gs a row ∙ ap (λ (s : Contents). Store.rows_in_order (with_cookie s row)) (sym (ap (λ ks. without ks store) none ∙ without_none store))
 
   module _ (first : EvictionRank) (is : IsFirstSurvivor limit now n (paths_of domain gs) first) where
     -- the surviving ones
@@ -169,7 +169,7 @@ module _ (n limit : ℕ) (gs : ItemGroups) (a : AreItems n gs) (row : Row) (now 
     -- the new row survives
     new_stays : test (record { row = row; number = n }) ≡ true
     new_stays =
-        let ts = in_turn expired_row entries in
+        let ts = in_eviction_order expired_row entries in
         let place : slice_get (map (entry_rank expired_row) ts ++ (true, n) ∷ []) (length is.ranks - limit) ≡ Some first
         = ap (λ xs. slice_get xs (length is.ranks - limit)) (sym (sorted_ranks expired_row entries n numbers below is.ranks moved is.sorted)) ∙ is.is in
         let last : comes_before (true, n) first ≡ false
@@ -189,7 +189,7 @@ module _ (n limit : ℕ) (gs : ItemGroups) (a : AreItems n gs) (row : Row) (now 
         (λ p x. expired_row (key_at domain p x.row.raw.name, x.number) ≡ is_expired now x.row)
         (λ p x. list_any (same_key (key_at domain p x.row.raw.name)) leave ≡ not (test x))
         (λ p x h k. h ∙ ap (λ b. comes_before (not b, x.number) first) k ∙ sym (not_not _)) (paths_of domain gs)
-        (each_numbered (λ e. list_any (same_key e.0) leave ≡ comes_before (entry_rank expired_row e) first) domain (paths_of domain gs) all') ended_are
+        (each_numbered (λ e. list_any (same_key e.0) leave ≡ comes_before (entry_rank expired_row e) first) domain (paths_of domain gs) all') expired_are
 
     -- keys are evicted as items are
     agree : Agrees domain test (λ key. list_any (same_key key) leave) gs
@@ -235,7 +235,7 @@ module _ (n limit : ℕ) (gs : ItemGroups) (a : AreItems n gs) (row : Row) (now 
 -- what a store keeps that has none
 pub kept_unlimited : (kept : RowsInOrder) (row : Row) (now : Moment)
     → record { rows = put kept.rows row; created = add_created kept.created (key_of row) } ≡ Store.rows_in_order (store_by (Ok Inserted) (contents_of kept None None) row now)
-kept_unlimited kept row now = ap (λ (s : Contents). Store.rows_in_order (keep s row)) (sym (without_none (contents_of kept None None)))
+kept_unlimited kept row now = ap (λ (s : Contents). Store.rows_in_order (with_cookie s row)) (sym (without_none (contents_of kept None None)))
 
 -- under a limit of 0
 
@@ -257,7 +257,7 @@ all_leave kept row now =
 pub kept_at_least_one : (kept : RowsInOrder) (limit : ℕ) (row : Row) (now : Moment)
     → Store.rows_in_order (store_by (Ok Inserted) (contents_of kept None (Some (max limit 1))) row now)
     ≡ Store.rows_in_order (store_by (Ok Inserted) (contents_of kept None (Some limit)) row now)
-kept_at_least_one kept zero row now = ap (λ ks. Store.rows_in_order (keep (without ks (contents_of kept None None)) row)) (all_leave kept row now)
+kept_at_least_one kept zero row now = ap (λ ks. Store.rows_in_order (with_cookie (without ks (contents_of kept None None)) row)) (all_leave kept row now)
 kept_at_least_one kept (suc limit) row now =
     let same : max (suc limit) 1 ≡ suc limit = omega arith in
     ap (λ l. Store.rows_in_order (store_by (Ok Inserted) (contents_of kept None (Some l)) row now)) same

@@ -180,12 +180,12 @@ module _ (expired_row : Key × ℕ → Bool) where
   entry_rank e = (not (expired_row e), e.1)
 
   -- entries in eviction order: first the expired ones, each part by number
-  abbrev pub in_turn : List (Key × ℕ) → List (Key × ℕ)
-  in_turn xs = filter expired_row (by_number xs) ++ filter (λ e. not (expired_row e)) (by_number xs)
+  abbrev pub in_eviction_order : List (Key × ℕ) → List (Key × ℕ)
+  in_eviction_order xs = filter expired_row (by_number xs) ++ filter (λ e. not (expired_row e)) (by_number xs)
 
   -- they are the same entries
-  pub turned : (xs : List (Key × ℕ)) → IsPermutation xs (in_turn xs)
-  turned xs = IsPermutation-trans xs (by_number xs) (in_turn xs) (ordered_moved xs) (IsPermutation-filter_both expired_row (λ e. not (expired_row e)) (λ e. refl) (by_number xs))
+  pub turned : (xs : List (Key × ℕ)) → IsPermutation xs (in_eviction_order xs)
+  turned xs = IsPermutation-trans xs (by_number xs) (in_eviction_order xs) (ordered_moved xs) (IsPermutation-filter_both expired_row (λ e. not (expired_row e)) (λ e. refl) (by_number xs))
 
   -- of entries whose numbers rise, those that pass have rising ranks, if all of them have expired or none has
   rises_passing : (p : Key × ℕ → Bool) (b : Bool) → ((e : Key × ℕ) → p e ≡ true → not (expired_row e) ≡ b) → (zs : List (Key × ℕ)) → NumbersRise zs → Rises entry_rank (filter p zs)
@@ -201,7 +201,7 @@ module _ (expired_row : Key × ℕ → Bool) where
       (λ _. rises_passing p b same zs r.1)
 
   -- entries whose numbers differ have rising ranks
-  pub ranks_rise : (xs : List (Key × ℕ)) → differ nat_eq (map (λ x. x.1) xs) ≡ true → Rises entry_rank (in_turn xs)
+  pub ranks_rise : (xs : List (Key × ℕ)) → differ nat_eq (map (λ x. x.1) xs) ≡ true → Rises entry_rank (in_eviction_order xs)
   ranks_rise xs d =
       let zs = by_number xs in
       let r = numbers_rise xs d in
@@ -210,24 +210,24 @@ module _ (expired_row : Key × ℕ → Bool) where
       (rises_passing expired_row false (λ e h. ap not h) zs r) (rises_passing (λ e. not (expired_row e)) true (λ e h. h) zs r)
 
   -- all come before a new entry, whose number is above theirs
-  pub ranks_before : (xs : List (Key × ℕ)) (n : ℕ) → AllByRecursion (λ x. x.1 < n) xs → AllByRecursion (λ e. comes_before (entry_rank e) (true, n) ≡ true) (in_turn xs)
+  pub ranks_before : (xs : List (Key × ℕ)) (n : ℕ) → AllByRecursion (λ x. x.1 < n) xs → AllByRecursion (λ e. comes_before (entry_rank e) (true, n) ≡ true) (in_eviction_order xs)
   ranks_before xs n b =
       all_map (λ x. x.1 < n) (λ e. comes_before (entry_rank e) (true, n) ≡ true) (λ e l. before_new (entry_rank e) n l)
-      (in_turn xs) (all_moved (λ x. x.1 < n) xs (in_turn xs) (turned xs) b)
+      (in_eviction_order xs) (all_moved (λ x. x.1 < n) xs (in_eviction_order xs) (turned xs) b)
 
   -- entries whose keys differ do so in their ranks
-  pub keys_in_turn : (xs : List (Key × ℕ)) → differ same_key (map (λ x. x.0) xs) ≡ true → differ same_key (map (λ x. x.0) (in_turn xs)) ≡ true
-  keys_in_turn xs d = differ_moved same_key same_key_equiv.symm (map (λ x. x.0) xs) (map (λ x. x.0) (in_turn xs)) (IsPermutation-map (λ x. x.0) xs (in_turn xs) (turned xs)) d
+  pub keys_in_eviction_order : (xs : List (Key × ℕ)) → differ same_key (map (λ x. x.0) xs) ≡ true → differ same_key (map (λ x. x.0) (in_eviction_order xs)) ≡ true
+  keys_in_eviction_order xs d = differ_moved same_key same_key_equiv.symm (map (λ x. x.0) xs) (map (λ x. x.0) (in_eviction_order xs)) (IsPermutation-map (λ x. x.0) xs (in_eviction_order xs) (turned xs)) d
 
   module _ (xs : List (Key × ℕ)) (n : ℕ) (numbers : differ nat_eq (map (λ x. x.1) xs) ≡ true) (below : AllByRecursion (λ x. x.1 < n) xs)
       (ranks : List EvictionRank) (moved : IsPermutation (map entry_rank xs ++ (true, n) ∷ []) ranks) where
     -- the ranks of the entries and that of a new one, sorted, are those of the entries in their ranks, and then that of the new one
-    pub sorted_ranks : IsSorted rank_cmp ranks → ranks ≡ map entry_rank (in_turn xs) ++ (true, n) ∷ []
+    pub sorted_ranks : IsSorted rank_cmp ranks → ranks ≡ map entry_rank (in_eviction_order xs) ++ (true, n) ∷ []
     sorted_ranks sorted =
         let unsorted : List EvictionRank = map entry_rank xs ++ (true, n) ∷ [] in
-        let all : List EvictionRank = map entry_rank (in_turn xs) ++ (true, n) ∷ [] in
-        let same = IsPermutation-append_left ((true, n) ∷ []) (map entry_rank xs) (map entry_rank (in_turn xs)) (IsPermutation-map entry_rank xs (in_turn xs) (turned xs)) in
-        let ascends = ascends_ranks entry_rank (true, n) (in_turn xs) (ranks_rise xs numbers) (ranks_before xs n below) in
+        let all : List EvictionRank = map entry_rank (in_eviction_order xs) ++ (true, n) ∷ [] in
+        let same = IsPermutation-append_left ((true, n) ∷ []) (map entry_rank xs) (map entry_rank (in_eviction_order xs)) (IsPermutation-map entry_rank xs (in_eviction_order xs) (turned xs)) in
+        let ascends = ascends_ranks entry_rank (true, n) (in_eviction_order xs) (ranks_rise xs numbers) (ranks_before xs n below) in
         sorted_is unsorted ranks all (λ f. sym (sum_by-IsPermutation f unsorted all same)) ascends moved sorted
 
     -- one more than there are entries
@@ -240,12 +240,12 @@ module _ (expired_row : Key × ℕ → Bool) where
     -- of entries whose keys differ, those evicted so that with a new one at most the limit remain are those whose
     -- ranks come before the first that survives
     pub leaving_entries : differ same_key (map (λ x. x.0) xs) ≡ true → IsSorted rank_cmp ranks → (limit : ℕ) (first : EvictionRank) → slice_get ranks (length ranks - limit) ≡ Some first
-        → AllByRecursion (λ e. list_any (same_key e.0) (take (length xs + 1 - limit) (map (λ f. f.0) (in_turn xs))) ≡ comes_before (entry_rank e) first) xs
+        → AllByRecursion (λ e. list_any (same_key e.0) (take (length xs + 1 - limit) (map (λ f. f.0) (in_eviction_order xs))) ≡ comes_before (entry_rank e) first) xs
     leaving_entries keys sorted limit first is =
-        let ts = in_turn xs in
+        let ts = in_eviction_order xs in
         let k = length xs + 1 - limit in
         let all = sorted_ranks sorted in
         let moves : slice_get ranks (length ranks - limit) ≡ slice_get (map entry_rank ts ++ (true, n) ∷ []) k = λ i. slice_get (all i) (count_ranks i - limit) in
-        let leave = leaves_before entry_rank (true, n) ts (ranks_rise xs numbers) (keys_in_turn xs keys) (ranks_before xs n below) k first (sym moves ∙ is) in
+        let leave = leaves_before entry_rank (true, n) ts (ranks_rise xs numbers) (keys_in_eviction_order xs keys) (ranks_before xs n below) k first (sym moves ∙ is) in
         let back = all_moved (λ e. list_any (same_key e.0) (map (λ f. f.0) (take k ts)) ≡ comes_before (entry_rank e) first) ts xs (IsPermutation-sym xs ts (turned xs)) leave in
         subst (λ evicted. AllByRecursion (λ e. list_any (same_key e.0) evicted ≡ comes_before (entry_rank e) first) xs) (sym (take-map (λ (f : Key × ℕ). f.0) k ts)) back

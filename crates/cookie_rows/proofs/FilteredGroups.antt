@@ -8,11 +8,11 @@ use Rattle.std.proofs.lemmas.List.Elements.{filter-append}
 use Rattle.std.proofs.lemmas.Slice.Eq.{bytes_eq-Decides}
 use Rattle.cookie_parts.specs.Cookie.{Row}
 use Rattle.cookie_laws.specs.Rows.{Key, key_of, same_domain, same_key, same_domain_equiv, same_group_equiv, differ, are_adjacent, are_rows}
-use Rattle.cookie_lookup.specs.Groups.{PathGroups, Of, Filled, ArePaths, AreGroups}
+use Rattle.cookie_lookup.specs.Groups.{PathGroups, HasDomainAndPath, Filled, ArePaths, AreGroups}
 use Rattle.cookie_rows.specs.Groups.{lessened_at}
 use Rattle.cookie_rows.specs.Items.{Item, ItemPaths, ItemGroups, rows_of, bare_paths, bare, numbered_names, numbered_paths, numbered, by_number, creation_order}
 use Rattle.cookie_rows.specs.Eviction.{is_filled, filter_paths, paths_of}
-use Rattle.cookie_rows.proofs.Bare.{seen_texts}
+use Rattle.cookie_rows.proofs.Bare.{viewed_texts}
 use Rattle.cookie_rows.proofs.ByNumber.{all_map, all_ordered}
 use Rattle.cookie_rows.proofs.RowsInOrder.{differ_lessened, all_lessened}
 use Rattle.cookie_rows.proofs.KeptOrder.{are_keys}
@@ -146,12 +146,12 @@ module _ (test : Item → Bool) where
   texts_tested (p ∷ ps) = ap (λ ts. p.0 ∷ ts) (texts_tested ps)
 
   -- items that are left are of their domain and path
-  of_filter : (d p : List ℕ) (xs : List Item) → AllByRecursion (Of d p) (rows_of xs) → AllByRecursion (Of d p) (rows_of (filter test xs))
+  of_filter : (d p : List ℕ) (xs : List Item) → AllByRecursion (HasDomainAndPath d p) (rows_of xs) → AllByRecursion (HasDomainAndPath d p) (rows_of (filter test xs))
   of_filter d p xs a =
-      all_to_map (λ (x : Item). x.row) (Of d p) (filter test xs) (all_filter (λ (x : Item). Of d p x.row) test xs (all_from_map (λ (x : Item). x.row) (Of d p) xs a))
+      all_to_map (λ (x : Item). x.row) (HasDomainAndPath d p) (filter test xs) (all_filter (λ (x : Item). HasDomainAndPath d p x.row) test xs (all_from_map (λ (x : Item). x.row) (HasDomainAndPath d p) xs a))
 
   -- a group that is kept if there is something in it is not empty
-  filled_next : (d p : List ℕ) (xs : List Item) (ps : ItemPaths) → AllByRecursion (Of d p) (rows_of xs) → Filled d (bare_paths ps) → Filled d (bare_paths (cond (is_filled (p, xs)) ((p, xs) ∷ ps) ps))
+  filled_next : (d p : List ℕ) (xs : List Item) (ps : ItemPaths) → AllByRecursion (HasDomainAndPath d p) (rows_of xs) → Filled d (bare_paths ps) → Filled d (bare_paths (cond (is_filled (p, xs)) ((p, xs) ∷ ps) ps))
   filled_next d p [] ps a b = b
   filled_next d p (x ∷ xs) ps a b = ((omega arith, a), b)
 
@@ -163,7 +163,7 @@ module _ (test : Item → Bool) where
   -- groups of a domain
   pub paths_passing : (d : List ℕ) (ps : ItemPaths) → ArePaths d (bare_paths ps) → ArePaths d (bare_paths (filter_paths test ps))
   paths_passing d ps a =
-      let all = λ (qs : ItemPaths). seen_texts (λ (x : Item). x.row) qs in
+      let all = λ (qs : ItemPaths). viewed_texts (λ (x : Item). x.row) qs in
       let before : differ bytes_eq (map (λ p. p.0) (tested ps)) ≡ true = ap (differ bytes_eq) (texts_tested ps ∙ sym (all ps)) ∙ a.0 in
       let after : differ bytes_eq (map (λ p. p.0) (filter_paths test ps)) ≡ true = differ-filter (λ (p : List ℕ × List Item). p.0) is_filled bytes_eq (tested ps) before in
       (ap (differ bytes_eq) (all (filter_paths test ps)) ∙ after, filled_passing d ps a.1)
@@ -182,7 +182,7 @@ module _ (test : Item → Bool) where
       let paths = all_lessened (filter_paths test) d (λ g. (0 < length (bare_paths g.1)) × ArePaths g.0 (bare_paths g.1)) gs
       (λ k v h some. (some_bare (filter_paths test v) some, paths_passing k v h.1))
       (all_from_map see (λ g. (0 < length g.1) × ArePaths g.0 g.1) gs a.1) in (
-        ap (differ bytes_eq) (seen_texts (λ (p : List ℕ × List Item). (p.0, rows_of p.1)) left) ∙ domains,
+        ap (differ bytes_eq) (viewed_texts (λ (p : List ℕ × List Item). (p.0, rows_of p.1)) left) ∙ domains,
         all_to_map see (λ g. (0 < length g.1) × ArePaths g.0 g.1) left paths,
       )
 

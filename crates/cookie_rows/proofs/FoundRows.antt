@@ -6,13 +6,13 @@ use Rattle.std.proofs.lemmas.Bool.Decides.{nat_tests}
 use Rattle.cookie_parts.specs.Cookie.{Row, expired_row}
 use Rattle.cookie_laws.specs.Rows.{Key, in_group, has_key, differ, changed, removed, row_of}
 use Rattle.cookie_lookup.specs.Groups.{PathGroups, DomainGroups, flat_paths, flat, Filled, AreGroups}
-use Rattle.cookie_rows.specs.Groups.{is_named, row_named, kept}
-use Rattle.cookie_rows.proofs.BareGroups.{end_name, remove_name, find_paths, find_groups, end_paths, end_groups, remove_paths, remove_groups}
+use Rattle.cookie_rows.specs.Groups.{is_named, row_named, unless_empty}
+use Rattle.cookie_rows.proofs.BareGroups.{expire_name, remove_name, find_paths, find_groups, expire_paths, expire_groups, remove_paths, remove_groups}
 use Rattle.cookie_rows.proofs.Flat.{changed_right, changed_left, removed_right, removed_left, find_right, find_left}
 use Rattle.cookie_rows.proofs.Members.{absent, no_group_rows, all_group_rows, no_key, no_group, by_name, no_group_paths, no_domain_paths, no_domain_groups}
 
 -- a group that is kept or dropped gives the same rows
-flat_kept : {X : Type 0} (F : List X → List Row) → F [] ≡ [] → (text : List ℕ) (v : List X) (gs : List (List ℕ × List X)) → flat_map (λ g. F g.1) (kept text v gs) ≡ F v ++ flat_map (λ g. F g.1) gs
+flat_kept : {X : Type 0} (F : List X → List Row) → F [] ≡ [] → (text : List ℕ) (v : List X) (gs : List (List ℕ × List X)) → flat_map (λ g. F g.1) (unless_empty text v gs) ≡ F v ++ flat_map (λ g. F g.1) gs
 flat_kept F e text [] gs = ap (λ xs. xs ++ flat_map (λ g. F g.1) gs) (sym e)
 flat_kept F e text (x ∷ xs) gs = refl
 
@@ -25,11 +25,11 @@ module _ (key : Key) where
   names_found (x ∷ xs) a = grind (arith, nat_tests, by_name key x a.0, names_found xs a.1)
 
   -- it is expired as that is
-  names_ended : (xs : List Row) → AllByRecursion (λ r. in_group key r ≡ true) xs → changed (has_key key) expired_row xs ≡ end_name key.name xs
-  names_ended [] a = refl
-  names_ended (x ∷ xs) a = elim (cases_Bool (is_named key.name x)) [
+  names_expired : (xs : List Row) → AllByRecursion (λ r. in_group key r ≡ true) xs → changed (has_key key) expired_row xs ≡ expire_name key.name xs
+  names_expired [] a = refl
+  names_expired (x ∷ xs) a = elim (cases_Bool (is_named key.name x)) [
     | inl t ↦ rw (by_name key x a.0, t) refl
-    | inr t ↦ rw (by_name key x a.0, t) (ap (λ ys. x ∷ ys) (names_ended xs a.1))
+    | inr t ↦ rw (by_name key x a.0, t) (ap (λ ys. x ∷ ys) (names_expired xs a.1))
   ]
 
   -- it goes as that does
@@ -57,13 +57,13 @@ module _ (key : Key) where
       ]
 
   -- it is expired there
-  ended_in_paths : (d : List ℕ) (ps : PathGroups) → bytes_eq key.domain d ≡ true → differ bytes_eq (map (λ p. p.0) ps) ≡ true → Filled d ps → changed (has_key key) expired_row (flat_paths ps) ≡ flat_paths (end_paths key.path key.name ps)
-  ended_in_paths d [] e k a = refl
-  ended_in_paths d (p ∷ ps) e k a =
+  expired_in_paths : (d : List ℕ) (ps : PathGroups) → bytes_eq key.domain d ≡ true → differ bytes_eq (map (λ p. p.0) ps) ≡ true → Filled d ps → changed (has_key key) expired_row (flat_paths ps) ≡ flat_paths (expire_paths key.path key.name ps)
+  expired_in_paths d [] e k a = refl
+  expired_in_paths d (p ∷ ps) e k a =
       let after : differ bytes_eq (map (λ p. p.0) ps) ≡ true = grind (arith, nat_tests, k) in
       elim (cases_Bool (bytes_eq key.path p.0)) [
-        | inl f ↦ rw f (changed_left (has_key key) expired_row p.1 (flat_paths ps) (behind_path d p ps k a.1 f) ∙ ap (λ xs. xs ++ flat_paths ps) (names_ended p.1 (all_group_rows key d p.0 p.1 a.0.1 e f)))
-        | inr f ↦ rw f (changed_right (has_key key) expired_row p.1 (flat_paths ps) (no_key key p.1 (no_group_rows key d p.0 p.1 a.0.1 f)) ∙ ap (λ ys. p.1 ++ ys) (ended_in_paths d ps e after a.1))
+        | inl f ↦ rw f (changed_left (has_key key) expired_row p.1 (flat_paths ps) (behind_path d p ps k a.1 f) ∙ ap (λ xs. xs ++ flat_paths ps) (names_expired p.1 (all_group_rows key d p.0 p.1 a.0.1 e f)))
+        | inr f ↦ rw f (changed_right (has_key key) expired_row p.1 (flat_paths ps) (no_key key p.1 (no_group_rows key d p.0 p.1 a.0.1 f)) ∙ ap (λ ys. p.1 ++ ys) (expired_in_paths d ps e after a.1))
       ]
 
   -- it goes there
@@ -101,11 +101,11 @@ module _ (key : Key) where
   ]
 
   -- it is expired in them
-  pub ended_in_groups : (gs : DomainGroups) → AreGroups gs → changed (has_key key) expired_row (flat gs) ≡ flat (end_groups key gs)
-  ended_in_groups [] a = refl
-  ended_in_groups (g ∷ gs) a = elim (cases_Bool (bytes_eq key.domain g.0)) [
-    | inl f ↦ rw f (changed_left (has_key key) expired_row (flat_paths g.1) (flat gs) (behind_domain g gs a f) ∙ ap (λ xs. xs ++ flat gs) (ended_in_paths g.0 g.1 f a.1.0.1.0 a.1.0.1.1))
-    | inr f ↦ rw f (changed_right (has_key key) expired_row (flat_paths g.1) (flat gs) (other_domain g gs a f) ∙ ap (λ ys. flat_paths g.1 ++ ys) (ended_in_groups gs (rest_are g gs a)))
+  pub expired_in_groups : (gs : DomainGroups) → AreGroups gs → changed (has_key key) expired_row (flat gs) ≡ flat (expire_groups key gs)
+  expired_in_groups [] a = refl
+  expired_in_groups (g ∷ gs) a = elim (cases_Bool (bytes_eq key.domain g.0)) [
+    | inl f ↦ rw f (changed_left (has_key key) expired_row (flat_paths g.1) (flat gs) (behind_domain g gs a f) ∙ ap (λ xs. xs ++ flat gs) (expired_in_paths g.0 g.1 f a.1.0.1.0 a.1.0.1.1))
+    | inr f ↦ rw f (changed_right (has_key key) expired_row (flat_paths g.1) (flat gs) (other_domain g gs a f) ∙ ap (λ ys. flat_paths g.1 ++ ys) (expired_in_groups gs (rest_are g gs a)))
   ]
 
   -- it goes from them

@@ -21,13 +21,13 @@ use Rattle.cookie_laws.specs.Contents.{contents_of}
 use Rattle.cookie_laws.specs.Given.{given}
 use Rattle.cookie_laws.specs.Header.{creation, header_order, InHeaderOrder}
 use Rattle.cookie_laws.specs.Rows.{Key, differ, key_at, key_of, same_key, same_key-true, same_key_equiv}
-use Rattle.cookie_lookup.specs.Groups.{ArePaths, Filled, Of, flat}
+use Rattle.cookie_lookup.specs.Groups.{ArePaths, Filled, HasDomainAndPath, flat}
 use Rattle.cookie_lookup.specs.SearchView.{RowPosition, given_positions, list_of, rows_at, under}
 use Rattle.cookie_rows.specs.HeaderItems.{item_order, items_at}
 use Rattle.cookie_rows.specs.Items.{AreItems, Item, ItemGroups, ItemPaths, bare, bare_paths, by_number, rows_in_order, creation_order, numbered, numbered_names, numbered_paths, place, rows_of}
 use Rattle.cookie_rows.proofs.ByNumber.{all_map, all_ordered, all_place, any_ordered}
 use Rattle.cookie_rows.proofs.Made.{keys_differ}
-use Rattle.cookie_rows.proofs.MadeOnce.{differ_order}
+use Rattle.cookie_rows.proofs.AreCreationKeys.{differ_order}
 use Rattle.cookie_rows.proofs.Places.{bare_rows}
 
 -- numbered keys
@@ -177,7 +177,7 @@ itself : (x : Entry) → is_entry x x ≡ true
 itself x = let key : same_key x.0 x.0 ≡ true = same_key_equiv.refl x.0 in grind (arith, nat_tests, key)
 
 -- the row at a place of a group
-in_names : (d p : List ℕ) (items : List Item) (n : ℕ) (item : Item) → AllByRecursion (Of d p) (rows_of items)
+in_names : (d p : List ℕ) (items : List Item) (n : ℕ) (item : Item) → AllByRecursion (HasDomainAndPath d p) (rows_of items)
     → slice_get items n ≡ Some item → IsIn (numbered_names d p items) item
 in_names d p [] n item of there = absurd (cc)
 in_names d p (x ∷ xs) zero item of there =

@@ -10,8 +10,8 @@ use Rattle.cookie_parts.specs.Cookie.{Row, is_expired}
 use Rattle.cookie_parts.specs.Hosts.{passes}
 use Rattle.cookie_laws.specs.Contents.{has_expired}
 use Rattle.cookie_laws.specs.Rows.{Key, key_at, key_of, same_key, same_key_equiv, row_of, differ, are_rows}
-use Rattle.cookie_lookup.specs.Groups.{flat, flat_paths, Of, Filled, ArePaths}
-use Rattle.cookie_rows.specs.Groups.{kept, lessened_at}
+use Rattle.cookie_lookup.specs.Groups.{flat, flat_paths, HasDomainAndPath, Filled, ArePaths}
+use Rattle.cookie_rows.specs.Groups.{unless_empty, lessened_at}
 use Rattle.cookie_rows.specs.Items.{Item, ItemPaths, ItemGroups, AreItems, rows_of, bare_paths, bare, numbered_paths, numbered, by_number, creation_order, rows_in_order}
 use Rattle.cookie_rows.specs.Eviction.{is_filled, filter_paths, paths_of}
 use Rattle.cookie_rows.proofs.ByNumber.{all_map}
@@ -83,7 +83,7 @@ module _ (P : Row → Type 0) where
 -- its key is of its domain and path
 
 -- among items
-each_key_names : (d p : List ℕ) (xs : List Item) → AllByRecursion (Of d p) (rows_of xs) → AllByRecursion (λ x. key_of x.row ≡ key_at d p x.row.raw.name) xs
+each_key_names : (d p : List ℕ) (xs : List Item) → AllByRecursion (HasDomainAndPath d p) (rows_of xs) → AllByRecursion (λ x. key_of x.row ≡ key_at d p x.row.raw.name) xs
 each_key_names d p [] a = tt
 each_key_names d p (x ∷ xs) a = (λ i. key_at (a.0.0 i) (a.0.1 i) x.row.raw.name, each_key_names d p xs a.1)
 
@@ -128,8 +128,8 @@ module _ (n : ℕ) (gs : ItemGroups) (a : AreItems n gs) where
       (each_key gs a.0.1) (each_row (λ r. row_of (key_of r) rows ≡ Some r) gs (all_found key_of rows (and_parts _ _ a.1).0))
 
   -- and has expired if that has
-  pub has_ended_item : (now : Moment) → Each (λ d p x. has_expired now (flat (bare gs)) (key_at d p x.row.raw.name) ≡ is_expired now x.row) gs
-  has_ended_item now =
+  pub has_expired_item : (now : Moment) → Each (λ d p x. has_expired now (flat (bare gs)) (key_at d p x.row.raw.name) ≡ is_expired now x.row) gs
+  has_expired_item now =
       let rows = flat (bare gs) in
       each_map (λ d p x. row_of (key_at d p x.row.raw.name) rows ≡ Some x.row) (λ d p x. has_expired now rows (key_at d p x.row.raw.name) ≡ is_expired now x.row)
       (λ d p x found. ap (passes (is_expired now)) found) gs row_of_item
@@ -163,7 +163,7 @@ module _ {Y : Type 0} where
   listed_next of p (x ∷ xs) ps = refl
 
   -- and so does a domain
-  listed_kept : (of : List ℕ → List ℕ → Item → Y) (d : List ℕ) (ps : ItemPaths) (gs : ItemGroups) → listed of (kept d ps gs) ≡ listed_in (of d) ps ++ listed of gs
+  listed_kept : (of : List ℕ → List ℕ → Item → Y) (d : List ℕ) (ps : ItemPaths) (gs : ItemGroups) → listed of (unless_empty d ps gs) ≡ listed_in (of d) ps ++ listed of gs
   listed_kept of d [] gs = refl
   listed_kept of d (p ∷ ps) gs = refl
 

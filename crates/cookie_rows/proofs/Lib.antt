@@ -1,4 +1,5 @@
 pub mod AfterLast
+pub mod AreCreationKeys
 pub mod AreItems
 pub mod Bare
 pub mod BareGroups
@@ -7,17 +8,15 @@ pub mod ByNumber
 pub mod ChosenRank
 pub mod Copies
 pub mod Entered
-pub mod Entering
+pub mod Eviction
 pub mod FilteredGroups
 pub mod Flat
 pub mod FoundRows
 pub mod HeaderItems
 pub mod Joined
-pub mod RowsInOrder
 pub mod KeptOrder
 pub mod LeftItems
 pub mod Made
-pub mod MadeOnce
 pub mod Maps
 pub mod Members
 pub mod Named
@@ -26,9 +25,10 @@ pub mod NumberedTakes
 pub mod Ordered
 pub mod Places
 pub mod Puts
+pub mod RankOrder
 pub mod Removed
 pub mod Results
+pub mod RowsInOrder
 pub mod StandTogether
-pub mod RankOrder
-pub mod Eviction
+pub mod StoredThenEvicted
 pub mod UnexpiredItems

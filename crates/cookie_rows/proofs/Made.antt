@@ -6,11 +6,11 @@ use Rattle.std.proofs.lemmas.Bool.{and_parts, cases_Bool}
 use Rattle.std.proofs.lemmas.List.{map-append}
 use Rattle.cookie_parts.specs.Cookie.{Row}
 use Rattle.cookie_laws.specs.Rows.{Key, key_of, key_at, same_key, has_key, row_of, add_created, removed, differ, are_rows}
-use Rattle.cookie_lookup.specs.Groups.{flat, flat_paths, Of, ArePaths, AreGroups}
+use Rattle.cookie_lookup.specs.Groups.{flat, flat_paths, HasDomainAndPath, ArePaths, AreGroups}
 use Rattle.cookie_rows.specs.Groups.{is_named}
 use Rattle.cookie_rows.specs.Items.{Item, ItemPaths, ItemGroups, rows_of, bare_paths, bare, put_items, expire_item, expire_item_paths, expire_items, remove_items, numbered_names, numbered_paths, numbered, by_number, creation_order, Below, NumbersDiffer}
 use Rattle.cookie_rows.proofs.AfterLast.{list_any-map}
-use Rattle.cookie_rows.proofs.Bare.{seen_texts}
+use Rattle.cookie_rows.proofs.Bare.{viewed_texts}
 use Rattle.cookie_rows.proofs.ByNumber.{all_map, all_gained, all_lost, differ_gained, differ_lost, any_ordered, ordered_gained}
 use Rattle.cookie_rows.proofs.Flat.{find_none}
 use Rattle.cookie_rows.proofs.NumberedPuts.{is_key, PathsDiffer, TextsDiffer, puts}
@@ -22,16 +22,16 @@ use Rattle.cookie_rows.proofs.Ordered.{ordered_removed}
 -- in each domain the paths
 paths_differ : (gs : ItemGroups) → AllByRecursion (λ g. (0 < length g.1) × ArePaths g.0 g.1) (bare gs) → AllByRecursion (λ g. PathsDiffer g.1) gs
 paths_differ [] a = tt
-paths_differ (g ∷ gs) a = (ap (differ bytes_eq) (sym (seen_texts (λ (i : Item). i.row) g.1)) ∙ a.0.1.0, paths_differ gs a.1)
+paths_differ (g ∷ gs) a = (ap (differ bytes_eq) (sym (viewed_texts (λ (i : Item). i.row) g.1)) ∙ a.0.1.0, paths_differ gs a.1)
 
 -- and the domains
 pub texts_differ : (gs : ItemGroups) → AreGroups (bare gs) → TextsDiffer gs
-texts_differ gs a = (ap (differ bytes_eq) (sym (seen_texts (λ (p : List ℕ × List Item). (p.0, rows_of p.1)) gs)) ∙ a.0, paths_differ gs a.1)
+texts_differ gs a = (ap (differ bytes_eq) (sym (viewed_texts (λ (p : List ℕ × List Item). (p.0, rows_of p.1)) gs)) ∙ a.0, paths_differ gs a.1)
 
 -- the keys of rows are those that are numbered
 
 -- in a group
-keys_names : (d p : List ℕ) (xs : List Item) → AllByRecursion (Of d p) (rows_of xs) → map key_of (rows_of xs) ≡ map (λ x. x.0) (numbered_names d p xs)
+keys_names : (d p : List ℕ) (xs : List Item) → AllByRecursion (HasDomainAndPath d p) (rows_of xs) → map key_of (rows_of xs) ≡ map (λ x. x.0) (numbered_names d p xs)
 keys_names d p [] a = refl
 keys_names d p (x ∷ xs) a =
     ap (λ k. k ∷ map key_of (rows_of xs)) (λ i. key_at (a.0.0 i) (a.0.1 i) x.row.raw.name)
@@ -46,7 +46,7 @@ keys_both rs qs ks ls a b =
     ∙ sym (map-append (λ (x : Key × ℕ). x.0) ks ls)
 
 -- in a domain
-keys_paths : (d : List ℕ) (ps : ItemPaths) → AllByRecursion (λ p. (0 < length p.1) × AllByRecursion (Of d p.0) p.1) (bare_paths ps) → map key_of (flat_paths (bare_paths ps)) ≡ map (λ x. x.0) (numbered_paths d ps)
+keys_paths : (d : List ℕ) (ps : ItemPaths) → AllByRecursion (λ p. (0 < length p.1) × AllByRecursion (HasDomainAndPath d p.0) p.1) (bare_paths ps) → map key_of (flat_paths (bare_paths ps)) ≡ map (λ x. x.0) (numbered_paths d ps)
 keys_paths d [] a = refl
 keys_paths d (p ∷ ps) a = keys_both (rows_of p.1) (flat_paths (bare_paths ps)) (numbered_names d p.0 p.1) (numbered_paths d ps) (keys_names d p.0 p.1 a.0.1) (keys_paths d ps a.1)
 
@@ -117,27 +117,27 @@ module _ (row : Row) (n : ℕ) (gs : ItemGroups) where
 
 module _ (key : Key) where
   -- in a group
-  ended_names : (d p : List ℕ) (xs : List Item) → numbered_names d p (expire_item key.name xs) ≡ numbered_names d p xs
-  ended_names d p [] = refl
-  ended_names d p (x ∷ xs) = elim (cases_Bool (is_named key.name x.row)) [
+  expired_names : (d p : List ℕ) (xs : List Item) → numbered_names d p (expire_item key.name xs) ≡ numbered_names d p xs
+  expired_names d p [] = refl
+  expired_names d p (x ∷ xs) = elim (cases_Bool (is_named key.name x.row)) [
     | inl e ↦ rw e refl
-    | inr e ↦ rw e (ap (λ ys. (key_at d p x.row.raw.name, x.number) ∷ ys) (ended_names d p xs))
+    | inr e ↦ rw e (ap (λ ys. (key_at d p x.row.raw.name, x.number) ∷ ys) (expired_names d p xs))
   ]
 
   -- in a domain
-  ended_paths : (d : List ℕ) (ps : ItemPaths) → numbered_paths d (expire_item_paths key.path key.name ps) ≡ numbered_paths d ps
-  ended_paths d [] = refl
-  ended_paths d (p ∷ ps) = elim (cases_Bool (bytes_eq key.path p.0)) [
-    | inl e ↦ rw e (ap (λ ys. ys ++ numbered_paths d ps) (ended_names d p.0 p.1))
-    | inr e ↦ rw e (ap (λ ys. numbered_names d p.0 p.1 ++ ys) (ended_paths d ps))
+  expired_paths : (d : List ℕ) (ps : ItemPaths) → numbered_paths d (expire_item_paths key.path key.name ps) ≡ numbered_paths d ps
+  expired_paths d [] = refl
+  expired_paths d (p ∷ ps) = elim (cases_Bool (bytes_eq key.path p.0)) [
+    | inl e ↦ rw e (ap (λ ys. ys ++ numbered_paths d ps) (expired_names d p.0 p.1))
+    | inr e ↦ rw e (ap (λ ys. numbered_names d p.0 p.1 ++ ys) (expired_paths d ps))
   ]
 
   -- and among all
-  pub numbered_end : (gs : ItemGroups) → numbered (expire_items key gs) ≡ numbered gs
-  numbered_end [] = refl
-  numbered_end (g ∷ gs) = elim (cases_Bool (bytes_eq key.domain g.0)) [
-    | inl e ↦ rw e (ap (λ ys. ys ++ numbered gs) (ended_paths g.0 g.1))
-    | inr e ↦ rw e (ap (λ ys. numbered_paths g.0 g.1 ++ ys) (numbered_end gs))
+  pub numbered_expire : (gs : ItemGroups) → numbered (expire_items key gs) ≡ numbered gs
+  numbered_expire [] = refl
+  numbered_expire (g ∷ gs) = elim (cases_Bool (bytes_eq key.domain g.0)) [
+    | inl e ↦ rw e (ap (λ ys. ys ++ numbered gs) (expired_paths g.0 g.1))
+    | inr e ↦ rw e (ap (λ ys. numbered_paths g.0 g.1 ++ ys) (numbered_expire gs))
   ]
 
 -- a row is removed

@@ -7,7 +7,7 @@ use Rattle.std.proofs.lemmas.Bool.{cases_Bool}
 use Rattle.indexmap.specs.IndexMap.{insert_entry}
 use Rattle.cookie_parts.specs.Cookie.{Row}
 use Rattle.cookie_laws.specs.Rows.{removed}
-use Rattle.cookie_rows.specs.Groups.{texts_of, found, put_at, changed_at, is_empty_at, kept, lessened_at}
+use Rattle.cookie_rows.specs.Groups.{texts_of, found, put_at, changed_at, is_empty_at, unless_empty, lessened_at}
 
 -- the test of a key by a name
 abbrev pub at_text : {A : Type 0} → List ℕ → String A → Bool
@@ -107,12 +107,12 @@ module _ {A X : Type 0} where
 -- a changed group is dropped if it is empty
 module _ {X : Type 0} (f : List X → List X) (q : List ℕ) where
   -- a group with something in it is kept
-  some_kept : (t : List ℕ) (v : List X) (gs : List (List ℕ × List X)) → (length v == 0) ≡ false → (t, v) ∷ gs ≡ kept t v gs
+  some_kept : (t : List ℕ) (v : List X) (gs : List (List ℕ × List X)) → (length v == 0) ≡ false → (t, v) ∷ gs ≡ unless_empty t v gs
   some_kept t [] gs h = absurd (cc)
   some_kept t (x ∷ xs) gs h = refl
 
   -- one with nothing in it is not
-  none_kept : (t : List ℕ) (v : List X) (gs : List (List ℕ × List X)) → (length v == 0) ≡ true → gs ≡ kept t v gs
+  none_kept : (t : List ℕ) (v : List X) (gs : List (List ℕ × List X)) → (length v == 0) ≡ true → gs ≡ unless_empty t v gs
   none_kept t [] gs h = refl
   none_kept t (x ∷ xs) gs h = absurd (grind arith)
 

@@ -6,7 +6,7 @@ use Rattle.std.proofs.lemmas.Slice.Eq.{bytes_eq-Decides}
 use Rattle.cookie_parts.specs.Cookie.{Row}
 use Rattle.cookie_parts.specs.Domain.{domain_text}
 use Rattle.cookie_laws.specs.Rows.{Key, in_domain, in_group, has_key, differ}
-use Rattle.cookie_lookup.specs.Groups.{PathGroups, DomainGroups, flat_paths, flat, Of, Filled, ArePaths}
+use Rattle.cookie_lookup.specs.Groups.{PathGroups, DomainGroups, flat_paths, flat, HasDomainAndPath, Filled, ArePaths}
 use Rattle.cookie_rows.specs.Groups.{is_named}
 use Rattle.cookie_rows.proofs.Flat.{any_append}
 
@@ -34,26 +34,26 @@ module _ (key : Key) where
   -- rows
 
   -- rows of another path are not of the key's domain and path
-  pub no_group_rows : (d p : List ℕ) (rows : List Row) → AllByRecursion (Of d p) rows → bytes_eq key.path p ≡ false → list_any (in_group key) rows ≡ false
+  pub no_group_rows : (d p : List ℕ) (rows : List Row) → AllByRecursion (HasDomainAndPath d p) rows → bytes_eq key.path p ≡ false → list_any (in_group key) rows ≡ false
   no_group_rows d p [] a e = refl
   no_group_rows d p (r ∷ rs) a e =
       let h : bytes_eq key.path r.path.text ≡ false = ap (bytes_eq key.path) a.0.1 ∙ e in
       grind (arith, nat_tests, h, no_group_rows d p rs a.1 e)
 
   -- rows of another domain are not of the key's
-  no_domain_rows : (d p : List ℕ) (rows : List Row) → AllByRecursion (Of d p) rows → bytes_eq key.domain d ≡ false → list_any (in_domain key) rows ≡ false
+  no_domain_rows : (d p : List ℕ) (rows : List Row) → AllByRecursion (HasDomainAndPath d p) rows → bytes_eq key.domain d ≡ false → list_any (in_domain key) rows ≡ false
   no_domain_rows d p [] a e = refl
   no_domain_rows d p (r ∷ rs) a e =
       let h : bytes_eq key.domain (domain_text r.domain) ≡ false = ap (bytes_eq key.domain) a.0.0 ∙ e in
       grind (arith, nat_tests, h, no_domain_rows d p rs a.1 e)
 
   -- rows of the key's domain
-  pub all_domain_rows : (d p : List ℕ) (rows : List Row) → AllByRecursion (Of d p) rows → bytes_eq key.domain d ≡ true → AllByRecursion (λ r. in_domain key r ≡ true) rows
+  pub all_domain_rows : (d p : List ℕ) (rows : List Row) → AllByRecursion (HasDomainAndPath d p) rows → bytes_eq key.domain d ≡ true → AllByRecursion (λ r. in_domain key r ≡ true) rows
   all_domain_rows d p [] a e = tt
   all_domain_rows d p (r ∷ rs) a e = (ap (bytes_eq key.domain) a.0.0 ∙ e, all_domain_rows d p rs a.1 e)
 
   -- rows of its domain and path
-  pub all_group_rows : (d p : List ℕ) (rows : List Row) → AllByRecursion (Of d p) rows → bytes_eq key.domain d ≡ true → bytes_eq key.path p ≡ true → AllByRecursion (λ r. in_group key r ≡ true) rows
+  pub all_group_rows : (d p : List ℕ) (rows : List Row) → AllByRecursion (HasDomainAndPath d p) rows → bytes_eq key.domain d ≡ true → bytes_eq key.path p ≡ true → AllByRecursion (λ r. in_group key r ≡ true) rows
   all_group_rows d p [] a e f = tt
   all_group_rows d p (r ∷ rs) a e f =
       let h : bytes_eq key.domain (domain_text r.domain) ≡ true = ap (bytes_eq key.domain) a.0.0 ∙ e in

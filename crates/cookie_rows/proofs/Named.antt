@@ -78,27 +78,27 @@ module _ {A : Type 0} where
 
   module _ (q : List ℕ) where
     -- the row of the name expired
-    pub named_ended : (v : Item) (es : List (String A × Item)) → AreNamed es → Some v ≡ lookup (at_text q) es → AreNamed (set_value (at_text q) es (record v { row = expired_row v.row }))
-    named_ended v [] g l = tt
-    named_ended v (e ∷ es) g l = elim (cases_Bool (at_text q e.0)) [
+    pub named_expired : (v : Item) (es : List (String A × Item)) → AreNamed es → Some v ≡ lookup (at_text q) es → AreNamed (set_value (at_text q) es (record v { row = expired_row v.row }))
+    named_expired v [] g l = tt
+    named_expired v (e ∷ es) g l = elim (cases_Bool (at_text q e.0)) [
       | inl t ↦ let l' = rw t at l in let same : e.1 ≡ v = cc in rw t (g.0 ∙ ap (λ (x : Item). x.row.raw.name) same, g.1)
-      | inr f ↦ let l' = rw f at l in rw f (g.0, named_ended v es g.1 l')
+      | inr f ↦ let l' = rw f at l in rw f (g.0, named_expired v es g.1 l')
     ]
 
     -- as in `expire_item`
-    pub end_set : (v : Item) (es : List (String A × Item)) → AreNamed es → Some v ≡ lookup (at_text q) es → values_of (set_value (at_text q) es (record v { row = expired_row v.row })) ≡ expire_item q (values_of es)
-    end_set v [] g l = absurd (cc)
-    end_set v (e ∷ es) g l = elim (cases_Bool (at_text q e.0)) [
+    pub expire_set : (v : Item) (es : List (String A × Item)) → AreNamed es → Some v ≡ lookup (at_text q) es → values_of (set_value (at_text q) es (record v { row = expired_row v.row })) ≡ expire_item q (values_of es)
+    expire_set v [] g l = absurd (cc)
+    expire_set v (e ∷ es) g l = elim (cases_Bool (at_text q e.0)) [
       | inl t ↦ let l' = rw t at l in let same : v ≡ e.1 = cc in rw (t, same_test q e g.0 true t) (ap (λ (x : Item). record x { row = expired_row x.row } ∷ values_of es) same)
-      | inr f ↦ let l' = rw f at l in rw (f, same_test q e g.0 false f) (ap (λ xs. e.1 ∷ xs) (end_set v es g.1 l'))
+      | inr f ↦ let l' = rw f at l in rw (f, same_test q e g.0 false f) (ap (λ xs. e.1 ∷ xs) (expire_set v es g.1 l'))
     ]
 
     -- there is none, so none is expired
-    pub end_none : (es : List (String A × Item)) → AreNamed es → None ≡ lookup (at_text q) es → values_of es ≡ expire_item q (values_of es)
-    end_none [] g l = refl
-    end_none (e ∷ es) g l = elim (cases_Bool (at_text q e.0)) [
+    pub expire_none : (es : List (String A × Item)) → AreNamed es → None ≡ lookup (at_text q) es → values_of es ≡ expire_item q (values_of es)
+    expire_none [] g l = refl
+    expire_none (e ∷ es) g l = elim (cases_Bool (at_text q e.0)) [
       | inl t ↦ let l' = rw t at l in absurd (cc)
-      | inr f ↦ let l' = rw f at l in rw (same_test q e g.0 false f) (ap (λ xs. e.1 ∷ xs) (end_none es g.1 l'))
+      | inr f ↦ let l' = rw f at l in rw (same_test q e g.0 false f) (ap (λ xs. e.1 ∷ xs) (expire_none es g.1 l'))
     ]
 
     -- the entry under the name was removed

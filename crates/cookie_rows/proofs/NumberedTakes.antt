@@ -4,7 +4,7 @@ use Rattle.std.specs.List.{list_any}
 use Rattle.std.proofs.lemmas.Bool.{cases_Bool}
 use Rattle.std.proofs.lemmas.Slice.Eq.{bytes_eq-Decides}
 use Rattle.cookie_laws.specs.Rows.{Key, key_at, same_key, removed}
-use Rattle.cookie_rows.specs.Groups.{is_named, kept}
+use Rattle.cookie_rows.specs.Groups.{is_named, unless_empty}
 use Rattle.cookie_rows.specs.Items.{Item, ItemPaths, ItemGroups, remove_item, remove_item_paths, remove_items, numbered_names, numbered_paths, numbered}
 use Rattle.cookie_rows.proofs.Flat.{removed_right, removed_left}
 use Rattle.cookie_rows.proofs.ByNumber.{Gains, gains_right, gains_left}
@@ -55,12 +55,12 @@ module _ {D E : Type 0} (key : Key) (zs xs ys : List (Key × ℕ)) where
   )
 
 -- a group that is kept or dropped gives the same keys
-paths_kept : (d p : List ℕ) (xs : List Item) (ps : ItemPaths) → numbered_paths d (kept p xs ps) ≡ numbered_names d p xs ++ numbered_paths d ps
+paths_kept : (d p : List ℕ) (xs : List Item) (ps : ItemPaths) → numbered_paths d (unless_empty p xs ps) ≡ numbered_names d p xs ++ numbered_paths d ps
 paths_kept d p [] ps = refl
 paths_kept d p (x ∷ xs) ps = refl
 
 -- and so does a domain
-groups_kept : (d : List ℕ) (ps : ItemPaths) (gs : ItemGroups) → numbered (kept d ps gs) ≡ numbered_paths d ps ++ numbered gs
+groups_kept : (d : List ℕ) (ps : ItemPaths) (gs : ItemGroups) → numbered (unless_empty d ps gs) ≡ numbered_paths d ps ++ numbered gs
 groups_kept d [] gs = refl
 groups_kept d (p ∷ ps) gs = refl
 

@@ -7,7 +7,7 @@ use Rattle.std.proofs.lemmas.Iterator.Adapters.{position_from-zero}
 use Rattle.std.proofs.lemmas.Option.{slice_get_within}
 use Rattle.cookie_parts.specs.Cookie.{Row}
 use Rattle.cookie_lookup.specs.Groups.{DomainGroups}
-use Rattle.cookie_lookup.specs.SearchView.{RowPosition, place_of, under, rows_at, list_of}
+use Rattle.cookie_lookup.specs.SearchView.{RowPosition, group_position, under, rows_at, list_of}
 use Rattle.cookie_rows.specs.Groups.{found, texts_of}
 use Rattle.cookie_rows.specs.HeaderItems.{items_in}
 use Rattle.cookie_rows.specs.Items.{Item, ItemGroups, bare, rows_of}
@@ -25,15 +25,15 @@ shift_none None = refl
 shift_none (Some p) = let e : 0 + p ≡ p = omega arith in ap Some e
 
 module _ {A X : Type 0} (q : List ℕ) where
-  shifted : (n : ℕ) (es : List (String A × X)) → position_from (λ k. bytes_eq q (string_bytes k)) n (keys_of es) ≡ option_map (λ p. n + p) (place_of q (texts_of es))
+  shifted : (n : ℕ) (es : List (String A × X)) → position_from (λ k. bytes_eq q (string_bytes k)) n (keys_of es) ≡ option_map (λ p. n + p) (group_position q (texts_of es))
   shifted n [] = refl
   shifted n (e ∷ es) = elim (bool_cases (bytes_eq q (string_bytes e.0))) [
     | inl t ↦ let z : n ≡ n + 0 = omega arith in rw t (ap Some z)
-    | inr t ↦ rw t (shifted (n + 1) es ∙ shift_one n (place_of q (texts_of es)))
+    | inr t ↦ rw t (shifted (n + 1) es ∙ shift_one n (group_position q (texts_of es)))
   ]
 
-  pub place_is : (es : List (String A × X)) → position (λ k. bytes_eq q (string_bytes k)) (keys_of es) ≡ place_of q (texts_of es)
-  place_is es = position_from-zero (λ k. bytes_eq q (string_bytes k)) (keys_of es) ∙ shifted 0 es ∙ shift_none (place_of q (texts_of es))
+  pub place_is : (es : List (String A × X)) → position (λ k. bytes_eq q (string_bytes k)) (keys_of es) ≡ group_position q (texts_of es)
+  place_is es = position_from-zero (λ k. bytes_eq q (string_bytes k)) (keys_of es) ∙ shifted 0 es ∙ shift_none (group_position q (texts_of es))
 
 pub under_is : {A X : Type 0} (es : List (String A × List X)) (n : ℕ) (k : String A) (v : List X) → slice_get es n ≡ Some (k, v) → v ≡ under n (texts_of es)
 under_is [] n k v h = absurd (omega (arith, slice_get_within [] n (k, v) h))
@@ -55,23 +55,23 @@ none_back (Some p) h = absurd (cc)
 
 module _ {X : Type 0} (f : List X → Option Row) (q : List ℕ) where
   -- what is found under a name is found in the group at its position
-  pub found_at : (gs : List (List ℕ × List X)) (n : ℕ) → place_of q gs ≡ Some n → f (under n gs) ≡ found f q gs
+  pub found_at : (gs : List (List ℕ × List X)) (n : ℕ) → group_position q gs ≡ Some n → f (under n gs) ≡ found f q gs
   found_at [] n h = absurd (cc)
   found_at (g ∷ gs) zero h = elim (bool_cases (bytes_eq q g.0)) [
     | inl t ↦ rw t refl
-    | inr t ↦ let h' = rw t at h in absurd (not_first (place_of q gs) h')
+    | inr t ↦ let h' = rw t at h in absurd (not_first (group_position q gs) h')
   ]
   found_at (g ∷ gs) (suc n) h = elim (bool_cases (bytes_eq q g.0)) [
     | inl t ↦ let h' = rw t at h in let e : 0 ≡ suc n = cc in absurd (omega (arith, e))
-    | inr t ↦ let h' = rw t at h in rw t (found_at gs n (one_back (place_of q gs) n h'))
+    | inr t ↦ let h' = rw t at h in rw t (found_at gs n (one_back (group_position q gs) n h'))
   ]
 
   -- and nothing if it has none
-  pub found_nowhere : (gs : List (List ℕ × List X)) → place_of q gs ≡ None → None ≡ found f q gs
+  pub found_nowhere : (gs : List (List ℕ × List X)) → group_position q gs ≡ None → None ≡ found f q gs
   found_nowhere [] h = refl
   found_nowhere (g ∷ gs) h = elim (bool_cases (bytes_eq q g.0)) [
     | inl t ↦ let h' = rw t at h in absurd (cc)
-    | inr t ↦ let h' = rw t at h in rw t (found_nowhere gs (none_back (place_of q gs) h'))
+    | inr t ↦ let h' = rw t at h in rw t (found_nowhere gs (none_back (group_position q gs) h'))
   ]
 
 -- the rows of the group at a position
@@ -115,30 +115,30 @@ some_row groups (s ∷ positions) (suc at) default row below here none =
 -- groups of items, seen as groups of rows
 
 -- the position of a name in the view of groups
-pub seen_place : {A B : Type 0} (see : A → B) (text : List ℕ) (gs : List (List ℕ × A)) → place_of text gs ≡ place_of text (map (λ g. (g.0, see g.1)) gs)
-seen_place see text [] = refl
-seen_place see text (g ∷ gs) = elim (bool_cases (bytes_eq text g.0)) [
+pub viewed_place : {A B : Type 0} (see : A → B) (text : List ℕ) (gs : List (List ℕ × A)) → group_position text gs ≡ group_position text (map (λ g. (g.0, see g.1)) gs)
+viewed_place see text [] = refl
+viewed_place see text (g ∷ gs) = elim (bool_cases (bytes_eq text g.0)) [
   | inl t ↦ rw t refl
-  | inr t ↦ rw t (ap (option_map suc) (seen_place see text gs))
+  | inr t ↦ rw t (ap (option_map suc) (viewed_place see text gs))
 ]
 
 -- the group at a position in it
-seen_under : {A B : Type 0} (see : A → B) (n : ℕ) (gs : List (List ℕ × List A)) → map see (under n gs) ≡ under n (map (λ g. (g.0, map see g.1)) gs)
-seen_under see n [] = refl
-seen_under see zero (g ∷ gs) = refl
-seen_under see (suc n) (g ∷ gs) = seen_under see n gs
+viewed_under : {A B : Type 0} (see : A → B) (n : ℕ) (gs : List (List ℕ × List A)) → map see (under n gs) ≡ under n (map (λ g. (g.0, map see g.1)) gs)
+viewed_under see n [] = refl
+viewed_under see zero (g ∷ gs) = refl
+viewed_under see (suc n) (g ∷ gs) = viewed_under see n gs
 
 -- the place of a path in a domain
-pub bare_place : (text : List ℕ) (d : ℕ) (gs : ItemGroups) → place_of text (under d gs) ≡ place_of text (under d (bare gs))
-bare_place text d gs = seen_place rows_of text (under d gs) ∙ ap (place_of text) (seen_under (λ (p : List ℕ × List Item). (p.0, rows_of p.1)) d gs)
+pub bare_place : (text : List ℕ) (d : ℕ) (gs : ItemGroups) → group_position text (under d gs) ≡ group_position text (under d (bare gs))
+bare_place text d gs = viewed_place rows_of text (under d gs) ∙ ap (group_position text) (viewed_under (λ (p : List ℕ × List Item). (p.0, rows_of p.1)) d gs)
 
 -- the rows under a path in a domain
 pub bare_rows : (d p : ℕ) (gs : ItemGroups) → rows_of (under p (under d gs)) ≡ under p (under d (bare gs))
-bare_rows d p gs = seen_under (λ (item : Item). item.row) p (under d gs) ∙ ap (under p) (seen_under (λ (p : List ℕ × List Item). (p.0, rows_of p.1)) d gs)
+bare_rows d p gs = viewed_under (λ (item : Item). item.row) p (under d gs) ∙ ap (under p) (viewed_under (λ (p : List ℕ × List Item). (p.0, rows_of p.1)) d gs)
 
 -- the paths of a domain
 pub bare_texts : (d : ℕ) (gs : ItemGroups) → map (λ p. p.0) (under d gs) ≡ map (λ p. p.0) (under d (bare gs))
-bare_texts d gs = firsts (under d gs) ∙ ap (map (λ p. p.0)) (seen_under (λ (p : List ℕ × List Item). (p.0, rows_of p.1)) d gs)
+bare_texts d gs = firsts (under d gs) ∙ ap (map (λ p. p.0)) (viewed_under (λ (p : List ℕ × List Item). (p.0, rows_of p.1)) d gs)
   where
     firsts : (ps : List (List ℕ × List Item)) → map (λ p. p.0) ps ≡ map (λ (p : List ℕ × List Row). p.0) (map (λ (p : List ℕ × List Item). (p.0, rows_of p.1)) ps)
     firsts [] = refl

@@ -7,9 +7,9 @@ use Rattle.std.proofs.lemmas.Slice.Eq.{bytes_eq-Decides}
 use Rattle.cookie_parts.specs.Cookie.{Row}
 use Rattle.cookie_parts.specs.Domain.{domain_text}
 use Rattle.cookie_laws.specs.Rows.{Key, differ}
-use Rattle.cookie_lookup.specs.Groups.{PathGroups, DomainGroups, Of, ArePaths, AreGroups}
-use Rattle.cookie_rows.specs.Groups.{is_named, put_at, changed_at, kept, lessened_at}
-use Rattle.cookie_rows.proofs.BareGroups.{put_name, end_name, remove_name, put_paths, put_groups, end_paths, end_groups, remove_paths, remove_groups}
+use Rattle.cookie_lookup.specs.Groups.{PathGroups, DomainGroups, HasDomainAndPath, ArePaths, AreGroups}
+use Rattle.cookie_rows.specs.Groups.{is_named, put_at, changed_at, unless_empty, lessened_at}
+use Rattle.cookie_rows.proofs.BareGroups.{put_name, expire_name, remove_name, put_paths, put_groups, expire_paths, expire_groups, remove_paths, remove_groups}
 use Rattle.cookie_rows.proofs.Flat.{any_append}
 
 -- a new name goes last, and the names differ
@@ -83,7 +83,7 @@ module _ {X : Type 0} (f : List X → List X) (t : List ℕ) where
   -- lessened
 
   -- a name that none of the groups has is not among the remaining ones
-  none_kept : (p : List ℕ → Bool) (k : List ℕ) (v : List X) (gs : List (List ℕ × List X)) → p k ≡ false → list_any p (map (λ g. g.0) gs) ≡ false → list_any p (map (λ g. g.0) (kept k v gs)) ≡ false
+  none_kept : (p : List ℕ → Bool) (k : List ℕ) (v : List X) (gs : List (List ℕ × List X)) → p k ≡ false → list_any p (map (λ g. g.0) gs) ≡ false → list_any p (map (λ g. g.0) (unless_empty k v gs)) ≡ false
   none_kept p k [] gs h n = n
   none_kept p k (x ∷ xs) gs h n = grind (arith, nat_tests, h, n)
 
@@ -99,7 +99,7 @@ module _ {X : Type 0} (f : List X → List X) (t : List ℕ) where
       ]
 
   -- names differ with a group that is kept or not
-  differ_kept : (k : List ℕ) (v : List X) (gs : List (List ℕ × List X)) → differ bytes_eq (k ∷ map (λ g. g.0) gs) ≡ true → differ bytes_eq (map (λ g. g.0) (kept k v gs)) ≡ true
+  differ_kept : (k : List ℕ) (v : List X) (gs : List (List ℕ × List X)) → differ bytes_eq (k ∷ map (λ g. g.0) gs) ≡ true → differ bytes_eq (map (λ g. g.0) (unless_empty k v gs)) ≡ true
   differ_kept k [] gs d = grind (arith, nat_tests, d)
   differ_kept k (x ∷ xs) gs d = d
 
@@ -117,7 +117,7 @@ module _ {X : Type 0} (f : List X → List X) (t : List ℕ) where
   ]
 
   -- what holds of each group, and of one with something in it
-  all_kept : (P : List ℕ × List X → Type 0) (k : List ℕ) (v : List X) (gs : List (List ℕ × List X)) → (0 < length v → P (k, v)) → AllByRecursion P gs → AllByRecursion P (kept k v gs)
+  all_kept : (P : List ℕ × List X → Type 0) (k : List ℕ) (v : List X) (gs : List (List ℕ × List X)) → (0 < length v → P (k, v)) → AllByRecursion P gs → AllByRecursion P (unless_empty k v gs)
   all_kept P k [] gs s a = a
   all_kept P k (x ∷ xs) gs s a = (s (omega arith), a)
 
@@ -133,7 +133,7 @@ module _ {X : Type 0} (f : List X → List X) (t : List ℕ) where
 
 module _ (row : Row) where
   -- rows of one domain and path are such after one more
-  names_put : (d p : List ℕ) (xs : List Row) → Of d p row → AllByRecursion (Of d p) xs → (0 < length (put_name row xs)) × AllByRecursion (Of d p) (put_name row xs)
+  names_put : (d p : List ℕ) (xs : List Row) → HasDomainAndPath d p row → AllByRecursion (HasDomainAndPath d p) xs → (0 < length (put_name row xs)) × AllByRecursion (HasDomainAndPath d p) (put_name row xs)
   names_put d p [] is a = (omega arith, (is, tt))
   names_put d p (x ∷ xs) is a = elim (cases_Bool (is_named row.raw.name x)) [
     | inl e ↦ rw e (omega arith, (is, a.1))
@@ -146,7 +146,7 @@ module _ (row : Row) where
     some_put (put_name row) row.path.text ps,
     (
       differ_put (put_name row) row.path.text ps a.0,
-      all_put (put_name row) row.path.text (λ p. (0 < length p.1) × AllByRecursion (Of d p.0) p.1) ps
+      all_put (put_name row) row.path.text (λ p. (0 < length p.1) × AllByRecursion (HasDomainAndPath d p.0) p.1) ps
           (names_put d row.path.text [] (is, refl) tt) (λ v h. names_put d row.path.text v (is, refl) h.1) a.1,
     ),
   )
@@ -163,35 +163,35 @@ module _ (row : Row) where
 
 module _ (key : Key) where
   -- rows that are there remain
-  some_ended : (xs : List Row) → 0 < length xs → 0 < length (end_name key.name xs)
-  some_ended [] h = h
-  some_ended (x ∷ xs) h = elim (cases_Bool (is_named key.name x)) [ inl e ↦ rw e (omega arith) | inr e ↦ rw e (omega arith) ]
+  some_expired : (xs : List Row) → 0 < length xs → 0 < length (expire_name key.name xs)
+  some_expired [] h = h
+  some_expired (x ∷ xs) h = elim (cases_Bool (is_named key.name x)) [ inl e ↦ rw e (omega arith) | inr e ↦ rw e (omega arith) ]
 
   -- rows of one domain and path still are after one is expired
-  names_ended : (d p : List ℕ) (xs : List Row) → AllByRecursion (Of d p) xs → AllByRecursion (Of d p) (end_name key.name xs)
-  names_ended d p [] a = tt
-  names_ended d p (x ∷ xs) a = elim (cases_Bool (is_named key.name x)) [
+  names_expired : (d p : List ℕ) (xs : List Row) → AllByRecursion (HasDomainAndPath d p) xs → AllByRecursion (HasDomainAndPath d p) (expire_name key.name xs)
+  names_expired d p [] a = tt
+  names_expired d p (x ∷ xs) a = elim (cases_Bool (is_named key.name x)) [
     | inl e ↦ rw e (a.0, a.1)
-    | inr e ↦ rw e (a.0, names_ended d p xs a.1)
+    | inr e ↦ rw e (a.0, names_expired d p xs a.1)
   ]
 
   -- groups of a domain
-  paths_ended : (d : List ℕ) (ps : PathGroups) → ArePaths d ps → ArePaths d (end_paths key.path key.name ps)
-  paths_ended d ps a = (
-    ap (differ bytes_eq) (keys_changed (end_name key.name) key.path ps) ∙ a.0,
-    all_changed (end_name key.name) key.path (λ p. (0 < length p.1) × AllByRecursion (Of d p.0) p.1) ps (λ p v h. (some_ended v h.0, names_ended d p v h.1)) a.1,
+  paths_expired : (d : List ℕ) (ps : PathGroups) → ArePaths d ps → ArePaths d (expire_paths key.path key.name ps)
+  paths_expired d ps a = (
+    ap (differ bytes_eq) (keys_changed (expire_name key.name) key.path ps) ∙ a.0,
+    all_changed (expire_name key.name) key.path (λ p. (0 < length p.1) × AllByRecursion (HasDomainAndPath d p.0) p.1) ps (λ p v h. (some_expired v h.0, names_expired d p v h.1)) a.1,
   )
 
   -- all groups
-  pub groups_ended : (gs : DomainGroups) → AreGroups gs → AreGroups (end_groups key gs)
-  groups_ended gs a = (
-    ap (differ bytes_eq) (keys_changed (end_paths key.path key.name) key.domain gs) ∙ a.0,
-    all_changed (end_paths key.path key.name) key.domain (λ g. (0 < length g.1) × ArePaths g.0 g.1) gs
-        (λ d v h. (some_changed (end_name key.name) key.path v h.0, paths_ended d v h.1)) a.1,
+  pub groups_expired : (gs : DomainGroups) → AreGroups gs → AreGroups (expire_groups key gs)
+  groups_expired gs a = (
+    ap (differ bytes_eq) (keys_changed (expire_paths key.path key.name) key.domain gs) ∙ a.0,
+    all_changed (expire_paths key.path key.name) key.domain (λ g. (0 < length g.1) × ArePaths g.0 g.1) gs
+        (λ d v h. (some_changed (expire_name key.name) key.path v h.0, paths_expired d v h.1)) a.1,
   )
 
   -- rows of one domain and path are such without one
-  names_removed : (d p : List ℕ) (xs : List Row) → AllByRecursion (Of d p) xs → AllByRecursion (Of d p) (remove_name key.name xs)
+  names_removed : (d p : List ℕ) (xs : List Row) → AllByRecursion (HasDomainAndPath d p) xs → AllByRecursion (HasDomainAndPath d p) (remove_name key.name xs)
   names_removed d p [] a = tt
   names_removed d p (x ∷ xs) a = elim (cases_Bool (is_named key.name x)) [
     | inl e ↦ rw e a.1
@@ -202,7 +202,7 @@ module _ (key : Key) where
   paths_removed : (d : List ℕ) (ps : PathGroups) → ArePaths d ps → ArePaths d (remove_paths key.path key.name ps)
   paths_removed d ps a = (
     differ_lessened (remove_name key.name) key.path ps a.0,
-    all_lessened (remove_name key.name) key.path (λ p. (0 < length p.1) × AllByRecursion (Of d p.0) p.1) ps (λ p v h some. (some, names_removed d p v h.1)) a.1,
+    all_lessened (remove_name key.name) key.path (λ p. (0 < length p.1) × AllByRecursion (HasDomainAndPath d p.0) p.1) ps (λ p v h some. (some, names_removed d p v h.1)) a.1,
   )
 
   -- all groups

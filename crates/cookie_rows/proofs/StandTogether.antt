@@ -68,8 +68,8 @@ some_further here rest some e = grind arith
 -- two relations, the one stricter than the other
 module _ {T : Type 0} {finer coarser : T → T → Bool} (fine : IsEquivalence finer) (coarse : IsEquivalence coarser) (implies : (a b : T) → finer a b ≡ true → coarser a b ≡ true) where
   -- if one of the items is like y, and x is like y less strictly, one is like x
-  seen_further : (x y : T) (xs : List T) → list_any (finer y) xs ≡ true → coarser x y ≡ true → list_any (coarser x) xs ≡ true
-  seen_further x y xs some like = list_any_congr coarse x y xs like ∙ any_coarser (finer y) (coarser y) xs (implies y) some
+  viewed_further : (x y : T) (xs : List T) → list_any (finer y) xs ≡ true → coarser x y ≡ true → list_any (coarser x) xs ≡ true
+  viewed_further x y xs some like = list_any_congr coarse x y xs like ∙ any_coarser (finer y) (coarser y) xs (implies y) some
 
   -- y is right after an item that is like it
   pub together-after_like : (xs : List T) (y : T) → list_any (finer y) xs ≡ true → are_adjacent coarser xs ≡ true → are_adjacent coarser (after_last (finer y) xs y) ≡ true
@@ -80,7 +80,7 @@ module _ {T : Type 0} {finer coarser : T → T → Bool} (fine : IsEquivalence f
       (λ e.
       let rest : list_any (finer y) xs ≡ true = some_further _ _ some e in
       let further : are_adjacent coarser (after_last (finer y) xs y) ≡ true = together-after_like xs y rest (together-parts coarser x xs h).1 in
-      together-further coarser (finer y) x xs y (seen_further x y xs rest) h further)
+      together-further coarser (finer y) x xs y (viewed_further x y xs rest) h further)
 
   -- none of the rest is like x, if none is like y less strictly
   none_further : (x y : T) (xs : List T) → coarser y x ≡ true → list_any (coarser y) xs ≡ false → list_any (finer x) xs ≡ false

@@ -12,15 +12,15 @@ use Rattle.cookie_words.specs.Moments.{Moment}
 use Rattle.cookie_parts.specs.Cookie.{Row, is_expired}
 use Rattle.cookie_laws.specs.Contents as Store
 use Rattle.cookie_laws.specs.Contents.{contents_of, has_expired, unexpired}
-use Rattle.cookie_laws.specs.Rows.{Key, are_rows, differ, is_live, key_at, key_of, live_rows}
+use Rattle.cookie_laws.specs.Rows.{Key, are_rows, differ, is_unexpired, key_at, key_of, unexpired_rows}
 use Rattle.cookie_lookup.specs.Groups.{ArePaths, AreGroups, flat}
 use Rattle.cookie_rows.specs.Groups.{texts_of}
 use Rattle.cookie_rows.specs.Items.{AreItems, Item, ItemGroups, ItemPaths, bare, bare_paths, by_number, rows_in_order, creation_order, numbered, rows_of}
 use Rattle.cookie_rows.specs.Eviction.{is_filled, filter_paths, filter_groups, survives, rank_of}
-use Rattle.cookie_rows.proofs.Bare.{seen_texts}
-use Rattle.cookie_rows.proofs.Entering.{changed_retained}
+use Rattle.cookie_rows.proofs.Bare.{viewed_texts}
+use Rattle.cookie_rows.proofs.StoredThenEvicted.{changed_retained}
 use Rattle.cookie_rows.proofs.FilteredGroups.{all_any, all_filter, are_rows-filter, differ-filter, map-filter, paths_passing}
-use Rattle.cookie_rows.proofs.LeftItems.{Each, each_in_any, each_map, has_ended_item, listed, listed_in, paths_left, rows_listed}
+use Rattle.cookie_rows.proofs.LeftItems.{Each, each_in_any, each_map, has_expired_item, listed, listed_in, paths_left, rows_listed}
 use Rattle.cookie_rows.proofs.Made.{keys_groups}
 use Rattle.cookie_rows.proofs.RankOrder.{before_tests}
 use Rattle.cookie_rows.proofs.Eviction.{distinct_from_differ, ordered_filtered}
@@ -73,7 +73,7 @@ module _ (test : Item → Bool) where
   pub groups_are : (gs : ItemGroups) → AreGroups (bare gs) → AreGroups (bare (filter_groups test gs))
   groups_are gs a =
       let bared : List ℕ × List Item → List ℕ × List Row = λ p. (p.0, rows_of p.1) in
-      let all = λ (hs : ItemGroups). seen_texts bared hs in
+      let all = λ (hs : ItemGroups). viewed_texts bared hs in
       let before : differ bytes_eq (map (λ g. g.0) (tested gs)) ≡ true = ap (differ bytes_eq) (texts_tested gs ∙ sym (all gs)) ∙ a.0 in
       let after : differ bytes_eq (map (λ g. g.0) (filter_groups test gs)) ≡ true = differ-filter (λ (g : List ℕ × ItemPaths). g.0) is_filled bytes_eq (tested gs) before in
       (ap (differ bytes_eq) (all (filter_groups test gs)) ∙ after, filled_groups gs a.1)
@@ -101,13 +101,13 @@ module _ {A F : Type 0} (T : F → String A → ItemPaths → Bool → ItemPaths
 -- items that have not expired
 
 -- there are no more rows that have not
-pub fewer_rows : (now : Moment) (rows : List Row) → length (live_rows now rows) ≤ length rows
+pub fewer_rows : (now : Moment) (rows : List Row) → length (unexpired_rows now rows) ≤ length rows
 fewer_rows now [] = omega arith
 fewer_rows now (row ∷ rows) = grind (arith, fewer_rows now rows)
 
 -- no rank of such an item comes before (true, 0)
-stays_live : (now : Moment) (x : Item) → is_live now x.row ≡ survives now (true, 0) x
-stays_live now x = sym (ap not (before_tests (rank_of now x) (true, 0)) ∙ passes (is_live now x.row) (ltb x.number 0) none)
+stays_unexpired : (now : Moment) (x : Item) → is_unexpired now x.row ≡ survives now (true, 0) x
+stays_unexpired now x = sym (ap not (before_tests (rank_of now x) (true, 0)) ∙ passes (is_unexpired now x.row) (ltb x.number 0) none)
   where
     -- no number is below 0
     none : ltb x.number 0 ≡ false
@@ -145,18 +145,18 @@ module _ (n : ℕ) (gs : ItemGroups) (a : AreItems n gs) where
     key_stays key = not (has_expired now (flat (bare gs)) key)
 
     -- the rows that are left
-    rows_left : flat (bare left) ≡ live_rows now (flat (bare gs))
+    rows_left : flat (bare left) ≡ unexpired_rows now (flat (bare gs))
     rows_left =
-        let each = all_any (λ (g : List ℕ × ItemPaths). AllByRecursion (λ p. AllByRecursion (λ x. is_live now x.row ≡ survives now (true, 0) x) p.1) g.1)
-        (λ g. each_in_any (λ p x. is_live now x.row ≡ survives now (true, 0) x) (λ p x. stays_live now x) g.1) gs in
-        rows_listed left ∙ groups_left (survives now (true, 0)) (is_live now) (λ d p x. x.row) gs each ∙ ap (filter (is_live now)) (sym (rows_listed gs))
+        let each = all_any (λ (g : List ℕ × ItemPaths). AllByRecursion (λ p. AllByRecursion (λ x. is_unexpired now x.row ≡ survives now (true, 0) x) p.1) g.1)
+        (λ g. each_in_any (λ p x. is_unexpired now x.row ≡ survives now (true, 0) x) (λ p x. stays_unexpired now x) g.1) gs in
+        rows_listed left ∙ groups_left (survives now (true, 0)) (is_unexpired now) (λ d p x. x.row) gs each ∙ ap (filter (is_unexpired now)) (sym (rows_listed gs))
 
     -- the numbered keys
     numbered_left : numbered left ≡ filter (λ x. key_stays x.0) (numbered gs)
     numbered_left =
         let each = each_map (λ d p x. has_expired now (flat (bare gs)) (key_at d p x.row.raw.name) ≡ is_expired now x.row)
         (λ d p x. key_stays (key_at d p x.row.raw.name) ≡ survives now (true, 0) x)
-        (λ d p x h. ap not h ∙ stays_live now x) gs (has_ended_item n gs a now) in
+        (λ d p x h. ap not h ∙ stays_unexpired now x) gs (has_expired_item n gs a now) in
         groups_left (survives now (true, 0)) (λ (x : Key × ℕ). key_stays x.0) (λ d p x. (key_at d p x.row.raw.name, x.number)) gs each
 
     -- the keys in creation order
@@ -174,7 +174,7 @@ module _ (n : ℕ) (gs : ItemGroups) (a : AreItems n gs) where
     pub items_unexpired : AreItems n left
     items_unexpired = (
       groups_are (survives now (true, 0)) gs a.0,
-      subst (λ rows. IsTrue (are_rows rows)) (sym rows_left) (are_rows-filter (is_live now) (flat (bare gs)) a.1),
+      subst (λ rows. IsTrue (are_rows rows)) (sym rows_left) (are_rows-filter (is_unexpired now) (flat (bare gs)) a.1),
       subst (AllByRecursion (λ x. x.1 < n)) (sym numbered_left) (all_filter (λ x. x.1 < n) (λ x. key_stays x.0) (numbered gs) a.2),
       ap (λ xs. differ nat_eq (map (λ x. x.1) xs)) numbered_left ∙ differ-filter (λ (x : Key × ℕ). x.1) (λ x. key_stays x.0) nat_eq (numbered gs) a.3,
     )

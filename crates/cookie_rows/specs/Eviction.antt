@@ -6,7 +6,7 @@ use Rattle.std.specs.declared.cmp.Ordering.{Ordering}
 use Rattle.cookie_words.specs.Moments.{Moment}
 use Rattle.cookie_parts.specs.Cookie.{Row}
 use Rattle.cookie_parts.specs.Domain.{domain_text}
-use Rattle.cookie_laws.specs.Rows.{is_live}
+use Rattle.cookie_laws.specs.Rows.{is_unexpired}
 use Rattle.cookie_rows.specs.Groups.{put_at}
 use Rattle.cookie_rows.specs.Items.{Item, ItemGroups, ItemPaths, put_item_paths, put_items}
 
@@ -16,7 +16,7 @@ EvictionRank = Bool × ℕ
 
 -- the place of a row in eviction order at this time
 abbrev pub rank_of : Moment → Item → EvictionRank
-rank_of now item = (is_live now item.row, item.number)
+rank_of now item = (is_unexpired now item.row, item.number)
 
 -- the comparison of two places
 abbrev pub rank_cmp : EvictionRank → EvictionRank → Ordering

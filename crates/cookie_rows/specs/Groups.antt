@@ -38,11 +38,11 @@ module _ {X : Type 0} where
   is_empty_at text (g ∷ gs) = if bytes_eq text g.0 then length g.1 == 0 else is_empty_at text gs
 
   -- the groups with this one in front, unless it is empty
-  abbrev pub kept : List ℕ → List X → List (List ℕ × List X) → List (List ℕ × List X)
-  kept text [] gs = gs
-  kept text (x ∷ xs) gs = (text, x ∷ xs) ∷ gs
+  abbrev pub unless_empty : List ℕ → List X → List (List ℕ × List X) → List (List ℕ × List X)
+  unless_empty text [] gs = gs
+  unless_empty text (x ∷ xs) gs = (text, x ∷ xs) ∷ gs
 
   -- the group of this text changed by `f`, and dropped if it is empty then
   abbrev pub lessened_at : (List X → List X) → List ℕ → List (List ℕ × List X) → List (List ℕ × List X)
   lessened_at f text [] = []
-  lessened_at f text (g ∷ gs) = if bytes_eq text g.0 then kept g.0 (f g.1) gs else g ∷ lessened_at f text gs
+  lessened_at f text (g ∷ gs) = if bytes_eq text g.0 then unless_empty g.0 (f g.1) gs else g ∷ lessened_at f text gs

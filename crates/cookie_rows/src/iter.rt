@@ -1,7 +1,7 @@
 //! Iterators over the cookies of a store.
 ghost use Rattle.std.specs.Prelude.{◌≡◌, ◌<◌, ◌^◌, length};
 ghost use Rattle.cookie_words.specs.Moments.{moment_of};
-ghost use Rattle.cookie_laws.specs.Rows.{live_rows};
+ghost use Rattle.cookie_laws.specs.Rows.{unexpired_rows};
 ghost use Rattle.cookie_rows.specs.Items.{all_groups, joined, rows_of};
 
 use crate::boxed::BoxedCookie;
@@ -140,17 +140,17 @@ impl<'a> Model for IterUnexpired<'a> {
     ghost use Rattle.std.specs.Prelude.{List};
     ghost use Rattle.cookie_words.specs.Moments.{moment_of};
     ghost use Rattle.cookie_parts.specs.Cookie.{Row};
-    ghost use Rattle.cookie_laws.specs.Rows.{live_rows};
+    ghost use Rattle.cookie_laws.specs.Rows.{unexpired_rows};
 
     ghost Value = { List Row };
 
-    ghost view = { λ iter. live_rows (moment_of iter.time) iter.rows };
+    ghost view = { λ iter. unexpired_rows (moment_of iter.time) iter.rows };
 }
 
 impl<'a> IterUnexpired<'a> {
     /// Returns an iterator over those of `rows` that have not expired at `time`.
     pub(crate) fn new(rows: IterAny<'a>, time: DateTime) -> IterUnexpired<'a>
-        ensures { result ≡ live_rows (moment_of time) rows.entry }
+        ensures { result ≡ unexpired_rows (moment_of time) rows.entry }
     {
         IterUnexpired { rows, time }
     }

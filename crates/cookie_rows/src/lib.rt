@@ -7,11 +7,13 @@
 
 mod boxed;
 mod copying;
+mod domains;
 mod hashing;
-mod header;
+mod header_order;
 mod iter;
 mod map_search;
 mod names;
+mod path_table;
 mod paths;
 mod request;
 mod rows;

@@ -129,7 +129,7 @@ impl Names {
     ) -> Result<(), AllocError>
         requires new { row_named row.row.raw.name (rows_of self.old) ≡ None }
         ensures added { OnOk result (self.new ≡ put_item row.row row.number self.old) }
-        ensures err { OnErr result (self.new ≡ self.old) }
+        ensures unchanged { OnErr result (self.new ≡ self.old) }
     {
         let rows = mem::replace(&mut self.rows, NameMap::Empty);
         let (rows, outcome) = with_row(rows, alloc, hash_key, row);
@@ -241,7 +241,7 @@ fn with_row(
     requires named { HasNames rows }
     requires new { row_named row.row.raw.name (rows_of (items_of rows)) ≡ None }
     ensures added { OnOk result.1 (items_of result.0 ≡ put_item row.row row.number (items_of rows)) }
-    ensures err { OnErr result.1 (items_of result.0 ≡ items_of rows) }
+    ensures unchanged { OnErr result.1 (items_of result.0 ≡ items_of rows) }
     ensures named { HasNames result.0 }
 {
     match rows {
@@ -263,7 +263,7 @@ fn with_second(
 ) -> (NameMap, Result<(), AllocError>)
     requires new { row_named row.row.raw.name (first.row ∷ []) ≡ None }
     ensures added { OnOk result.1 (items_of result.0 ≡ first ∷ row ∷ []) }
-    ensures err { OnErr result.1 (items_of result.0 ≡ first ∷ []) }
+    ensures unchanged { OnErr result.1 (items_of result.0 ≡ first ∷ []) }
     ensures named { HasNames result.0 }
 {
     match table_for(alloc, hash_key, &first, &row) {
@@ -321,7 +321,7 @@ fn add_in(
     requires named { AreNamed rows.old.entries }
     requires new { row_named row.row.raw.name (rows_of (values_of rows.old.entries)) ≡ None }
     ensures added { OnOk result (values_of rows.new.entries ≡ put_item row.row row.number (values_of rows.old.entries)) }
-    ensures err { OnErr result (values_of rows.new.entries ≡ values_of rows.old.entries) }
+    ensures unchanged { OnErr result (values_of rows.new.entries ≡ values_of rows.old.entries) }
     ensures named { AreNamed rows.new.entries }
 {
     let name = String::from_str(alloc, row.cookie().name())?;

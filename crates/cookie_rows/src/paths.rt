@@ -1,20 +1,22 @@
 //! The rows of one domain, by path.
-ghost use Rattle.std.specs.Prelude.{◌≡◌, ◌∷◌, [], ◌++◌, ◌==◌, ◌<◌, ◌≤◌, filter, length, map, not, option_map, slice_get, string_bytes, None, IfNone, IfOk, IfSome, OnErr, OnOk, OnSome, ℕ, bytes_eq, false, ◌≢◌};
+ghost use Rattle.std.specs.Prelude.{◌≡◌, ◌∷◌, [], ◌++◌, ◌==◌, ◌<◌, ◌≤◌, length, map, option_map, slice_get, string_bytes, None, IfNone, IfOk, IfSome, OnErr, OnOk, OnSome, ℕ, bytes_eq, false, ◌≢◌};
 ghost use Rattle.std.specs.Option.{option_copied};
 ghost use Rattle.std.specs.String.{string_eq};
 ghost use Rattle.indexmap.specs.IndexMap.{spare};
 ghost use Rattle.cookie_words.specs.Moments.{moment_of};
-ghost use Rattle.cookie_lookup.specs.SearchView.{place_of, under};
-ghost use Rattle.cookie_rows.specs.Groups.{changed_at, is_empty_at, texts_of};
+ghost use Rattle.cookie_lookup.specs.SearchView.{group_position, under};
 ghost use Rattle.cookie_rows.specs.PathMaps.{groups_of};
 ghost use Rattle.cookie_rows.specs.HeaderItems.{items_in};
-ghost use Rattle.cookie_rows.specs.Items.{expire_item_paths, find_item_paths, put_item_paths, remove_item, remove_item_paths};
+ghost use Rattle.cookie_rows.specs.Items.{expire_item_paths, find_item_paths, put_item_paths, remove_item_paths};
 ghost use Rattle.cookie_rows.specs.Eviction.{is_single, is_single_paths, filter_paths, moved_to_end_if, survives, rank_of, ranks_of, InsertsInPaths, IsFirstSurvivor};
 
 use crate::boxed::BoxedCookie;
 use crate::copying::{Rehash, rehashed_table};
 use crate::hashing::HashKey;
 use crate::names::Names;
+use crate::path_table::{
+    add_in, expire_in, found_in, move_to_end_in, remove_in, replace_in, retain_in, text_in,
+};
 use crate::texts::path_text;
 use cookie_parts::Cookie;
 use indexmap::IndexMap;
@@ -85,7 +87,7 @@ impl Paths {
 
     // The group of this path, and its position.
     pub(crate) fn find(&self, path: &str) -> Option<(usize, &Names)>
-        ensures place { option_map (λ found. found.0) result ≡ place_of path.now self.now }
+        ensures place { option_map (λ found. found.0) result ≡ group_position path.now self.now }
         ensures names { IfSome result (λ found. found.1.now ≡ under found.0 self.now) }
     {
         match &self.groups {
@@ -162,7 +164,7 @@ impl Paths {
     ) -> Result<(), AllocError>
         requires new { find_item_paths row.row.path.text row.row.raw.name self.old ≡ None }
         ensures added { OnOk result (self.new ≡ put_item_paths row.row row.number self.old) }
-        ensures err { OnErr result (self.new ≡ self.old) }
+        ensures unchanged { OnErr result (self.new ≡ self.old) }
     {
         let groups = mem::replace(&mut self.groups, PathMap::Empty);
         let (groups, outcome) = with_row(groups, alloc, hash_key, row);
@@ -182,8 +184,8 @@ impl Paths {
     ) -> Result<bool, AllocError>
         requires limit { 0 < limit }
         requires new { find_item_paths row.row.path.text row.row.raw.name self.old ≡ None }
-        ensures entered { IfOk result (λ left. InsertsInPaths limit (moment_of now) row.row row.number self.old self.new left) }
-        ensures err { OnErr result (self.new ≡ self.old) }
+        ensures inserted { IfOk result (λ left. InsertsInPaths limit (moment_of now) row.row row.number self.old self.new left) }
+        ensures unchanged { OnErr result (self.new ≡ self.old) }
     {
         let Some(first) = self.first_survivor(alloc, row.number(), limit, now)? else {
             self.add(alloc, hash_key, row)?;
@@ -276,30 +278,6 @@ impl Paths {
     }
 }
 
-// The group of this path in a table, and its position.
-fn found_in<'a>(
-    groups: &'a IndexMap<String, Names, HashKey>,
-    path: &str,
-) -> Option<(usize, &'a Names)>
-    ensures place { option_map (λ found. found.0) result ≡ place_of path.now (texts_of groups.now.entries) }
-    ensures names { IfSome result (λ found. found.1.now ≡ under found.0 (texts_of groups.now.entries)) }
-{
-    match groups.get_full(path) {
-        Some((at, _, names)) => Some((at, names)),
-        None => None,
-    }
-}
-
-// The path at a position of a table.
-fn text_in(groups: &IndexMap<String, Names, HashKey>, place: usize) -> Option<&str>
-    ensures { option_map (λ text. text.now) result ≡ slice_get (map (λ p. p.0) (texts_of groups.now.entries)) place }
-{
-    match groups.get_index(place) {
-        Some((path, _)) => Some(path.as_str()),
-        None => None,
-    }
-}
-
 // A copy of the rows, hashed by this key.
 fn rehashed(groups: &PathMap, alloc: Global, hash_key: HashKey) -> Result<PathMap, AllocError>
     ensures { IfOk result (λ copies. groups_of copies ≡ groups_of groups.now) }
@@ -329,17 +307,6 @@ fn replace_path(groups: &mut PathMap, cookie: Cookie<'static>)
     }
 }
 
-// Replaces the row of the cookie's path and name in a table.
-fn replace_in(groups: &mut IndexMap<String, Names, HashKey>, cookie: Cookie<'static>)
-    requires stored { find_item_paths cookie.path.text cookie.raw.name (texts_of groups.old.entries) ≢ None }
-    ensures { (number : ℕ) → texts_of groups.new.entries ≡ put_item_paths cookie.entry number (texts_of groups.old.entries) }
-{
-    match groups.get_mut(path_text(&cookie)) {
-        Some(group) => group.replace(cookie),
-        None => {}
-    }
-}
-
 // Adds the row at the end of its path's group. Returns the groups unchanged if out of memory.
 fn with_row(
     groups: PathMap,
@@ -349,7 +316,7 @@ fn with_row(
 ) -> (PathMap, Result<(), AllocError>)
     requires new { find_item_paths row.row.path.text row.row.raw.name (groups_of groups) ≡ None }
     ensures added { OnOk result.1 (groups_of result.0 ≡ put_item_paths row.row row.number (groups_of groups)) }
-    ensures err { OnErr result.1 (groups_of result.0 ≡ groups_of groups) }
+    ensures unchanged { OnErr result.1 (groups_of result.0 ≡ groups_of groups) }
 {
     match groups {
         PathMap::Empty => match String::from_str(alloc, path_text(row.cookie())) {
@@ -382,7 +349,7 @@ fn with_second(
 ) -> (PathMap, Result<(), AllocError>)
     requires other { bytes_eq row.row.path.text (string_bytes first) ≡ false }
     ensures added { OnOk result.1 (groups_of result.0 ≡ (string_bytes first, names) ∷ (row.row.path.text, row ∷ []) ∷ []) }
-    ensures err { OnErr result.1 (groups_of result.0 ≡ (string_bytes first, names) ∷ []) }
+    ensures unchanged { OnErr result.1 (groups_of result.0 ≡ (string_bytes first, names) ∷ []) }
 {
     match table_for(alloc, hash_key, &row) {
         Ok((table, path)) => (pair(table, first, names, path, row), Ok(())),
@@ -424,27 +391,6 @@ fn pair(
     PathMap::Table(table)
 }
 
-// Adds the row at the end of its path's group in a table.
-fn add_in(
-    groups: &mut IndexMap<String, Names, HashKey>,
-    alloc: Global,
-    hash_key: HashKey,
-    row: BoxedCookie,
-) -> Result<(), AllocError>
-    requires new { find_item_paths row.row.path.text row.row.raw.name (texts_of groups.old.entries) ≡ None }
-    ensures added { OnOk result (texts_of groups.new.entries ≡ put_item_paths row.row row.number (texts_of groups.old.entries)) }
-    ensures err { OnErr result (texts_of groups.new.entries ≡ texts_of groups.old.entries) }
-{
-    match groups.get_mut(path_text(row.cookie())) {
-        Some(group) => group.add(alloc, hash_key, row),
-        None => {
-            let path = String::from_str(alloc, path_text(row.cookie()))?;
-            groups.insert(path, Names::of_one(row))?;
-            Ok(())
-        }
-    }
-}
-
 // Adds the places of these rows in eviction order.
 fn push_ranks(
     ranks: &mut Vec<(bool, u64)>,
@@ -475,21 +421,6 @@ fn retain_paths(groups: &mut PathMap, first: (bool, u64), now: DateTime)
     }
 }
 
-// Keeps the rows of a table that do not come before `first` in eviction order, and drops empty
-// groups.
-fn retain_in(groups: &mut IndexMap<String, Names, HashKey>, first: (bool, u64), now: DateTime)
-    ensures { texts_of groups.new.entries ≡ filter_paths (survives (moment_of now) first) (texts_of groups.old.entries) }
-{
-    groups.retain(
-        |_path: &String, names: &mut Names| -> bool
-            ensures { (names.new ≡ filter (survives (moment_of now) first) names.old) × (result ≡ not (length names.new == 0)) }
-        {
-            names.retain(first, now);
-            !names.is_empty()
-        },
-    );
-}
-
 // Moves the group of this path to the end, if it has a single row.
 fn move_path_to_end(groups: &mut PathMap, path: &str)
     ensures { groups_of groups.new ≡ moved_to_end_if is_single path.now (groups_of groups.old) }
@@ -497,19 +428,6 @@ fn move_path_to_end(groups: &mut PathMap, path: &str)
     match groups {
         PathMap::Empty | PathMap::Single(_, _) => {}
         PathMap::Table(groups) => move_to_end_in(groups.as_mut(), path),
-    }
-}
-
-// Moves the group of this path to the end of a table, if it has a single row.
-fn move_to_end_in(groups: &mut IndexMap<String, Names, HashKey>, path: &str)
-    ensures { texts_of groups.new.entries ≡ moved_to_end_if is_single path.now (texts_of groups.old.entries) }
-{
-    let Some((at, _, names)) = groups.get_full(path) else {
-        return;
-    };
-    if names.rows().len() == 1 {
-        let last = groups.len() - 1;
-        groups.move_index(at, last);
     }
 }
 
@@ -530,16 +448,6 @@ fn with_expired(groups: PathMap, path: &str, name: &str) -> PathMap
             expire_in(&mut table, path, name);
             PathMap::Table(table)
         }
-    }
-}
-
-// Expires the row of this path and name in a table.
-fn expire_in(groups: &mut IndexMap<String, Names, HashKey>, path: &str, name: &str)
-    ensures { texts_of groups.new.entries ≡ expire_item_paths path.now name.now (texts_of groups.old.entries) }
-{
-    match groups.get_mut(path) {
-        Some(group) => group.expire(name),
-        None => {}
     }
 }
 
@@ -579,39 +487,4 @@ fn without_named(
     } else {
         (PathMap::Single(own, names), row)
     }
-}
-
-// Removes the row from its group in a table. Returns it, and whether the group is now empty.
-fn take_named(
-    groups: &mut IndexMap<String, Names, HashKey>,
-    path: &str,
-    name: &str,
-) -> (Option<Cookie<'static>>, bool)
-    ensures value { result.0 ≡ find_item_paths path.now name.now (texts_of groups.old.entries) }
-    ensures groups { texts_of groups.new.entries ≡ changed_at (remove_item name.now) path.now (texts_of groups.old.entries) }
-    ensures is_empty { result.1 ≡ is_empty_at path.now (texts_of groups.new.entries) }
-{
-    match groups.get_mut(path) {
-        Some(group) => {
-            let row = group.remove(name);
-            (row, group.is_empty())
-        }
-        None => (None, false),
-    }
-}
-
-// Removes the row of this path and name from a table, and its group if it was the last row there.
-fn remove_in(
-    groups: &mut IndexMap<String, Names, HashKey>,
-    path: &str,
-    name: &str,
-) -> Option<Cookie<'static>>
-    ensures value { result ≡ find_item_paths path.now name.now (texts_of groups.old.entries) }
-    ensures removed { texts_of groups.new.entries ≡ remove_item_paths path.now name.now (texts_of groups.old.entries) }
-{
-    let (row, is_empty) = take_named(groups, path, name);
-    if is_empty {
-        groups.shift_remove(path);
-    }
-    row
 }

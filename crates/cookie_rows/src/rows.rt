@@ -1,28 +1,28 @@
 //! The rows of a store, as one list.
-ghost use Rattle.std.specs.Prelude.{◌≡◌, ◌≢◌, ◌≤◌, ◌<◌, ℕ, false, true, ◌+◌, ◌*◌, ◌==◌, [], ◌∷◌, length, map, not, string_bytes, IfErr, IfOk, IfSome, IsTrue, None, Ok, OnErr, OnOk, Some, ◌⊎◌};
+ghost use Rattle.std.specs.Prelude.{◌≡◌, ◌≢◌, ◌≤◌, ◌<◌, false, ◌+◌, ◌*◌, [], ◌∷◌, length, map, IfErr, IfOk, IfSome, IsTrue, None, Ok, OnErr, OnOk, Some, ◌⊎◌};
 ghost use Rattle.std.specs.Iterator.{IsFinite};
 ghost use Rattle.std.specs.Option.{option_copied};
 ghost use Rattle.cookie_words.specs.Moments.{moment_of};
 ghost use Rattle.cookie_parts.specs.Cookie.{expired_row, is_expired};
-ghost use Rattle.cookie_parts.specs.Domain.{domain_text};
 ghost use Rattle.cookie_parts.specs.declared.store_action.StoreAction.TheVariants.{Inserted};
 ghost use Rattle.cookie_laws.specs.Acceptance.{store_by};
 ghost use Rattle.cookie_laws.specs.Contents.{contents_of, rows_in_order, unexpired, HasCreationOrder};
 ghost use Rattle.cookie_laws.specs.Given.{given};
 ghost use Rattle.cookie_laws.specs.Header.{InHeaderOrder};
-ghost use Rattle.cookie_laws.specs.Rows.{are_rows, changed, has_key, included, key_at, key_of, live_rows, add_created, add_all_created, put, put_all, removed, row_of, same_key};
+ghost use Rattle.cookie_laws.specs.Rows.{are_rows, changed, has_key, included, key_at, key_of, unexpired_rows, add_created, add_all_created, put, put_all, removed, row_of, same_key};
 ghost use Rattle.cookie_lookup.specs.SearchView.{domains_found, paths_found};
-ghost use Rattle.cookie_lookup.specs.Texts.{most_domains, most_paths};
+ghost use Rattle.cookie_lookup.specs.Candidates.{most_domains, most_paths};
 ghost use Rattle.cookie_rows.specs.Building.{Builds, BuildsAt, FailsFirst, FailsFirstAt, IsNewRow, TakesCookie, ReachesNewRow, ReachesNewRowAt};
-ghost use Rattle.cookie_rows.specs.Groups.{changed_at, is_empty_at, texts_of};
-ghost use Rattle.cookie_rows.specs.Items.{expire_items, find_items, put_item_paths, put_items, remove_item_paths, remove_items};
+ghost use Rattle.cookie_rows.specs.Groups.{texts_of};
 ghost use Rattle.cookie_rows.specs.Requests.{name_and_value};
-ghost use Rattle.cookie_rows.specs.Eviction.{is_single_paths, filter_paths, filter_groups, moved_to_end_if, survives, InsertsInDomains};
 
 use crate::boxed::BoxedCookie;
 use crate::copying::rehashed_table;
+use crate::domains::{
+    add_row, expire_row, find_row, insert_row_within_limit, remove_row, replace_row, retain_groups,
+};
 use crate::hashing::{HashKey, StoreAlloc};
-use crate::header::in_header_order;
+use crate::header_order::in_header_order;
 use crate::iter::{IterAny, IterUnexpired, count_rows};
 use crate::map_search::searched;
 use crate::paths::Paths;
@@ -129,7 +129,7 @@ impl Rows {
 
     /// Returns an iterator over the rows that have not expired at `now`, in order.
     pub fn iter_unexpired(&self, now: DateTime) -> IterUnexpired<'_>
-        ensures { result ≡ live_rows (moment_of now) self.now.rows }
+        ensures { result ≡ unexpired_rows (moment_of now) self.now.rows }
     {
         IterUnexpired::new(self.iter(), now)
     }
@@ -256,10 +256,10 @@ impl Rows {
         now: DateTime,
     ) -> Result<(), AllocError>
         requires new { row_of (key_of cookie) self.old.rows ≡ None }
-        requires live { IfSome limit (λ _. is_expired (moment_of now) cookie ≡ false) }
-        ensures entered { OnOk result (self.new
+        requires unexpired { IfSome limit (λ _. is_expired (moment_of now) cookie ≡ false) }
+        ensures inserted { OnOk result (self.new
             ≡ rows_in_order (store_by (Ok Inserted) (contents_of self.old None limit) cookie.entry (moment_of now))) }
-        ensures err { OnErr result (self.new ≡ self.old) }
+        ensures unchanged { OnErr result (self.new ≡ self.old) }
     {
         let Some(next) = self.created.checked_add(1) else {
             return Err(AllocError);
@@ -296,7 +296,7 @@ impl Rows {
             let taken = included include_expired (moment_of now) (cookie.entry ∷ []) in
             self.new ≡ record { rows = put_all self.old.rows taken; created = add_all_created self.old.created (map key_of taken) }) }
         ensures built { OnOk result (TakesCookie include_expired (moment_of now) cookie.entry self.old self.new) }
-        ensures refused { OnErr result (self.new ≡ self.old) }
+        ensures unchanged { OnErr result (self.new ≡ self.old) }
         ensures memory { OnErr result (IsNewRow include_expired (moment_of now) self.old cookie.entry) }
     {
         if include_expired || !cookie.is_expired(now) {
@@ -309,7 +309,7 @@ impl Rows {
     fn put(&mut self, cookie: Cookie<'static>, now: DateTime) -> Result<(), AllocError>
         ensures put { OnOk result (self.new
             ≡ record { rows = put self.old.rows cookie.entry; created = add_created self.old.created (key_of cookie.entry) }) }
-        ensures err { OnErr result (self.new ≡ self.old) }
+        ensures unchanged { OnErr result (self.new ≡ self.old) }
         ensures memory { OnErr result (row_of (key_of cookie.entry) self.old.rows ≡ None) }
     {
         match self.row_of(&cookie) {
@@ -415,163 +415,4 @@ fn build<I: Iterator<Item = Result<Cookie<'static>, Error>>>(
         }
     }
     Ok(built)
-}
-
-// Returns the row of this domain, path and name, if there is one.
-fn find_row<'a>(
-    groups: &'a IndexMap<String, Paths, HashKey>,
-    domain: &str,
-    path: &str,
-    name: &str,
-) -> Option<&'a Cookie<'static>>
-    ensures { option_copied result ≡ find_items (key_at domain.now path.now name.now) (texts_of groups.now.entries) }
-{
-    match groups.get(domain) {
-        Some(group) => group.get(path, name),
-        None => None,
-    }
-}
-
-// Returns the row's domain, and a group of this row alone.
-fn entry_of(alloc: Global, row: BoxedCookie) -> Result<(String, Paths), AllocError>
-    ensures domain { IfOk result (λ entry. string_bytes entry.0 ≡ domain_text row.row.domain) }
-    ensures group { IfOk result (λ entry. entry.1 ≡ put_item_paths row.row row.number []) }
-{
-    let domain = String::from_str(alloc, domain_text(row.cookie()))?;
-    let group = Paths::of_one(alloc, row)?;
-    Ok((domain, group))
-}
-
-// Replaces the row of the cookie's key.
-fn replace_row(groups: &mut IndexMap<String, Paths, HashKey>, cookie: Cookie<'static>)
-    requires stored { find_items (key_of cookie) (texts_of groups.old.entries) ≢ None }
-    ensures { (number : ℕ) → texts_of groups.new.entries ≡ put_items cookie.entry number (texts_of groups.old.entries) }
-{
-    match groups.get_mut(domain_text(&cookie)) {
-        Some(group) => group.replace(cookie),
-        None => {}
-    }
-}
-
-// Adds the row to the group of its domain.
-fn add_row(
-    groups: &mut IndexMap<String, Paths, HashKey>,
-    row: BoxedCookie,
-) -> Result<(), AllocError>
-    requires new { find_items (key_of row.row) (texts_of groups.old.entries) ≡ None }
-    ensures added { OnOk result (texts_of groups.new.entries ≡ put_items row.row row.number (texts_of groups.old.entries)) }
-    ensures err { OnErr result (texts_of groups.new.entries ≡ texts_of groups.old.entries) }
-{
-    let alloc = *groups.allocator();
-    let hash_key = *groups.hasher();
-    match groups.get_mut(domain_text(row.cookie())) {
-        Some(group) => group.add(alloc, hash_key, row),
-        None => {
-            let (domain, group) = entry_of(alloc, row)?;
-            groups.insert(domain, group)?;
-            Ok(())
-        }
-    }
-}
-
-// Adds the row to the group of its domain, and evicts rows so that at most `limit` of the domain
-// are stored.
-fn insert_row_within_limit(
-    groups: &mut IndexMap<String, Paths, HashKey>,
-    row: BoxedCookie,
-    limit: usize,
-    now: DateTime,
-) -> Result<(), AllocError>
-    requires limit { 0 < limit }
-    requires new { find_items (key_of row.row) (texts_of groups.old.entries) ≡ None }
-    ensures entered { OnOk result (InsertsInDomains limit (moment_of now) row.row row.number
-        (texts_of groups.old.entries) (texts_of groups.new.entries)) }
-    ensures err { OnErr result (texts_of groups.new.entries ≡ texts_of groups.old.entries) }
-{
-    let alloc = *groups.allocator();
-    let hash_key = *groups.hasher();
-    let domain = String::from_str(alloc, domain_text(row.cookie()))?;
-    let left = match groups.get_mut(domain.as_str()) {
-        Some(group) => group.insert_within_limit(alloc, hash_key, row, limit, now)?,
-        None => return add_row(groups, row),
-    };
-    if left {
-        move_domain_to_end(groups, domain.as_str());
-    }
-    Ok(())
-}
-
-// Moves the group of this domain to the end, if it has a single row: all its old rows were evicted.
-fn move_domain_to_end(groups: &mut IndexMap<String, Paths, HashKey>, domain: &str)
-    ensures { texts_of groups.new.entries ≡ moved_to_end_if is_single_paths domain.now (texts_of groups.old.entries) }
-{
-    let Some((at, _, group)) = groups.get_full(domain) else {
-        return;
-    };
-    if group.is_single() {
-        let last = groups.len() - 1;
-        groups.move_index(at, last);
-    }
-}
-
-// Expires the row of the cookie's key, if there is one.
-fn expire_row(groups: &mut IndexMap<String, Paths, HashKey>, cookie: &Cookie<'static>)
-    ensures { texts_of groups.new.entries ≡ expire_items (key_of cookie.now) (texts_of groups.old.entries) }
-{
-    match groups.get_mut(domain_text(cookie)) {
-        Some(group) => group.expire(path_text(cookie), cookie.name()),
-        None => {}
-    }
-}
-
-// Removes the row from its domain's group. Returns it, and whether the group is now empty.
-fn take_row(
-    groups: &mut IndexMap<String, Paths, HashKey>,
-    domain: &str,
-    path: &str,
-    name: &str,
-) -> (Option<Cookie<'static>>, bool)
-    ensures value { result.0 ≡ find_items (key_at domain.now path.now name.now) (texts_of groups.old.entries) }
-    ensures groups { texts_of groups.new.entries ≡ changed_at (remove_item_paths path.now name.now) domain.now (texts_of groups.old.entries) }
-    ensures is_empty { result.1 ≡ is_empty_at domain.now (texts_of groups.new.entries) }
-{
-    match groups.get_mut(domain) {
-        Some(group) => {
-            let row = group.remove(path, name);
-            (row, group.is_empty())
-        }
-        None => (None, false),
-    }
-}
-
-// Removes the row of this domain, path and name, and its domain's group if that is empty then.
-fn remove_row(
-    groups: &mut IndexMap<String, Paths, HashKey>,
-    domain: &str,
-    path: &str,
-    name: &str,
-) -> Option<Cookie<'static>>
-    ensures value { result ≡ find_items (key_at domain.now path.now name.now) (texts_of groups.old.entries) }
-    ensures removed { texts_of groups.new.entries ≡ remove_items (key_at domain.now path.now name.now) (texts_of groups.old.entries) }
-{
-    let (row, is_empty) = take_row(groups, domain, path, name);
-    if is_empty {
-        groups.shift_remove(domain);
-    }
-    row
-}
-
-// Keeps the rows that have not expired at `now`, and drops empty groups. An expired row is one that
-// comes before (true, 0) in eviction order.
-fn retain_groups(groups: &mut IndexMap<String, Paths, HashKey>, now: DateTime)
-    ensures { texts_of groups.new.entries ≡ filter_groups (survives (moment_of now) (true, 0)) (texts_of groups.old.entries) }
-{
-    groups.retain(
-        |_domain: &String, group: &mut Paths| -> bool
-            ensures { (group.new ≡ filter_paths (survives (moment_of now) (true, 0)) group.old) × (result ≡ not (length group.new == 0)) }
-        {
-            group.retain((true, 0), now);
-            !group.is_empty()
-        },
-    );
 }

@@ -37,7 +37,7 @@ abbrev pub reply_text : Reply → List ℕ
 reply_text (Stored (Ok Inserted)) = codes "inserted"
 reply_text (Stored (Ok ExpiredExisting)) = codes "expired existing"
 reply_text (Stored (Ok UpdatedExisting)) = codes "updated"
-reply_text (Stored (Err refusal)) = codes "refused: " ++ cookie_error_text refusal
+reply_text (Stored (Err rejection)) = codes "refused: " ++ cookie_error_text rejection
 reply_text (Removed (Some row)) = codes "removed"
 reply_text (Removed None) = codes "none"
 reply_text Cleared = codes "cleared"

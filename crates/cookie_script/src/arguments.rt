@@ -34,7 +34,7 @@ pub fn arguments_error(error: io::Error) -> MainFault
 /// `N` is a decimal number from 1 to `usize::MAX`. Anything else is `BadArguments`.
 pub fn options(words: &[String]) -> Result<Options<'_>, MainFault>
     ensures value { option_map options_value (result_ok result) ≡ options_of (map string_bytes words.now) }
-    ensures refused { IfErr result (λ fault. fault ≡ MainFault.BadArguments) }
+    ensures errors { IfErr result (λ fault. fault ≡ MainFault.BadArguments) }
     ensures limit { IfOk result (λ options. IfSome options.limit (λ limit. 1 ≤ limit)) }
 {
     let none = Options {
@@ -58,7 +58,7 @@ pub fn options(words: &[String]) -> Result<Options<'_>, MainFault>
 fn alone<'a>(options: Options<'a>, word: &str) -> Result<Options<'a>, MainFault>
     requires limit { IfSome options.limit (λ limit. 1 ≤ limit) }
     ensures value { option_map options_value (result_ok result) ≡ option_alone word.now (options_value options.entry) }
-    ensures refused { IfErr result (λ fault. fault ≡ MainFault.BadArguments) }
+    ensures errors { IfErr result (λ fault. fault ≡ MainFault.BadArguments) }
     ensures limit { IfOk result (λ options. IfSome options.limit (λ limit. 1 ≤ limit)) }
 {
     match word {
@@ -78,7 +78,7 @@ fn with_option<'a>(
 ) -> Result<Options<'a>, MainFault>
     requires limit { IfSome options.limit (λ limit. 1 ≤ limit) }
     ensures value { option_map options_value (result_ok result) ≡ set_option option.now word.now (options_value options.entry) }
-    ensures refused { IfErr result (λ fault. fault ≡ MainFault.BadArguments) }
+    ensures errors { IfErr result (λ fault. fault ≡ MainFault.BadArguments) }
     ensures limit { IfOk result (λ options. IfSome options.limit (λ limit. 1 ≤ limit)) }
 {
     if option == "--suffixes" && options.suffixes.is_none() {

@@ -28,7 +28,7 @@ impl<'a> LineOutput<'a> {
     {
         match inserted {
             Ok(action) => LineOutput::Line("", action_text(action)),
-            Err(refusal) => LineOutput::Line("refused: ", refusal.text()),
+            Err(error) => LineOutput::Line("refused: ", error.text()),
         }
     }
 

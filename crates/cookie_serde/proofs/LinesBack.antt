@@ -17,7 +17,7 @@ use Rattle.cookie_words.specs.Moments.{Moment}
 use Rattle.cookie_forms.specs.FromJson.{cut, saved_at}
 use Rattle.cookie_forms.specs.Saved.{saved_view, HasValidExpiry, Parts}
 use Rattle.cookie_forms.specs.declared.saved.Saved.{Saved}
-use Rattle.cookie_forms.specs.Texts.{has_no_control}
+use Rattle.cookie_forms.specs.JsonText.{has_no_control}
 use Rattle.cookie_forms.specs.ToJson.{written}
 use Rattle.cookie_forms.specs.declared.error.SavedError.{SavedError}
 use Rattle.cookie_parts.specs.Cookie.{Row}

@@ -27,8 +27,8 @@ migrates_by (Source Fill.Memory) old new stops =
     (fails_by JsonParsesTo (Source Fill.Memory) old new stops, stops.1)
 migrates_by (Line number Memory) old new stops =
     (fails_by JsonParsesTo (Line number Memory) old new stops, stops.3)
-migrates_by (Line number (Cookie refusal)) old new (line, fails, reached, count) =
-    ((line, refuses (Cookie refusal) line (λ is. cc) fails, reached), count)
+migrates_by (Line number (Cookie rejection)) old new (line, fails, reached, count) =
+    ((line, refuses (Cookie rejection) line (λ is. cc) fails, reached), count)
 migrates_by (Line number (Idna errors)) old new (line, fails, reached, count) =
     ((line, refuses (Idna errors) line (λ is. cc) fails, reached), count)
 migrates_by (Line number Io) old new (line, fails, reached, count) =

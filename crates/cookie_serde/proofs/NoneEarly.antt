@@ -49,20 +49,20 @@ read_end None end early is = absurd (cc)
 read_end (Some m) None early is = refl
 read_end (Some m) (Some n) early is = let same : m ≡ n = cc in subst (λ (m : Moment). int_lt m.year (pos 0) ≡ false) same (early m refl)
 
-ends_late : (ends : Option (List ℕ)) (end : Option Moment) → parsed_expiry ends ≡ Some end → expires_early end ≡ false
+ends_late : (expires : Option (List ℕ)) (end : Option Moment) → parsed_expiry expires ≡ Some end → expires_early end ≡ false
 ends_late None None is = refl
 ends_late None (Some m) is = absurd (cc)
 ends_late (Some text) end is = read_end (parsed_moment text) end (read_from_zero text) is
 
-of_moment : (parts : Parts (List ℕ)) (ends : Option (Option Moment)) (saved : Parts Moment) → ((end : Option Moment) → ends ≡ Some end → expires_early end ≡ false)
-    → option_map (λ end. record { raw_cookie = parts.raw_cookie; path = parts.path; from_attr = parts.from_attr; domain = parts.domain; ends = end }) ends ≡ Some saved
+of_moment : (parts : Parts (List ℕ)) (expires : Option (Option Moment)) (saved : Parts Moment) → ((end : Option Moment) → expires ≡ Some end → expires_early end ≡ false)
+    → option_map (λ end. record { raw_cookie = parts.raw_cookie; path = parts.path; from_attr = parts.from_attr; domain = parts.domain; expires = end }) expires ≡ Some saved
     → is_early saved ≡ false
 of_moment parts None saved late is = absurd (cc)
-of_moment parts (Some end) saved late is = let same : end ≡ saved.ends = cc in subst (λ e. expires_early e ≡ false) same (late end refl)
+of_moment parts (Some end) saved late is = let same : end ≡ saved.expires = cc in subst (λ e. expires_early e ≡ false) same (late end refl)
 
 of_parts : (parts : Option (Parts (List ℕ))) (saved : Parts Moment) → then_read with_parsed_expiry parts ≡ Ok saved → is_early saved ≡ false
 of_parts None saved is = absurd (cc)
-of_parts (Some parts) saved is = of_moment parts (parsed_expiry parts.ends) saved (ends_late parts.ends) (read_ok (with_parsed_expiry parts) saved is)
+of_parts (Some parts) saved is = of_moment parts (parsed_expiry parts.expires) saved (ends_late parts.expires) (read_ok (with_parsed_expiry parts) saved is)
   where
     read_ok : (read : Option (Parts Moment)) (saved : Parts Moment) → ok_or read ErrorCase.Moment ≡ Ok saved → read ≡ Some saved
     read_ok None saved is = absurd (cc)
@@ -77,7 +77,7 @@ of_tree false parts saved is = of_parts parts saved is
 of_saved_tree : (tree : Data) (saved : Parts Moment) → saved_at tree ≡ Ok saved → is_early saved ≡ false
 of_saved_tree tree saved is = of_tree (has_float tree) (parts_in tree) saved is
 
-ends_back : (ends : Option Moment) → saved_expires (expires_of_saved ends) ≡ ends
+ends_back : (expires : Option Moment) → saved_expires (expires_of_saved expires) ≡ expires
 ends_back None = refl
 ends_back (Some end) = refl
 
@@ -87,16 +87,16 @@ of_raw : (raw : Result Raw CookieError) (saved : Parts Moment) (cookie : Row) �
       raw = raw;
       domain = domain_of_saved saved.domain;
       path = record { text = saved.path; is_from_attribute = saved.from_attr };
-      expires = expires_of_saved saved.ends;
+      expires = expires_of_saved saved.expires;
     })) ≡ Ok cookie → is_early (saved_of cookie) ≡ false
-of_raw (Err refusal) saved cookie late is = absurd (cc)
+of_raw (Err rejection) saved cookie late is = absurd (cc)
 of_raw (Ok raw) saved cookie late is =
-    let same : expires_of_saved saved.ends ≡ cookie.expires = cc in
-    subst (λ end. expires_early (saved_expires end) ≡ false) same (rw (ends_back saved.ends) late)
+    let same : expires_of_saved saved.expires ≡ cookie.expires = cc in
+    subst (λ end. expires_early (saved_expires end) ≡ false) same (rw (ends_back saved.expires) late)
 
 of_cookie : (reported : Result Row CookieError) (cookie : Row) → result_map_both (λ cookie. cookie) Cookie reported ≡ Ok cookie → reported ≡ Ok cookie
 of_cookie (Ok other) cookie is = let same : other ≡ cookie = cc in ap Ok same
-of_cookie (Err refusal) cookie is = absurd (cc)
+of_cookie (Err rejection) cookie is = absurd (cc)
 
 of_saved : (reported : Result (Parts Moment) SavedError) (cookie : Row) → ((saved : Parts Moment) → reported ≡ Ok saved → is_early saved ≡ false)
     → and_then (result_map_both (λ saved. saved) Saved reported) (λ saved. result_map_both (λ cookie. cookie) Cookie (cookie_of_saved saved)) ≡ Ok cookie

@@ -5,7 +5,7 @@ use Rattle.std.specs.declared.string.String.{String}
 use Rattle.serde_json.specs.Data.{Data}
 use Rattle.serde_json.specs.Read.{read}
 use Rattle.cookie_forms.specs.FromJson.{list_in}
-use Rattle.cookie_forms.specs.Texts.{pretty_text}
+use Rattle.cookie_forms.specs.JsonText.{pretty_text}
 use Rattle.cookie_forms.specs.ToJson.{list_written}
 use Rattle.cookie_forms.specs.declared.error.SavedError.{SavedError}
 use Rattle.cookie_parts.specs.Cookie.{Row}

@@ -9,11 +9,11 @@ use Rattle.cookie_device.specs.Device.{AppendsPrefix, SinkState}
 use Rattle.cookie_parts.specs.Cookie.{Row, is_persistent}
 use Rattle.cookie_parts.specs.declared.error.Error.{Error}
 use Rattle.cookie_parts.specs.declared.error.Error.TheVariants.{Io}
-use Rattle.cookie_laws.specs.Rows.{is_live}
+use Rattle.cookie_laws.specs.Rows.{is_unexpired}
 
 -- the row is unexpired and persistent
 abbrev pub is_saved : Moment → Row → Bool
-is_saved now row = is_live now row && is_persistent row.expires
+is_saved now row = is_unexpired now row && is_persistent row.expires
 
 -- the rows that are saved at a time
 abbrev pub saved_rows : Moment → List Row → List Row

@@ -196,7 +196,7 @@ fn parse_list<'l, F: Fn(&str) -> Result<Vec<Cookie<'_>>, Error>>(
 ) -> Result<Vec<Cookie<'l>>, Error>
     requires { F.IsAlwaysCallable cookies_of.now }
     ensures parsed { IfOk result (λ cookies. ParsesToCookies (ParsesToVec (FnReturnsAt F.Fn cookies_of.now)) bytes.now cookies.items) }
-    ensures refused { IfErr result (λ error. RejectsText (ParsesToVec (FnReturnsAt F.Fn cookies_of.now)) error bytes.now) }
+    ensures errors { IfErr result (λ error. RejectsText (ParsesToVec (FnReturnsAt F.Fn cookies_of.now)) error bytes.now) }
 {
     match str::from_utf8(bytes) {
         Ok(text) => cookies_of(text),

@@ -18,7 +18,8 @@ ghost use Rattle.cookie_serde.specs.RonLists.{RonListParsesTo, RonCookies, Seria
 ghost use Rattle.cookie_serde.specs.Saving.{line_text, lines_text, AreTexts, WritesRows};
 
 use cookie_forms::laws::{
-    compact_texts_are_lines, ends_are_moments, line_feeds_are_blank, list_reads_back, reads_back,
+    compact_texts_are_lines, expiries_are_moments, line_feeds_are_blank, list_reads_back,
+    reads_back,
 };
 use cookie_parts::laws::survives_saving;
 use cookie_ron::laws::{printed_reads_back, results_are_unique};
@@ -34,7 +35,7 @@ pub fn list_comes_back()
 {
     list_reads_back();
     line_feeds_are_blank();
-    ends_are_moments();
+    expiries_are_moments();
     survives_saving();
 }
 
@@ -89,7 +90,7 @@ pub fn lines_come_back()
 {
     reads_back();
     compact_texts_are_lines();
-    ends_are_moments();
+    expiries_are_moments();
     survives_saving();
 }
 

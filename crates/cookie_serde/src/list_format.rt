@@ -175,7 +175,7 @@ fn cookies_of_ron(alloc: Global, text: &str) -> Result<Vec<Cookie<'static>>, Err
 // The cookies of saved forms, or `Cookie(Parse)` if a `Set-Cookie` value is not a cookie.
 fn cookies_of_list(alloc: Global, list: Vec<Saved>) -> Result<Vec<Cookie<'static>>, Error>
     ensures cookies { IfOk result (λ cookies. cookies_of_saved (map saved_view list.items) ≡ Ok cookies.items) }
-    ensures refused { IfErr result (λ error. (error ≡ Error.Memory)
+    ensures errors { IfErr result (λ error. (error ≡ Error.Memory)
         ⊎ (result_map_both (λ cookies. cookies) Error.Cookie (cookies_of_saved (map saved_view list.items)) ≡ Err error)) }
     ensures memory { OnErr result (list.items ≢ []) }
 {

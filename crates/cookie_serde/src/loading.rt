@@ -176,7 +176,7 @@ fn parse_line<'l, F: Fn(&str) -> Result<Cookie<'_>, Error>>(
 ) -> Result<Cookie<'l>, Error>
     requires { F.IsAlwaysCallable cookie_of.now }
     ensures parsed { IfOk result (λ cookie. ParsesToCookie (FnReturnsAt F.Fn cookie_of.now) line.now cookie) }
-    ensures refused { IfErr result (λ error. RejectsLine (FnReturnsAt F.Fn cookie_of.now) error line.now) }
+    ensures errors { IfErr result (λ error. RejectsLine (FnReturnsAt F.Fn cookie_of.now) error line.now) }
 {
     match str::from_utf8(line) {
         Ok(text) => cookie_of(text),

@@ -21,3 +21,10 @@ pub use Rattle.cookie_serde.specs.Migration
 pub use Rattle.cookie_serde.specs.RonLists
 pub use Rattle.cookie_serde.specs.SavedForms
 pub use Rattle.cookie_serde.specs.Saving
+pub use Rattle.cookie_strict.specs.CrossSite
+pub use Rattle.cookie_strict.specs.HeaderValue
+pub use Rattle.cookie_strict.specs.HostPrefix
+pub use Rattle.cookie_strict.specs.Lifetime
+pub use Rattle.cookie_strict.specs.StrictErrors
+pub use Rattle.cookie_strict.specs.StrictRules
+pub use Rattle.cookie_strict.specs.StrictRuns

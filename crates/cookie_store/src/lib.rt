@@ -26,3 +26,4 @@ pub use cookie_raw::{RawCookie, RawCookieParseError};
 pub use cookie_rows::{HashKey, IterAny, IterUnexpired, RequestCookies, RequestValues, StoreAlloc};
 pub use cookie_serde as serde;
 pub use cookie_serde::Bulk;
+pub use cookie_strict as strict;

@@ -1,9 +1,9 @@
+mod Filling
+mod Loading
+mod Passing
+mod Saving
 mod Seconds
-mod StorePtrSteps
 mod StoreBox
 mod StoreGlue
-mod Filling
+mod StorePtrSteps
 mod WrittenHeaders
-mod Loading
-mod Saving
-mod Passing

@@ -2,7 +2,7 @@
 use Rattle.std.proofs.Common.{◌≡◌, ◌⊎◌, inl, inr, ℕ, List, map, Result, Ok, Err, IsOk, ap, refl, sym}
 use Rattle.std.specs.Result.{result_map_both}
 use Rattle.serde_json.specs.Data.{Data}
-use Rattle.cookie_forms.specs.Texts.{pretty_text}
+use Rattle.cookie_forms.specs.JsonText.{pretty_text}
 use Rattle.cookie_forms.specs.ToJson.{list_written}
 use Rattle.cookie_forms.specs.declared.error.SavedError.{SavedError}
 use Rattle.cookie_ron.specs.Printed.{ron_written}

@@ -2,7 +2,7 @@
 use Rattle.std.specs.Prelude.{◌≡◌, ℕ, Bool, List, [], ◌∷◌, ◌++◌, map, Option, Some, None, Result, Ok, Err, if◌then◌else◌, ℤ}
 use Rattle.std.specs.Result.{result_map_both}
 use Rattle.cookie_words.specs.Moments.{Moment}
-use Rattle.cookie_forms.specs.Texts.{pretty_text}
+use Rattle.cookie_forms.specs.JsonText.{pretty_text}
 use Rattle.cookie_forms.specs.ToJson.{list_written}
 use Rattle.cookie_forms.specs.declared.error.SavedError.{SavedError}
 use Rattle.cookie_ron.specs.Printed.{ron_written}

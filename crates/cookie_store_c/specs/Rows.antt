@@ -7,7 +7,7 @@ use Rattle.cookie_parts.specs.Domain.{DomainValue, HostOnly, domain_text}
 use Rattle.cookie_parts.specs.Expiry.{Expiry, AtUtc, SessionEnd}
 use Rattle.cookie_laws.specs.Contents.{Contents}
 use Rattle.cookie_store_c.specs.Buffers.{at_front}
-use Rattle.cookie_store_c.specs.declared.rows.CookieRow.{CookieRow}
+use Rattle.cookie_store_c.specs.declared.cookie_row.CookieRow.{CookieRow}
 use Rattle.cookie_store_c.specs.declared.status.Status.{Status}
 use Rattle.cookie_store_c.specs.declared.status.Status.TheVariants.{Done, NoMemory, NoRoom, NoStore}
 

@@ -39,29 +39,29 @@ status_code BadRon = 33
 status_code BadEnd = 34
 
 -- the status of an insertion error
-abbrev pub refusal_status : CookieError → Status
-refusal_status CookieCase.NonHttpScheme = NonHttpScheme
-refusal_status CookieCase.NonRelativeScheme = NonRelativeScheme
-refusal_status CookieCase.DomainMismatch = DomainMismatch
-refusal_status CookieCase.Expired = Expired
-refusal_status CookieCase.Parse = Parse
-refusal_status CookieCase.PublicSuffix = PublicSuffix
-refusal_status CookieCase.UnspecifiedDomain = UnspecifiedDomain
-refusal_status CookieCase.Memory = NoMemory
+abbrev pub cookie_error_status : CookieError → Status
+cookie_error_status CookieCase.NonHttpScheme = NonHttpScheme
+cookie_error_status CookieCase.NonRelativeScheme = NonRelativeScheme
+cookie_error_status CookieCase.DomainMismatch = DomainMismatch
+cookie_error_status CookieCase.Expired = Expired
+cookie_error_status CookieCase.Parse = Parse
+cookie_error_status CookieCase.PublicSuffix = PublicSuffix
+cookie_error_status CookieCase.UnspecifiedDomain = UnspecifiedDomain
+cookie_error_status CookieCase.Memory = NoMemory
 
 -- the status of a reply of the store
 abbrev pub reply_status : Reply → Status
 reply_status (Stored (Ok ActionCase.Inserted)) = Inserted
 reply_status (Stored (Ok ActionCase.UpdatedExisting)) = Updated
 reply_status (Stored (Ok ActionCase.ExpiredExisting)) = ExpiredExisting
-reply_status (Stored (Err refusal)) = refusal_status refusal
+reply_status (Stored (Err rejection)) = cookie_error_status rejection
 reply_status (Removed (Some row)) = Done
 reply_status (Removed None) = NotFound
 reply_status Cleared = Done
 
 -- the status of a failed save or load; no list fails with `Io`, `Idna` or `Other`
 abbrev pub error_status : Error → Status
-error_status (ErrorCase.Cookie refusal) = refusal_status refusal
+error_status (ErrorCase.Cookie rejection) = cookie_error_status rejection
 error_status (ErrorCase.Saved SavedCase.Json) = BadJson
 error_status (ErrorCase.Saved SavedCase.Shape) = BadShape
 error_status (ErrorCase.Saved SavedCase.Ron) = BadRon

@@ -10,10 +10,10 @@ ghost use Rattle.cookie_store_c.specs.Rows.{ReportsRows};
 ghost use Rattle.cookie_store_c.specs.Statuses.{IsCodeOf};
 ghost use Rattle.cookie_store_c.specs.declared.status.Status.{Status};
 
+use crate::cookie_row::{self, CookieRow};
 use crate::handle::StoreHandle;
-use crate::rows::{self, CookieRow};
 use crate::status::Status;
-use crate::{calls, header, lists};
+use crate::{calls, header, list_calls};
 use cookie_store::CookieStore;
 use cookie_store::serde::ListFormat;
 use std::alloc::Global;
@@ -293,7 +293,7 @@ pub extern "C" fn cookie_store_count(alloc: Global, handle: &mut StoreHandle) ->
     let Some(store) = handle.take(alloc) else {
         return 0;
     };
-    let count = rows::rows_len(store.iter_any()).unwrap_or(usize::MAX);
+    let count = cookie_row::rows_len(store.iter_any()).unwrap_or(usize::MAX);
     handle.put(alloc, store);
     count
 }
@@ -326,7 +326,7 @@ pub extern "C" fn cookie_store_rows(
     let Some(store) = handle.take(alloc) else {
         return Status::NoStore.code();
     };
-    let status = rows::write_rows(&store, rows, texts, rows_needed, texts_needed);
+    let status = cookie_row::write_rows(&store, rows, texts, rows_needed, texts_needed);
     handle.put(alloc, store);
     status.code()
 }
@@ -362,7 +362,7 @@ pub extern "C" fn cookie_store_save_json(
     let Some(store) = handle.take(alloc) else {
         return Status::NoStore.code();
     };
-    let status = lists::save(ListFormat::Json, &store, now, all, out, needed);
+    let status = list_calls::save(ListFormat::Json, &store, now, all, out, needed);
     handle.put(alloc, store);
     status.code()
 }
@@ -398,7 +398,7 @@ pub extern "C" fn cookie_store_save_ron(
     let Some(store) = handle.take(alloc) else {
         return Status::NoStore.code();
     };
-    let status = lists::save(ListFormat::Ron, &store, now, all, out, needed);
+    let status = list_calls::save(ListFormat::Ron, &store, now, all, out, needed);
     handle.put(alloc, store);
     status.code()
 }
@@ -432,7 +432,7 @@ pub extern "C" fn cookie_store_load_json(
         handle.put(alloc, store);
         return Status::HasStore.code();
     }
-    match lists::load(ListFormat::Json, alloc, key, list, now, all) {
+    match list_calls::load(ListFormat::Json, alloc, key, list, now, all) {
         Ok(store) => begin(alloc, handle, store).code(),
         Err(status) => status.code(),
     }
@@ -467,7 +467,7 @@ pub extern "C" fn cookie_store_load_ron(
         handle.put(alloc, store);
         return Status::HasStore.code();
     }
-    match lists::load(ListFormat::Ron, alloc, key, list, now, all) {
+    match list_calls::load(ListFormat::Ron, alloc, key, list, now, all) {
         Ok(store) => begin(alloc, handle, store).code(),
         Err(status) => status.code(),
     }

@@ -4,11 +4,11 @@
 
 mod buffer;
 mod calls;
+mod cookie_row;
 mod exports;
 mod handle;
 mod header;
 mod inputs;
-mod lists;
-mod rows;
+mod list_calls;
 mod status;
 mod store_ptr;

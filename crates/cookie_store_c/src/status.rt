@@ -1,7 +1,7 @@
 //! The status codes of the C functions.
 ghost use Rattle.std.specs.Prelude.{◌≡◌};
 ghost use Rattle.cookie_laws.specs.Runs.{Stored};
-ghost use Rattle.cookie_store_c.specs.Statuses.{error_status, refusal_status, reply_status, status_code};
+ghost use Rattle.cookie_store_c.specs.Statuses.{error_status, cookie_error_status, reply_status, status_code};
 
 use cookie_store::saved::SavedError;
 use cookie_store::{CookieError, Error, InsertResult, StoreAction};
@@ -78,15 +78,15 @@ impl Status {
             Ok(StoreAction::Inserted) => Status::Inserted,
             Ok(StoreAction::UpdatedExisting) => Status::Updated,
             Ok(StoreAction::ExpiredExisting) => Status::ExpiredExisting,
-            Err(refusal) => Status::of_refusal(refusal),
+            Err(rejection) => Status::of_cookie_error(rejection),
         }
     }
 
     // Returns the status of an insertion error.
-    fn of_refusal(refusal: CookieError) -> Status
-        ensures { result ≡ refusal_status refusal }
+    fn of_cookie_error(rejection: CookieError) -> Status
+        ensures { result ≡ cookie_error_status rejection }
     {
-        match refusal {
+        match rejection {
             CookieError::NonHttpScheme => Status::NonHttpScheme,
             CookieError::NonRelativeScheme => Status::NonRelativeScheme,
             CookieError::DomainMismatch => Status::DomainMismatch,
@@ -103,7 +103,7 @@ impl Status {
         ensures { result ≡ error_status fault }
     {
         match fault {
-            Error::Cookie(refusal) => Status::of_refusal(refusal),
+            Error::Cookie(rejection) => Status::of_cookie_error(rejection),
             Error::Saved(SavedError::Json) => Status::BadJson,
             Error::Saved(SavedError::Shape) => Status::BadShape,
             Error::Saved(SavedError::Ron) => Status::BadRon,

@@ -114,7 +114,7 @@ static BUILT: [Case; 6] = [
 ];
 
 // Checks the header of the unexpired cookies.
-fn are_live(rt: &impl Abort, alloc: Global, store: &CookieStore, case: &Case) {
+fn are_unexpired(rt: &impl Abort, alloc: Global, store: &CookieStore, case: &Case) {
     let rows = unexpired(rt, alloc, store, new_year());
     let live = header(rt, alloc, rows.as_slice());
     is_equal(rt, &live.as_str(), &case.4, case);
@@ -124,7 +124,7 @@ fn is_built(rt: &impl Abort, alloc: Global, case: &Case) {
     let store = store_with(rt, alloc, case.0, case.1);
     are_listed(rt, alloc, &store, case.2, &case.3);
     are_all(rt, alloc, &store, case.3, &case.3);
-    are_live(rt, alloc, &store, case);
+    are_unexpired(rt, alloc, &store, case);
 }
 
 #[test]

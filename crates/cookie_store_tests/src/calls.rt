@@ -1,7 +1,7 @@
 //! Calls as values, and their replies.
 use crate::built::cookie;
 use crate::checks::is_equal;
-use crate::steps::{ENDED, INSERTED, UPDATED, new_year, store_under};
+use crate::steps::{EXPIRED, INSERTED, UPDATED, new_year, store_under};
 use crate::texts::{are_given, url, value_of};
 use cookie_store::{Call, CookieError, CookieStore, InsertResult, Reply, Stopped};
 use std::alloc::Global;
@@ -34,7 +34,7 @@ pub static CALLS: [(CallCase, &str); 13] = [
         CallCase::Set(FROM, "c", Err(CookieError::Parse)),
         "x=2; y=1",
     ),
-    (CallCase::Set(FROM, "x=3; Max-Age=0", ENDED), "y=1"),
+    (CallCase::Set(FROM, "x=3; Max-Age=0", EXPIRED), "y=1"),
     (
         CallCase::Insert(FROM, "x=3; Max-Age=0", Err(CookieError::Expired)),
         "y=1",

@@ -1,27 +1,20 @@
 //! Each call that allocates returns what it does with enough memory, or out of memory.
 //! `tools/refuse.c` makes each allocation fail in turn.
-use crate::built::{UrlAndValue, built, items, store_of};
-use crate::calls::{CALLS, all_calls, are_done};
+mod runs;
+mod saving;
+
+use crate::built::{UrlAndValue, built, items};
 use crate::checks::{end_of, has_the_same_rows, is_equal};
-use crate::forms;
-use crate::forms::{CASES as FORMS, Shape};
 use crate::insertion::{InsertCall, reply_by};
-use crate::lists::Form;
 use crate::lookups::{Wanted, are_between};
-use crate::responses::raw_cookies;
-use crate::saved::Which;
-use crate::steps::{ENDED, INSERTED, UPDATED, new_year, store_under};
+use crate::steps::{EXPIRED, INSERTED, UPDATED, new_year, store_under};
 use crate::texts::{add, are_given, are_listed, header, url};
-use cookie_fakes::Fake;
 use cookie_store::{
-    Bulk, Call, Cookie, CookieError, CookieStore, Error, HashKey, InsertResult, RawCookie, Reply,
-    RequestCookies, RequestValues,
+    Bulk, Cookie, CookieError, CookieStore, HashKey, InsertResult, RequestCookies, RequestValues,
 };
-use log::sink::Discard;
 use std::alloc::{AllocError, Global};
 use std::hash::RandomState;
 use std::process::Abort;
-use std::vec::IntoIter;
 use url::Url;
 
 // An allocation of a size that is used for nothing else.
@@ -100,7 +93,7 @@ static CASES: [Case; 6] = [
     ),
     (
         "y=2; Domain=example.com; Path=/; Max-Age=0",
-        ENDED,
+        EXPIRED,
         "x=1; z=1; u=1",
     ),
     ("s=1; Max-Age=0", Err(CookieError::Expired), GIVEN),
@@ -443,203 +436,4 @@ fn from_cookies(rt: HostRuntime) {
         Ok(store) => are_listed(&rt, rt.alloc(), store, BUILT, &"the rows"),
         Err(_) => is_equal(&rt, &end_of(&outcome), &"memory", &"the store"),
     }
-}
-
-// The replies to the calls executed: to all, or to fewer if out of memory.
-fn replies_to_all(
-    rt: &impl Abort,
-    alloc: Global,
-    store: &mut CookieStore,
-    calls: Vec<Call>,
-) -> Vec<Reply> {
-    start(alloc);
-    let outcome = store.apply_all(calls);
-    end(alloc);
-    match outcome {
-        Ok(replies) => {
-            is_equal(rt, &replies.len(), &CALLS.len(), &"all calls");
-            replies
-        }
-        Err(stopped) => {
-            is_equal(rt, &stopped.replies.len(), &stopped.count, &"the replies");
-            is_equal(rt, &(stopped.count < CALLS.len()), &true, &stopped.count);
-            stopped.replies
-        }
-    }
-}
-
-#[test]
-fn apply_all(rt: HostRuntime) {
-    let mut store = store_under(&rt, rt.alloc(), "com");
-    let calls = all_calls(&rt, rt.alloc());
-    let replies = replies_to_all(&rt, rt.alloc(), &mut store, calls);
-    are_done(&rt, rt.alloc(), &store, replies.as_slice());
-}
-
-// The cookies of a response, one of which is rejected, and what the store of four cookies returns
-// after none, one, two ..
-const RESPONSE: [&str; 4] = [
-    "t=1",
-    "s=1; Max-Age=0",
-    "y=2; Domain=example.com; Path=/",
-    "w=1; Domain=b.example.com; Path=/",
-];
-
-const AFTER: [&str; 5] = [
-    GIVEN,
-    "x=1; z=1; y=1; u=1; t=1",
-    "x=1; z=1; y=1; u=1; t=1",
-    "x=1; z=1; y=2; u=1; t=1",
-    "x=1; w=1; z=1; y=2; u=1; t=1",
-];
-
-// How many cookies of the response were processed: those before the one that ran out of memory.
-fn stored_of_response(
-    rt: &impl Abort,
-    alloc: Global,
-    store: &mut CookieStore,
-    cookies: &mut IntoIter<RawCookie<'static>>,
-    url: &Url,
-) -> usize {
-    start(alloc);
-    let outcome = store.store_response_cookies(&Discard, &mut *cookies, url, new_year());
-    end(alloc);
-    let came = RESPONSE.len().saturating_sub(cookies.len());
-    match outcome {
-        Ok(()) => {
-            is_equal(rt, &came, &RESPONSE.len(), &"the cookies that came");
-            came
-        }
-        Err(AllocError) => came.saturating_sub(1),
-    }
-}
-
-#[test]
-fn store_response_cookies(rt: HostRuntime) {
-    let url = url(&rt, rt.alloc(), FROM);
-    let mut store = store_of_texts(&rt, rt.alloc(), &ROWS);
-    let mut cookies = raw_cookies(&rt, rt.alloc(), &RESPONSE).into_iter();
-    let count = stored_of_response(&rt, rt.alloc(), &mut store, &mut cookies, &url);
-    let wanted = AFTER.get(count).expect(&rt, "no more cookies than came");
-    are_given(&rt, rt.alloc(), &store, (FROM, wanted), new_year(), &count);
-    rejects_by_its_list(&rt, &mut store, &url);
-}
-
-// Whether the output is well formed if out of memory: whole lines of the first cookies, or nothing
-// for one string.
-fn is_cut_off_well(case: &forms::Case, written: &[u8]) -> bool {
-    match case.0 {
-        Shape::Lines | Shape::JsonLines => {
-            case.1.as_bytes().starts_with(written)
-                && (written.is_empty() || written.ends_with(b"\n"))
-        }
-        Shape::Text | Shape::List(_) => written.is_empty(),
-    }
-}
-
-fn is_saved(rt: &impl Abort, case: &forms::Case, outcome: &Result<(), Error>, written: &[u8]) {
-    match outcome {
-        Ok(()) => is_equal(rt, &written, &case.1.as_bytes(), case),
-        Err(error) => {
-            is_equal(rt, error, &Error::Memory, case);
-            is_equal(rt, &is_cut_off_well(case, written), &true, &(case, written));
-        }
-    }
-}
-
-// Checks that the cookies are saved, or out of memory, and that the store keeps them.
-fn are_saved_as(rt: &impl Abort, alloc: Global, case: &forms::Case, which: &Which) {
-    let store = store_of(rt, alloc, &forms::RECEIVED);
-    let room = Vec::with_capacity(alloc, 1_024).expect(rt, "memory");
-    let fake = Fake::new(room, usize::MAX, 0);
-    start(alloc);
-    let (outcome, failures, fake) = forms::save(alloc, case.0, &store, which, fake);
-    end(alloc);
-    is_equal(rt, &failures, &0, case);
-    is_saved(rt, case, &outcome, fake.inner.as_slice());
-    has_the_same_rows(rt, &store, &store_of(rt, alloc, &forms::RECEIVED));
-}
-
-// In each format.
-fn are_saved(rt: &impl Abort, alloc: Global, which: &Which) {
-    for case in &FORMS {
-        are_saved_as(rt, alloc, case, which);
-    }
-}
-
-#[test]
-fn save(rt: HostRuntime) {
-    are_saved(&rt, rt.alloc(), &Which::At(new_year()));
-}
-
-#[test]
-fn save_incl_expired_and_nonpersistent(rt: HostRuntime) {
-    are_saved(&rt, rt.alloc(), &Which::All);
-}
-
-// A format, a text, and what the store loaded from it returns for `FROM`.
-type Source = (Shape, &'static [u8], &'static str);
-
-static SOURCES: [Source; 5] = [
-    (
-        Shape::Lines,
-        b"x=1; Domain=b.example.com; Path=/\n\
-        z=1; Domain=b.example.com; Path=/p\n\
-        y=1; Domain=example.com; Path=/\n\
-        u=1; Domain=example.com; Path=/p\n\
-        t=1\n",
-        GIVEN_OF_FIVE,
-    ),
-    (Shape::Text, b"y=1|u=1", "y=1; u=1"),
-    (
-        Shape::JsonLines,
-        br#"{"domain":{"Suffix":"example.com"},"expires":"SessionEnd","path":["/",true],"raw_cookie":"y=1"}
-{"domain":{"HostOnly":"a.b.example.com"},"expires":{"AtUtc":"2100-08-03T00:38:37Z"},"path":["/p",false],"raw_cookie":"u=1"}
-"#,
-        "y=1; u=1",
-    ),
-    (
-        Shape::List(Form::Json),
-        br#"[{"domain":{"Suffix":"example.com"},"expires":"SessionEnd","path":["/",true],"raw_cookie":"y=1"},
-{"domain":{"HostOnly":"a.b.example.com"},"expires":{"AtUtc":"2100-08-03T00:38:37Z"},"path":["/p",false],"raw_cookie":"u=1"}]
-"#,
-        "y=1; u=1",
-    ),
-    (
-        Shape::List(Form::Ron),
-        br#"[(raw_cookie: "y=1", path: ("/", true), domain: Suffix("example.com"), expires: SessionEnd),
-(raw_cookie: "u=1", path: ("/p", false), domain: HostOnly("a.b.example.com"), expires: AtUtc("2100-08-03T00:38:37Z"))]
-"#,
-        "y=1; u=1",
-    ),
-];
-
-fn is_loaded(rt: &impl Abort, alloc: Global, url: &Url, source: &Source, which: &Which) {
-    let (shape, bytes, wanted) = *source;
-    let fake = Fake::new(bytes, usize::MAX, 0);
-    start(alloc);
-    let (outcome, failures, _) = forms::load(alloc, shape, url, which, fake);
-    end(alloc);
-    is_equal(rt, &failures, &0, source);
-    match &outcome {
-        Ok(store) => are_given(rt, alloc, store, (FROM, wanted), new_year(), &shape),
-        Err(_) => is_equal(rt, &end_of(&outcome), &"memory", source),
-    }
-}
-
-fn are_loaded(rt: &impl Abort, alloc: Global, which: &Which) {
-    let url = url(rt, alloc, FROM);
-    for source in &SOURCES {
-        is_loaded(rt, alloc, &url, source, which);
-    }
-}
-
-#[test]
-fn load(rt: HostRuntime) {
-    are_loaded(&rt, rt.alloc(), &Which::At(new_year()));
-}
-
-#[test]
-fn load_all(rt: HostRuntime) {
-    are_loaded(&rt, rt.alloc(), &Which::All);
 }

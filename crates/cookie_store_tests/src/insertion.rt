@@ -3,7 +3,7 @@ use crate::built::UrlAndValue;
 use crate::calls::{CallCase, call};
 use crate::checks::is_equal;
 use crate::growths::{end, start};
-use crate::steps::{ENDED, INSERTED, UPDATED, new_year};
+use crate::steps::{EXPIRED, INSERTED, UPDATED, new_year};
 use crate::texts::url;
 use cookie_store::{Cookie, CookieError, CookieStore, InsertResult, RawCookie, Reply};
 use std::alloc::Global;
@@ -120,14 +120,14 @@ static REPLIES: [Received; 8] = [
         "c=v; HttpOnly",
         Err(CookieError::NonHttpScheme),
     ),
-    ("http://example.com/foo/bar", "c=v; Max-Age=0", ENDED),
+    ("http://example.com/foo/bar", "c=v; Max-Age=0", EXPIRED),
     (
         "http://example.com/foo/bar",
         "c=v; Max-Age=-1",
         Err(CookieError::Expired),
     ),
     ("http://example.com/foo/bar", "c=v", UPDATED),
-    ("http://example.com/foo/bar", "c=v; Max-Age=-1", ENDED),
+    ("http://example.com/foo/bar", "c=v; Max-Age=-1", EXPIRED),
     (
         "http://example.com/foo/bar",
         "c=v; Domain=bar.example.com",

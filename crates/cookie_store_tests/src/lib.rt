@@ -32,6 +32,8 @@ mod loaded;
 #[cfg(test)]
 mod lookups;
 #[cfg(test)]
+mod malformed;
+#[cfg(test)]
 mod many;
 #[cfg(test)]
 mod matching;
@@ -47,5 +49,7 @@ mod rows;
 mod saved;
 #[cfg(test)]
 mod steps;
+#[cfg(test)]
+mod strict;
 #[cfg(test)]
 mod texts;

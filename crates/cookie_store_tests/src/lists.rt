@@ -158,7 +158,7 @@ pub const LASTING: &str = r#"[
 "#;
 
 // The list of an expired cookie, which is loaded and saved only with expired cookies included.
-pub const ENDED: &str = r#"[
+pub const EXPIRED: &str = r#"[
   {
     "domain": {
       "HostOnly": "test.com"

@@ -22,7 +22,7 @@ pub fn cookie_of<'l>(alloc: Global, line: &'l str, url: &Url) -> Result<Cookie<'
     match Cookie::parse(alloc, line, url, new_year()) {
         Ok(cookie) => Ok(cookie),
         Err(CookieError::Memory) => Err(Error::Memory),
-        Err(refusal) => Err(Error::Cookie(refusal)),
+        Err(error) => Err(Error::Cookie(error)),
     }
 }
 

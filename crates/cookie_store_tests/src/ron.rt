@@ -29,7 +29,7 @@ pub const LASTING: &str = r#"[
 "#;
 
 // The list of an expired cookie, which is loaded and saved only with expired cookies included.
-pub const ENDED: &str = r#"[
+pub const EXPIRED: &str = r#"[
     (
         raw_cookie: "1=one; SameSite=None; Secure; Path=/; Expires=Thu, 03 Aug 2000 00:38:37 GMT",
         path: ("/", true),

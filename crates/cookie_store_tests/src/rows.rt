@@ -1,6 +1,6 @@
 //! Stored cookies, found by domain, path and name, whether expired or not.
 use crate::checks::is_equal;
-use crate::steps::{ENDED, INSERTED, Step, new_year, take_all};
+use crate::steps::{EXPIRED, INSERTED, Step, new_year, take_all};
 use crate::texts::{are_listed, listed, unexpired, value_of};
 use cookie_store::CookieStore;
 use jiff::civil::{DateTime, date};
@@ -14,7 +14,7 @@ static LIVES: [Step; 5] = [
     Step::Set("http://a.com/", "s=1", INSERTED),
     Step::Set("http://b.com/", "e=3; Path=/p", INSERTED),
     Step::Set("http://a.com/", "m=2; Max-Age=60", INSERTED),
-    Step::Set("http://b.com/", "e=4; Path=/p; Max-Age=0", ENDED),
+    Step::Set("http://b.com/", "e=4; Path=/p; Max-Age=0", EXPIRED),
     Step::Listed(LISTED),
 ];
 
@@ -39,19 +39,36 @@ static FOUND: [Found; 7] = [
 ];
 
 // Checks `get_any` and `contains_any`, and `get` and `contains` at the time.
-fn is_found(rt: &impl Abort, store: &CookieStore, found: &Found, moment: DateTime, is_live: bool) {
+fn is_found(
+    rt: &impl Abort,
+    store: &CookieStore,
+    found: &Found,
+    moment: DateTime,
+    is_unexpired: bool,
+) {
     let (domain, path, name, value, _) = *found;
     let any = value_of(store.get_any(domain, path, name));
     let is_any = store.contains_any(domain, path, name);
     is_equal(rt, &(any, is_any), &(value, value.is_some()), found);
     let live = value_of(store.get(domain, path, name, moment));
     let is_there = store.contains(domain, path, name, moment);
-    let wanted = if is_live { value } else { None };
-    is_equal(rt, &(live, is_there), &(wanted, is_live), &(found, moment));
+    let wanted = if is_unexpired { value } else { None };
+    is_equal(
+        rt,
+        &(live, is_there),
+        &(wanted, is_unexpired),
+        &(found, moment),
+    );
 }
 
 // Checks the cookies that are unexpired at the time.
-fn are_live(rt: &impl Abort, alloc: Global, store: &CookieStore, moment: DateTime, wanted: &str) {
+fn are_unexpired(
+    rt: &impl Abort,
+    alloc: Global,
+    store: &CookieStore,
+    moment: DateTime,
+    wanted: &str,
+) {
     let rows = unexpired(rt, alloc, store, moment);
     let live = listed(rt, alloc, rows.as_slice());
     is_equal(rt, &live.as_str(), &wanted, &moment);
@@ -71,7 +88,7 @@ fn rows_are_found_by_their_keys(rt: HostRuntime) {
     let day = date(2026, 1, 1);
     let (before, after) = (day.at(0, 0, 59, 0), day.at(0, 1, 0, 0));
     are_found(&rt, &store, before, after);
-    are_live(&rt, rt.alloc(), &store, before, "a.com / s, a.com / m");
-    are_live(&rt, rt.alloc(), &store, after, "a.com / s");
+    are_unexpired(&rt, rt.alloc(), &store, before, "a.com / s, a.com / m");
+    are_unexpired(&rt, rt.alloc(), &store, after, "a.com / s");
     are_listed(&rt, rt.alloc(), &store, LISTED, &after);
 }

@@ -11,7 +11,7 @@ pub const INSERTED: InsertResult = Ok(StoreAction::Inserted);
 
 pub const UPDATED: InsertResult = Ok(StoreAction::UpdatedExisting);
 
-pub const ENDED: InsertResult = Ok(StoreAction::ExpiredExisting);
+pub const EXPIRED: InsertResult = Ok(StoreAction::ExpiredExisting);
 
 // A URL, a `Set-Cookie` value received from it, and the reply; all stored cookies by domain, path
 // and name; a URL and the cookies that match it; a URL and its Cookie header.

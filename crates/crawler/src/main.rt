@@ -58,7 +58,7 @@ impl Crawler {
         match self.store.parse(text, page, now) {
             Ok(_) => Ok("taken"),
             Err(CookieError::Memory) => Err(Error::Memory),
-            Err(refusal) => Ok(refusal.text()),
+            Err(error) => Ok(error.text()),
         }
     }
 }

@@ -1,5 +1,5 @@
-use Rattle.cookie_laws.proofs.TurnsToLeave.{ended_first, made_first}
+use Rattle.cookie_laws.proofs.DomainEvictionOrder.{expired_evicted_first, made_first}
 use Rattle.cookie_laws.proofs.evicted_in_order.Goals as goal
 
 pub returns : goal.returns
-returns c = record { expired_row = ended_first; created = made_first }
+returns c = record { expired_row = expired_evicted_first; older_first = made_first }

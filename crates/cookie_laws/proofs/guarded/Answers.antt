@@ -2,4 +2,4 @@ use Rattle.cookie_laws.proofs.ReceivedCookies.{received-guarded}
 use Rattle.cookie_laws.proofs.guarded.Goals as goal
 
 pub returns : goal.returns
-returns c = λ store created url now. received-guarded store url now created
+returns c = λ store cookie_result url now. received-guarded store url now cookie_result

@@ -1,6 +1,6 @@
 use Rattle.std.proofs.Common.{◌++◌, ap, codes, ◌∙◌}
 use Rattle.std.proofs.lemmas.Result.{on_ok_weaker}
-use Rattle.cookie_forms.specs.Texts.{tokens_of_tree}
+use Rattle.cookie_forms.specs.JsonText.{tokens_of_tree}
 use Rattle.cookie_forms.specs.ToJson.{tagged_tree}
 use Rattle.cookie_forms.proofs.tokens.write_expiry.Goals as goal
 

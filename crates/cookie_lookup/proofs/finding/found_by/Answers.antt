@@ -1,7 +1,7 @@
 use Rattle.std.proofs.Common.{length, arith, ap, ◌∙◌}
 use Rattle.cookie_words.specs.Moments.{moment_of}
 use Rattle.cookie_lookup.specs.SearchView.{how_many_pairs_found, of_host}
-use Rattle.cookie_lookup.specs.Texts.{url_candidate_domains, candidate_paths}
+use Rattle.cookie_lookup.specs.Candidates.{url_candidate_domains, candidate_paths}
 use Rattle.cookie_lookup.proofs.Bounds.{domains_most, paths_fit}
 use Rattle.cookie_lookup.proofs.Results.{either_way}
 use Rattle.cookie_lookup.proofs.Whole.{found_sorted, from_none, from_zero, host_from_zero, none_found, paths_bound, some_found}

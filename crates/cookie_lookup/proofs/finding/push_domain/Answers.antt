@@ -2,7 +2,7 @@ use Rattle.std.proofs.Common.{◌++◌, [], ap, subst, OnErr, OnOk}
 use Rattle.std.specs.Prelude.{◌≢◌}
 use Rattle.url.specs.Parts.{Parts}
 use Rattle.cookie_lookup.specs.Positions.{SamePositions}
-use Rattle.cookie_lookup.specs.Texts.{candidate_paths}
+use Rattle.cookie_lookup.specs.Candidates.{candidate_paths}
 use Rattle.cookie_lookup.proofs.FoundPairs.{domain_looked_up}
 use Rattle.cookie_lookup.proofs.Known.{known_look_up}
 use Rattle.cookie_lookup.proofs.Results.{on_ok}

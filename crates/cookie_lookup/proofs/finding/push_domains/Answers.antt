@@ -8,7 +8,7 @@ use Rattle.cookie_laws.specs.Related.{after_dots}
 use Rattle.cookie_lookup.specs.Groups.{DomainGroups}
 use Rattle.cookie_lookup.specs.SearchView.{at_domain, how_many_found, how_many_pairs_found, paths_at_domain}
 use Rattle.cookie_lookup.specs.Positions.{SamePositions}
-use Rattle.cookie_lookup.specs.Texts.{candidate_paths, candidate_domains, most_paths, dots, IsCandidateDomain}
+use Rattle.cookie_lookup.specs.Candidates.{candidate_paths, candidate_domains, most_paths, dots, IsCandidateDomain}
 use Rattle.cookie_lookup.proofs.Counts.{paths_next, room_next, room_here}
 use Rattle.cookie_lookup.proofs.Cuts.{after_byte, at_dot, at_no_dot}
 use Rattle.cookie_lookup.proofs.CoveringTexts.{behind_dot}

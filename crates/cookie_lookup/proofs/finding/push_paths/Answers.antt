@@ -5,7 +5,7 @@ use Rattle.cookie_words.specs.Moments.{moment_of}
 use Rattle.cookie_lookup.specs.RowFilter.{is_given_under}
 use Rattle.cookie_lookup.specs.Groups.{DomainGroups}
 use Rattle.cookie_lookup.specs.SearchView.{at_path, under}
-use Rattle.cookie_lookup.specs.Texts.{ends_candidate, front_texts, candidate_paths}
+use Rattle.cookie_lookup.specs.Candidates.{ends_candidate, front_texts, candidate_paths}
 use Rattle.cookie_lookup.proofs.Cuts.{cut_boundary, front_same}
 use Rattle.cookie_lookup.proofs.Results.{either_way}
 use Rattle.cookie_lookup.proofs.Steps.{fronts_room, front_pushed, front_kept, front_gives, one_front, fronts_most}

@@ -3,7 +3,7 @@ use Rattle.std.specs.List.{flat_map}
 use Rattle.cookie_words.specs.Moments.{moment_of}
 use Rattle.cookie_lookup.specs.RowFilter.{is_given_under}
 use Rattle.cookie_lookup.specs.SearchView.{at_path, under}
-use Rattle.cookie_lookup.specs.Texts.{front_texts}
+use Rattle.cookie_lookup.specs.Candidates.{front_texts}
 use Rattle.cookie_lookup.proofs.finding.push_paths.Given as goal
 
 abbrev pub invariant-loop-at : goal.invariant-loop-at

@@ -1,6 +1,6 @@
 use Rattle.std.proofs.Common.{◌≡◌, ◌∙◌, true, false, sym, ap, subst, take, length, bytes_eq, arith, Some}
 use Rattle.std.specs.List.{list_any}
-use Rattle.cookie_lookup.specs.Texts.{candidate_paths}
+use Rattle.cookie_lookup.specs.Candidates.{candidate_paths}
 use Rattle.cookie_lookup.proofs.CoveringTexts.{front_boundary, front_text, path_text_by}
 use Rattle.cookie_lookup.proofs.listing.front_at.Goals as goal
 

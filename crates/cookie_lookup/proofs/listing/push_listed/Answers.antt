@@ -5,7 +5,7 @@ use Rattle.cookie_words.specs.Moments.{moment_of}
 use Rattle.cookie_lookup.specs.RowFilter.{is_given_under}
 use Rattle.cookie_lookup.specs.Groups.{DomainGroups}
 use Rattle.cookie_lookup.specs.SearchView.{at_path, under}
-use Rattle.cookie_lookup.specs.Texts.{candidate_paths}
+use Rattle.cookie_lookup.specs.Candidates.{candidate_paths}
 use Rattle.cookie_lookup.proofs.Listed.{filter_at, filter_passed, length_texts, listed_most, paths_differ, text_gives, text_pushed}
 use Rattle.cookie_lookup.proofs.Results.{either_way}
 use Rattle.cookie_lookup.proofs.listing.push_listed.Goals.{in-Some+in_ok-push_path, in_default}

@@ -4,7 +4,7 @@ use Rattle.std.specs.List.{flat_map, list_any}
 use Rattle.cookie_words.specs.Moments.{moment_of}
 use Rattle.cookie_lookup.specs.RowFilter.{is_given_under}
 use Rattle.cookie_lookup.specs.SearchView.{at_path, under}
-use Rattle.cookie_lookup.specs.Texts.{candidate_paths}
+use Rattle.cookie_lookup.specs.Candidates.{candidate_paths}
 use Rattle.cookie_lookup.proofs.listing.push_listed.Given as goal
 
 abbrev pub invariant-loop-place : goal.invariant-loop-place

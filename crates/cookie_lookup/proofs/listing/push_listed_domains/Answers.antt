@@ -7,11 +7,11 @@ use Rattle.cookie_laws.specs.Given.{is_given}
 use Rattle.cookie_lookup.specs.Groups.{DomainGroups}
 use Rattle.cookie_lookup.specs.SearchView.{at_domain, how_many_found, how_many_pairs_found, paths_at_domain}
 use Rattle.cookie_lookup.specs.Positions.{SamePositions}
-use Rattle.cookie_lookup.specs.Texts.{dots, most_paths, candidate_paths, candidate_domains}
+use Rattle.cookie_lookup.specs.Candidates.{dots, most_paths, candidate_paths, candidate_domains}
 use Rattle.cookie_lookup.proofs.Counts.{paths_next, room_here, room_next}
 use Rattle.cookie_lookup.proofs.FoundPairs.{found_counted, listed_pairs, pairs_next}
 use Rattle.cookie_lookup.proofs.HostTexts.{length_related, related_differ, related_texts_are}
-use Rattle.cookie_lookup.proofs.Listed.{filter_at, filter_passed, length_texts, listed_domain_spots, listed_found, same_added, same_pushed, shared_most, some_same, text_gives}
+use Rattle.cookie_lookup.proofs.Listed.{filter_at, filter_passed, length_texts, listed_domain_positions, listed_found, same_added, same_pushed, shared_most, some_same, text_gives}
 use Rattle.cookie_lookup.proofs.Results.{either_way}
 use Rattle.cookie_lookup.proofs.listing.push_listed_domains.Goals.{in-Some+in_ok-push_domain, in_default}
 use Rattle.cookie_lookup.proofs.listing.push_listed_domains.Goals as goal
@@ -28,7 +28,7 @@ loop-place-init g c =
     let most : length (filter test texts) ≤ 1 + dots host = omega (arith, shared_most (candidate_domains host) texts (related_differ host) differ, length_related host) in
     record {
       positions = same_added c.args.positions.now.items (flat_map (look first.groups) (filter test texts)) (flat_map (look first.groups) (candidate_domains host))
-          (listed_domain_spots (is_given c.args.url.now (moment_of c.args.now)) first.groups (candidate_paths c.args.url.now.path) (candidate_domains host) (related_differ host) differ);
+          (listed_domain_positions (is_given c.args.url.now (moment_of c.args.now)) first.groups (candidate_paths c.args.url.now.path) (candidate_domains host) (related_differ host) differ);
       groups = refl;
       domains = omega (arith, most);
       room = omega (arith, mul-le-mul_right m most);
@@ -105,7 +105,7 @@ returns-in_err-push_domain-clause-memory g c =
     let text = c.in-Some.text.now in
     let here : Some text ≡ slice_get texts c.loop-place.place = subst (λ (groups : DomainGroups). Some text ≡ slice_get (map (λ p. p.0) groups) c.loop-place.place) c.loop-place.invariant.groups c.in-Some.ensures.suffix in
     let some : look first.groups text ≢ [] = subst (λ groups. look groups text ≢ []) c.loop-place.invariant.groups c.in_err-push_domain.ensures.memory in
-    let same = listed_domain_spots (is_given c.args.url.now (moment_of c.args.now)) first.groups (candidate_paths c.args.url.now.path) (candidate_domains host) (related_differ host) differ in
+    let same = listed_domain_positions (is_given c.args.url.now (moment_of c.args.now)) first.groups (candidate_paths c.args.url.now.path) (candidate_domains host) (related_differ host) differ in
     either_way c.from_residual.result (some_same (flat_map (look first.groups) (filter test texts)) (flat_map (look first.groups) (candidate_domains host)) same
     (text_gives test texts c.loop-place.place text here (look first.groups) c.in-Some.ensures.is some))
 

@@ -5,7 +5,7 @@ use Rattle.cookie_words.specs.Moments.{moment_of}
 use Rattle.cookie_laws.specs.Given.{is_given}
 use Rattle.cookie_lookup.specs.SearchView.{at_domain, how_many_found, how_many_pairs_found}
 use Rattle.cookie_lookup.specs.Positions.{SamePositions}
-use Rattle.cookie_lookup.specs.Texts.{dots, most_paths, candidate_paths, candidate_domains}
+use Rattle.cookie_lookup.specs.Candidates.{dots, most_paths, candidate_paths, candidate_domains}
 use Rattle.cookie_lookup.proofs.listing.push_listed_domains.Given as goal
 
 abbrev pub invariant-loop-place : goal.invariant-loop-place

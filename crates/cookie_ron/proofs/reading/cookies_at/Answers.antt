@@ -15,7 +15,7 @@ loop-behind-preserved c =
     c.loop-behind.invariant
     ∙ cookies_turn (map entry_view c.loop-behind.entries.items) (map entry_view c.push.new.self.items)
     c.loop-behind.rest.now c.in_ok-entry.behind.now c.in-Ok-token_at.next.now (entry_view c.in_ok-entry.entry)
-    c.in_default.ensures.refused.1 c.in_ok-entry.ensures.read c.in-Ok-token_at.ensures.read
+    c.in_default.ensures.errors.1 c.in_ok-entry.ensures.read c.in-Ok-token_at.ensures.read
     (ap (map entry_view) c.in_ok-push.ensures.items ∙ map-append entry_view c.loop-behind.entries.items (c.in_ok-entry.entry ∷ []))
 
 pub returns-in_err-entry-clause-memory : goal.returns-in_err-entry-clause-memory
@@ -23,11 +23,11 @@ returns-in_err-entry-clause-memory c rest is =
     let l = c.loop-behind in
     absurd
     (some_cookie (map entry_view l.entries.items) (token_at (codes "]") l.rest.now) (cookie_at l.rest.now)
-    (λ first. behind_cookie (λ t. cookies_at (length l.rest.now) t) first.1) rest c.in_default.ensures.refused.1 (sym l.invariant ∙ is))
+    (λ first. behind_cookie (λ t. cookies_at (length l.rest.now) t) first.1) rest c.in_default.ensures.errors.1 (sym l.invariant ∙ is))
 
 pub returns-in_err-push-clause-memory : goal.returns-in_err-push-clause-memory
 returns-in_err-push-clause-memory c rest is =
     let l = c.loop-behind in
     absurd
     (some_cookie (map entry_view l.entries.items) (token_at (codes "]") l.rest.now) (cookie_at l.rest.now)
-    (λ first. behind_cookie (λ t. cookies_at (length l.rest.now) t) first.1) rest c.in_default.ensures.refused.1 (sym l.invariant ∙ is))
+    (λ first. behind_cookie (λ t. cookies_at (length l.rest.now) t) first.1) rest c.in_default.ensures.errors.1 (sym l.invariant ∙ is))

@@ -7,11 +7,11 @@ use Rattle.cookie_ron.specs.Entries.{entry_view}
 use Rattle.cookie_ron.proofs.RonResults.{empty_says_none, says_none, says_list, says_no_moment}
 use Rattle.cookie_ron.proofs.reading.from_ron.Goals as goal
 
-pub returns-in_err-list_at-clause-refused : goal.returns-in_err-list_at-clause-refused
-returns-in_err-list_at-clause-refused c =
+pub returns-in_err-list_at-clause-errors : goal.returns-in_err-list_at-clause-errors
+returns-in_err-list_at-clause-errors c =
     let fault = err_from_is_err_and c.from_residual-in_err-list_at.result c.from_residual-in_err-list_at.ensures.1 in
     rw (fault.1, fault.2)
-    (says_none c.args.text.now c.deref.result.now c.in_err-list_at.field-0.0 (c.deref.ensures.value ∙ c.in_ok-input.ensures) c.in_err-list_at.ensures.refused)
+    (says_none c.args.text.now c.deref.result.now c.in_err-list_at.field-0.0 (c.deref.ensures.value ∙ c.in_ok-input.ensures) c.in_err-list_at.ensures.errors)
 
 pub returns-clause-list : goal.returns-clause-list
 returns-clause-list c =
@@ -20,14 +20,14 @@ returns-clause-list c =
     (c.deref.ensures.value ∙ c.in_ok-input.ensures) c.in_ok-list_at.ensures.read moments)
     c.with_parsed_expiries.ensures.read
 
-pub returns-clause-refused : goal.returns-clause-refused
-returns-clause-refused c =
+pub returns-clause-errors : goal.returns-clause-errors
+returns-clause-errors c =
     IfErr-weaker c.with_parsed_expiries.result _ _
     (λ e told. says_no_moment c.args.text.now c.deref.result.now (map entry_view c.in_ok-list_at.field-0.items) e
     (c.deref.ensures.value ∙ c.in_ok-input.ensures) c.in_ok-list_at.ensures.read told)
-    c.with_parsed_expiries.ensures.refused
+    c.with_parsed_expiries.ensures.errors
 
-pub returns-then-is_empty-clause-refused : goal.returns-then-is_empty-clause-refused
-returns-then-is_empty-clause-refused c =
+pub returns-then-is_empty-clause-errors : goal.returns-then-is_empty-clause-errors
+returns-then-is_empty-clause-errors c =
     let none : length c.args.text.now ≡ 0 = grind (arith, nat_tests, c.if-is_empty.ensures) in
     empty_says_none c.args.text.now (nil_from_length c.args.text.now none)

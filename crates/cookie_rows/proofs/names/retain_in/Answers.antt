@@ -1,7 +1,7 @@
 use Rattle.std.proofs.Common.{rules}
 use Rattle.cookie_words.specs.Moments.{moment_of}
 use Rattle.cookie_rows.specs.Eviction.{survives}
-use Rattle.cookie_rows.proofs.Entering.{named_retained, values_retained}
+use Rattle.cookie_rows.proofs.StoredThenEvicted.{named_retained, values_retained}
 use Rattle.cookie_rows.proofs.names.retain_in.Goals as goal
 
 pub returns-clause-retained : goal.returns-clause-retained

@@ -13,14 +13,14 @@ returns-in-Ok-clause-parsed g c =
     parsed_at_once (FnReturnsAt g.F.Fn c.args.cookies_of.now) c.args.bytes.now c.cookies_of.result (is_utf8-from_IsUtf8 _ valid)
     (rw same at answers)
 
-pub returns-in-Ok-clause-refused : goal.returns-in-Ok-clause-refused
-returns-in-Ok-clause-refused g c =
+pub returns-in-Ok-clause-errors : goal.returns-in-Ok-clause-errors
+returns-in-Ok-clause-errors g c =
     let (same, valid) = c.in-Ok.ensures.cases in
     let answers = says_at g.F.Fn c.cookies_of.ensures refl in
     rejected_at_once (FnReturnsAt g.F.Fn c.args.cookies_of.now) c.args.bytes.now c.cookies_of.result (is_utf8-from_IsUtf8 _ valid)
     (rw same at answers)
 
-pub returns-in-Err-clause-refused : goal.returns-in-Err-clause-refused
-returns-in-Err-clause-refused g c =
+pub returns-in-Err-clause-errors : goal.returns-in-Err-clause-errors
+returns-in-Err-clause-errors g c =
     let bytes = c.args.bytes.now in
     inl (false_from_ne_true _ (λ valid. c.in-Err.ensures.cases.0 (IsUtf8-from_is_utf8 bytes valid)), refl)

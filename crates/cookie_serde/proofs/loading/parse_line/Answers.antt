@@ -13,14 +13,14 @@ returns-in-Ok-clause-parsed g c =
     created (FnReturnsAt g.F.Fn c.args.cookie_of.now) c.args.line.now c.cookie_of.result (is_utf8-from_IsUtf8 _ valid)
     (rw same at answers)
 
-pub returns-in-Ok-clause-refused : goal.returns-in-Ok-clause-refused
-returns-in-Ok-clause-refused g c =
+pub returns-in-Ok-clause-errors : goal.returns-in-Ok-clause-errors
+returns-in-Ok-clause-errors g c =
     let (same, valid) = c.in-Ok.ensures.cases in
     let answers = says_at g.F.Fn c.cookie_of.ensures refl in
     refused (FnReturnsAt g.F.Fn c.args.cookie_of.now) c.args.line.now c.cookie_of.result (is_utf8-from_IsUtf8 _ valid)
     (rw same at answers)
 
-pub returns-in-Err-clause-refused : goal.returns-in-Err-clause-refused
-returns-in-Err-clause-refused g c =
+pub returns-in-Err-clause-errors : goal.returns-in-Err-clause-errors
+returns-in-Err-clause-errors g c =
     let line = c.args.line.now in
     inl (false_from_ne_true _ (λ valid. c.in-Err.ensures.cases.0 (IsUtf8-from_is_utf8 line valid)), refl)

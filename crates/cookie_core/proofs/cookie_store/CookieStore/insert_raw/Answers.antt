@@ -1,5 +1,5 @@
 use Rattle.std.proofs.Common.{Ok}
-use Rattle.cookie_core.proofs.EarlyRefusals.{memory_is_not_early}
+use Rattle.cookie_core.proofs.EarlyErrors.{memory_is_not_early}
 use Rattle.cookie_core.proofs.cookie_store.CookieStore.insert_raw.Goals as goal
 
 pub returns-clause-memory : goal.returns-clause-memory

@@ -4,9 +4,9 @@ use Rattle.std.specs.List.{flat_map, list_any}
 use Rattle.cookie_words.specs.Moments.{moment_of}
 use Rattle.cookie_lookup.specs.RowFilter.{is_given_under}
 use Rattle.cookie_lookup.specs.SearchView.{at_path, how_many_paths, under}
-use Rattle.cookie_lookup.specs.Texts.{candidate_paths}
+use Rattle.cookie_lookup.specs.Candidates.{candidate_paths}
 use Rattle.cookie_lookup.proofs.FoundPairs.{at_least, listed_paths, paths_counted}
-use Rattle.cookie_lookup.proofs.Listed.{listed_spots, paths_differ, same_after, some_same}
+use Rattle.cookie_lookup.proofs.Listed.{listed_positions, paths_differ, same_after, some_same}
 use Rattle.cookie_lookup.proofs.PathTexts.{path_differ}
 use Rattle.cookie_lookup.proofs.Results.{on_err, on_ok}
 use Rattle.cookie_lookup.proofs.listing.ByListingPathSearch.push_paths.Goals as goal
@@ -20,7 +20,7 @@ returns-then-are_few_paths-clause-positions g c =
     let texts = candidate_paths row_filter.url.now.path in
     let listed : List (ℕ × ℕ × ℕ) = flat_map (at_path test c.args.domain paths) (filter (λ t. list_any (bytes_eq t) texts) (map (λ p. p.0) paths)) in
     let all : List (ℕ × ℕ × ℕ) = flat_map (at_path test c.args.domain paths) texts in
-    let same = listed_spots test c.args.domain paths texts (path_differ row_filter.url.now.path) (paths_differ groups (g.met.S.Search.are_groups c.args.search.now) c.args.domain) in
+    let same = listed_positions test c.args.domain paths texts (path_differ row_filter.url.now.path) (paths_differ groups (g.met.S.Search.are_groups c.args.search.now) c.args.domain) in
     on_ok c.push_listed.result (λ (e : c.push_listed.new.positions.items ≡ c.args.positions.now.items ++ listed). same_after c.push_listed.new.positions.items c.args.positions.now.items listed all e same) c.push_listed.ensures.positions
 
 pub returns-then-are_few_paths-clause-memory : goal.returns-then-are_few_paths-clause-memory
@@ -30,7 +30,7 @@ returns-then-are_few_paths-clause-memory g c =
     let test = is_given_under row_filter.host_only row_filter.suffix row_filter.url.now (moment_of row_filter.time) in
     let paths = under c.args.domain groups in
     let texts = candidate_paths row_filter.url.now.path in
-    let same = listed_spots test c.args.domain paths texts (path_differ row_filter.url.now.path) (paths_differ groups (g.met.S.Search.are_groups c.args.search.now) c.args.domain) in
+    let same = listed_positions test c.args.domain paths texts (path_differ row_filter.url.now.path) (paths_differ groups (g.met.S.Search.are_groups c.args.search.now) c.args.domain) in
     on_err c.push_listed.result (some_same (flat_map (at_path test c.args.domain paths) (filter (λ t. list_any (bytes_eq t) texts) (map (λ p. p.0) paths))) (flat_map (at_path test c.args.domain paths) texts) same) c.push_listed.ensures.memory
 
 pub returns-then-are_few_paths-clause-every_path : goal.returns-then-are_few_paths-clause-every_path

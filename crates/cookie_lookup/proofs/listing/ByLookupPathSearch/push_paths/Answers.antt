@@ -1,6 +1,6 @@
 use Rattle.std.proofs.Common.{◌≡◌, ◌+◌, length}
 use Rattle.cookie_lookup.specs.SearchView.{how_many_paths, under}
-use Rattle.cookie_lookup.specs.Texts.{candidate_paths}
+use Rattle.cookie_lookup.specs.Candidates.{candidate_paths}
 use Rattle.cookie_lookup.proofs.FoundPairs.{at_least, paths_counted}
 use Rattle.cookie_lookup.proofs.Results.{on_ok}
 use Rattle.cookie_lookup.proofs.listing.ByLookupPathSearch.push_paths.Goals as goal

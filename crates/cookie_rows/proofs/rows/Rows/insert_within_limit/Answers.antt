@@ -30,8 +30,8 @@ invariant_of-self-in-None c =
     subst (λ m. AreItems m (texts_of c.add_row.new.groups.entries)) (sym c.in-Some.ensures.1)
     (subst (AreItems (n + 1)) (sym added) (items_put n gs c.self.invariant c.args.cookie (n + 1) (inl refl)))
 
-pub returns-in_ok-add_row-in-None-clause-entered : goal.returns-in_ok-add_row-in-None-clause-entered
-returns-in_ok-add_row-in-None-clause-entered c =
+pub returns-in_ok-add_row-in-None-clause-inserted : goal.returns-in_ok-add_row-in-None-clause-inserted
+returns-in_ok-add_row-in-None-clause-inserted c =
     let n = c.self.inside.created in
     let gs = texts_of c.self.inside.groups.entries in
     let row = c.args.cookie in
@@ -56,21 +56,21 @@ invariant_of-self-in-Some-limit c =
     let row = c.args.cookie in
     let new = texts_of c.insert_row_within_limit.new.groups.entries in
     let fresh = ap (λ (k : RowsInOrder). row_of (key_of row) k.rows) c.self.view_is ∙ c.requires.new in
-    let live = rw c.in-Some-limit.is at c.requires.live in
-    let entered = subst (λ (i : Item). InsertsInDomains c.max.result (moment_of c.args.now) i.row i.number gs new) c.in_ok-row.ensures c.in_ok-insert_row_within_limit-in-Some-limit.ensures.entered in
+    let live = rw c.in-Some-limit.is at c.requires.unexpired in
+    let entered = subst (λ (i : Item). InsertsInDomains c.max.result (moment_of c.args.now) i.row i.number gs new) c.in_ok-row.ensures c.in_ok-insert_row_within_limit-in-Some-limit.ensures.inserted in
     subst (λ m. AreItems m new) (sym c.in-Some.ensures.1)
     (items_entered n c.max.result gs c.self.invariant row (moment_of c.args.now) fresh live new entered)
 
-pub returns-in_ok-insert_row_within_limit-in-Some-limit-clause-entered : goal.returns-in_ok-insert_row_within_limit-in-Some-limit-clause-entered
-returns-in_ok-insert_row_within_limit-in-Some-limit-clause-entered c =
+pub returns-in_ok-insert_row_within_limit-in-Some-limit-clause-inserted : goal.returns-in_ok-insert_row_within_limit-in-Some-limit-clause-inserted
+returns-in_ok-insert_row_within_limit-in-Some-limit-clause-inserted c =
     let n = c.self.inside.created in
     let gs = texts_of c.self.inside.groups.entries in
     let row = c.args.cookie in
     let now = moment_of c.args.now in
     let new = texts_of c.insert_row_within_limit.new.groups.entries in
     let fresh = ap (λ (k : RowsInOrder). row_of (key_of row) k.rows) c.self.view_is ∙ c.requires.new in
-    let live = rw c.in-Some-limit.is at c.requires.live in
-    let entered = subst (λ (i : Item). InsertsInDomains c.max.result now i.row i.number gs new) c.in_ok-row.ensures c.in_ok-insert_row_within_limit-in-Some-limit.ensures.entered in
+    let live = rw c.in-Some-limit.is at c.requires.unexpired in
+    let entered = subst (λ (i : Item). InsertsInDomains c.max.result now i.row i.number gs new) c.in_ok-row.ensures c.in_ok-insert_row_within_limit-in-Some-limit.ensures.inserted in
     rw c.in-Some-limit.is
     (kept_entered n c.max.result gs c.self.invariant row now fresh live new entered
     ∙ ap (λ (k : RowsInOrder). Store.rows_in_order (store_by (Ok Inserted) (contents_of k None (Some c.max.result)) row now)) c.self.view_is

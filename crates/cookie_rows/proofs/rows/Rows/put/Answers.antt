@@ -6,4 +6,4 @@ use Rattle.cookie_rows.proofs.rows.Rows.put.Goals as goal
 
 pub returns-in-None-clause-put : goal.returns-in-None-clause-put
 returns-in-None-clause-put c =
-    on_ok_map c.insert_within_limit.result (λ entered. entered ∙ sym (kept_unlimited c.args.self.now c.args.cookie (moment_of c.args.now))) c.insert_within_limit.ensures.entered
+    on_ok_map c.insert_within_limit.result (λ entered. entered ∙ sym (kept_unlimited c.args.self.now c.args.cookie (moment_of c.args.now))) c.insert_within_limit.ensures.inserted

@@ -28,13 +28,13 @@ if_ok Q expected (Err error) follows p = tt
 -- a fact that holds unless memory ran out
 unless : {P : Type 0} (result : Result StoreAction CookieError) → UnlessMemory result P → result ≢ Err Memory → P
 unless (Ok action) p never = p
-unless (Err refusal) p never = grind (arith, p, never)
+unless (Err rejection) p never = grind (arith, p, never)
 
 -- the reply, unless memory ran out
 reply : (result : Result StoreAction CookieError) (expected : Runs.Reply) → IsReply result expected → result ≢ Err Memory
     → Runs.Stored result ≡ expected
 reply (Ok action) expected is never = sym is
-reply (Err refusal) expected is never = grind (arith, is, never)
+reply (Err rejection) expected is never = grind (arith, is, never)
 
 pub returns-in-Set-clause-state : goal.returns-in-Set-clause-state
 unfolding run_command

@@ -1,0 +1,440 @@
+-- A row is inserted into groups from which others are evicted. It is stored before the others are evicted, so its
+-- groups are moved to the end if it is alone in them.
+use Rattle.std.proofs.Common.{◌≡◌, ℕ, zero, suc, ◌+◌, ◌-◌, ◌<◌, ◌==◌, Bool, true, false, not, cond, List, [], ◌∷◌, ◌++◌, length, map, filter, remove, insert, refl, sym, ◌∙◌, ap, subst, inl, inr, bytes_eq, slice_get, position, string_bytes, String, Option, Some, None, option_map, arith}
+use Rattle.std.specs.List.{AllByRecursion, list_any}
+use Rattle.std.specs.Map.{keys_of, lookup, values_of}
+use Rattle.std.specs.Map.Calls.{RetainsPairs}
+use Rattle.std.specs.Option.{option_map_or}
+use Rattle.std.proofs.lemmas.Bool.{cases_Bool}
+use Rattle.std.proofs.lemmas.Bool.Decides.{nat_tests}
+use Rattle.std.proofs.lemmas.List.{length_push, map-append}
+use Rattle.std.proofs.lemmas.List.Edits.{insert_end, length-remove}
+use Rattle.std.proofs.lemmas.Option.{slice_get_within}
+use Rattle.std.proofs.lemmas.Slice.Eq.{bytes_eq-Decides}
+use Rattle.indexmap.specs.IndexMap.{move_index}
+use Rattle.indexmap.proofs.CallerLemmas.{filter-RetainsPairs}
+use Rattle.cookie_parts.specs.Cookie.{Row}
+use Rattle.cookie_parts.specs.Domain.{domain_text}
+use Rattle.cookie_laws.specs.Rows.{differ, key_of}
+use Rattle.cookie_lookup.specs.SearchView.{group_position}
+use Rattle.cookie_rows.specs.Groups.{changed_at, found, is_named, unless_empty, lessened_at, put_at, row_named, texts_of}
+use Rattle.cookie_rows.specs.Items.{AreNamed, Item, ItemGroups, ItemPaths, find_item_paths, find_items, put_item, put_item_paths, put_items, rows_of}
+use Rattle.cookie_rows.specs.Eviction.{insert_in_domains, insert_in_paths, is_filled, is_single, is_single_paths, filter_paths, moved_to_end_if}
+use Rattle.cookie_rows.proofs.Maps.{at_text}
+use Rattle.cookie_rows.proofs.Members.{absent}
+use Rattle.cookie_rows.proofs.NumberedPuts.{PathsDiffer, TextsDiffer}
+use Rattle.cookie_rows.proofs.Places.{place_is}
+
+-- a list that begins with something is not empty
+some_is : {T : Type 0} (x : T) (xs : List T) → (length (x ∷ xs) == 0) ≡ false
+some_is x xs = grind (arith, nat_tests)
+
+-- nor is one with a length
+filled_is : {T : Type 0} (xs : List T) → 0 < length xs → (length xs == 0) ≡ false
+filled_is xs l = grind (arith, nat_tests)
+
+-- groups under names
+
+module _ {X : Type 0} where
+  -- a single group is unchanged
+  moved_to_end_one : (alone : List X → Bool) (text t : List ℕ) (xs : List X) → moved_to_end_if alone text ((t, xs) ∷ []) ≡ (t, xs) ∷ []
+  moved_to_end_one alone text t xs = elim (cases_Bool (bytes_eq text t)) [
+    | inl e ↦ elim (cases_Bool (alone xs)) [
+      | inl a ↦ rw (e, a) refl
+      | inr a ↦ rw (e, a) refl
+    ]
+    | inr e ↦ rw e refl
+  ]
+
+  -- if no group has the name, one is added at the end
+  put_new : (f : List X → List X) (text : List ℕ) (gs : List (List ℕ × List X)) → list_any (bytes_eq text) (map (λ g. g.0) gs) ≡ false → put_at f text gs ≡ gs ++ (text, f []) ∷ []
+  put_new f text [] none = refl
+  put_new f text (g ∷ gs) none =
+      let other : bytes_eq text g.0 ≡ false = grind (arith, none) in
+      let rest : list_any (bytes_eq text) (map (λ g. g.0) gs) ≡ false = grind (arith, none) in
+      rw other (ap (λ hs. g ∷ hs) (put_new f text gs rest))
+
+  module _ (put : List X → List X) (alone : List X → Bool) (text t : List ℕ) where
+    -- if a group that was kept or dropped is new, it goes to the end
+    put_kept : (xs : List X) (gs : List (List ℕ × List X)) → bytes_eq text t ≡ true → list_any (bytes_eq text) (map (λ g. g.0) gs) ≡ false → alone (put xs) ≡ (length xs == 0)
+        → put_at put text (unless_empty t xs gs) ≡ moved_to_end_if alone text ((t, put xs) ∷ gs)
+    put_kept [] gs e none is = put_new put text gs none ∙ rw (e, is) (ap (λ s. gs ++ (s, put []) ∷ []) ((bytes_eq-Decides text t).0 e))
+    put_kept (x ∷ xs) gs e none is = let more : alone (put (x ∷ xs)) ≡ false = is ∙ some_is x xs in rw (e, more) refl
+
+    -- a group of another name keeps its position
+    put_past : (xs : List X) (gs hs : List (List ℕ × List X)) → bytes_eq text t ≡ false → put_at put text gs ≡ moved_to_end_if alone text hs → put_at put text (unless_empty t xs gs) ≡ moved_to_end_if alone text (unless_empty t xs hs)
+    put_past [] gs hs e same = same
+    put_past (x ∷ xs) gs hs e same = rw e (ap (λ ks. (t, x ∷ xs) ∷ ks) same)
+
+  -- what holds of the group of the name, if there is one
+  abbrev pub AtText : (List X → Type 0) → List ℕ → List (List ℕ × List X) → Type 0
+  AtText P text [] = Unit
+  AtText P text (g ∷ gs) = (bytes_eq text g.0 ≡ true → P g.1) × (bytes_eq text g.0 ≡ false → AtText P text gs)
+
+  -- what holds of any group
+  at_any : (P : List X → Type 0) → ((xs : List X) → P xs) → (text : List ℕ) (gs : List (List ℕ × List X)) → AtText P text gs
+  at_any P all text [] = tt
+  at_any P all text (g ∷ gs) = (λ e. all g.1, λ e. at_any P all text gs)
+
+  module _ (leave put : List X → List X) (alone : List X → Bool) (nothing : leave [] ≡ []) (text : List ℕ) where
+    -- some items are removed from the group of the name, and then one is added: the same as both at once, with the
+    -- group then moved to the end if the new item is alone
+    pub put_where_left_at : (gs : List (List ℕ × List X)) → differ bytes_eq (map (λ g. g.0) gs) ≡ true → AtText (λ xs. alone (put (leave xs)) ≡ (length (leave xs) == 0)) text gs
+        → put_at put text (lessened_at leave text gs) ≡ moved_to_end_if alone text (put_at (λ xs. put (leave xs)) text gs)
+    put_where_left_at [] d is = ap (λ xs. (text, put xs) ∷ []) (sym nothing) ∙ sym (moved_to_end_one alone text text (put (leave [])))
+    put_where_left_at (g ∷ gs) d is = elim (cases_Bool (bytes_eq text g.0)) [
+      | inl e ↦ rw e (put_kept put alone text g.0 (leave g.1) gs e (absent g.0 (map (λ g. g.0) gs) text e d) (is.0 e))
+      | inr e ↦ let after : differ bytes_eq (map (λ g. g.0) gs) ≡ true = grind (arith, d) in rw (e, e) (ap (λ hs. g ∷ hs) (put_where_left_at gs after (is.1 e)))
+    ]
+
+    -- if an added item is alone in any group that was emptied, and in no other
+    pub put_where_left : ((xs : List X) → alone (put (leave xs)) ≡ (length (leave xs) == 0)) → (gs : List (List ℕ × List X)) → differ bytes_eq (map (λ g. g.0) gs) ≡ true
+        → put_at put text (lessened_at leave text gs) ≡ moved_to_end_if alone text (put_at (λ xs. put (leave xs)) text gs)
+    put_where_left is gs d = put_where_left_at gs d (at_any (λ xs. alone (put (leave xs)) ≡ (length (leave xs) == 0)) is text gs)
+
+  -- putting a group and then changing it is one `put_at`
+  changed_put : (f put both : List X → List X) (text : List ℕ) (gs : List (List ℕ × List X)) → both [] ≡ f (put []) → AtText (λ xs. both xs ≡ f (put xs)) text gs → put_at both text gs ≡ changed_at f text (put_at put text gs)
+  changed_put f put both text [] is holds = let same : bytes_eq text text ≡ true = (bytes_eq-Decides text text).1 refl in rw same (ap (λ xs. (text, xs) ∷ []) is)
+  changed_put f put both text (g ∷ gs) is holds = elim (cases_Bool (bytes_eq text g.0)) [
+    | inl e ↦ rw (e, e) (ap (λ xs. (g.0, xs) ∷ gs) (holds.0 e))
+    | inr e ↦ rw (e, e) (ap (λ hs. g ∷ hs) (changed_put f put both text gs is (holds.1 e)))
+  ]
+
+  -- nothing is found under a name that no group has
+  found_absent : (f : List X → Option Row) (text : List ℕ) (gs : List (List ℕ × List X)) → list_any (bytes_eq text) (map (λ g. g.0) gs) ≡ false → found f text gs ≡ None
+  found_absent f text [] none = refl
+  found_absent f text (g ∷ gs) none =
+      let other : bytes_eq text g.0 ≡ false = grind (arith, none) in
+      let rest : list_any (bytes_eq text) (map (λ g. g.0) gs) ≡ false = grind (arith, none) in
+      rw other (found_absent f text gs rest)
+
+  -- a name that is not among others is not among them with one more that may be dropped
+  absent_kept : (text t : List ℕ) (xs : List X) (gs : List (List ℕ × List X)) → bytes_eq text t ≡ false → list_any (bytes_eq text) (map (λ g. g.0) gs) ≡ false → list_any (bytes_eq text) (map (λ g. g.0) (unless_empty t xs gs)) ≡ false
+  absent_kept text t [] gs e none = none
+  absent_kept text t (x ∷ xs) gs e none = rw e none
+
+-- items that pass a test
+
+module _ (test : Item → Bool) where
+  -- a group is kept if something in it passes
+  passing_kept : (p : List ℕ × List Item) (ps : ItemPaths) → filter_paths test (p ∷ ps) ≡ unless_empty p.0 (filter test p.1) (filter_paths test ps)
+  passing_kept p ps = filled_kept p.0 (filter test p.1) (filter_paths test ps)
+    where
+      -- the same of any group
+      filled_kept : (t : List ℕ) (xs : List Item) (qs : ItemPaths) → cond (is_filled (t, xs)) ((t, xs) ∷ qs) qs ≡ unless_empty t xs qs
+      filled_kept t [] qs = refl
+      filled_kept t (x ∷ xs) qs = refl
+
+  -- so there is something in each group
+  pub passing_filled : (ps : ItemPaths) → AllByRecursion (λ p. 0 < length p.1) (filter_paths test ps)
+  passing_filled [] = tt
+  passing_filled (p ∷ ps) = subst (AllByRecursion (λ p. 0 < length p.1)) (sym (passing_kept p ps)) (filled_all p.0 (filter test p.1) (filter_paths test ps) (passing_filled ps))
+    where
+      -- the same with a group in front, if there is something in it
+      filled_all : (t : List ℕ) (xs : List Item) (qs : ItemPaths) → AllByRecursion (λ p. 0 < length p.1) qs → AllByRecursion (λ p. 0 < length p.1) (unless_empty t xs qs)
+      filled_all t [] qs a = a
+      filled_all t (x ∷ xs) qs a = (omega arith, a)
+
+  -- a name that was not there is still not there
+  absent_passing : (text : List ℕ) (ps : ItemPaths) → list_any (bytes_eq text) (map (λ p. p.0) ps) ≡ false → list_any (bytes_eq text) (map (λ p. p.0) (filter_paths test ps)) ≡ false
+  absent_passing text [] none = refl
+  absent_passing text (p ∷ ps) none =
+      let other : bytes_eq text p.0 ≡ false = grind (arith, none) in
+      let rest : list_any (bytes_eq text) (map (λ p. p.0) ps) ≡ false = grind (arith, none) in
+      ap (λ qs. list_any (bytes_eq text) (map (λ p. p.0) qs)) (passing_kept p ps)
+      ∙ absent_kept text p.0 (filter test p.1) (filter_paths test ps) other (absent_passing text ps rest)
+
+  -- nor is a name
+  none_filtered : (name : List ℕ) (xs : List Item) → row_named name (rows_of xs) ≡ None → row_named name (rows_of (filter test xs)) ≡ None
+  none_filtered name [] none = refl
+  none_filtered name (x ∷ xs) none = elim (cases_Bool (is_named name x.row)) [
+    | inl e ↦ let none' = rw e at none in absurd (cc)
+    | inr e ↦ let none' = rw e at none in elim (cases_Bool (test x)) [
+      | inl t ↦ rw (t, e) (none_filtered name xs none')
+      | inr t ↦ rw t (none_filtered name xs none')
+    ]
+  ]
+
+  -- nor a row of a path and a name
+  pub none_passing : (path name : List ℕ) (ps : ItemPaths) → differ bytes_eq (map (λ p. p.0) ps) ≡ true → find_item_paths path name ps ≡ None → find_item_paths path name (filter_paths test ps) ≡ None
+  none_passing path name [] d none = refl
+  none_passing path name (p ∷ ps) d none = elim (cases_Bool (bytes_eq path p.0)) [
+    | inl e ↦
+        let here = rw e at none in
+        let others = absent_passing path ps (absent p.0 (map (λ p. p.0) ps) path e d) in
+        ap (find_item_paths path name) (passing_kept p ps)
+        ∙ in_kept (filter test p.1) e (none_filtered name p.1 here) (found_absent (λ items. row_named name (rows_of items)) path (filter_paths test ps) others)
+    | inr e ↦
+        let rest = rw e at none in
+        let after : differ bytes_eq (map (λ p. p.0) ps) ≡ true = grind (arith, d) in
+        ap (find_item_paths path name) (passing_kept p ps) ∙ past_kept (filter test p.1) e (none_passing path name ps after rest)
+  ]
+    where
+      -- neither in a group nor behind it
+      in_kept : (xs : List Item) → bytes_eq path p.0 ≡ true → row_named name (rows_of xs) ≡ None → find_item_paths path name (filter_paths test ps) ≡ None → find_item_paths path name (unless_empty p.0 xs (filter_paths test ps)) ≡ None
+      in_kept [] e here others = others
+      in_kept (x ∷ xs) e here others = rw e here
+
+      -- not behind a group of another path
+      past_kept : (xs : List Item) → bytes_eq path p.0 ≡ false → find_item_paths path name (filter_paths test ps) ≡ None → find_item_paths path name (unless_empty p.0 xs (filter_paths test ps)) ≡ None
+      past_kept [] e others = others
+      past_kept (x ∷ xs) e others = rw e others
+
+-- a row is stored
+
+module _ (row : Row) (n : ℕ) where
+  -- at the end, if none has its name
+  put_last : (xs : List Item) → row_named row.raw.name (rows_of xs) ≡ None → put_item row n xs ≡ xs ++ record { row = row; number = n } ∷ []
+  put_last [] none = refl
+  put_last (x ∷ xs) none = elim (cases_Bool (is_named row.raw.name x.row)) [
+    | inl e ↦ let none' = rw e at none in absurd (cc)
+    | inr e ↦ let none' = rw e at none in rw e (ap (λ ys. x ∷ ys) (put_last xs none'))
+  ]
+
+  -- so it is alone if there were none
+  pub put_item_alone : (xs : List Item) → row_named row.raw.name (rows_of xs) ≡ None → is_single (put_item row n xs) ≡ (length xs == 0)
+  put_item_alone xs none =
+      let long : length (put_item row n xs) ≡ length xs + 1 = ap length (put_last xs none) ∙ length_push xs (record { row = row; number = n }) in
+      grind (arith, nat_tests, long)
+
+  -- and alone in its domain if there were none
+  pub put_paths_alone : (ps : ItemPaths) → AllByRecursion (λ p. 0 < length p.1) ps → find_item_paths row.path.text row.raw.name ps ≡ None → is_single_paths (put_item_paths row n ps) ≡ (length ps == 0)
+  put_paths_alone [] a none = refl
+  put_paths_alone (p ∷ []) a none = elim (cases_Bool (bytes_eq row.path.text p.0)) [
+    | inl e ↦ let here = rw e at none in rw e (put_item_alone p.1 here ∙ filled_is p.1 a.0)
+    | inr e ↦ rw e (sym (some_is p []))
+  ]
+  put_paths_alone (p ∷ q ∷ ps) a none = elim (cases_Bool (bytes_eq row.path.text p.0)) [
+    | inl e ↦ rw e (sym (some_is p (q ∷ ps)))
+    | inr e ↦ elim (cases_Bool (bytes_eq row.path.text q.0)) [
+      | inl f ↦ rw (e, f) (sym (some_is p (q ∷ ps)))
+      | inr f ↦ rw (e, f) (sym (some_is p (q ∷ ps)))
+    ]
+  ]
+
+  -- a group is kept once the row is stored in it
+  kept_put : (t : List ℕ) (xs : List Item) (ps : ItemPaths) → unless_empty t (put_item row n xs) ps ≡ (t, put_item row n xs) ∷ ps
+  kept_put t [] ps = refl
+  kept_put t (x ∷ xs) ps = elim (cases_Bool (is_named row.raw.name x.row)) [
+    | inl e ↦ rw e refl
+    | inr e ↦ rw e refl
+  ]
+
+  module _ (test : Item → Bool) (survives : test (record { row = row; number = n }) ≡ true) where
+    -- others are evicted from a group before or after it is stored
+    filter_put : (xs : List Item) → row_named row.raw.name (rows_of xs) ≡ None → filter test (put_item row n xs) ≡ put_item row n (filter test xs)
+    filter_put [] none = rw survives refl
+    filter_put (x ∷ xs) none = elim (cases_Bool (is_named row.raw.name x.row)) [
+      | inl e ↦ let none' = rw e at none in absurd (cc)
+      | inr e ↦ let none' = rw e at none in elim (cases_Bool (test x)) [
+        | inl t ↦ rw (e, t, e) (ap (λ ys. x ∷ ys) (filter_put xs none'))
+        | inr t ↦ rw (e, t) (filter_put xs none')
+      ]
+    ]
+
+    -- and from a domain, where its group is moved to the end if it is alone
+    pub put_passing : (ps : ItemPaths) → differ bytes_eq (map (λ p. p.0) ps) ≡ true → find_item_paths row.path.text row.raw.name ps ≡ None
+        → put_item_paths row n (filter_paths test ps) ≡ moved_to_end_if is_single row.path.text (filter_paths test (put_item_paths row n ps))
+    put_passing [] d none = rw survives (sym (moved_to_end_one is_single row.path.text row.path.text (record { row = row; number = n } ∷ [])))
+    put_passing (p ∷ ps) d none = elim (cases_Bool (bytes_eq row.path.text p.0)) [
+      | inl e ↦
+          let here = rw e at none in
+          let others = absent_passing test row.path.text ps (absent p.0 (map (λ p. p.0) ps) row.path.text e d) in
+          ap (put_item_paths row n) (passing_kept test p ps)
+          ∙ put_kept (put_item row n) is_single row.path.text p.0 (filter test p.1) (filter_paths test ps) e others (put_item_alone (filter test p.1) (none_filtered test row.raw.name p.1 here))
+          ∙ ap (moved_to_end_if is_single row.path.text) (sym (in_front here e))
+      | inr e ↦
+          let rest = rw e at none in
+          let after : differ bytes_eq (map (λ p. p.0) ps) ≡ true = grind (arith, d) in
+          ap (put_item_paths row n) (passing_kept test p ps)
+          ∙ put_past (put_item row n) is_single row.path.text p.0 (filter test p.1) (filter_paths test ps) (filter_paths test (put_item_paths row n ps)) e (put_passing ps after rest)
+          ∙ ap (moved_to_end_if is_single row.path.text) (sym (behind e))
+    ]
+      where
+        -- it was put into the first group
+        in_front : row_named row.raw.name (rows_of p.1) ≡ None → bytes_eq row.path.text p.0 ≡ true → filter_paths test (put_item_paths row n (p ∷ ps)) ≡ (p.0, put_item row n (filter test p.1)) ∷ filter_paths test ps
+        in_front here e = rw e (passing_kept test (p.0, put_item row n p.1) ps ∙ ap (λ xs. unless_empty p.0 xs (filter_paths test ps)) (filter_put p.1 here) ∙ kept_put p.0 (filter test p.1) (filter_paths test ps))
+
+        -- or behind it
+        behind : bytes_eq row.path.text p.0 ≡ false → filter_paths test (put_item_paths row n (p ∷ ps)) ≡ unless_empty p.0 (filter test p.1) (filter_paths test (put_item_paths row n ps))
+        behind e = rw e (passing_kept test p (put_item_paths row n ps))
+
+    -- in its domain it is alone if all others are evicted
+    left_alone : (gs : ItemGroups) → AllByRecursion (λ g. PathsDiffer g.1) gs → find_items (key_of row) gs ≡ None
+        → AtText (λ ps. is_single_paths (put_item_paths row n (filter_paths test ps)) ≡ (length (filter_paths test ps) == 0)) (domain_text row.domain) gs
+    left_alone [] d none = tt
+    left_alone (g ∷ gs) d none = (
+      λ e. put_paths_alone (filter_paths test g.1) (passing_filled test g.1) (none_passing test row.path.text row.raw.name g.1 d.0 (rw e at none)),
+      λ e. left_alone gs d.1 (rw e at none),
+    )
+
+    -- and others are evicted from that before or after it is stored
+    left_later : (gs : ItemGroups) → AllByRecursion (λ g. PathsDiffer g.1) gs → find_items (key_of row) gs ≡ None
+        → AtText (λ ps. put_item_paths row n (filter_paths test ps) ≡ moved_to_end_if is_single row.path.text (filter_paths test (put_item_paths row n ps))) (domain_text row.domain) gs
+    left_later [] d none = tt
+    left_later (g ∷ gs) d none = (λ e. put_passing g.1 d.0 (rw e at none), λ e. left_later gs d.1 (rw e at none))
+
+    -- so others are evicted from its domain before it is stored, or after, and then the groups of its path and of its
+    -- domain are moved to the end if it is alone in them
+    pub put_items_left : (gs : ItemGroups) → TextsDiffer gs → find_items (key_of row) gs ≡ None
+        → put_items row n (lessened_at (filter_paths test) (domain_text row.domain) gs) ≡ moved_to_end_if is_single_paths (domain_text row.domain) (changed_at (λ ps. moved_to_end_if is_single row.path.text (filter_paths test ps)) (domain_text row.domain) (put_items row n gs))
+    put_items_left gs d none =
+        put_where_left_at (filter_paths test) (put_item_paths row n) is_single_paths refl (domain_text row.domain) gs d.0 (left_alone gs d.1 none)
+        ∙ ap (moved_to_end_if is_single_paths (domain_text row.domain))
+        (changed_put (λ ps. moved_to_end_if is_single row.path.text (filter_paths test ps)) (put_item_paths row n) (λ ps. put_item_paths row n (filter_paths test ps)) (domain_text row.domain) gs (put_passing [] refl refl) (left_later gs d.1 none))
+
+    -- which is what entering does
+    pub entered_is : (gs : ItemGroups) → TextsDiffer gs → find_items (key_of row) gs ≡ None
+        → insert_in_domains test row n gs ≡ put_items row n (lessened_at (filter_paths test) (domain_text row.domain) gs)
+    entered_is gs d none =
+        let move_single_to_end = λ (ps : ItemPaths). moved_to_end_if is_single row.path.text (filter_paths test ps) in
+        let any = at_any (λ xs. insert_in_paths test row n xs ≡ move_single_to_end (put_item_paths row n xs)) (λ xs. refl) (domain_text row.domain) gs in
+        ap (moved_to_end_if is_single_paths (domain_text row.domain)) (changed_put move_single_to_end (put_item_paths row n) (insert_in_paths test row n) (domain_text row.domain) gs refl any)
+        ∙ sym (put_items_left gs d none)
+
+-- an entry is moved last
+
+module _ {T : Type 0} where
+  -- from this place
+  pub move_last : (xs : List T) (n : ℕ) (x : T) → slice_get xs n ≡ Some x → move_index xs n (length xs - 1) ≡ remove xs n ++ x ∷ []
+  move_last xs n x there =
+      let last : length xs - 1 ≡ length (remove xs n) = omega (arith, length-remove xs n (slice_get_within xs n x there)) in
+      ap (λ o. option_map_or (λ y. insert (remove xs n) (length xs - 1) y) o xs) there
+      ∙ ap (λ m. insert (remove xs n) m x) last
+      ∙ insert_end (remove xs n) x
+
+  -- from between these
+  pub move_last_between : (front back : List T) (x : T) → move_index (front ++ x ∷ back) (length front) (length (front ++ x ∷ back) - 1) ≡ front ++ back ++ x ∷ []
+  move_last_between front back x = move_last (front ++ x ∷ back) (length front) x (between front) ∙ ap (λ ys. ys ++ x ∷ []) (without front)
+    where
+      -- it is there
+      between : (ys : List T) → slice_get (ys ++ x ∷ back) (length ys) ≡ Some x
+      between [] = refl
+      between (y ∷ ys) = between ys
+
+      -- and without it there are the others
+      without : (ys : List T) → remove (ys ++ x ∷ back) (length ys) ≡ ys ++ back
+      without [] = refl
+      without (y ∷ ys) = ap (λ zs. y ∷ zs) (without ys)
+
+-- a place further on is not the first
+not_first : (o : Option ℕ) → option_map suc o ≡ Some 0 → ⊥
+not_first None e = absurd (cc)
+not_first (Some m) e = absurd (grind arith)
+
+-- and is one after the place where it was
+one_before : (o : Option ℕ) (n : ℕ) → option_map suc o ≡ Some (suc n) → o ≡ Some n
+one_before None n e = absurd (cc)
+one_before (Some m) n e = let same : m ≡ n = cc in ap Some same
+
+module _ {A X : Type 0} (alone : List X → Bool) (text : List ℕ) where
+  -- the first entry, if it has the name and is alone
+  moved_to_end_first : (e f : String A × List X) (es : List (String A × List X)) → e ≡ f → bytes_eq text (string_bytes f.0) ≡ true → alone e.1 ≡ true → texts_of (es ++ e ∷ []) ≡ moved_to_end_if alone text (texts_of (f ∷ es))
+  moved_to_end_first e f es same t a =
+      let a' : alone f.1 ≡ true = subst (λ (p : String A × List X). alone p.1 ≡ true) same a in
+      rw (t, a') (map-append (λ (p : String A × List X). (string_bytes p.0, p.1)) es (e ∷ []) ∙ ap (λ (p : String A × List X). texts_of es ++ (string_bytes p.0, p.1) ∷ []) same)
+
+  -- the first of the name, between these
+  moved_to_end_between : (front back : List (String A × List X)) (k : String A) (v : List X) → string_bytes k ≡ text → list_any (bytes_eq text) (map (λ g. g.0) (texts_of front)) ≡ false → alone v ≡ true
+      → texts_of (front ++ back ++ (k, v) ∷ []) ≡ moved_to_end_if alone text (texts_of (front ++ (k, v) ∷ back))
+  moved_to_end_between [] back k v is none a = moved_to_end_first (k, v) (k, v) back refl ((bytes_eq-Decides text (string_bytes k)).1 (sym is)) a
+  moved_to_end_between (e ∷ front) back k v is none a =
+      let other : bytes_eq text (string_bytes e.0) ≡ false = grind (arith, none) in
+      let rest : list_any (bytes_eq text) (map (λ g. g.0) (texts_of front)) ≡ false = grind (arith, none) in
+      rw other (ap (λ gs. (string_bytes e.0, e.1) ∷ gs) (moved_to_end_between front back k v is rest a))
+
+  -- so it is moved last
+  pub map_moved_to_end_between : (front back : List (String A × List X)) (k : String A) (v : List X) → string_bytes k ≡ text → list_any (bytes_eq text) (map (λ g. g.0) (texts_of front)) ≡ false → alone v ≡ true
+      → texts_of (move_index (front ++ (k, v) ∷ back) (length front) (length (front ++ (k, v) ∷ back) - 1)) ≡ moved_to_end_if alone text (texts_of (front ++ (k, v) ∷ back))
+  map_moved_to_end_between front back k v is none a = ap texts_of (move_last_between front back (k, v)) ∙ moved_to_end_between front back k v is none a
+
+  -- the first of the name, at this position
+  moved_to_end_at : (es : List (String A × List X)) (n : ℕ) (k : String A) (v : List X) → slice_get es n ≡ Some (k, v) → group_position text (texts_of es) ≡ Some n → alone v ≡ true
+      → texts_of (remove es n ++ (k, v) ∷ []) ≡ moved_to_end_if alone text (texts_of es)
+  moved_to_end_at [] n k v there place a = absurd (cc)
+  moved_to_end_at (e ∷ es) zero k v there place a = elim (cases_Bool (bytes_eq text (string_bytes e.0))) [
+    | inl t ↦ let same : (k, v) ≡ e = cc in moved_to_end_first (k, v) e es same t a
+    | inr t ↦ let place' = rw t at place in absurd (not_first (group_position text (texts_of es)) place')
+  ]
+  moved_to_end_at (e ∷ es) (suc n) k v there place a = elim (cases_Bool (bytes_eq text (string_bytes e.0))) [
+    | inl t ↦ let place' = rw t at place in absurd (cc)
+    | inr t ↦ let place' = rw t at place in rw t (ap (λ gs. (string_bytes e.0, e.1) ∷ gs) (moved_to_end_at es n k v there (one_before (group_position text (texts_of es)) n place') a))
+  ]
+
+  -- so it is moved last
+  pub map_moved_to_end : (es : List (String A × List X)) (n : ℕ) (k : String A) (v : List X) → slice_get es n ≡ Some (k, v) → Some n ≡ position (at_text text) (keys_of es) → alone v ≡ true
+      → texts_of (move_index es n (length es - 1)) ≡ moved_to_end_if alone text (texts_of es)
+  map_moved_to_end es n k v there place a = ap texts_of (move_last es n (k, v) there) ∙ moved_to_end_at es n k v there (sym (place ∙ place_is text es)) a
+
+  -- the entry of the name is not alone, and is unchanged
+  pub map_stays : (es : List (String A × List X)) (v : List X) → Some v ≡ lookup (at_text text) es → alone v ≡ false → moved_to_end_if alone text (texts_of es) ≡ texts_of es
+  map_stays [] v l a = refl
+  map_stays (e ∷ es) v l a = elim (cases_Bool (at_text text e.0)) [
+    | inl t ↦ let l' = rw t at l in let same : e.1 ≡ v = cc in let a' : alone e.1 ≡ false = ap alone same ∙ a in rw (t, a') refl
+    | inr t ↦ let l' = rw t at l in rw t (ap (λ gs. (string_bytes e.0, e.1) ∷ gs) (map_stays es v l' a))
+  ]
+
+  -- there is none, and all are unchanged
+  pub map_stays_none : (es : List (String A × List X)) → None ≡ lookup (at_text text) es → moved_to_end_if alone text (texts_of es) ≡ texts_of es
+  map_stays_none [] l = refl
+  map_stays_none (e ∷ es) l = elim (cases_Bool (at_text text e.0)) [
+    | inl t ↦ let l' = rw t at l in absurd (cc)
+    | inr t ↦ let l' = rw t at l in rw t (ap (λ gs. (string_bytes e.0, e.1) ∷ gs) (map_stays_none es l'))
+  ]
+
+-- entries are removed from a map
+
+-- the entries after `retain`, if the closure keeps no state, changes each value by a function and tests the result
+module _ {K X F : Type 0} (T : F → K → X → Bool → X → F → Type 0) (change : X → X) (test : X → Bool) (f : F)
+    (says : (k : K) (v : X) (b : Bool) (w : X) (g : F) → T f k v b w g → (b ≡ test (change v)) × (w ≡ change v) × (g ≡ f)) where
+  pub changed_retained : (es left : List (K × X)) → RetainsPairs T f es left → left ≡ filter (λ e. test e.1) (map (λ e. (e.0, change e.1)) es)
+  changed_retained [] left h = h
+  changed_retained (e ∷ es) left h =
+      let s = says e.0 e.1 h.0 h.1 h.2 h.4 in
+      let rest = changed_retained es h.3 (subst (λ g. RetainsPairs T g es h.3) s.2 h.5) in
+      h.6 ∙ (λ j. cond (s.0 j) ((e.0, s.1 j) ∷ rest j) (rest j))
+
+-- items under their names, without those that fail the test
+module _ {A F : Type 0} (T : F → String A → Item → Bool → Item → F → Type 0) (test : Item → Bool) (f : F)
+    (says : (k : String A) (v : Item) (b : Bool) (w : Item) (g : F) → T f k v b w g → (b ≡ test v) × (w ≡ v) × (g ≡ f)) where
+  -- the items
+  pub values_retained : (es left : List (String A × Item)) → RetainsPairs T f es left → values_of left ≡ filter test (values_of es)
+  values_retained es left h = ap values_of (filter-RetainsPairs T (λ e. test e.1) f says es left h) ∙ values_filtered es
+    where
+      -- the same of the entries that pass
+      values_filtered : (es : List (String A × Item)) → values_of (filter (λ e. test e.1) es) ≡ filter test (values_of es)
+      values_filtered [] = refl
+      values_filtered (e ∷ es) = elim (cases_Bool (test e.1)) [
+        | inl t ↦ rw t (ap (λ xs. e.1 ∷ xs) (values_filtered es))
+        | inr t ↦ rw t (values_filtered es)
+      ]
+
+  -- and each name is its item's
+  pub named_retained : (es left : List (String A × Item)) → RetainsPairs T f es left → AreNamed es → AreNamed left
+  named_retained es left h named = subst AreNamed (sym (filter-RetainsPairs T (λ e. test e.1) f says es left h)) (named_filtered es named)
+    where
+      -- the same of the entries that pass
+      named_filtered : (es : List (String A × Item)) → AreNamed es → AreNamed (filter (λ e. test e.1) es)
+      named_filtered [] g = tt
+      named_filtered (e ∷ es) g = elim (cases_Bool (test e.1)) [
+        | inl t ↦ rw t (g.0, named_filtered es g.1)
+        | inr t ↦ rw t (named_filtered es g.1)
+      ]
+
+-- groups under their paths, without those in which no item passes the test
+module _ {A F : Type 0} (T : F → String A → List Item → Bool → List Item → F → Type 0) (test : Item → Bool) (f : F)
+    (says : (k : String A) (v : List Item) (b : Bool) (w : List Item) (g : F) → T f k v b w g → (b ≡ not (length (filter test v) == 0)) × (w ≡ filter test v) × (g ≡ f)) where
+  pub texts_retained : (es left : List (String A × List Item)) → RetainsPairs T f es left → texts_of left ≡ filter_paths test (texts_of es)
+  texts_retained es left h = ap texts_of (changed_retained T (filter test) (λ xs. not (length xs == 0)) f says es left h) ∙ texts_filtered es
+    where
+      -- an entry remains if its group is kept
+      one_stays : (k : String A) (xs : List Item) (es : List (String A × List Item)) (ps : ItemPaths) → texts_of es ≡ ps → texts_of (cond (not (length xs == 0)) ((k, xs) ∷ es) es) ≡ unless_empty (string_bytes k) xs ps
+      one_stays k [] es ps same = same
+      one_stays k (x ∷ xs) es ps same = rw (some_is x xs) (ap (λ qs. (string_bytes k, x ∷ xs) ∷ qs) same)
+
+      -- the remaining entries have the kept groups
+      texts_filtered : (es : List (String A × List Item)) → texts_of (filter (λ e. not (length e.1 == 0)) (map (λ e. (e.0, filter test e.1)) es)) ≡ filter_paths test (texts_of es)
+      texts_filtered [] = refl
+      texts_filtered (e ∷ es) =
+          one_stays e.0 (filter test e.1) (filter (λ e. not (length e.1 == 0)) (map (λ e. (e.0, filter test e.1)) es)) (filter_paths test (texts_of es)) (texts_filtered es)
+          ∙ sym (passing_kept test (string_bytes e.0, e.1) (texts_of es))

@@ -1,0 +1,50 @@
+use Rattle.std.proofs.Common.{◌∙◌, sym, ap, Some}
+use Rattle.std.specs.String.{string_eq}
+use Rattle.std.specs.Map.{set_value}
+use Rattle.indexmap.specs.IndexMap.{insert_entry}
+use Rattle.cookie_parts.specs.Cookie.{Row}
+use Rattle.cookie_parts.specs.Domain.{domain_text}
+use Rattle.cookie_rows.specs.Groups.{texts_of, put_at, found}
+use Rattle.cookie_rows.specs.Items.{find_item_paths, put_item_paths}
+use Rattle.cookie_rows.proofs.Maps.{at_text, put_set, same_set, put_insert, found_some}
+use Rattle.cookie_rows.proofs.Results.{on_ok_map, on_err_map}
+use Rattle.cookie_rows.proofs.domains.add_row.Goals as goal
+
+pub add-requires : goal.add-requires
+add-requires c =
+    let es = c.args.groups.now.entries in
+    let named = find_item_paths c.args.row.row.path.text c.args.row.row.raw.name in
+    let domain = c.domain_text.ensures ∙ ap (λ (r : Row). domain_text r.domain) c.cookie.ensures in
+    record { new = found_some named c.domain_text.result.now es c.in-Some.group.now c.in-Some.ensures.value ∙ ap (λ t. found named t (texts_of es)) domain ∙ c.requires.new }
+
+pub returns-in-Some-clause-added : goal.returns-in-Some-clause-added
+returns-in-Some-clause-added c =
+    let es = c.args.groups.now.entries in
+    let q = c.domain_text.result.now in
+    let domain = c.domain_text.ensures ∙ ap (λ (r : Row). domain_text r.domain) c.cookie.ensures in
+    let change = put_item_paths c.args.row.row c.args.row.number in
+    on_ok_map c.add.result
+    (λ new. ap texts_of (c.get_mut.follows.holds c.add.new.self).0
+    ∙ ap (λ v. texts_of (set_value (at_text q) es v)) new
+    ∙ put_set change q es c.in-Some.group.now c.in-Some.ensures.value
+    ∙ ap (λ t. put_at change t (texts_of es)) domain)
+    c.add.ensures.added
+
+pub returns-in-Some-clause-unchanged : goal.returns-in-Some-clause-unchanged
+returns-in-Some-clause-unchanged c =
+    on_err_map c.add.result
+    (λ same. ap texts_of (c.get_mut.follows.holds c.add.new.self).0 ∙ same_set _ c.args.groups.now.entries c.add.new.self (ap Some same ∙ c.in-Some.ensures.value))
+    c.add.ensures.unchanged
+
+pub returns-in_ok-insert-in-None-clause-added : goal.returns-in_ok-insert-in-None-clause-added
+returns-in_ok-insert-in-None-clause-added c =
+    let es = c.args.groups.now.entries in
+    let q = c.domain_text.result.now in
+    let domain = c.domain_text.ensures ∙ ap (λ (r : Row). domain_text r.domain) c.cookie.ensures in
+    let change = put_item_paths c.args.row.row c.args.row.number in
+    let key = c.in_ok-domain-in-None.domain in
+    ap texts_of c.in_ok-insert-in-None.ensures.entries
+    ∙ ap (λ m. texts_of (insert_entry string_eq m.entries key c.in_ok-domain-in-None.group)) c.get_mut.follows.holds-at-none
+    ∙ ap (λ v. texts_of (insert_entry string_eq es key v)) c.in_ok-domain-in-None.ensures.group
+    ∙ put_insert change q key es (c.in_ok-domain-in-None.ensures.domain ∙ sym domain) c.in-None.ensures.value
+    ∙ ap (λ t. put_at change t (texts_of es)) domain

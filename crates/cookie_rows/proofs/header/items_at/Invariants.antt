@@ -1,9 +1,0 @@
--- The rows at the positions that were passed.
-use Rattle.std.proofs.Common.{◌≡◌, map, take}
-use Rattle.std.specs.List.{flat_map}
-use Rattle.cookie_rows.specs.Groups.{texts_of}
-use Rattle.cookie_rows.specs.HeaderItems.{items_at}
-use Rattle.cookie_rows.proofs.header.items_at.Given as goal
-
-abbrev pub invariant-loop-row_position : goal.invariant-loop-row_position
-invariant-loop-row_position l = map (λ r. r.now) l.items.items ≡ flat_map (items_at (texts_of l.groups.entries)) (take l.row_position-index l.positions)

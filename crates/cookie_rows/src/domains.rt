@@ -1,0 +1,177 @@
+//! The groups of a store, by domain.
+ghost use Rattle.std.specs.Prelude.{◌≡◌, ◌≢◌, ◌<◌, ℕ, true, ◌==◌, [], length, not, string_bytes, IfOk, None, OnErr, OnOk};
+ghost use Rattle.std.specs.Option.{option_copied};
+ghost use Rattle.cookie_words.specs.Moments.{moment_of};
+ghost use Rattle.cookie_parts.specs.Domain.{domain_text};
+ghost use Rattle.cookie_laws.specs.Rows.{key_at, key_of};
+ghost use Rattle.cookie_rows.specs.Groups.{changed_at, is_empty_at, texts_of};
+ghost use Rattle.cookie_rows.specs.Items.{expire_items, find_items, put_item_paths, put_items, remove_item_paths, remove_items};
+ghost use Rattle.cookie_rows.specs.Eviction.{is_single_paths, filter_paths, filter_groups, moved_to_end_if, survives, InsertsInDomains};
+
+use crate::boxed::BoxedCookie;
+use crate::hashing::HashKey;
+use crate::paths::Paths;
+use crate::texts::{domain_text, path_text};
+use cookie_parts::Cookie;
+use indexmap::IndexMap;
+use jiff::civil::DateTime;
+use std::alloc::{AllocError, Global};
+
+// Returns the row of this domain, path and name, if there is one.
+pub(crate) fn find_row<'a>(
+    groups: &'a IndexMap<String, Paths, HashKey>,
+    domain: &str,
+    path: &str,
+    name: &str,
+) -> Option<&'a Cookie<'static>>
+    ensures { option_copied result ≡ find_items (key_at domain.now path.now name.now) (texts_of groups.now.entries) }
+{
+    match groups.get(domain) {
+        Some(group) => group.get(path, name),
+        None => None,
+    }
+}
+
+// Returns the row's domain, and a group of this row alone.
+fn entry_of(alloc: Global, row: BoxedCookie) -> Result<(String, Paths), AllocError>
+    ensures domain { IfOk result (λ entry. string_bytes entry.0 ≡ domain_text row.row.domain) }
+    ensures group { IfOk result (λ entry. entry.1 ≡ put_item_paths row.row row.number []) }
+{
+    let domain = String::from_str(alloc, domain_text(row.cookie()))?;
+    let group = Paths::of_one(alloc, row)?;
+    Ok((domain, group))
+}
+
+// Replaces the row of the cookie's key.
+pub(crate) fn replace_row(groups: &mut IndexMap<String, Paths, HashKey>, cookie: Cookie<'static>)
+    requires stored { find_items (key_of cookie) (texts_of groups.old.entries) ≢ None }
+    ensures { (number : ℕ) → texts_of groups.new.entries ≡ put_items cookie.entry number (texts_of groups.old.entries) }
+{
+    match groups.get_mut(domain_text(&cookie)) {
+        Some(group) => group.replace(cookie),
+        None => {}
+    }
+}
+
+// Adds the row to the group of its domain.
+pub(crate) fn add_row(
+    groups: &mut IndexMap<String, Paths, HashKey>,
+    row: BoxedCookie,
+) -> Result<(), AllocError>
+    requires new { find_items (key_of row.row) (texts_of groups.old.entries) ≡ None }
+    ensures added { OnOk result (texts_of groups.new.entries ≡ put_items row.row row.number (texts_of groups.old.entries)) }
+    ensures unchanged { OnErr result (texts_of groups.new.entries ≡ texts_of groups.old.entries) }
+{
+    let alloc = *groups.allocator();
+    let hash_key = *groups.hasher();
+    match groups.get_mut(domain_text(row.cookie())) {
+        Some(group) => group.add(alloc, hash_key, row),
+        None => {
+            let (domain, group) = entry_of(alloc, row)?;
+            groups.insert(domain, group)?;
+            Ok(())
+        }
+    }
+}
+
+// Adds the row to the group of its domain, and evicts rows so that at most `limit` of the domain
+// are stored.
+pub(crate) fn insert_row_within_limit(
+    groups: &mut IndexMap<String, Paths, HashKey>,
+    row: BoxedCookie,
+    limit: usize,
+    now: DateTime,
+) -> Result<(), AllocError>
+    requires limit { 0 < limit }
+    requires new { find_items (key_of row.row) (texts_of groups.old.entries) ≡ None }
+    ensures inserted { OnOk result (InsertsInDomains limit (moment_of now) row.row row.number
+        (texts_of groups.old.entries) (texts_of groups.new.entries)) }
+    ensures unchanged { OnErr result (texts_of groups.new.entries ≡ texts_of groups.old.entries) }
+{
+    let alloc = *groups.allocator();
+    let hash_key = *groups.hasher();
+    let domain = String::from_str(alloc, domain_text(row.cookie()))?;
+    let left = match groups.get_mut(domain.as_str()) {
+        Some(group) => group.insert_within_limit(alloc, hash_key, row, limit, now)?,
+        None => return add_row(groups, row),
+    };
+    if left {
+        move_domain_to_end(groups, domain.as_str());
+    }
+    Ok(())
+}
+
+// Moves the group of this domain to the end, if it has a single row: all its old rows were evicted.
+fn move_domain_to_end(groups: &mut IndexMap<String, Paths, HashKey>, domain: &str)
+    ensures { texts_of groups.new.entries ≡ moved_to_end_if is_single_paths domain.now (texts_of groups.old.entries) }
+{
+    let Some((at, _, group)) = groups.get_full(domain) else {
+        return;
+    };
+    if group.is_single() {
+        let last = groups.len() - 1;
+        groups.move_index(at, last);
+    }
+}
+
+// Expires the row of the cookie's key, if there is one.
+pub(crate) fn expire_row(groups: &mut IndexMap<String, Paths, HashKey>, cookie: &Cookie<'static>)
+    ensures { texts_of groups.new.entries ≡ expire_items (key_of cookie.now) (texts_of groups.old.entries) }
+{
+    match groups.get_mut(domain_text(cookie)) {
+        Some(group) => group.expire(path_text(cookie), cookie.name()),
+        None => {}
+    }
+}
+
+// Removes the row from its domain's group. Returns it, and whether the group is now empty.
+fn take_row(
+    groups: &mut IndexMap<String, Paths, HashKey>,
+    domain: &str,
+    path: &str,
+    name: &str,
+) -> (Option<Cookie<'static>>, bool)
+    ensures value { result.0 ≡ find_items (key_at domain.now path.now name.now) (texts_of groups.old.entries) }
+    ensures groups { texts_of groups.new.entries ≡ changed_at (remove_item_paths path.now name.now) domain.now (texts_of groups.old.entries) }
+    ensures is_empty { result.1 ≡ is_empty_at domain.now (texts_of groups.new.entries) }
+{
+    match groups.get_mut(domain) {
+        Some(group) => {
+            let row = group.remove(path, name);
+            (row, group.is_empty())
+        }
+        None => (None, false),
+    }
+}
+
+// Removes the row of this domain, path and name, and its domain's group if that is empty then.
+pub(crate) fn remove_row(
+    groups: &mut IndexMap<String, Paths, HashKey>,
+    domain: &str,
+    path: &str,
+    name: &str,
+) -> Option<Cookie<'static>>
+    ensures value { result ≡ find_items (key_at domain.now path.now name.now) (texts_of groups.old.entries) }
+    ensures removed { texts_of groups.new.entries ≡ remove_items (key_at domain.now path.now name.now) (texts_of groups.old.entries) }
+{
+    let (row, is_empty) = take_row(groups, domain, path, name);
+    if is_empty {
+        groups.shift_remove(domain);
+    }
+    row
+}
+
+// Keeps the rows that have not expired at `now`, and drops empty groups. An expired row is one that
+// comes before (true, 0) in eviction order.
+pub(crate) fn retain_groups(groups: &mut IndexMap<String, Paths, HashKey>, now: DateTime)
+    ensures { texts_of groups.new.entries ≡ filter_groups (survives (moment_of now) (true, 0)) (texts_of groups.old.entries) }
+{
+    groups.retain(
+        |_domain: &String, group: &mut Paths| -> bool
+            ensures { (group.new ≡ filter_paths (survives (moment_of now) (true, 0)) group.old) × (result ≡ not (length group.new == 0)) }
+        {
+            group.retain((true, 0), now);
+            !group.is_empty()
+        },
+    );
+}

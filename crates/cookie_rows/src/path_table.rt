@@ -1,0 +1,149 @@
+//! The groups of one domain in a table, by path.
+ghost use Rattle.std.specs.Prelude.{◌≡◌, ◌==◌, ◌<◌, filter, length, map, not, option_map, slice_get, None, IfSome, OnErr, OnOk, ℕ, false, ◌≢◌};
+ghost use Rattle.cookie_words.specs.Moments.{moment_of};
+ghost use Rattle.cookie_lookup.specs.SearchView.{group_position, under};
+ghost use Rattle.cookie_rows.specs.Groups.{changed_at, is_empty_at, texts_of};
+ghost use Rattle.cookie_rows.specs.Items.{expire_item_paths, find_item_paths, put_item_paths, remove_item, remove_item_paths};
+ghost use Rattle.cookie_rows.specs.Eviction.{is_single, filter_paths, moved_to_end_if, survives};
+
+use crate::boxed::BoxedCookie;
+use crate::hashing::HashKey;
+use crate::names::Names;
+use crate::texts::path_text;
+use cookie_parts::Cookie;
+use indexmap::IndexMap;
+use jiff::civil::DateTime;
+use std::alloc::{AllocError, Global};
+
+// The group of this path in a table, and its position.
+pub(crate) fn found_in<'a>(
+    groups: &'a IndexMap<String, Names, HashKey>,
+    path: &str,
+) -> Option<(usize, &'a Names)>
+    ensures place { option_map (λ found. found.0) result ≡ group_position path.now (texts_of groups.now.entries) }
+    ensures names { IfSome result (λ found. found.1.now ≡ under found.0 (texts_of groups.now.entries)) }
+{
+    match groups.get_full(path) {
+        Some((at, _, names)) => Some((at, names)),
+        None => None,
+    }
+}
+
+// The path at a position of a table.
+pub(crate) fn text_in(groups: &IndexMap<String, Names, HashKey>, place: usize) -> Option<&str>
+    ensures { option_map (λ text. text.now) result ≡ slice_get (map (λ p. p.0) (texts_of groups.now.entries)) place }
+{
+    match groups.get_index(place) {
+        Some((path, _)) => Some(path.as_str()),
+        None => None,
+    }
+}
+
+// Replaces the row of the cookie's path and name in a table.
+pub(crate) fn replace_in(groups: &mut IndexMap<String, Names, HashKey>, cookie: Cookie<'static>)
+    requires stored { find_item_paths cookie.path.text cookie.raw.name (texts_of groups.old.entries) ≢ None }
+    ensures { (number : ℕ) → texts_of groups.new.entries ≡ put_item_paths cookie.entry number (texts_of groups.old.entries) }
+{
+    match groups.get_mut(path_text(&cookie)) {
+        Some(group) => group.replace(cookie),
+        None => {}
+    }
+}
+
+// Adds the row at the end of its path's group in a table.
+pub(crate) fn add_in(
+    groups: &mut IndexMap<String, Names, HashKey>,
+    alloc: Global,
+    hash_key: HashKey,
+    row: BoxedCookie,
+) -> Result<(), AllocError>
+    requires new { find_item_paths row.row.path.text row.row.raw.name (texts_of groups.old.entries) ≡ None }
+    ensures added { OnOk result (texts_of groups.new.entries ≡ put_item_paths row.row row.number (texts_of groups.old.entries)) }
+    ensures unchanged { OnErr result (texts_of groups.new.entries ≡ texts_of groups.old.entries) }
+{
+    match groups.get_mut(path_text(row.cookie())) {
+        Some(group) => group.add(alloc, hash_key, row),
+        None => {
+            let path = String::from_str(alloc, path_text(row.cookie()))?;
+            groups.insert(path, Names::of_one(row))?;
+            Ok(())
+        }
+    }
+}
+
+// Keeps the rows of a table that do not come before `first` in eviction order, and drops empty
+// groups.
+pub(crate) fn retain_in(
+    groups: &mut IndexMap<String, Names, HashKey>,
+    first: (bool, u64),
+    now: DateTime,
+)
+    ensures { texts_of groups.new.entries ≡ filter_paths (survives (moment_of now) first) (texts_of groups.old.entries) }
+{
+    groups.retain(
+        |_path: &String, names: &mut Names| -> bool
+            ensures { (names.new ≡ filter (survives (moment_of now) first) names.old) × (result ≡ not (length names.new == 0)) }
+        {
+            names.retain(first, now);
+            !names.is_empty()
+        },
+    );
+}
+
+// Moves the group of this path to the end of a table, if it has a single row.
+pub(crate) fn move_to_end_in(groups: &mut IndexMap<String, Names, HashKey>, path: &str)
+    ensures { texts_of groups.new.entries ≡ moved_to_end_if is_single path.now (texts_of groups.old.entries) }
+{
+    let Some((at, _, names)) = groups.get_full(path) else {
+        return;
+    };
+    if names.rows().len() == 1 {
+        let last = groups.len() - 1;
+        groups.move_index(at, last);
+    }
+}
+
+// Expires the row of this path and name in a table.
+pub(crate) fn expire_in(groups: &mut IndexMap<String, Names, HashKey>, path: &str, name: &str)
+    ensures { texts_of groups.new.entries ≡ expire_item_paths path.now name.now (texts_of groups.old.entries) }
+{
+    match groups.get_mut(path) {
+        Some(group) => group.expire(name),
+        None => {}
+    }
+}
+
+// Removes the row from its group in a table. Returns it, and whether the group is now empty.
+fn take_named(
+    groups: &mut IndexMap<String, Names, HashKey>,
+    path: &str,
+    name: &str,
+) -> (Option<Cookie<'static>>, bool)
+    ensures value { result.0 ≡ find_item_paths path.now name.now (texts_of groups.old.entries) }
+    ensures groups { texts_of groups.new.entries ≡ changed_at (remove_item name.now) path.now (texts_of groups.old.entries) }
+    ensures is_empty { result.1 ≡ is_empty_at path.now (texts_of groups.new.entries) }
+{
+    match groups.get_mut(path) {
+        Some(group) => {
+            let row = group.remove(name);
+            (row, group.is_empty())
+        }
+        None => (None, false),
+    }
+}
+
+// Removes the row of this path and name from a table, and its group if it was the last row there.
+pub(crate) fn remove_in(
+    groups: &mut IndexMap<String, Names, HashKey>,
+    path: &str,
+    name: &str,
+) -> Option<Cookie<'static>>
+    ensures value { result ≡ find_item_paths path.now name.now (texts_of groups.old.entries) }
+    ensures removed { texts_of groups.new.entries ≡ remove_item_paths path.now name.now (texts_of groups.old.entries) }
+{
+    let (row, is_empty) = take_named(groups, path, name);
+    if is_empty {
+        groups.shift_remove(path);
+    }
+    row
+}

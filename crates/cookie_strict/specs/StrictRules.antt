@@ -1,0 +1,88 @@
+-- The rules that the draft adds to the insertion of a cookie, draft-ietf-httpbis-rfc6265bis 5.4 and 5.7.
+use Rattle.std.specs.Prelude.{ℕ, Bool, true, false, not, ◌&&◌, ◌||◌, List, bytes_eq, codes, length, take, Option, Some, None, ⊤, if◌then◌else◌}
+use Rattle.std.specs.List.{list_any}
+use Rattle.std.specs.Str.{str_eq_ignore_ascii_case}
+use Rattle.url.specs.Parts.{Parts}
+use Rattle.cookie_words.specs.Moments.{Moment}
+use Rattle.cookie_raw.specs.declared.same_site.SameSite.{SameSite}
+use Rattle.cookie_raw.specs.declared.same_site.SameSite.TheVariants as same_site
+use Rattle.cookie_parts.specs.Cookie.{Row, is_secure_only}
+use Rattle.cookie_parts.specs.Domain.{DomainValue, HostOnly, Suffix, NotPresent, Empty, domain_text}
+use Rattle.cookie_parts.specs.Hosts.{covers, is_secure}
+use Rattle.cookie_parts.specs.Path.{covers_path}
+use Rattle.cookie_laws.specs.Rows.{is_unexpired}
+use Rattle.cookie_strict.specs.declared.error.StrictError.{StrictError}
+use Rattle.cookie_strict.specs.declared.error.StrictError.TheVariants.{InsecureUrl, InsecureSameSiteNone, Prefix, SecureStored}
+
+-- 5.7: the cookie is Secure, and the URL is not secure
+abbrev pub needs_secure_url : Row → Parts → Bool
+needs_secure_url cookie url = is_secure_only cookie.raw && not (is_secure url)
+
+-- the SameSite attribute is None
+abbrev pub is_none_site : Option SameSite → Bool
+is_none_site None = false
+is_none_site (Some same_site.Strict) = false
+is_none_site (Some same_site.Lax) = false
+is_none_site (Some same_site.None) = true
+
+-- 5.7: the cookie has SameSite=None and is not Secure
+abbrev pub needs_secure_flag : Row → Bool
+needs_secure_flag cookie = is_none_site cookie.raw.same_site && not (is_secure_only cookie.raw)
+
+-- 5.4: the name begins with the prefix, ignoring ASCII case
+abbrev pub has_prefix : List ℕ → List ℕ → Bool
+has_prefix prefix name = str_eq_ignore_ascii_case (take (length prefix) name) prefix
+
+-- a host-only cookie
+abbrev pub is_host_only : DomainValue → Bool
+is_host_only (HostOnly host) = true
+is_host_only (Suffix domain) = false
+is_host_only NotPresent = false
+is_host_only Empty = false
+
+-- a Path attribute `/`
+abbrev pub has_root_path : Row → Bool
+has_root_path cookie = cookie.path.is_from_attribute && bytes_eq cookie.path.text (codes "/")
+
+-- 4.1.3.1: the name begins with `__Secure-`, and the cookie is not Secure
+abbrev pub breaks_secure_prefix : Row → Bool
+breaks_secure_prefix cookie = has_prefix (codes "__Secure-") cookie.raw.name && not (is_secure_only cookie.raw)
+
+-- 4.1.3.2: the name begins with `__Host-`, and the cookie is not Secure, is not host-only, or has no Path attribute `/`
+abbrev pub breaks_host_prefix : Row → Bool
+breaks_host_prefix cookie =
+    has_prefix (codes "__Host-") cookie.raw.name
+    && not (is_secure_only cookie.raw && (is_host_only cookie.domain && has_root_path cookie))
+
+-- 5.7: one of the domains covers the other
+abbrev pub are_related : List ℕ → List ℕ → Bool
+are_related a b = covers a b || covers b a
+
+-- 5.7: the row is Secure and has not expired, it has the name of the cookie, one of their domains covers the other, and
+-- the path of the cookie path-matches that of the row
+abbrev pub is_overlaid : Row → Moment → Row → Bool
+is_overlaid cookie now row =
+    (is_unexpired now row && is_secure_only row.raw)
+    && (bytes_eq row.raw.name cookie.raw.name
+    && (are_related (domain_text row.domain) (domain_text cookie.domain) && covers_path row.path.text cookie.path.text))
+
+-- 5.7, "leave secure cookies alone": neither the cookie nor the URL is secure, and the cookie overlays a stored one
+abbrev pub overlays_secure : Row → Parts → Moment → List Row → Bool
+overlays_secure cookie url now rows =
+    (not (is_secure_only cookie.raw) && not (is_secure url)) && list_any (is_overlaid cookie now) rows
+
+-- the first rule that the cookie breaks, if any
+abbrev pub broken_rule : Row → Parts → Moment → List Row → Option StrictError
+broken_rule cookie url now rows =
+    if needs_secure_url cookie url then Some InsecureUrl
+    else (if needs_secure_flag cookie then Some InsecureSameSiteNone
+    else (if breaks_secure_prefix cookie || breaks_host_prefix cookie then Some Prefix
+    else (if overlays_secure cookie url now rows then Some SecureStored else None)))
+
+-- the errors of these rules
+abbrev pub IsRuleError : StrictError → Type 0
+IsRuleError InsecureUrl = ⊤
+IsRuleError InsecureSameSiteNone = ⊤
+IsRuleError Prefix = ⊤
+IsRuleError SecureStored = ⊤
+IsRuleError other = ⊥

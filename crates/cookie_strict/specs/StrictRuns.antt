@@ -1,0 +1,84 @@
+-- Calls on a store under the draft's rules, draft-ietf-httpbis-rfc6265bis 5.7.
+use Rattle.std.specs.Prelude.{◌≡◌, ℕ, List, [], ◌∷◌, map, Option, Some, None, Result, Ok, Err, ◌⊎◌, if◌then◌else◌}
+use Rattle.url.specs.Parts.{Parts}
+use Rattle.cookie_words.specs.Moments.{Moment}
+use Rattle.cookie_parts.specs.Cookie.{Row, and_then}
+use Rattle.cookie_parts.specs.declared.cookie_error.CookieError.{CookieError}
+use Rattle.cookie_parts.specs.declared.cookie_error.CookieError.TheVariants.{Memory}
+use Rattle.cookie_parts.specs.declared.store_action.StoreAction.{StoreAction}
+use Rattle.cookie_parts.specs.declared.store_action.StoreAction.TheVariants.{Inserted}
+use Rattle.cookie_laws.specs.Acceptance.{accept}
+use Rattle.cookie_laws.specs.Contents.{Contents}
+use Rattle.cookie_laws.specs.Runs.{Call, Set, Insert, Remove, Clear, Stored, step}
+use Rattle.cookie_strict.specs.HeaderValue.{pair_error, strict_cookie}
+use Rattle.cookie_strict.specs.Lifetime.{limited_cookie}
+use Rattle.cookie_strict.specs.StrictRules.{broken_rule}
+use Rattle.cookie_strict.specs.declared.error.StrictError.{StrictError}
+use Rattle.cookie_strict.specs.declared.error.StrictError.TheVariants.{Cookie}
+
+-- the plain call that inserts the cookie, unless it breaks a rule
+abbrev pub unless_broken : Option StrictError → Call → Result Call StrictError
+unless_broken None call = Ok call
+unless_broken (Some error) call = Err error
+
+-- the plain call, if the store accepts it and the cookie breaks no rule
+abbrev pub if_accepted : Result StoreAction CookieError → Option StrictError → Call → Result Call StrictError
+if_accepted (Ok action) broken call = unless_broken broken call
+if_accepted (Err error) broken call = Err (Cookie error)
+
+-- the plain insertion of a cookie that expires in time, or the error
+abbrev pub allowed_insertion : Row → Parts → Moment → Contents → Result Call StrictError
+allowed_insertion cookie url now store =
+    if_accepted (accept store cookie url now).reply (broken_rule cookie url now store.rows) (Insert cookie url now)
+
+-- the plain insertion, unless there is an error
+abbrev pub unless_error : Option StrictError → Result Call StrictError → Result Call StrictError
+unless_error None allowed = allowed
+unless_error (Some error) allowed = Err error
+
+-- the same for any cookie, which then expires at most 400 days from `now`
+abbrev pub strict_insertion : Row → Parts → Moment → Contents → Result Call StrictError
+strict_insertion cookie url now store = unless_error (pair_error cookie.raw) (allowed_insertion (limited_cookie now cookie) url now store)
+
+-- the plain call that a call becomes under the rules, or the error
+abbrev pub strict_call : Call → Contents → Result Call StrictError
+strict_call (Set text url now) store = and_then (strict_cookie text url now) (λ cookie. strict_insertion cookie url now store)
+strict_call (Insert cookie url now) store = strict_insertion cookie url now store
+strict_call (Remove key) store = Ok (Remove key)
+strict_call Clear store = Ok Clear
+
+-- the store after a plain call, or unchanged after an error
+abbrev pub store_after_call : Result Call StrictError → Contents → Contents
+store_after_call (Ok call) store = (step call store).store
+store_after_call (Err error) store = store
+
+-- the result is that of the plain call, or the error; any result is if it is out of memory
+abbrev pub IsStrictReply : Result StoreAction StrictError → Result Call StrictError → Contents → Type 0
+IsStrictReply (Ok action) (Ok call) store = (step call store).reply ≡ Stored (Ok action)
+IsStrictReply (Ok action) (Err error) store = ⊥
+IsStrictReply (Err error) allowed store = (error ≡ Cookie Memory) ⊎ (allowed ≡ Err error)
+
+-- the plain call inserts a cookie that no stored one has the key of
+abbrev pub InsertsNew : Result Call StrictError → Contents → Type 0
+InsertsNew (Ok call) store = (step call store).reply ≡ Stored (Ok Inserted)
+InsertsNew (Err error) store = ⊥
+
+-- the store after calls under the rules
+abbrev pub strict_store_after : List Call → Contents → Contents
+strict_store_after [] store = store
+strict_store_after (call ∷ calls) store = strict_store_after calls (store_after_call (strict_call call store) store)
+
+-- the call in front, if it is allowed
+abbrev pub allowed_first : Result Call StrictError → List Call → List Call
+allowed_first (Ok call) calls = call ∷ calls
+allowed_first (Err error) calls = calls
+
+-- the plain calls that calls under the rules become
+abbrev pub allowed_calls : List Call → Contents → List Call
+allowed_calls [] store = []
+allowed_calls (call ∷ calls) store =
+    allowed_first (strict_call call store) (allowed_calls calls (store_after_call (strict_call call store) store))
+
+-- the calls that insert the cookies of these header values, received from the URL at this time
+abbrev pub set_calls : Parts → Moment → List (List ℕ) → List Call
+set_calls url now values = map (λ value. Set value url now) values

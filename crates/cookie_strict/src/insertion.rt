@@ -1,0 +1,137 @@
+//! Insertion of a cookie under the draft's rules.
+ghost use Rattle.std.specs.Prelude.{◌≡◌, false, Err, None, Ok, Some, OnErr, OnOk};
+ghost use Rattle.std.specs.List.{list_any};
+ghost use Rattle.cookie_words.specs.Moments.{moment_of};
+ghost use Rattle.cookie_raw.specs.Reading.{attributes, reading};
+ghost use Rattle.cookie_parts.specs.Cookie.{cookie_from_header, early};
+ghost use Rattle.cookie_parts.specs.Outcomes.{ReturnsOrMemory};
+ghost use Rattle.cookie_parts.specs.declared.cookie_error.CookieError.{CookieError};
+ghost use Rattle.cookie_parts.specs.declared.cookie_error.CookieError.TheVariants.{Memory};
+ghost use Rattle.cookie_laws.specs.Runs.{Set};
+ghost use Rattle.cookie_strict.specs.HeaderValue.{header_error, is_long, without_long_attributes};
+ghost use Rattle.cookie_strict.specs.StrictRuns.{strict_call, strict_insertion, store_after_call, InsertsNew, IsStrictReply};
+ghost use Rattle.cookie_strict.specs.declared.error.StrictError.{StrictError};
+ghost use Rattle.cookie_strict.specs.declared.error.StrictError.TheVariants as strict_error;
+
+use crate::header_value::{has_long_attribute, header_error, pair_error, without_long_attributes};
+use crate::rules::{broken_rule, limited_expiry};
+use crate::{StrictError, StrictResult};
+use cookie_core::CookieStore;
+use cookie_parts::{Cookie, CookieError, CookieResult};
+use jiff::civil::DateTime;
+use std::alloc::Global;
+use url::Url;
+
+/// Parses a `Set-Cookie` header value received from `url` and inserts the cookie under the draft's
+/// rules.
+///
+/// Attributes whose value is longer than 1,024 bytes are ignored, and the cookie expires at most
+/// 400 days from `now`. On any error, out of memory included, the store is unchanged.
+///
+/// # Errors
+///
+/// In the order in which they are checked:
+/// - `ControlCharacter`: `text` has a control character other than HTAB.
+/// - `Cookie(Parse)`: `text` is not a cookie.
+/// - `TooLong`: the name and the value together are longer than 4,096 bytes.
+/// - `Cookie`: those of [`Cookie::parse`].
+/// - Those of [`insert`].
+///
+/// `Cookie(Memory)`: out of memory. Never in place of the first three, nor of `NonHttpScheme`, or of
+/// `NonRelativeScheme` without a Domain attribute, if no attribute is too long.
+pub fn parse(store: &mut CookieStore, text: &str, url: &Url, now: DateTime) -> StrictResult
+    ensures reply { IsStrictReply result (strict_call (Set text.now url.now (moment_of now)) store.old) store.old }
+    ensures store { OnOk result (store.new
+        ≡ store_after_call (strict_call (Set text.now url.now (moment_of now)) store.old) store.old) }
+    ensures unchanged { OnErr result (store.new ≡ store.old) }
+    ensures early { (error : StrictError) → header_error text.now ≡ Some error → result ≡ Err error }
+    ensures early_cookie { header_error text.now ≡ None → list_any is_long (attributes text.now) ≡ false
+        → (error : CookieError) → early (reading text.now) url.now ≡ Some error → result ≡ Err (strict_error.Cookie error) }
+    ensures memory { result ≡ Err (strict_error.Cookie Memory) → header_error text.now ≡ None }
+{
+    if let Some(error) = header_error(text) {
+        return Err(error);
+    }
+    let cookie = owned_cookie(store.allocator(), text, url, now)?;
+    insert(store, cookie, url, now)
+}
+
+// The cookie of the header value, without the attributes whose value is too long.
+fn owned_cookie(alloc: Global, text: &str, url: &Url, now: DateTime) -> CookieResult<'static>
+    ensures early { list_any is_long (attributes text.now) ≡ false
+        → (error : CookieError) → early (reading text.now) url.now ≡ Some error → result ≡ Err error }
+    ensures value { ReturnsOrMemory (λ cookie. cookie) result (cookie_from_header (without_long_attributes text.now) url.now (moment_of now)) }
+{
+    if !has_long_attribute(text) {
+        return parsed(alloc, text, url, now);
+    }
+    match without_long_attributes(alloc, text) {
+        Ok(short) => parsed(alloc, short.as_str(), url, now),
+        Err(_) => Err(CookieError::Memory),
+    }
+}
+
+// The cookie of a header value.
+fn parsed(alloc: Global, text: &str, url: &Url, now: DateTime) -> CookieResult<'static>
+    ensures early { (error : CookieError) → early (reading text.now) url.now ≡ Some error → result ≡ Err error }
+    ensures value { ReturnsOrMemory (λ cookie. cookie) result (cookie_from_header text.now url.now (moment_of now)) }
+{
+    match Cookie::parse(alloc, text, url, now) {
+        Ok(cookie) => owned(alloc, cookie),
+        Err(error) => Err(error),
+    }
+}
+
+// The cookie, borrowing nothing.
+fn owned(alloc: Global, cookie: Cookie<'_>) -> CookieResult<'static>
+    ensures { ReturnsOrMemory (λ cookie. cookie) result (Ok cookie.entry) }
+{
+    match cookie.into_owned(alloc) {
+        Ok(cookie) => Ok(cookie),
+        Err(_) => Err(CookieError::Memory),
+    }
+}
+
+/// Inserts a cookie received from `url` under the draft's rules.
+///
+/// The cookie expires at most 400 days from `now`. On any error, out of memory included, the store
+/// is unchanged.
+///
+/// # Errors
+///
+/// In the order in which they are checked:
+/// - `ControlCharacter`: the name or the value has a control character other than HTAB.
+/// - `TooLong`: the name and the value together are longer than 4,096 bytes.
+/// - `Cookie`: the store rejects the cookie, as [`CookieStore::insert`] does.
+/// - `InsecureUrl`: the cookie is Secure, and the URL is not secure.
+/// - `InsecureSameSiteNone`: the cookie has SameSite=None and is not Secure.
+/// - `Prefix`: the name begins with `__Secure-` and the cookie is not Secure; or it begins with
+///   `__Host-` and the cookie is not Secure, is not host-only, or has no Path attribute `/`.
+/// - `SecureStored`: neither the cookie nor the URL is secure, and the store has an unexpired
+///   Secure cookie of the same name, whose domain covers the new one's or is covered by it, and
+///   whose path the new one's path-matches.
+/// - `Cookie(Memory)`: out of memory. Only if the cookie would be `Inserted`.
+pub fn insert(
+    store: &mut CookieStore,
+    cookie: Cookie<'static>,
+    url: &Url,
+    now: DateTime,
+) -> StrictResult
+    ensures reply { IsStrictReply result (strict_insertion cookie.entry url.now (moment_of now) store.old) store.old }
+    ensures store { OnOk result (store.new
+        ≡ store_after_call (strict_insertion cookie.entry url.now (moment_of now) store.old) store.old) }
+    ensures unchanged { OnErr result (store.new ≡ store.old) }
+    ensures memory { result ≡ Err (strict_error.Cookie Memory)
+        → InsertsNew (strict_insertion cookie.entry url.now (moment_of now) store.old) store.old }
+{
+    if let Some(error) = pair_error(cookie.raw()) {
+        return Err(error);
+    }
+    let mut cookie = cookie;
+    cookie.expires = limited_expiry(cookie.expires, now);
+    store.check_insert(&cookie, url, now)?;
+    if let Some(error) = broken_rule(store, &cookie, url, now) {
+        return Err(error);
+    }
+    Ok(store.insert(cookie, url, now)?)
+}

@@ -1,0 +1,50 @@
+//! Laws of calls under the draft's rules.
+ghost use Rattle.std.specs.List.{All};
+ghost use Rattle.std.specs.Prelude.{◌≡◌, ℕ, [], false, true, List, Ok, Some, ◌⊎◌};
+ghost use Rattle.url.specs.Parts.{Parts};
+ghost use Rattle.cookie_words.specs.Moments.{Moment};
+ghost use Rattle.cookie_parts.specs.Cookie.{is_secure_only, Row};
+ghost use Rattle.cookie_parts.specs.Hosts.{is_secure};
+ghost use Rattle.cookie_laws.specs.Acceptance.{IsEvicted};
+ghost use Rattle.cookie_laws.specs.Contents.{Contents};
+ghost use Rattle.cookie_laws.specs.Rows.{is_unexpired, row_of, Key};
+ghost use Rattle.cookie_laws.specs.Runs.{store_after, Call, Insert, Set};
+ghost use Rattle.cookie_strict.specs.HeaderValue.{strict_cookie};
+ghost use Rattle.cookie_strict.specs.HostPrefix.{IsOwnIfHost};
+ghost use Rattle.cookie_strict.specs.Lifetime.{limited_cookie};
+ghost use Rattle.cookie_strict.specs.StrictRuns.{allowed_calls, store_after_call, strict_call, strict_store_after};
+
+use cookie_laws::{accepted, keeps_other_rows};
+use cookie_parts::laws::path_match_is_tested;
+
+/// Calls under the rules leave the store that their allowed calls leave without them. So the laws of
+/// runs hold of the allowed calls; which calls these are may depend on other domains.
+pub fn strict_is_a_filter()
+    ensures { (calls : List Call) (store : Contents) → strict_store_after calls store ≡ store_after (allowed_calls calls store) store }
+{}
+
+/// No insertion from a URL that is not secure replaces or expires a Secure row that has not
+/// expired. With a domain limit, such a row may be evicted for a cookie that is inserted.
+pub fn secure_is_left_alone()
+    ensures inserted { (cookie : Row) (url : Parts) (now : Moment) (store : Contents) (key : Key) (row : Row)
+        → is_secure url ≡ false → row_of key store.rows ≡ Some row → is_unexpired now row ≡ true → is_secure_only row.raw ≡ true
+        → (row_of key (store_after_call (strict_call (Insert cookie url now) store) store).rows ≡ Some row)
+        ⊎ IsEvicted store (Ok (limited_cookie now cookie)) url now key }
+    ensures set { (text : List ℕ) (url : Parts) (now : Moment) (store : Contents) (key : Key) (row : Row)
+        → is_secure url ≡ false → row_of key store.rows ≡ Some row → is_unexpired now row ≡ true → is_secure_only row.raw ≡ true
+        → (row_of key (store_after_call (strict_call (Set text url now) store) store).rows ≡ Some row)
+        ⊎ ((cookie : Row) × (strict_cookie text url now ≡ Ok cookie) × IsEvicted store (Ok (limited_cookie now cookie)) url now key) }
+{
+    keeps_other_rows();
+    path_match_is_tested();
+}
+
+/// In a store that was begun without rows, every row whose name begins with `__Host-` is of a
+/// host-only cookie, and was stored by an allowed call from a secure URL with that host. It may have
+/// been expired since.
+pub fn host_prefix_is_confined()
+    ensures { (calls : List Call) (store : Contents) → store.rows ≡ [] → All (IsOwnIfHost (allowed_calls calls store) store) (strict_store_after calls store).rows }
+{
+    strict_is_a_filter();
+    accepted();
+}

@@ -1,0 +1,19 @@
+//! The rules that browsers follow beyond RFC 6265: those of its revision,
+//! draft-ietf-httpbis-rfc6265bis.
+//!
+//! [`parse`] and [`insert`] reject what the draft rejects, and insert everything else as the store
+//! does. [`cookies_for`] leaves out the cookies that a cross-site request must not have.
+#![tactic(auto)]
+
+mod error;
+mod header_value;
+mod insertion;
+pub mod laws;
+mod requests;
+mod response;
+mod rules;
+
+pub use error::{StrictError, StrictResult};
+pub use insertion::{insert, parse};
+pub use requests::{Context, cookies_for};
+pub use response::store_response_cookies;

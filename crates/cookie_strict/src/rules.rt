@@ -1,0 +1,144 @@
+//! The rules that the draft adds to the insertion of a cookie.
+ghost use Rattle.std.specs.List.{list_any};
+ghost use Rattle.std.specs.Prelude.{◌≡◌, IfSome};
+ghost use Rattle.cookie_words.specs.Moments.{moment_of};
+ghost use Rattle.cookie_parts.specs.Views.{domain_value, expiry_value};
+ghost use Rattle.cookie_strict.specs.Lifetime.{limited_expiry};
+ghost use Rattle.cookie_strict.specs.StrictRules.{are_related, breaks_host_prefix, breaks_secure_prefix, broken_rule, has_prefix, has_root_path, is_host_only, is_overlaid, needs_secure_flag, needs_secure_url, overlays_secure, IsRuleError};
+
+use crate::StrictError;
+use cookie_core::CookieStore;
+use cookie_parts::utils::is_secure;
+use cookie_parts::{Cookie, CookieDomain, CookieExpiration, cookie_domain, cookie_path};
+use cookie_raw::SameSite;
+use jiff::civil::DateTime;
+use url::Url;
+
+// 400 days in seconds.
+const LONGEST_AGE: u64 = 34_560_000;
+
+/// Returns the expiry, at most 400 days from `now`.
+pub(crate) fn limited_expiry(expires: CookieExpiration, now: DateTime) -> CookieExpiration
+    ensures { expiry_value result ≡ limited_expiry (moment_of now) (expiry_value expires) }
+{
+    let CookieExpiration::AtUtc(end) = expires else {
+        return expires;
+    };
+    let longest = CookieExpiration::from_secs(LONGEST_AGE, now);
+    if longest.expires_by(&end) {
+        longest
+    } else {
+        expires
+    }
+}
+
+/// Returns the first rule that the cookie breaks, if any.
+pub(crate) fn broken_rule(
+    store: &CookieStore,
+    cookie: &Cookie<'static>,
+    url: &Url,
+    now: DateTime,
+) -> Option<StrictError>
+    ensures value { result ≡ broken_rule cookie.now url.now (moment_of now) store.now.rows }
+    ensures errors { IfSome result IsRuleError }
+{
+    if needs_secure_url(cookie, url) {
+        return Some(StrictError::InsecureUrl);
+    }
+    if needs_secure_flag(cookie) {
+        return Some(StrictError::InsecureSameSiteNone);
+    }
+    if breaks_secure_prefix(cookie) || breaks_host_prefix(cookie) {
+        return Some(StrictError::Prefix);
+    }
+    if overlays_secure(store, cookie, url, now) {
+        return Some(StrictError::SecureStored);
+    }
+    None
+}
+
+// Whether the cookie is Secure and the URL is not secure.
+fn needs_secure_url(cookie: &Cookie<'static>, url: &Url) -> bool
+    ensures { result ≡ needs_secure_url cookie.now url.now }
+{
+    cookie.raw().is_secure() && !is_secure(url)
+}
+
+// Whether the cookie has SameSite=None and is not Secure.
+fn needs_secure_flag(cookie: &Cookie<'static>) -> bool
+    ensures { result ≡ needs_secure_flag cookie.now }
+{
+    matches!(cookie.raw().same_site(), Some(SameSite::None)) && !cookie.raw().is_secure()
+}
+
+// Whether the name begins with `__Secure-`, and the cookie is not Secure.
+fn breaks_secure_prefix(cookie: &Cookie<'static>) -> bool
+    ensures { result ≡ breaks_secure_prefix cookie.now }
+{
+    has_prefix(b"__Secure-", cookie.name().as_bytes()) && !cookie.raw().is_secure()
+}
+
+// Whether the name begins with `__Host-`, and the cookie is not Secure, is not host-only, or has no
+// Path attribute `/`.
+fn breaks_host_prefix(cookie: &Cookie<'static>) -> bool
+    ensures { result ≡ breaks_host_prefix cookie.now }
+{
+    has_prefix(b"__Host-", cookie.name().as_bytes())
+        && !(cookie.raw().is_secure() && is_host_only(&cookie.domain) && has_root_path(cookie))
+}
+
+// Whether the name begins with the prefix, ignoring ASCII case.
+fn has_prefix(prefix: &[u8], name: &[u8]) -> bool
+    ensures { result ≡ has_prefix prefix.now name.now }
+{
+    name[..name.len().min(prefix.len())].eq_ignore_ascii_case(prefix)
+}
+
+// Whether this is the domain of a host-only cookie.
+fn is_host_only(domain: &CookieDomain) -> bool
+    ensures { result ≡ is_host_only (domain_value domain.now) }
+{
+    matches!(domain, CookieDomain::HostOnly(_))
+}
+
+// Whether the cookie has a Path attribute `/`.
+fn has_root_path(cookie: &Cookie<'static>) -> bool
+    ensures { result ≡ has_root_path cookie.now }
+{
+    cookie.path.is_from_path_attr() && cookie.path.as_str() == "/"
+}
+
+// Whether neither the cookie nor the URL is secure, and the cookie overlays a stored Secure cookie.
+fn overlays_secure(store: &CookieStore, cookie: &Cookie<'static>, url: &Url, now: DateTime) -> bool
+    ensures { result ≡ overlays_secure cookie.now url.now (moment_of now) store.now.rows }
+{
+    !cookie.raw().is_secure() && !is_secure(url) && overlays_any(store, cookie, now)
+}
+
+// Whether the cookie overlays a stored Secure cookie.
+fn overlays_any(store: &CookieStore, cookie: &Cookie<'static>, now: DateTime) -> bool
+    ensures { result ≡ list_any (is_overlaid cookie.now (moment_of now)) store.now.rows }
+{
+    store.iter_any().any(|row| is_overlaid(cookie, now, row))
+}
+
+// Whether the row is Secure and has not expired, and the cookie overlays it.
+fn is_overlaid(cookie: &Cookie<'static>, now: DateTime, row: &Cookie<'static>) -> bool
+    ensures { result ≡ is_overlaid cookie.now (moment_of now) row.now }
+{
+    !row.is_expired(now)
+        && row.raw().is_secure()
+        && row.name() == cookie.name()
+        && are_related(row.domain.as_str(), cookie.domain.as_str())
+        && cookie_path::covers(
+            row.path.as_str().as_bytes(),
+            cookie.path.as_str().as_bytes(),
+        )
+}
+
+// Whether one of the domains covers the other.
+fn are_related(a: &str, b: &str) -> bool
+    ensures { result ≡ are_related a.now b.now }
+{
+    cookie_domain::covers(a, b) || cookie_domain::covers(b, a)
+}
