@@ -70,7 +70,8 @@
  *
  * Errors
  *
- *   A status below 10 is success. Statuses are named in these comments without their prefix
+ *   A status below 10 is success, from 10 to 16 and from 40 to 45 the cookie is rejected, and from
+ *   20 to 34 the call failed. Statuses are named in these comments without their prefix
  *   COOKIE_STORE_. A call that fails leaves the store unchanged and writes nothing to a buffer.
  *   Each function lists its errors in the order in which they are checked: the first that applies
  *   is returned.
@@ -166,16 +167,37 @@ enum cookie_store_status {
     COOKIE_STORE_BAD_RON = 33,
     /* Of a list to load: an expiry is not a valid date and time. Of cookies to save: one expires
      * before the year 0, which a list cannot represent. */
-    COOKIE_STORE_BAD_END = 34
+    COOKIE_STORE_BAD_END = 34,
+
+    /* 40 to 45: the cookie is rejected under the rules of browsers, see cookie_store_set_strict. */
+
+    /* The header value has a control character other than HTAB. */
+    COOKIE_STORE_CONTROL_CHARACTER = 40,
+    /* The name and the value together are longer than 4,096 bytes. */
+    COOKIE_STORE_TOO_LONG = 41,
+    /* The cookie is Secure, and the URL is not secure: its scheme is not https, and its host is not
+     * this machine (localhost, 127.0.0.0/8, [::1]). */
+    COOKIE_STORE_INSECURE_URL = 42,
+    /* The cookie has SameSite=None and is not Secure. */
+    COOKIE_STORE_INSECURE_SAME_SITE_NONE = 43,
+    /* The name begins with __Secure-, ignoring case, and the cookie is not Secure; or it begins
+     * with __Host-, ignoring case, and the cookie is not Secure, is not host-only, or has no Path
+     * attribute `/`. */
+    COOKIE_STORE_PREFIX = 44,
+    /* Neither the cookie nor the URL is secure, and an unexpired Secure cookie with the same name is
+     * stored: one of the two domains domain-matches the other, and the path of the new cookie
+     * path-matches that of the stored one. */
+    COOKIE_STORE_SECURE_STORED = 45
 };
 
 /* The handle of a store, or an empty handle. Its members are private. */
 typedef struct cookie_store {
     bool live;
+    bool strict;
     void *at;
 } cookie_store;
 
-#define COOKIE_STORE_INIT { false, NULL }
+#define COOKIE_STORE_INIT { false, false, NULL }
 
 /* Creates a store without cookies, without a public suffix list and without a limit, in an empty
  * handle.
@@ -219,6 +241,19 @@ enum cookie_store_status cookie_store_use_suffixes(cookie_store *store, const ch
  * Errors, in the order in which they are checked: NO_STORE, BAD_LIMIT. */
 enum cookie_store_status cookie_store_set_domain_limit(cookie_store *store, size_t limit);
 
+/* Sets whether the store is strict. A store that was just created or loaded is not.
+ *
+ * Into a strict store, cookie_store_set inserts by rules that the revision of RFC 6265,
+ * draft-ietf-httpbis-rfc6265bis, adds and browsers follow: the statuses 40 to 45 list what is
+ * rejected, attributes whose value is longer than 1,024 bytes are ignored, and a cookie expires at
+ * most 400 days after it was received. docs/STRICT.md also lists the rules that are left out.
+ *
+ * Stored cookies stay. For a cookie that is not Secure, received from a URL that is not secure,
+ * cookie_store_set takes time in proportion to the number of stored cookies (SECURE_STORED).
+ *
+ * Errors: NO_STORE. */
+enum cookie_store_status cookie_store_set_strict(cookie_store *store, bool strict);
+
 /* Changes the hash key of the store to `key`, as in cookie_store_new. The cookies are copied once.
  *
  * Errors: NO_STORE.
@@ -234,7 +269,11 @@ enum cookie_store_status cookie_store_set_hash_key(cookie_store *store, const ch
  * (not a cookie), NON_HTTP_SCHEME (the cookie is HttpOnly), PARSE (the Domain attribute is not a
  * domain name), NON_RELATIVE_SCHEME, DOMAIN_MISMATCH, PUBLIC_SUFFIX, NON_HTTP_SCHEME (the stored
  * cookie is HttpOnly), EXPIRED.
- * May return NO_MEMORY instead of BAD_URL, any error after it, or success. */
+ * May return NO_MEMORY instead of BAD_URL, any error after it, or success.
+ *
+ * If the store is strict, the errors after BAD_URL are: CONTROL_CHARACTER, PARSE (not a cookie),
+ * TOO_LONG, those above from NON_HTTP_SCHEME (the cookie is HttpOnly) on, INSECURE_URL,
+ * INSECURE_SAME_SITE_NONE, PREFIX, SECURE_STORED. */
 enum cookie_store_status cookie_store_set(cookie_store *store, const char *url, size_t url_len, const char *text, size_t text_len,
                                           int64_t now);
 
@@ -259,6 +298,21 @@ enum cookie_store_status cookie_store_set(cookie_store *store, const char *url, 
 enum cookie_store_status cookie_store_get(cookie_store *store, const char *url, size_t url_len, int64_t now, char *out,
                                           size_t out_len, size_t *needed);
 
+/* Writes the value of the Cookie header of a cross-site request for `url` at `now`,
+ * draft-ietf-httpbis-rfc6265bis 5.8.3: one from a page of another site, or from a page that is in a
+ * frame of one. For a same-site request, or one that comes from no page, call cookie_store_get.
+ *
+ * The value is that of cookie_store_get without the cookies that the request must not have: those
+ * with SameSite=Strict, and those with SameSite=Lax unless `top_level` is true. `top_level` is
+ * whether the request is a top-level navigation with a safe method, such as a link that is
+ * followed. A cookie without a SameSite attribute is treated as SameSite=Lax if `lax_by_default` is
+ * true, as in the draft, and otherwise as SameSite=None.
+ *
+ * Works on any store, strict or not. Errors as cookie_store_get. */
+enum cookie_store_status cookie_store_get_cross_site(cookie_store *store, const char *url, size_t url_len, int64_t now,
+                                                     bool top_level, bool lax_by_default, char *out, size_t out_len,
+                                                     size_t *needed);
+
 /* Removes the cookie with this domain, path and name, expired or not.
  *
  * The three are compared byte for byte with those that cookie_store_rows writes.
@@ -267,7 +321,7 @@ enum cookie_store_status cookie_store_get(cookie_store *store, const char *url, 
 enum cookie_store_status cookie_store_remove(cookie_store *store, const char *domain, size_t domain_len, const char *path,
                                              size_t path_len, const char *name, size_t name_len);
 
-/* Removes all cookies. Public suffix list, limit and hash key stay.
+/* Removes all cookies. Public suffix list, limit and hash key stay, and a strict store stays strict.
  *
  * Errors: NO_STORE. */
 enum cookie_store_status cookie_store_clear(cookie_store *store);
@@ -336,8 +390,8 @@ enum cookie_store_status cookie_store_save_ron(cookie_store *store, int64_t now,
  * If `all` is true, all cookies of the list are inserted; otherwise those that have not expired at
  * `now`, session cookies included. `now` is checked in both cases. A cookie replaces an earlier one
  * of the list with the same domain, path and name. `key` is the hash key, as in cookie_store_new.
- * The store has no public suffix list and no limit, and the domains of the cookies are not checked.
- * On an error the handle is unchanged.
+ * The store has no public suffix list and no limit, is not strict, and the domains of the cookies
+ * are not checked. On an error the handle is unchanged.
  *
  * Errors, in the order in which they are checked: HAS_STORE, BAD_MOMENT, NOT_UTF8, then for JSON
  * BAD_JSON, BAD_SHAPE, BAD_END, PARSE, and for RON BAD_RON, BAD_END, PARSE.

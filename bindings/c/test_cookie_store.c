@@ -32,7 +32,7 @@ static void same_text(const char *name, const char *got, size_t length, const ch
 #define NOW INT64_C(1767225600) /* 2026-01-01T00:00:00 */
 #define FIRST INT64_C(-377705116800)
 #define LAST INT64_C(253402300799)
-#define UNTOLD 77
+#define UNSET 77
 
 static const char *const PAGE = "http://a.example/d/page";
 
@@ -42,7 +42,7 @@ static enum cookie_store_status set(cookie_store *store, const char *url, const 
 
 static void gives(const char *name, cookie_store *store, const char *url, int64_t now, const char *wanted) {
     char out[256];
-    size_t needed = UNTOLD;
+    size_t needed = UNSET;
     memset(out, '-', sizeof out);
     equal(name, cookie_store_get(store, TEXT(url), now, out, sizeof out, &needed), COOKIE_STORE_OK);
     same_text(name, out, needed, wanted);
@@ -77,7 +77,7 @@ static const struct {
 
 static void test_set(void) {
     cookie_store store = COOKIE_STORE_INIT;
-    size_t line = UNTOLD;
+    size_t line = UNSET;
     equal("new", cookie_store_new(&store, "", 0), COOKIE_STORE_OK);
     equal("suffixes", cookie_store_use_suffixes(&store, TEXT("// a comment\nexample\n"), &line), COOKIE_STORE_OK);
     equal("no bad line", (long)line, 0);
@@ -92,9 +92,89 @@ static void test_set(void) {
     cookie_store_free(&store);
 }
 
+/* Set one after the other in one strict store, at one time. */
+static const struct {
+    const char *url, *text;
+    enum cookie_store_status wanted;
+} STRICT_SETS[] = {
+    {"http://a.example/d/page", "a=1", COOKIE_STORE_INSERTED},
+    {"http://a.example/d/page", "a=2", COOKIE_STORE_UPDATED},
+    {"http://a.example/d/page", "a=3; Max-Age=0", COOKIE_STORE_EXPIRED_EXISTING},
+    {"http://a.example/d/page", "c=1\x01", COOKIE_STORE_CONTROL_CHARACTER},
+    {"http://a.example/d/page", "no pair\x01", COOKIE_STORE_CONTROL_CHARACTER},
+    {"http://a.example/d/page", "no pair", COOKIE_STORE_PARSE},
+    {"http://a.example/d/page", "a=1; Domain=b.example", COOKIE_STORE_DOMAIN_MISMATCH},
+    {"http://a.example/d/page", "s=1; Secure", COOKIE_STORE_INSECURE_URL},
+    {"http://localhost/", "s=1; Secure", COOKIE_STORE_INSERTED},
+    {"https://a.example/d/page", "n=1; SameSite=None", COOKIE_STORE_INSECURE_SAME_SITE_NONE},
+    {"https://a.example/d/page", "__Secure-p=1", COOKIE_STORE_PREFIX},
+    {"https://a.example/d/page", "__Host-p=1; Secure", COOKIE_STORE_PREFIX},
+    {"https://a.example/d/page", "__Host-p=1; Secure; Path=/", COOKIE_STORE_INSERTED},
+    {"https://a.example/d/page", "s=1; Secure", COOKIE_STORE_INSERTED},
+    {"http://a.example/d/page", "s=2", COOKIE_STORE_SECURE_STORED},
+    {"http://a.example/d/page", "s=2; Path=/", COOKIE_STORE_INSERTED},
+    {"no url", "a=1\x01", COOKIE_STORE_BAD_URL},
+};
+
+/* The rules of browsers, also as they are set and reset. */
+static void test_strict(void) {
+    cookie_store store = COOKIE_STORE_INIT;
+    char longest[4100];
+    memset(longest, 'v', sizeof longest);
+    longest[1] = '=';
+    cookie_store_new(&store, "", 0);
+    equal("set_strict", cookie_store_set_strict(&store, true), COOKIE_STORE_OK);
+    for (size_t at = 0; at < sizeof STRICT_SETS / sizeof *STRICT_SETS; at++) {
+        char name[128];
+        snprintf(name, sizeof name, "strict: set %s %s", STRICT_SETS[at].url, STRICT_SETS[at].text);
+        equal(name, set(&store, STRICT_SETS[at].url, STRICT_SETS[at].text, NOW), STRICT_SETS[at].wanted);
+    }
+    equal("4096 bytes", cookie_store_set(&store, TEXT(PAGE), longest, 4097, NOW), COOKIE_STORE_INSERTED);
+    equal("4097 bytes", cookie_store_set(&store, TEXT(PAGE), longest, 4098, NOW), COOKIE_STORE_TOO_LONG);
+    equal("strict after clear", cookie_store_clear(&store), COOKIE_STORE_OK);
+    equal("a long life", set(&store, PAGE, "y=1; Max-Age=99999999", NOW), COOKIE_STORE_INSERTED);
+    gives("before 400 days", &store, PAGE, NOW + 34559999, "y=1");
+    gives("after 400 days", &store, PAGE, NOW + 34560000, "");
+    equal("not strict", cookie_store_set_strict(&store, false), COOKIE_STORE_OK);
+    equal("as RFC 6265", set(&store, PAGE, "s=1; Secure", NOW), COOKIE_STORE_INSERTED);
+    for (int round = 0; round < 2; round++) {
+        cookie_store_set_strict(&store, true);
+        cookie_store_free(&store);
+        if (round == 0)
+            cookie_store_new(&store, "", 0);
+        else
+            cookie_store_load_json(&store, "", 0, TEXT("[]"), NOW, true);
+        equal("a new store is not strict", set(&store, PAGE, "s=1; Secure", NOW), COOKIE_STORE_INSERTED);
+    }
+    cookie_store_free(&store);
+}
+
+/* The header of requests from another site. */
+static void test_cross_site(void) {
+    static const struct {
+        bool top_level, lax_by_default;
+        const char *wanted;
+    } CONTEXTS[] = {{false, false, "n=4; u=3"}, {false, true, "n=4"}, {true, false, "n=4; u=3; l=2"}, {true, true, "n=4; u=3; l=2"}};
+    static const char *const TEXTS[] = {"n=4; SameSite=None; Path=/d", "u=3; Path=/d", "l=2; SameSite=Lax; Path=/", "s=1; SameSite=Strict; Path=/"};
+    cookie_store store = COOKIE_STORE_INIT;
+    char out[64];
+    size_t needed = UNSET;
+    cookie_store_new(&store, "", 0);
+    for (size_t at = 0; at < sizeof TEXTS / sizeof *TEXTS; at++) set(&store, PAGE, TEXTS[at], NOW);
+    for (size_t at = 0; at < sizeof CONTEXTS / sizeof *CONTEXTS; at++) {
+        equal("get_cross_site", cookie_store_get_cross_site(&store, TEXT(PAGE), NOW, CONTEXTS[at].top_level, CONTEXTS[at].lax_by_default, out, sizeof out, &needed), COOKIE_STORE_OK);
+        same_text("cross-site", out, needed, CONTEXTS[at].wanted);
+    }
+    gives("same-site", &store, PAGE, NOW, "n=4; u=3; l=2; s=1");
+    equal("no room", cookie_store_get_cross_site(&store, TEXT(PAGE), NOW, false, true, out, 2, &needed), COOKIE_STORE_NO_ROOM);
+    equal("its length", (long)needed, 3);
+    equal("no URL", cookie_store_get_cross_site(&store, TEXT("no url"), NOW, false, true, out, sizeof out, &needed), COOKIE_STORE_BAD_URL);
+    cookie_store_free(&store);
+}
+
 static void test_suffixes(void) {
     cookie_store store = COOKIE_STORE_INIT;
-    size_t line = UNTOLD;
+    size_t line = UNSET;
     cookie_store_new(&store, "", 0);
     equal("bad rule", cookie_store_use_suffixes(&store, TEXT("example\na..b\n"), &line), COOKIE_STORE_BAD_RULE);
     equal("its line", (long)line, 2);
@@ -114,7 +194,7 @@ static void test_get(void) {
                    {LAST, COOKIE_STORE_OK},              {LAST + 1, COOKIE_STORE_BAD_MOMENT},  {INT64_MAX, COOKIE_STORE_BAD_MOMENT}};
     cookie_store store = COOKIE_STORE_INIT;
     char out[8];
-    size_t needed = UNTOLD;
+    size_t needed = UNSET;
     cookie_store_new(&store, "", 0);
     set(&store, PAGE, "b=2; Path=/", NOW);
     set(&store, PAGE, "a=1; Max-Age=60", NOW);
@@ -128,16 +208,16 @@ static void test_get(void) {
     gives("a path that only begins so", &store, "http://a.example/dx", NOW, "b=2");
     gives("another host", &store, "http://b.example/d/page", NOW, "");
     for (size_t at = 0; at < sizeof MOMENTS / sizeof *MOMENTS; at++) {
-        needed = UNTOLD;
+        needed = UNSET;
         equal("a moment", cookie_store_get(&store, TEXT("http://b.example/"), MOMENTS[at].now, out, sizeof out, &needed), MOMENTS[at].wanted);
         equal("nothing is needed", (long)needed, 0);
     }
-    needed = UNTOLD;
+    needed = UNSET;
     equal("a text with a zero", cookie_store_set(&store, TEXT("http://z.example/"), "z=1\0" "2", 5, NOW), COOKIE_STORE_INSERTED);
     equal("get a zero", cookie_store_get(&store, TEXT("http://z.example/"), NOW, out, sizeof out, &needed), COOKIE_STORE_OK);
     equal("what came is given", needed == 5 && memcmp(out, "z=1\0" "2", 5) == 0, true);
     equal("set at no moment", set(&store, PAGE, "a=1", LAST + 1), COOKIE_STORE_BAD_MOMENT);
-    needed = UNTOLD;
+    needed = UNSET;
     equal("get not UTF-8", cookie_store_get(&store, NOT_UTF8, NOW, out, sizeof out, &needed), COOKIE_STORE_NOT_UTF8);
     equal("nothing is needed of no UTF-8", (long)needed, 0);
     equal("get of no URL", cookie_store_get(&store, TEXT("no url"), NOW, out, sizeof out, &needed), COOKIE_STORE_BAD_URL);
@@ -182,7 +262,7 @@ static void test_remove_expired(void) {
     set(&store, PAGE, "d=5", NOW);
     set(&store, PAGE, "d=6; Max-Age=0", NOW);
     for (size_t at = 0; at < sizeof CALLS / sizeof *CALLS; at++) {
-        size_t removed = UNTOLD;
+        size_t removed = UNSET;
         equal("remove_expired", cookie_store_remove_expired(&store, CALLS[at].now, &removed), CALLS[at].wanted);
         equal("so many are removed", (long)removed, (long)CALLS[at].removed);
         equal("so many are left", (long)cookie_store_count(&store), (long)CALLS[at].left);
@@ -215,14 +295,14 @@ static void test_rows(void) {
     cookie_store_row rows[2];
     char texts[64];
     const char *whole = "a.example/da1example/k\xc3\xbc" "22";
-    size_t rows_needed = UNTOLD, texts_needed = UNTOLD;
+    size_t rows_needed = UNSET, texts_needed = UNSET;
     cookie_store_new(&store, "", 0);
     equal("no rows", cookie_store_rows(&store, rows, 0, texts, 0, &rows_needed, &texts_needed), COOKIE_STORE_OK);
     equal("no rows needed", (long)(rows_needed + texts_needed), 0);
     set(&store, PAGE, "a=1", NOW);
     set(&store, "http://b.example/", "k\xc3\xbc=22; Domain=example; Path=/; Max-Age=60; Secure; HttpOnly", NOW);
     for (int is_short = 2; is_short >= 0; is_short--) {
-        rows_needed = texts_needed = UNTOLD;
+        rows_needed = texts_needed = UNSET;
         memset(texts, '-', sizeof texts);
         enum cookie_store_status status = cookie_store_rows(&store, rows, is_short == 2 ? 1 : 2, texts, strlen(whole) - (is_short == 1),
                                                             &rows_needed, &texts_needed);
@@ -275,7 +355,7 @@ static void loads(const char *name, const struct form *form, const char *list, s
 static void test_list(const struct form *form) {
     cookie_store store = COOKIE_STORE_INIT;
     char list[1024];
-    size_t needed = UNTOLD;
+    size_t needed = UNSET;
     cookie_store_new(&store, "", 0);
     set(&store, PAGE, "a=1; Max-Age=60", NOW);
     set(&store, PAGE, "b=2", NOW);
@@ -311,7 +391,7 @@ static void test_list(const struct form *form) {
 static void test_room(void) {
     cookie_store store = COOKIE_STORE_INIT;
     char out[8] = "-------";
-    size_t needed = UNTOLD;
+    size_t needed = UNSET;
     cookie_store_new(&store, "", 0);
     set(&store, PAGE, "a=1", NOW);
     equal("get one byte too short", cookie_store_get(&store, TEXT(PAGE), NOW, out, 2, &needed), COOKIE_STORE_NO_ROOM);
@@ -328,11 +408,13 @@ static void test_no_store(void) {
     cookie_store store = COOKIE_STORE_INIT;
     cookie_store_row row;
     char out[8];
-    size_t needed = UNTOLD, other = UNTOLD;
+    size_t needed = UNSET, other = UNSET;
     for (int round = 0; round < 2; round++) {
         equal("suffixes of none", cookie_store_use_suffixes(&store, TEXT("com"), &needed), COOKIE_STORE_NO_STORE);
         equal("set in none", set(&store, PAGE, "a=1", NOW), COOKIE_STORE_NO_STORE);
         equal("get of none", cookie_store_get(&store, TEXT(PAGE), NOW, out, sizeof out, &needed), COOKIE_STORE_NO_STORE);
+        equal("strict of none", cookie_store_set_strict(&store, true), COOKIE_STORE_NO_STORE);
+        equal("get_cross_site of none", cookie_store_get_cross_site(&store, TEXT(PAGE), NOW, true, true, out, sizeof out, &needed), COOKIE_STORE_NO_STORE);
         equal("limit of none", cookie_store_set_domain_limit(&store, 0), COOKIE_STORE_NO_STORE);
         equal("key of none", cookie_store_set_hash_key(&store, "", 0), COOKIE_STORE_NO_STORE);
         equal("remove of none", cookie_store_remove(&store, "", 0, "", 0, "", 0), COOKIE_STORE_NO_STORE);
@@ -354,6 +436,7 @@ static void test_no_store(void) {
 /* The layout of the structs that programs share with the library, on 64-bit machines. */
 static void test_layout(void) {
     equal("size of a store", (long)sizeof(cookie_store), 16);
+    equal("strict", (long)offsetof(cookie_store, strict), 1);
     equal("at", (long)offsetof(cookie_store, at), 8);
     equal("size of a row", (long)sizeof(cookie_store_row), 48);
     equal("value_len", (long)offsetof(cookie_store_row, value_len), 24);
@@ -388,6 +471,9 @@ static void test_memory(void) {
         set(&store, PAGE, "a=1; Max-Age=60", NOW);
         set(&store, PAGE, "b=2; Domain=b.example", NOW);
         cookie_store_set_domain_limit(&store, 5);
+        cookie_store_set_strict(&store, true);
+        set(&store, PAGE, "c=3; SameSite=Lax", NOW);
+        cookie_store_get_cross_site(&store, TEXT(PAGE), NOW, true, true, list, sizeof list, &needed);
         cookie_store_get(&store, TEXT(PAGE), NOW, list, sizeof list, &needed);
         cookie_store_save_json(&store, NOW, true, list, sizeof list, &needed);
         cookie_store_remove_expired(&store, NOW + 60, &other);
@@ -408,6 +494,8 @@ int main(void) {
     test_layout();
     test_memory();
     test_set();
+    test_strict();
+    test_cross_site();
     test_suffixes();
     test_get();
     test_remove();

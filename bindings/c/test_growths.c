@@ -36,10 +36,21 @@ static enum cookie_store_status set_new(cookie_store *store) {
 
 static enum cookie_store_status set_again(cookie_store *store) { return cookie_store_set(store, TEXT(PAGE), TEXT(TEXTS[0]), NOW); }
 
+static enum cookie_store_status set_strict(cookie_store *store) {
+    enum cookie_store_status status = cookie_store_set_strict(store, true);
+    return status == COOKIE_STORE_OK ? set_new(store) : status;
+}
+
 static enum cookie_store_status get(cookie_store *store) {
     char out[256];
     size_t needed;
     return cookie_store_get(store, TEXT(PAGE), NOW, out, sizeof out, &needed);
+}
+
+static enum cookie_store_status get_cross_site(cookie_store *store) {
+    char out[256];
+    size_t needed;
+    return cookie_store_get_cross_site(store, TEXT(PAGE), NOW, true, true, out, sizeof out, &needed);
 }
 
 static enum cookie_store_status use_suffixes(cookie_store *store) {
@@ -84,7 +95,9 @@ static const struct {
     {"new", false, begin, COOKIE_STORE_OK, false},
     {"set", true, set_new, COOKIE_STORE_INSERTED, false},
     {"set again", true, set_again, COOKIE_STORE_UPDATED, false},
+    {"set, strict", true, set_strict, COOKIE_STORE_INSERTED, false},
     {"get", true, get, COOKIE_STORE_OK, false},
+    {"get_cross_site", true, get_cross_site, COOKIE_STORE_OK, false},
     {"use_suffixes", true, use_suffixes, COOKIE_STORE_OK, false},
     {"set_hash_key", true, set_hash_key, COOKIE_STORE_OK, false},
     {"save_json", true, save_json, COOKIE_STORE_OK, false},

@@ -52,6 +52,14 @@ class Status(enum.IntEnum):
     PARSE -- the string is not a cookie, or its Domain attribute is not a domain name
     PUBLIC_SUFFIX -- its domain is a public suffix on the list, and not the host of the URL
 
+    The cookie was rejected by a strict store:
+    CONTROL_CHARACTER -- the header value has a control character other than HTAB
+    TOO_LONG -- its name and value together are longer than 4,096 bytes
+    INSECURE_URL -- it is Secure, and the URL is not secure
+    INSECURE_SAME_SITE_NONE -- it has SameSite=None and is not Secure
+    PREFIX -- its name begins with __Secure- or __Host-, and it lacks what the prefix demands
+    SECURE_STORED -- it is not Secure, nor is the URL, and it would overlay a stored Secure cookie
+
     An argument is not valid:
     BAD_URL -- not a URL
     NOT_UTF8 -- not UTF-8
@@ -93,10 +101,17 @@ class Status(enum.IntEnum):
     BAD_SHAPE = 32
     BAD_RON = 33
     BAD_END = 34
+    CONTROL_CHARACTER = 40
+    TOO_LONG = 41
+    INSECURE_URL = 42
+    INSECURE_SAME_SITE_NONE = 43
+    PREFIX = 44
+    SECURE_STORED = 45
 
 
-_LAST_REFUSAL = Status.UNSPECIFIED_DOMAIN
 _STATUSES = {int(status): status for status in Status}
+# The statuses of an insertion: that the cookie was accepted, or why it was rejected.
+_REPLIES = frozenset(number for number in _STATUSES if number < 20 or number >= 40)
 
 
 class CookieStoreError(Exception):
@@ -142,7 +157,7 @@ class Cookie(NamedTuple):
 
 
 class _Store(ctypes.Structure):
-    _fields_ = [('live', ctypes.c_bool), ('at', ctypes.c_void_p)]
+    _fields_ = [('live', ctypes.c_bool), ('strict', ctypes.c_bool), ('at', ctypes.c_void_p)]
 
 
 class _Row(ctypes.Structure):
@@ -165,8 +180,10 @@ _SIGNATURES = {
     'cookie_store_use_suffixes': (ctypes.c_int, [_AT, *_TEXT, _LENGTH]),
     'cookie_store_set_domain_limit': (ctypes.c_int, [_AT, ctypes.c_size_t]),
     'cookie_store_set_hash_key': (ctypes.c_int, [_AT, *_TEXT]),
+    'cookie_store_set_strict': (ctypes.c_int, [_AT, ctypes.c_bool]),
     'cookie_store_set': (ctypes.c_int, [_AT, *_TEXT, *_TEXT, ctypes.c_int64]),
     'cookie_store_get': (ctypes.c_int, [_AT, *_TEXT, ctypes.c_int64, *_OUT, _LENGTH]),
+    'cookie_store_get_cross_site': (ctypes.c_int, [_AT, *_TEXT, ctypes.c_int64, ctypes.c_bool, ctypes.c_bool, *_OUT, _LENGTH]),
     'cookie_store_remove': (ctypes.c_int, [_AT, *_TEXT, *_TEXT, *_TEXT]),
     'cookie_store_clear': (ctypes.c_int, [_AT]),
     'cookie_store_remove_expired': (ctypes.c_int, [_AT, ctypes.c_int64, _LENGTH]),
@@ -212,7 +229,9 @@ _free = _LIBRARY.cookie_store_free
 _use_suffixes = _LIBRARY.cookie_store_use_suffixes
 _set_domain_limit = _LIBRARY.cookie_store_set_domain_limit
 _set = _LIBRARY.cookie_store_set
+_set_strict = _LIBRARY.cookie_store_set_strict
 _get = _LIBRARY.cookie_store_get
+_get_cross_site = _LIBRARY.cookie_store_get_cross_site
 _remove = _LIBRARY.cookie_store_remove
 _clear = _LIBRARY.cookie_store_clear
 _remove_expired = _LIBRARY.cookie_store_remove_expired
@@ -259,18 +278,24 @@ class CookieStore:
     also raise a CookieStoreError with status X. On any of these errors the store is unchanged.
     """
 
-    def __init__(self) -> None:
-        """Create a store without cookies, public suffix list and limit."""
+    def __init__(self, *, strict: bool = False) -> None:
+        """Create a store without cookies, public suffix list and limit.
+
+        If strict is true, it follows the rules of set_strict().
+        """
         self._store = _Store()
         self._at = ctypes.byref(self._store)
         self._lock = threading.Lock()
         self._suffixes: Optional[bytes] = None
         self._limit: Optional[int] = None
+        self._strict = False
         self._buffer = ctypes.create_string_buffer(4096)
         _check(_new(self._at, *_random_key()))
         self._finalizer = weakref.finalize(self, _free, self._at)
         # Another thread may still be in a call when the program ends.
         self._finalizer.atexit = False
+        if strict:
+            self.set_strict(True)
 
     def close(self) -> None:
         """Free the store. From then on len() is 0, and other calls raise NO_STORE."""
@@ -315,6 +340,24 @@ class CookieStore:
             _check(_set_domain_limit(self._at, limit))
             self._limit = limit
 
+    @property
+    def strict(self) -> bool:
+        """Whether the store is strict. See set_strict()."""
+        return self._strict
+
+    def set_strict(self, strict: bool) -> None:
+        """Set whether set() inserts by the rules that the revision of RFC 6265 adds.
+
+        Browsers follow them. A strict store rejects more cookies, as class Status lists, ignores
+        attributes whose value is longer than 1,024 bytes, and lets a cookie expire at most 400 days
+        after it was received. Stored cookies stay. docs/STRICT.md has the rules, and which ones are
+        left out.
+        """
+        strict = bool(strict)
+        with self._lock:
+            _check(_set_strict(self._at, strict))
+            self._strict = strict
+
     def set(self, url: Text, text: Text, now: Optional[int] = None) -> Status:
         """Insert the cookie of a Set-Cookie header value received from url.
 
@@ -324,24 +367,32 @@ class CookieStore:
         page, cookie, moment = _bytes(url), _bytes(text), _moment(now)
         with self._lock:
             number = _set(self._at, page, len(page), cookie, len(cookie), moment)
-        if number > _LAST_REFUSAL:
+        if number not in _REPLIES:
             _check(number)
         return _STATUSES[number]
 
-    def header(self, url: Text, now: Optional[int] = None) -> str:
+    def header(self, url: Text, now: Optional[int] = None, *, same_site: bool = True, top_level: bool = False,
+               lax_by_default: bool = True) -> str:
         """Return the value of the Cookie header of a request for url, or '' if none is to be sent.
 
         The cookies are in the order of RFC 6265 5.4: longer paths first, then in creation order.
         The value may hold control characters if a cookie did not come as a line of an HTTP header.
 
+        If same_site is false, the request comes from a page of another site, or from a page in a
+        frame of one: cookies with SameSite=Strict are left out, and those with SameSite=Lax unless
+        top_level is true, for a top-level navigation with a safe method. A cookie without a
+        SameSite attribute is treated as SameSite=Lax, or as None if lax_by_default is false. If
+        same_site is true, the other two arguments have no effect.
+
         Raises BAD_URL.
         """
         page, moment, needed = _bytes(url), _moment(now), ctypes.c_size_t()
+        call, context = (_get, []) if same_site else (_get_cross_site, [bool(top_level), bool(lax_by_default)])
         with self._lock:
-            number = _get(self._at, page, len(page), moment, self._buffer, len(self._buffer), needed)
+            number = call(self._at, page, len(page), moment, *context, self._buffer, len(self._buffer), needed)
             if number == Status.NO_ROOM:
                 self._buffer = ctypes.create_string_buffer(needed.value)
-                number = _get(self._at, page, len(page), moment, self._buffer, len(self._buffer), needed)
+                number = call(self._at, page, len(page), moment, *context, self._buffer, len(self._buffer), needed)
             _check(number)
             return ctypes.string_at(self._buffer, needed.value).decode('utf-8')
 
@@ -358,7 +409,7 @@ class CookieStore:
         return number == Status.OK
 
     def clear(self) -> None:
-        """Remove all cookies. The public suffix list and the limit stay."""
+        """Remove all cookies. The public suffix list and the limit stay, and a strict store stays strict."""
         with self._lock:
             _check(_clear(self._at))
 
@@ -435,38 +486,41 @@ class CookieStore:
         return ctypes.string_at(out, needed.value).decode('utf-8')
 
     @classmethod
-    def load_json(cls, text: Text, now: Optional[int] = None, all: bool = False) -> CookieStore:
+    def load_json(cls, text: Text, now: Optional[int] = None, all: bool = False, *, strict: bool = False) -> CookieStore:
         """Return a new store with the cookies of a list in JSON, as save_json() writes it.
 
         If all is true it has every cookie of the list; otherwise it has the session cookies and the
-        persistent ones that have not expired. It has no public suffix list and no limit.
+        persistent ones that have not expired. It has no public suffix list and no limit. If strict
+        is true, it follows the rules of set_strict() from then on.
 
         Raises BAD_JSON, BAD_SHAPE, BAD_END, or PARSE if the string of a cookie is not one.
         """
-        return cls._load(_LIBRARY.cookie_store_load_json, text, now, all)
+        return cls._load(_LIBRARY.cookie_store_load_json, text, now, all, strict)
 
     @classmethod
-    def load_ron(cls, text: Text, now: Optional[int] = None, all: bool = False) -> CookieStore:
+    def load_ron(cls, text: Text, now: Optional[int] = None, all: bool = False, *, strict: bool = False) -> CookieStore:
         """Return a new store with the cookies of a list in RON, as save_ron() writes it.
 
         See load_json(). Raises BAD_RON, BAD_END or PARSE.
         """
-        return cls._load(_LIBRARY.cookie_store_load_ron, text, now, all)
+        return cls._load(_LIBRARY.cookie_store_load_ron, text, now, all, strict)
 
     @classmethod
-    def _load(cls, call: Callable[..., int], text: Text, now: Optional[int], all: bool) -> CookieStore:
+    def _load(cls, call: Callable[..., int], text: Text, now: Optional[int], all: bool, strict: bool) -> CookieStore:
         saved, moment, store = _bytes(text), _moment(now), cls()
         _free(store._at)
         _check(call(store._at, *_random_key(), saved, len(saved), moment, all))
+        if strict:
+            store.set_strict(True)
         return store
 
     def copy(self) -> CookieStore:
-        """Return a copy of the store, with its cookies, public suffix list and limit.
+        """Return a copy of the store: its cookies, public suffix list and limit, and whether it is strict.
 
         The cookies are passed through save_ron() and load_ron(), and so count as created in the
         order of the store. Raises BAD_END if a cookie expires before the year 0.
         """
-        other = self.load_ron(self.save_ron(all=True), all=True)
+        other = self.load_ron(self.save_ron(all=True), all=True, strict=self._strict)
         if self._suffixes is not None:
             other.use_suffixes(self._suffixes)
         if self._limit is not None:
@@ -544,6 +598,9 @@ def _set_cookie_text(cookie: http.cookiejar.Cookie, has_path: bool, now: int) ->
         words.append('Secure')
     if any(cookie.has_nonstandard_attr(name) for name in ('HttpOnly', 'HTTPOnly', 'httponly')):
         words.append('HttpOnly')
+    same_site = cookie.get_nonstandard_attr('SameSite')
+    if same_site in ('Strict', 'Lax', 'None'):
+        words.append(f'SameSite={same_site}')
     return '; '.join(words)
 
 
@@ -558,7 +615,7 @@ class StoreJar(http.cookiejar.CookieJar):
 
     The store decides which cookies of a response are stored and which are sent with a request. If a
     policy is passed, cookies that it rejects are neither stored nor sent either. The jar does not
-    close its store.
+    close its store. Each request counts as same-site.
 
     Iteration and len() leave out expired cookies; they stay in the store until
     clear_expired_cookies(). Cookies look as in http.cookiejar: the domain of a domain cookie has a
@@ -625,7 +682,7 @@ class StoreJar(http.cookiejar.CookieJar):
         return self._made(response.info().get_all('Set-Cookie', []), request, self._tell_moment())
 
     def _made(self, texts: List[str], request: urllib.request.Request, now: int) -> List[http.cookiejar.Cookie]:
-        with CookieStore() as store:
+        with CookieStore(strict=self.store.strict) as store:
             for text in texts:
                 self._take(store, text, request, now)
             return [_shown(row) for row in _standing(store)]

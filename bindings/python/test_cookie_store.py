@@ -57,6 +57,31 @@ SETS = [
     ('http://example/', 'a=1; Domain=example', Status.INSERTED),
 ]
 
+# Set one after the other in one strict store.
+STRICT_SETS = [
+    (PAGE, 'a=1', Status.INSERTED),
+    (PAGE, 'a=2; Max-Age=0', Status.EXPIRED_EXISTING),
+    (PAGE, 'c=\x01', Status.CONTROL_CHARACTER),
+    (PAGE, 'c=' + 'v' * 4095, Status.INSERTED),
+    (PAGE, 'c=' + 'v' * 4096, Status.TOO_LONG),
+    (PAGE, 'no pair', Status.PARSE),
+    (PAGE, 's=1; Secure', Status.INSECURE_URL),
+    ('https://a.example/d/page', 'n=1; SameSite=None', Status.INSECURE_SAME_SITE_NONE),
+    ('https://a.example/d/page', '__Host-p=1; Secure', Status.PREFIX),
+    ('https://a.example/d/page', 's=1; Secure', Status.INSERTED),
+    (PAGE, 's=2', Status.SECURE_STORED),
+]
+
+# Arguments of header() for a request from another site, and the cookies that it has: with SameSite
+# None, without, with Lax, and with Strict.
+CROSS_SITE = [
+    ({}, 'n'),
+    ({'lax_by_default': False}, 'nu'),
+    ({'top_level': True}, 'nul'),
+    ({'top_level': True, 'lax_by_default': False}, 'nul'),
+    ({'same_site': True}, 'nuls'),
+]
+
 JSON = '[{"raw_cookie":"%s","path":["/",false],"domain":{"HostOnly":"a.example"},"expires":%s}]'
 RON = '[(raw_cookie: "%s", path: ("/", false), domain: HostOnly("a.example"), expires: %s)]'
 
@@ -100,7 +125,9 @@ CLOSED = [
     ('set', lambda store: store.set(PAGE, 'a=1')),
     ('header', lambda store: store.header(PAGE)),
     ('use_suffixes', lambda store: store.use_suffixes('')),
+    ('header, cross-site', lambda store: store.header(PAGE, same_site=False)),
     ('set_domain_limit', lambda store: store.set_domain_limit(1)),
+    ('set_strict', lambda store: store.set_strict(True)),
     ('remove', lambda store: store.remove('', '', '')),
     ('clear', lambda store: store.clear()),
     ('remove_expired', lambda store: store.remove_expired()),
@@ -158,6 +185,25 @@ class StoreTests(unittest.TestCase):
             for name, call, status in RAISES:
                 self.assert_raises(name, status, call, store)
             self.assertEqual(store.header(PAGE, NOW), 'a=1')
+
+    def test_strict(self):
+        with CookieStore(strict=True) as store:
+            for url, text, wanted in STRICT_SETS:
+                self.assertIs(store.set(url, text, NOW), wanted, f'{url} {text[:20]}')
+            self.assertIs(store.copy().set(PAGE, 's=2', NOW), Status.SECURE_STORED)
+            self.assertTrue(store.strict and store.copy().strict)
+            self.assertIs(CookieStore.load_json('[]', strict=True).set(PAGE, 's=1; Secure', NOW), Status.INSECURE_URL)
+            store.set_strict(False)
+            self.assertIs(store.set(PAGE, 's=2', NOW), Status.UPDATED)
+        self.assertIs(CookieStore().set(PAGE, 's=1; Secure', NOW), Status.INSERTED)
+
+    def test_cross_site(self):
+        store = filled('n=1; SameSite=None; Path=/d', 'u=1; Path=/d', 'l=1; SameSite=Lax', 's=1; SameSite=Strict')
+        for words, wanted in CROSS_SITE:
+            header = store.header(PAGE, NOW, **{'same_site': False, **words})
+            self.assertEqual(header, '; '.join(f'{name}=1' for name in wanted), words)
+        store.set(PAGE, 'n=' + 'v' * 5000 + '; SameSite=None', NOW)
+        self.assertEqual(store.header(PAGE, NOW, same_site=False), 'n=' + 'v' * 5000)
 
     def test_types(self):
         with CookieStore() as store:
@@ -360,7 +406,7 @@ class HeaderTests(unittest.TestCase):
         body = re.search(r'pub struct CookieRow \{(.*?)\}', (PROVED / 'cookie_row.rt').read_text(), re.S).group(1)
         fields = [(name, self.in_c([kind])[0]) for name, kind in re.findall(r'pub (\w+): (\w+),', body)]
         self.assertEqual(fields, cookie_store._Row._fields_)
-        self.assertRegex((PROVED / 'handle.rt').read_text(), r'#\[repr\(C\)\]\npub struct StoreHandle \{\n    live: bool,\n    pub store_ptr: StorePtr,')
+        self.assertRegex((PROVED / 'handle.rt').read_text(), r'#\[repr\(C\)\]\npub struct StoreHandle \{\n    live: bool,\n(?: *///.*\n)*    pub is_strict: bool,\n    pub store_ptr: StorePtr,')
         self.assertRegex((PROVED / 'store_ptr.rt').read_text(), r'#\[repr\(C\)\]\npub struct StorePtr \{\n    at: \*mut u8,')
 
 

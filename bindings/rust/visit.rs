@@ -15,6 +15,7 @@ const NO_ROOM: u32 = 26;
 #[repr(C)]
 struct Handle {
     live: bool,
+    strict: bool,
     at: *mut u8,
 }
 
@@ -56,7 +57,7 @@ unsafe impl Send for Store {}
 impl Store {
     /// Creates a store without cookies, or returns the status of the error.
     fn new() -> Result<Store, u32> {
-        let mut handle = Handle { live: false, at: ptr::null_mut() };
+        let mut handle = Handle { live: false, strict: false, at: ptr::null_mut() };
         let key = random_key();
         match unsafe { cookie_store_new(&mut handle, key.as_ptr().cast(), key.len()) } {
             OK => Ok(Store(handle)),

@@ -7,7 +7,7 @@ use Rattle.std.proofs.lemmas.List.Folds.{flat_map-map}
 use Rattle.cookie_parts.specs.Cookie.{Row}
 use Rattle.cookie_laws.specs.Header.{cookie_string, later_pair, pair_text}
 
--- the string of what is seen of cookies
+-- the cookie-string of borrowed cookies
 pub string_parts : {A : Type 0} (row : A → Row) (cookies : List A) (first : A) (others : List A) → cookies ≡ first ∷ others
     → cookie_string (map row cookies) ≡ pair_text (row first) ++ flat_map (λ c. later_pair (row c)) others
 string_parts row cookies first others are =

@@ -1,5 +1,5 @@
 pub mod CookieStrings
 pub mod EarlyErrors
-pub mod Entered
+pub mod Inserted
 pub mod LongerRuns
 pub mod StyledTexts

@@ -1,4 +1,4 @@
-//! Calls of a store and their replies, as values.
+//! Calls of a store and their replies, as values, and how a store executes them.
 ghost use Rattle.std.specs.Prelude.{◌≡◌, ◌≢◌, map, Err, IfErr, IfOk, OnErr, OnOk};
 ghost use Rattle.cookie_parts.specs.declared.cookie_error.CookieError.TheVariants.{Memory};
 ghost use Rattle.cookie_core.specs.CallViews.{call_view, reply_view, MayAllocate, StopsAfter, StopsAt};

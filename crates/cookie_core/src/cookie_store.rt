@@ -8,7 +8,7 @@ ghost use Rattle.cookie_parts.specs.Cookie.{cookie_of, early, early_error};
 ghost use Rattle.cookie_parts.specs.declared.cookie_error.CookieError.TheVariants.{Memory};
 ghost use Rattle.cookie_parts.specs.declared.store_action.StoreAction.TheVariants.{Inserted};
 ghost use Rattle.cookie_laws.specs.Acceptance.{received, IsInsertionError};
-ghost use Rattle.cookie_laws.specs.Contents.{contents_of, rows_in_order, unexpired, HasCreationOrder};
+ghost use Rattle.cookie_laws.specs.Contents.{contents_of, rows_in_order, unexpired, HasCreationOrder, Contents};
 ghost use Rattle.cookie_lookup.specs.SearchView.{domains_found, paths_found};
 ghost use Rattle.cookie_lookup.specs.Candidates.{most_domains, most_paths};
 ghost use Rattle.cookie_rows.specs.Building.{Builds, FailsFirst, ReachesNewRow};
@@ -49,16 +49,12 @@ pub struct CookieStore {
 }
 
 impl Model for CookieStore {
-    ghost use Rattle.cookie_laws.specs.Contents.{contents_of, Contents};
-
     ghost Value = { Contents };
 
     ghost view = { λ s. contents_of s.rows s.suffixes s.limit };
 }
 
 impl Clone for CookieStore {
-    ghost use Rattle.std.specs.Prelude.{◌≡◌};
-
     ghost is_clone = { λ store copy. copy ≡ store };
 
     fn clone(&self) -> Result<CookieStore, AllocError> {

@@ -25,9 +25,9 @@ impl CookieStore {
     }
 }
 
-// Returns the cookie-string of the cookies: `name=value` of each, with `; ` between them. Allocates
-// nothing if there are none.
-fn cookie_string(alloc: Global, cookies: &[&Cookie<'static>]) -> Result<String, AllocError>
+/// Returns the cookie-string of `cookies`, RFC 6265 4.2.1: `name=value` of each, in order, with `; `
+/// between them. Allocates only if there is a cookie.
+pub fn cookie_string(alloc: Global, cookies: &[&Cookie<'static>]) -> Result<String, AllocError>
     ensures text { IfOk result (λ text. string_bytes text ≡ cookie_string (map (λ c. c.now) cookies.now)) }
     ensures memory { OnErr result (cookies.now ≢ []) }
 {

@@ -13,4 +13,5 @@ mod response;
 pub use as_store::AsStore;
 pub use call::{Call, Reply, Stopped};
 pub use cookie_store::{CookieStore, InsertResult};
+pub use header::cookie_string;
 pub use response::insert_each;

@@ -4,7 +4,7 @@ ghost use Rattle.std.specs.Io.{StartsWith};
 ghost use Rattle.std.specs.Io.KnownBytes.{IsAtEnd, Keeps, prepend_known};
 ghost use Rattle.std.specs.Str.Lines.{strip_carriage_return};
 ghost use Rattle.cookie_device.specs.FillError.{CountsReadFailure};
-ghost use Rattle.cookie_device.specs.Lines.{EndsLine, IsLastLine};
+ghost use Rattle.cookie_device.specs.Lines.{EndsLine, IsLastLine, IsScanned};
 
 use crate::device::{DeviceFailed, Source};
 use crate::reading::{READ_LIMIT, read_more};
@@ -57,9 +57,6 @@ pub struct LineBuffer {
 }
 
 impl Model for LineBuffer {
-    ghost use Rattle.std.specs.Prelude.{ℕ, List, drop};
-    ghost use Rattle.cookie_device.specs.Lines.{IsScanned};
-
     ghost Value = { List ℕ };
 
     ghost view = { λ b. drop b.start b.bytes.items };

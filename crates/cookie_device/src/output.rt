@@ -1,5 +1,5 @@
 //! Buffered output.
-ghost use Rattle.std.specs.Prelude.{◌≡◌, ◌+◌, ◌-◌, ◌^◌, ◌<◌, ◌≤◌, [], ◌++◌, length, IfOk, IsOk, OnOk, OnErr};
+ghost use Rattle.std.specs.Prelude.{◌≡◌, ◌+◌, ◌-◌, ◌^◌, ◌<◌, ◌≤◌, [], ◌++◌, length, IfOk, IsOk, OnOk, OnErr, ℕ, List, vec_len, vec_capacity};
 ghost use Rattle.std.specs.Io.KnownBytes.{Appends};
 ghost use Rattle.cookie_device.specs.Device.{AppendsPrefix, CountsFailure, Sends};
 ghost use Rattle.cookie_device.specs.Texts.{joined};
@@ -15,8 +15,6 @@ pub struct Output {
 }
 
 impl Model for Output {
-    ghost use Rattle.std.specs.Prelude.{ℕ, ◌≤◌, List, vec_len, vec_capacity};
-
     ghost Value = { List ℕ };
 
     ghost view = { λ o. o.text.items };

@@ -81,8 +81,8 @@ step-suffixes Clear store = refl
 -- a call that stores a cookie does so one position later if another call precedes it
 Accepts-later : (call : Call) (calls : List Call) (store : Contents) (place : ℕ) (from : Parts) (cookie : Row)
     → Accepts calls (step call store).store place from cookie → Accepts (call ∷ calls) store (suc place) from cookie
-Accepts-later call calls store place from cookie ((at, is, brings), says) =
-    ((at, is, subst (λ suffixes. Offers suffixes at from cookie) (step-suffixes call store) brings), says)
+Accepts-later call calls store place from cookie ((at, is, offers), says) =
+    ((at, is, subst (λ suffixes. Offers suffixes at from cookie) (step-suffixes call store) offers), says)
 
 -- what holds of a row, and of it once expired
 module _ (P : Row → Type 0) (ends : (row : Row) → P row → P (expired_row row)) where
@@ -157,4 +157,4 @@ module _ (P : Row → Type 0) (ends : (row : Row) → P row → P (expired_row r
       let after = (step call store).store in
       All-rows_after calls after
       (λ place from cookie accepts. new (suc place) from cookie (Accepts-later call calls store place from cookie accepts))
-      (All-step call store (λ from cookie brings says. new zero from cookie ((call, refl, brings), says)) old)
+      (All-step call store (λ from cookie offers says. new zero from cookie ((call, refl, offers), says)) old)

@@ -31,7 +31,7 @@ pub record MayBeReceived (suffixes : Option RuleList) (url : Parts) (cookie : Ro
   pub matches : domain_matches cookie.domain url ≡ true
   pub shares : SharesUnlisted suffixes cookie
 
--- what holds of the made cookie, if there is one
+-- what holds of the cookie, if there is one
 pub IfOk_at : (P : Row → Type 0) (cookie_result : Result Row CookieError) (cookie : Row) → IfOk cookie_result P → cookie_result ≡ Ok cookie → P cookie
 IfOk_at P cookie_result cookie holds is = subst (λ r. IfOk r P) is holds
 
@@ -64,18 +64,18 @@ admitted-MayBeReceived suffixes url cookie =
     and_then-IfOk (MayBeReceived suffixes url) cookie_result (by_domain url)
     (λ passed is. by_domain-MayBeReceived suffixes url passed (IfOk_at (SharesUnlisted suffixes) cookie_result passed shares is))
 
--- so may the cookie that a call brings
+-- so may the cookie that a call offers
 Offers-MayBeReceived : (suffixes : Option RuleList) (call : Call) (from : Parts) (cookie : Row) → Offers suffixes call from cookie → MayBeReceived suffixes from cookie
-Offers-MayBeReceived suffixes (Set text url now) from cookie brings =
+Offers-MayBeReceived suffixes (Set text url now) from cookie offers =
     let may : MayBeReceived suffixes url cookie = IfOk_at (MayBeReceived suffixes url) (and_then (cookie_from_header text url now) (admitted suffixes url)) cookie
     (and_then-IfOk (MayBeReceived suffixes url) (cookie_from_header text url now) (admitted suffixes url) (λ cookie_result _. admitted-MayBeReceived suffixes url cookie_result))
-    brings.1 in
-    subst (λ place. MayBeReceived suffixes place cookie) (sym brings.0) may
-Offers-MayBeReceived suffixes (Insert given url now) from cookie brings =
-    let may : MayBeReceived suffixes url cookie = IfOk_at (MayBeReceived suffixes url) (admitted suffixes url given) cookie (admitted-MayBeReceived suffixes url given) brings.1 in
-    subst (λ place. MayBeReceived suffixes place cookie) (sym brings.0) may
-Offers-MayBeReceived suffixes (Remove key) from cookie brings = absurd brings
-Offers-MayBeReceived suffixes Clear from cookie brings = absurd brings
+    offers.1 in
+    subst (λ place. MayBeReceived suffixes place cookie) (sym offers.0) may
+Offers-MayBeReceived suffixes (Insert given url now) from cookie offers =
+    let may : MayBeReceived suffixes url cookie = IfOk_at (MayBeReceived suffixes url) (admitted suffixes url given) cookie (admitted-MayBeReceived suffixes url given) offers.1 in
+    subst (λ place. MayBeReceived suffixes place cookie) (sym offers.0) may
+Offers-MayBeReceived suffixes (Remove key) from cookie offers = absurd offers
+Offers-MayBeReceived suffixes Clear from cookie offers = absurd offers
 
 -- a stored row remains so when it expires
 ends-IsPutOrExpired : (accepted row : Row) → IsPutOrExpired accepted row → IsPutOrExpired accepted (expired_row row)

@@ -15,30 +15,30 @@ use Rattle.cookie_laws.proofs.ConfinedRows.{IfOk_at, MayBeReceived, admitted-May
 use Rattle.cookie_laws.proofs.SingleInsertions.{accept-row_expired, accept-ends, accept-guarded, accept-live, accept-other_key, accept-other_row, accept-put, refused-put}
 
 -- an admitted host-only cookie is for its URL's host
-admitted-host : (suffixes : Option RuleList) (url : Parts) (cookie entered : Row) → admitted suffixes url cookie ≡ Ok entered → entered.domain ≡ HostOnly (domain_text entered.domain)
-    → host_of url ≡ Some (domain_text entered.domain)
-admitted-host suffixes url cookie entered enters alone =
-    let may = IfOk_at (MayBeReceived suffixes url) (admitted suffixes url cookie) entered (admitted-MayBeReceived suffixes url cookie) enters in
-    own_host (domain_text entered.domain) url (sym (ap (λ domain. domain_matches domain url) alone) ∙ may.matches)
+admitted-host : (suffixes : Option RuleList) (url : Parts) (cookie inserted : Row) → admitted suffixes url cookie ≡ Ok inserted → inserted.domain ≡ HostOnly (domain_text inserted.domain)
+    → host_of url ≡ Some (domain_text inserted.domain)
+admitted-host suffixes url cookie inserted enters alone =
+    let may = IfOk_at (MayBeReceived suffixes url) (admitted suffixes url cookie) inserted (admitted-MayBeReceived suffixes url cookie) enters in
+    own_host (domain_text inserted.domain) url (sym (ap (λ domain. domain_matches domain url) alone) ∙ may.matches)
 
 module _ (store : Contents) (url : Parts) (now : Moment) where
   -- a stored cookie is the row of its key, and a host-only cookie for the URL's host if its domain is listed
   pub received-put : (cookie_result : Result Row CookieError) → IsPut (received store cookie_result url now).reply
-      → (cookie : Row) × (entered : Row) × (cookie_result ≡ Ok cookie) × (admitted store.suffixes url cookie ≡ Ok entered)
-      × (row_of (key_of cookie) (received store cookie_result url now).store.rows ≡ Some entered)
-      × (is_listed store.suffixes entered.domain ≡ true → (entered.domain ≡ HostOnly (domain_text entered.domain)) × (host_of url ≡ Some (domain_text entered.domain)))
+      → (cookie : Row) × (inserted : Row) × (cookie_result ≡ Ok cookie) × (admitted store.suffixes url cookie ≡ Ok inserted)
+      × (row_of (key_of cookie) (received store cookie_result url now).store.rows ≡ Some inserted)
+      × (is_listed store.suffixes inserted.domain ≡ true → (inserted.domain ≡ HostOnly (domain_text inserted.domain)) × (host_of url ≡ Some (domain_text inserted.domain)))
   received-put (Err rejection) was_put = absurd (refused-put rejection was_put)
   received-put (Ok cookie) was_put =
-      let (entered, enters, found, own) = accept-put store cookie url now was_put in (
+      let (inserted, enters, found, own) = accept-put store cookie url now was_put in (
         cookie,
-        entered,
+        inserted,
         refl,
         enters,
         found,
-        λ listed. (own listed, admitted-host store.suffixes url cookie entered enters (own listed)),
+        λ listed. (own listed, admitted-host store.suffixes url cookie inserted enters (own listed)),
       )
 
-  -- if a row is expired, a cookie was made and the row had not expired
+  -- if a row is expired, there is a cookie, and the row had not expired
   pub received-live : (cookie_result : Result Row CookieError) → (received store cookie_result url now).reply ≡ Ok ExpiredExisting
       → (cookie : Row) × (row : Row) × (cookie_result ≡ Ok cookie) × (row_of (key_of cookie) store.rows ≡ Some row) × (is_unexpired now row ≡ true)
   received-live (Err rejection) ends = absurd (grind (arith, ends))

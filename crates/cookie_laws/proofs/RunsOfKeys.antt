@@ -27,7 +27,7 @@ pub record IsOfKeys (test : Key → Bool) (keeps : Call → Bool) : Type 0 where
 abbrev passing_step : (Key → Bool) → Step → Step
 passing_step test after = record { reply = after.reply; store = passing_store test after.store }
 
--- a made cookie whose key passes, or an error
+-- a cookie whose key passes, or an error
 received-passing : (test : Key → Bool) → IsByDomain test → (store : Contents) (cookie_result : Result Row CookieError) (url : Parts) (now : Moment)
     → ((key : Key) → option_map key_of (result_ok cookie_result) ≡ Some key → test key ≡ true)
     → received (passing_store test store) cookie_result url now ≡ passing_outcome test (received store cookie_result url now)

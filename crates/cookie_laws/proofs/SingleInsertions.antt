@@ -31,7 +31,7 @@ and_then-makes : (suffixes : Option RuleList) (cookie_result : Result Row Cookie
 and_then-makes suffixes (Ok cookie) next after = after cookie
 and_then-makes suffixes (Err rejection) next after = tt
 
--- a step that keeps it so, after one that made it so
+-- and so does a step that preserves it, after one that makes it hold
 and_then-keeps : (suffixes : Option RuleList) (cookie_result : Result Row CookieError) (next : Row → Result Row CookieError) → MakesOwn suffixes cookie_result → ((cookie : Row) → IsOwnIfListed suffixes cookie → MakesOwn suffixes (next cookie)) → MakesOwn suffixes (and_then cookie_result next)
 and_then-keeps suffixes (Ok cookie) next own after = after cookie own
 and_then-keeps suffixes (Err rejection) next own after = tt
@@ -105,7 +105,7 @@ unfolding accept
 accept-ends store cookie url now ends =
     outcome_after_checks-ends (key_of cookie) (admitted store.suffixes url cookie) url now store (admitted-HasKey store.suffixes url cookie) ends
 
--- only the reply to a live row can be `ExpiredExisting`
+-- only the reply to an unexpired row can be `ExpiredExisting`
 put_action-not_expiring : (row : Option Row) → put_action row ≡ ExpiredExisting → ⊥
 put_action-not_expiring None ends = grind (arith, ends)
 put_action-not_expiring (Some row) ends = grind (arith, ends)

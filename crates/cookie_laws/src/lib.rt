@@ -98,11 +98,11 @@ pub fn confined()
 /// the result of creating the cookie, a cookie or an error; `insert` takes the cookie.
 pub fn listed_is_for_its_host()
     ensures { (store : Contents) (cookie_result : Result Row CookieError) (url : Parts) (now : Moment)
-        → IsPut (received store cookie_result url now).reply → (cookie : Row) × (entered : Row)
-        × (cookie_result ≡ Ok cookie) × (admitted store.suffixes url cookie ≡ Ok entered)
-        × (row_of (key_of cookie) (received store cookie_result url now).store.rows ≡ Some entered)
-        × (is_listed store.suffixes entered.domain ≡ true → (entered.domain ≡ HostOnly (domain_text entered.domain))
-        × (host_of url ≡ Some (domain_text entered.domain))) }
+        → IsPut (received store cookie_result url now).reply → (cookie : Row) × (inserted : Row)
+        × (cookie_result ≡ Ok cookie) × (admitted store.suffixes url cookie ≡ Ok inserted)
+        × (row_of (key_of cookie) (received store cookie_result url now).store.rows ≡ Some inserted)
+        × (is_listed store.suffixes inserted.domain ≡ true → (inserted.domain ≡ HostOnly (domain_text inserted.domain))
+        × (host_of url ≡ Some (domain_text inserted.domain))) }
 {}
 
 /// An insertion returns `ExpiredExisting` only if a cookie was created and the row of its key exists

@@ -3,7 +3,7 @@ ghost use Rattle.std.specs.Prelude.{◌≡◌, ◌&&◌, false, is_none, true, E
 ghost use Rattle.std.specs.Option.{option_or};
 ghost use Rattle.cookie_words.specs.Moments.{moment_of};
 ghost use Rattle.cookie_raw.specs.Reading.{reading};
-ghost use Rattle.cookie_parts.specs.Cookie.{cookie_from_header, cookie_matches, cookie_of, domain_for, early, early_error, expired_row, is_expired, is_out_of_reach, is_persistent, to_raw, domain_attribute, expires_attribute, path_attribute};
+ghost use Rattle.cookie_parts.specs.Cookie.{cookie_from_header, cookie_matches, cookie_of, domain_for, early, early_error, expired_row, is_expired, is_out_of_reach, is_persistent, to_raw, domain_attribute, expires_attribute, path_attribute, Row};
 ghost use Rattle.cookie_parts.specs.Domain.{domain_from_attribute};
 ghost use Rattle.cookie_parts.specs.Expiry.{expiry_of};
 ghost use Rattle.cookie_parts.specs.Hosts.{host_of};
@@ -37,11 +37,7 @@ pub struct Cookie<'a> {
 }
 
 impl<'a> Model for Cookie<'a> {
-    ghost use Rattle.cookie_parts.specs.Cookie.{Row};
-
     ghost Value = { Row };
-
-    ghost use Rattle.cookie_parts.specs.Views.{domain_value, expiry_value};
 
     ghost view = { λ c. record {
       raw = c.raw;
@@ -230,8 +226,6 @@ impl<'a> Cookie<'a> {
 }
 
 impl<'a> Clone for Cookie<'a> {
-    ghost use Rattle.std.specs.Prelude.{◌≡◌};
-
     ghost is_clone = { λ cookie copy. copy ≡ cookie };
 
     fn clone(&self) -> Result<Cookie<'a>, AllocError> {

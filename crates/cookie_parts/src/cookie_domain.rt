@@ -37,9 +37,6 @@ pub enum CookieDomain {
 }
 
 impl Clone for CookieDomain {
-    ghost use Rattle.std.specs.Prelude.{◌≡◌};
-    ghost use Rattle.cookie_parts.specs.Views.{domain_value};
-
     ghost is_clone = { λ domain copy. domain_value copy ≡ domain_value domain };
 
     fn clone(&self) -> Result<CookieDomain, AllocError> {

@@ -1,6 +1,7 @@
 //! Why a cookie was rejected.
 ghost use Rattle.std.specs.Prelude.{◌≡◌};
 ghost use Rattle.cookie_parts.specs.Errors.{cookie_error_text};
+ghost use Rattle.cookie_parts.specs.declared.cookie_error.CookieError.TheVariants.{Parse};
 
 use cookie_raw::RawCookieParseError;
 use std::fmt;
@@ -63,9 +64,6 @@ impl fmt::Display for CookieError {
 impl std::error::Error for CookieError {}
 
 impl From<RawCookieParseError> for CookieError {
-    ghost use Rattle.std.specs.Prelude.{◌≡◌};
-    ghost use Rattle.cookie_parts.specs.declared.cookie_error.CookieError.TheVariants.{Parse};
-
     ghost from_gives = { λ _ error. error ≡ Parse };
 
     fn from(_error: RawCookieParseError) -> CookieError {

@@ -4,8 +4,10 @@ ghost use Rattle.jiff.specs.Words.{signed_nanos};
 ghost use Rattle.cookie_words.specs.Moments.{moment_of, nanoseconds, Moment};
 ghost use Rattle.cookie_raw.specs.Reading.{of_seconds};
 ghost use Rattle.cookie_raw.specs.Views.{expires_value};
-ghost use Rattle.cookie_parts.specs.Expiry.{expiry_at_time, capped_at_latest, has_passed, latest, expiry_of_max_age, expiry_of_expires};
+ghost use Rattle.cookie_parts.specs.Expiry.{expiry_at_time, capped_at_latest, has_passed, latest, expiry_of_max_age, expiry_of_expires, same_expiry, same_expiry_equiv};
 ghost use Rattle.cookie_parts.specs.Views.{expiry_value};
+ghost use Rattle.std.specs.Ordering.{on};
+ghost use Rattle.std.specs.Cmp.{on_equiv, partial_equiv_from_equiv};
 
 use cookie_raw::Expiration;
 use cookie_words::{epoch, moments_round_trip};
@@ -82,11 +84,6 @@ impl CookieExpiration {
 }
 
 impl PartialEq for CookieExpiration {
-    ghost use Rattle.cookie_parts.specs.Expiry.{same_expiry, same_expiry_equiv};
-    ghost use Rattle.cookie_parts.specs.Views.{expiry_value};
-    ghost use Rattle.std.specs.Ordering.{on};
-    ghost use Rattle.std.specs.Cmp.{on_equiv, partial_equiv_from_equiv};
-
     ghost eq = { on expiry_value same_expiry };
 
     ghost laws = { partial_equiv_from_equiv (on_equiv expiry_value same_expiry_equiv) };
@@ -104,10 +101,6 @@ impl PartialEq for CookieExpiration {
 }
 
 impl Eq for CookieExpiration {
-    ghost use Rattle.cookie_parts.specs.Expiry.{same_expiry_equiv};
-    ghost use Rattle.cookie_parts.specs.Views.{expiry_value};
-    ghost use Rattle.std.specs.Cmp.{on_equiv};
-
     ghost laws = { on_equiv expiry_value same_expiry_equiv };
 }
 

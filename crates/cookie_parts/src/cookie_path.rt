@@ -1,7 +1,7 @@
 //! The path of a cookie and path-match, RFC 6265 5.1.4 and 5.2.4.
 ghost use Rattle.std.specs.Prelude.{◌≡◌, ◌↔◌, ◌&&◌, false, None, Ok, Some, string_bytes, IfOk, IsTrue};
 ghost use Rattle.url.specs.Parts.{cannot_be_a_base};
-ghost use Rattle.cookie_parts.specs.Path.{absolute_path, covers_path, default_path, from_url, is_absolute, path_matches, path_or_default, CoversPath, IsAbsolute};
+ghost use Rattle.cookie_parts.specs.Path.{absolute_path, covers_path, default_path, from_url, is_absolute, path_matches, path_or_default, CoversPath, IsAbsolute, PathValue};
 
 use std::alloc::{AllocError, Global};
 use std::cmp::Ordering;
@@ -17,9 +17,6 @@ pub struct CookiePath {
 }
 
 impl Model for CookiePath {
-    ghost use Rattle.std.specs.Prelude.{string_bytes};
-    ghost use Rattle.cookie_parts.specs.Path.{PathValue};
-
     ghost Value = { PathValue };
 
     ghost view = { λ p. record { text = string_bytes p.path; is_from_attribute = p.from_attr } };
@@ -113,8 +110,6 @@ impl CookiePath {
 }
 
 impl Clone for CookiePath {
-    ghost use Rattle.std.specs.Prelude.{◌≡◌};
-
     ghost is_clone = { λ path copy. copy ≡ path };
 
     fn clone(&self) -> Result<CookiePath, AllocError> {

@@ -1,3 +1,5 @@
+//! The outcome of an insertion.
+
 /// What a store did with a cookie that it accepted.
 #[derive(Clone, Copy, Debug, PartialEq, Eq)]
 pub enum StoreAction {

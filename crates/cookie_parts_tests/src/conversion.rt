@@ -1,3 +1,4 @@
+//! A cookie as a saved form, and back.
 use crate::checks::{holds, is_equal};
 use crate::parts::{Hosts, cookie_from, domain_of, end_at, ends_at, is_for, is_path, saved};
 use cookie_parts::{Cookie, CookieError, Error};
@@ -122,11 +123,11 @@ const SAVED: &[(&str, (&str, bool), bool)] = &[
 // Asserts that the cookie has the path as saved, or that there is no cookie.
 fn has_path(
     rt: &impl Abort,
-    made: &Result<Cookie<'static>, Error>,
+    converted: &Result<Cookie<'static>, Error>,
     row: &(&str, (&str, bool), bool),
 ) {
     let (_, path, is_cookie) = *row;
-    match made {
+    match converted {
         Ok(cookie) => {
             let is_so = is_path(&cookie.path, path.0, path.1);
             is_equal(rt, (is_so, true), (true, is_cookie), row);

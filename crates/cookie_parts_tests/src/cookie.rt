@@ -1,3 +1,4 @@
+//! Cookies of header values, and what they return.
 use crate::checks::{holds, is_equal, is_text};
 use crate::parts::{Hosts, cookie_from, is_for, moment};
 use cookie_parts::{Cookie, CookieError};
@@ -8,10 +9,10 @@ use std::process::Abort;
 use url::Url;
 
 // What is expected of a header value: the domain and path of its cookie, or the error.
-type Made = Result<(Hosts, &'static str), CookieError>;
+type Expected = Result<(Hosts, &'static str), CookieError>;
 
 // A header value, the URL that it is received from, and the expected result.
-const COOKIES: &[(&str, &str, Made)] = &[
+const COOKIES: &[(&str, &str, Expected)] = &[
     (
         "a=1; Domain=example.com",
         "http://foo.example.com",
@@ -112,18 +113,22 @@ const COOKIES: &[(&str, &str, Made)] = &[
 ];
 
 // Asserts that the result is what the row expects.
-fn is_expected(rt: &impl Abort, made: &Result<Cookie<'_>, CookieError>, row: &(&str, &str, Made)) {
-    match (made, &row.2) {
+fn is_expected(
+    rt: &impl Abort,
+    parsed: &Result<Cookie<'_>, CookieError>,
+    row: &(&str, &str, Expected),
+) {
+    match (parsed, &row.2) {
         (Ok(cookie), Ok((hosts, path))) => {
             holds(rt, is_for(&cookie.domain, hosts), row);
             is_equal(rt, cookie.path.as_str(), *path, row);
         }
-        (made, wanted) => is_equal(rt, made.as_ref().err(), wanted.as_ref().err(), row),
+        (parsed, wanted) => is_equal(rt, parsed.as_ref().err(), wanted.as_ref().err(), row),
     }
 }
 
 // Asserts that the row's header value gives the expected result at `now`.
-fn makes(rt: &impl Abort, alloc: Global, row: &(&str, &str, Made), now: DateTime) {
+fn makes(rt: &impl Abort, alloc: Global, row: &(&str, &str, Expected), now: DateTime) {
     let url = Url::parse(alloc, row.1).expect(rt, "a URL");
     is_expected(rt, &Cookie::parse(alloc, row.0, &url, now), row);
 }
@@ -241,7 +246,7 @@ const TEXTS: &[(&str, bool)] = &[
 ];
 
 // Whether the cookie is expired once `expire` is called, and not before.
-fn has_ended(cookie: &mut Cookie<'_>, now: DateTime, early: DateTime) -> bool {
+fn can_be_expired(cookie: &mut Cookie<'_>, now: DateTime, early: DateTime) -> bool {
     let is_early = cookie.is_expired(now);
     cookie.expire();
     let is_late = cookie.is_expired(now) && cookie.is_expired(early);
@@ -253,7 +258,7 @@ fn ends(rt: &impl Abort, alloc: Global, row: &(&str, bool)) {
     let early = moment(rt, "1970-01-02T00:00:00");
     let mut cookie = cookie(rt, alloc, row.0);
     is_equal(rt, cookie.is_persistent(), row.1, row);
-    holds(rt, has_ended(&mut cookie, moment(rt, NOW), early), row);
+    holds(rt, can_be_expired(&mut cookie, moment(rt, NOW), early), row);
 }
 
 fn is_equal_to_copy(rt: &impl Abort, cookie: &Cookie<'_>) -> bool {
@@ -262,16 +267,16 @@ fn is_equal_to_copy(rt: &impl Abort, cookie: &Cookie<'_>) -> bool {
 }
 
 // Whether the cookie equals the one of the header value.
-fn is_of_text(rt: &impl Abort, alloc: Global, made: &Cookie<'_>, text: &str) -> bool {
+fn is_of_text(rt: &impl Abort, alloc: Global, parsed: &Cookie<'_>, text: &str) -> bool {
     let cookie = cookie(rt, alloc, text);
-    cookie == *made
+    cookie == *parsed
 }
 
 // Asserts that the cookie equals its copy and the cookie of `text`, but not that of `a=2`.
-fn is_same(rt: &impl Abort, alloc: Global, made: &Cookie<'_>, text: &str) {
-    holds(rt, is_equal_to_copy(rt, made), &text);
-    holds(rt, is_of_text(rt, alloc, made, text), &text);
-    holds(rt, !is_of_text(rt, alloc, made, "a=2"), &text);
+fn is_same(rt: &impl Abort, alloc: Global, parsed: &Cookie<'_>, text: &str) {
+    holds(rt, is_equal_to_copy(rt, parsed), &text);
+    holds(rt, is_of_text(rt, alloc, parsed, text), &text);
+    holds(rt, !is_of_text(rt, alloc, parsed, "a=2"), &text);
 }
 
 // Asserts that the owned cookie is the same.

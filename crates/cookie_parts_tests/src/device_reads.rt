@@ -188,7 +188,7 @@ fn read(
     }
 }
 
-// How to read, the input, the bytes per read, the read that fails, the answers, and the number of
+// How to read, the input, the bytes per read, the read that fails, the results, and the number of
 // reads.
 type Readings = (
     Reading,
@@ -256,10 +256,10 @@ const READINGS: &[Readings] = &[
 
 // Asserts what each read returns, and that the failed one is counted and not repeated.
 fn reads_as(rt: &impl Abort, alloc: Global, row: &Readings) {
-    let (reading, input, most, fails_at, answers, calls) = *row;
+    let (reading, input, most, fails_at, results, calls) = *row;
     let mut buffer = LineBuffer::new(alloc);
     let mut source = Counted::new(Fake::new(input, most, fails_at));
-    for wanted in answers {
+    for wanted in results {
         let answer = read(rt, alloc, &mut buffer, &mut source, reading);
         is_read(rt, &answer, *wanted, &(input, most, fails_at));
     }

@@ -1,3 +1,4 @@
+//! Domains, and the hosts that they cover.
 use crate::checks::{are_ordered, is_equal};
 use crate::domain::Origin::{Host, Parts, Raw, Text};
 use crate::parts::{Hosts, domain_of, is_for};
@@ -11,7 +12,7 @@ use std::cmp::Ordering;
 use std::process::Abort;
 use url::Url;
 
-// What a domain is made from: a string, a raw cookie's header value, a URL (host-only), or its
+// What a domain is built from: a string, a raw cookie's header value, a URL (host-only), or its
 // variant.
 #[derive(Debug)]
 enum Origin {
@@ -31,7 +32,7 @@ fn domain_of_host(rt: &impl Abort, alloc: Global, at: &str) -> Result<CookieDoma
     CookieDomain::host_only(alloc, &url).map_err(Error::from)
 }
 
-fn made(rt: &impl Abort, alloc: Global, origin: &Origin) -> Result<CookieDomain, Error> {
+fn built(rt: &impl Abort, alloc: Global, origin: &Origin) -> Result<CookieDomain, Error> {
     match origin {
         Text(text) => CookieDomain::try_from_str(alloc, text),
         Raw(text) => domain_of_raw(rt, alloc, text),
@@ -90,11 +91,11 @@ const DOMAINS: &[(Origin, Hosts, &str)] = &[
 // Asserts that the domain and its copy are the expected one, and its string.
 fn names(rt: &impl Abort, alloc: Global, row: &(Origin, Hosts, &str)) {
     let (origin, hosts, wanted) = row;
-    let domain = made(rt, alloc, origin).expect(rt, "memory");
+    let domain = built(rt, alloc, origin).expect(rt, "memory");
     let copy = domain.clone().expect(rt, "memory");
     let text = domain.to_string_in(alloc).expect(rt, "memory");
-    let answers = (is_for(&domain, hosts), is_for(&copy, hosts), text.as_str());
-    is_equal(rt, answers, (true, true, *wanted), row);
+    let results = (is_for(&domain, hosts), is_for(&copy, hosts), text.as_str());
+    is_equal(rt, results, (true, true, *wanted), row);
 }
 
 #[test]
@@ -123,7 +124,7 @@ fn fault_of(error: Option<CookieError>) -> Error {
 #[test]
 fn invalid_domain_names_are_rejected(rt: HostRuntime) {
     for (origin, error) in NO_DOMAINS {
-        let fault = made(&rt, rt.alloc(), origin).err();
+        let fault = built(&rt, rt.alloc(), origin).err();
         is_equal(&rt, fault, Some(fault_of(*error)), origin);
     }
 }
@@ -205,7 +206,7 @@ const COVERS: &[(Origin, &str, bool)] = &[
 fn covers(rt: &impl Abort, alloc: Global, row: &(Origin, &str, bool)) {
     let (origin, at, wanted) = row;
     let url = Url::parse(alloc, at).expect(rt, "a URL");
-    let domain = made(rt, alloc, origin).expect(rt, "memory");
+    let domain = built(rt, alloc, origin).expect(rt, "memory");
     is_equal(rt, domain.matches(&url), *wanted, row);
 }
 

@@ -1,3 +1,4 @@
+//! Errors, their conversions and their messages.
 use crate::checks::{is_equal, is_written_at_any_width, owned};
 use cookie_parts::{CookieError, Error, IdnaErrors};
 use cookie_raw::RawCookieParseError;
@@ -81,7 +82,7 @@ fn error_from_saved(fault: &SavedError) -> Error {
 fn saved_errors_convert(rt: HostRuntime) {
     for (fault, wanted) in SAVED {
         is_equal(&rt, Error::from(*fault), error_from_saved(fault), fault);
-        is_told(&rt, rt.alloc(), Error::from(*fault), wanted);
+        has_message(&rt, rt.alloc(), Error::from(*fault), wanted);
     }
 }
 
@@ -90,7 +91,7 @@ fn other(rt: &impl Abort, alloc: Global, text: &str) -> Error {
     Error::Other(owned(rt, alloc, text))
 }
 
-fn is_told(rt: &impl Abort, alloc: Global, fault: Error, wanted: &str) {
+fn has_message(rt: &impl Abort, alloc: Global, fault: Error, wanted: &str) {
     is_written_at_any_width(rt, alloc, &fault, wanted)
 }
 
@@ -98,15 +99,15 @@ fn is_told(rt: &impl Abort, alloc: Global, fault: Error, wanted: &str) {
 fn errors_have_texts(rt: HostRuntime) {
     let mismatch = Error::Cookie(CookieError::DomainMismatch);
     let error = "request-uri does not domain-match the cookie";
-    is_told(&rt, rt.alloc(), mismatch, error);
-    is_told(&rt, rt.alloc(), Error::Io, "a read or a write failed");
+    has_message(&rt, rt.alloc(), mismatch, error);
+    has_message(&rt, rt.alloc(), Error::Io, "a read or a write failed");
     let other = other(&rt, rt.alloc(), "no such row");
-    is_told(&rt, rt.alloc(), other, "no such row");
-    is_told(&rt, rt.alloc(), Error::Memory, "out of memory");
-    is_told(&rt, rt.alloc(), Error::NotUtf8, "a text is not UTF-8");
+    has_message(&rt, rt.alloc(), other, "no such row");
+    has_message(&rt, rt.alloc(), Error::Memory, "out of memory");
+    has_message(&rt, rt.alloc(), Error::NotUtf8, "a text is not UTF-8");
     let fault = IdnaErrors::from(idna::Errors::Invalid);
     is_written_at_any_width(&rt, rt.alloc(), &fault, "invalid domain name");
-    is_told(&rt, rt.alloc(), Error::Idna(fault), "invalid domain name")
+    has_message(&rt, rt.alloc(), Error::Idna(fault), "invalid domain name")
 }
 
 #[test]

@@ -1,3 +1,4 @@
+//! Expiry times.
 use crate::checks::{holds, is_equal};
 use crate::parts::{cookie_from, end_at, ends_at, moment};
 use cookie_parts::CookieExpiration;
@@ -112,8 +113,8 @@ fn is_expired_as_expected(rt: &impl Abort, alloc: Global, row: &(ExpirySource, &
     let (expiry_source, at, wanted) = row;
     let end = end_of(rt, alloc, expiry_source);
     let at = moment(rt, at);
-    let answers = (end.is_expired(at), end.expires_by(&at));
-    is_equal(rt, answers, (*wanted, *wanted), row);
+    let results = (end.is_expired(at), end.expires_by(&at));
+    is_equal(rt, results, (*wanted, *wanted), row);
 }
 
 #[test]

@@ -6,7 +6,7 @@ use cookie_fakes::Fake;
 use std::alloc::{AllocError, Global};
 use std::process::Abort;
 
-// An allocation of this size marks where a test begins: those after it are made to fail.
+// An allocation of this size marks where a test begins: those after it fail.
 const START: usize = 48_271;
 
 fn start(rt: &impl Abort, alloc: Global) {

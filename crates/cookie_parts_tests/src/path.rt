@@ -1,3 +1,4 @@
+//! Paths, and the URLs that they match.
 use crate::checks::{are_ordered, holds, is_equal};
 use cookie_parts::CookiePath;
 use cookie_parts::cookie_path::is_match;
@@ -52,8 +53,8 @@ fn has_path(rt: &impl Abort, alloc: Global, row: &(Source, &str, bool)) {
     let (source, wanted, is_from_attribute) = row;
     let path = path(rt, alloc, source).clone().expect(rt, "memory");
     let text = path.to_string_in(alloc).expect(rt, "memory");
-    let answers = (path.as_str(), text.as_str(), path.is_from_path_attr());
-    is_equal(rt, answers, (*wanted, *wanted, *is_from_attribute), row);
+    let results = (path.as_str(), text.as_str(), path.is_from_path_attr());
+    is_equal(rt, results, (*wanted, *wanted, *is_from_attribute), row);
 }
 
 #[test]

@@ -1,3 +1,4 @@
+//! Public suffix lists.
 use crate::checks::{is_equal, is_written_at_any_width};
 use cookie_psl::{List, ListError, laws};
 use std::alloc::Global;
@@ -107,6 +108,46 @@ fn the_default_rule_is_for_top_level_domains(rt: HostRuntime) {
             Some(wanted),
             row,
         );
+    }
+}
+
+const RULES: &str = "com\nuk.com\njp\nac.jp\n*.kobe.jp\n!city.kobe.jp\n*.ck\n!www.ck\n";
+
+// A domain, and its registrable domain by `RULES`.
+static REGISTRABLE: [(&str, Option<&str>); 26] = [
+    ("com", None),
+    ("example.com", Some("example.com")),
+    ("b.example.com", Some("example.com")),
+    ("a.b.example.com", Some("example.com")),
+    ("uk.com", None),
+    ("example.uk.com", Some("example.uk.com")),
+    ("a.b.example.uk.com", Some("example.uk.com")),
+    ("jp", None),
+    ("test.jp", Some("test.jp")),
+    ("ac.jp", None),
+    ("www.test.ac.jp", Some("test.ac.jp")),
+    ("c.kobe.jp", None),
+    ("a.b.c.kobe.jp", Some("b.c.kobe.jp")),
+    ("city.kobe.jp", Some("city.kobe.jp")),
+    ("www.city.kobe.jp", Some("city.kobe.jp")),
+    ("ck", None),
+    ("test.ck", None),
+    ("b.test.ck", Some("b.test.ck")),
+    ("www.ck", Some("www.ck")),
+    ("www.www.ck", Some("www.ck")),
+    ("example", None),
+    ("a.example.example", Some("example.example")),
+    ("com.", None),
+    ("a.example.com.", Some("example.com.")),
+    ("", None),
+    (".", None),
+];
+
+#[test]
+fn finds_registrable_domains(rt: HostRuntime) {
+    let list = List::from_text(rt.alloc(), RULES).expect(&rt, "a list");
+    for row in &REGISTRABLE {
+        is_equal(&rt, list.registrable_domain(row.0), row.1, row);
     }
 }
 

@@ -1,3 +1,4 @@
+//! `Set-Cookie` header values, as they are parsed and printed.
 use crate::checks::{holds, is_equal, is_text, is_written_at_any_width, owned};
 use crate::parts::{Fields, moment_of};
 use cookie_raw::RawCookieParseError::{EmptyName, MissingPair};
@@ -306,7 +307,7 @@ fn reads_dates(rt: HostRuntime) {
     }
 }
 
-// What a cookie is made from: a header value, few parts or all, the last day of a year as Expires,
+// What a cookie is built from: a header value, few parts or all, the last day of a year as Expires,
 // or a header value whose value is replaced by `new`.
 enum Origin {
     Text(&'static str),
@@ -342,7 +343,7 @@ fn renewed(rt: &impl Abort, alloc: Global, text: &str) -> RawCookie<'static> {
     builder.value(owned(rt, alloc, "new")).build()
 }
 
-fn made(rt: &impl Abort, alloc: Global, origin: &Origin) -> RawCookie<'static> {
+fn built(rt: &impl Abort, alloc: Global, origin: &Origin) -> RawCookie<'static> {
     match origin {
         Origin::Text(text) => kept(rt, alloc, text),
         Origin::Open => builder(rt, alloc, "b", "2")
@@ -430,15 +431,15 @@ fn prints(rt: &impl Abort, alloc: Global, cookie: &RawCookie<'_>, printed: &str,
     is_text(rt, &cookie.to_text(alloc), Ok(printed), &printed);
     is_written_at_any_width(rt, alloc, cookie, printed);
     let is_same = parsed(rt, printed) == *cookie;
-    let answers = (cookie.is_plain(), is_same);
-    is_equal(rt, answers, (is_plain, is_plain), &printed);
+    let results = (cookie.is_plain(), is_same);
+    is_equal(rt, results, (is_plain, is_plain), &printed);
 }
 
 #[test]
 fn prints_the_table(rt: HostRuntime) {
     laws::reads_back();
     for (origin, printed, is_plain) in COOKIES {
-        let cookie = made(&rt, rt.alloc(), origin);
+        let cookie = built(&rt, rt.alloc(), origin);
         prints(&rt, rt.alloc(), &cookie, printed, *is_plain);
     }
 }

@@ -1,3 +1,4 @@
+//! Lists in RON.
 use crate::checks::{is_equal, is_text};
 use crate::parts::saved;
 use cookie_saved::{Saved, SavedDomain, SavedError, SavedExpiry, from_ron, to_ron};

@@ -1,3 +1,4 @@
+//! Saved forms in JSON.
 use crate::checks::{holds, is_equal, is_text};
 use crate::parts::{Fields, moment_of};
 use cookie_saved::{

@@ -1,5 +1,5 @@
 -- Rules, and the public suffix of a domain under them, after publicsuffix.org.
-use Rattle.std.specs.Prelude.{◌≡◌, ℕ, ◌-◌, max, ◌==◌, Bool, true, false, ◌&&◌, List, [], ◌∷◌, ◌++◌, length, take, drop, reverse, codes, bytes_eq, nat_eq, Option, Some, None, if◌then◌else◌}
+use Rattle.std.specs.Prelude.{◌≡◌, ℕ, ◌+◌, ◌-◌, max, ◌==◌, Bool, true, false, ◌&&◌, List, [], ◌∷◌, ◌++◌, length, take, drop, reverse, codes, bytes_eq, nat_eq, Option, Some, None, if◌then◌else◌}
 use Rattle.std.specs.Bool.{beq}
 use Rattle.std.specs.List.{ends_with, join_with_byte, list_any}
 use Rattle.cookie_words.specs.Texts.{pieces}
@@ -76,6 +76,10 @@ without_final_dot domain = if ends_with nat_eq domain (codes ".") then take (len
 abbrev pub last_labels : ℕ → List ℕ → List ℕ
 last_labels count domain = join_with_byte 46 (drop (length (pieces 46 domain) - count) (pieces 46 domain))
 
+-- the same, with the trailing dot of the domain
+abbrev pub ending : ℕ → List ℕ → List ℕ
+ending count domain = last_labels count (without_final_dot domain) ++ drop (length (without_final_dot domain)) domain
+
 -- a public suffix, and whether a rule of the list matched
 pub record SuffixValue : Type 0 where
   pub text : List ℕ
@@ -87,7 +91,13 @@ suffix_of rules domain =
     let bare = without_final_dot domain in
     let found = prevailing rules (labels_of bare) in
     if length bare == 0 then None
-    else Some (record { text = last_labels found.count bare ++ drop (length bare) domain; is_known = found.is_known })
+    else Some (record { text = ending found.count domain; is_known = found.is_known })
+
+-- the public suffix of a domain and the label before it; None if the domain is its public suffix
+unfoldable pub registrable_domain : RuleList → List ℕ → Option (List ℕ)
+registrable_domain rules domain =
+    let count = (prevailing rules (labels_of (without_final_dot domain))).count in
+    if bytes_eq (ending count domain) domain then None else Some (ending (count + 1) domain)
 
 -- the suffix is the whole string, and a rule of the list matched
 abbrev pub is_known_and_whole : List ℕ → Option SuffixValue → Bool

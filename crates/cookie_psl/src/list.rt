@@ -3,11 +3,11 @@ ghost use Rattle.std.specs.Prelude.{◌≡◌, ◌∷◌, [], option_map, IfOk, 
 ghost use Rattle.std.specs.Str.Iter.{HasSubslice};
 ghost use Rattle.cookie_psl.specs.Lists.{ParsesList, AddsLine};
 ghost use Rattle.cookie_psl.specs.Reading.{line_rule, rules_from};
-ghost use Rattle.cookie_psl.specs.Rules.{default_rule, suffix_of, SameRules};
+ghost use Rattle.cookie_psl.specs.Rules.{default_rule, labels_of, prevailing, registrable_domain, suffix_of, without_final_dot, SameRules};
 ghost use Rattle.cookie_psl.specs.Views.{suffix_value};
 
 use crate::reading::{LineError, read_line};
-use crate::suffix::{bare, suffix_by};
+use crate::suffix::{bare, prevailing_count, registrable_by, suffix_by};
 use crate::tree::Node;
 use crate::{ListError, Suffix, tree};
 use std::alloc::{AllocError, Global};
@@ -33,8 +33,6 @@ impl Model for List {
 }
 
 impl Clone for List {
-    ghost use Rattle.std.specs.Prelude.{◌≡◌};
-
     ghost is_clone = { λ list copy. copy ≡ list };
 
     fn clone(&self) -> Result<List, AllocError> {
@@ -94,9 +92,31 @@ impl List {
         ensures value { option_map suffix_value result ≡ suffix_of self.now domain.now }
         ensures slice { IfSome result (λ suffix. HasSubslice domain.now (suffix_value suffix).text) }
     {
+        let (count, is_known) = self.prevailing(domain);
+        suffix_by(domain, count, is_known)
+    }
+
+    /// Returns the registrable domain of `domain` as a slice of it: the public suffix and the label
+    /// before it. Returns `None` if `domain` is itself a public suffix, by whatever rule, or is
+    /// empty or a single dot.
+    ///
+    /// The public suffix is that of [`suffix`](Self::suffix).
+    pub fn registrable_domain<'d>(&self, domain: &'d str) -> Option<&'d str>
+        ensures { option_map (λ text. text.now) result ≡ registrable_domain self.now domain.now }
+    {
+        let (count, _) = self.prevailing(domain);
+        registrable_by(domain, count)
+    }
+
+    // Returns the number of labels of the public suffix of `domain`, and whether a rule of the list
+    // matched.
+    fn prevailing(&self, domain: &str) -> (usize, bool)
+        ensures count { result.0 ≡ (prevailing self.now (labels_of (without_final_dot domain.now))).count }
+        ensures is_known { result.1 ≡ (prevailing self.now (labels_of (without_final_dot domain.now))).is_known }
+    {
         let exception = tree::longest(&self.root, true, bare(domain));
         let rule = tree::longest(&self.root, false, bare(domain));
-        suffix_by(domain, exception, rule)
+        prevailing_count(exception, rule)
     }
 
     // Adds the rule of line `number`, if it has one.

@@ -1,8 +1,8 @@
 //! The public suffix of a domain.
-ghost use Rattle.std.specs.Prelude.{◌≡◌, ◌++◌, true, false, length, drop, IfSome, option_map};
+ghost use Rattle.std.specs.Prelude.{◌≡◌, drop, IfSome, option_map};
 ghost use Rattle.std.specs.Str.{IsCharBoundary};
 ghost use Rattle.std.specs.Str.Iter.{HasSubslice};
-ghost use Rattle.cookie_psl.specs.Rules.{by_exception, by_rule, labels_of, last_labels, longest, suffix_of, without_final_dot, RuleList};
+ghost use Rattle.cookie_psl.specs.Rules.{by_exception, by_rule, ending, labels_of, last_labels, prevailing, registrable_domain, suffix_of, without_final_dot, RuleList};
 ghost use Rattle.cookie_psl.specs.Views.{suffix_value};
 
 /// The public suffix of a domain, a slice of it.
@@ -29,24 +29,30 @@ impl<'d> Suffix<'d> {
     }
 }
 
-/// Returns the public suffix of `domain`. `exception` and `rule` are the numbers of labels of the
-/// longest matching exception and of the longest other matching rule.
-pub(crate) fn suffix_by(
-    domain: &str,
-    exception: Option<usize>,
-    rule: Option<usize>,
-) -> Option<Suffix<'_>>
-    ensures value { (rules : RuleList) → exception ≡ longest true rules (labels_of (without_final_dot domain.now)) → rule ≡ longest false rules (labels_of (without_final_dot domain.now)) → option_map suffix_value result ≡ suffix_of rules domain.now }
+/// Returns the last `count` labels of `domain` as its public suffix, or `None` if it has none.
+pub(crate) fn suffix_by(domain: &str, count: usize, is_known: bool) -> Option<Suffix<'_>>
+    ensures value { (rules : RuleList) → count ≡ (prevailing rules (labels_of (without_final_dot domain.now))).count
+        → is_known ≡ (prevailing rules (labels_of (without_final_dot domain.now))).is_known → option_map suffix_value result ≡ suffix_of rules domain.now }
     ensures slice { IfSome result (λ suffix. HasSubslice domain.now (suffix_value suffix).text) }
 {
     if bare(domain).is_empty() {
         return None;
     }
-    let (count, is_known) = prevailing_count(exception, rule);
     Some(Suffix {
         text: from_labels(domain, count),
         is_known,
     })
+}
+
+/// Returns the last `count + 1` labels of `domain`, or `None` if it has no more than `count`.
+pub(crate) fn registrable_by(domain: &str, count: usize) -> Option<&str>
+    ensures { (rules : RuleList) → count ≡ (prevailing rules (labels_of (without_final_dot domain.now))).count
+        → option_map (λ text. text.now) result ≡ registrable_domain rules domain.now }
+{
+    if from_labels(domain, count) == domain {
+        return None;
+    }
+    Some(from_labels(domain, count.saturating_add(1)))
 }
 
 /// Returns the domain without one trailing dot.
@@ -56,8 +62,10 @@ pub(crate) fn bare(domain: &str) -> &str
     domain.strip_suffix('.').unwrap_or(domain)
 }
 
-// Returns the number of labels of the suffix, and whether a rule of the list matched.
-fn prevailing_count(exception: Option<usize>, rule: Option<usize>) -> (usize, bool)
+/// Returns the number of labels of the suffix, and whether a rule of the list matched. `exception`
+/// and `rule` are the numbers of labels of the longest matching exception and of the longest other
+/// matching rule.
+pub(crate) fn prevailing_count(exception: Option<usize>, rule: Option<usize>) -> (usize, bool)
     ensures count { result.0 ≡ (by_exception exception (by_rule rule)).count }
     ensures is_known { result.1 ≡ (by_exception exception (by_rule rule)).is_known }
 {
@@ -70,7 +78,7 @@ fn prevailing_count(exception: Option<usize>, rule: Option<usize>) -> (usize, bo
 
 // Returns the last `count` labels of a domain, with its trailing dot.
 fn from_labels(domain: &str, count: usize) -> &str
-    ensures value { result.now ≡ last_labels count (without_final_dot domain.now) ++ drop (length (without_final_dot domain.now)) domain.now }
+    ensures value { result.now ≡ ending count domain.now }
     ensures slice { HasSubslice domain.now result.now }
 {
     let start = labels_start(bare(domain), count);

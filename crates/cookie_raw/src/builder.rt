@@ -155,8 +155,6 @@ impl RawCookieBuilder {
 }
 
 impl From<RawCookie<'static>> for RawCookieBuilder {
-    ghost use Rattle.std.specs.Prelude.{◌≡◌};
-
     ghost from_gives = { λ raw builder. builder ≡ raw };
 
     fn from(raw: RawCookie<'static>) -> RawCookieBuilder {

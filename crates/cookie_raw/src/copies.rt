@@ -8,8 +8,6 @@ use crate::{Expiration, RawCookie};
 use std::alloc::AllocError;
 
 impl<'a> Clone for RawCookie<'a> {
-    ghost use Rattle.std.specs.Prelude.{◌≡◌};
-
     ghost is_clone = { λ cookie copy. copy ≡ cookie };
 
     fn clone(&self) -> Result<RawCookie<'a>, AllocError> {

@@ -5,7 +5,7 @@ ghost use Rattle.std.specs.List.{position, prefix_len};
 ghost use Rattle.std.specs.Option.{option_copied};
 ghost use Rattle.std.specs.Str.{str_eq_ignore_ascii_case};
 ghost use Rattle.cookie_words.specs.Moments.{moment_of};
-ghost use Rattle.cookie_raw.specs.CookieDate.{is_delimiter, number_at, after_colon, time_of, day_of, month_names, month_of, full_year, year_of, moment_of_parts, cookie_date};
+ghost use Rattle.cookie_raw.specs.CookieDate.{is_delimiter, number_at, after_colon, time_of, day_of, month_names, month_of, full_year, year_of, moment_of_parts, cookie_date, DateParts, TimeParts};
 ghost use Rattle.cookie_raw.specs.DateSteps.{with_token};
 
 use cookie_words::{calendar_date, clock_time, digits_value};
@@ -54,9 +54,6 @@ struct Found {
 }
 
 impl Model for Found {
-    ghost use Rattle.std.specs.Prelude.{◌<◌, IfSome};
-    ghost use Rattle.cookie_raw.specs.CookieDate.{DateParts};
-
     ghost Value = { DateParts };
 
     ghost view = { λ found. record {
@@ -123,9 +120,6 @@ struct TimeOfDay {
 }
 
 impl Model for TimeOfDay {
-    ghost use Rattle.std.specs.Prelude.{◌<◌};
-    ghost use Rattle.cookie_raw.specs.CookieDate.{TimeParts};
-
     ghost Value = { TimeParts };
 
     ghost view = { λ time. record { hour = time.hour; minute = time.minute; second = time.second } };

@@ -1,5 +1,5 @@
 //! Printing a raw cookie as a Set-Cookie header value, RFC 6265 4.1.1.
-ghost use Rattle.std.specs.Prelude.{◌≡◌, ◌-◌, ◌<◌, ◌++◌, false, [], codes, get_or, pos, ◌≤ℤ◌, unsigned_abs, option_map, option_and_then, unwrap_or, None, IfOk, string_bytes};
+ghost use Rattle.std.specs.Prelude.{◌≡◌, ◌-◌, ◌<◌, ◌++◌, false, [], codes, get_or, pos, ◌≤ℤ◌, unsigned_abs, option_map, option_and_then, unwrap_or, None, IfOk, string_bytes, Some};
 ghost use Rattle.std.specs.Fmt.{WritesOnOk, WritesStyledOnOk};
 ghost use Rattle.std.specs.Option.{option_copied};
 ghost use Rattle.jiff.specs.Words.{signed_nanos, monday_zero, weekday_of, IsBetween};
@@ -292,9 +292,6 @@ impl<'a> RawCookie<'a> {
 /// Prints what [`to_text`](RawCookie::to_text) returns. A width and other format options have no
 /// effect.
 impl<'a> fmt::Display for RawCookie<'a> {
-    ghost use Rattle.std.specs.Prelude.{Some};
-    ghost use Rattle.cookie_raw.specs.CookieText.{cookie_text};
-
     ghost output = { λ cookie. Some (cookie_text cookie) };
 
     ghost styled_output = { λ cookie _. Some (cookie_text cookie) };

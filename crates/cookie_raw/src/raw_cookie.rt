@@ -5,7 +5,9 @@ ghost use Rattle.std.specs.Option.{option_copied};
 ghost use Rattle.jiff.specs.Words.{signed_nanos};
 ghost use Rattle.cookie_raw.specs.Reading.{reading, pair_of, attributes, attributes_after, has_equals, name_of, value_of};
 ghost use Rattle.cookie_raw.specs.Slices.{HasSlices};
-ghost use Rattle.cookie_raw.specs.Views.{expires_value};
+ghost use Rattle.cookie_raw.specs.Views.{expires_value, max_age_nanos};
+ghost use Rattle.cookie_words.specs.Texts.{without_dot};
+ghost use Rattle.cookie_raw.specs.Raw.{Raw};
 
 use crate::attributes::Attributes;
 use crate::max_age::MaxAge;
@@ -35,12 +37,6 @@ pub struct RawCookie<'a> {
 }
 
 impl<'a> Model for RawCookie<'a> {
-    ghost use Rattle.std.specs.Prelude.{option_map};
-    ghost use Rattle.std.specs.Cow.{cow_str_bytes};
-    ghost use Rattle.cookie_words.specs.Texts.{without_dot};
-    ghost use Rattle.cookie_raw.specs.Raw.{Raw};
-    ghost use Rattle.cookie_raw.specs.Views.{expires_value, max_age_nanos};
-
     ghost Value = { Raw };
 
     ghost view = { λ c. record {

@@ -6,8 +6,8 @@ use Rattle.std.proofs.lemmas.Bool.{cases_Bool}
 use Rattle.std.proofs.lemmas.List.Sorted.{IsPermutation-refl, IsPermutation-trans, IsPermutation-cons, IsPermutation-sym, IsPermutation-middle}
 use Rattle.cookie_laws.specs.Contents.{HasCreationOrder, contents_of}
 use Rattle.cookie_laws.specs.Rows.{Key, differ, same_key, same_key_equiv}
-use Rattle.cookie_rows.specs.Items.{ItemGroups, AreItems, place, by_number, numbered, creation_order, rows_in_order}
-use Rattle.cookie_rows.proofs.Made.{keys_differ, keys_groups}
+use Rattle.cookie_rows.specs.Items.{ItemGroups, AreItems, place, by_number, numbered, creation_order, groups_in_order}
+use Rattle.cookie_rows.proofs.Created.{keys_differ, keys_groups}
 
 -- keys without their numbers
 abbrev keys_of : List (Key × ℕ) → List Key
@@ -53,8 +53,8 @@ differ_order (x ∷ xs) = grind (arith, differ_place x (by_number xs), any_order
     any_order key (x ∷ xs) = grind (arith, any_key key x (by_number xs), any_order key xs)
 
 -- the rows of groups and their keys
-pub made_once : (n : ℕ) (gs : ItemGroups) → AreItems n gs → HasCreationOrder (contents_of (rows_in_order gs) None None)
-made_once n gs a = (
+pub created_once : (n : ℕ) (gs : ItemGroups) → AreItems n gs → HasCreationOrder (contents_of (groups_in_order gs) None None)
+created_once n gs a = (
   subst (λ keys. IsPermutation keys (creation_order gs)) (sym (keys_groups gs a.0.1)) (order_moved (numbered gs)),
   differ_order (numbered gs) ∙ keys_differ gs a.0 a.1,
 )

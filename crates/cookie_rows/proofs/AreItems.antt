@@ -5,12 +5,12 @@ use Rattle.std.specs.List.{AllByRecursion}
 use Rattle.cookie_parts.specs.Cookie.{Row, expired_row}
 use Rattle.cookie_laws.specs.Rows.{Key, key_of, same_key, has_key, are_rows, row_of, put, add_created, changed, removed, differ}
 use Rattle.cookie_lookup.specs.Groups.{flat, flat_paths, AreGroups, Filled}
-use Rattle.cookie_rows.specs.Items.{Item, ItemGroups, ItemPaths, AreItems, Below, bare, bare_paths, rows_in_order, by_number, creation_order, put_items, expire_items, remove_items, find_items, rows_of}
+use Rattle.cookie_rows.specs.Items.{Item, ItemGroups, ItemPaths, AreItems, Below, bare, bare_paths, groups_in_order, by_number, creation_order, put_items, expire_items, remove_items, find_items, rows_of}
 use Rattle.cookie_rows.proofs.Bare.{bare_put, bare_expire, bare_remove, bare_found}
 use Rattle.cookie_rows.proofs.FoundRows.{found_in_groups, expired_in_groups, removed_in_groups}
 use Rattle.cookie_rows.proofs.RowsInOrder.{groups_put, groups_expired, groups_removed}
-use Rattle.cookie_rows.proofs.KeptOrder.{are_rows-put, are_rows-expired_row}
-use Rattle.cookie_rows.proofs.Made.{made_put, below_put, differ_put, numbered_expire, made_remove, below_remove, differ_remove, stays_numbered}
+use Rattle.cookie_rows.proofs.SameOrder.{are_rows-put, are_rows-expired_row}
+use Rattle.cookie_rows.proofs.Created.{created_put, below_put, differ_put, numbered_expire, created_remove, below_remove, differ_remove, stays_numbered}
 use Rattle.cookie_rows.proofs.Puts.{put_in_groups}
 use Rattle.cookie_rows.proofs.Removed.{are_rows-removed}
 
@@ -27,8 +27,8 @@ module _ (n : ℕ) (gs : ItemGroups) (a : AreItems n gs) where
     rows_put = ap flat (bare_put row n gs) ∙ sym (put_in_groups row (bare gs) a.0)
 
     -- the rows and the keys
-    pub kept_put : rows_in_order (put_items row n gs) ≡ record { rows = put (flat (bare gs)) row; created = add_created (creation_order gs) (key_of row) }
-    kept_put = λ i. record { rows = rows_put i; created = made_put row n gs a.0 a.2 i }
+    pub kept_put : groups_in_order (put_items row n gs) ≡ record { rows = put (flat (bare gs)) row; created = add_created (creation_order gs) (key_of row) }
+    kept_put = λ i. record { rows = rows_put i; created = created_put row n gs a.0 a.2 i }
 
     -- the numbers are below the next count
     below_next : (next : ℕ) → (next ≡ n + 1) ⊎ ((next ≡ n) × (find_items (key_of row) gs ≢ None)) → Below next (put_items row n gs)
@@ -56,7 +56,7 @@ module _ (n : ℕ) (gs : ItemGroups) (a : AreItems n gs) where
     rows_expired = ap flat (bare_expire key gs) ∙ sym (expired_in_groups key (bare gs) a.0)
 
     -- the rows and the keys
-    pub kept_expired : rows_in_order (expire_items key gs) ≡ record (rows_in_order gs) { rows = changed (has_key key) expired_row (flat (bare gs)) }
+    pub kept_expired : groups_in_order (expire_items key gs) ≡ record (groups_in_order gs) { rows = changed (has_key key) expired_row (flat (bare gs)) }
     kept_expired = λ i. record { rows = rows_expired i; created = map (λ x. x.0) (by_number (numbered_expire key gs i)) }
 
     -- the groups
@@ -75,8 +75,8 @@ module _ (n : ℕ) (gs : ItemGroups) (a : AreItems n gs) where
     rows_removed = ap flat (bare_remove key gs) ∙ sym (removed_in_groups key (bare gs) a.0)
 
     -- the rows and the keys
-    pub kept_removed : rows_in_order (remove_items key gs) ≡ record { rows = removed (has_key key) (flat (bare gs)); created = removed (same_key key) (creation_order gs) }
-    kept_removed = λ i. record { rows = rows_removed i; created = made_remove key gs a.0 a.1 i }
+    pub kept_removed : groups_in_order (remove_items key gs) ≡ record { rows = removed (has_key key) (flat (bare gs)); created = removed (same_key key) (creation_order gs) }
+    kept_removed = λ i. record { rows = rows_removed i; created = created_remove key gs a.0 a.1 i }
 
     -- the groups
     pub items_removed : AreItems n (remove_items key gs)

@@ -15,11 +15,11 @@ use Rattle.cookie_rows.specs.Eviction.{is_filled, filter_paths, paths_of}
 use Rattle.cookie_rows.proofs.Bare.{viewed_texts}
 use Rattle.cookie_rows.proofs.ByNumber.{all_map, all_ordered}
 use Rattle.cookie_rows.proofs.RowsInOrder.{differ_lessened, all_lessened}
-use Rattle.cookie_rows.proofs.KeptOrder.{are_keys}
-use Rattle.cookie_rows.proofs.Made.{texts_differ}
+use Rattle.cookie_rows.proofs.SameOrder.{are_keys}
+use Rattle.cookie_rows.proofs.Created.{texts_differ}
 use Rattle.cookie_rows.proofs.Members.{absent}
 use Rattle.cookie_rows.proofs.Removed.{begins-rest}
-use Rattle.cookie_rows.proofs.StandTogether.{begins, together-parts, together-from}
+use Rattle.cookie_rows.proofs.Adjacent.{begins, together-parts, together-from}
 
 -- what holds of each item
 
@@ -199,8 +199,8 @@ paths_domain d [] = tt
 paths_domain d (p ∷ ps) = all_append (λ (x : Key × ℕ). x.0.domain ≡ d) (numbered_names d p.0 p.1) (numbered_paths d ps) (names_domain d p.0 p.1) (paths_domain d ps)
 
 -- and so they are in order
-pub made_domain : (d : List ℕ) (ps : ItemPaths) → AllByRecursion (λ k. k.domain ≡ d) (map (λ x. x.0) (by_number (numbered_paths d ps)))
-made_domain d ps =
+pub created_domain : (d : List ℕ) (ps : ItemPaths) → AllByRecursion (λ k. k.domain ≡ d) (map (λ x. x.0) (by_number (numbered_paths d ps)))
+created_domain d ps =
     all_to_map (λ (x : Key × ℕ). x.0) (λ k. k.domain ≡ d) (by_number (numbered_paths d ps)) (all_ordered (λ x. x.0.domain ≡ d) (numbered_paths d ps) (paths_domain d ps))
 
 -- a key of another domain is none of them
@@ -253,7 +253,7 @@ module _ (key : Key) where
       ]
 
   -- and so are those in creation order
-  pub made_near : FilterKeepsOrder → (gs : ItemGroups) → AreGroups (bare gs) → filter (same_domain key) (creation_order gs) ≡ map (λ x. x.0) (by_number (numbered_paths key.domain (paths_of key.domain gs)))
-  made_near ordered gs a =
+  pub created_near : FilterKeepsOrder → (gs : ItemGroups) → AreGroups (bare gs) → filter (same_domain key) (creation_order gs) ≡ map (λ x. x.0) (by_number (numbered_paths key.domain (paths_of key.domain gs)))
+  created_near ordered gs a =
       sym (map-filter (λ (x : Key × ℕ). x.0) (same_domain key) (by_number (numbered gs)))
       ∙ ap (map (λ x. x.0)) (sym (ordered is_near (numbered gs)) ∙ ap by_number (numbered_near gs (texts_differ gs a).0))

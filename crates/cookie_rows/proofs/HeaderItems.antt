@@ -24,9 +24,9 @@ use Rattle.cookie_laws.specs.Rows.{Key, differ, key_at, key_of, same_key, same_k
 use Rattle.cookie_lookup.specs.Groups.{ArePaths, Filled, HasDomainAndPath, flat}
 use Rattle.cookie_lookup.specs.SearchView.{RowPosition, given_positions, list_of, rows_at, under}
 use Rattle.cookie_rows.specs.HeaderItems.{item_order, items_at}
-use Rattle.cookie_rows.specs.Items.{AreItems, Item, ItemGroups, ItemPaths, bare, bare_paths, by_number, rows_in_order, creation_order, numbered, numbered_names, numbered_paths, place, rows_of}
+use Rattle.cookie_rows.specs.Items.{AreItems, Item, ItemGroups, ItemPaths, bare, bare_paths, by_number, groups_in_order, creation_order, numbered, numbered_names, numbered_paths, place, rows_of}
 use Rattle.cookie_rows.proofs.ByNumber.{all_map, all_ordered, all_place, any_ordered}
-use Rattle.cookie_rows.proofs.Made.{keys_differ}
+use Rattle.cookie_rows.proofs.Created.{keys_differ}
 use Rattle.cookie_rows.proofs.AreCreationKeys.{differ_order}
 use Rattle.cookie_rows.proofs.Places.{bare_rows}
 
@@ -127,7 +127,7 @@ no_later (z ∷ zs) up d x y p q below = elim (cases_Bool (same_key x.0 z.0)) [
     is_false true h = absurd (h refl)
     is_false false h = refl
 
--- what is sorted by what is seen of it
+-- sorting by a view
 
 sorted_map : {A B : Type 0} (see : A → B) (before : B → B → Bool) (xs : List A) → IsSortedBy (λ a b. before (see a) (see b)) xs → IsSortedBy before (map see xs)
 sorted_map see before [] up k d low high = absurd (omega (arith, high))
@@ -290,7 +290,7 @@ module _ (gs : ItemGroups) where
       → flat_map (rows_at (bare gs)) (given_positions url now (bare gs)) ≡ given url now (flat (bare gs))
       → (items sorted : List Item) → items ≡ flat_map (items_at gs) (given_positions url now (bare gs))
       → IsPermutation items sorted → IsSorted item_order sorted
-      → InHeaderOrder url now (contents_of (rows_in_order gs) None None) (rows_of sorted)
+      → InHeaderOrder url now (contents_of (groups_in_order gs) None None) (rows_of sorted)
   sorted_in_order n are url now rows items sorted found moved up =
       let all = ap rows_of found ∙ rows_at_positions (given_positions url now (bare gs)) ∙ rows in
       let among = subst (AllByRecursion (IsIn (numbered gs))) (sym found) (all_in are.0.1 (given_positions url now (bare gs))) in (

@@ -12,11 +12,11 @@ use Rattle.cookie_laws.specs.Contents.{has_expired}
 use Rattle.cookie_laws.specs.Rows.{Key, key_at, key_of, same_key, same_key_equiv, row_of, differ, are_rows}
 use Rattle.cookie_lookup.specs.Groups.{flat, flat_paths, HasDomainAndPath, Filled, ArePaths}
 use Rattle.cookie_rows.specs.Groups.{unless_empty, lessened_at}
-use Rattle.cookie_rows.specs.Items.{Item, ItemPaths, ItemGroups, AreItems, rows_of, bare_paths, bare, numbered_paths, numbered, by_number, creation_order, rows_in_order}
+use Rattle.cookie_rows.specs.Items.{Item, ItemPaths, ItemGroups, AreItems, rows_of, bare_paths, bare, numbered_paths, numbered, by_number, creation_order, groups_in_order}
 use Rattle.cookie_rows.specs.Eviction.{is_filled, filter_paths, paths_of}
 use Rattle.cookie_rows.proofs.ByNumber.{all_map}
 use Rattle.cookie_rows.proofs.FilteredGroups.{FilterKeepsOrder, all_any, all_append, all_both, all_filter, all_from_map, all_parts, all_to_map, are_rows-filter, differ-filter, filter_all, groups_passing, map-filter}
-use Rattle.cookie_rows.proofs.Made.{texts_differ}
+use Rattle.cookie_rows.proofs.Created.{texts_differ}
 use Rattle.cookie_rows.proofs.Members.{absent}
 
 -- what holds of each item
@@ -306,15 +306,15 @@ module _ (n : ℕ) (gs : ItemGroups) (a : AreItems n gs) (d : List ℕ) (test : 
       groups_left (λ (x : Key × ℕ). not (leaves x.0)) test (λ e p x. (key_at e p x.row.raw.name, x.number)) d gs (texts_differ gs a.0).0 survives
 
   -- the keys in creation order
-  pub made_left : FilterKeepsOrder → creation_order (lessened_at (filter_paths test) d gs) ≡ filter (λ key. not (leaves key)) (creation_order gs)
-  made_left ordered =
+  pub created_left : FilterKeepsOrder → creation_order (lessened_at (filter_paths test) d gs) ≡ filter (λ key. not (leaves key)) (creation_order gs)
+  created_left ordered =
       ap (λ xs. map (λ x. x.0) (by_number xs)) numbered_left
       ∙ ap (map (λ x. x.0)) (ordered (λ x. not (leaves x.0)) (numbered gs))
       ∙ map-filter (λ (x : Key × ℕ). x.0) (λ key. not (leaves key)) (by_number (numbered gs))
 
   -- the rows and the keys
-  pub kept_left : FilterKeepsOrder → rows_in_order (lessened_at (filter_paths test) d gs) ≡ record { rows = filter (λ row. not (leaves (key_of row))) (flat (bare gs)); created = filter (λ key. not (leaves key)) (creation_order gs) }
-  kept_left ordered = λ i. record { rows = rows_left i; created = made_left ordered i }
+  pub kept_left : FilterKeepsOrder → groups_in_order (lessened_at (filter_paths test) d gs) ≡ record { rows = filter (λ row. not (leaves (key_of row))) (flat (bare gs)); created = filter (λ key. not (leaves key)) (creation_order gs) }
+  kept_left ordered = λ i. record { rows = rows_left i; created = created_left ordered i }
 
   -- the groups
   pub items_left : AreItems n (lessened_at (filter_paths test) d gs)

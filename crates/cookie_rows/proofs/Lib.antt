@@ -1,3 +1,4 @@
+pub mod Adjacent
 pub mod AfterLast
 pub mod AreCreationKeys
 pub mod AreItems
@@ -7,16 +8,15 @@ pub mod Built
 pub mod ByNumber
 pub mod ChosenRank
 pub mod Copies
-pub mod Entered
+pub mod Created
 pub mod Eviction
 pub mod FilteredGroups
 pub mod Flat
 pub mod FoundRows
 pub mod HeaderItems
+pub mod Inserted
 pub mod Joined
-pub mod KeptOrder
 pub mod LeftItems
-pub mod Made
 pub mod Maps
 pub mod Members
 pub mod Named
@@ -29,6 +29,6 @@ pub mod RankOrder
 pub mod Removed
 pub mod Results
 pub mod RowsInOrder
-pub mod StandTogether
+pub mod SameOrder
 pub mod StoredThenEvicted
 pub mod UnexpiredItems

@@ -5,8 +5,8 @@ use Rattle.std.specs.Cmp.{IsEquivalence}
 use Rattle.std.proofs.lemmas.Bool.{cond_both, and_parts, and_from}
 use Rattle.cookie_parts.specs.Cookie.{Row}
 use Rattle.cookie_laws.specs.Rows.{Key, key_of, same_key, has_key, removed, differ, are_adjacent, are_rows, same_domain_equiv, same_group_equiv}
-use Rattle.cookie_rows.proofs.StandTogether.{begins, begins_congr, together-parts, together-from}
-use Rattle.cookie_rows.proofs.KeptOrder.{are_keys}
+use Rattle.cookie_rows.proofs.Adjacent.{begins, begins_congr, together-parts, together-from}
+use Rattle.cookie_rows.proofs.SameOrder.{are_keys}
 
 -- a function at each item
 map-removed : {A B : Type 0} (f : A → B) (test : B → Bool) (xs : List A) → map f (removed (λ x. test (f x)) xs) ≡ removed test (map f xs)

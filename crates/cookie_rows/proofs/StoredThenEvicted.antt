@@ -284,9 +284,9 @@ module _ (row : Row) (n : ℕ) where
         (changed_put (λ ps. moved_to_end_if is_single row.path.text (filter_paths test ps)) (put_item_paths row n) (λ ps. put_item_paths row n (filter_paths test ps)) (domain_text row.domain) gs (put_passing [] refl refl) (left_later gs d.1 none))
 
     -- which is what entering does
-    pub entered_is : (gs : ItemGroups) → TextsDiffer gs → find_items (key_of row) gs ≡ None
+    pub inserted_is : (gs : ItemGroups) → TextsDiffer gs → find_items (key_of row) gs ≡ None
         → insert_in_domains test row n gs ≡ put_items row n (lessened_at (filter_paths test) (domain_text row.domain) gs)
-    entered_is gs d none =
+    inserted_is gs d none =
         let move_single_to_end = λ (ps : ItemPaths). moved_to_end_if is_single row.path.text (filter_paths test ps) in
         let any = at_any (λ xs. insert_in_paths test row n xs ≡ move_single_to_end (put_item_paths row n xs)) (λ xs. refl) (domain_text row.domain) gs in
         ap (moved_to_end_if is_single_paths (domain_text row.domain)) (changed_put move_single_to_end (put_item_paths row n) (insert_in_paths test row n) (domain_text row.domain) gs refl any)

@@ -10,18 +10,17 @@ use Rattle.std.proofs.lemmas.List.Elements.{filter-append}
 use Rattle.std.proofs.lemmas.Map.Steps.{length-le_from_distinct_below}
 use Rattle.cookie_words.specs.Moments.{Moment}
 use Rattle.cookie_parts.specs.Cookie.{Row, is_expired}
-use Rattle.cookie_laws.specs.Contents as Store
-use Rattle.cookie_laws.specs.Contents.{contents_of, has_expired, unexpired}
+use Rattle.cookie_laws.specs.Contents.{contents_of, has_expired, unexpired, rows_in_order}
 use Rattle.cookie_laws.specs.Rows.{Key, are_rows, differ, is_unexpired, key_at, key_of, unexpired_rows}
 use Rattle.cookie_lookup.specs.Groups.{ArePaths, AreGroups, flat}
 use Rattle.cookie_rows.specs.Groups.{texts_of}
-use Rattle.cookie_rows.specs.Items.{AreItems, Item, ItemGroups, ItemPaths, bare, bare_paths, by_number, rows_in_order, creation_order, numbered, rows_of}
+use Rattle.cookie_rows.specs.Items.{AreItems, Item, ItemGroups, ItemPaths, bare, bare_paths, by_number, groups_in_order, creation_order, numbered, rows_of}
 use Rattle.cookie_rows.specs.Eviction.{is_filled, filter_paths, filter_groups, survives, rank_of}
 use Rattle.cookie_rows.proofs.Bare.{viewed_texts}
 use Rattle.cookie_rows.proofs.StoredThenEvicted.{changed_retained}
 use Rattle.cookie_rows.proofs.FilteredGroups.{all_any, all_filter, are_rows-filter, differ-filter, map-filter, paths_passing}
 use Rattle.cookie_rows.proofs.LeftItems.{Each, each_in_any, each_map, has_expired_item, listed, listed_in, paths_left, rows_listed}
-use Rattle.cookie_rows.proofs.Made.{keys_groups}
+use Rattle.cookie_rows.proofs.Created.{keys_groups}
 use Rattle.cookie_rows.proofs.RankOrder.{before_tests}
 use Rattle.cookie_rows.proofs.Eviction.{distinct_from_differ, ordered_filtered}
 
@@ -160,15 +159,15 @@ module _ (n : ℕ) (gs : ItemGroups) (a : AreItems n gs) where
         groups_left (survives now (true, 0)) (λ (x : Key × ℕ). key_stays x.0) (λ d p x. (key_at d p x.row.raw.name, x.number)) gs each
 
     -- the keys in creation order
-    made_left : creation_order left ≡ filter key_stays (creation_order gs)
-    made_left =
+    created_left : creation_order left ≡ filter key_stays (creation_order gs)
+    created_left =
         ap (λ xs. map (λ x. x.0) (by_number xs)) numbered_left
         ∙ ap (map (λ x. x.0)) (ordered_filtered (λ x. key_stays x.0) (numbered gs))
         ∙ map-filter (λ (x : Key × ℕ). x.0) key_stays (by_number (numbered gs))
 
     -- the rows and the keys
-    pub kept_unexpired : rows_in_order left ≡ Store.rows_in_order (unexpired now (contents_of (rows_in_order gs) None None))
-    kept_unexpired = λ i. record { rows = rows_left i; created = made_left i }
+    pub kept_unexpired : groups_in_order left ≡ rows_in_order (unexpired now (contents_of (groups_in_order gs) None None))
+    kept_unexpired = λ i. record { rows = rows_left i; created = created_left i }
 
     -- the groups
     pub items_unexpired : AreItems n left

@@ -142,5 +142,5 @@ abbrev pub AreItems : ℕ → ItemGroups → Type 0
 AreItems n groups = AreGroups (bare groups) × IsTrue (are_rows (flat (bare groups))) × Below n groups × NumbersDiffer groups
 
 -- their rows as one list, and the keys in creation order
-abbrev pub rows_in_order : ItemGroups → RowsInOrder
-rows_in_order groups = record { rows = flat (bare groups); created = creation_order groups }
+abbrev pub groups_in_order : ItemGroups → RowsInOrder
+groups_in_order groups = record { rows = flat (bare groups); created = creation_order groups }

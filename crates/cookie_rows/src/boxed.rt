@@ -21,8 +21,6 @@ struct Numbered {
 }
 
 impl Clone for Numbered {
-    ghost use Rattle.std.specs.Prelude.{◌≡◌};
-
     ghost is_clone = { λ numbered copy. copy ≡ numbered };
 
     fn clone(&self) -> Result<Numbered, AllocError> {
@@ -48,8 +46,6 @@ impl Model for BoxedCookie {
 }
 
 impl Clone for BoxedCookie {
-    ghost use Rattle.std.specs.Prelude.{◌≡◌};
-
     ghost is_clone = { λ boxed copy. copy ≡ boxed };
 
     fn clone(&self) -> Result<BoxedCookie, AllocError> {

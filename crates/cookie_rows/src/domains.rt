@@ -11,7 +11,6 @@ ghost use Rattle.cookie_rows.specs.Eviction.{is_single_paths, filter_paths, filt
 use crate::boxed::BoxedCookie;
 use crate::hashing::HashKey;
 use crate::paths::Paths;
-use crate::texts::{domain_text, path_text};
 use cookie_parts::Cookie;
 use indexmap::IndexMap;
 use jiff::civil::DateTime;
@@ -37,7 +36,7 @@ fn entry_of(alloc: Global, row: BoxedCookie) -> Result<(String, Paths), AllocErr
     ensures domain { IfOk result (λ entry. string_bytes entry.0 ≡ domain_text row.row.domain) }
     ensures group { IfOk result (λ entry. entry.1 ≡ put_item_paths row.row row.number []) }
 {
-    let domain = String::from_str(alloc, domain_text(row.cookie()))?;
+    let domain = String::from_str(alloc, row.cookie().domain.as_str())?;
     let group = Paths::of_one(alloc, row)?;
     Ok((domain, group))
 }
@@ -47,7 +46,7 @@ pub(crate) fn replace_row(groups: &mut IndexMap<String, Paths, HashKey>, cookie:
     requires stored { find_items (key_of cookie) (texts_of groups.old.entries) ≢ None }
     ensures { (number : ℕ) → texts_of groups.new.entries ≡ put_items cookie.entry number (texts_of groups.old.entries) }
 {
-    match groups.get_mut(domain_text(&cookie)) {
+    match groups.get_mut(cookie.domain.as_str()) {
         Some(group) => group.replace(cookie),
         None => {}
     }
@@ -64,7 +63,7 @@ pub(crate) fn add_row(
 {
     let alloc = *groups.allocator();
     let hash_key = *groups.hasher();
-    match groups.get_mut(domain_text(row.cookie())) {
+    match groups.get_mut(row.cookie().domain.as_str()) {
         Some(group) => group.add(alloc, hash_key, row),
         None => {
             let (domain, group) = entry_of(alloc, row)?;
@@ -90,7 +89,7 @@ pub(crate) fn insert_row_within_limit(
 {
     let alloc = *groups.allocator();
     let hash_key = *groups.hasher();
-    let domain = String::from_str(alloc, domain_text(row.cookie()))?;
+    let domain = String::from_str(alloc, row.cookie().domain.as_str())?;
     let left = match groups.get_mut(domain.as_str()) {
         Some(group) => group.insert_within_limit(alloc, hash_key, row, limit, now)?,
         None => return add_row(groups, row),
@@ -118,8 +117,8 @@ fn move_domain_to_end(groups: &mut IndexMap<String, Paths, HashKey>, domain: &st
 pub(crate) fn expire_row(groups: &mut IndexMap<String, Paths, HashKey>, cookie: &Cookie<'static>)
     ensures { texts_of groups.new.entries ≡ expire_items (key_of cookie.now) (texts_of groups.old.entries) }
 {
-    match groups.get_mut(domain_text(cookie)) {
-        Some(group) => group.expire(path_text(cookie), cookie.name()),
+    match groups.get_mut(cookie.domain.as_str()) {
+        Some(group) => group.expire(cookie.path.as_str(), cookie.name()),
         None => {}
     }
 }

@@ -9,13 +9,12 @@ ghost use Rattle.cookie_laws.specs.Header.{InHeaderOrder};
 ghost use Rattle.cookie_lookup.specs.Groups.{flat};
 ghost use Rattle.cookie_rows.specs.Groups.{texts_of};
 ghost use Rattle.cookie_rows.specs.HeaderItems.{item_order, items_at};
-ghost use Rattle.cookie_rows.specs.Items.{bare, rows_in_order, AreItems};
+ghost use Rattle.cookie_rows.specs.Items.{bare, groups_in_order, AreItems};
 
 use crate::boxed::BoxedCookie;
 use crate::hashing::HashKey;
 use crate::map_search::{given_positions, item_at};
 use crate::paths::Paths;
-use crate::texts::path_text;
 use cookie_lookup::laws;
 use cookie_parts::Cookie;
 use indexmap::IndexMap;
@@ -34,7 +33,7 @@ pub(crate) fn in_header_order<'a>(
 ) -> Result<Vec<&'a Cookie<'static>>, AllocError>
     requires { (n : ℕ) × AreItems n (texts_of groups.now.entries) }
     ensures order { IfOk result (λ cookies. InHeaderOrder url.now (moment_of now)
-        (contents_of (rows_in_order (texts_of groups.now.entries)) None None) (map (λ c. c.now) cookies.items)) }
+        (contents_of (groups_in_order (texts_of groups.now.entries)) None None) (map (λ c. c.now) cookies.items)) }
     ensures memory { OnErr result (given url.now (moment_of now) (flat (bare (texts_of groups.now.entries))) ≢ []) }
 {
     laws::rows_at_positions();
@@ -78,14 +77,14 @@ fn sort(items: &mut Vec<&BoxedCookie>)
 fn compare(a: &BoxedCookie, b: &BoxedCookie) -> Ordering
     ensures { result ≡ item_order a.now b.now }
 {
-    let (path, other) = (path_text(a.cookie()), path_text(b.cookie()));
+    let (path, other) = (a.cookie().path.as_str(), b.cookie().path.as_str());
     match other.len().cmp(&path.len()) {
         Ordering::Equal => a.number().cmp(&b.number()),
         unequal => unequal,
     }
 }
 
-// The cookies of rows.
+// Returns the cookies of rows.
 fn cookies_of<'a>(
     alloc: Global,
     items: &[&'a BoxedCookie],

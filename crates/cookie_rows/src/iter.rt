@@ -1,8 +1,10 @@
 //! Iterators over the cookies of a store.
-ghost use Rattle.std.specs.Prelude.{◌≡◌, ◌<◌, ◌^◌, length};
+ghost use Rattle.std.specs.Prelude.{◌≡◌, ◌<◌, ◌^◌, length, ◌++◌, List};
 ghost use Rattle.cookie_words.specs.Moments.{moment_of};
 ghost use Rattle.cookie_laws.specs.Rows.{unexpired_rows};
-ghost use Rattle.cookie_rows.specs.Items.{all_groups, joined, rows_of};
+ghost use Rattle.cookie_rows.specs.Items.{all_groups, joined, rows_of, Item};
+ghost use Rattle.std.specs.Slice.Iter.{iter_rest};
+ghost use Rattle.cookie_parts.specs.Cookie.{Row};
 
 use crate::boxed::BoxedCookie;
 use crate::names::Names;
@@ -20,10 +22,6 @@ struct Groups<'a> {
 }
 
 impl<'a> Model for Groups<'a> {
-    ghost use Rattle.std.specs.Prelude.{◌++◌, List};
-    ghost use Rattle.std.specs.Slice.Iter.{iter_rest};
-    ghost use Rattle.cookie_rows.specs.Items.{all_groups, Item};
-
     ghost Value = { List (List Item) };
 
     ghost view = { λ iter. iter_rest iter.paths ++ all_groups (iter_rest iter.domains) };
@@ -83,11 +81,6 @@ pub struct IterAny<'a> {
 }
 
 impl<'a> Model for IterAny<'a> {
-    ghost use Rattle.std.specs.Prelude.{◌++◌, List};
-    ghost use Rattle.std.specs.Slice.Iter.{iter_rest};
-    ghost use Rattle.cookie_parts.specs.Cookie.{Row};
-    ghost use Rattle.cookie_rows.specs.Items.{joined, rows_of};
-
     ghost Value = { List Row };
 
     ghost view = { λ iter. rows_of (iter_rest iter.rows ++ joined iter.groups) };
@@ -137,11 +130,6 @@ pub struct IterUnexpired<'a> {
 }
 
 impl<'a> Model for IterUnexpired<'a> {
-    ghost use Rattle.std.specs.Prelude.{List};
-    ghost use Rattle.cookie_words.specs.Moments.{moment_of};
-    ghost use Rattle.cookie_parts.specs.Cookie.{Row};
-    ghost use Rattle.cookie_laws.specs.Rows.{unexpired_rows};
-
     ghost Value = { List Row };
 
     ghost view = { λ iter. unexpired_rows (moment_of iter.time) iter.rows };

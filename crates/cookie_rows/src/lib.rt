@@ -17,7 +17,6 @@ mod path_table;
 mod paths;
 mod request;
 mod rows;
-mod texts;
 
 pub use hashing::{HashKey, StoreAlloc};
 pub use iter::{IterAny, IterUnexpired};

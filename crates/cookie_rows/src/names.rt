@@ -1,12 +1,12 @@
 //! The rows of one domain and path, by name.
-ghost use Rattle.std.specs.Prelude.{◌≡◌, ◌≢◌, ◌<◌, ◌+◌, ◌^◌, ◌∷◌, [], ◌==◌, ℕ, filter, length, option_map, slice_get, string_bytes, None, IfOk, IfSome, OnErr, OnOk, false, ◌≤◌};
+ghost use Rattle.std.specs.Prelude.{◌≡◌, ◌≢◌, ◌<◌, ◌+◌, ◌^◌, ◌∷◌, [], ◌==◌, ℕ, filter, length, option_map, slice_get, string_bytes, None, IfOk, IfSome, OnErr, OnOk, false, ◌≤◌, List};
 ghost use Rattle.std.specs.Map.{values_of};
 ghost use Rattle.std.specs.Option.{option_copied};
 ghost use Rattle.std.specs.String.{string_eq};
 ghost use Rattle.indexmap.specs.IndexMap.{spare};
 ghost use Rattle.cookie_words.specs.Moments.{moment_of};
 ghost use Rattle.cookie_rows.specs.Groups.{row_named};
-ghost use Rattle.cookie_rows.specs.Items.{AreNamed, expire_item, put_item, remove_item, rows_of};
+ghost use Rattle.cookie_rows.specs.Items.{AreNamed, expire_item, put_item, remove_item, rows_of, Item};
 ghost use Rattle.cookie_rows.specs.NameMaps.{items_of, HasNames};
 ghost use Rattle.cookie_rows.specs.Eviction.{survives};
 
@@ -35,10 +35,6 @@ pub(crate) struct Names {
 }
 
 impl Model for Names {
-    ghost use Rattle.std.specs.Prelude.{List};
-    ghost use Rattle.cookie_rows.specs.Items.{Item};
-    ghost use Rattle.cookie_rows.specs.NameMaps.{items_of, HasNames};
-
     ghost Value = { List Item };
 
     ghost view = { λ names. items_of names.rows };

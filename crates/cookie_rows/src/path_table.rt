@@ -9,13 +9,12 @@ ghost use Rattle.cookie_rows.specs.Eviction.{is_single, filter_paths, moved_to_e
 use crate::boxed::BoxedCookie;
 use crate::hashing::HashKey;
 use crate::names::Names;
-use crate::texts::path_text;
 use cookie_parts::Cookie;
 use indexmap::IndexMap;
 use jiff::civil::DateTime;
 use std::alloc::{AllocError, Global};
 
-// The group of this path in a table, and its position.
+// Returns the group of this path in a table, and its position.
 pub(crate) fn found_in<'a>(
     groups: &'a IndexMap<String, Names, HashKey>,
     path: &str,
@@ -29,7 +28,7 @@ pub(crate) fn found_in<'a>(
     }
 }
 
-// The path at a position of a table.
+// Returns the path at a position of a table.
 pub(crate) fn text_in(groups: &IndexMap<String, Names, HashKey>, place: usize) -> Option<&str>
     ensures { option_map (λ text. text.now) result ≡ slice_get (map (λ p. p.0) (texts_of groups.now.entries)) place }
 {
@@ -44,7 +43,7 @@ pub(crate) fn replace_in(groups: &mut IndexMap<String, Names, HashKey>, cookie: 
     requires stored { find_item_paths cookie.path.text cookie.raw.name (texts_of groups.old.entries) ≢ None }
     ensures { (number : ℕ) → texts_of groups.new.entries ≡ put_item_paths cookie.entry number (texts_of groups.old.entries) }
 {
-    match groups.get_mut(path_text(&cookie)) {
+    match groups.get_mut(cookie.path.as_str()) {
         Some(group) => group.replace(cookie),
         None => {}
     }
@@ -61,10 +60,10 @@ pub(crate) fn add_in(
     ensures added { OnOk result (texts_of groups.new.entries ≡ put_item_paths row.row row.number (texts_of groups.old.entries)) }
     ensures unchanged { OnErr result (texts_of groups.new.entries ≡ texts_of groups.old.entries) }
 {
-    match groups.get_mut(path_text(row.cookie())) {
+    match groups.get_mut(row.cookie().path.as_str()) {
         Some(group) => group.add(alloc, hash_key, row),
         None => {
-            let path = String::from_str(alloc, path_text(row.cookie()))?;
+            let path = String::from_str(alloc, row.cookie().path.as_str())?;
             groups.insert(path, Names::of_one(row))?;
             Ok(())
         }

@@ -7,7 +7,7 @@ ghost use Rattle.cookie_words.specs.Moments.{moment_of};
 ghost use Rattle.cookie_lookup.specs.SearchView.{group_position, under};
 ghost use Rattle.cookie_rows.specs.PathMaps.{groups_of};
 ghost use Rattle.cookie_rows.specs.HeaderItems.{items_in};
-ghost use Rattle.cookie_rows.specs.Items.{expire_item_paths, find_item_paths, put_item_paths, remove_item_paths};
+ghost use Rattle.cookie_rows.specs.Items.{expire_item_paths, find_item_paths, put_item_paths, remove_item_paths, ItemPaths};
 ghost use Rattle.cookie_rows.specs.Eviction.{is_single, is_single_paths, filter_paths, moved_to_end_if, survives, rank_of, ranks_of, InsertsInPaths, IsFirstSurvivor};
 
 use crate::boxed::BoxedCookie;
@@ -17,7 +17,6 @@ use crate::names::Names;
 use crate::path_table::{
     add_in, expire_in, found_in, move_to_end_in, remove_in, replace_in, retain_in, text_in,
 };
-use crate::texts::path_text;
 use cookie_parts::Cookie;
 use indexmap::IndexMap;
 use jiff::civil::DateTime;
@@ -40,9 +39,6 @@ pub(crate) struct Paths {
 }
 
 impl Model for Paths {
-    ghost use Rattle.cookie_rows.specs.Items.{ItemPaths};
-    ghost use Rattle.cookie_rows.specs.PathMaps.{groups_of};
-
     ghost Value = { ItemPaths };
 
     ghost view = { λ paths. groups_of paths.groups };
@@ -61,7 +57,7 @@ impl Paths {
     pub(crate) fn of_one(alloc: Global, row: BoxedCookie) -> Result<Paths, AllocError>
         ensures { IfOk result (λ paths. paths ≡ put_item_paths row.row row.number []) }
     {
-        let path = String::from_str(alloc, path_text(row.cookie()))?;
+        let path = String::from_str(alloc, row.cookie().path.as_str())?;
         Ok(Paths {
             groups: PathMap::Single(path, Names::of_one(row)),
         })
@@ -191,7 +187,7 @@ impl Paths {
             self.add(alloc, hash_key, row)?;
             return Ok(false);
         };
-        let path = String::from_str(alloc, path_text(row.cookie()))?;
+        let path = String::from_str(alloc, row.cookie().path.as_str())?;
         self.add(alloc, hash_key, row)?;
         self.retain(first, now);
         self.move_single_to_end(path.as_str());
@@ -319,12 +315,12 @@ fn with_row(
     ensures unchanged { OnErr result.1 (groups_of result.0 ≡ groups_of groups) }
 {
     match groups {
-        PathMap::Empty => match String::from_str(alloc, path_text(row.cookie())) {
+        PathMap::Empty => match String::from_str(alloc, row.cookie().path.as_str()) {
             Ok(path) => (PathMap::Single(path, Names::of_one(row)), Ok(())),
             Err(error) => (PathMap::Empty, Err(error)),
         },
         PathMap::Single(path, mut names) => {
-            if path.as_str() == path_text(row.cookie()) {
+            if path.as_str() == row.cookie().path.as_str() {
                 let outcome = names.add(alloc, hash_key, row);
                 (PathMap::Single(path, names), outcome)
             } else {
@@ -367,7 +363,7 @@ fn table_for(
     ensures room { IfOk result (λ created. 2 ≤ spare created.0.value) }
     ensures path { IfOk result (λ created. string_bytes created.1 ≡ row.now.row.path.text) }
 {
-    let path = String::from_str(alloc, path_text(row.cookie()))?;
+    let path = String::from_str(alloc, row.cookie().path.as_str())?;
     let table = IndexMap::with_capacity_and_hasher(alloc, 2, hash_key)?;
     Ok((Box::new(alloc, table)?, path))
 }

@@ -1,6 +1,8 @@
 //! Iterators over the cookies of a request.
-ghost use Rattle.std.specs.Prelude.{◌≡◌, map};
+ghost use Rattle.std.specs.Prelude.{◌≡◌, map, ℕ, List};
 ghost use Rattle.cookie_rows.specs.Requests.{name_and_value};
+ghost use Rattle.std.specs.Vec.Iter.{into_iter_items};
+ghost use Rattle.cookie_raw.specs.Raw.{Raw};
 
 use cookie_parts::Cookie;
 use cookie_raw::RawCookie;
@@ -14,10 +16,6 @@ pub struct RequestValues<'a> {
 }
 
 impl<'a> Model for RequestValues<'a> {
-    ghost use Rattle.std.specs.Prelude.{ℕ, List, map};
-    ghost use Rattle.std.specs.Vec.Iter.{into_iter_items};
-    ghost use Rattle.cookie_rows.specs.Requests.{name_and_value};
-
     ghost Value = { List (List ℕ × List ℕ) };
 
     ghost view = { λ values. map name_and_value (map (λ cookie. cookie.now) (into_iter_items values.cookies)) };
@@ -57,10 +55,6 @@ pub struct RequestCookies<'a> {
 }
 
 impl<'a> Model for RequestCookies<'a> {
-    ghost use Rattle.std.specs.Prelude.{List, map};
-    ghost use Rattle.std.specs.Vec.Iter.{into_iter_items};
-    ghost use Rattle.cookie_raw.specs.Raw.{Raw};
-
     ghost Value = { List Raw };
 
     ghost view = { λ cookies. map (λ cookie. cookie.raw) (map (λ cookie. cookie.now) (into_iter_items cookies.cookies)) };

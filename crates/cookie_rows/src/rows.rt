@@ -9,12 +9,13 @@ ghost use Rattle.cookie_laws.specs.Acceptance.{store_by};
 ghost use Rattle.cookie_laws.specs.Contents.{contents_of, rows_in_order, unexpired, HasCreationOrder};
 ghost use Rattle.cookie_laws.specs.Given.{given};
 ghost use Rattle.cookie_laws.specs.Header.{InHeaderOrder};
-ghost use Rattle.cookie_laws.specs.Rows.{are_rows, changed, has_key, included, key_at, key_of, unexpired_rows, add_created, add_all_created, put, put_all, removed, row_of, same_key};
+ghost use Rattle.cookie_laws.specs.Rows.{are_rows, changed, has_key, included, key_at, key_of, unexpired_rows, add_created, add_all_created, put, put_all, removed, row_of, same_key, RowsInOrder};
 ghost use Rattle.cookie_lookup.specs.SearchView.{domains_found, paths_found};
 ghost use Rattle.cookie_lookup.specs.Candidates.{most_domains, most_paths};
 ghost use Rattle.cookie_rows.specs.Building.{Builds, BuildsAt, FailsFirst, FailsFirstAt, IsNewRow, TakesCookie, ReachesNewRow, ReachesNewRowAt};
 ghost use Rattle.cookie_rows.specs.Groups.{texts_of};
 ghost use Rattle.cookie_rows.specs.Requests.{name_and_value};
+ghost use Rattle.cookie_rows.specs.Items.{AreItems, groups_in_order};
 
 use crate::boxed::BoxedCookie;
 use crate::copying::rehashed_table;
@@ -27,7 +28,6 @@ use crate::iter::{IterAny, IterUnexpired, count_rows};
 use crate::map_search::searched;
 use crate::paths::Paths;
 use crate::request::{RequestCookies, RequestValues};
-use crate::texts::{domain_text, path_text};
 use cookie_lookup::Lookups;
 use cookie_parts::{Cookie, Error};
 use indexmap::IndexMap;
@@ -49,20 +49,14 @@ pub struct Rows {
 }
 
 impl Model for Rows {
-    ghost use Rattle.cookie_laws.specs.Rows.{RowsInOrder};
-    ghost use Rattle.cookie_rows.specs.Groups.{texts_of};
-    ghost use Rattle.cookie_rows.specs.Items.{AreItems, rows_in_order};
-
     ghost Value = { RowsInOrder };
 
-    ghost view = { λ r. rows_in_order (texts_of r.groups.entries) };
+    ghost view = { λ r. groups_in_order (texts_of r.groups.entries) };
 
     ghost invariant = { λ r. AreItems r.created (texts_of r.groups.entries) };
 }
 
 impl Clone for Rows {
-    ghost use Rattle.std.specs.Prelude.{◌≡◌};
-
     ghost is_clone = { λ rows copy. copy ≡ rows };
 
     fn clone(&self) -> Result<Rows, AllocError> {
@@ -117,7 +111,7 @@ impl Rows {
     pub fn row_of(&self, cookie: &Cookie<'static>) -> Option<&Cookie<'static>>
         ensures { option_copied result ≡ row_of (key_of cookie.now) self.now.rows }
     {
-        self.named(domain_text(cookie), path_text(cookie), cookie.name())
+        self.named(cookie.domain.as_str(), cookie.path.as_str(), cookie.name())
     }
 
     /// Returns an iterator over all rows, in order.

@@ -1,3 +1,5 @@
+//! Command-line arguments of the program.
+
 /// The options given by the command-line arguments.
 #[derive(Clone, Copy, Debug, PartialEq, Eq)]
 pub struct Options<'a> {

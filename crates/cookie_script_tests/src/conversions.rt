@@ -60,10 +60,10 @@ static CASES: [(&[u8], Result<(), ConvertFault>, &str); 5] = [
 ];
 
 // The result, the output, and the numbers of failed reads and writes.
-type Ended<'a> = (Result<(), ConvertFault>, &'a [u8], (u64, u64));
+type Outcome<'a> = (Result<(), ConvertFault>, &'a [u8], (u64, u64));
 
-fn has_ended(rt: &impl Abort, ended: Ended<'_>, wanted: Ended<'_>, row: &impl Debug) {
-    assert_eq!(rt; ended, wanted, "at {row:?}");
+fn has_outcome(rt: &impl Abort, outcome: Outcome<'_>, wanted: Outcome<'_>, row: &impl Debug) {
+    assert_eq!(rt; outcome, wanted, "at {row:?}");
 }
 
 fn is_converted(
@@ -73,8 +73,8 @@ fn is_converted(
 ) {
     let ample = Fake::new(Vec::new(alloc), usize::MAX, 0);
     let (outcome, failures, writer) = converted(alloc, Fake::new(case.0, usize::MAX, 0), ample);
-    let ended = (outcome, writer.inner.as_slice(), failures);
-    has_ended(rt, ended, (case.1, case.2.as_bytes(), (0, 0)), &case.0);
+    let outcome = (outcome, writer.inner.as_slice(), failures);
+    has_outcome(rt, outcome, (case.1, case.2.as_bytes(), (0, 0)), &case.0);
 }
 
 #[test]
@@ -85,7 +85,7 @@ fn lines_become_a_list(rt: HostRuntime) {
 }
 
 // The outcome of a conversion without a failure.
-fn whole() -> Ended<'static> {
+fn whole() -> Outcome<'static> {
     (Ok(()), LIST.as_bytes(), (0, 0))
 }
 
@@ -100,7 +100,7 @@ fn is_read_whole(rt: &impl Abort, alloc: Global, fails_at: usize) -> bool {
     } else {
         (Err(ConvertFault::Read), b"".as_slice(), (1, 0))
     };
-    has_ended(
+    has_outcome(
         rt,
         (outcome, writer.inner.as_slice(), failures),
         wanted,
@@ -136,7 +136,7 @@ fn is_written_whole(rt: &impl Abort, alloc: Global, fails_at: usize) -> bool {
     } else {
         (Err(ConvertFault::Write), written.unwrap_or(b""), (0, 1))
     };
-    has_ended(
+    has_outcome(
         rt,
         (outcome, writer.inner.as_slice(), failures),
         wanted,

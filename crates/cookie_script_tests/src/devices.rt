@@ -27,7 +27,7 @@ fn written_to(alloc: Global, fake: Fake<Vec<u8>>) -> (Result<(), RunFault>, Fake
     (outcome, sink.into_inner())
 }
 
-fn has_ended(
+fn has_outcome(
     rt: &impl Abort,
     outcome: Result<(), RunFault>,
     wanted: Result<(), RunFault>,
@@ -62,11 +62,11 @@ fn was_stopped(
     fault: RunFault,
 ) -> bool {
     if calls < fails_at {
-        has_ended(rt, outcome, Ok(()), fails_at);
+        has_outcome(rt, outcome, Ok(()), fails_at);
         is_text(rt, written, HOSTS_OUTPUT.as_bytes(), fails_at);
         return false;
     }
-    has_ended(rt, outcome, Err(fault), fails_at);
+    has_outcome(rt, outcome, Err(fault), fails_at);
     is_count(rt, calls, fails_at);
     is_beginning(rt, written, fails_at);
     true
@@ -86,7 +86,7 @@ fn reads_on(
     is_text(rt, fake.inner, left, fails_at);
     let wanted = output(alloc, fake.inner, None, None)?;
     let (outcome, written, _) = read_from(alloc, fake);
-    has_ended(rt, outcome, Ok(()), fails_at);
+    has_outcome(rt, outcome, Ok(()), fails_at);
     is_text(rt, &written, &wanted, fails_at);
     Ok(())
 }
@@ -113,7 +113,7 @@ fn a_failed_read_stops_the_script(rt: HostRuntime) -> Result<(), Fail> {
 fn writes_on(rt: &impl Abort, alloc: Global, fake: Fake<Vec<u8>>, fails_at: usize) {
     let part = fake.inner.len();
     let (outcome, fake) = written_to(alloc, fake);
-    has_ended(rt, outcome, Ok(()), fails_at);
+    has_outcome(rt, outcome, Ok(()), fails_at);
     let behind = fake.inner.as_slice().get(part..).unwrap_or(&[]);
     is_text(rt, behind, HOSTS_OUTPUT.as_bytes(), fails_at);
 }
@@ -146,7 +146,7 @@ fn a_failed_write_stops_the_script(rt: HostRuntime) -> Result<(), Fail> {
 #[test]
 fn a_writer_that_takes_nothing_has_failed(rt: HostRuntime) {
     let (outcome, fake) = written_to(rt.alloc(), Fake::new(Vec::new(rt.alloc()), 0, 0));
-    has_ended(&rt, outcome, Err(RunFault::Write), 0);
+    has_outcome(&rt, outcome, Err(RunFault::Write), 0);
     is_count(&rt, fake.calls, 1);
     is_count(&rt, fake.inner.len(), 0);
 }

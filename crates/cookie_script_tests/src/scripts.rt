@@ -65,7 +65,7 @@ const SCRIPTS: [Row; 18] = [
           example.com / a\nCookie:\nupdated\nCookie: a=3\n",
     ),
     (
-        "an HttpOnly cookie until it has ended",
+        "an HttpOnly cookie until it has expired",
         b"now 2026-01-01T00:00:00Z\n\
           set http://example.com/ a=1; HttpOnly; Max-Age=60\n\
           set ftp://example.com/ a=2\n\
@@ -174,7 +174,7 @@ const BAD_LINES: [(&str, &[u8]); 19] = [
     ("two spaces", b"get  http://a.com/\n"),
     ("a URL without a scheme", b"get a\n"),
     ("a URL without a scheme to set", b"set a x=1\n"),
-    ("a host that has not ended", b"get http://[\n"),
+    ("a host without its closing bracket", b"get http://[\n"),
     ("a URL that a space cuts", b"get http://a b/\n"),
     ("now alone", b"now\n"),
     ("a word after the moment", b"now 2026-01-01T00:00:00Z x\n"),
@@ -194,7 +194,7 @@ type LimitedRow = (&'static str, usize, &'static [u8], &'static str);
 
 const LIMITED: [LimitedRow; 3] = [
     (
-        "a cookie that takes another's place stays made when that was",
+        "a cookie that replaces another has its creation-time",
         2,
         b"now 2026-01-01T00:00:00Z\n\
           set http://a.com/ x=1\n\
@@ -206,7 +206,7 @@ const LIMITED: [LimitedRow; 3] = [
         "inserted\ninserted\ninserted\nupdated\ninserted\na.com /p y\na.com / z\nb.com / k\n",
     ),
     (
-        "one that has ended leaves first",
+        "an expired one is evicted first",
         2,
         b"now 2026-01-01T00:00:00Z\n\
           set http://a.com/ x=1\n\

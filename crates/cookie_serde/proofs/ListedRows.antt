@@ -92,7 +92,7 @@ moved_over : (done : List Row) (cookie : Row) (others : Result (List Row) Cookie
 moved_over done cookie (Ok cookies) = ap Ok (sym (append_assoc done (cookie ∷ []) cookies))
 moved_over done cookie (Err fault) = refl
 
--- the cookie of the first saved form was made
+-- after the cookie of the first saved form
 pub form_done : (done : List Row) (cookie : Row) (form : Parts Moment) (forms : List (Parts Moment)) → cookie_of_saved form ≡ Ok cookie
     → result_map_both (λ cookies. done ++ cookies) (λ fault. fault) (cookies_of_saved (form ∷ forms))
     ≡ result_map_both (λ cookies. (done ++ cookie ∷ []) ++ cookies) (λ fault. fault) (cookies_of_saved forms)

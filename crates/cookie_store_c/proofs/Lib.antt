@@ -6,4 +6,5 @@ mod Seconds
 mod StoreBox
 mod StoreGlue
 mod StorePtrSteps
+mod StrictOutcomes
 mod WrittenHeaders

@@ -1,14 +1,14 @@
 -- The header that is written is that of the request.
-use Rattle.std.proofs.Common.{◌≡◌, ℕ, ℤ, List, Result, Ok, Err, IfErr, IfOk, IsOk, ap, inl, inr, refl, subst, sym, ◌∙◌}
+use Rattle.std.proofs.Common.{◌≡◌, ℕ, ℤ, List, Option, Result, Ok, Err, IfErr, IfOk, IsOk, ap, inl, inr, refl, subst, sym, ◌∙◌}
 use Rattle.std.specs.Result.{result_map_both}
 use Rattle.url.specs.Parts.{Parts}
 use Rattle.cookie_words.specs.Moments.{Moment}
 use Rattle.cookie_parts.specs.Cookie.{and_then}
 use Rattle.cookie_laws.specs.Contents.{Contents}
-use Rattle.cookie_laws.specs.Header.{IsCookieHeader}
+use Rattle.cookie_strict.specs.declared.requests.Context.{Context}
 use Rattle.cookie_store_c.specs.Inputs.{GivesOrRunsOut, text_and_time, request}
 use Rattle.cookie_store_c.specs.Buffers.{TextOutcome, WritesSomeText, text_outcome}
-use Rattle.cookie_store_c.specs.Headers.{IsHeader, IsHeaderFor}
+use Rattle.cookie_store_c.specs.Headers.{IsHeader, IsHeaderFor, IsHeaderText}
 use Rattle.cookie_store_c.specs.declared.status.Status.{Status}
 use Rattle.cookie_store_c.specs.declared.status.Status.TheVariants.{NoMemory}
 
@@ -24,17 +24,17 @@ errors_alone P Q (Ok a) (Ok t) known = tt
 errors_alone P Q (Ok a) (Err error) known = known.0
 errors_alone P Q (Err status) text known = tt
 
-module _ (store : Contents) (url : List ℕ) (now : ℤ) (old : List ℕ) (status : Status) (new : List ℕ) (needed : ℕ) where
+module _ (context : Option Context) (store : Contents) (url : List ℕ) (now : ℤ) (old : List ℕ) (status : Status) (new : List ℕ) (needed : ℕ) where
   -- the outcome
   abbrev BufferOutcome : TextOutcome
   BufferOutcome = record { status = status; buffer = new; needed = needed }
 
   abbrev WritesText : Type 0
-  WritesText = WritesSomeText (IsHeader store url now) (IsOk (text_and_time url now)) old status new needed
+  WritesText = WritesSomeText (IsHeader context store url now) (IsOk (text_and_time url now)) old status new needed
 
   -- it is that of this result
-  answered : (answer : Result (List ℕ) Status) (inputs : Result (Parts × Moment) Status) → inputs ≡ request url now → IsHeaderFor store inputs answer → BufferOutcome ≡ text_outcome answer old → WritesText
-  answered answer inputs is header reported = inl (answer, subst (λ r. IsHeaderFor store r answer) is header, reported)
+  answered : (answer : Result (List ℕ) Status) (inputs : Result (Parts × Moment) Status) → inputs ≡ request url now → IsHeaderFor context store inputs answer → BufferOutcome ≡ text_outcome answer old → WritesText
+  answered answer inputs is header reported = inl (answer, subst (λ r. IsHeaderFor context store r answer) is header, reported)
 
   -- memory ran out
   ran_out : (error : Status) → error ≡ NoMemory → IsOk (text_and_time url now) → BufferOutcome ≡ text_outcome (Err error) old → WritesText
@@ -44,7 +44,7 @@ module _ (store : Contents) (url : List ℕ) (now : ℤ) (old : List ℕ) (statu
   pub header_written : {A T : Type 0} (view : A → Parts × Moment) (items : T → List ℕ) (inputs : Result A Status) (text : Result T Status)
       → GivesOrRunsOut (result_map_both view (λ error. error) inputs) (request url now)
       → (inputs ≡ Err NoMemory → IsOk (text_and_time url now))
-      → IfOk text (λ t. IfOk inputs (λ a. IsCookieHeader (view a).0 (view a).1 store (items t)))
+      → IfOk text (λ t. IfOk inputs (λ a. IsHeaderText context (view a).0 (view a).1 store (items t)))
       → ((error : Status) → inputs ≡ Err error → text ≡ Err error)
       → IfOk inputs (λ a. IfErr text (λ error. error ≡ NoMemory))
       → BufferOutcome ≡ text_outcome (result_map_both items (λ error. error) text) old → WritesText

@@ -1,5 +1,5 @@
 -- What each call returns, and the store after it.
-use Rattle.std.specs.Prelude.{◌≡◌, ◌==◌, if◌then◌else◌, ◌⊎◌, ℕ, ◌^◌, ◌-◌, min, List, [], length, Option, Some, None, Result, Ok, Err}
+use Rattle.std.specs.Prelude.{◌≡◌, ◌==◌, if◌then◌else◌, ◌⊎◌, ℕ, ◌^◌, ◌-◌, min, Bool, true, false, List, [], length, Option, Some, None, Result, Ok, Err}
 use Rattle.cookie_words.specs.Moments.{Moment}
 use Rattle.cookie_psl.specs.Reading.{rules_from}
 use Rattle.cookie_psl.specs.Rules.{RuleList, SameRules}
@@ -9,7 +9,9 @@ use Rattle.cookie_parts.specs.Cookie.{Row}
 use Rattle.cookie_laws.specs.Contents.{Contents, unexpired}
 use Rattle.cookie_laws.specs.Runs.{Call, step}
 use Rattle.cookie_store_c.specs.Inputs.{text_in}
-use Rattle.cookie_store_c.specs.Statuses.{reply_status}
+use Rattle.cookie_strict.specs.StrictRuns.{strict_call}
+use Rattle.cookie_strict.specs.declared.error.StrictError.{StrictError}
+use Rattle.cookie_store_c.specs.Statuses.{reply_status, strict_error_status}
 use Rattle.cookie_store_c.specs.declared.status.Status.{Status}
 use Rattle.cookie_store_c.specs.declared.status.Status.TheVariants.{Done, NoMemory, NoStore, HasStore, BadLimit, BadRule}
 
@@ -27,6 +29,22 @@ abbrev pub store_outcome : Contents → Result Call Status → CallOutcome
 store_outcome store (Ok call) = record { status = reply_status (step call store).reply; store = Some (step call store).store }
 store_outcome store (Err status) = error_outcome (Some store) status
 
+-- the plain call that a call becomes under the rules of browsers, or the error
+abbrev pub allowed_outcome : Contents → Result Call StrictError → CallOutcome
+allowed_outcome store (Ok call) = store_outcome store (Ok call)
+allowed_outcome store (Err error) = error_outcome (Some store) (strict_error_status error)
+
+-- an insertion into a store, under the rules of browsers if it is strict
+abbrev pub insertion_outcome : Bool → Contents → Result Call Status → CallOutcome
+insertion_outcome false store call = store_outcome store call
+insertion_outcome true store (Ok call) = allowed_outcome store (strict_call call store)
+insertion_outcome true store (Err status) = error_outcome (Some store) status
+
+-- an insertion, or `NoStore` if there is no store
+abbrev pub insertion_outcome_in : Bool → Option Contents → Result Call Status → CallOutcome
+insertion_outcome_in is_strict None call = error_outcome None NoStore
+insertion_outcome_in is_strict (Some store) call = insertion_outcome is_strict store call
+
 -- a call on a store, or `NoStore` if there is none
 abbrev pub call_outcome : Option Contents → Result Call Status → CallOutcome
 call_outcome None call = error_outcome None NoStore
@@ -41,6 +59,17 @@ new_outcome (Some store) = error_outcome (Some store) HasStore
 abbrev pub unchanged_outcome : Option Contents → CallOutcome
 unchanged_outcome None = error_outcome None NoStore
 unchanged_outcome (Some store) = record { status = Done; store = Some store }
+
+-- a new store is not strict; otherwise the flag is unchanged
+abbrev pub flag_after_new : Option Contents → Option Contents → Bool → Bool
+flag_after_new None None is_strict = is_strict
+flag_after_new None (Some store) is_strict = false
+flag_after_new (Some store) new is_strict = is_strict
+
+-- the flag of a store is set; without a store it is unchanged
+abbrev pub flag_after_set : Option Contents → Bool → Bool → Bool
+flag_after_set None chosen is_strict = is_strict
+flag_after_set (Some store) chosen is_strict = chosen
 
 -- each domain is limited to n cookies, and n is at least 1
 abbrev pub limit_outcome : ℕ → Option Contents → CallOutcome
@@ -86,7 +115,7 @@ abbrev pub UsesSuffixes : Option Contents → List ℕ → ℕ → CallOutcome �
 UsesSuffixes None list line outcome = (line ≡ 0) × (outcome ≡ error_outcome None NoStore)
 UsesSuffixes (Some store) list line outcome = UsesSuffixText store (text_in list) line outcome
 
--- what is made of the rows of a store, or `NoStore` if there is none
+-- a function of the rows of a store, or `NoStore` if there is none
 abbrev pub in_store : {T : Type 0} → (List Row → Result T Status) → Option Contents → Result T Status
 in_store created None = Err NoStore
 in_store created (Some store) = created store.rows

@@ -1,23 +1,36 @@
 -- The Cookie header of a request.
-use Rattle.std.specs.Prelude.{◌≡◌, ℕ, List, Option, Some, None, Result, Ok, Err, ℤ}
+use Rattle.std.specs.Prelude.{◌≡◌, ℕ, Bool, false, List, Option, Some, None, Result, Ok, Err, ℤ}
 use Rattle.url.specs.Parts.{Parts}
 use Rattle.cookie_words.specs.Moments.{Moment}
+use Rattle.cookie_parts.specs.Cookie.{Row}
 use Rattle.cookie_laws.specs.Contents.{Contents}
-use Rattle.cookie_laws.specs.Header.{IsCookieHeader}
+use Rattle.cookie_laws.specs.Header.{IsCookieHeader, cookie_string}
+use Rattle.cookie_strict.specs.CrossSite.{IsSent}
+use Rattle.cookie_strict.specs.declared.requests.Context.{Context}
 use Rattle.cookie_store_c.specs.Inputs.{request}
 use Rattle.cookie_store_c.specs.declared.status.Status.{Status}
 use Rattle.cookie_store_c.specs.declared.status.Status.TheVariants.{NoStore}
 
--- RFC 6265 5.4: the cookie-string of a request for a URL, or the error
-abbrev pub IsHeaderFor : Contents → Result (Parts × Moment) Status → Result (List ℕ) Status → Type 0
-IsHeaderFor store (Ok inputs) answer = (text : List ℕ) × IsCookieHeader inputs.0 inputs.1 store text × (answer ≡ Ok text)
-IsHeaderFor store (Err status) answer = answer ≡ Err status
+-- a cross-site request
+abbrev pub cross_site : Bool → Bool → Context
+cross_site is_top_level is_lax_by_default = record { is_same_site = false; is_top_level = is_top_level; is_lax_by_default = is_lax_by_default }
+
+-- RFC 6265 5.4: the cookie-string of a request; of a request with a context, draft-ietf-httpbis-rfc6265bis 5.8.3, that
+-- of the cookies that it receives
+abbrev pub IsHeaderText : Option Context → Parts → Moment → Contents → List ℕ → Type 0
+IsHeaderText None url now store text = IsCookieHeader url now store text
+IsHeaderText (Some context) url now store text = (cookies : List Row) × IsSent context url now store cookies × (text ≡ cookie_string cookies)
+
+-- the cookie-string of a request for a URL, or the error
+abbrev pub IsHeaderFor : Option Context → Contents → Result (Parts × Moment) Status → Result (List ℕ) Status → Type 0
+IsHeaderFor context store (Ok inputs) answer = (text : List ℕ) × IsHeaderText context inputs.0 inputs.1 store text × (answer ≡ Ok text)
+IsHeaderFor context store (Err status) answer = answer ≡ Err status
 
 -- the same for the string of a URL and a time in seconds
-abbrev pub IsHeader : Contents → List ℕ → ℤ → Result (List ℕ) Status → Type 0
-IsHeader store url now answer = IsHeaderFor store (request url now) answer
+abbrev pub IsHeader : Option Context → Contents → List ℕ → ℤ → Result (List ℕ) Status → Type 0
+IsHeader context store url now answer = IsHeaderFor context store (request url now) answer
 
 -- the same, or `NoStore` if there is no store
-abbrev pub IsHeaderIn : Option Contents → List ℕ → ℤ → Result (List ℕ) Status → Type 0
-IsHeaderIn None url now answer = answer ≡ Err NoStore
-IsHeaderIn (Some store) url now answer = IsHeader store url now answer
+abbrev pub IsHeaderIn : Option Context → Option Contents → List ℕ → ℤ → Result (List ℕ) Status → Type 0
+IsHeaderIn context None url now answer = answer ≡ Err NoStore
+IsHeaderIn context (Some store) url now answer = IsHeader context store url now answer

@@ -7,8 +7,10 @@ use Rattle.cookie_parts.specs.declared.error.Error.{Error}
 use Rattle.cookie_parts.specs.declared.error.Error.TheVariants as ErrorCase
 use Rattle.cookie_parts.specs.declared.store_action.StoreAction.TheVariants as ActionCase
 use Rattle.cookie_laws.specs.Runs.{Reply, Stored, Removed, Cleared}
+use Rattle.cookie_strict.specs.declared.error.StrictError.{StrictError}
+use Rattle.cookie_strict.specs.declared.error.StrictError.TheVariants as StrictCase
 use Rattle.cookie_store_c.specs.declared.status.Status.{Status}
-use Rattle.cookie_store_c.specs.declared.status.Status.TheVariants.{Done, Inserted, Updated, ExpiredExisting, NonHttpScheme, NonRelativeScheme, DomainMismatch, Expired, Parse, PublicSuffix, UnspecifiedDomain, NoMemory, BadUrl, NotUtf8, BadMoment, NoStore, HasStore, NoRoom, NotFound, BadLimit, BadRule, BadJson, BadShape, BadRon, BadEnd}
+use Rattle.cookie_store_c.specs.declared.status.Status.TheVariants.{Done, Inserted, Updated, ExpiredExisting, NonHttpScheme, NonRelativeScheme, DomainMismatch, Expired, Parse, PublicSuffix, UnspecifiedDomain, NoMemory, BadUrl, NotUtf8, BadMoment, NoStore, HasStore, NoRoom, NotFound, BadLimit, BadRule, BadJson, BadShape, BadRon, BadEnd, ControlCharacter, TooLong, InsecureUrl, InsecureSameSiteNone, Prefix, SecureStored}
 
 -- the number of a status
 abbrev pub status_code : Status → ℕ
@@ -37,6 +39,12 @@ status_code BadJson = 31
 status_code BadShape = 32
 status_code BadRon = 33
 status_code BadEnd = 34
+status_code ControlCharacter = 40
+status_code TooLong = 41
+status_code InsecureUrl = 42
+status_code InsecureSameSiteNone = 43
+status_code Prefix = 44
+status_code SecureStored = 45
 
 -- the status of an insertion error
 abbrev pub cookie_error_status : CookieError → Status
@@ -48,6 +56,16 @@ cookie_error_status CookieCase.Parse = Parse
 cookie_error_status CookieCase.PublicSuffix = PublicSuffix
 cookie_error_status CookieCase.UnspecifiedDomain = UnspecifiedDomain
 cookie_error_status CookieCase.Memory = NoMemory
+
+-- the status of an insertion error under the rules of browsers
+abbrev pub strict_error_status : StrictError → Status
+strict_error_status StrictCase.ControlCharacter = ControlCharacter
+strict_error_status StrictCase.TooLong = TooLong
+strict_error_status (StrictCase.Cookie error) = cookie_error_status error
+strict_error_status StrictCase.InsecureUrl = InsecureUrl
+strict_error_status StrictCase.InsecureSameSiteNone = InsecureSameSiteNone
+strict_error_status StrictCase.Prefix = Prefix
+strict_error_status StrictCase.SecureStored = SecureStored
 
 -- the status of a reply of the store
 abbrev pub reply_status : Reply → Status

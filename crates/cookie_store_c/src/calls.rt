@@ -4,35 +4,42 @@ ghost use Rattle.std.specs.Result.{result_map_both};
 ghost use Rattle.cookie_laws.specs.Rows.{key_at};
 ghost use Rattle.cookie_laws.specs.Runs.{Clear, Remove};
 ghost use Rattle.cookie_store_c.specs.Inputs.{text_and_time, moment_in, remove_call, set_call, text_in};
-ghost use Rattle.cookie_store_c.specs.Calls.{expired_outcome, limit_outcome, list_error_status, store_outcome, HasOutcome, UsesSuffixText, RunsOut};
+ghost use Rattle.cookie_store_c.specs.Calls.{expired_outcome, insertion_outcome, limit_outcome, list_error_status, store_outcome, HasOutcome, UsesSuffixText, RunsOut};
 
 use crate::inputs::{moment_in, request, text_in};
 use crate::status::Status;
 use cookie_store::psl::{List, ListError};
-use cookie_store::{CookieStore, HashKey};
+use cookie_store::{CookieStore, HashKey, strict};
 use std::alloc::Global;
 use std::hash::RandomState;
 use std::random::RandomSource;
 use std::{io, mem};
 
-/// Parses the `Set-Cookie` header value `text` received from `url` and inserts the cookie.
+/// Parses the `Set-Cookie` header value `text` received from `url` and inserts the cookie, under the
+/// rules of browsers if `is_strict` is true.
 pub(crate) fn set(
     alloc: Global,
     store: &mut CookieStore,
+    is_strict: bool,
     url: &[u8],
     text: &[u8],
     now: i64,
 ) -> Status
-    ensures { HasOutcome (store_outcome store.old (set_call url.now text.now now)) (IsOk (text_in text.now) × IsOk (text_and_time url.now now))
+    ensures { HasOutcome (insertion_outcome is_strict store.old (set_call url.now text.now now)) (IsOk (text_in text.now) × IsOk (text_and_time url.now now))
         (Some store.old) result (Some store.new) }
 {
     let text = match text_in(text) {
         Ok(text) => text,
         Err(status) => return status,
     };
-    match request(alloc, url, now) {
-        Ok((url, now)) => Status::of_reply(store.parse(text, &url, now)),
-        Err(status) => status,
+    let (url, now) = match request(alloc, url, now) {
+        Ok(inputs) => inputs,
+        Err(status) => return status,
+    };
+    if is_strict {
+        Status::of_strict(strict::parse(store, text, &url, now))
+    } else {
+        Status::of_reply(store.parse(text, &url, now))
     }
 }
 

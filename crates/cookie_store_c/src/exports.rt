@@ -1,10 +1,10 @@
 //! The functions that C programs call. `cookie_store.h` documents them.
-ghost use Rattle.std.specs.Prelude.{◌≡◌, ◌⊎◌, ◌+◌, Ok, Some, None, IsOk, IsSome};
+ghost use Rattle.std.specs.Prelude.{◌≡◌, ◌⊎◌, ◌+◌, false, Ok, Some, None, IsOk, IsSome};
 ghost use Rattle.cookie_laws.specs.Runs.{Clear};
 ghost use Rattle.cookie_store_c.specs.Inputs.{text_and_time, moment_in, remove_call, set_call, text_in};
 ghost use Rattle.cookie_store_c.specs.Buffers.{WritesText, WritesSomeText};
-ghost use Rattle.cookie_store_c.specs.Calls.{count_of, expired_outcome, in_store, unchanged_outcome, limit_outcome, new_outcome, rows_count, call_outcome, HasOutcome, UsesSuffixes, RunsOut};
-ghost use Rattle.cookie_store_c.specs.Headers.{IsHeaderIn};
+ghost use Rattle.cookie_store_c.specs.Calls.{count_of, expired_outcome, flag_after_new, flag_after_set, in_store, insertion_outcome_in, unchanged_outcome, limit_outcome, new_outcome, rows_count, call_outcome, HasOutcome, UsesSuffixes, RunsOut};
+ghost use Rattle.cookie_store_c.specs.Headers.{cross_site, IsHeaderIn};
 ghost use Rattle.cookie_store_c.specs.Lists.{saved_list_in, to_load, Loads};
 ghost use Rattle.cookie_store_c.specs.Rows.{ReportsRows};
 ghost use Rattle.cookie_store_c.specs.Statuses.{IsCodeOf};
@@ -16,6 +16,7 @@ use crate::status::Status;
 use crate::{calls, header, list_calls};
 use cookie_store::CookieStore;
 use cookie_store::serde::ListFormat;
+use cookie_store::strict::Context;
 use std::alloc::Global;
 
 /// Creates a store without cookies, public suffix list or limit, whose maps hash by `key`.
@@ -27,8 +28,9 @@ use std::alloc::Global;
 /// - `NoMemory`: out of memory. The handle stays empty.
 #[unsafe(no_mangle)]
 pub extern "C" fn cookie_store_new(alloc: Global, handle: &mut StoreHandle, key: &[u8]) -> u32
-    ensures { IsCodeOf result (λ status. HasOutcome (new_outcome handle.old.store_ptr.store) (handle.old.store_ptr.store ≡ None)
+    ensures outcome { IsCodeOf result (λ status. HasOutcome (new_outcome handle.old.store_ptr.store) (handle.old.store_ptr.store ≡ None)
         handle.old.store_ptr.store status handle.new.store_ptr.store) }
+    ensures strict { handle.new.is_strict ≡ flag_after_new handle.old.store_ptr.store handle.new.store_ptr.store handle.old.is_strict }
 {
     if let Some(store) = handle.take(alloc) {
         handle.put(alloc, store);
@@ -40,14 +42,16 @@ pub extern "C" fn cookie_store_new(alloc: Global, handle: &mut StoreHandle, key:
     }
 }
 
-// Boxes the store and puts it into the empty handle.
+// Boxes the store and puts it into the empty handle. It is not strict.
 fn begin(alloc: Global, handle: &mut StoreHandle, store: CookieStore) -> Status
     requires { handle.old.store_ptr.store ≡ None }
-    ensures { ((result ≡ Status.Done) × (handle.new.store_ptr.store ≡ Some store))
+    ensures outcome { ((result ≡ Status.Done) × (handle.new.store_ptr.store ≡ Some store))
         ⊎ ((result ≡ Status.NoMemory) × (handle.new.store_ptr.store ≡ None)) }
+    ensures strict { handle.new.is_strict ≡ flag_after_new None handle.new.store_ptr.store handle.old.is_strict }
 {
     match Box::new(alloc, store) {
         Ok(store) => {
+            handle.is_strict = false;
             handle.put(alloc, store);
             Status::Done
         }
@@ -58,9 +62,11 @@ fn begin(alloc: Global, handle: &mut StoreHandle, store: CookieStore) -> Status
 /// Frees the store of the handle, if there is one.
 #[unsafe(no_mangle)]
 pub extern "C" fn cookie_store_free(alloc: Global, handle: &mut StoreHandle)
-    ensures { handle.new.store_ptr.store ≡ None }
+    ensures outcome { handle.new.store_ptr.store ≡ None }
+    ensures strict { handle.new.is_strict ≡ false }
 {
     let _store = handle.take(alloc);
+    handle.is_strict = false;
 }
 
 /// Limits each domain to `limit` cookies, RFC 6265 6.1.
@@ -78,7 +84,8 @@ pub extern "C" fn cookie_store_set_domain_limit(
     handle: &mut StoreHandle,
     limit: usize,
 ) -> u32
-    ensures { IsCodeOf result (λ status. record { status = status; store = handle.new.store_ptr.store } ≡ limit_outcome limit handle.old.store_ptr.store) }
+    ensures outcome { IsCodeOf result (λ status. record { status = status; store = handle.new.store_ptr.store } ≡ limit_outcome limit handle.old.store_ptr.store) }
+    ensures strict { handle.new.is_strict ≡ handle.old.is_strict }
 {
     let Some(mut store) = handle.take(alloc) else {
         return Status::NoStore.code();
@@ -86,6 +93,29 @@ pub extern "C" fn cookie_store_set_domain_limit(
     let status = calls::set_domain_limit(alloc, &mut store, limit);
     handle.put(alloc, store);
     status.code()
+}
+
+/// Sets whether cookies are inserted under the rules of browsers, as `strict::parse` does. Stored
+/// cookies stay. A store that was just created or loaded is not strict.
+///
+/// # Errors
+///
+/// - `NoStore`: the handle has no store.
+#[unsafe(no_mangle)]
+pub extern "C" fn cookie_store_set_strict(
+    alloc: Global,
+    handle: &mut StoreHandle,
+    is_strict: bool,
+) -> u32
+    ensures outcome { IsCodeOf result (λ status. record { status = status; store = handle.new.store_ptr.store } ≡ unchanged_outcome handle.old.store_ptr.store) }
+    ensures strict { handle.new.is_strict ≡ flag_after_set handle.old.store_ptr.store is_strict handle.old.is_strict }
+{
+    let Some(store) = handle.take(alloc) else {
+        return Status::NoStore.code();
+    };
+    handle.put(alloc, store);
+    handle.is_strict = is_strict;
+    Status::Done.code()
 }
 
 /// Makes the maps of the store hash by `key`. The cookies stay the same.
@@ -101,8 +131,9 @@ pub extern "C" fn cookie_store_set_hash_key(
     handle: &mut StoreHandle,
     key: &[u8],
 ) -> u32
-    ensures { IsCodeOf result (λ status. HasOutcome (unchanged_outcome handle.old.store_ptr.store) (IsSome handle.old.store_ptr.store)
+    ensures outcome { IsCodeOf result (λ status. HasOutcome (unchanged_outcome handle.old.store_ptr.store) (IsSome handle.old.store_ptr.store)
         handle.old.store_ptr.store status handle.new.store_ptr.store) }
+    ensures strict { handle.new.is_strict ≡ handle.old.is_strict }
 {
     let Some(mut store) = handle.take(alloc) else {
         return Status::NoStore.code();
@@ -112,8 +143,8 @@ pub extern "C" fn cookie_store_set_hash_key(
     status.code()
 }
 
-/// Parses the `Set-Cookie` header value `text` received from `url` and inserts the cookie,
-/// RFC 6265 5.3.
+/// Parses the `Set-Cookie` header value `text` received from `url` and inserts the cookie, RFC 6265
+/// 5.3; under the rules of browsers if the store is strict.
 ///
 /// # Errors
 ///
@@ -122,7 +153,7 @@ pub extern "C" fn cookie_store_set_hash_key(
 /// - `NotUtf8`: `text` or `url` is not UTF-8.
 /// - `BadMoment`: `now` is not in the years -9999 to 9999.
 /// - `BadUrl`: `url` is not a valid URL.
-/// - The errors of `CookieStore::parse`.
+/// - The errors of `CookieStore::parse`, or of `strict::parse` if the store is strict.
 /// - `NoMemory`: out of memory. It may come instead of any error but the first three.
 #[unsafe(no_mangle)]
 pub extern "C" fn cookie_store_set(
@@ -132,14 +163,15 @@ pub extern "C" fn cookie_store_set(
     text: &[u8],
     now: i64,
 ) -> u32
-    ensures { IsCodeOf result (λ status. HasOutcome (call_outcome handle.old.store_ptr.store (set_call url.now text.now now))
+    ensures outcome { IsCodeOf result (λ status. HasOutcome (insertion_outcome_in handle.old.is_strict handle.old.store_ptr.store (set_call url.now text.now now))
         (IsSome handle.old.store_ptr.store × IsOk (text_in text.now) × IsOk (text_and_time url.now now))
         handle.old.store_ptr.store status handle.new.store_ptr.store) }
+    ensures strict { handle.new.is_strict ≡ handle.old.is_strict }
 {
     let Some(mut store) = handle.take(alloc) else {
         return Status::NoStore.code();
     };
-    let status = calls::set(alloc, &mut store, url, text, now);
+    let status = calls::set(alloc, &mut store, handle.is_strict, url, text, now);
     handle.put(alloc, store);
     status.code()
 }
@@ -168,15 +200,53 @@ pub extern "C" fn cookie_store_get(
     out: &mut [u8],
     needed: &mut usize,
 ) -> u32
-    ensures text { IsCodeOf result (λ status. WritesSomeText (IsHeaderIn handle.old.store_ptr.store url.now now)
+    ensures text { IsCodeOf result (λ status. WritesSomeText (IsHeaderIn None handle.old.store_ptr.store url.now now)
         (IsSome handle.old.store_ptr.store × IsOk (text_and_time url.now now)) out.old status out.new needed.new) }
     ensures store { handle.new.store_ptr.store ≡ handle.old.store_ptr.store }
+    ensures strict { handle.new.is_strict ≡ handle.old.is_strict }
 {
     *needed = 0;
     let Some(store) = handle.take(alloc) else {
         return Status::NoStore.code();
     };
-    let status = header::get(alloc, &store, url, now, out, needed);
+    let status = header::get(alloc, &store, None, url, now, out, needed);
+    handle.put(alloc, store);
+    status.code()
+}
+
+/// Writes the value of the `Cookie` header of a cross-site request for `url` into `out`, its cookies
+/// in the order of RFC 6265 5.4.
+///
+/// `is_top_level` is whether the request is a top-level navigation with a safe method, and
+/// `is_lax_by_default` whether a cookie without a SameSite attribute is treated as SameSite=Lax, not
+/// as None. All else is as in `cookie_store_get`.
+#[unsafe(no_mangle)]
+pub extern "C" fn cookie_store_get_cross_site(
+    alloc: Global,
+    handle: &mut StoreHandle,
+    url: &[u8],
+    now: i64,
+    is_top_level: bool,
+    is_lax_by_default: bool,
+    out: &mut [u8],
+    needed: &mut usize,
+) -> u32
+    ensures text { IsCodeOf result (λ status. WritesSomeText
+        (IsHeaderIn (Some (cross_site is_top_level is_lax_by_default)) handle.old.store_ptr.store url.now now)
+        (IsSome handle.old.store_ptr.store × IsOk (text_and_time url.now now)) out.old status out.new needed.new) }
+    ensures store { handle.new.store_ptr.store ≡ handle.old.store_ptr.store }
+    ensures strict { handle.new.is_strict ≡ handle.old.is_strict }
+{
+    *needed = 0;
+    let Some(store) = handle.take(alloc) else {
+        return Status::NoStore.code();
+    };
+    let context = Context {
+        is_same_site: false,
+        is_top_level,
+        is_lax_by_default,
+    };
+    let status = header::get(alloc, &store, Some(context), url, now, out, needed);
     handle.put(alloc, store);
     status.code()
 }
@@ -199,10 +269,11 @@ pub extern "C" fn cookie_store_use_suffixes(
     list: &[u8],
     bad_line: &mut usize,
 ) -> u32
-    ensures { IsCodeOf result (λ status.
+    ensures outcome { IsCodeOf result (λ status.
         UsesSuffixes handle.old.store_ptr.store list.now bad_line.new (record { status = status; store = handle.new.store_ptr.store })
         ⊎ ((bad_line.new ≡ 0) × RunsOut (IsSome handle.old.store_ptr.store × IsOk (text_in list.now))
         handle.old.store_ptr.store status handle.new.store_ptr.store)) }
+    ensures strict { handle.new.is_strict ≡ handle.old.is_strict }
 {
     *bad_line = 0;
     let Some(mut store) = handle.take(alloc) else {
@@ -229,8 +300,9 @@ pub extern "C" fn cookie_store_remove(
     path: &[u8],
     name: &[u8],
 ) -> u32
-    ensures { IsCodeOf result (λ status. record { status = status; store = handle.new.store_ptr.store }
+    ensures outcome { IsCodeOf result (λ status. record { status = status; store = handle.new.store_ptr.store }
         ≡ call_outcome handle.old.store_ptr.store (remove_call domain.now path.now name.now)) }
+    ensures strict { handle.new.is_strict ≡ handle.old.is_strict }
 {
     let Some(mut store) = handle.take(alloc) else {
         return Status::NoStore.code();
@@ -243,8 +315,9 @@ pub extern "C" fn cookie_store_remove(
 /// Removes all cookies, or returns `NoStore` if the handle has no store.
 #[unsafe(no_mangle)]
 pub extern "C" fn cookie_store_clear(alloc: Global, handle: &mut StoreHandle) -> u32
-    ensures { IsCodeOf result (λ status. record { status = status; store = handle.new.store_ptr.store }
+    ensures outcome { IsCodeOf result (λ status. record { status = status; store = handle.new.store_ptr.store }
         ≡ call_outcome handle.old.store_ptr.store (Ok Clear)) }
+    ensures strict { handle.new.is_strict ≡ handle.old.is_strict }
 {
     let Some(mut store) = handle.take(alloc) else {
         return Status::NoStore.code();
@@ -273,6 +346,7 @@ pub extern "C" fn cookie_store_remove_expired(
     ensures store { IsCodeOf result (λ status. record { status = status; store = handle.new.store_ptr.store }
         ≡ expired_outcome (moment_in now) handle.old.store_ptr.store) }
     ensures removed { removed.new + rows_count handle.new.store_ptr.store ≡ rows_count handle.old.store_ptr.store }
+    ensures strict { handle.new.is_strict ≡ handle.old.is_strict }
 {
     *removed = 0;
     let Some(mut store) = handle.take(alloc) else {
@@ -289,6 +363,7 @@ pub extern "C" fn cookie_store_remove_expired(
 pub extern "C" fn cookie_store_count(alloc: Global, handle: &mut StoreHandle) -> usize
     ensures count { result ≡ count_of handle.old.store_ptr.store }
     ensures store { handle.new.store_ptr.store ≡ handle.old.store_ptr.store }
+    ensures strict { handle.new.is_strict ≡ handle.old.is_strict }
 {
     let Some(store) = handle.take(alloc) else {
         return 0;
@@ -321,6 +396,7 @@ pub extern "C" fn cookie_store_rows(
     ensures reported { IsCodeOf result (λ status. ReportsRows handle.old.store_ptr.store rows.old texts.old
         (record { status = status; rows = rows.new; texts = texts.new; rows_needed = rows_needed.new; texts_needed = texts_needed.new })) }
     ensures store { handle.new.store_ptr.store ≡ handle.old.store_ptr.store }
+    ensures strict { handle.new.is_strict ≡ handle.old.is_strict }
 {
     (*rows_needed, *texts_needed) = (0, 0);
     let Some(store) = handle.take(alloc) else {
@@ -357,6 +433,7 @@ pub extern "C" fn cookie_store_save_json(
     ensures text { IsCodeOf result (λ status. WritesText (in_store (saved_list_in ListFormat.Json all now) handle.old.store_ptr.store)
         (IsOk (in_store (saved_list_in ListFormat.Json all now) handle.old.store_ptr.store)) out.old status out.new needed.new) }
     ensures store { handle.new.store_ptr.store ≡ handle.old.store_ptr.store }
+    ensures strict { handle.new.is_strict ≡ handle.old.is_strict }
 {
     *needed = 0;
     let Some(store) = handle.take(alloc) else {
@@ -393,6 +470,7 @@ pub extern "C" fn cookie_store_save_ron(
     ensures text { IsCodeOf result (λ status. WritesText (in_store (saved_list_in ListFormat.Ron all now) handle.old.store_ptr.store)
         (IsOk (in_store (saved_list_in ListFormat.Ron all now) handle.old.store_ptr.store)) out.old status out.new needed.new) }
     ensures store { handle.new.store_ptr.store ≡ handle.old.store_ptr.store }
+    ensures strict { handle.new.is_strict ≡ handle.old.is_strict }
 {
     *needed = 0;
     let Some(store) = handle.take(alloc) else {
@@ -425,8 +503,9 @@ pub extern "C" fn cookie_store_load_json(
     now: i64,
     all: bool,
 ) -> u32
-    ensures { IsCodeOf result (λ status. Loads ListFormat.Json handle.old.store_ptr.store all now list.now (record { status = status; store = handle.new.store_ptr.store })
+    ensures outcome { IsCodeOf result (λ status. Loads ListFormat.Json handle.old.store_ptr.store all now list.now (record { status = status; store = handle.new.store_ptr.store })
         ⊎ RunsOut ((handle.old.store_ptr.store ≡ None) × IsOk (to_load now list.now)) handle.old.store_ptr.store status handle.new.store_ptr.store) }
+    ensures strict { handle.new.is_strict ≡ flag_after_new handle.old.store_ptr.store handle.new.store_ptr.store handle.old.is_strict }
 {
     if let Some(store) = handle.take(alloc) {
         handle.put(alloc, store);
@@ -460,8 +539,9 @@ pub extern "C" fn cookie_store_load_ron(
     now: i64,
     all: bool,
 ) -> u32
-    ensures { IsCodeOf result (λ status. Loads ListFormat.Ron handle.old.store_ptr.store all now list.now (record { status = status; store = handle.new.store_ptr.store })
+    ensures outcome { IsCodeOf result (λ status. Loads ListFormat.Ron handle.old.store_ptr.store all now list.now (record { status = status; store = handle.new.store_ptr.store })
         ⊎ RunsOut ((handle.old.store_ptr.store ≡ None) × IsOk (to_load now list.now)) handle.old.store_ptr.store status handle.new.store_ptr.store) }
+    ensures strict { handle.new.is_strict ≡ flag_after_new handle.old.store_ptr.store handle.new.store_ptr.store handle.old.is_strict }
 {
     if let Some(store) = handle.take(alloc) {
         handle.put(alloc, store);

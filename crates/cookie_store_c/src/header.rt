@@ -1,46 +1,71 @@
 //! The `Cookie` header of a request.
-ghost use Rattle.std.specs.Prelude.{◌≡◌, ◌≢◌, [], Err, IfErr, IfOk, IsOk};
+ghost use Rattle.std.specs.Prelude.{◌≡◌, ◌≢◌, [], string_bytes, Err, IfErr, IfOk, IsOk, OnErr};
 ghost use Rattle.cookie_words.specs.Moments.{moment_of};
 ghost use Rattle.cookie_laws.specs.Given.{given};
-ghost use Rattle.cookie_laws.specs.Header.{IsCookieHeader};
 ghost use Rattle.cookie_store_c.specs.Inputs.{text_and_time};
 ghost use Rattle.cookie_store_c.specs.Buffers.{WritesSomeText};
-ghost use Rattle.cookie_store_c.specs.Headers.{IsHeader};
+ghost use Rattle.cookie_store_c.specs.Headers.{IsHeader, IsHeaderText};
 
 use crate::buffer::copy_out;
 use crate::inputs::request;
 use crate::status::Status;
-use cookie_store::CookieStore;
+use cookie_store::strict::{Context, cookies_for};
+use cookie_store::{CookieStore, cookie_string};
 use jiff::civil::DateTime;
-use std::alloc::Global;
+use std::alloc::{AllocError, Global};
 use url::Url;
 
 /// Writes the value of the `Cookie` header of a request for `url` into `out`, and its length into
-/// `needed`.
+/// `needed`. With a context it leaves out the cookies that the request must not have.
 pub(crate) fn get(
     alloc: Global,
     store: &CookieStore,
+    context: Option<Context>,
     url: &[u8],
     now: i64,
     out: &mut [u8],
     needed: &mut usize,
 ) -> Status
-    ensures { WritesSomeText (IsHeader store.now url.now now) (IsOk (text_and_time url.now now)) out.old result out.new needed.new }
+    ensures { WritesSomeText (IsHeader context store.now url.now now) (IsOk (text_and_time url.now now)) out.old result out.new needed.new }
 {
-    copy_out(text_for(store, request(alloc, url, now)), out, needed)
+    copy_out(
+        text_for(store, context, request(alloc, url, now)),
+        out,
+        needed,
+    )
 }
 
 // Returns the value of the `Cookie` header, or the error of the request.
-fn text_for(store: &CookieStore, inputs: Result<(Url, DateTime), Status>) -> Result<Vec<u8>, Status>
+fn text_for(
+    store: &CookieStore,
+    context: Option<Context>,
+    inputs: Result<(Url, DateTime), Status>,
+) -> Result<Vec<u8>, Status>
     ensures text { IfOk result (λ text. IfOk inputs
-        (λ inputs. IsCookieHeader inputs.0 (moment_of inputs.1) store.now text.items)) }
+        (λ inputs. IsHeaderText context inputs.0 (moment_of inputs.1) store.now text.items)) }
     ensures status { (status : Status) → inputs ≡ Err status → result ≡ Err status }
     ensures memory { IfOk inputs (λ inputs. IfErr result
         (λ status. (status ≡ Status.NoMemory) × (given inputs.0 (moment_of inputs.1) store.now.rows ≢ []))) }
 {
     let (url, now) = inputs?;
-    match store.cookie_header(&url, now) {
+    match cookie_header(store, context, &url, now) {
         Ok(text) => Ok(text.into_bytes()),
         Err(_) => Err(Status::NoMemory),
+    }
+}
+
+// Returns the value of the `Cookie` header.
+fn cookie_header(
+    store: &CookieStore,
+    context: Option<Context>,
+    url: &Url,
+    now: DateTime,
+) -> Result<String, AllocError>
+    ensures text { IfOk result (λ text. IsHeaderText context url.now (moment_of now) store.now (string_bytes text)) }
+    ensures memory { OnErr result (given url.now (moment_of now) store.now.rows ≢ []) }
+{
+    match context {
+        None => store.cookie_header(url, now),
+        Some(context) => cookie_string(store.allocator(), &cookies_for(store, url, context, now)?),
     }
 }

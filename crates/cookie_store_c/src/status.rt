@@ -1,9 +1,10 @@
 //! The status codes of the C functions.
-ghost use Rattle.std.specs.Prelude.{◌≡◌};
+ghost use Rattle.std.specs.Prelude.{◌≡◌, Ok, IfErr, IfOk};
 ghost use Rattle.cookie_laws.specs.Runs.{Stored};
-ghost use Rattle.cookie_store_c.specs.Statuses.{error_status, cookie_error_status, reply_status, status_code};
+ghost use Rattle.cookie_store_c.specs.Statuses.{error_status, cookie_error_status, reply_status, status_code, strict_error_status};
 
 use cookie_store::saved::SavedError;
+use cookie_store::strict::{StrictError, StrictResult};
 use cookie_store::{CookieError, Error, InsertResult, StoreAction};
 
 /// The status that a C function returns. `cookie_store.h` documents each.
@@ -34,6 +35,12 @@ pub enum Status {
     BadShape,
     BadRon,
     BadEnd,
+    ControlCharacter,
+    TooLong,
+    InsecureUrl,
+    InsecureSameSiteNone,
+    Prefix,
+    SecureStored,
 }
 
 impl Status {
@@ -67,6 +74,12 @@ impl Status {
             Status::BadShape => 32,
             Status::BadRon => 33,
             Status::BadEnd => 34,
+            Status::ControlCharacter => 40,
+            Status::TooLong => 41,
+            Status::InsecureUrl => 42,
+            Status::InsecureSameSiteNone => 43,
+            Status::Prefix => 44,
+            Status::SecureStored => 45,
         }
     }
 
@@ -79,6 +92,23 @@ impl Status {
             Ok(StoreAction::UpdatedExisting) => Status::Updated,
             Ok(StoreAction::ExpiredExisting) => Status::ExpiredExisting,
             Err(rejection) => Status::of_cookie_error(rejection),
+        }
+    }
+
+    /// Returns the status of an insertion under the rules of browsers.
+    pub(crate) fn of_strict(reported: StrictResult) -> Status
+        ensures inserted { IfOk reported (λ action. result ≡ reply_status (Stored (Ok action))) }
+        ensures rejected { IfErr reported (λ error. result ≡ strict_error_status error) }
+    {
+        match reported {
+            Ok(action) => Status::of_reply(Ok(action)),
+            Err(StrictError::Cookie(rejection)) => Status::of_cookie_error(rejection),
+            Err(StrictError::ControlCharacter) => Status::ControlCharacter,
+            Err(StrictError::TooLong) => Status::TooLong,
+            Err(StrictError::InsecureUrl) => Status::InsecureUrl,
+            Err(StrictError::InsecureSameSiteNone) => Status::InsecureSameSiteNone,
+            Err(StrictError::Prefix) => Status::Prefix,
+            Err(StrictError::SecureStored) => Status::SecureStored,
         }
     }
 

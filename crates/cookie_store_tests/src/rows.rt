@@ -50,12 +50,12 @@ fn is_found(
     let any = value_of(store.get_any(domain, path, name));
     let is_any = store.contains_any(domain, path, name);
     is_equal(rt, &(any, is_any), &(value, value.is_some()), found);
-    let live = value_of(store.get(domain, path, name, moment));
+    let unexpired = value_of(store.get(domain, path, name, moment));
     let is_there = store.contains(domain, path, name, moment);
     let wanted = if is_unexpired { value } else { None };
     is_equal(
         rt,
-        &(live, is_there),
+        &(unexpired, is_there),
         &(wanted, is_unexpired),
         &(found, moment),
     );
@@ -70,8 +70,8 @@ fn are_unexpired(
     wanted: &str,
 ) {
     let rows = unexpired(rt, alloc, store, moment);
-    let live = listed(rt, alloc, rows.as_slice());
-    is_equal(rt, &live.as_str(), &wanted, &moment);
+    let unexpired = listed(rt, alloc, rows.as_slice());
+    is_equal(rt, &unexpired.as_str(), &wanted, &moment);
 }
 
 fn are_found(rt: &impl Abort, store: &CookieStore, before: DateTime, after: DateTime) {

@@ -3,12 +3,14 @@
 use crate::built::{UrlAndValue, store_of};
 use crate::checks::{has_the_same_rows, is_equal};
 use crate::steps::{list, new_year};
-use crate::texts::{are_listed, header, url};
+use crate::texts::{are_listed, url};
+use cookie_store::psl::List;
 use cookie_store::raw::RawCookieBuilder;
 use cookie_store::strict::{
-    Context, StrictError, StrictResult, cookies_for, insert, parse, store_response_cookies,
+    Context, Site, StrictError, StrictResult, cookies_for, insert, is_same_site, parse, site_of,
+    store_response_cookies,
 };
-use cookie_store::{Cookie, CookieError, CookieStore, StoreAction};
+use cookie_store::{Cookie, CookieError, CookieStore, StoreAction, cookie_string};
 use jiff::civil::date;
 use std::alloc::Global;
 use std::process::Abort;
@@ -396,12 +398,50 @@ fn a_cross_site_request_has_fewer_cookies(rt: HostRuntime) {
             is_lax_by_default,
         };
         let cookies = cookies_for(&store, &url, context, new_year()).expect(&rt, "memory");
-        is_equal(
-            &rt,
-            &header(&rt, rt.alloc(), cookies.as_slice()).as_str(),
-            &wanted,
-            row,
-        );
+        let text = cookie_string(rt.alloc(), &cookies).expect(&rt, "memory");
+        is_equal(&rt, &text.as_str(), &wanted, row);
+    }
+}
+
+// A URL, and the scheme and the domain of its site.
+static SITES: [(&str, Option<(&str, &str)>); 9] = [
+    ("https://www.site.co.uk/x", Some(("https", "site.co.uk"))),
+    ("https://site.co.uk:8080/", Some(("https", "site.co.uk"))),
+    ("http://a.site.co.uk/", Some(("http", "site.co.uk"))),
+    ("https://co.uk/", Some(("https", "co.uk"))),
+    ("https://a.site.com./", Some(("https", "site.com."))),
+    ("https://localhost/", Some(("https", "localhost"))),
+    ("https://10.1.2.3/", Some(("https", "10.1.2.3"))),
+    ("https://[::1]/", Some(("https", "[::1]"))),
+    ("data:x", None),
+];
+
+#[test]
+fn a_url_has_a_site(rt: HostRuntime) {
+    let list = List::from_text(rt.alloc(), "co.uk\ncom\n").expect(&rt, "a list");
+    for row in &SITES {
+        let url = url(&rt, rt.alloc(), row.0);
+        let wanted = row.1.map(|(scheme, domain)| Site { scheme, domain });
+        is_equal(&rt, &site_of(&url, &list), &wanted, row);
+    }
+}
+
+// Two URLs, and whether they are same-site.
+static SAME_SITE: [(&str, &str, bool); 6] = [
+    ("https://a.site.co.uk/", "https://b.site.co.uk:8080/x", true),
+    ("https://a.site.co.uk/", "http://a.site.co.uk/", false),
+    ("https://site.co.uk/", "https://other.co.uk/", false),
+    ("https://10.1.2.3/", "https://10.1.2.3/", true),
+    ("https://10.1.2.3/", "https://11.1.2.3/", false),
+    ("data:x", "data:x", false),
+];
+
+#[test]
+fn urls_are_same_site(rt: HostRuntime) {
+    let list = List::from_text(rt.alloc(), "co.uk\ncom\n").expect(&rt, "a list");
+    for row in &SAME_SITE {
+        let (first, second) = (url(&rt, rt.alloc(), row.0), url(&rt, rt.alloc(), row.1));
+        is_equal(&rt, &is_same_site(&first, &second, &list), &row.2, row);
     }
 }
 

@@ -1,13 +1,14 @@
 -- The store after one more header value of a response.
-use Rattle.std.proofs.Common.{◌≡◌, ℕ, ◌+◌, ◌<◌, List, [], ◌∷◌, ◌++◌, length, map, take, slice_index_or, Bor, Result, Ok, Err, OnOk, OnErr, ⊎_elim, inl, inr, refl, sym, ap, ◌∙◌}
-use Rattle.std.proofs.lemmas.List.{map-append, map_more, take-map}
+use Rattle.std.proofs.Common.{◌≡◌, ℕ, ◌+◌, ◌<◌, List, [], ◌∷◌, ◌++◌, length, map, take, drop, slice_index_or, Bor, Result, Ok, Err, None, OnOk, OnErr, ⊎_elim, inl, inr, refl, sym, ap, ◌∙◌}
+use Rattle.std.proofs.lemmas.List.{append_assoc, map-append, map_more, take-append-drop, take-map}
 use Rattle.url.specs.Parts.{Parts}
 use Rattle.cookie_words.specs.Moments.{Moment}
 use Rattle.cookie_parts.specs.declared.cookie_error.CookieError.TheVariants.{Memory}
 use Rattle.cookie_parts.specs.declared.store_action.StoreAction.{StoreAction}
 use Rattle.cookie_laws.specs.Contents.{Contents}
 use Rattle.cookie_laws.specs.Runs.{Call, Set}
-use Rattle.cookie_strict.specs.StrictRuns.{set_calls, store_after_call, strict_call, strict_store_after, IsStrictReply}
+use Rattle.cookie_strict.specs.HeaderValue.{header_error}
+use Rattle.cookie_strict.specs.StrictRuns.{set_calls, store_after_call, strict_call, strict_store_after, IsStrictReply, StopsAt}
 use Rattle.cookie_strict.specs.declared.error.StrictError.{StrictError}
 use Rattle.cookie_strict.specs.declared.error.StrictError.TheVariants.{Cookie}
 
@@ -42,3 +43,25 @@ next_value d values i url now old before new within known parsed =
     ∙ ap (λ calls. strict_store_after calls old) (sym (map-append call passed (value ∷ [])))
     ∙ ap (λ vs. strict_store_after (set_calls url now vs) old)
     (sym (map_more (λ (v : Bor (List ℕ)). v.now) values i d within) ∙ sym (take-map (λ (v : Bor (List ℕ)). v.now) (i + 1) values))
+
+-- and if memory runs out at the next one, the store is that before it
+pub stops_at_value : (d : Bor (List ℕ)) (values : List (Bor (List ℕ))) (i : ℕ) (url : Parts) (now : Moment) (old before new : Contents) → i < length values
+    → before ≡ strict_store_after (set_calls url now (take i (map (λ v. v.now) values))) old
+    → header_error (slice_index_or values i d).now ≡ None → new ≡ before → StopsAt url now (map (λ v. v.now) values) old new
+stops_at_value d values i url now old before new within known passes same =
+    let value = (slice_index_or values i d).now in
+    let all = map (λ (v : Bor (List ℕ)). v.now) values in
+    let passed = map (λ (v : Bor (List ℕ)). v.now) (take i values) in
+    let more = take-map (λ (v : Bor (List ℕ)). v.now) (i + 1) values ∙ map_more (λ (v : Bor (List ℕ)). v.now) values i d within in (
+      passed,
+      value,
+      drop (i + 1) all,
+      sym (take-append-drop (i + 1) all) ∙ ap (λ xs. xs ++ drop (i + 1) all) more ∙ append_assoc passed (value ∷ []) (drop (i + 1) all),
+      passes,
+      same ∙ known ∙ ap (λ vs. strict_store_after (set_calls url now vs) old) (take-map (λ (v : Bor (List ℕ)). v.now) i values),
+    )
+
+-- what holds anyway holds after an error
+pub on_err_anyway : {A E P : Type 0} (result : Result A E) → P → OnErr result P
+on_err_anyway (Ok a) holds = tt
+on_err_anyway (Err error) holds = holds

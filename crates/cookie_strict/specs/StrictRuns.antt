@@ -1,5 +1,5 @@
 -- Calls on a store under the draft's rules, draft-ietf-httpbis-rfc6265bis 5.7.
-use Rattle.std.specs.Prelude.{◌≡◌, ℕ, List, [], ◌∷◌, map, Option, Some, None, Result, Ok, Err, ◌⊎◌, if◌then◌else◌}
+use Rattle.std.specs.Prelude.{◌≡◌, ℕ, List, [], ◌∷◌, ◌++◌, map, Option, Some, None, Result, Ok, Err, ◌⊎◌, if◌then◌else◌}
 use Rattle.url.specs.Parts.{Parts}
 use Rattle.cookie_words.specs.Moments.{Moment}
 use Rattle.cookie_parts.specs.Cookie.{Row, and_then}
@@ -10,7 +10,7 @@ use Rattle.cookie_parts.specs.declared.store_action.StoreAction.TheVariants.{Ins
 use Rattle.cookie_laws.specs.Acceptance.{accept}
 use Rattle.cookie_laws.specs.Contents.{Contents}
 use Rattle.cookie_laws.specs.Runs.{Call, Set, Insert, Remove, Clear, Stored, step}
-use Rattle.cookie_strict.specs.HeaderValue.{pair_error, strict_cookie}
+use Rattle.cookie_strict.specs.HeaderValue.{header_error, pair_error, strict_cookie}
 use Rattle.cookie_strict.specs.Lifetime.{limited_cookie}
 use Rattle.cookie_strict.specs.StrictRules.{broken_rule}
 use Rattle.cookie_strict.specs.declared.error.StrictError.{StrictError}
@@ -82,3 +82,9 @@ allowed_calls (call ∷ calls) store =
 -- the calls that insert the cookies of these header values, received from the URL at this time
 abbrev pub set_calls : Parts → Moment → List (List ℕ) → List Call
 set_calls url now values = map (λ value. Set value url now) values
+
+-- memory ran out at a header value that passes the first checks: the cookies of those before it are stored
+abbrev pub StopsAt : Parts → Moment → List (List ℕ) → Contents → Contents → Type 0
+StopsAt url now values old new =
+    (before : List (List ℕ)) × (value : List ℕ) × (after : List (List ℕ)) × (values ≡ before ++ value ∷ after)
+    × (header_error value ≡ None) × (new ≡ strict_store_after (set_calls url now before) old)

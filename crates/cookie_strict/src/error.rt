@@ -1,6 +1,7 @@
 //! Why a cookie was rejected under the draft's rules.
 ghost use Rattle.std.specs.Prelude.{◌≡◌};
 ghost use Rattle.cookie_strict.specs.StrictErrors.{strict_error_text};
+ghost use Rattle.cookie_strict.specs.declared.error.StrictError.TheVariants.{Cookie};
 
 use cookie_parts::{CookieError, StoreAction};
 use std::fmt;
@@ -60,9 +61,6 @@ impl fmt::Display for StrictError {
 impl std::error::Error for StrictError {}
 
 impl From<CookieError> for StrictError {
-    ghost use Rattle.std.specs.Prelude.{◌≡◌};
-    ghost use Rattle.cookie_strict.specs.declared.error.StrictError.TheVariants.{Cookie};
-
     ghost from_gives = { λ error strict. strict ≡ Cookie error };
 
     fn from(error: CookieError) -> StrictError {

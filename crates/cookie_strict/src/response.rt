@@ -1,8 +1,8 @@
 //! The cookies of a response under the draft's rules.
-ghost use Rattle.std.specs.Prelude.{◌≡◌, ◌≢◌, ◌<◌, ℕ, length, map, take, Err, OnErr, OnOk};
+ghost use Rattle.std.specs.Prelude.{◌≡◌, ◌≢◌, map, Err, OnErr, OnOk};
 ghost use Rattle.cookie_words.specs.Moments.{moment_of};
 ghost use Rattle.cookie_parts.specs.declared.cookie_error.CookieError.TheVariants.{Memory};
-ghost use Rattle.cookie_strict.specs.StrictRuns.{set_calls, strict_store_after};
+ghost use Rattle.cookie_strict.specs.StrictRuns.{set_calls, strict_store_after, StopsAt};
 ghost use Rattle.cookie_strict.specs.declared.error.StrictError.TheVariants.{Cookie};
 
 use crate::{StrictError, StrictResult, parse};
@@ -17,7 +17,8 @@ use url::Url;
 ///
 /// # Errors
 ///
-/// `AllocError`: out of memory. The cookies before that one are stored.
+/// `AllocError`: out of memory, at a header value that has no control character, is a cookie and is
+/// not too long. The cookies before that one are stored.
 pub fn store_response_cookies(
     store: &mut CookieStore,
     values: &[&str],
@@ -26,8 +27,7 @@ pub fn store_response_cookies(
 ) -> Result<(), AllocError>
     ensures stored { OnOk result
         (store.new ≡ strict_store_after (set_calls url.now (moment_of now) (map (λ v. v.now) values.now)) store.old) }
-    ensures stopped { OnErr result ((count : ℕ) × (count < length values.now) × (store.new
-        ≡ strict_store_after (set_calls url.now (moment_of now) (take count (map (λ v. v.now) values.now))) store.old)) }
+    ensures stopped { OnErr result (StopsAt url.now (moment_of now) (map (λ v. v.now) values.now) store.old store.new) }
 {
     for value in values {
         unless_memory(parse(store, value, url, now))?;

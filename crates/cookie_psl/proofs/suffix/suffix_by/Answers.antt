@@ -1,6 +1,6 @@
 use Rattle.std.proofs.Common.{◌≡◌, ℕ, ◌++◌, Bool, true, false, List, length, drop, Option, Some, None, sym, ap, ◌∙◌}
 use Rattle.std.specs.Prelude.{◌==◌}
-use Rattle.cookie_psl.specs.Rules.{by_exception, by_rule, labels_of, last_labels, longest, prevailing, suffix_of, without_final_dot, Prevailing, RuleList, SuffixValue}
+use Rattle.cookie_psl.specs.Rules.{labels_of, last_labels, prevailing, suffix_of, without_final_dot, Prevailing, RuleList, SuffixValue}
 use Rattle.cookie_psl.proofs.suffix.suffix_by.Goals as goal
 
 -- the suffix given by a prevailing rule
@@ -27,21 +27,10 @@ same_parts a b e h =
     let suffix : List ℕ → Bool → SuffixValue = λ text is_known. record { text = text; is_known = is_known } in
     ap (λ text. suffix text a.is_known) e ∙ ap (λ is_known. suffix b.text is_known) h
 
--- the longest matching rules determine which one prevails
-prevailing_by : (rules : RuleList) (labels : List (List ℕ)) (exception rule : Option ℕ) → exception ≡ longest true rules labels
-    → rule ≡ longest false rules labels → by_exception exception (by_rule rule) ≡ prevailing rules labels
-prevailing_by rules labels exception rule e h =
-    ap (λ n. by_exception n (by_rule rule)) e ∙ ap (λ n. by_exception (longest true rules labels) (by_rule n)) h
-
--- the suffix of a nonempty domain, from the longest matching rules
-suffix_of-found : (rules : RuleList) (domain : List ℕ) (exception rule : Option ℕ) (value : SuffixValue)
-    → (length (without_final_dot domain) == 0) ≡ false
-    → exception ≡ longest true rules (labels_of (without_final_dot domain))
-    → rule ≡ longest false rules (labels_of (without_final_dot domain))
-    → value ≡ suffix_from domain (by_exception exception (by_rule rule)) → Some value ≡ suffix_of rules domain
-suffix_of-found rules domain exception rule value h e g same =
-    ap Some (same ∙ ap (suffix_from domain) (prevailing_by rules (labels_of (without_final_dot domain)) exception rule e g))
-    ∙ sym (suffix_of-some rules domain h)
+-- the suffix of a nonempty domain, by the prevailing rule
+suffix_of-found : (rules : RuleList) (domain : List ℕ) (value : SuffixValue) → (length (without_final_dot domain) == 0) ≡ false
+    → value ≡ suffix_from domain (prevailing rules (labels_of (without_final_dot domain))) → Some value ≡ suffix_of rules domain
+suffix_of-found rules domain value h same = ap Some same ∙ sym (suffix_of-some rules domain h)
 
 pub returns-then-is_empty-clause-value : goal.returns-then-is_empty-clause-value
 returns-then-is_empty-clause-value c = λ rules _ _.
@@ -49,13 +38,12 @@ returns-then-is_empty-clause-value c = λ rules _ _.
     (sym (ap (λ xs. length xs == 0) c.bare.ensures) ∙ sym c.is_empty.ensures ∙ c.if-is_empty.true))
 
 pub returns-clause-value : goal.returns-clause-value
-returns-clause-value c = λ rules exception rule.
+returns-clause-value c = λ rules count is_known.
     let domain = c.args.domain.now in
     let bare = without_final_dot domain in
-    let value : SuffixValue = record { text = c.from_labels.result.now; is_known = c.prevailing_count-count.result.1 } in
-    suffix_of-found rules domain c.args.exception c.args.rule value
+    let value : SuffixValue = record { text = c.from_labels.result.now; is_known = c.args.is_known } in
+    suffix_of-found rules domain value
     (sym (ap (λ xs. length xs == 0) c.bare.ensures) ∙ sym c.is_empty.ensures ∙ c.if-is_empty.false)
-    exception rule
-    (same_parts value (suffix_from domain (by_exception c.args.exception (by_rule c.args.rule)))
-    (c.from_labels.ensures.value ∙ ap (λ count. last_labels count bare ++ drop (length bare) domain) c.prevailing_count-count.ensures.count)
-    c.prevailing_count-count.ensures.is_known)
+    (same_parts value (suffix_from domain (prevailing rules (labels_of bare)))
+    (c.from_labels.ensures.value ∙ ap (λ n. last_labels n bare ++ drop (length bare) domain) count)
+    is_known)

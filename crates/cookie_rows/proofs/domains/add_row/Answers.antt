@@ -14,14 +14,14 @@ pub add-requires : goal.add-requires
 add-requires c =
     let es = c.args.groups.now.entries in
     let named = find_item_paths c.args.row.row.path.text c.args.row.row.raw.name in
-    let domain = c.domain_text.ensures ∙ ap (λ (r : Row). domain_text r.domain) c.cookie.ensures in
-    record { new = found_some named c.domain_text.result.now es c.in-Some.group.now c.in-Some.ensures.value ∙ ap (λ t. found named t (texts_of es)) domain ∙ c.requires.new }
+    let domain = c.as_str.ensures ∙ ap (λ (r : Row). domain_text r.domain) c.behind-row.view_is ∙ ap (λ (r : Row). domain_text r.domain) c.cookie.ensures in
+    record { new = found_some named c.as_str.result.now es c.in-Some.group.now c.in-Some.ensures.value ∙ ap (λ t. found named t (texts_of es)) domain ∙ c.requires.new }
 
 pub returns-in-Some-clause-added : goal.returns-in-Some-clause-added
 returns-in-Some-clause-added c =
     let es = c.args.groups.now.entries in
-    let q = c.domain_text.result.now in
-    let domain = c.domain_text.ensures ∙ ap (λ (r : Row). domain_text r.domain) c.cookie.ensures in
+    let q = c.as_str.result.now in
+    let domain = c.as_str.ensures ∙ ap (λ (r : Row). domain_text r.domain) c.behind-row.view_is ∙ ap (λ (r : Row). domain_text r.domain) c.cookie.ensures in
     let change = put_item_paths c.args.row.row c.args.row.number in
     on_ok_map c.add.result
     (λ new. ap texts_of (c.get_mut.follows.holds c.add.new.self).0
@@ -39,8 +39,8 @@ returns-in-Some-clause-unchanged c =
 pub returns-in_ok-insert-in-None-clause-added : goal.returns-in_ok-insert-in-None-clause-added
 returns-in_ok-insert-in-None-clause-added c =
     let es = c.args.groups.now.entries in
-    let q = c.domain_text.result.now in
-    let domain = c.domain_text.ensures ∙ ap (λ (r : Row). domain_text r.domain) c.cookie.ensures in
+    let q = c.as_str.result.now in
+    let domain = c.as_str.ensures ∙ ap (λ (r : Row). domain_text r.domain) c.behind-row.view_is ∙ ap (λ (r : Row). domain_text r.domain) c.cookie.ensures in
     let change = put_item_paths c.args.row.row c.args.row.number in
     let key = c.in_ok-domain-in-None.domain in
     ap texts_of c.in_ok-insert-in-None.ensures.entries

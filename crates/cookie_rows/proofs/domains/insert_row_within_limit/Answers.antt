@@ -64,8 +64,8 @@ insert_within_limit-requires-clause-new c =
     let es = c.args.groups.now.entries in
     let row = c.args.row.row in
     let named = find_item_paths row.path.text row.raw.name in
-    let q = c.as_str.ensures.value ∙ c.in_ok-domain.ensures.ok ∙ c.domain_text.ensures ∙ ap (λ (r : Row). domain_text r.domain) c.cookie.ensures in
-    found_some named c.as_str.result.now es c.in-Some.group.now c.in-Some.ensures.value ∙ ap (λ t. found named t (texts_of es)) q ∙ c.requires.new
+    let q = c.as_str-2.ensures.value ∙ c.in_ok-domain.ensures.ok ∙ c.as_str.ensures ∙ ap (λ (r : Row). domain_text r.domain) c.behind-row.view_is ∙ ap (λ (r : Row). domain_text r.domain) c.cookie.ensures in
+    found_some named c.as_str-2.result.now es c.in-Some.group.now c.in-Some.ensures.value ∙ ap (λ t. found named t (texts_of es)) q ∙ c.requires.new
 
 pub returns-in_err-left-in-Some-clause-unchanged : goal.returns-in_err-left-in-Some-clause-unchanged
 returns-in_err-left-in-Some-clause-unchanged c =
@@ -76,7 +76,7 @@ returns-in_err-left-in-Some-clause-unchanged c =
 pub returns-in-None-clause-inserted : goal.returns-in-None-clause-inserted
 returns-in-None-clause-inserted c =
     let row = c.args.row.row in
-    let q = c.as_str.ensures.value ∙ c.in_ok-domain.ensures.ok ∙ c.domain_text.ensures ∙ ap (λ (r : Row). domain_text r.domain) c.cookie.ensures in
+    let q = c.as_str-2.ensures.value ∙ c.in_ok-domain.ensures.ok ∙ c.as_str.ensures ∙ ap (λ (r : Row). domain_text r.domain) c.behind-row.view_is ∙ ap (λ (r : Row). domain_text r.domain) c.cookie.ensures in
     let none = subst (λ t. None ≡ lookup (at_text t) c.args.groups.now.entries) q c.in-None.ensures.value in
     let room = subst (λ ps. length (ranks_of (moment_of c.args.now) ps) < c.args.limit) (sym (paths_none (domain_text row.domain) c.args.groups.now.entries none)) c.requires.limit in
     on_ok_map c.add_row.result
@@ -88,14 +88,14 @@ returns-clause-inserted c =
     let row = c.args.row.row in
     let now = moment_of c.args.now in
     let es = c.args.groups.now.entries in
-    let q = c.as_str.ensures.value ∙ c.in_ok-domain.ensures.ok ∙ c.domain_text.ensures ∙ ap (λ (r : Row). domain_text r.domain) c.cookie.ensures in
+    let q = c.as_str-2.ensures.value ∙ c.in_ok-domain.ensures.ok ∙ c.as_str.ensures ∙ ap (λ (r : Row). domain_text r.domain) c.behind-row.view_is ∙ ap (λ (r : Row). domain_text r.domain) c.cookie.ensures in
     let there = subst (λ t. Some c.in-Some.group.now ≡ lookup (at_text t) es) q c.in-Some.ensures.value in
     let set = (c.get_mut.follows.holds c.insert_within_limit.new.self).0 ∙ ap (λ t. set_value (at_text t) es c.insert_within_limit.new.self) q in
     elim c.if-left.branch [
       | then-left w ↦
           subst (InsertsInDomains c.args.limit now row c.args.row.number (texts_of es))
           (sym (ap (λ m. texts_of m.entries) w.groups-is ∙ w.move_domain_to_end.ensures
-          ∙ ap (λ t. moved_to_end_if is_single_paths t (texts_of (c.get_mut.follows.lender c.insert_within_limit.new.self).entries)) (w.as_str-then-left.ensures.value ∙ c.in_ok-domain.ensures.ok ∙ c.domain_text.ensures ∙ ap (λ (r : Row). domain_text r.domain) c.cookie.ensures)
+          ∙ ap (λ t. moved_to_end_if is_single_paths t (texts_of (c.get_mut.follows.lender c.insert_within_limit.new.self).entries)) (w.as_str-then-left.ensures.value ∙ c.in_ok-domain.ensures.ok ∙ c.as_str.ensures ∙ ap (λ (r : Row). domain_text r.domain) c.behind-row.view_is ∙ ap (λ (r : Row). domain_text r.domain) c.cookie.ensures)
           ∙ ap (λ hs. moved_to_end_if is_single_paths (domain_text row.domain) (texts_of hs)) set))
           (enters_left c.args.limit now row c.args.row.number es c.in-Some.group.now c.insert_within_limit.new.self there c.in_ok-left-in-Some.left c.in_ok-left-in-Some.ensures.inserted w.if-left.true)
       | else-left w ↦

@@ -1,5 +1,7 @@
 use Rattle.std.proofs.Common.{◌∙◌, sym, ap}
 use Rattle.std.specs.Map.{set_value}
+use Rattle.cookie_parts.specs.Cookie.{Row}
+use Rattle.cookie_parts.specs.Domain.{domain_text}
 use Rattle.cookie_rows.specs.Groups.{texts_of, put_at, found}
 use Rattle.cookie_rows.specs.Items.{find_item_paths, put_item_paths}
 use Rattle.cookie_rows.proofs.Maps.{at_text, put_set, found_some, found_none}
@@ -8,23 +10,26 @@ use Rattle.cookie_rows.proofs.domains.replace_row.Goals as goal
 pub replace-requires : goal.replace-requires
 replace-requires c =
     let es = c.args.groups.now.entries in
+    let domain = c.as_str.ensures ∙ ap (λ (r : Row). domain_text r.domain) c.cookie.view_is in
     let named = find_item_paths c.args.cookie.path.text c.args.cookie.raw.name in
     record {
-      stored = λ none. c.requires.stored (ap (λ t. found named t (texts_of es)) (sym c.domain_text.ensures)
-          ∙ sym (found_some named c.domain_text.result.now es c.in-Some.group.now c.in-Some.ensures.value) ∙ none);
+      stored = λ none. c.requires.stored (ap (λ t. found named t (texts_of es)) (sym domain)
+          ∙ sym (found_some named c.as_str.result.now es c.in-Some.group.now c.in-Some.ensures.value) ∙ none);
     }
 
 pub returns-in-Some : goal.returns-in-Some
 returns-in-Some c number =
     let es = c.args.groups.now.entries in
-    let q = c.domain_text.result.now in
+    let q = c.as_str.result.now in
+    let domain = c.as_str.ensures ∙ ap (λ (r : Row). domain_text r.domain) c.cookie.view_is in
     ap texts_of (c.get_mut.follows.holds c.replace.new.self).0
     ∙ ap (λ v. texts_of (set_value (at_text q) es v)) (c.replace.ensures number)
     ∙ put_set (put_item_paths c.args.cookie number) q es c.in-Some.group.now c.in-Some.ensures.value
-    ∙ ap (λ t. put_at (put_item_paths c.args.cookie number) t (texts_of es)) c.domain_text.ensures
+    ∙ ap (λ t. put_at (put_item_paths c.args.cookie number) t (texts_of es)) domain
 
 pub returns-in-None : goal.returns-in-None
 returns-in-None c number =
+    let domain = c.as_str.ensures ∙ ap (λ (r : Row). domain_text r.domain) c.cookie.view_is in
     let named = find_item_paths c.args.cookie.path.text c.args.cookie.raw.name in
-    absurd (c.requires.stored (ap (λ t. found named t (texts_of c.args.groups.now.entries)) (sym c.domain_text.ensures)
-    ∙ sym (found_none named c.domain_text.result.now c.args.groups.now.entries c.in-None.ensures.value)))
+    absurd (c.requires.stored (ap (λ t. found named t (texts_of c.args.groups.now.entries)) (sym domain)
+    ∙ sym (found_none named c.as_str.result.now c.args.groups.now.entries c.in-None.ensures.value)))

@@ -7,14 +7,14 @@ use Rattle.cookie_lookup.specs.Groups.{flat}
 use Rattle.cookie_laws.specs.Given.{given}
 use Rattle.cookie_rows.specs.Groups.{texts_of}
 use Rattle.cookie_rows.specs.HeaderItems.{items_at}
-use Rattle.cookie_rows.specs.Items.{bare, rows_in_order, rows_of}
+use Rattle.cookie_rows.specs.Items.{bare, groups_in_order, rows_of}
 use Rattle.cookie_rows.proofs.HeaderItems.{refs_none, refs_rows, sorted_in_order, sorted_some}
 use Rattle.cookie_rows.proofs.Results.{if_ok_map, on_err_map}
 use Rattle.cookie_rows.proofs.header_order.in_header_order.Goals as goal
 
 -- the rows that were sorted are in the order of the header
 in_order : (c : goal.After-drop-positions-2)
-    → InHeaderOrder c.args.url.now (moment_of c.args.now) (contents_of (rows_in_order (texts_of c.args.groups.now.entries)) None None)
+    → InHeaderOrder c.args.url.now (moment_of c.args.now) (contents_of (groups_in_order (texts_of c.args.groups.now.entries)) None None)
     (rows_of (map (λ r. r.now) c.sort.new.items.items))
 in_order c =
     let gs = texts_of c.args.groups.now.entries in
@@ -26,7 +26,7 @@ in_order c =
 
 pub returns-clause-order : goal.returns-clause-order
 returns-clause-order c =
-    let InOrder = InHeaderOrder c.args.url.now (moment_of c.args.now) (contents_of (rows_in_order (texts_of c.args.groups.now.entries)) None None) in
+    let InOrder = InHeaderOrder c.args.url.now (moment_of c.args.now) (contents_of (groups_in_order (texts_of c.args.groups.now.entries)) None None) in
     if_ok_map c.cookies_of.result
     (λ cookies are. subst InOrder (sym (are ∙ ap (map (λ r. r.now.row)) c.deref-2.ensures.value ∙ refs_rows c.sort.new.items.items)) (in_order c))
     c.cookies_of.ensures.cookies

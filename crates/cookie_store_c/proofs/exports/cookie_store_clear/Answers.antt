@@ -1,6 +1,6 @@
 use Rattle.cookie_store_c.specs.declared.status.Status.TheVariants.{NoStore}
 use Rattle.cookie_store_c.proofs.exports.cookie_store_clear.Goals as goal
 
-pub returns-in_default : goal.returns-in_default
-returns-in_default c =
+pub returns-in_default-clause-outcome : goal.returns-in_default-clause-outcome
+returns-in_default-clause-outcome c =
     (NoStore, c.code.ensures, rw (← c.in_default.ensures.taken) (λ i. record { status = NoStore; store = c.take.ensures.empty i }))

@@ -3,7 +3,7 @@ use Rattle.cookie_words.specs.Moments.{moment_of}
 use Rattle.cookie_laws.specs.Acceptance.{accept}
 use Rattle.cookie_laws.specs.Contents.{Contents, contents_of}
 use Rattle.cookie_laws.specs.Rows.{RowsInOrder}
-use Rattle.cookie_core.proofs.Entered.{accept_keeps, unless_then}
+use Rattle.cookie_core.proofs.Inserted.{accept_keeps, unless_then}
 use Rattle.cookie_core.proofs.cookie_store.CookieStore.insert.Goals as goal
 
 pub returns-clause-store : goal.returns-clause-store

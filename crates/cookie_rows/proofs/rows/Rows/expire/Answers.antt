@@ -2,7 +2,7 @@ use Rattle.std.proofs.Common.{◌∙◌, ap, subst, sym}
 use Rattle.cookie_parts.specs.Cookie.{expired_row}
 use Rattle.cookie_laws.specs.Rows.{RowsInOrder, changed, has_key, key_of}
 use Rattle.cookie_rows.specs.Groups.{texts_of}
-use Rattle.cookie_rows.specs.Items.{AreItems, rows_in_order}
+use Rattle.cookie_rows.specs.Items.{AreItems, groups_in_order}
 use Rattle.cookie_rows.proofs.AreItems.{items_expired, kept_expired}
 use Rattle.cookie_rows.proofs.rows.Rows.expire.Goals as goal
 
@@ -14,5 +14,5 @@ invariant_of-self c =
 pub returns : goal.returns
 returns c =
     let key = key_of c.args.cookie.now in
-    ap rows_in_order c.expire_row.ensures ∙ kept_expired c.self.inside.created (texts_of c.self.inside.groups.entries) c.self.invariant key
+    ap groups_in_order c.expire_row.ensures ∙ kept_expired c.self.inside.created (texts_of c.self.inside.groups.entries) c.self.invariant key
     ∙ ap (λ (k : RowsInOrder). record k { rows = changed (has_key key) expired_row k.rows }) c.self.view_is

@@ -1,7 +1,7 @@
 use Rattle.std.proofs.Common.{◌∙◌, ap, subst, sym}
 use Rattle.cookie_laws.specs.Rows.{RowsInOrder}
 use Rattle.cookie_rows.specs.Groups.{texts_of}
-use Rattle.cookie_rows.specs.Items.{AreItems, rows_in_order}
+use Rattle.cookie_rows.specs.Items.{AreItems, groups_in_order}
 use Rattle.cookie_rows.proofs.AreItems.{some_rows}
 use Rattle.cookie_rows.proofs.Results.{either_way}
 use Rattle.cookie_rows.proofs.rows.Rows.rehashed.Goals as goal
@@ -15,4 +15,4 @@ pub invariant_of-result : goal.invariant_of-result
 invariant_of-result c = subst (AreItems c.self.inside.created) (sym c.in_ok-groups.ensures.texts) c.self.invariant
 
 pub returns-clause-rows : goal.returns-clause-rows
-returns-clause-rows c = ap rows_in_order c.in_ok-groups.ensures.texts ∙ c.self.view_is
+returns-clause-rows c = ap groups_in_order c.in_ok-groups.ensures.texts ∙ c.self.view_is

@@ -1,7 +1,7 @@
 use Rattle.std.proofs.Common.{◌∙◌, ap, subst, sym}
 use Rattle.cookie_laws.specs.Rows.{RowsInOrder, has_key, key_at, removed, row_of, same_key}
 use Rattle.cookie_rows.specs.Groups.{texts_of}
-use Rattle.cookie_rows.specs.Items.{AreItems, rows_in_order}
+use Rattle.cookie_rows.specs.Items.{AreItems, groups_in_order}
 use Rattle.cookie_rows.proofs.AreItems.{found_items, items_removed, kept_removed}
 use Rattle.cookie_rows.proofs.rows.Rows.remove.Goals as goal
 
@@ -20,5 +20,5 @@ returns-clause-value c =
 pub returns-clause-removed : goal.returns-clause-removed
 returns-clause-removed c =
     let key = key_at c.args.domain.now c.args.path.now c.args.name.now in
-    ap rows_in_order c.remove_row.ensures.removed ∙ kept_removed c.self.inside.created (texts_of c.self.inside.groups.entries) c.self.invariant key
+    ap groups_in_order c.remove_row.ensures.removed ∙ kept_removed c.self.inside.created (texts_of c.self.inside.groups.entries) c.self.invariant key
     ∙ ap (λ (k : RowsInOrder). record { rows = removed (has_key key) k.rows; created = removed (same_key key) k.created }) c.self.view_is

@@ -1,10 +1,9 @@
 use Rattle.std.proofs.Common.{◌∙◌, None, ap, arith, length, subst, sym}
 use Rattle.cookie_words.specs.Moments.{moment_of}
-use Rattle.cookie_laws.specs.Contents as Store
-use Rattle.cookie_laws.specs.Contents.{contents_of, unexpired}
+use Rattle.cookie_laws.specs.Contents.{contents_of, unexpired, rows_in_order}
 use Rattle.cookie_laws.specs.Rows.{RowsInOrder}
 use Rattle.cookie_rows.specs.Groups.{texts_of}
-use Rattle.cookie_rows.specs.Items.{AreItems, rows_in_order}
+use Rattle.cookie_rows.specs.Items.{AreItems, groups_in_order}
 use Rattle.cookie_rows.proofs.UnexpiredItems.{fewer_rows, items_unexpired, kept_unexpired}
 use Rattle.cookie_rows.proofs.rows.Rows.remove_expired.Goals as goal
 
@@ -16,8 +15,8 @@ invariant_of-self c =
 pub returns-clause-rows : goal.returns-clause-rows
 returns-clause-rows c =
     let now = moment_of c.args.now in
-    ap rows_in_order c.retain_groups.ensures ∙ kept_unexpired c.self.inside.created (texts_of c.self.inside.groups.entries) c.self.invariant now
-    ∙ ap (λ (k : RowsInOrder). Store.rows_in_order (unexpired now (contents_of k None None))) c.self.view_is
+    ap groups_in_order c.retain_groups.ensures ∙ kept_unexpired c.self.inside.created (texts_of c.self.inside.groups.entries) c.self.invariant now
+    ∙ ap (λ (k : RowsInOrder). rows_in_order (unexpired now (contents_of k None None))) c.self.view_is
 
 pub overflow_sub-result : goal.overflow_sub-result
 overflow_sub-result c =

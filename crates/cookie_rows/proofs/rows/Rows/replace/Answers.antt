@@ -1,7 +1,7 @@
 use Rattle.std.proofs.Common.{◌∙◌, sym, ap, inr, refl, subst}
 use Rattle.cookie_laws.specs.Rows.{RowsInOrder, key_of, add_created, put, row_of}
 use Rattle.cookie_rows.specs.Groups.{texts_of}
-use Rattle.cookie_rows.specs.Items.{AreItems, rows_in_order}
+use Rattle.cookie_rows.specs.Items.{AreItems, groups_in_order}
 use Rattle.cookie_rows.proofs.AreItems.{found_items, items_put, kept_put}
 use Rattle.cookie_rows.proofs.rows.Rows.replace.Goals as goal
 
@@ -26,6 +26,6 @@ pub returns : goal.returns
 returns c =
     let n = c.self.inside.created in
     let gs = texts_of c.self.inside.groups.entries in
-    ap rows_in_order (c.replace_row.ensures n)
+    ap groups_in_order (c.replace_row.ensures n)
     ∙ kept_put n gs c.self.invariant c.args.cookie
     ∙ ap (λ (k : RowsInOrder). record { rows = put k.rows c.args.cookie; created = add_created k.created (key_of c.args.cookie) }) c.self.view_is

@@ -1,6 +1,6 @@
 use Rattle.std.proofs.Common.{arith}
 use Rattle.cookie_psl.proofs.BareLabels.{bare_labels_fit}
-use Rattle.cookie_psl.proofs.list.List.suffix.Goals as goal
+use Rattle.cookie_psl.proofs.list.List.prevailing.Goals as goal
 
 pub longest-exception-requires : goal.longest-exception-requires
 longest-exception-requires c = rw c.bare.ensures (bare_labels_fit c.args.domain.now (omega arith))

@@ -62,18 +62,18 @@ keys_differ gs a r = ap (differ same_key) (sym (keys_groups gs a.1)) ∙ (and_pa
 -- a row is stored
 
 -- a key is in the creation order if and only if it is numbered
-made_any : (key : Key) (gs : ItemGroups) → list_any (same_key key) (creation_order gs) ≡ list_any (is_key key) (numbered gs)
-made_any key gs = list_any-map (λ x. x.0) (same_key key) (by_number (numbered gs)) ∙ any_ordered (is_key key) (numbered gs)
+created_any : (key : Key) (gs : ItemGroups) → list_any (same_key key) (creation_order gs) ≡ list_any (is_key key) (numbered gs)
+created_any key gs = list_any-map (λ x. x.0) (same_key key) (by_number (numbered gs)) ∙ any_ordered (is_key key) (numbered gs)
 
 module _ (row : Row) (n : ℕ) (gs : ItemGroups) where
   -- its key is created last, unless it was created before
-  pub made_put : AreGroups (bare gs) → Below n gs → creation_order (put_items row n gs) ≡ add_created (creation_order gs) (key_of row)
-  made_put a b = elim (puts row n gs) [
-    | inl h ↦ ap (λ ks. map (λ x. x.0) (by_number ks)) h.1 ∙ survives (made_any (key_of row) gs ∙ h.0)
+  pub created_put : AreGroups (bare gs) → Below n gs → creation_order (put_items row n gs) ≡ add_created (creation_order gs) (key_of row)
+  created_put a b = elim (puts row n gs) [
+    | inl h ↦ ap (λ ks. map (λ x. x.0) (by_number ks)) h.1 ∙ survives (created_any (key_of row) gs ∙ h.0)
     | inr h ↦
         ap (map (λ x. x.0)) (ordered_gained (key_of row, n) (numbered gs) (numbered (put_items row n gs)) h.1 b)
         ∙ map-append (λ (x : Key × ℕ). x.0) (by_number (numbered gs)) ((key_of row, n) ∷ [])
-        ∙ comes (made_any (key_of row) gs ∙ h.0 (texts_differ gs a))
+        ∙ comes (created_any (key_of row) gs ∙ h.0 (texts_differ gs a))
   ]
     where
       -- it was created before
@@ -148,8 +148,8 @@ map_removed key [] = refl
 map_removed key (x ∷ xs) = grind (arith, map_removed key xs)
 
 -- its key is removed
-pub made_remove : (key : Key) (gs : ItemGroups) → AreGroups (bare gs) → are_rows (flat (bare gs)) ≡ true → creation_order (remove_items key gs) ≡ removed (same_key key) (creation_order gs)
-made_remove key gs a r =
+pub created_remove : (key : Key) (gs : ItemGroups) → AreGroups (bare gs) → are_rows (flat (bare gs)) ≡ true → creation_order (remove_items key gs) ≡ removed (same_key key) (creation_order gs)
+created_remove key gs a r =
     ap (λ ks. map (λ x. x.0) (by_number ks)) ((takes key gs).0 (texts_differ gs a))
     ∙ ap (map (λ x. x.0)) (ordered_removed key (numbered gs) (keys_differ gs a r))
     ∙ map_removed key (by_number (numbered gs))

@@ -5,7 +5,7 @@ use Rattle.std.proofs.lemmas.Bool.{cond_both, and_parts, and_from}
 use Rattle.cookie_parts.specs.Cookie.{Row, expired_row}
 use Rattle.cookie_laws.specs.Rows.{Key, key_of, same_domain_equiv, same_group_equiv, same_key_equiv, same_key-true, same_domain, same_group, same_key, in_domain, in_group, has_key, after_last, changed, replaced, placed, put, differ, are_adjacent, are_rows}
 use Rattle.cookie_rows.proofs.AfterLast.{list_any-map, map-after_last, map-changed, map-replaced}
-use Rattle.cookie_rows.proofs.StandTogether.{differ-after_last, together-after_like, together-after_any, together-after_unlike}
+use Rattle.cookie_rows.proofs.Adjacent.{differ-after_last, together-after_like, together-after_any, together-after_unlike}
 
 -- keys differ, those of one domain are adjacent, and in them those of one path
 abbrev pub are_keys : List Key → Bool

@@ -9,19 +9,18 @@ use Rattle.cookie_parts.specs.Cookie.{Row, is_expired}
 use Rattle.cookie_parts.specs.Domain.{domain_text}
 use Rattle.cookie_parts.specs.declared.store_action.StoreAction.TheVariants.{Inserted}
 use Rattle.cookie_laws.specs.Acceptance.{store_by}
-use Rattle.cookie_laws.specs.Contents as Store
-use Rattle.cookie_laws.specs.Contents.{Contents, eviction_order, contents_of, has_expired, with_cookie, evicted, without}
+use Rattle.cookie_laws.specs.Contents.{Contents, eviction_order, contents_of, has_expired, with_cookie, evicted, without, rows_in_order}
 use Rattle.cookie_laws.specs.Rows.{Key, RowsInOrder, differ, key_at, key_of, add_created, put, row_of, same_domain, same_key}
 use Rattle.cookie_lookup.specs.Groups.{flat}
 use Rattle.cookie_rows.specs.Groups.{lessened_at}
-use Rattle.cookie_rows.specs.Items.{AreItems, Item, ItemGroups, ItemPaths, bare, by_number, rows_in_order, creation_order, numbered, numbered_names, numbered_paths, put_items}
+use Rattle.cookie_rows.specs.Items.{AreItems, Item, ItemGroups, ItemPaths, bare, by_number, groups_in_order, creation_order, numbered, numbered_names, numbered_paths, put_items}
 use Rattle.cookie_rows.specs.Eviction.{InsertsInDomains, IsFirstSurvivor, EvictionRank, comes_before, insert_in_domains, filter_paths, paths_of, survives, rank_of, ranks_of}
 use Rattle.cookie_rows.proofs.AreItems.{found_items, items_put, kept_put}
 use Rattle.cookie_rows.proofs.ByNumber.{all_map}
-use Rattle.cookie_rows.proofs.StoredThenEvicted.{entered_is}
-use Rattle.cookie_rows.proofs.FilteredGroups.{all_append, all_filter, all_take, differ-filter, made_domain, made_near, map-filter, none_elsewhere, numbered_near}
+use Rattle.cookie_rows.proofs.StoredThenEvicted.{inserted_is}
+use Rattle.cookie_rows.proofs.FilteredGroups.{all_append, all_filter, all_take, differ-filter, created_domain, created_near, map-filter, none_elsewhere, numbered_near}
 use Rattle.cookie_rows.proofs.LeftItems.{Agrees, EachIn, agrees, each_in_both, each_numbered, each_of_domain, has_expired_item, items_left, kept_left}
-use Rattle.cookie_rows.proofs.Made.{keys_differ, texts_differ}
+use Rattle.cookie_rows.proofs.Created.{keys_differ, texts_differ}
 use Rattle.cookie_rows.proofs.RankOrder.{not_before_itself, rank_at_place, ranks_order}
 use Rattle.cookie_rows.proofs.Eviction.{entry_rank, in_eviction_order, leaving_entries, ordered_filtered, ordered_moved, sorted_ranks, ranks_before}
 
@@ -86,7 +85,7 @@ module _ (n limit : ℕ) (gs : ItemGroups) (a : AreItems n gs) (row : Row) (now 
 
   -- the store under the limit
   abbrev store : Contents
-  store = contents_of (rows_in_order gs) None (Some limit)
+  store = contents_of (groups_in_order gs) None (Some limit)
 
   -- the keys whose rows are evicted
   abbrev leave : List Key
@@ -111,8 +110,8 @@ module _ (n limit : ℕ) (gs : ItemGroups) (a : AreItems n gs) (row : Row) (now 
       ∙ differ-filter (λ (x : Key × ℕ). x.0) (λ x. same_domain (key_of row) x.0) same_key (numbered gs) (keys_differ gs a.0 a.1)
 
   -- its keys in creation order are those of the entries in the order of their numbers
-  made_are : filter (same_domain (key_of row)) (creation_order gs) ≡ map (λ x. x.0) (by_number entries)
-  made_are = made_near (key_of row) ordered_filtered gs a.0
+  created_are : filter (same_domain (key_of row)) (creation_order gs) ≡ map (λ x. x.0) (by_number entries)
+  created_are = created_near (key_of row) ordered_filtered gs a.0
 
   -- and the keys in eviction order those of the entries in eviction order
   turned_are : (xs : List (Key × ℕ)) → eviction_order now (flat (bare gs)) (map (λ x. x.0) xs)
@@ -124,17 +123,17 @@ module _ (n limit : ℕ) (gs : ItemGroups) (a : AreItems n gs) (row : Row) (now 
 
   -- how many of them are evicted
   count : length (filter (same_domain (key_of row)) (creation_order gs)) ≡ length entries
-  count = ap length made_are ∙ length-map (by_number entries) (λ x. x.0) ∙ length_ordered entries
+  count = ap length created_are ∙ length-map (by_number entries) (λ x. x.0) ∙ length_ordered entries
 
   leave_is : leave ≡ take (length entries + 1 - limit) (map (λ x. x.0) (in_eviction_order expired_row entries))
-  leave_is = λ i. take (count i + 1 - limit) ((ap (eviction_order now (flat (bare gs))) made_are ∙ turned_are (by_number entries)) i)
+  leave_is = λ i. take (count i + 1 - limit) ((ap (eviction_order now (flat (bare gs))) created_are ∙ turned_are (by_number entries)) i)
 
   -- they are of the domain
   leave_near : AllByRecursion (λ k. k.domain ≡ domain) leave
   leave_near =
       let near = λ (k : Key). k.domain ≡ domain in
       let mine = filter (same_domain (key_of row)) (creation_order gs) in
-      let all : AllByRecursion near mine = subst (AllByRecursion near) (sym made_are) (made_domain domain (paths_of domain gs)) in
+      let all : AllByRecursion near mine = subst (AllByRecursion near) (sym created_are) (created_domain domain (paths_of domain gs)) in
       let past = has_expired now (flat (bare gs)) in
       all_take near (length mine + 1 - limit) (eviction_order now (flat (bare gs)) mine)
       (all_append near (filter past mine) (filter (λ key. not (past key)) mine) (all_filter near past mine all) (all_filter near (λ key. not (past key)) mine all))
@@ -151,11 +150,11 @@ module _ (n limit : ℕ) (gs : ItemGroups) (a : AreItems n gs) (row : Row) (now 
 
   -- if none are evicted
   enters_room : (new : ItemGroups) → length (ranks_of now (paths_of domain gs)) < limit → new ≡ put_items row n gs
-      → rows_in_order new ≡ Store.rows_in_order (store_by (Ok Inserted) store row now)
+      → groups_in_order new ≡ rows_in_order (store_by (Ok Inserted) store row now)
   enters_room new room is =
       let few : length entries < limit = subst (λ k. k < limit) (sym (ap length ranks_are) ∙ length-map entries (entry_rank expired_row)) room in
       let none : leave ≡ [] = leave_is ∙ ap (λ k. take k (map (λ (x : Key × ℕ). x.0) (in_eviction_order expired_row entries))) (no_more (length entries) limit few) in
-      ap rows_in_order is ∙ kept_put n gs a row ∙ ap (λ (s : Contents). Store.rows_in_order (with_cookie s row)) (sym (ap (λ ks. without ks store) none ∙ without_none store))
+      ap groups_in_order is ∙ kept_put n gs a row ∙ ap (λ (s : Contents). rows_in_order (with_cookie s row)) (sym (ap (λ ks. without ks store) none ∙ without_none store))
 
   module _ (first : EvictionRank) (is : IsFirstSurvivor limit now n (paths_of domain gs) first) where
     -- the surviving ones
@@ -196,7 +195,7 @@ module _ (n limit : ℕ) (gs : ItemGroups) (a : AreItems n gs) (row : Row) (now 
     agree = agrees domain test (λ key. list_any (same_key key) leave) (λ key e. none_elsewhere domain leave leave_near key e) gs (texts_differ gs a.0).0 own
 
     -- what the groups keep that are left
-    left_kept : rows_in_order (lessened_at (filter_paths test) domain gs) ≡ Store.rows_in_order (without leave store)
+    left_kept : groups_in_order (lessened_at (filter_paths test) domain gs) ≡ rows_in_order (without leave store)
     left_kept = kept_left n gs a domain test (λ key. list_any (same_key key) leave) agree ordered_filtered
 
     -- they are in order
@@ -204,28 +203,28 @@ module _ (n limit : ℕ) (gs : ItemGroups) (a : AreItems n gs) (row : Row) (now 
     left_items = items_left n gs a domain test (λ key. list_any (same_key key) leave) agree
 
     -- what is put into them is what was put before they left
-    entered : insert_in_domains test row n gs ≡ put_items row n (lessened_at (filter_paths test) domain gs)
-    entered = entered_is row n test new_stays gs (texts_differ gs a.0) (found_items n gs a (key_of row) ∙ fresh)
+    inserted : insert_in_domains test row n gs ≡ put_items row n (lessened_at (filter_paths test) domain gs)
+    inserted = inserted_is row n test new_stays gs (texts_differ gs a.0) (found_items n gs a (key_of row) ∙ fresh)
 
     -- so it keeps that, and the order
-    enters_left : (new : ItemGroups) → new ≡ insert_in_domains test row n gs → rows_in_order new ≡ Store.rows_in_order (store_by (Ok Inserted) store row now)
+    enters_left : (new : ItemGroups) → new ≡ insert_in_domains test row n gs → groups_in_order new ≡ rows_in_order (store_by (Ok Inserted) store row now)
     enters_left new e =
-        ap rows_in_order (e ∙ entered) ∙ kept_put n (lessened_at (filter_paths test) domain gs) left_items row
+        ap groups_in_order (e ∙ inserted) ∙ kept_put n (lessened_at (filter_paths test) domain gs) left_items row
         ∙ ap (λ (k : RowsInOrder). record { rows = put k.rows row; created = add_created k.created (key_of row) }) left_kept
 
     items_enter : (new : ItemGroups) → new ≡ insert_in_domains test row n gs → AreItems (n + 1) new
-    items_enter new e = subst (AreItems (n + 1)) (sym (e ∙ entered)) (items_put n (lessened_at (filter_paths test) domain gs) left_items row (n + 1) (inl refl))
+    items_enter new e = subst (AreItems (n + 1)) (sym (e ∙ inserted)) (items_put n (lessened_at (filter_paths test) domain gs) left_items row (n + 1) (inl refl))
 
   -- a new row is stored as `put` does
-  pub kept_entered : (new : ItemGroups) → InsertsInDomains limit now row n gs new → rows_in_order new ≡ Store.rows_in_order (store_by (Ok Inserted) store row now)
-  kept_entered new enters = elim enters [
+  pub kept_inserted : (new : ItemGroups) → InsertsInDomains limit now row n gs new → groups_in_order new ≡ rows_in_order (store_by (Ok Inserted) store row now)
+  kept_inserted new enters = elim enters [
     | inl e ↦ enters_room new e.0 e.1
     | inr e ↦ enters_left e.0 e.1 new e.3
   ]
 
   -- and keeps the order of the groups
-  pub items_entered : (new : ItemGroups) → InsertsInDomains limit now row n gs new → AreItems (n + 1) new
-  items_entered new enters = elim enters [
+  pub items_inserted : (new : ItemGroups) → InsertsInDomains limit now row n gs new → AreItems (n + 1) new
+  items_inserted new enters = elim enters [
     | inl e ↦ subst (AreItems (n + 1)) (sym e.1) (items_put n gs a row (n + 1) (inl refl))
     | inr e ↦ items_enter e.0 e.1 new e.3
   ]
@@ -234,8 +233,8 @@ module _ (n limit : ℕ) (gs : ItemGroups) (a : AreItems n gs) (row : Row) (now 
 
 -- what a store keeps that has none
 pub kept_unlimited : (kept : RowsInOrder) (row : Row) (now : Moment)
-    → record { rows = put kept.rows row; created = add_created kept.created (key_of row) } ≡ Store.rows_in_order (store_by (Ok Inserted) (contents_of kept None None) row now)
-kept_unlimited kept row now = ap (λ (s : Contents). Store.rows_in_order (with_cookie s row)) (sym (without_none (contents_of kept None None)))
+    → record { rows = put kept.rows row; created = add_created kept.created (key_of row) } ≡ rows_in_order (store_by (Ok Inserted) (contents_of kept None None) row now)
+kept_unlimited kept row now = ap (λ (s : Contents). rows_in_order (with_cookie s row)) (sym (without_none (contents_of kept None None)))
 
 -- under a limit of 0
 
@@ -255,9 +254,9 @@ all_leave kept row now =
 
 -- so it keeps the same
 pub kept_at_least_one : (kept : RowsInOrder) (limit : ℕ) (row : Row) (now : Moment)
-    → Store.rows_in_order (store_by (Ok Inserted) (contents_of kept None (Some (max limit 1))) row now)
-    ≡ Store.rows_in_order (store_by (Ok Inserted) (contents_of kept None (Some limit)) row now)
-kept_at_least_one kept zero row now = ap (λ ks. Store.rows_in_order (with_cookie (without ks (contents_of kept None None)) row)) (all_leave kept row now)
+    → rows_in_order (store_by (Ok Inserted) (contents_of kept None (Some (max limit 1))) row now)
+    ≡ rows_in_order (store_by (Ok Inserted) (contents_of kept None (Some limit)) row now)
+kept_at_least_one kept zero row now = ap (λ ks. rows_in_order (with_cookie (without ks (contents_of kept None None)) row)) (all_leave kept row now)
 kept_at_least_one kept (suc limit) row now =
     let same : max (suc limit) 1 ≡ suc limit = omega arith in
-    ap (λ l. Store.rows_in_order (store_by (Ok Inserted) (contents_of kept None (Some l)) row now)) same
+    ap (λ l. rows_in_order (store_by (Ok Inserted) (contents_of kept None (Some l)) row now)) same

@@ -1,0 +1,40 @@
+use Rattle.std.proofs.Common.{◌≡◌, List, [], ◌∷◌, length, map, Result, Ok, Err, OnErr, refl, ap, ◌∙◌, arith}
+use Rattle.std.specs.Prelude.{◌≢◌}
+use Rattle.std.specs.List.{filter}
+use Rattle.std.proofs.lemmas.List.Sorted.{length_permutation}
+use Rattle.url.specs.Parts.{Parts}
+use Rattle.cookie_words.specs.Moments.{Moment, moment_of}
+use Rattle.cookie_parts.specs.Cookie.{Row}
+use Rattle.cookie_laws.specs.Contents.{Contents}
+use Rattle.cookie_laws.specs.Given.{given}
+use Rattle.cookie_strict.specs.CrossSite.{is_sent, IsSent}
+use Rattle.cookie_strict.specs.declared.requests.Context.{Context}
+use Rattle.cookie_store_c.proofs.header.cookie_header.Goals as goal
+
+-- a list of no length is empty
+none : {T : Type 0} (xs : List T) → length xs ≡ 0 → xs ≡ []
+none [] h = refl
+none (x ∷ xs) h = absurd (omega (arith, h))
+
+-- nor has a list that is mapped to an empty one any items
+no_map : {A B : Type 0} (f : A → B) (xs : List A) → map f xs ≡ [] → xs ≡ []
+no_map f [] h = refl
+no_map f (x ∷ xs) h = absurd (cc)
+
+-- if what follows from an error follows from another fact, so does it after that error
+on_err_map : {A E P Q : Type 0} (result : Result A E) → (P → Q) → OnErr result P → OnErr result Q
+on_err_map (Ok a) f known = tt
+on_err_map (Err error) f known = f known
+
+-- if a cookie is sent, one is given
+some_given : (context : Context) (url : Parts) (now : Moment) (store : Contents) (cookies : List Row) → IsSent context url now store cookies → cookies ≢ []
+    → given url now store.rows ≢ []
+some_given context url now store cookies (all, order, is) some empty =
+    some (is ∙ ap (filter (is_sent context)) (none all (length_permutation (given url now store.rows) all order.0 ∙ ap length empty)))
+
+pub returns-in_ok-cookies_for-in-Some-clause-memory : goal.returns-in_ok-cookies_for-in-Some-clause-memory
+returns-in_ok-cookies_for-in-Some-clause-memory c =
+    let sent = c.in_ok-cookies_for-in-Some.ensures.sent in
+    on_err_map c.cookie_string.result
+    (λ some. some_given c.in-Some.context c.args.url.now (moment_of c.args.now) c.args.store.now _ sent (λ empty. some (c.deref.ensures.value ∙ no_map (λ c. c.now) _ empty)))
+    c.cookie_string.ensures.memory

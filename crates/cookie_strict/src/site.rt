@@ -1,0 +1,55 @@
+//! The site of a URL.
+ghost use Rattle.std.specs.Prelude.{◌≡◌, option_map};
+ghost use Rattle.cookie_strict.specs.Sites.{is_same_site, site_domain, site_of, site_value};
+
+use cookie_parts::utils::is_host_name;
+use cookie_psl::List;
+use url::Url;
+
+/// The site of a URL.
+#[derive(Clone, Copy, Debug, PartialEq, Eq)]
+pub struct Site<'u> {
+    /// The scheme, such as `https`.
+    pub scheme: &'u str,
+    /// The registrable domain of the host, such as `example.co.uk`. If it has none, because it is an
+    /// IP address or a public suffix, the host itself.
+    pub domain: &'u str,
+}
+
+/// Returns the site of `url` under a public suffix list, or `None` if the URL has no host.
+///
+/// The registrable domain is that of [`List::registrable_domain`]: if no rule of the list matches
+/// the host, its last label is the public suffix. For `ws:` and `wss:`, ask with the `http:` or
+/// `https:` URL of the same host.
+pub fn site_of<'u>(url: &'u Url, list: &List) -> Option<Site<'u>>
+    ensures { option_map site_value result ≡ site_of list.now url.now }
+{
+    let host = url.host_str()?;
+    Some(Site {
+        scheme: url.scheme(),
+        domain: site_domain(host, list),
+    })
+}
+
+/// Returns whether two URLs are same-site: both have a host, and their sites are equal.
+pub fn is_same_site(first: &Url, second: &Url, list: &List) -> bool
+    ensures { result ≡ is_same_site list.now first.now second.now }
+{
+    match (site_of(first, list), site_of(second, list)) {
+        (Some(first), Some(second)) => {
+            first.scheme == second.scheme && first.domain == second.domain
+        }
+        _ => false,
+    }
+}
+
+// Returns the registrable domain of the host, or the host itself if it has none.
+fn site_domain<'h>(host: &'h str, list: &List) -> &'h str
+    ensures { result.now ≡ site_domain list.now host.now }
+{
+    if is_host_name(host) {
+        list.registrable_domain(host).unwrap_or(host)
+    } else {
+        host
+    }
+}
