@@ -493,6 +493,19 @@ NOT_TAKEN = [
 class JarTests(unittest.TestCase):
     """Tests of each public method of http.cookiejar.CookieJar on a StoreJar."""
 
+    def test_strict(self):
+        jar, request = StoreJar(CookieStore(strict=True)), urllib.request.Request(PAGE)
+        self.assertEqual(jar.make_cookies(Response('s=1; Secure'), request), [])
+        jar.extract_cookies(Response('s=1; Secure', 'a=1'), request)
+        self.assertEqual([cookie.name for cookie in jar], ['a'])
+
+    def test_same_site(self):
+        """A cookie that is set keeps its SameSite attribute."""
+        for same_site, wanted in [('Strict', ''), ('Lax', ''), ('None', 'a=1'), ('?;', 'a=1')]:
+            jar = StoreJar()
+            jar.set_cookie(python_cookie('a.example', rest={'SameSite': same_site}))
+            self.assertEqual(jar.store.header(PAGE, same_site=False, lax_by_default=False), wanted, same_site)
+
     def test_shown(self):
         jar = jar_of('a=1', 'b=2; Domain=a.example; Path=/; Secure; HttpOnly; Max-Age=3600', 'c=3; Max-Age=0')
         first, second = jar
