@@ -33,10 +33,10 @@
  *
  *   A `cookie_store` is a handle: two words that the caller allocates, and that either hold a store
  *   or are empty. A handle starts empty, as COOKIE_STORE_INIT or as all zero bytes.
- *   cookie_store_new, cookie_store_load_json and cookie_store_load_ron create a store in an empty
- *   handle. cookie_store_free frees the store and leaves the handle empty, so that it can be used
- *   again. A handle may be moved with memcpy if the old one is not used again; otherwise it must
- *   not be copied. Its members are private.
+ *   cookie_store_new, cookie_store_load_json, cookie_store_load_ron and cookie_store_load_netscape
+ *   create a store in an empty handle. cookie_store_free frees the store and leaves the handle
+ *   empty, so that it can be used again. A handle may be moved with memcpy if the old one is not
+ *   used again; otherwise it must not be copied. Its members are private.
  *
  * Ownership
  *
@@ -71,7 +71,7 @@
  * Errors
  *
  *   A status below 10 is success, from 10 to 16 and from 40 to 45 the cookie is rejected, and from
- *   20 to 34 the call failed. Statuses are named in these comments without their prefix
+ *   20 to 36 the call failed. Statuses are named in these comments without their prefix
  *   COOKIE_STORE_. A call that fails leaves the store unchanged and writes nothing to a buffer.
  *   Each function lists its errors in the order in which they are checked: the first that applies
  *   is returned.
@@ -137,7 +137,7 @@ enum cookie_store_status {
     /* Never returned. It stands for an error of the Rust crate cookie_store. */
     COOKIE_STORE_UNSPECIFIED_DOMAIN = 16,
 
-    /* 20 to 34: the call failed. */
+    /* 20 to 36: the call failed. */
 
     /* Out of memory. */
     COOKIE_STORE_NO_MEMORY = 20,
@@ -168,6 +168,11 @@ enum cookie_store_status {
     /* Of a list to load: an expiry is not a valid date and time. Of cookies to save: one expires
      * before the year 0, which a list cannot represent. */
     COOKIE_STORE_BAD_END = 34,
+    /* A line of a cookies.txt file to load is neither a cookie nor a comment nor blank. Its number is
+     * reported. */
+    COOKIE_STORE_BAD_LINE = 35,
+    /* Of cookies to save as cookies.txt: the format cannot represent one. */
+    COOKIE_STORE_UNREPRESENTABLE = 36,
 
     /* 40 to 45: the cookie is rejected under the rules of browsers, see cookie_store_set_strict. */
 
@@ -400,6 +405,42 @@ enum cookie_store_status cookie_store_load_json(cookie_store *store, const char 
                                                 int64_t now, bool all);
 enum cookie_store_status cookie_store_load_ron(cookie_store *store, const char *key, size_t key_len, const char *list, size_t list_len,
                                                int64_t now, bool all);
+
+/* Writes the cookies as a cookies.txt file, the format of Netscape that curl, wget and Python's
+ * MozillaCookieJar read, in UTF-8.
+ *
+ * The first line is `# Netscape HTTP Cookie File`. Each cookie has a line of seven fields, separated
+ * by HTAB: its domain, with a leading dot for a domain cookie; TRUE for a domain cookie, else FALSE;
+ * its path; TRUE if it is Secure, else FALSE; its expiry in whole seconds, or 0 for a session cookie;
+ * its name; its value. The line of an HttpOnly cookie begins with `#HttpOnly_`. SameSite is not
+ * written. An expiry of 0 (EXPIRED_EXISTING) is written as 1. MozillaCookieJar reads session cookies,
+ * whose expiry is written as 0, as expired.
+ *
+ * Which cookies are written: see `all` in cookie_store_save_json. Nothing is written if the format
+ * cannot represent one of them: it has a control character, it expires before 1970, or its domain is
+ * empty or begins with a dot or `#`. Neither can it represent a cookie of a list in JSON or RON whose
+ * path does not begin with `/`, or whose name or value a header value cannot have.
+ *
+ * Errors, in the order in which they are checked: NO_STORE, BAD_MOMENT, UNREPRESENTABLE, NO_ROOM.
+ * May return NO_MEMORY instead of NO_ROOM or OK. */
+enum cookie_store_status cookie_store_save_netscape(cookie_store *store, int64_t now, bool all, char *out, size_t out_len,
+                                                    size_t *needed);
+
+/* Creates a store, in an empty handle, with the cookies of a cookies.txt file, in UTF-8.
+ *
+ * Lines end in LF or CRLF. They have the fields that cookie_store_save_netscape writes, or as other
+ * programs write them: TRUE and FALSE ignoring case; with or without a dot before the domain; without
+ * the path, which is then `/`; with an empty expiry for a session cookie; without an empty value. A
+ * fraction of the expiry is ignored. Blank lines are skipped, and so are lines that begin with `#` but
+ * not with `#HttpOnly_`. If any other line is not a cookie, nothing is loaded.
+ *
+ * `*bad_line` is set to the number of the first malformed line, counted from 1, on BAD_LINE, and to
+ * 0 otherwise. Each cookie has `has_path`. All else is as in cookie_store_load_json.
+ *
+ * Errors, in the order in which they are checked: HAS_STORE, BAD_MOMENT, NOT_UTF8, BAD_LINE.
+ * May return NO_MEMORY instead of BAD_LINE or OK. */
+enum cookie_store_status cookie_store_load_netscape(cookie_store *store, const char *key, size_t key_len, const char *list,
+                                                    size_t list_len, int64_t now, bool all, size_t *bad_line);
 
 #ifdef __cplusplus
 }

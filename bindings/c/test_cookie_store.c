@@ -387,6 +387,57 @@ static void test_list(const struct form *form) {
     loads("load at no moment", form, TEXT("[]"), LAST + 1, false, COOKIE_STORE_BAD_MOMENT, 0);
 }
 
+/* A cookies.txt file: what is written, buffers that are one byte too short and just long enough, and malformed files. */
+static const char NETSCAPE[] = "# Netscape HTTP Cookie File\n"
+                               "a.example\tFALSE\t/d\tFALSE\t1767225660\ta\t1\n"
+                               "#HttpOnly_.a.example\tTRUE\t/\tFALSE\t0\tb\t2\n";
+
+static const struct netscape_load {
+    const char *name, *file;
+    int64_t now;
+    bool all;
+    enum cookie_store_status status;
+    size_t count, line;
+} NETSCAPE_LOADS[] = {
+    {"load all", NETSCAPE, NOW + 60, true, COOKIE_STORE_OK, 2, 0},
+    {"load those that have not expired", NETSCAPE, NOW + 60, false, COOKIE_STORE_OK, 1, 0},
+    {"load nothing", "", NOW, true, COOKIE_STORE_OK, 0, 0},
+    {"load a malformed line", "# 1\n\na.example\tFALSE\t/\n", NOW, true, COOKIE_STORE_BAD_LINE, 0, 3},
+    {"load a file that is not UTF-8", "# \xff", NOW, true, COOKIE_STORE_NOT_UTF8, 0, 0},
+    {"load at a time out of range", "", LAST + 1, false, COOKIE_STORE_BAD_MOMENT, 0, 0},
+};
+
+static void test_netscape(void) {
+    cookie_store store = COOKIE_STORE_INIT;
+    char file[256];
+    size_t needed = UNSET, whole = strlen(NETSCAPE);
+    cookie_store_new(&store, "", 0);
+    set(&store, PAGE, "a=1; Max-Age=60", NOW);
+    set(&store, PAGE, "b=2; Domain=a.example; Path=/; HttpOnly; SameSite=Lax", NOW);
+    equal("save", cookie_store_save_netscape(&store, NOW, true, file, sizeof file, &needed), COOKIE_STORE_OK);
+    same_text("the file", file, needed, NETSCAPE);
+    memset(file, '-', sizeof file);
+    equal("save one byte too short", cookie_store_save_netscape(&store, NOW, true, file, whole - 1, &needed), COOKIE_STORE_NO_ROOM);
+    equal("what is needed", (long)needed, (long)whole);
+    equal("nothing is written", file[0], '-');
+    equal("save unexpired persistent cookies", cookie_store_save_netscape(&store, NOW + 60, false, file, sizeof file, &needed), COOKIE_STORE_OK);
+    same_text("no cookie", file, needed, "# Netscape HTTP Cookie File\n");
+    equal("save at a time out of range", cookie_store_save_netscape(&store, LAST + 1, false, file, sizeof file, &needed), COOKIE_STORE_BAD_MOMENT);
+    set(&store, PAGE, "c=3; Max-Age=1", FIRST);
+    equal("save an expiry before 1970", cookie_store_save_netscape(&store, NOW, true, file, sizeof file, &needed), COOKIE_STORE_UNREPRESENTABLE);
+    equal("nothing is needed for it", (long)needed, 0);
+    equal("load into a store", cookie_store_load_netscape(&store, "", 0, "", 0, NOW, true, &needed), COOKIE_STORE_HAS_STORE);
+    cookie_store_free(&store);
+    for (size_t at = 0; at < sizeof NETSCAPE_LOADS / sizeof *NETSCAPE_LOADS; at++) {
+        const struct netscape_load *load = &NETSCAPE_LOADS[at];
+        needed = UNSET;
+        equal(load->name, cookie_store_load_netscape(&store, TEXT("0123456789abcdef"), TEXT(load->file), load->now, load->all, &needed), load->status);
+        equal("its cookies", (long)cookie_store_count(&store), (long)load->count);
+        equal("its malformed line", (long)needed, (long)load->line);
+        cookie_store_free(&store);
+    }
+}
+
 /* Buffers that are one byte too short for a header, and just long enough. */
 static void test_room(void) {
     cookie_store store = COOKIE_STORE_INIT;
@@ -503,6 +554,7 @@ int main(void) {
     test_limit_and_key();
     test_rows();
     for (size_t at = 0; at < sizeof FORMS / sizeof *FORMS; at++) test_list(&FORMS[at]);
+    test_netscape();
     test_room();
     test_no_store();
     printf("test_cookie_store: %d passed, %d failed\n", passed, failed);

@@ -18,8 +18,8 @@ enum { START = 48271, END = 48281, MOST = 10000 };
 
 static const char *const PAGE = "http://shop.a.example/d/page";
 static const char *const TEXTS[] = {"a=1; Domain=a.example", "b=2; Path=/; Max-Age=60", "c=3; Expires=Thu, 01 Jan 2099 00:00:00 GMT"};
-static char json[4096], ron[4096];
-static size_t json_len, ron_len;
+static char json[4096], ron[4096], netscape[4096];
+static size_t json_len, ron_len, netscape_len;
 
 static enum cookie_store_status fill(cookie_store *store) {
     enum cookie_store_status status = cookie_store_new(store, "", 0);
@@ -72,6 +72,17 @@ static enum cookie_store_status save_ron(cookie_store *store) {
     return cookie_store_save_ron(store, NOW, true, out, sizeof out, &needed);
 }
 
+static enum cookie_store_status save_netscape(cookie_store *store) {
+    char out[4096];
+    size_t needed;
+    return cookie_store_save_netscape(store, NOW, true, out, sizeof out, &needed);
+}
+
+static enum cookie_store_status load_netscape(cookie_store *store) {
+    size_t line;
+    return cookie_store_load_netscape(store, "", 0, netscape, netscape_len, NOW, true, &line);
+}
+
 static enum cookie_store_status load_json(cookie_store *store) { return cookie_store_load_json(store, "", 0, json, json_len, NOW, true); }
 
 static enum cookie_store_status remove_cookie(cookie_store *store) {
@@ -102,8 +113,10 @@ static const struct {
     {"set_hash_key", true, set_hash_key, COOKIE_STORE_OK, false},
     {"save_json", true, save_json, COOKIE_STORE_OK, false},
     {"save_ron", true, save_ron, COOKIE_STORE_OK, false},
+    {"save_netscape", true, save_netscape, COOKIE_STORE_OK, false},
     {"load_json", false, load_json, COOKIE_STORE_OK, false},
     {"load_ron", false, load_ron, COOKIE_STORE_OK, false},
+    {"load_netscape", false, load_netscape, COOKIE_STORE_OK, false},
     {"remove", true, remove_cookie, COOKIE_STORE_OK, true},
     {"remove_expired", true, remove_expired, COOKIE_STORE_OK, true},
     {"clear", true, cookie_store_clear, COOKIE_STORE_OK, true},
@@ -153,7 +166,8 @@ int main(void) {
     int passed = 0, failed = 0;
     bool is_ready = mark && fill(&store) == COOKIE_STORE_INSERTED &&
                     cookie_store_save_json(&store, NOW, true, json, sizeof json, &json_len) == COOKIE_STORE_OK &&
-                    cookie_store_save_ron(&store, NOW, true, ron, sizeof ron, &ron_len) == COOKIE_STORE_OK;
+                    cookie_store_save_ron(&store, NOW, true, ron, sizeof ron, &ron_len) == COOKIE_STORE_OK &&
+                    cookie_store_save_netscape(&store, NOW, true, netscape, sizeof netscape, &netscape_len) == COOKIE_STORE_OK;
     cookie_store_free(&store);
     for (size_t at = 0; at < sizeof CALLS / sizeof *CALLS; at++) {
         int refused = is_ready ? refused_in(at, mark) : -1;

@@ -18,6 +18,7 @@ the system finds it.
 """
 from __future__ import annotations
 
+import contextlib
 import ctypes
 import ctypes.util
 import enum
@@ -25,15 +26,17 @@ import http.cookiejar
 import operator
 import os
 import re
+import tempfile
 import threading
 import time
 import urllib.request
 import weakref
 from typing import Any, Callable, Iterator, List, NamedTuple, Optional, Union
 
-__all__ = ['BadRule', 'Cookie', 'CookieStore', 'CookieStoreError', 'NoMemory', 'Status', 'StoreJar', 'requests_adapter']
+__all__ = ['BadLine', 'BadRule', 'Cookie', 'CookieStore', 'CookieStoreError', 'NoMemory', 'Status', 'StoreJar', 'requests_adapter']
 
 Text = Union[str, bytes]
+Path = Union[str, bytes, 'os.PathLike[str]']
 
 
 class Status(enum.IntEnum):
@@ -69,6 +72,8 @@ class Status(enum.IntEnum):
     BAD_JSON, BAD_SHAPE -- not JSON; JSON, but not a list of cookies
     BAD_RON -- not a list of cookies in RON
     BAD_END -- an expiry is not a date and time; or a cookie to save expires before the year 0
+    BAD_LINE -- a line of a cookies.txt file is not a cookie
+    UNREPRESENTABLE -- a cookies.txt file cannot represent a cookie to save
 
     Other errors:
     NO_MEMORY -- out of memory
@@ -101,6 +106,8 @@ class Status(enum.IntEnum):
     BAD_SHAPE = 32
     BAD_RON = 33
     BAD_END = 34
+    BAD_LINE = 35
+    UNREPRESENTABLE = 36
     CONTROL_CHARACTER = 40
     TOO_LONG = 41
     INSECURE_URL = 42
@@ -138,6 +145,17 @@ class BadRule(CookieStoreError):
 
     def __str__(self) -> str:
         return f'bad rule in line {self.line}'
+
+
+class BadLine(CookieStoreError):
+    """Raised for a malformed line of a cookies.txt file. line is its number, from 1."""
+
+    def __init__(self, line: int) -> None:
+        super().__init__(Status.BAD_LINE)
+        self.args, self.line = (line,), line
+
+    def __str__(self) -> str:
+        return f'line {self.line} is not a cookie'
 
 
 class Cookie(NamedTuple):
@@ -193,6 +211,8 @@ _SIGNATURES = {
     'cookie_store_save_ron': _SAVE,
     'cookie_store_load_json': _LOAD,
     'cookie_store_load_ron': _LOAD,
+    'cookie_store_save_netscape': _SAVE,
+    'cookie_store_load_netscape': (_LOAD[0], [*_LOAD[1], _LENGTH]),
 }
 
 
@@ -466,6 +486,16 @@ class CookieStore:
         """Return the cookies as a list in RON. Arguments and errors are those of save_json()."""
         return self._save(_LIBRARY.cookie_store_save_ron, now, all)
 
+    def save_netscape(self, now: Optional[int] = None, all: bool = False) -> str:
+        """Return the cookies as a cookies.txt file, which curl and MozillaCookieJar read.
+
+        Arguments are those of save_json(). SameSite is not saved. Raises UNREPRESENTABLE if the format
+        cannot represent a cookie to be saved: it has a control character, it expires before 1970, its
+        domain is empty or begins with a dot, or, in a loaded store, its path does not begin with `/`, or
+        its name or value is not one that a header value has.
+        """
+        return self._save(_LIBRARY.cookie_store_save_netscape, now, all)
+
     def _room(self) -> int:
         """Return the bytes in which nearly every list fits: one with many escaped characters is saved twice."""
         rows, texts = ctypes.c_size_t(), ctypes.c_size_t()
@@ -504,6 +534,25 @@ class CookieStore:
         See load_json(). Raises BAD_RON, BAD_END or PARSE.
         """
         return cls._load(_LIBRARY.cookie_store_load_ron, text, now, all, strict)
+
+    @classmethod
+    def load_netscape(cls, text: Text, now: Optional[int] = None, all: bool = False, *, strict: bool = False) -> CookieStore:
+        """Return a new store with the cookies of a cookies.txt file, as curl and MozillaCookieJar write it.
+
+        See load_json(). has_path is true for all of them. Raises BadLine with the number of the first
+        malformed line.
+        """
+        line = ctypes.c_size_t()
+
+        def call(*arguments: Any) -> int:
+            return _LIBRARY.cookie_store_load_netscape(*arguments, line)
+
+        try:
+            return cls._load(call, text, now, all, strict)
+        except CookieStoreError as error:
+            if error.status != Status.BAD_LINE:
+                raise
+        raise BadLine(line.value)
 
     @classmethod
     def _load(cls, call: Callable[..., int], text: Text, now: Optional[int], all: bool, strict: bool) -> CookieStore:
@@ -604,6 +653,37 @@ def _set_cookie_text(cookie: http.cookiejar.Cookie, has_path: bool, now: int) ->
     return '; '.join(words)
 
 
+# A domain that is the same as the host of a URL.
+_PLAIN_HOST = re.compile(r'[-a-zA-Z0-9_.\u0080-\U0010ffff]+|\[[0-9a-fA-F:.]+\]')
+_CONTROL = re.compile(r'[\x00-\x1f\x7f]')
+
+
+def _is_line(row: Cookie) -> bool:
+    """Return whether a cookie that the store received can be a line of a cookies.txt file."""
+    return (not any(_CONTROL.search(text) for text in row[:4]) and row.path.startswith('/')
+            and not row.domain.startswith('.') and (row.ends_at is None or row.ends_at >= 0))
+
+
+def _replace_file(name: str, text: str) -> None:
+    """Replace a file by one with this text, or leave it as it is. A device or a pipe is written."""
+    if os.path.exists(name) and not os.path.isfile(name):
+        with open(name, 'w', encoding='utf-8', newline='') as file:
+            file.write(text)
+        return
+    path = os.path.realpath(name)
+    number, beside = tempfile.mkstemp(prefix=os.path.basename(path) + '.', dir=os.path.dirname(path))
+    try:
+        with open(number, 'w', encoding='utf-8', newline='') as file:
+            file.write(text)
+            file.flush()
+            os.fsync(file.fileno())
+        os.replace(beside, path)
+    except BaseException:
+        with contextlib.suppress(FileNotFoundError):
+            os.unlink(beside)
+        raise
+
+
 # A path that needs no escaping in a URL.
 _PLAIN_PATH = re.compile(r"/[-a-zA-Z0-9_~!$&'()*+,;=:@/]*")
 
@@ -626,6 +706,9 @@ class StoreJar(http.cookiejar.CookieJar):
     its own rules what to send: before each request it copies the cookies into a jar of its own.
     With requests_adapter() it sends the header of the store.
     """
+
+    #: The file of load() and save() without a filename.
+    filename: Optional[Path] = None
 
     def __init__(self, store: Optional[CookieStore] = None, policy: Optional[http.cookiejar.CookiePolicy] = None) -> None:
         """Create a jar over this store, or over a new one."""
@@ -753,6 +836,62 @@ class StoreJar(http.cookiejar.CookieJar):
     def clear_expired_cookies(self) -> None:
         """Remove all expired cookies."""
         self.store.remove_expired()
+
+    def load(self, filename: Optional[Path] = None, ignore_discard: bool = False, ignore_expires: bool = False) -> None:
+        """Set the cookies of a cookies.txt file, which curl, wget or MozillaCookieJar wrote.
+
+        Without filename the file is that of the attribute filename. Session cookies are left out unless
+        ignore_discard is true. Expired cookies are left out, whatever ignore_expires is: no request gets
+        them. A cookie that the store rejects is left out, and a domain cookie of a public suffix on its
+        list becomes host-only. The other cookies of the jar stay.
+
+        A first line such as MozillaCookieJar demands need not be there, and an expiry of 0 is that of a
+        session cookie. Raises http.cookiejar.LoadError, an OSError, if the file is not UTF-8 or has a
+        malformed line.
+        """
+        name = self._filename(filename)
+        with open(name, 'rb') as file:
+            text = file.read()
+        try:
+            loaded = CookieStore.load_netscape(text)
+        except CookieStoreError as error:
+            if error.status not in (Status.BAD_LINE, Status.NOT_UTF8):
+                raise
+            raise http.cookiejar.LoadError(f'{name}: {error}') from error
+        with loaded:
+            for row in loaded:
+                if (ignore_discard or row.ends_at is not None) and _PLAIN_HOST.fullmatch(row.domain):
+                    self._load_row(row)
+
+    def _filename(self, filename: Optional[Path]) -> str:
+        name = self.filename if filename is None else filename
+        if name is None:
+            raise ValueError(http.cookiejar.MISSING_FILENAME_TEXT)
+        return os.fsdecode(name)
+
+    def _load_row(self, row: Cookie) -> None:
+        try:
+            self.set_cookie(_shown(row))
+        except CookieStoreError as error:
+            if int(error.status) not in _REPLIES and error.status != Status.BAD_URL:
+                raise
+
+    def save(self, filename: Optional[Path] = None, ignore_discard: bool = False, ignore_expires: bool = False) -> None:
+        """Save the cookies as a cookies.txt file, which curl, wget and MozillaCookieJar read.
+
+        Without filename the file is that of the attribute filename. Session cookies are left out unless
+        ignore_discard is true, and expired ones unless ignore_expires is true. Cookies that the format
+        cannot represent are left out: see CookieStore.save_netscape(). The expiry of a session cookie is
+        written as 0, as curl does, and MozillaCookieJar reads that as expired.
+
+        The file is written beside the old one and then renamed, so that a crash leaves one of the two
+        whole. Only its owner can read it. A device or a pipe is written.
+        """
+        with CookieStore.load_ron(self.store.save_ron(all=True), all=ignore_expires) as saved:
+            for row in saved.cookies():
+                if not ignore_discard and row.ends_at is None or not _is_line(row):
+                    saved.remove(row.domain, row.path, row.name)
+            _replace_file(self._filename(filename), saved.save_netscape(all=True))
 
     def copy(self) -> StoreJar:
         """Return a copy of the jar, over a copy of its store, with the same policy."""

@@ -105,6 +105,10 @@ RAISES = [
     ('remove_expired, after the years', lambda store: store.remove_expired(LAST + 1), Status.BAD_MOMENT),
     ('suffixes, not UTF-8', lambda store: store.use_suffixes(b'\xff'), Status.NOT_UTF8),
     ('suffixes, no rule', lambda store: store.use_suffixes('example\na..b\n'), Status.BAD_RULE),
+    ('save cookies.txt, after the years', lambda store: store.save_netscape(LAST + 1), Status.BAD_MOMENT),
+    ('load cookies.txt, not UTF-8', lambda store: CookieStore.load_netscape(b'\xff'), Status.NOT_UTF8),
+    ('load cookies.txt, after the years', lambda store: CookieStore.load_netscape('', LAST + 1), Status.BAD_MOMENT),
+    ('load cookies.txt with no cookie', lambda store: CookieStore.load_netscape('\na=1\n'), Status.BAD_LINE),
     ('save JSON, after the years', lambda store: store.save_json(LAST + 1), Status.BAD_MOMENT),
     ('save RON, after the years', lambda store: store.save_ron(LAST + 1), Status.BAD_MOMENT),
     ('load JSON, not UTF-8', lambda store: CookieStore.load_json(b'\xff'), Status.NOT_UTF8),
@@ -134,6 +138,7 @@ CLOSED = [
     ('cookies', lambda store: store.cookies()),
     ('save_json', lambda store: store.save_json()),
     ('save_ron', lambda store: store.save_ron()),
+    ('save_netscape', lambda store: store.save_netscape()),
     ('copy', lambda store: store.copy()),
 ]
 
@@ -393,7 +398,8 @@ class HeaderTests(unittest.TestCase):
         return [self.TYPES[kind] for word in words for kind in self.IN_C[word.strip()]]
 
     def test_proved_signatures(self):
-        exports = re.findall(r'#\[unsafe\(no_mangle\)\]\npub extern "C" fn (\w+)\((.*?)\)(?: -> (\w+))?\n', (PROVED / 'exports.rt').read_text(), re.S)
+        text = ''.join((PROVED / name).read_text() for name in ('exports.rt', 'list_exports.rt'))
+        exports = re.findall(r'#\[unsafe\(no_mangle\)\]\npub extern "C" fn (\w+)\((.*?)\)(?: -> (\w+))?\n', text, re.S)
         proved = {name: (self.in_c([answer])[0], self.in_c(re.findall(r'\w+: ([^,]+)', taken))) for name, taken, answer in exports}
         self.assertEqual(proved, cookie_store._SIGNATURES)
 

@@ -1,8 +1,8 @@
-"""Times a call from C and from Python, beside Python's http.cookiejar, in ten seconds.
+"""Times a call from C and from Python, and files of cookies, beside Python's http.cookiejar, in half a minute.
 Usage: tools/bench bindings [--archive FILE]
 
 Prints microseconds of processor time a call, the least of three runs, and how many times as long http.cookiejar takes as
-StoreJar. A StoreJar counts unexpired cookies only. The library is installed in a temporary folder, from --archive; without it
+StoreJar, and then as CookieStore for files. A StoreJar counts unexpired cookies only. The library is installed in a temporary folder, from --archive; without it
 the library is proved and built first. Needs a C compiler.
 
 Exit status: 0; 1 if a call fails."""
@@ -22,6 +22,7 @@ OPTIONS = ['--archive']
 HOSTS, EACH = 50, 20
 NOW = 1767225600  # 2026-01-01T00:00:00
 SECONDS = 0.2  # that a run takes
+LINES = 100_000  # of a cookies.txt file
 HEADERS = [f'c{number}=value{number}; Path=/; Max-Age=86400' for number in range(EACH)]
 
 
@@ -88,6 +89,20 @@ def measure_jar(new):
     return took
 
 
+def measure_files(module, path, each):
+    """The seconds a line that loading and saving a cookies.txt file take, by CookieStore and by MozillaCookieJar."""
+    with open(path, 'w', encoding='utf-8') as file:
+        file.write('# Netscape HTTP Cookie File\n')
+        file.writelines(f'.h{number // each}.example.com\tTRUE\t/\tFALSE\t4000000000\tc{number % each}\tvalue{number}\n' for number in range(LINES))
+    with open(path, encoding='utf-8') as file:
+        text = file.read()
+    store, jar = module.CookieStore.load_netscape(text, NOW), http.cookiejar.MozillaCookieJar()
+    jar.load(path)
+    calls = {'load': (lambda _: module.CookieStore.load_netscape(text, NOW), lambda _: http.cookiejar.MozillaCookieJar().load(path)),
+             'save': (lambda _: store.save_netscape(NOW), lambda _: jar.save(path))}
+    return {name: [measure(call, [None]) / LINES for call in pair] for name, pair in calls.items()}
+
+
 def run(options):
     with tempfile.TemporaryDirectory() as folder:
         prefix, program = build(folder, options.archive and os.path.realpath(options.archive))
@@ -95,9 +110,14 @@ def run(options):
         os.environ['COOKIE_STORE_LIBRARY'] = f'{prefix}/lib/libcookie_store.so'
         module = importlib.import_module('cookie_store')
         columns = [measure_c(program), measure_store(module), measure_jar(module.StoreJar), measure_jar(http.cookiejar.CookieJar)]
+        files = {each: measure_files(module, f'{folder}/cookies.txt', each) for each in (EACH, 1)}
     names = ['C', 'CookieStore', 'StoreJar', 'http.cookiejar', 'ratio']
     print(f'{HOSTS} hosts, microseconds'.ljust(26) + ''.join(name.rjust(15) for name in names))
     rows = [('set', 'set a cookie'), ('get_one', 'header, 1 cookie a host'), ('get_many', f'header, {EACH} cookies a host'), ('count', 'count')]
     for key, name in rows:
         took = [column[key] * 1e6 for column in columns]
         print(name.ljust(26) + ''.join(f'{each:15.2f}' for each in took + [took[3] / took[2]]))
+    print(f'{LINES:,} lines of cookies.txt, microseconds a line'.ljust(56) + ''.join(name.rjust(18) for name in ('CookieStore', 'MozillaCookieJar', 'ratio')))
+    for each, took in files.items():
+        for name, (own, other) in took.items():
+            print(f'{name}, {each} a host'.ljust(56) + ''.join(f'{value:18.2f}' for value in (own * 1e6, other * 1e6, other / own)))

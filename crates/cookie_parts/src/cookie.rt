@@ -48,6 +48,23 @@ impl<'a> Model for Cookie<'a> {
 }
 
 impl<'a> Cookie<'a> {
+    /// Makes a cookie of its parts, without validation.
+    pub fn new(
+        raw: RawCookie<'a>,
+        domain: CookieDomain,
+        path: CookiePath,
+        expires: CookieExpiration,
+    ) -> Cookie<'a>
+        ensures { result ≡ record { raw = raw.entry; domain = domain_value domain; path = path; expires = expiry_value expires } }
+    {
+        Cookie {
+            raw,
+            domain,
+            path,
+            expires,
+        }
+    }
+
     /// Parses a `Set-Cookie` header value received from `url` at `now`, RFC 6265 5.2 and 5.3.
     ///
     /// # Errors

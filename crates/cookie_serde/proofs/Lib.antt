@@ -5,6 +5,7 @@ pub mod LoadErrors
 pub mod LoadedAlike
 pub mod LoadedLines
 pub mod Migrated
+pub mod NetscapeRead
 pub mod NoneEarly
 pub mod Pairs
 pub mod ParsedJson

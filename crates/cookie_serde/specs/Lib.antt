@@ -6,6 +6,7 @@ pub mod Lists
 pub mod LoadError
 pub mod Loading
 pub mod Migration
+pub mod NetscapeLists
 pub mod RonLists
 pub mod SavedForms
 pub mod Saving

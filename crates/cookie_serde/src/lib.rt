@@ -1,5 +1,5 @@
-//! Saving and loading a store: line by line by the trait [`Bulk`], or as one list in JSON, in RON, or
-//! by functions of your own.
+//! Saving and loading a store: line by line by the trait [`Bulk`], or as one list in JSON, in RON, as
+//! a `cookies.txt` file, or by functions of your own.
 #![tactic(auto)]
 
 mod bulk;
@@ -10,6 +10,7 @@ pub mod laws;
 mod list_format;
 mod loading;
 mod migration;
+pub mod netscape;
 pub mod ron;
 mod saving;
 mod whole_text;

@@ -18,6 +18,7 @@ pub use Rattle.cookie_serde.specs.Lists
 pub use Rattle.cookie_serde.specs.LoadError
 pub use Rattle.cookie_serde.specs.Loading
 pub use Rattle.cookie_serde.specs.Migration
+pub use Rattle.cookie_serde.specs.NetscapeLists
 pub use Rattle.cookie_serde.specs.RonLists
 pub use Rattle.cookie_serde.specs.SavedForms
 pub use Rattle.cookie_serde.specs.Saving

@@ -3,7 +3,7 @@
 //! [`CookieStore`] parses `Set-Cookie` header values, stores the cookies, and returns those that
 //! match the URL of a request. The trait [`Bulk`] takes all cookies of a response, and saves and
 //! loads a store line by line. The module [`serde`] saves and loads a store as one list: in JSON,
-//! in RON, or by functions of your own.
+//! in RON, as a `cookies.txt` file, or by functions of your own.
 //!
 //! A store reads no clock: each call that depends on the time takes it as `now`, in UTC.
 #![tactic(auto)]
@@ -15,6 +15,7 @@ pub use cookie_core::{AsStore, Call, CookieStore, InsertResult, Reply, Stopped, 
 pub use cookie_laws as laws;
 pub use cookie_lookup as lookup;
 pub use cookie_lookup::Lookups;
+pub use cookie_netscape as netscape;
 pub use cookie_parts as parts;
 pub use cookie_parts::{
     Cookie, CookieDomain, CookieError, CookieExpiration, CookiePath, CookieResult, Error,

@@ -3,6 +3,7 @@ pub mod Buffers
 pub mod Calls
 pub mod Headers
 pub mod Lists
+pub mod Netscape
 pub mod Rows
 pub mod StorePtrs
 pub mod Statuses

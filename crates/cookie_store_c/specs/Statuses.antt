@@ -10,7 +10,7 @@ use Rattle.cookie_laws.specs.Runs.{Reply, Stored, Removed, Cleared}
 use Rattle.cookie_strict.specs.declared.error.StrictError.{StrictError}
 use Rattle.cookie_strict.specs.declared.error.StrictError.TheVariants as StrictCase
 use Rattle.cookie_store_c.specs.declared.status.Status.{Status}
-use Rattle.cookie_store_c.specs.declared.status.Status.TheVariants.{Done, Inserted, Updated, ExpiredExisting, NonHttpScheme, NonRelativeScheme, DomainMismatch, Expired, Parse, PublicSuffix, UnspecifiedDomain, NoMemory, BadUrl, NotUtf8, BadMoment, NoStore, HasStore, NoRoom, NotFound, BadLimit, BadRule, BadJson, BadShape, BadRon, BadEnd, ControlCharacter, TooLong, InsecureUrl, InsecureSameSiteNone, Prefix, SecureStored}
+use Rattle.cookie_store_c.specs.declared.status.Status.TheVariants.{Done, Inserted, Updated, ExpiredExisting, NonHttpScheme, NonRelativeScheme, DomainMismatch, Expired, Parse, PublicSuffix, UnspecifiedDomain, NoMemory, BadUrl, NotUtf8, BadMoment, NoStore, HasStore, NoRoom, NotFound, BadLimit, BadRule, BadJson, BadShape, BadRon, BadEnd, BadLine, Unrepresentable, ControlCharacter, TooLong, InsecureUrl, InsecureSameSiteNone, Prefix, SecureStored}
 
 -- the number of a status
 abbrev pub status_code : Status → ℕ
@@ -39,6 +39,8 @@ status_code BadJson = 31
 status_code BadShape = 32
 status_code BadRon = 33
 status_code BadEnd = 34
+status_code BadLine = 35
+status_code Unrepresentable = 36
 status_code ControlCharacter = 40
 status_code TooLong = 41
 status_code InsecureUrl = 42

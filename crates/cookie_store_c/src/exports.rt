@@ -5,7 +5,6 @@ ghost use Rattle.cookie_store_c.specs.Inputs.{text_and_time, moment_in, remove_c
 ghost use Rattle.cookie_store_c.specs.Buffers.{WritesText, WritesSomeText};
 ghost use Rattle.cookie_store_c.specs.Calls.{count_of, expired_outcome, flag_after_new, flag_after_set, in_store, insertion_outcome_in, unchanged_outcome, limit_outcome, new_outcome, rows_count, call_outcome, HasOutcome, UsesSuffixes, RunsOut};
 ghost use Rattle.cookie_store_c.specs.Headers.{cross_site, IsHeaderIn};
-ghost use Rattle.cookie_store_c.specs.Lists.{saved_list_in, to_load, Loads};
 ghost use Rattle.cookie_store_c.specs.Rows.{ReportsRows};
 ghost use Rattle.cookie_store_c.specs.Statuses.{IsCodeOf};
 ghost use Rattle.cookie_store_c.specs.declared.status.Status.{Status};
@@ -13,9 +12,8 @@ ghost use Rattle.cookie_store_c.specs.declared.status.Status.{Status};
 use crate::cookie_row::{self, CookieRow};
 use crate::handle::StoreHandle;
 use crate::status::Status;
-use crate::{calls, header, list_calls};
+use crate::{calls, header};
 use cookie_store::CookieStore;
-use cookie_store::serde::ListFormat;
 use cookie_store::strict::Context;
 use std::alloc::Global;
 
@@ -42,8 +40,8 @@ pub extern "C" fn cookie_store_new(alloc: Global, handle: &mut StoreHandle, key:
     }
 }
 
-// Boxes the store and puts it into the empty handle. It is not strict.
-fn begin(alloc: Global, handle: &mut StoreHandle, store: CookieStore) -> Status
+/// Boxes the store and puts it into the empty handle. It is not strict.
+pub(crate) fn begin(alloc: Global, handle: &mut StoreHandle, store: CookieStore) -> Status
     requires { handle.old.store_ptr.store ≡ None }
     ensures outcome { ((result ≡ Status.Done) × (handle.new.store_ptr.store ≡ Some store))
         ⊎ ((result ≡ Status.NoMemory) × (handle.new.store_ptr.store ≡ None)) }
@@ -405,150 +403,4 @@ pub extern "C" fn cookie_store_rows(
     let status = cookie_row::write_rows(&store, rows, texts, rows_needed, texts_needed);
     handle.put(alloc, store);
     status.code()
-}
-
-/// Writes the cookies as a JSON list and a line feed into `out`: all of them if `all` is true,
-/// otherwise the persistent cookies that have not expired at `now`.
-///
-/// The store is unchanged. `needed` is set to the length of the list, and to 0 on any error but
-/// `NoRoom`.
-///
-/// # Errors
-///
-/// In the order in which they are checked; `out` is unchanged:
-/// - `NoStore`: the handle has no store.
-/// - `BadMoment`: `now` is not in the years -9999 to 9999, also if `all` is true.
-/// - `BadEnd`: a cookie to be saved expires before the year 0.
-/// - `NoRoom`: `out` is shorter than `needed`.
-/// - `NoMemory`: out of memory. It may come instead of any error but the first three.
-#[unsafe(no_mangle)]
-pub extern "C" fn cookie_store_save_json(
-    alloc: Global,
-    handle: &mut StoreHandle,
-    now: i64,
-    all: bool,
-    out: &mut [u8],
-    needed: &mut usize,
-) -> u32
-    ensures text { IsCodeOf result (λ status. WritesText (in_store (saved_list_in ListFormat.Json all now) handle.old.store_ptr.store)
-        (IsOk (in_store (saved_list_in ListFormat.Json all now) handle.old.store_ptr.store)) out.old status out.new needed.new) }
-    ensures store { handle.new.store_ptr.store ≡ handle.old.store_ptr.store }
-    ensures strict { handle.new.is_strict ≡ handle.old.is_strict }
-{
-    *needed = 0;
-    let Some(store) = handle.take(alloc) else {
-        return Status::NoStore.code();
-    };
-    let status = list_calls::save(ListFormat::Json, &store, now, all, out, needed);
-    handle.put(alloc, store);
-    status.code()
-}
-
-/// Writes the cookies as a RON list and a line feed into `out`: all of them if `all` is true,
-/// otherwise the persistent cookies that have not expired at `now`.
-///
-/// The store is unchanged. `needed` is set to the length of the list, and to 0 on any error but
-/// `NoRoom`.
-///
-/// # Errors
-///
-/// In the order in which they are checked; `out` is unchanged:
-/// - `NoStore`: the handle has no store.
-/// - `BadMoment`: `now` is not in the years -9999 to 9999, also if `all` is true.
-/// - `BadEnd`: a cookie to be saved expires before the year 0.
-/// - `NoRoom`: `out` is shorter than `needed`.
-/// - `NoMemory`: out of memory. It may come instead of any error but the first three.
-#[unsafe(no_mangle)]
-pub extern "C" fn cookie_store_save_ron(
-    alloc: Global,
-    handle: &mut StoreHandle,
-    now: i64,
-    all: bool,
-    out: &mut [u8],
-    needed: &mut usize,
-) -> u32
-    ensures text { IsCodeOf result (λ status. WritesText (in_store (saved_list_in ListFormat.Ron all now) handle.old.store_ptr.store)
-        (IsOk (in_store (saved_list_in ListFormat.Ron all now) handle.old.store_ptr.store)) out.old status out.new needed.new) }
-    ensures store { handle.new.store_ptr.store ≡ handle.old.store_ptr.store }
-    ensures strict { handle.new.is_strict ≡ handle.old.is_strict }
-{
-    *needed = 0;
-    let Some(store) = handle.take(alloc) else {
-        return Status::NoStore.code();
-    };
-    let status = list_calls::save(ListFormat::Ron, &store, now, all, out, needed);
-    handle.put(alloc, store);
-    status.code()
-}
-
-/// Creates a store from the cookies of a JSON list: all of them if `all` is true, otherwise those
-/// that have not expired at `now`, session cookies included.
-///
-/// The store has no public suffix list and no limit, and its maps hash by `key`.
-///
-/// # Errors
-///
-/// In the order in which they are checked; the handle is unchanged:
-/// - `HasStore`: the handle has a store.
-/// - `BadMoment`: `now` is not in the years -9999 to 9999, also if `all` is true.
-/// - `NotUtf8`: `list` is not UTF-8.
-/// - `BadJson`, `BadShape`, `BadEnd` or `Parse`: `list` is not a valid list of cookies.
-/// - `NoMemory`: out of memory. It may come instead of any error but the first three.
-#[unsafe(no_mangle)]
-pub extern "C" fn cookie_store_load_json(
-    alloc: Global,
-    handle: &mut StoreHandle,
-    key: &[u8],
-    list: &[u8],
-    now: i64,
-    all: bool,
-) -> u32
-    ensures outcome { IsCodeOf result (λ status. Loads ListFormat.Json handle.old.store_ptr.store all now list.now (record { status = status; store = handle.new.store_ptr.store })
-        ⊎ RunsOut ((handle.old.store_ptr.store ≡ None) × IsOk (to_load now list.now)) handle.old.store_ptr.store status handle.new.store_ptr.store) }
-    ensures strict { handle.new.is_strict ≡ flag_after_new handle.old.store_ptr.store handle.new.store_ptr.store handle.old.is_strict }
-{
-    if let Some(store) = handle.take(alloc) {
-        handle.put(alloc, store);
-        return Status::HasStore.code();
-    }
-    match list_calls::load(ListFormat::Json, alloc, key, list, now, all) {
-        Ok(store) => begin(alloc, handle, store).code(),
-        Err(status) => status.code(),
-    }
-}
-
-/// Creates a store from the cookies of a RON list: all of them if `all` is true, otherwise those
-/// that have not expired at `now`, session cookies included.
-///
-/// The store has no public suffix list and no limit, and its maps hash by `key`.
-///
-/// # Errors
-///
-/// In the order in which they are checked; the handle is unchanged:
-/// - `HasStore`: the handle has a store.
-/// - `BadMoment`: `now` is not in the years -9999 to 9999, also if `all` is true.
-/// - `NotUtf8`: `list` is not UTF-8.
-/// - `BadRon`, `BadEnd` or `Parse`: `list` is not a valid list of cookies.
-/// - `NoMemory`: out of memory. It may come instead of any error but the first three.
-#[unsafe(no_mangle)]
-pub extern "C" fn cookie_store_load_ron(
-    alloc: Global,
-    handle: &mut StoreHandle,
-    key: &[u8],
-    list: &[u8],
-    now: i64,
-    all: bool,
-) -> u32
-    ensures outcome { IsCodeOf result (λ status. Loads ListFormat.Ron handle.old.store_ptr.store all now list.now (record { status = status; store = handle.new.store_ptr.store })
-        ⊎ RunsOut ((handle.old.store_ptr.store ≡ None) × IsOk (to_load now list.now)) handle.old.store_ptr.store status handle.new.store_ptr.store) }
-    ensures strict { handle.new.is_strict ≡ flag_after_new handle.old.store_ptr.store handle.new.store_ptr.store handle.old.is_strict }
-{
-    if let Some(store) = handle.take(alloc) {
-        handle.put(alloc, store);
-        return Status::HasStore.code();
-    }
-    match list_calls::load(ListFormat::Ron, alloc, key, list, now, all) {
-        Ok(store) => begin(alloc, handle, store).code(),
-        Err(status) => status.code(),
-    }
 }

@@ -10,5 +10,7 @@ mod handle;
 mod header;
 mod inputs;
 mod list_calls;
+mod list_exports;
+mod netscape_calls;
 mod status;
 mod store_ptr;

@@ -1,7 +1,7 @@
 //! Readers and writers that fail, for each format of saving and loading.
 use crate::built::store_of;
 use crate::checks::{end_of, has_the_same_rows, is_equal};
-use crate::forms::{CASES, Case, FROM, RECEIVED, Shape, load, save};
+use crate::forms::{CASES, Case, FROM, RECEIVED, Shape, load, loaded, save};
 use crate::saved::Which;
 use crate::steps::new_year;
 use crate::texts::url;
@@ -192,16 +192,19 @@ fn is_loaded_whole(
     outcome.is_ok()
 }
 
+// The store that is loaded: of all cookies that were saved, without what a `cookies.txt` file does not
+// say of them.
+fn store_loaded(rt: &impl Abort, alloc: Global, case: &Case) -> CookieStore {
+    match case.0 {
+        Shape::Netscape => loaded(rt, alloc, case.0, FROM, &Which::All, case.1),
+        _ => store_of(rt, alloc, &RECEIVED),
+    }
+}
+
 // Loads with each read failing in turn, and at last without a failure.
-fn each_read_fails(
-    rt: &impl Abort,
-    alloc: Global,
-    store: &CookieStore,
-    case: &Case,
-    which: &Which,
-    most: usize,
-) {
+fn each_read_fails(rt: &impl Abort, alloc: Global, case: &Case, which: &Which, most: usize) {
     let url = url(rt, alloc, FROM);
+    let store = &store_loaded(rt, alloc, case);
     for fails_at in 1..1_000 {
         if is_loaded_whole(
             rt,
@@ -219,11 +222,10 @@ fn each_read_fails(
 
 #[test]
 fn a_failed_read_stops_the_loading(rt: HostRuntime) {
-    let store = store_of(&rt, rt.alloc(), &RECEIVED);
     for case in &CASES {
         for most in &[1, 3, usize::MAX] {
-            each_read_fails(&rt, rt.alloc(), &store, case, &Which::All, *most);
-            each_read_fails(&rt, rt.alloc(), &store, case, &Which::At(new_year()), *most);
+            each_read_fails(&rt, rt.alloc(), case, &Which::All, *most);
+            each_read_fails(&rt, rt.alloc(), case, &Which::At(new_year()), *most);
         }
     }
 }

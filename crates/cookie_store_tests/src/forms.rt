@@ -4,10 +4,11 @@ use crate::checks::{end_of, has_the_same_rows, is_equal};
 use crate::json::{load_json_from, save_json};
 use crate::lists::{Form, load_list, load_text, save_list, save_text};
 use crate::loaded::{Loaded, Notes, load_lines};
+use crate::netscape::{load_file, save_file};
 use crate::saved::{LASTING, Names, Saved, Which, save_lines};
 use crate::steps::new_year;
 use crate::texts::{are_all, are_listed, listed, unexpired, url, value_of};
-use crate::{json, lists, loaded, ron};
+use crate::{json, lists, loaded, netscape, ron};
 use cookie_fakes::Fake;
 use cookie_store::CookieStore;
 use jiff::civil::date;
@@ -15,14 +16,15 @@ use std::alloc::Global;
 use std::process::Abort;
 use url::Url;
 
-// The format: lines or one string by functions of the test, lines of JSON, or a list in JSON or
-// RON.
+// The format: lines or one string by functions of the test, lines of JSON, a list in JSON or RON, or
+// a `cookies.txt` file.
 #[derive(Clone, Copy, Debug)]
 pub enum Shape {
     Lines,
     Text,
     JsonLines,
     List(Form),
+    Netscape,
 }
 
 pub fn save(
@@ -37,6 +39,7 @@ pub fn save(
         Shape::Text => save_text(alloc, store, which, fake),
         Shape::JsonLines => save_json(store, which, fake),
         Shape::List(form) => save_list(form, store, which, fake),
+        Shape::Netscape => save_file(store, which, fake),
     }
 }
 
@@ -53,6 +56,7 @@ pub fn load<'a>(
         Shape::Text => load_text(alloc, url, which, fake),
         Shape::JsonLines => load_json_from(alloc, which, fake),
         Shape::List(form) => load_list(form, alloc, which, fake),
+        Shape::Netscape => load_file(alloc, which, fake),
     }
 }
 
@@ -125,12 +129,13 @@ pub const IN_JSON: Shape = Shape::List(Form::Json);
 
 pub const IN_RON: Shape = Shape::List(Form::Ron);
 
-pub static CASES: [Case; 5] = [
+pub static CASES: [Case; 6] = [
     (Shape::Lines, LINES),
     (Shape::Text, TEXT),
     (Shape::JsonLines, JSON_LINES),
     (IN_JSON, JSON),
     (IN_RON, RON),
+    (Shape::Netscape, netscape::SAVED),
 ];
 
 // Cookies of one URL, two of which have expired.

@@ -40,6 +40,8 @@ mod matching;
 #[cfg(test)]
 mod migrated;
 #[cfg(test)]
+mod netscape;
+#[cfg(test)]
 mod responses;
 #[cfg(test)]
 mod ron;

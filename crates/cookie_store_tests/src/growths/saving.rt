@@ -22,7 +22,7 @@ fn is_cut_off_well(case: &forms::Case, written: &[u8]) -> bool {
             case.1.as_bytes().starts_with(written)
                 && (written.is_empty() || written.ends_with(b"\n"))
         }
-        Shape::Text | Shape::List(_) => written.is_empty(),
+        Shape::Text | Shape::List(_) | Shape::Netscape => written.is_empty(),
     }
 }
 
@@ -69,7 +69,7 @@ fn save_incl_expired_and_nonpersistent(rt: HostRuntime) {
 // A format, a text, and what the store loaded from it returns for `FROM`.
 type Source = (Shape, &'static [u8], &'static str);
 
-static SOURCES: [Source; 5] = [
+static SOURCES: [Source; 6] = [
     (
         Shape::Lines,
         b"x=1; Domain=b.example.com; Path=/\n\
@@ -99,6 +99,11 @@ static SOURCES: [Source; 5] = [
         br#"[(raw_cookie: "y=1", path: ("/", true), domain: Suffix("example.com"), expires: SessionEnd),
 (raw_cookie: "u=1", path: ("/p", false), domain: HostOnly("a.b.example.com"), expires: AtUtc("2100-08-03T00:38:37Z"))]
 "#,
+        "y=1; u=1",
+    ),
+    (
+        Shape::Netscape,
+        b".example.com\tTRUE\t/\tFALSE\t0\ty\t1\na.b.example.com\tFALSE\t/p\tFALSE\t4121282317\tu\t1\n",
         "y=1; u=1",
     ),
 ];

@@ -1,0 +1,249 @@
+"""Tests for the cookies.txt files of cookie_store.py.
+
+    COOKIE_STORE_LIBRARY=FILE python3 -m unittest test_files
+
+Files that curl and http.cookiejar.MozillaCookieJar write are loaded, and both load files that are
+written here. A server on 127.0.0.1 sets the cookies that curl stores, and records those that it sends.
+"""
+import email.message
+import http.cookiejar
+import http.server
+import os
+import pathlib
+import shutil
+import stat
+import subprocess
+import tempfile
+import threading
+import unittest
+import urllib.request
+from unittest import mock
+
+from cookie_store import BadLine, CookieStore, CookieStoreError, Status, StoreJar
+
+HOST, PATH = 'shop.a.example', '/d/page'
+NOW = 1767225600  # 2026-01-01T00:00:00
+SECONDS = 20  # the longest that a test waits for a client
+
+# Header values received from HOST and PATH that curl, Python and RFC 6265 store alike. Without Path, the default path of curl
+# and Python ends in a slash.
+TEXTS = [
+    'a=1; Path=/d', 'b=2; Path=/', 'c=3; Path=/d', 'd=4; Path=/d/', 'e=5; Path=/other', 'f=; Path=/d', 'g="7"; Path=/d', 'h=a=b; Path=/d',
+    'i=9; Path=/d; Domain=a.example', 'j=10; Domain=.a.example; Path=/', 'k=11; Path=/d; Domain=shop.a.example', 'l=12; Path=/d; HttpOnly',
+    'm=13; Path=/; HttpOnly; Domain=a.example', 'n=14; Path=/d; Expires=Tue, 03 Aug 2100 00:38:37 GMT',
+    'o=15; Expires=Fri, 31 Dec 2100 23:59:59 GMT; Path=/; Domain=a.example', 'p=16; Path=/d; SameSite=Lax', 'q.r_s-t=17; Path=/d',
+    'u=%2F; Path=/d', 'v=1|2; Path=/d', 'w=x y z; Path=/d',
+]
+
+# Lines of a loaded file, and the names and domains of the cookies that a jar then has.
+LOADED = [
+    ('', 'a shop.a.example, b a.example'),
+    ('a b.example\tFALSE\t/\tFALSE\t0\tc\t3\n', 'a shop.a.example, b a.example'),
+    ('a.example/x\tFALSE\t/\tFALSE\t0\tc\t3\n', 'a shop.a.example, b a.example'),
+    ('u@a.example\tFALSE\t/\tFALSE\t0\tc\t3\n', 'a shop.a.example, b a.example'),
+    ('a.example:8\tFALSE\t/\tFALSE\t0\tc\t3\n', 'a shop.a.example, b a.example'),
+    ('[::1]\tFALSE\t/\tFALSE\t0\tc\t3\n', 'a shop.a.example, b a.example, c [::1]'),
+    ('127.0.0.1\tFALSE\t/\tFALSE\t0\tc\t3\n', 'a shop.a.example, b a.example, c 127.0.0.1'),
+    ('shop.a.example\tFALSE\t/d\tFALSE\t1\ta\t3\n', 'a shop.a.example, b a.example'),
+]
+
+FILE = ('# Netscape HTTP Cookie File\n'
+        'shop.a.example\tFALSE\t/d\tFALSE\t0\ta\t1\n'
+        '#HttpOnly_.a.example\tTRUE\t/\tTRUE\t4121282317\tb\t2\n')
+
+
+class Response:
+    """A response with these Set-Cookie header values, as jars take it."""
+
+    def __init__(self, *texts):
+        self.message = email.message.Message()
+        for text in texts:
+            self.message['Set-Cookie'] = text
+
+    def info(self):
+        return self.message
+
+
+def rows_of(store):
+    """Return what a file says of the cookies of a store."""
+    return sorted((row.domain, row.host_only, row.path, row.name, row.value, row.ends_at, row.secure, row.http_only) for row in store)
+
+
+class Page(http.server.BaseHTTPRequestHandler):
+    """Sets the cookies of TEXTS, and records the Cookie header."""
+
+    def do_GET(self):
+        self.server.headers.append(self.headers['Cookie'])
+        self.send_response(200)
+        for text in TEXTS:
+            self.send_header('Set-Cookie', text)
+        self.send_header('Content-Length', '0')
+        self.end_headers()
+
+    def log_message(self, *_):
+        pass
+
+
+class FileTests(unittest.TestCase):
+    """Files in a temporary folder."""
+
+    def setUp(self):
+        folder = tempfile.TemporaryDirectory()
+        self.addCleanup(folder.cleanup)
+        self.path = os.path.join(folder.name, 'cookies.txt')
+
+    def write(self, text):
+        with open(self.path, 'w', encoding='utf-8') as file:
+            file.write(text)
+
+    def read(self):
+        with open(self.path, encoding='utf-8') as file:
+            return file.read()
+
+    def test_store(self):
+        store = CookieStore.load_netscape(FILE, NOW)
+        self.assertEqual([(row.name, row.host_only, row.has_path, row.ends_at) for row in store],
+                         [('a', True, True, None), ('b', False, True, 4121282317)])
+        self.assertEqual(store.save_netscape(NOW, all=True), FILE)
+        self.assertEqual(store.save_netscape(4121282317), '# Netscape HTTP Cookie File\n')
+        store.set(f'http://{HOST}/', 'c=3\t4', NOW)
+        with self.assertRaises(CookieStoreError) as raised:
+            store.save_netscape(all=True)
+        self.assertEqual(raised.exception.status, Status.UNREPRESENTABLE)
+
+    def test_malformed_line(self):
+        with self.assertRaises(BadLine) as raised:
+            CookieStore.load_netscape(FILE + 'a\tb\n')
+        self.assertEqual((raised.exception.line, str(raised.exception)), (4, 'line 4 is not a cookie'))
+        self.write(FILE + 'a\tb\n')
+        jar = StoreJar()
+        with self.assertRaises(http.cookiejar.LoadError):
+            jar.load(self.path)
+        self.assertEqual(len(jar), 0)
+
+    def test_jar(self):
+        """ignore_discard and ignore_expires select the cookies as MozillaCookieJar does."""
+        rows = [((False, False), 'b'), ((True, False), 'ab'), ((False, True), 'bc'), ((True, True), 'abc')]
+        expired = f'{HOST}\tFALSE\t/d\tFALSE\t1\tc\t3\n'
+        for words, wanted in rows:
+            jar = StoreJar(CookieStore.load_netscape(FILE + expired, all=True))
+            jar.save(self.path, *words)
+            saved = CookieStore.load_netscape(self.read(), all=True)
+            self.assertEqual(''.join(sorted(row.name for row in saved)), wanted, words)
+            self.write(FILE + expired)
+            jar = StoreJar()
+            jar.load(self.path, *words)
+            self.assertEqual(''.join(sorted(row.name for row in jar.store)), wanted.replace('c', ''), words)
+
+    def test_loaded_cookies(self):
+        for lines, wanted in LOADED:
+            jar = StoreJar()
+            self.write(FILE + lines)
+            jar.load(self.path, ignore_discard=True, ignore_expires=True)
+            self.assertEqual(', '.join(f'{row.name} {row.domain}' for row in jar.store), wanted, lines)
+
+    def test_cookies_that_are_no_line_are_left_out(self):
+        jar = StoreJar()
+        for text in ('a=1\t2', 'b=2', 'c=3; Path=/\x7f'):
+            jar.store.set(f'http://{HOST}/', text)
+        jar.store.set('http://.a.example/', 'd=4')
+        jar.store.set(f'http://{HOST}/', 'e=5; Max-Age=60', -100)
+        jar.save(self.path, ignore_discard=True, ignore_expires=True)
+        self.assertEqual([row.name for row in CookieStore.load_netscape(self.read(), all=True)], ['b'])
+
+    def test_file_names(self):
+        jar = StoreJar(CookieStore.load_netscape(FILE, NOW))
+        with self.assertRaises(ValueError):
+            jar.save()
+        with self.assertRaises(ValueError):
+            jar.load()
+        for name in (self.path, os.fsencode(self.path), pathlib.Path(self.path)):
+            jar.filename = name
+            jar.save(ignore_discard=True)
+            jar.clear()
+            jar.load(ignore_discard=True)
+            self.assertEqual((len(jar), self.read()), (2, FILE), name)
+        with self.assertRaises(FileNotFoundError):
+            jar.save(os.path.join(self.path + '.d', 'cookies.txt'))
+        link = self.path + '.link'
+        os.symlink(self.path, link)
+        jar.clear()
+        jar.save(link)
+        self.assertTrue(os.path.islink(link))
+        self.assertEqual(self.read(), '# Netscape HTTP Cookie File\n')
+        jar.save('/dev/null')
+        self.assertFalse(os.path.isfile('/dev/null'))
+
+    def test_rejected_cookies_are_left_out(self):
+        jar = StoreJar(CookieStore(strict=True))
+        self.write(FILE + f'{HOST}\tFALSE\t/\tFALSE\t0\t__Secure-c\t3\n')
+        jar.load(self.path, ignore_discard=True)
+        self.assertEqual([cookie.name for cookie in jar], ['a', 'b'])
+
+    def test_cookie_of_a_public_suffix_becomes_host_only(self):
+        jar = StoreJar()
+        jar.store.use_suffixes('example\na.example\n')
+        self.write(FILE)
+        jar.load(self.path, ignore_discard=True)
+        self.assertEqual([(row.name, row.host_only) for row in jar.store], [('a', True), ('b', True)])
+
+    def test_file_is_replaced_whole(self):
+        self.write('old')
+        jar = StoreJar(CookieStore.load_netscape(FILE, NOW))
+        for name in ('os.fsync', 'os.replace'):
+            with mock.patch(name, side_effect=OSError(name)), self.assertRaises(OSError):
+                jar.save(self.path)
+            self.assertEqual((self.read(), os.listdir(os.path.dirname(self.path))), ('old', ['cookies.txt']), name)
+        jar.save(self.path, ignore_discard=True)
+        self.assertEqual((self.read(), stat.S_IMODE(os.stat(self.path).st_mode)), (FILE, 0o600))
+
+    def test_python(self):
+        """MozillaCookieJar's files are loaded, and it loads ours: 0, a session cookie here, has expired there."""
+        theirs, ours = http.cookiejar.MozillaCookieJar(), CookieStore()
+        request = urllib.request.Request(f'https://{HOST}{PATH}')
+        for text in [*TEXTS, 's=1; Path=/d; Secure']:
+            theirs.extract_cookies(Response(text), request)
+            ours.set(request.full_url, text)
+        # A cookie without `=`, which RFC 6265 rejects, has no value there.
+        theirs.extract_cookies(Response('x; Path=/d'), request)
+        ours.set(request.full_url, 'x=; Path=/d')
+        theirs.save(self.path, ignore_discard=True)
+        jar = StoreJar()
+        jar.load(self.path, ignore_discard=True)
+        # Python saves HttpOnly only under the name HTTPOnly.
+        self.assertEqual([row[:-1] for row in rows_of(jar.store)], [row[:-1] for row in rows_of(ours)])
+        jar.save(self.path, ignore_discard=True)
+        again = http.cookiejar.MozillaCookieJar()
+        again.load(self.path, ignore_discard=True, ignore_expires=True)
+        self.assertEqual(sorted((cookie.domain, cookie.path, cookie.name, cookie.value, cookie.secure) for cookie in again),
+                         sorted((cookie.domain, cookie.path, cookie.name, cookie.value, cookie.secure) for cookie in jar))
+
+    def test_curl(self):
+        """curl's files are loaded, and it sends the cookies of ours."""
+        curl = shutil.which('curl')
+        if curl is None:
+            self.skipTest('curl is not installed')
+        server = http.server.ThreadingHTTPServer(('127.0.0.1', 0), Page)
+        server.headers = []
+        self.addCleanup(server.server_close)
+        thread = threading.Thread(target=server.serve_forever, kwargs={'poll_interval': 0.05}, daemon=True)
+        thread.start()
+        self.addCleanup(thread.join, SECONDS)
+        self.addCleanup(server.shutdown)
+        port, ours = server.server_port, CookieStore()
+        command = [curl, '-sS', '--noproxy', '*', '--resolve', f'{HOST}:{port}:127.0.0.1', f'http://{HOST}:{port}{PATH}']
+        subprocess.run([*command, '-c', self.path], check=True, timeout=SECONDS)
+        for text in TEXTS:
+            ours.set(f'http://{HOST}{PATH}', text)
+        jar = StoreJar()
+        jar.load(self.path, ignore_discard=True)
+        self.assertEqual(rows_of(jar.store), rows_of(ours))
+        jar.save(self.path, ignore_discard=True)
+        subprocess.run([*command, '-b', self.path], check=True, timeout=SECONDS)
+        # Of equally long paths curl sends the cookie first that was created last.
+        self.assertEqual([sorted((header or '').split('; ')) for header in server.headers],
+                         [[''], sorted(ours.header(f'http://{HOST}{PATH}').split('; '))])
+
+
+if __name__ == '__main__':
+    unittest.main()

@@ -1,0 +1,10 @@
+pub mod AbsolutePaths
+pub mod CookieLines
+pub mod FieldsBack
+pub mod JoinedFields
+pub mod LinesBack
+pub mod LinesRead
+pub mod Numbers
+pub mod Seconds
+pub mod SecondsBack
+pub mod Tabs

@@ -1,0 +1,5 @@
+pub mod Errors
+pub mod Files
+pub mod Lines
+pub mod Views
+pub mod Written

@@ -1,0 +1,163 @@
+-- The cookie of a line of a `cookies.txt` file, Netscape's format as curl reads it.
+use Rattle.std.specs.Prelude.{ℕ, min, ◌==◌, Bool, true, false, not, ◌&&◌, ◌||◌, List, [], ◌∷◌, length, map, drop, bytes_eq, codes, nat_eq, Option, Some, None, is_some, option_and_then, option_map, if◌then◌else◌}
+use Rattle.std.specs.Char.{is_ascii_control, is_ascii_digit, to_ascii_lowercase}
+use Rattle.std.specs.List.{after_first, before_first, list_all, list_any, starts_with}
+use Rattle.std.specs.Str.{trim, str_eq_ignore_ascii_case}
+use Rattle.std.specs.Str.Parse.{digits_value}
+use Rattle.cookie_words.specs.Moments.{epoch}
+use Rattle.cookie_words.specs.Steps.{◌>>=◌}
+use Rattle.cookie_words.specs.Texts.{pieces, without_dot}
+use Rattle.cookie_raw.specs.Raw.{Raw, pair}
+use Rattle.cookie_raw.specs.Reading.{is_equals, is_semicolon, of_seconds}
+use Rattle.cookie_parts.specs.Cookie.{Row}
+use Rattle.cookie_parts.specs.Domain.{DomainValue, HostOnly, Suffix}
+use Rattle.cookie_parts.specs.Expiry.{Expiry, SessionEnd, expiry_of_max_age}
+use Rattle.cookie_parts.specs.Path.{from_attribute, is_absolute}
+
+-- the fields of a line
+pub record Fields : Type 0 where
+  pub domain : List ℕ
+  pub subdomains : List ℕ
+  pub path : List ℕ
+  pub secure : List ℕ
+  pub expiry : List ℕ
+  pub name : List ℕ
+  pub value : List ℕ
+
+-- a field that is TRUE or FALSE, ignoring case
+abbrev pub flag_from : List ℕ → Option Bool
+flag_from field =
+    if str_eq_ignore_ascii_case field (codes "TRUE") then Some true
+    else (if str_eq_ignore_ascii_case field (codes "FALSE") then Some false else None)
+
+-- the fields of these strings
+abbrev pub fields_of : List ℕ → List ℕ → List ℕ → List ℕ → List ℕ → List ℕ → List ℕ → Fields
+fields_of domain subdomains path secure expiry name value = record {
+  domain = domain;
+  subdomains = subdomains;
+  path = path;
+  secure = secure;
+  expiry = expiry;
+  name = name;
+  value = value;
+}
+
+-- the fields from `secure` on; an empty value may be missing
+abbrev pub last_fields : List ℕ → List ℕ → List ℕ → List (List ℕ) → Option Fields
+last_fields domain subdomains path (secure ∷ expiry ∷ name ∷ []) =
+    Some (fields_of domain subdomains path secure expiry name [])
+last_fields domain subdomains path (secure ∷ expiry ∷ name ∷ value ∷ []) =
+    Some (fields_of domain subdomains path secure expiry name value)
+last_fields domain subdomains path others = None
+
+-- the fields of a line; if the third one is TRUE or FALSE, the path is missing, and is `/`
+abbrev pub fields_from : List (List ℕ) → Option Fields
+fields_from (domain ∷ subdomains ∷ path ∷ others) =
+    if is_some (flag_from path) then last_fields domain subdomains (codes "/") (path ∷ others)
+    else last_fields domain subdomains path others
+fields_from others = None
+
+-- the byte is a dot
+abbrev pub is_dot : ℕ → Bool
+is_dot b = b == 46
+
+-- a number of seconds, without the fraction that it may have
+unfoldable pub seconds_from : List ℕ → Option ℕ
+seconds_from field =
+    let whole = before_first is_dot field in
+    if not (length whole == 0) && list_all is_ascii_digit whole && list_all is_ascii_digit (after_first is_dot field)
+    then Some (digits_value 10 whole) else None
+
+-- the expiry of a number of seconds from the epoch, at most the latest; 0 stands for a session cookie
+abbrev pub expiry_at : ℕ → Expiry
+expiry_at seconds =
+    if seconds == 0 then SessionEnd
+    else expiry_of_max_age (of_seconds (min seconds 9_223_372_036_854_775_807)) epoch
+
+-- the expiry of a field; an empty one stands for a session cookie
+abbrev pub expiry_from : List ℕ → Option Expiry
+expiry_from field = if length field == 0 then Some SessionEnd else option_map expiry_at (seconds_from field)
+
+-- there is a control character, such as HTAB or a line end
+abbrev pub has_control : List ℕ → Bool
+has_control text = list_any is_ascii_control text
+
+-- a domain is not empty, and does not begin like a comment or with a dot
+abbrev pub is_domain_field : List ℕ → Bool
+is_domain_field domain =
+    not (length domain == 0) && not (starts_with nat_eq domain (codes "#"))
+    && not (starts_with nat_eq domain (codes ".")) && not (has_control domain)
+
+-- a cookie-value has no `;`, and no white space at either end
+abbrev pub is_value_field : List ℕ → Bool
+is_value_field value = not (list_any is_semicolon value) && bytes_eq (trim value) value && not (has_control value)
+
+-- a cookie-name is besides not empty, and has no `=`
+abbrev pub is_name_field : List ℕ → Bool
+is_name_field name = not (length name == 0) && not (list_any is_equals name) && is_value_field name
+
+-- the strings of a cookie that the format can represent
+unfoldable pub are_fields : List ℕ → List ℕ → List ℕ → List ℕ → Bool
+are_fields domain path name value =
+    is_domain_field domain && is_absolute path && not (has_control path) && is_name_field name && is_value_field value
+
+-- an attribute without a value, if it is set
+abbrev pub attribute_if : Bool → Option Bool
+attribute_if is_set = if is_set then Some true else None
+
+-- a name, a value, Secure and HttpOnly
+abbrev pub raw_of : List ℕ → List ℕ → Bool → Bool → Raw
+raw_of name value is_secure is_http_only =
+    record (pair name value) { secure = attribute_if is_secure; http_only = attribute_if is_http_only }
+
+-- a domain cookie or a host-only cookie
+abbrev pub domain_of : Bool → List ℕ → DomainValue
+domain_of has_subdomains domain = if has_subdomains then Suffix domain else HostOnly domain
+
+-- the cookie of fields whose flags and expiry are these; one dot before the domain is dropped, and it is read in lower case
+abbrev pub row_of : Bool → Fields → Bool → Bool → Expiry → Row
+row_of is_http_only fields has_subdomains is_secure expires = record {
+  raw = raw_of fields.name fields.value is_secure is_http_only;
+  domain = domain_of has_subdomains (map to_ascii_lowercase (without_dot fields.domain));
+  path = from_attribute fields.path;
+  expires = expires;
+}
+
+-- the cookie of these fields, if they are fields that the format can represent
+abbrev pub if_are_fields : Fields → Row → Option Row
+if_are_fields fields row =
+    if are_fields (without_dot fields.domain) fields.path fields.name fields.value then Some row else None
+
+-- the cookie of fields
+unfoldable pub row_from : Bool → Fields → Option Row
+row_from is_http_only fields = do
+  has_subdomains ← flag_from fields.subdomains
+  is_secure ← flag_from fields.secure
+  expires ← expiry_from fields.expiry
+  if_are_fields fields (row_of is_http_only fields has_subdomains is_secure expires)
+
+-- a name that is missing with its `=` is written as the value
+abbrev pub with_name : Fields → Fields
+with_name fields = if length fields.name == 0 then record fields { name = fields.value; value = [] } else fields
+
+-- the cookie of a line's fields, which HTAB separates
+abbrev pub cookie_from : Bool → List ℕ → Option Row
+cookie_from is_http_only text = option_and_then (row_from is_http_only) (option_map with_name (fields_from (pieces 9 text)))
+
+-- the byte is a space or HTAB
+abbrev pub is_space : ℕ → Bool
+is_space b = (b == 32) || (b == 9)
+
+-- the line has spaces and HTABs alone, or nothing
+abbrev pub is_blank : List ℕ → Bool
+is_blank line = list_all is_space line
+
+-- the line is blank or a comment
+abbrev pub is_skipped : List ℕ → Bool
+is_skipped line = is_blank line || starts_with nat_eq line (codes "#")
+
+-- the cookie of a line; Some None if the line is blank or a comment, None if it is malformed
+unfoldable pub line_cookie : List ℕ → Option (Option Row)
+line_cookie line =
+    if starts_with nat_eq line (codes "#HttpOnly_") then option_map Some (cookie_from true (drop 10 line))
+    else (if is_skipped line then Some None else option_map Some (cookie_from false line))

@@ -1,0 +1,137 @@
+//! The cookie of a line.
+ghost use Rattle.std.specs.Prelude.{◌≡◌, IfOk, IfSome, IsTrue, min, option_map};
+ghost use Rattle.std.specs.List.{after_first, before_first};
+ghost use Rattle.cookie_parts.specs.Path.{is_absolute};
+ghost use Rattle.cookie_parts.specs.Views.{expiry_value};
+ghost use Rattle.cookie_netscape.specs.Lines.{cookie_from, expiry_from, is_dot, raw_of, seconds_from, with_name};
+ghost use Rattle.cookie_netscape.specs.Views.{entry_row, fields_view};
+
+use crate::fields::{Fields, are_fields, read_flag, split_fields};
+use cookie_parts::{Cookie, CookieDomain, CookieExpiration, CookiePath};
+use cookie_raw::{RawCookie, RawCookieBuilder};
+use cookie_words::{epoch, is_digits, without_dot};
+use std::alloc::{AllocError, Global};
+
+/// The cookie of a line, before its strings are copied.
+#[derive(Clone, Copy)]
+pub(crate) struct Entry<'a> {
+    pub(crate) domain: &'a str,
+    pub(crate) has_subdomains: bool,
+    pub(crate) path: &'a str,
+    pub(crate) is_secure: bool,
+    pub(crate) is_http_only: bool,
+    pub(crate) expires: CookieExpiration,
+    pub(crate) name: &'a str,
+    pub(crate) value: &'a str,
+}
+
+/// Reads the fields of a line, or returns `None` if they are not those of a cookie.
+#[tactic(auto, unfolding(crate::specs::Lines::row_from))]
+pub(crate) fn read_entry(text: &str, is_http_only: bool) -> Option<Entry<'_>>
+    ensures value { option_map entry_row result ≡ cookie_from is_http_only text.now }
+    ensures absolute { IfSome result (λ entry. IsTrue (is_absolute entry.path.now)) }
+{
+    let fields = with_name(split_fields(text)?);
+    let has_subdomains = read_flag(fields.subdomains)?;
+    let is_secure = read_flag(fields.secure)?;
+    let expires = read_expiry(fields.expiry)?;
+    let domain = without_dot(fields.domain);
+    if !are_fields(domain, fields.path, fields.name, fields.value) {
+        return None;
+    }
+    Some(Entry {
+        domain,
+        has_subdomains,
+        path: fields.path,
+        is_secure,
+        is_http_only,
+        expires,
+        name: fields.name,
+        value: fields.value,
+    })
+}
+
+// Python writes a cookie that was received without `=` with an empty name: its value is the name.
+fn with_name(fields: Fields<'_>) -> Fields<'_>
+    ensures { fields_view result ≡ with_name (fields_view fields.entry) }
+{
+    if fields.name.is_empty() {
+        Fields {
+            name: fields.value,
+            value: "",
+            ..fields
+        }
+    } else {
+        fields
+    }
+}
+
+// Reads the second of an expiry, of which 0 and an empty field stand for a session cookie.
+fn read_expiry(field: &str) -> Option<CookieExpiration>
+    ensures { option_map expiry_value result ≡ expiry_from field.now }
+{
+    if field.is_empty() {
+        return Some(CookieExpiration::SessionEnd);
+    }
+    match read_seconds(field)? {
+        0 => Some(CookieExpiration::SessionEnd),
+        seconds => Some(CookieExpiration::from_secs(seconds, epoch())),
+    }
+}
+
+// Reads a number of seconds, at most `u64::MAX`. A fraction is ignored.
+#[tactic(auto, unfolding(crate::specs::Lines::seconds_from))]
+fn read_seconds(field: &str) -> Option<u64>
+    ensures { result ≡ option_map (λ n. min n 18_446_744_073_709_551_615) (seconds_from field.now) }
+{
+    let (whole, fraction) = whole_and_fraction(field);
+    if whole.is_empty() || !is_digits(whole) || !is_digits(fraction) {
+        return None;
+    }
+    Some(whole.parse().unwrap_or(u64::MAX))
+}
+
+// Splits a number at its first dot.
+fn whole_and_fraction(field: &str) -> (&str, &str)
+    ensures whole { result.0.now ≡ before_first is_dot field.now }
+    ensures fraction { result.1.now ≡ after_first is_dot field.now }
+{
+    match field.split_once('.') {
+        Some(parts) => parts,
+        None => (field, ""),
+    }
+}
+
+impl<'a> Entry<'a> {
+    /// Makes the cookie, with strings of its own. Fails only if out of memory.
+    pub(crate) fn to_cookie(&self, alloc: Global) -> Result<Cookie<'static>, AllocError>
+        requires { IsTrue (is_absolute self.now.path.now) }
+        ensures { IfOk result (λ cookie. cookie ≡ entry_row self.now) }
+    {
+        let raw = self.to_raw(alloc)?;
+        let domain = self.domain.to_ascii_lowercase(alloc)?;
+        let path = CookiePath::parse(alloc, self.path)?.unwrap();
+        let domain = if self.has_subdomains {
+            CookieDomain::Suffix(domain)
+        } else {
+            CookieDomain::HostOnly(domain)
+        };
+        Ok(Cookie::new(raw, domain, path, self.expires))
+    }
+
+    // The raw cookie: the name, the value, Secure and HttpOnly.
+    fn to_raw(&self, alloc: Global) -> Result<RawCookie<'static>, AllocError>
+        ensures { IfOk result (λ raw. raw ≡ raw_of self.now.name.now self.now.value.now self.now.is_secure self.now.is_http_only) }
+    {
+        let name = String::from_str(alloc, self.name)?;
+        let value = String::from_str(alloc, self.value)?;
+        let mut builder = RawCookieBuilder::new(name, value);
+        if self.is_secure {
+            builder = builder.secure(true);
+        }
+        if self.is_http_only {
+            builder = builder.http_only(true);
+        }
+        Ok(builder.build())
+    }
+}

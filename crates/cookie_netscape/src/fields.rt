@@ -1,0 +1,136 @@
+//! The fields of a line.
+ghost use Rattle.std.specs.Prelude.{◌≡◌, ◌∷◌, [], ℕ, List, None, Some, option_map, MatchOption};
+ghost use Rattle.cookie_words.specs.Texts.{pieces};
+ghost use Rattle.cookie_netscape.specs.Lines.{are_fields, fields_from, fields_of, flag_from, has_control, is_domain_field, is_name_field, is_value_field, last_fields};
+ghost use Rattle.cookie_netscape.specs.Views.{fields_view};
+
+/// The fields of a line.
+#[derive(Clone, Copy)]
+pub(crate) struct Fields<'a> {
+    pub(crate) domain: &'a str,
+    pub(crate) subdomains: &'a str,
+    pub(crate) path: &'a str,
+    pub(crate) secure: &'a str,
+    pub(crate) expiry: &'a str,
+    pub(crate) name: &'a str,
+    pub(crate) value: &'a str,
+}
+
+/// Splits a line into its fields, or returns `None` if there are too few or too many. A path and
+/// an empty value may be missing.
+pub(crate) fn split_fields(line: &str) -> Option<Fields<'_>>
+    ensures { option_map fields_view result ≡ fields_from (pieces 9 line.now) }
+{
+    let (domain, rest) = split_field(line)?;
+    let (subdomains, rest) = split_field(rest)?;
+    let (path, rest) = split_path(rest)?;
+    let (secure, rest) = split_field(rest)?;
+    let (expiry, rest) = split_field(rest)?;
+    let (name, value) = split_last(rest)?;
+    Some(Fields {
+        domain,
+        subdomains,
+        path,
+        secure,
+        expiry,
+        name,
+        value,
+    })
+}
+
+// The first field, and what follows its HTAB; `None` if there is no HTAB.
+fn split_field(text: &str) -> Option<(&str, &str)>
+    ensures { MatchOption result (pieces 9 text.now ≡ text.now ∷ [])
+        (λ parts. pieces 9 text.now ≡ parts.0.now ∷ pieces 9 parts.1.now) }
+{
+    text.split_once('\t')
+}
+
+/// Reads TRUE or FALSE, ignoring case.
+pub(crate) fn read_flag(field: &str) -> Option<bool>
+    ensures { result ≡ flag_from field.now }
+{
+    if field.eq_ignore_ascii_case("TRUE") {
+        Some(true)
+    } else if field.eq_ignore_ascii_case("FALSE") {
+        Some(false)
+    } else {
+        None
+    }
+}
+
+// The path, and what follows its HTAB. A path is missing if TRUE or FALSE is in its place.
+fn split_path(text: &str) -> Option<(&str, &str)>
+    ensures { MatchOption result
+        ((domain subdomains : List ℕ) → fields_from (domain ∷ subdomains ∷ pieces 9 text.now) ≡ None)
+        (λ parts. (domain subdomains : List ℕ) → fields_from (domain ∷ subdomains ∷ pieces 9 text.now)
+        ≡ last_fields domain subdomains parts.0.now (pieces 9 parts.1.now)) }
+{
+    let (path, rest) = split_field(text)?;
+    if read_flag(path).is_some() {
+        Some(("/", text))
+    } else {
+        Some((path, rest))
+    }
+}
+
+// The last two fields, the name and the value. An empty value may be missing.
+fn split_last(text: &str) -> Option<(&str, &str)>
+    ensures { MatchOption result
+        ((domain subdomains path secure expiry : List ℕ)
+        → last_fields domain subdomains path (secure ∷ expiry ∷ pieces 9 text.now) ≡ None)
+        (λ parts. (domain subdomains path secure expiry : List ℕ)
+        → last_fields domain subdomains path (secure ∷ expiry ∷ pieces 9 text.now)
+        ≡ Some (fields_of domain subdomains path secure expiry parts.0.now parts.1.now)) }
+{
+    let Some((name, value)) = split_field(text) else {
+        return Some((text, ""));
+    };
+    if split_field(value).is_some() {
+        return None;
+    }
+    Some((name, value))
+}
+
+/// Whether the strings are those of a cookie that the format can represent.
+#[tactic(auto, unfolding(crate::specs::Lines::are_fields))]
+pub(crate) fn are_fields(domain: &str, path: &str, name: &str, value: &str) -> bool
+    ensures { result ≡ are_fields domain.now path.now name.now value.now }
+{
+    is_domain_field(domain)
+        && path.starts_with('/')
+        && !has_control(path)
+        && is_name_field(name)
+        && is_value_field(value)
+}
+
+// Whether a line can begin with the domain.
+fn is_domain_field(domain: &str) -> bool
+    ensures { result ≡ is_domain_field domain.now }
+{
+    !domain.is_empty()
+        && !domain.starts_with('#')
+        && !domain.starts_with('.')
+        && !has_control(domain)
+}
+
+// Whether this is the name of a cookie-pair, in one field.
+fn is_name_field(name: &str) -> bool
+    ensures { result ≡ is_name_field name.now }
+{
+    !name.is_empty() && !name.as_bytes().contains(&b'=') && is_value_field(name)
+}
+
+// Whether this is the value of a cookie-pair, in one field.
+fn is_value_field(value: &str) -> bool
+    ensures { result ≡ is_value_field value.now }
+{
+    !value.as_bytes().contains(&b';') && value.trim() == value && !has_control(value)
+}
+
+// Whether there is a control character, such as HTAB or a line end.
+fn has_control(text: &str) -> bool
+    ensures { result ≡ has_control text.now }
+{
+    text.as_bytes().iter().any(|byte| byte.is_ascii_control())
+}

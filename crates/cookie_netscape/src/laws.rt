@@ -1,0 +1,32 @@
+//! Laws of the format, stated over definitions alone.
+ghost use Rattle.std.specs.Prelude.{◌≡◌, ◌++◌, ◌∷◌, ◌≤ℤ◌, [], IsTrue, List, Some, map, pos};
+ghost use Rattle.std.specs.List.{list_all};
+ghost use Rattle.jiff_core.specs.declared.civil.datetime.DateTime.{DateTime};
+ghost use Rattle.cookie_words.specs.Moments.{moment_of, nanoseconds};
+ghost use Rattle.cookie_parts.specs.Cookie.{Row};
+ghost use Rattle.cookie_parts.specs.Expiry.{AtUtc, latest};
+ghost use Rattle.cookie_netscape.specs.Files.{rows_in_file};
+ghost use Rattle.cookie_netscape.specs.Lines.{expiry_at};
+ghost use Rattle.cookie_netscape.specs.Written.{as_written, expiry_second, is_representable, written_text};
+
+use cookie_words::moments_round_trip;
+
+/// What is written reads back as the same cookies, but for what a line does not say: see the
+/// definition `as_written`. The same holds with a line feed after the last line.
+pub fn written_reads_back()
+    ensures text { (rows : List Row) → IsTrue (list_all is_representable rows)
+        → rows_in_file (written_text rows) ≡ Some (map as_written rows) }
+    ensures line { (rows : List Row) → IsTrue (list_all is_representable rows)
+        → rows_in_file (written_text rows ++ 10 ∷ []) ≡ Some (map as_written rows) }
+{}
+
+/// The expiry that a line says of a cookie is its own, cut to whole seconds, if it is from
+/// 1970-01-01T00:00:01 to 9999-12-31T23:59:59; `cut` is the time without its fraction of a second.
+pub fn keeps_expiry()
+    ensures { (time cut : DateTime) → moment_of cut ≡ record (moment_of time) { nanosecond = 0 }
+        → pos 1_000_000_000 ≤ℤ nanoseconds (moment_of cut) → nanoseconds (moment_of cut) ≤ℤ nanoseconds latest
+        → expiry_at (expiry_second (AtUtc (moment_of time))) ≡ AtUtc (moment_of cut) }
+{
+    // for the checker: the nanoseconds since the epoch determine a `DateTime`
+    moments_round_trip();
+}

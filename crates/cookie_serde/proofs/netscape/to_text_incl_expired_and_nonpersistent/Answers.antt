@@ -1,0 +1,5 @@
+use Rattle.cookie_serde.proofs.SavedLines.{filter-all}
+use Rattle.cookie_serde.proofs.netscape.to_text_incl_expired_and_nonpersistent.Goals as goal
+
+pub returns : goal.returns
+returns c = rw (← filter-all c.args.store.now.rows) c.text_among.ensures

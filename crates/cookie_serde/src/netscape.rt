@@ -1,0 +1,283 @@
+//! Saving and loading a store as a `cookies.txt` file, Netscape's format as curl reads and writes
+//! it.
+//!
+//! A line has no SameSite and no other attribute, no fraction of a second in the expiry, and not
+//! whether a Path attribute set the path: a loaded cookie has a path as if one had. Its domain is in
+//! lower case. [`netscape::laws`](cookie_netscape::laws) states what reads back.
+ghost use Rattle.std.specs.Prelude.{◌≡◌, ◌-◌, ◌^◌, ◌<◌, false, true, None, filter, option_map, IfErr, IfOk, OnOk, string_bytes};
+ghost use Rattle.std.specs.Io.KnownBytes.{IsAtEnd};
+ghost use Rattle.std.specs.List.{list_all};
+ghost use Rattle.cookie_words.specs.Moments.{moment_of};
+ghost use Rattle.cookie_netscape.specs.Files.{FailsToRead};
+ghost use Rattle.cookie_netscape.specs.Written.{is_representable, written_text};
+ghost use Rattle.cookie_laws.specs.Contents.{rows_in_order};
+ghost use Rattle.cookie_serde.specs.Loading.{ReadsEachOnce};
+ghost use Rattle.cookie_serde.specs.NetscapeLists.{BuildsFromNetscape, FailsToLoadNetscape, FailsToSaveNetscape, LoadsNetscape, SerializesToNetscape, WritesNetscape};
+ghost use Rattle.cookie_serde.specs.Saving.{is_among, saved_rows};
+
+use crate::saving::is_among;
+use crate::whole_text::{read_bytes, rows_of, write_text};
+use cookie_core::CookieStore;
+use cookie_device::{Sink, Source};
+use cookie_netscape::{NetscapeError, is_representable, new_text, push_cookie};
+use cookie_parts::Error;
+use cookie_rows::{Rows, StoreAlloc};
+use jiff::civil::DateTime;
+use std::alloc::AllocError;
+
+/// Writes the unexpired persistent cookies as a `cookies.txt` file, in the store's order.
+///
+/// The first line is `# Netscape HTTP Cookie File`, and each cookie has a line.
+///
+/// # Errors
+///
+/// In the order in which they are checked:
+/// - `Unrepresentable`: [`is_representable`] returns false for a cookie to be saved. Nothing is
+///   written or allocated.
+/// - `Memory`: out of memory. Nothing is written.
+/// - `Io`: the writer failed. A beginning of the file may be written.
+pub fn save<W: Sink>(
+    store: &CookieStore,
+    writer: &mut W,
+    now: DateTime,
+) -> Result<(), NetscapeError>
+    requires writable { (W.state writer.old).failed < 2 ^ 64 - 1 }
+    ensures whole { OnOk result (WritesNetscape (saved_rows (moment_of now) store.now.rows)
+        (W.state writer.old).contents (W.state writer.new).contents) }
+    ensures count { OnOk result ((W.state writer.new).failed ≡ (W.state writer.old).failed) }
+    ensures stopped { IfErr result (λ error. FailsToSaveNetscape error (saved_rows (moment_of now) store.now.rows)
+        (W.state writer.old) (W.state writer.new)) }
+{
+    save_among(store, writer, Some(now))
+}
+
+/// Writes all cookies as a `cookies.txt` file, expired cookies and session cookies included.
+///
+/// The order, the first line and the errors are those of [`save`].
+pub fn save_incl_expired_and_nonpersistent<W: Sink>(
+    store: &CookieStore,
+    writer: &mut W,
+) -> Result<(), NetscapeError>
+    requires writable { (W.state writer.old).failed < 2 ^ 64 - 1 }
+    ensures whole { OnOk result (WritesNetscape store.now.rows (W.state writer.old).contents (W.state writer.new).contents) }
+    ensures count { OnOk result ((W.state writer.new).failed ≡ (W.state writer.old).failed) }
+    ensures stopped { IfErr result (λ error. FailsToSaveNetscape error store.now.rows (W.state writer.old) (W.state writer.new)) }
+{
+    save_among(store, writer, None)
+}
+
+/// Loads a store from a `cookies.txt` file, skipping expired cookies.
+///
+/// The file is all that the reader has; [`netscape::from_text`](cookie_netscape::from_text) says
+/// which lines are read. A cookie replaces an earlier one with the same domain, path and name. The
+/// store has no public suffix list and no limit.
+///
+/// # Errors
+///
+/// In the order in which they are checked:
+/// - `Io`: the reader failed.
+/// - `NotUtf8`: the bytes are not UTF-8.
+/// - `BadLine`: a line is malformed; the error has its number.
+///
+/// `Memory`: out of memory, for the bytes or for a cookie of the lines before any malformed one.
+pub fn load<A: Into<StoreAlloc>, R: Source>(
+    alloc: A,
+    reader: &mut R,
+    now: DateTime,
+) -> Result<CookieStore, NetscapeError>
+    requires readable { (R.state reader.old).failed < 2 ^ 64 - 1 }
+    ensures built { IfOk result (λ store. LoadsNetscape (R.state reader.old).remaining false (moment_of now) (rows_in_order store)) }
+    ensures suffixes { IfOk result (λ store. store.suffixes ≡ None) }
+    ensures limit { IfOk result (λ store. store.limit ≡ None) }
+    ensures read { OnOk result (IsAtEnd (R.state reader.new).remaining × ((R.state reader.new).failed ≡ (R.state reader.old).failed)) }
+    ensures failed { IfErr result (λ error. FailsToLoadNetscape error (R.state reader.old) (R.state reader.new)) }
+    ensures reads { ReadsEachOnce (R.state reader.old) (R.state reader.new) }
+{
+    let alloc = alloc.into();
+    let rows = load_rows(alloc, reader, false, now)?;
+    Ok(CookieStore::from_rows(alloc.alloc, rows))
+}
+
+/// Loads a store from a `cookies.txt` file, expired cookies included.
+///
+/// Otherwise as [`load`]. `now` is not used.
+pub fn load_all<A: Into<StoreAlloc>, R: Source>(
+    alloc: A,
+    reader: &mut R,
+    now: DateTime,
+) -> Result<CookieStore, NetscapeError>
+    requires readable { (R.state reader.old).failed < 2 ^ 64 - 1 }
+    ensures built { IfOk result (λ store. LoadsNetscape (R.state reader.old).remaining true (moment_of now) (rows_in_order store)) }
+    ensures suffixes { IfOk result (λ store. store.suffixes ≡ None) }
+    ensures limit { IfOk result (λ store. store.limit ≡ None) }
+    ensures read { OnOk result (IsAtEnd (R.state reader.new).remaining × ((R.state reader.new).failed ≡ (R.state reader.old).failed)) }
+    ensures failed { IfErr result (λ error. FailsToLoadNetscape error (R.state reader.old) (R.state reader.new)) }
+    ensures reads { ReadsEachOnce (R.state reader.old) (R.state reader.new) }
+{
+    let alloc = alloc.into();
+    let rows = load_rows(alloc, reader, true, now)?;
+    Ok(CookieStore::from_rows(alloc.alloc, rows))
+}
+
+/// Formats the unexpired persistent cookies as a `cookies.txt` file, in the store's order.
+///
+/// It is the file that [`save`] writes, without the line feed at its end.
+///
+/// # Errors
+///
+/// In the order in which they are checked:
+/// - `Unrepresentable`: [`is_representable`] returns false for a cookie to be saved. Nothing is
+///   allocated.
+/// - `Memory`: out of memory.
+pub fn to_text(store: &CookieStore, now: DateTime) -> Result<String, NetscapeError>
+    ensures { SerializesToNetscape (saved_rows (moment_of now) store.now.rows) result }
+{
+    text_among(store, &Some(now))
+}
+
+/// Formats all cookies as a `cookies.txt` file, expired cookies and session cookies included.
+///
+/// Otherwise as [`to_text`].
+pub fn to_text_incl_expired_and_nonpersistent(store: &CookieStore) -> Result<String, NetscapeError>
+    ensures { SerializesToNetscape store.now.rows result }
+{
+    text_among(store, &None)
+}
+
+/// Parses a `cookies.txt` file into a store, skipping expired cookies.
+///
+/// The file is as [`load`] reads it, and the store as `load` returns it.
+///
+/// # Errors
+///
+/// Lines are read in order, and the first error is returned:
+/// - `BadLine`: a line is malformed; the error has its number.
+/// - `Memory`: out of memory for a cookie.
+pub fn from_text<A: Into<StoreAlloc>>(
+    alloc: A,
+    text: &str,
+    now: DateTime,
+) -> Result<CookieStore, NetscapeError>
+    ensures built { IfOk result (λ store. BuildsFromNetscape text.now false (moment_of now) (rows_in_order store)) }
+    ensures suffixes { IfOk result (λ store. store.suffixes ≡ None) }
+    ensures limit { IfOk result (λ store. store.limit ≡ None) }
+    ensures failed { IfErr result (λ error. FailsToRead error text.now) }
+{
+    let alloc = alloc.into();
+    let rows = rows_of_text(alloc, text, false, now)?;
+    Ok(CookieStore::from_rows(alloc.alloc, rows))
+}
+
+/// Parses a `cookies.txt` file into a store, expired cookies included.
+///
+/// Otherwise as [`from_text`]. `now` is not used.
+pub fn from_text_all<A: Into<StoreAlloc>>(
+    alloc: A,
+    text: &str,
+    now: DateTime,
+) -> Result<CookieStore, NetscapeError>
+    ensures built { IfOk result (λ store. BuildsFromNetscape text.now true (moment_of now) (rows_in_order store)) }
+    ensures suffixes { IfOk result (λ store. store.suffixes ≡ None) }
+    ensures limit { IfOk result (λ store. store.limit ≡ None) }
+    ensures failed { IfErr result (λ error. FailsToRead error text.now) }
+{
+    let alloc = alloc.into();
+    let rows = rows_of_text(alloc, text, true, now)?;
+    Ok(CookieStore::from_rows(alloc.alloc, rows))
+}
+
+// Writes the rows that are saved. Which these are: see [`is_among`].
+fn save_among<W: Sink>(
+    store: &CookieStore,
+    sink: &mut W,
+    now: Option<DateTime>,
+) -> Result<(), NetscapeError>
+    requires writable { (W.state sink.old).failed < 2 ^ 64 - 1 }
+    ensures whole { OnOk result (WritesNetscape (filter (is_among (option_map moment_of now)) store.now.rows)
+        (W.state sink.old).contents (W.state sink.new).contents) }
+    ensures count { OnOk result ((W.state sink.new).failed ≡ (W.state sink.old).failed) }
+    ensures stopped { IfErr result (λ error. FailsToSaveNetscape error
+        (filter (is_among (option_map moment_of now)) store.now.rows) (W.state sink.old) (W.state sink.new)) }
+{
+    let text = text_among(store, &now)?;
+    match write_text(sink, &text) {
+        Ok(()) => Ok(()),
+        Err(_) => Err(NetscapeError::Io),
+    }
+}
+
+// The file of the rows that are saved, without the line feed at its end.
+fn text_among(store: &CookieStore, now: &Option<DateTime>) -> Result<String, NetscapeError>
+    ensures { SerializesToNetscape (filter (is_among (option_map moment_of now.now)) store.now.rows) result }
+{
+    if !are_representable(store, now) {
+        return Err(NetscapeError::Unrepresentable);
+    }
+    Ok(written_text(store, now)?)
+}
+
+// Whether the format can represent all rows that are saved.
+fn are_representable(store: &CookieStore, now: &Option<DateTime>) -> bool
+    ensures { result ≡ list_all is_representable (filter (is_among (option_map moment_of now.now)) store.now.rows) }
+{
+    for row in store.iter_any() {
+        if is_among(row, now) && !is_representable(row) {
+            return false;
+        }
+    }
+    true
+}
+
+// The lines of the rows that are saved.
+fn written_text(store: &CookieStore, now: &Option<DateTime>) -> Result<String, AllocError>
+    ensures { IfOk result (λ text. string_bytes text ≡ written_text (filter (is_among (option_map moment_of now.now)) store.now.rows)) }
+{
+    let mut text = new_text(store.allocator())?;
+    for row in store.iter_any() {
+        if is_among(row, now) {
+            push_cookie(&mut text, row)?;
+        }
+    }
+    Ok(text)
+}
+
+// The rows of the file that the source has. Expired cookies are skipped unless `include_expired`.
+fn load_rows<R: Source>(
+    alloc: StoreAlloc,
+    source: &mut R,
+    include_expired: bool,
+    now: DateTime,
+) -> Result<Rows, NetscapeError>
+    requires readable { (R.state source.old).failed < 2 ^ 64 - 1 }
+    ensures built { IfOk result (λ rows. LoadsNetscape (R.state source.old).remaining include_expired (moment_of now) rows) }
+    ensures read { OnOk result (IsAtEnd (R.state source.new).remaining × ((R.state source.new).failed ≡ (R.state source.old).failed)) }
+    ensures failed { IfErr result (λ error. FailsToLoadNetscape error (R.state source.old) (R.state source.new)) }
+    ensures reads { ReadsEachOnce (R.state source.old) (R.state source.new) }
+{
+    let bytes = match read_bytes(alloc.alloc, source) {
+        Ok(bytes) => bytes,
+        Err(Error::Io) => return Err(NetscapeError::Io),
+        Err(_) => return Err(NetscapeError::Memory),
+    };
+    match str::from_utf8(&bytes) {
+        Ok(text) => rows_of_text(alloc, text, include_expired, now),
+        Err(_) => Err(NetscapeError::NotUtf8),
+    }
+}
+
+// The rows of the file that `text` is. Expired cookies are skipped unless `include_expired`.
+fn rows_of_text(
+    alloc: StoreAlloc,
+    text: &str,
+    include_expired: bool,
+    now: DateTime,
+) -> Result<Rows, NetscapeError>
+    ensures built { IfOk result (λ rows. BuildsFromNetscape text.now include_expired (moment_of now) rows) }
+    ensures failed { IfErr result (λ error. FailsToRead error text.now) }
+{
+    let cookies = cookie_netscape::from_text(alloc.alloc, text)?;
+    match rows_of(alloc, cookies, include_expired, now) {
+        Ok(rows) => Ok(rows),
+        Err(_) => Err(NetscapeError::Memory),
+    }
+}

@@ -1,0 +1,4 @@
+pub mod BuiltStores
+pub mod OtherNames
+pub mod SafeTexts
+pub mod ShownValues

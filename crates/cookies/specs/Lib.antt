@@ -1,0 +1,7 @@
+pub mod Cells
+pub mod Escapes
+pub mod FileNames
+pub mod Formats
+pub mod Purges
+pub mod Statuses
+pub mod Storage

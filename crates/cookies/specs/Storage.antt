@@ -1,0 +1,28 @@
+-- Cookies as the contents of a file.
+use Rattle.std.specs.Prelude.{ℕ, true, List, Option, Some}
+use Rattle.cookie_words.specs.Moments.{Moment}
+use Rattle.cookie_parts.specs.Cookie.{Row}
+use Rattle.cookie_store.specs.Rows.{RowsInOrder}
+use Rattle.cookie_store.specs.JsonLists.{JsonListParsesTo, SerializesToJsonList}
+use Rattle.cookie_store.specs.JsonLines.{SerializesToJson}
+use Rattle.cookie_store.specs.Lists.{BuildsFromList, WritesList}
+use Rattle.cookie_store.specs.Migration.{Migrates}
+use Rattle.cookie_store.specs.NetscapeLists.{LoadsNetscape, WritesNetscape}
+use Rattle.cookie_store.specs.RonLists.{RonListParsesTo, SerializesToRonList}
+use Rattle.cookie_store.specs.Saving.{WritesRows}
+use Rattle.cookies.specs.declared.format.Format.{Format}
+use Rattle.cookies.specs.declared.format.Format.TheVariants.{Json, Jsonl, Ron, Txt}
+
+-- the rows that the contents of a file hold, expired ones and session cookies included
+abbrev pub Holds : Format → List ℕ → Moment → RowsInOrder → Type 0
+Holds Json contents now kept = BuildsFromList JsonListParsesTo (Some contents) true now kept
+Holds Jsonl contents now kept = Migrates (Some contents) kept
+Holds Ron contents now kept = BuildsFromList RonListParsesTo (Some contents) true now kept
+Holds Txt contents now kept = LoadsNetscape (Some contents) true now kept
+
+-- the rows were written, and nothing else
+abbrev pub WritesAs : Format → List Row → Option (List ℕ) → Option (List ℕ) → Type 0
+WritesAs Json rows old new = WritesList SerializesToJsonList rows old new
+WritesAs Jsonl rows old new = WritesRows SerializesToJson rows old new
+WritesAs Ron rows old new = WritesList SerializesToRonList rows old new
+WritesAs Txt rows old new = WritesNetscape rows old new

@@ -1,0 +1,171 @@
+//! Parses the command line.
+use crate::command_line::command_line;
+use crate::error::{Failure, Usage};
+use crate::format::Format;
+use crate::options::{Command, CookieFile, Key, Request, Rules};
+use crate::purge::Purge;
+use clap::ArgMatches;
+use clap::error::ErrorKind;
+use cookie_store::saved::read_moment;
+use cookie_store::utils::parse_url;
+use cookie_words::without_dot;
+use jiff::civil::DateTime;
+use std::alloc::{AllocError, Global};
+use url::Url;
+
+/// Parses the words of the command line, the program's name first.
+pub fn parse<'a>(alloc: Global, words: &'a [String]) -> Result<Request<'a>, Failure<'a>> {
+    let matches = match command_line(alloc)?.try_get_matches_from(words) {
+        Ok(matches) => matches,
+        Err(error) => return unmatched(alloc, &error),
+    };
+    let Some((verb, matches)) = matches.subcommand() else {
+        return Err(Failure::from(Usage::Missing("COMMAND")));
+    };
+    let now = time(matches)?;
+    let command = match verb {
+        "show" => show(matches)?,
+        "header" => header(alloc, matches)?,
+        "set" => set(alloc, matches)?,
+        "remove" => remove(matches)?,
+        "purge" => purge(matches)?,
+        _ => convert(matches)?,
+    };
+    Ok(Request { command, now })
+}
+
+// Returns the help or the version if the words ask for it, else the error.
+fn unmatched<'a>(alloc: Global, error: &clap::Error) -> Result<Request<'a>, Failure<'a>> {
+    let text = error.to_string(alloc)?;
+    match error.kind() {
+        ErrorKind::DisplayHelp | ErrorKind::DisplayVersion => Ok(Request {
+            command: Command::Print { text },
+            now: None,
+        }),
+        ErrorKind::OutOfMemory => Err(Failure::Memory),
+        _ => Err(Failure::from(Usage::Arguments(one_line(alloc, text.as_str())?))),
+    }
+}
+
+// Returns the first paragraph of an error as one line, without its label.
+fn one_line(alloc: Global, text: &str) -> Result<String, AllocError> {
+    let text = text.strip_prefix("error: ").unwrap_or(text);
+    let mut line = String::new(alloc);
+    for part in text.lines().take_while(|part| !part.is_empty()) {
+        if !line.is_empty() {
+            line.push(' ')?;
+        }
+        line.push_str(part.trim_start())?;
+    }
+    Ok(line)
+}
+
+fn show<'a>(matches: &ArgMatches<'a>) -> Result<Command<'a>, Usage<'a>> {
+    Ok(Command::Show {
+        file: cookie_file(matches, "FILE", "format", "--format")?,
+        is_json: matches.get_flag("json"),
+    })
+}
+
+fn header<'a>(alloc: Global, matches: &ArgMatches<'a>) -> Result<Command<'a>, Failure<'a>> {
+    Ok(Command::Header {
+        url: url(alloc, matches)?,
+        file: cookie_file(matches, "FILE", "format", "--format")?,
+        rules: rules(matches),
+        is_cross_site: matches.get_flag("cross-site"),
+    })
+}
+
+fn set<'a>(alloc: Global, matches: &ArgMatches<'a>) -> Result<Command<'a>, Failure<'a>> {
+    Ok(Command::Set {
+        url: url(alloc, matches)?,
+        value: word(matches, "SET-COOKIE")?,
+        file: cookie_file(matches, "FILE", "format", "--format")?,
+        rules: rules(matches),
+    })
+}
+
+fn remove<'a>(matches: &ArgMatches<'a>) -> Result<Command<'a>, Usage<'a>> {
+    Ok(Command::Remove {
+        file: cookie_file(matches, "FILE", "format", "--format")?,
+        key: Key {
+            domain: without_dot(word(matches, "DOMAIN")?),
+            path: word(matches, "PATH")?,
+            name: word(matches, "NAME")?,
+        },
+    })
+}
+
+fn purge<'a>(matches: &ArgMatches<'a>) -> Result<Command<'a>, Usage<'a>> {
+    Ok(Command::Purge {
+        file: cookie_file(matches, "FILE", "format", "--format")?,
+        purge: Purge::of_options(
+            matches.get_flag("expired"),
+            matches.get_flag("session"),
+            domain(matches),
+        ),
+    })
+}
+
+fn convert<'a>(matches: &ArgMatches<'a>) -> Result<Command<'a>, Usage<'a>> {
+    Ok(Command::Convert {
+        input: cookie_file(matches, "IN", "from", "--from")?,
+        output: cookie_file(matches, "OUT", "to", "--to")?,
+    })
+}
+
+// Returns the domain of an option. Like the table, it may have a dot before it.
+fn domain<'a>(matches: &ArgMatches<'a>) -> Option<&'a str> {
+    match matches.get_str("domain") {
+        Some(domain) => Some(without_dot(domain)),
+        None => None,
+    }
+}
+
+// Returns an argument that `clap` requires.
+fn word<'a>(matches: &ArgMatches<'a>, id: &'static str) -> Result<&'a str, Usage<'a>> {
+    matches.get_str(id).ok_or(Usage::Missing(id))
+}
+
+// Returns the file of an argument, in the format of an option or of the file's suffix.
+fn cookie_file<'a>(
+    matches: &ArgMatches<'a>,
+    id: &'static str,
+    option_id: &str,
+    option: &'static str,
+) -> Result<CookieFile<'a>, Usage<'a>> {
+    let name = word(matches, id)?;
+    let format = match matches.get_str(option_id) {
+        Some(format) => Format::of_name(format),
+        None => Format::of_file_name(name),
+    };
+    match format {
+        Some(format) => Ok(CookieFile { name, format }),
+        None => Err(Usage::UnknownFormat(name, option)),
+    }
+}
+
+fn rules<'a>(matches: &ArgMatches<'a>) -> Rules<'a> {
+    Rules {
+        suffixes: matches.get_str("suffixes"),
+        is_strict: matches.get_flag("strict"),
+    }
+}
+
+fn url<'a>(alloc: Global, matches: &ArgMatches<'a>) -> Result<Url, Failure<'a>> {
+    let text = word(matches, "URL")?;
+    match parse_url(alloc, text)? {
+        Some(url) => Ok(url),
+        None => Err(Failure::from(Usage::BadUrl(text))),
+    }
+}
+
+fn time<'a>(matches: &ArgMatches<'a>) -> Result<Option<DateTime>, Usage<'a>> {
+    let Some(text) = matches.get_str("now") else {
+        return Ok(None);
+    };
+    match read_moment(text) {
+        Some(moment) => Ok(Some(moment)),
+        None => Err(Usage::BadTime(text)),
+    }
+}

@@ -1,0 +1,149 @@
+//! The commands and their arguments, as `clap` parses them.
+use crate::format::FORMAT_NAMES;
+use clap::builder::ValueParser;
+use clap::{Arg, ArgAction, Command};
+use std::alloc::{AllocError, Global};
+
+/// The name of the program.
+const NAME: &str = "cookies";
+
+/// The version of the program.
+const VERSION: &str = "0.1.0";
+
+/// Returns the command line of the program.
+pub fn command_line<'a>(alloc: Global) -> Result<Command<'a>, AllocError> {
+    Command::new(alloc, NAME)
+        .bin_name(NAME)?
+        .version(VERSION)
+        .about("Shows, edits and converts files of cookies")
+        .after_help(AFTER_HELP)
+        .subcommand_required(true)
+        .subcommand(show(alloc)?)?
+        .subcommand(header(alloc)?)?
+        .subcommand(set(alloc)?)?
+        .subcommand(remove(alloc)?)?
+        .subcommand(purge(alloc)?)?
+        .subcommand(convert(alloc)?)
+}
+
+/// What the help says after the commands.
+const AFTER_HELP: &str = "\
+A file has the format of its suffix: .json, .jsonl, .ron or .txt. The name - is
+standard input or standard output.";
+
+fn show<'a>(alloc: Global) -> Result<Command<'a>, AllocError> {
+    Command::new(alloc, "show")
+        .about("Prints a table of the cookies")
+        .arg(word(alloc, "FILE", "The file of the cookies"))?
+        .arg(flag(alloc, "json", "Prints a JSON list instead"))?
+        .arg(format(alloc, "format", "The format of FILE"))?
+        .arg(now(alloc))
+}
+
+fn header<'a>(alloc: Global) -> Result<Command<'a>, AllocError> {
+    Command::new(alloc, "header")
+        .about("Prints the value of the Cookie header of a request")
+        .arg(word(alloc, "URL", "The URL of the request"))?
+        .arg(word(alloc, "FILE", "The file of the cookies"))?
+        .arg(suffixes(
+            alloc,
+            "Leaves out domain cookies of the public suffixes of LIST",
+        ))?
+        .arg(flag(alloc, "strict", "Follows the rules of browsers"))?
+        .arg(flag(alloc, "cross-site", "The request comes from another site").requires_arg(
+            "strict",
+        )?)?
+        .arg(format(alloc, "format", "The format of FILE"))?
+        .arg(now(alloc))
+}
+
+fn set<'a>(alloc: Global) -> Result<Command<'a>, AllocError> {
+    Command::new(alloc, "set")
+        .about("Inserts the cookie of a Set-Cookie header value")
+        .arg(word(alloc, "URL", "The URL that the value was received from"))?
+        .arg(word(alloc, "SET-COOKIE", "The value of the Set-Cookie header"))?
+        .arg(word(
+            alloc,
+            "FILE",
+            "The file of the cookies, which need not exist",
+        ))?
+        .arg(suffixes(
+            alloc,
+            "Rejects domain cookies for the public suffixes of LIST",
+        ))?
+        .arg(flag(alloc, "strict", "Follows the rules of browsers"))?
+        .arg(format(alloc, "format", "The format of FILE"))?
+        .arg(now(alloc))
+}
+
+fn remove<'a>(alloc: Global) -> Result<Command<'a>, AllocError> {
+    Command::new(alloc, "remove")
+        .about("Removes one cookie")
+        .arg(word(alloc, "FILE", "The file of the cookies"))?
+        .arg(word(alloc, "DOMAIN", "The domain of the cookie"))?
+        .arg(word(alloc, "PATH", "The path of the cookie"))?
+        .arg(word(alloc, "NAME", "The name of the cookie"))?
+        .arg(format(alloc, "format", "The format of FILE"))?
+        .arg(now(alloc))
+}
+
+fn purge<'a>(alloc: Global) -> Result<Command<'a>, AllocError> {
+    Command::new(alloc, "purge")
+        .about("Removes expired cookies, session cookies, or those of a domain")
+        .arg(word(alloc, "FILE", "The file of the cookies"))?
+        .arg(flag(alloc, "expired", "Removes expired cookies; the default"))?
+        .arg(flag(alloc, "session", "Removes session cookies"))?
+        .arg(option(
+            alloc,
+            "domain",
+            "D",
+            "Removes the cookies of the domain D, not of its subdomains",
+        ))?
+        .arg(format(alloc, "format", "The format of FILE"))?
+        .arg(now(alloc))
+}
+
+fn convert<'a>(alloc: Global) -> Result<Command<'a>, AllocError> {
+    Command::new(alloc, "convert")
+        .about("Reads the cookies of a file, and writes them to another")
+        .arg(word(alloc, "IN", "The file to read"))?
+        .arg(word(alloc, "OUT", "The file to write"))?
+        .arg(format(alloc, "from", "The format of IN"))?
+        .arg(format(alloc, "to", "The format of OUT"))?
+        .arg(now(alloc))
+}
+
+fn word<'a>(alloc: Global, id: &'a str, help: &'a str) -> Arg<'a> {
+    Arg::new(alloc, id).required(true).help(help)
+}
+
+fn flag<'a>(alloc: Global, id: &'a str, help: &'a str) -> Arg<'a> {
+    Arg::new(alloc, id)
+        .long(id)
+        .action(ArgAction::SetTrue)
+        .help(help)
+}
+
+fn option<'a>(alloc: Global, id: &'a str, value_name: &'a str, help: &'a str) -> Arg<'a> {
+    Arg::new(alloc, id)
+        .long(id)
+        .value_name(value_name)
+        .help(help)
+}
+
+fn format<'a>(alloc: Global, id: &'a str, help: &'a str) -> Arg<'a> {
+    option(alloc, id, "F", help).value_parser(ValueParser::Names(&FORMAT_NAMES))
+}
+
+fn suffixes<'a>(alloc: Global, help: &'a str) -> Arg<'a> {
+    option(alloc, "suffixes", "LIST", help)
+}
+
+fn now<'a>(alloc: Global) -> Arg<'a> {
+    option(
+        alloc,
+        "now",
+        "TIME",
+        "The time, as 2026-01-31T23:59:59Z, instead of that of the clock",
+    )
+}

@@ -1,0 +1,197 @@
+//! Why a command fails.
+ghost use Rattle.std.specs.Prelude.{◌≡◌, IfOk, string_bytes};
+ghost use Rattle.std.specs.Char.{is_control};
+ghost use Rattle.std.specs.Str.{NoCharPasses};
+ghost use Rattle.cookies.specs.Statuses.{status_of};
+
+use crate::escape::escaped;
+use crate::files::{input_name, output_name};
+use cookie_store::netscape::NetscapeError;
+use cookie_store::psl::ListError;
+use cookie_store::serde::MigrateError;
+use cookie_store::strict::StrictError;
+use cookie_store::{CookieError, Error};
+use std::alloc::{AllocError, Global};
+use std::{fmt, io};
+
+/// Why the command line is wrong.
+#[derive(Debug, Drop)]
+pub enum Usage<'a> {
+    /// The arguments cannot be read, as one that is not UTF-8.
+    Unreadable,
+    /// The arguments fit no command: the message for them.
+    Arguments(String),
+    /// The argument with this name is missing.
+    Missing(&'static str),
+    /// The suffix of this file name stands for no format, which this option can name.
+    UnknownFormat(&'a str, &'static str),
+    /// This is not a time.
+    BadTime(&'a str),
+    /// This is not a URL.
+    BadUrl(&'a str),
+}
+
+impl fmt::Display for Usage<'_> {
+    fn fmt<W: fmt::Write>(&self, f: &mut fmt::Formatter<W>) -> fmt::Result {
+        match self {
+            Usage::Unreadable => f.write_str("an argument is not UTF-8"),
+            Usage::Arguments(message) => f.write_str(message.as_str()),
+            Usage::Missing(name) => write!(f, "{name}: missing"),
+            Usage::UnknownFormat(name, option) => {
+                write!(f, "{name}: unknown format, name one by {option}")
+            }
+            Usage::BadTime(text) => write!(f, "{text}: not a time such as 2026-01-31T23:59:59Z"),
+            Usage::BadUrl(text) => write!(f, "{text}: not a URL"),
+        }
+    }
+}
+
+/// What is wrong with a file.
+#[derive(Debug, Drop)]
+pub enum FileError {
+    /// It cannot be read or written.
+    System(io::Error),
+    /// It is not UTF-8.
+    NotUtf8,
+    /// Its cookies cannot be read or written.
+    Cookies(Error),
+    /// One of its lines is not a cookie.
+    Lines(MigrateError),
+    /// It is not a public suffix list.
+    Suffixes(ListError),
+    /// It is not a `cookies.txt`, or its cookies cannot be written as one.
+    Netscape(NetscapeError),
+    /// It has no cookie with the domain, path and name.
+    NoCookie,
+}
+
+impl fmt::Display for FileError {
+    fn fmt<W: fmt::Write>(&self, f: &mut fmt::Formatter<W>) -> fmt::Result {
+        match self {
+            FileError::System(error) => error.fmt(f),
+            FileError::NotUtf8 => f.write_str("not UTF-8"),
+            FileError::Cookies(error) => error.fmt(f),
+            FileError::Lines(error) => error.fmt(f),
+            FileError::Suffixes(error) => error.fmt(f),
+            FileError::Netscape(error) => error.fmt(f),
+            FileError::NoCookie => f.write_str("no such cookie"),
+        }
+    }
+}
+
+impl From<io::Error> for FileError {
+    fn from(error: io::Error) -> FileError {
+        FileError::System(error)
+    }
+}
+
+impl From<Error> for FileError {
+    fn from(error: Error) -> FileError {
+        FileError::Cookies(error)
+    }
+}
+
+impl From<MigrateError> for FileError {
+    fn from(error: MigrateError) -> FileError {
+        FileError::Lines(error)
+    }
+}
+
+impl From<NetscapeError> for FileError {
+    fn from(error: NetscapeError) -> FileError {
+        FileError::Netscape(error)
+    }
+}
+
+impl From<ListError> for FileError {
+    fn from(error: ListError) -> FileError {
+        FileError::Suffixes(error)
+    }
+}
+
+/// Why a command fails.
+#[derive(Debug, Drop)]
+pub enum Failure<'a> {
+    /// The command line is wrong.
+    Usage(Usage<'a>),
+    /// Something is wrong with the file of this name.
+    File(&'a str, FileError),
+    /// The cookie is rejected.
+    Rejected(StrictError),
+    /// The system has no random bytes for the hash key.
+    Random(io::Error),
+    /// The clock cannot be read.
+    Clock,
+    /// Out of memory.
+    Memory,
+}
+
+impl<'a> Failure<'a> {
+    /// Returns the failure of what is read.
+    pub fn input(name: &'a str, error: FileError) -> Failure<'a> {
+        Failure::File(input_name(name), error)
+    }
+
+    /// Returns the failure of what is written.
+    pub fn output(name: &'a str, error: FileError) -> Failure<'a> {
+        Failure::File(output_name(name), error)
+    }
+
+    /// Returns the exit status: 2 for wrong usage, otherwise 1.
+    pub fn status(&self) -> u8
+        ensures { result ≡ status_of self.now }
+    {
+        match self {
+            Failure::Usage(_) => 2,
+            _ => 1,
+        }
+    }
+
+    /// Returns the line for standard error, without its line feed. It has no control character.
+    pub fn message(&self, alloc: Global) -> Result<String, AllocError>
+        ensures { IfOk result (λ line. NoCharPasses is_control (string_bytes line)) }
+    {
+        escaped(alloc, self.to_string(alloc)?.as_str())
+    }
+}
+
+impl fmt::Display for Failure<'_> {
+    fn fmt<W: fmt::Write>(&self, f: &mut fmt::Formatter<W>) -> fmt::Result {
+        match self {
+            Failure::Usage(usage) => write!(f, "cookies: {usage}; try 'cookies --help'"),
+            Failure::File(name, error) => write!(f, "cookies: {name}: {error}"),
+            Failure::Rejected(error) => write!(f, "cookies: cookie rejected: {error}"),
+            Failure::Random(error) => write!(f, "cookies: random bytes: {error}"),
+            Failure::Clock => f.write_str("cookies: the clock cannot be read"),
+            Failure::Memory => f.write_str("cookies: out of memory"),
+        }
+    }
+}
+
+impl<'a> From<Usage<'a>> for Failure<'a> {
+    fn from(usage: Usage<'a>) -> Failure<'a> {
+        Failure::Usage(usage)
+    }
+}
+
+impl From<CookieError> for Failure<'_> {
+    fn from(error: CookieError) -> Self {
+        Failure::from(StrictError::Cookie(error))
+    }
+}
+
+/// Converts to `Memory` if out of memory, else to `Rejected`.
+impl From<StrictError> for Failure<'_> {
+    fn from(error: StrictError) -> Self {
+        match error {
+            StrictError::Cookie(CookieError::Memory) => Failure::Memory,
+            error => Failure::Rejected(error),
+        }
+    }
+}
+
+impl From<AllocError> for Failure<'_> {
+    fn from(_error: AllocError) -> Self {
+        Failure::Memory
+    }
+}

@@ -1,0 +1,52 @@
+//! The program `cookies`: shows, edits and converts files of cookies.
+//!
+//! `cookies --help` lists its commands. The exit status is 0 for success, 1 if the command could not
+//! be done, and 2 for wrong usage.
+#![tactic(auto)]
+
+mod arguments;
+mod command_line;
+mod error;
+mod escape;
+mod files;
+mod format;
+mod options;
+mod purge;
+mod run;
+mod storage;
+mod table;
+#[cfg(test)]
+mod tests;
+
+use crate::error::{Failure, Usage};
+use std::process::ExitCode;
+use std::{env, io};
+
+fn main(rt: HostRuntime) -> ExitCode {
+    match words(&rt) {
+        Ok(words) => finish(&rt, run::run(&rt, words.as_slice())),
+        Err(failure) => finish(&rt, Err(failure)),
+    }
+}
+
+// Returns the words of the command line, the program's name first.
+fn words(rt: &HostRuntime) -> Result<Vec<String>, Failure<'static>> {
+    match env::args(rt) {
+        Ok(words) => Ok(words.collect(rt.alloc())?),
+        Err(error) if error.kind() == io::ErrorKind::OutOfMemory => Err(Failure::Memory),
+        Err(_) => Err(Failure::from(Usage::Unreadable)),
+    }
+}
+
+// Prints the message of a failure. Returns the exit status.
+fn finish(rt: &HostRuntime, outcome: Result<(), Failure<'_>>) -> ExitCode {
+    let Err(failure) = outcome else {
+        return ExitCode::SUCCESS;
+    };
+    // A message that cannot be printed has nowhere to go.
+    let _ = match failure.message(rt.alloc()) {
+        Ok(message) => eprintln!(rt; "{message}"),
+        Err(_) => eprintln!(rt; "cookies: out of memory"),
+    };
+    ExitCode::from(failure.status())
+}

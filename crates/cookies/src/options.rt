@@ -1,0 +1,80 @@
+//! What the command line asks for.
+use crate::format::Format;
+use crate::purge::Purge;
+use jiff::civil::DateTime;
+use url::Url;
+
+/// A file, and the format of its cookies. The name `-` is standard input or standard output.
+#[derive(Clone, Copy, Debug, PartialEq, Eq)]
+pub struct CookieFile<'a> {
+    pub name: &'a str,
+    pub format: Format,
+}
+
+/// The rules that a store follows beyond RFC 6265.
+#[derive(Clone, Copy, Debug, PartialEq, Eq)]
+pub struct Rules<'a> {
+    /// The file of a public suffix list.
+    pub suffixes: Option<&'a str>,
+    /// Whether the rules of browsers hold.
+    pub is_strict: bool,
+}
+
+/// The domain, the path and the name of a cookie.
+#[derive(Clone, Copy, Debug, PartialEq, Eq)]
+pub struct Key<'a> {
+    pub domain: &'a str,
+    pub path: &'a str,
+    pub name: &'a str,
+}
+
+/// A command and its arguments.
+#[derive(Drop)]
+pub enum Command<'a> {
+    /// Prints the help or the version.
+    Print {
+        text: String,
+    },
+    /// Prints all cookies: as a table, or as a JSON list.
+    Show {
+        file: CookieFile<'a>,
+        is_json: bool,
+    },
+    /// Prints the value of the Cookie header of a request.
+    Header {
+        url: Url,
+        file: CookieFile<'a>,
+        rules: Rules<'a>,
+        is_cross_site: bool,
+    },
+    /// Inserts the cookie of a `Set-Cookie` header value received from the URL.
+    Set {
+        url: Url,
+        value: &'a str,
+        file: CookieFile<'a>,
+        rules: Rules<'a>,
+    },
+    /// Removes one cookie.
+    Remove {
+        file: CookieFile<'a>,
+        key: Key<'a>,
+    },
+    /// Removes some cookies.
+    Purge {
+        file: CookieFile<'a>,
+        purge: Purge<'a>,
+    },
+    /// Reads a file, and writes its cookies to another.
+    Convert {
+        input: CookieFile<'a>,
+        output: CookieFile<'a>,
+    },
+}
+
+/// What the command line asks for.
+#[derive(Drop)]
+pub struct Request<'a> {
+    pub command: Command<'a>,
+    /// The time, in place of that of the clock.
+    pub now: Option<DateTime>,
+}

@@ -1,0 +1,25 @@
+# Completion of `cookies` for bash: source it, or install it as share/bash-completion/completions/cookies.
+_cookies() {
+    local word=${COMP_WORDS[COMP_CWORD]} before=${COMP_WORDS[COMP_CWORD - 1]} options
+    case $before in
+        --format | --from | --to) mapfile -t COMPREPLY < <(compgen -W 'json jsonl ron txt' -- "$word"); return ;;
+        --now | --domain) return ;;
+    esac
+    if [ "$COMP_CWORD" = 1 ]; then
+        mapfile -t COMPREPLY < <(compgen -W 'show header set remove purge convert --help --version' -- "$word")
+        return
+    fi
+    case ${COMP_WORDS[1]} in
+        show) options='--json --format' ;;
+        header) options='--suffixes --strict --cross-site --format' ;;
+        set) options='--suffixes --strict --format' ;;
+        remove) options='--format' ;;
+        purge) options='--expired --session --domain --format' ;;
+        convert) options='--from --to' ;;
+    esac
+    case $word in
+        -*) mapfile -t COMPREPLY < <(compgen -W "$options --now --help" -- "$word") ;;
+        *) mapfile -t COMPREPLY < <(compgen -f -- "$word") ;;
+    esac
+}
+complete -o filenames -F _cookies cookies
