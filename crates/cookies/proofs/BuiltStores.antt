@@ -1,5 +1,5 @@
 -- Stores built from items that are all cookies.
-use Rattle.std.proofs.Common.{◌≡◌, ◌++◌, ◌⊎◌, inl, inr, Bool, List, [], ◌∷◌, map, map-id, length, Option, Some, None, Result, Ok, Err, slice_get, option_map, refl, sym, ap, ◌∙◌}
+use Rattle.std.proofs.Common.{◌≡◌, Bool, List, [], ◌∷◌, map, map-id, length, Option, Some, None, Result, Ok, Err, slice_get, option_map, refl, sym, ap, ◌∙◌}
 use Rattle.std.specs.declared.alloc.Global.{Global}
 use Rattle.std.specs.declared.vec.IntoIter.{IntoIter}
 use Rattle.std.specs.Vec.Iter.{into_iter_steps}

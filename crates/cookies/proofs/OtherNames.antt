@@ -1,5 +1,5 @@
 -- Names that are none of the known ones.
-use Rattle.std.proofs.Common.{◌≡◌, ℕ, List, None, codes, false, refl}
+use Rattle.std.proofs.Common.{◌≡◌, ℕ, List, None, codes, false}
 use Rattle.std.specs.Str.{bytes_eq}
 use Rattle.std.proofs.lemmas.Bool.{false_from_ne_true}
 use Rattle.std.proofs.lemmas.Slice.Eq.{bytes_eq-Decides}

@@ -1,6 +1,6 @@
 -- Text without control characters.
-use Rattle.std.proofs.Common.{◌≡◌, ℕ, suc, ◌<◌, ◌≤◌, ◌^◌, ◌++◌, ◌⊎◌, inl, inr, Bool, true, false, List, [], ◌∷◌, codes, flat_map, refl, sym, ap, ◌∙◌, arith, if◌then◌else◌, lit<, lit≤}
-use Rattle.std.specs.Prelude.{◌==◌, nat_lt}
+use Rattle.std.proofs.Common.{◌≡◌, ℕ, suc, ◌<◌, ◌≤◌, ◌++◌, inl, inr, Bool, true, false, List, [], ◌∷◌, codes, flat_map, refl, sym, ◌∙◌, arith, if◌then◌else◌, lit≤}
+use Rattle.std.specs.Prelude.{◌==◌}
 use Rattle.std.specs.Char.{digit_value, encode_utf8, is_control}
 use Rattle.std.specs.Fmt.{digits}
 use Rattle.std.specs.Str.{chars, NoCharPasses}

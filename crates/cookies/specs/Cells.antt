@@ -1,5 +1,5 @@
 -- The cells of the table.
-use Rattle.std.specs.Prelude.{ℕ, ◌≤◌, Bool, List, [], ◌∷◌, ◌++◌, codes, flat_map, length, nat_le, take, Option, Some, None, unwrap_or, false, if◌then◌else◌}
+use Rattle.std.specs.Prelude.{ℕ, Bool, List, [], ◌∷◌, ◌++◌, codes, flat_map, length, nat_le, take, Option, Some, None, if◌then◌else◌}
 use Rattle.std.specs.Str.{chars}
 use Rattle.cookie_words.specs.Moments.{Moment}
 use Rattle.cookie_raw.specs.Raw.{Raw}
@@ -62,3 +62,9 @@ abbrev pub flags_cell : Raw → List ℕ
 flags_cell raw = flags_or_dash (with_same_site
     (with_flag_if (is_http_only raw) (with_flag_if (is_secure_only raw) [] (codes "secure")) (codes "httponly"))
     raw.same_site)
+
+-- the cells of a cookie
+abbrev pub cells_of : Moment → Row → List (List ℕ)
+cells_of now row =
+    domain_cell row.domain ∷ escaped row.path.text ∷ escaped row.raw.name ∷ value_cell row.raw.value ∷ expiry_cell now row.expires
+    ∷ flags_cell row.raw ∷ []

@@ -1,5 +1,5 @@
 -- Which cookies `purge` removes.
-use Rattle.std.specs.Prelude.{ℕ, Bool, false, not, ◌&&◌, ◌||◌, List, bytes_eq, filter, is_none, Option, Some, None}
+use Rattle.std.specs.Prelude.{ℕ, Bool, false, not, ◌&&◌, ◌||◌, List, bytes_eq, filter, Option, Some, None}
 use Rattle.std.specs.Option.{option_copied}
 use Rattle.cookie_words.specs.Moments.{Moment}
 use Rattle.cookie_parts.specs.Cookie.{Row, is_expired, is_persistent}

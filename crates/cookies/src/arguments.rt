@@ -2,11 +2,12 @@
 use crate::command_line::command_line;
 use crate::error::{Failure, Usage};
 use crate::format::Format;
-use crate::options::{Command, CookieFile, Key, Request, Rules};
+use crate::options::{Command, CookieFile, Key, Request};
 use crate::purge::Purge;
 use clap::ArgMatches;
 use clap::error::ErrorKind;
 use cookie_store::saved::read_moment;
+use cookie_store::strict::Context;
 use cookie_store::utils::parse_url;
 use cookie_words::without_dot;
 use jiff::civil::DateTime;
@@ -71,8 +72,8 @@ fn header<'a>(alloc: Global, matches: &ArgMatches<'a>) -> Result<Command<'a>, Fa
     Ok(Command::Header {
         url: url(alloc, matches)?,
         file: cookie_file(matches, "FILE", "format", "--format")?,
-        rules: rules(matches),
-        is_cross_site: matches.get_flag("cross-site"),
+        suffixes: matches.get_str("suffixes"),
+        context: context(matches),
     })
 }
 
@@ -81,7 +82,8 @@ fn set<'a>(alloc: Global, matches: &ArgMatches<'a>) -> Result<Command<'a>, Failu
         url: url(alloc, matches)?,
         value: word(matches, "SET-COOKIE")?,
         file: cookie_file(matches, "FILE", "format", "--format")?,
-        rules: rules(matches),
+        suffixes: matches.get_str("suffixes"),
+        is_strict: matches.get_flag("strict"),
     })
 }
 
@@ -145,11 +147,16 @@ fn cookie_file<'a>(
     }
 }
 
-fn rules<'a>(matches: &ArgMatches<'a>) -> Rules<'a> {
-    Rules {
-        suffixes: matches.get_str("suffixes"),
-        is_strict: matches.get_flag("strict"),
+// Returns where a request comes from, if the rules of browsers hold.
+fn context(matches: &ArgMatches<'_>) -> Option<Context> {
+    if !matches.get_flag("strict") {
+        return None;
     }
+    Some(Context {
+        is_same_site: !matches.get_flag("cross-site"),
+        is_top_level: false,
+        is_lax_by_default: true,
+    })
 }
 
 fn url<'a>(alloc: Global, matches: &ArgMatches<'a>) -> Result<Url, Failure<'a>> {

@@ -12,6 +12,7 @@ mod files;
 mod format;
 mod options;
 mod purge;
+mod request;
 mod run;
 mod storage;
 mod table;

@@ -1,6 +1,7 @@
 //! What the command line asks for.
 use crate::format::Format;
 use crate::purge::Purge;
+use cookie_store::strict::Context;
 use jiff::civil::DateTime;
 use url::Url;
 
@@ -9,15 +10,6 @@ use url::Url;
 pub struct CookieFile<'a> {
     pub name: &'a str,
     pub format: Format,
-}
-
-/// The rules that a store follows beyond RFC 6265.
-#[derive(Clone, Copy, Debug, PartialEq, Eq)]
-pub struct Rules<'a> {
-    /// The file of a public suffix list.
-    pub suffixes: Option<&'a str>,
-    /// Whether the rules of browsers hold.
-    pub is_strict: bool,
 }
 
 /// The domain, the path and the name of a cookie.
@@ -44,15 +36,20 @@ pub enum Command<'a> {
     Header {
         url: Url,
         file: CookieFile<'a>,
-        rules: Rules<'a>,
-        is_cross_site: bool,
+        /// The file of a public suffix list.
+        suffixes: Option<&'a str>,
+        /// Where the request comes from, if the rules of browsers hold.
+        context: Option<Context>,
     },
     /// Inserts the cookie of a `Set-Cookie` header value received from the URL.
     Set {
         url: Url,
         value: &'a str,
         file: CookieFile<'a>,
-        rules: Rules<'a>,
+        /// The file of a public suffix list.
+        suffixes: Option<&'a str>,
+        /// Whether the rules of browsers hold.
+        is_strict: bool,
     },
     /// Removes one cookie.
     Remove {

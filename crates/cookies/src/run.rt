@@ -3,13 +3,14 @@ use crate::arguments::parse;
 use crate::error::{Failure, FileError};
 use crate::files;
 use crate::format::Format;
-use crate::options::{Command, CookieFile, Key, Request, Rules};
+use crate::options::{Command, CookieFile, Key, Request};
 use crate::purge::{Purge, purged};
+use crate::request::{is_for_suffix, request_cookies};
 use crate::storage::{read_cookies, written_cookies};
 use crate::table::table;
 use cookie_store::psl::List;
 use cookie_store::strict::{self, Context};
-use cookie_store::{Cookie, CookieDomain, CookieStore, HashKey, StoreAlloc, cookie_string};
+use cookie_store::{CookieStore, HashKey, StoreAlloc, cookie_string};
 use jiff::Timestamp;
 use jiff::civil::DateTime;
 use jiff::tz::Offset;
@@ -53,15 +54,16 @@ impl<'r> Runner<'r> {
             Command::Header {
                 url,
                 file,
-                rules,
-                is_cross_site,
-            } => self.header(&url, file, rules, is_cross_site),
+                suffixes,
+                context,
+            } => self.header(&url, file, suffixes, context),
             Command::Set {
                 url,
                 value,
                 file,
-                rules,
-            } => self.set(&url, value, file, rules),
+                suffixes,
+                is_strict,
+            } => self.set(&url, value, file, suffixes, is_strict),
             Command::Remove { file, key } => self.remove(file, key),
             Command::Purge { file, purge } => self.purge(file, purge),
             Command::Convert { input, output } => self.save(output, &self.load(input)?),
@@ -84,12 +86,12 @@ impl<'r> Runner<'r> {
         &self,
         url: &Url,
         file: CookieFile<'a>,
-        rules: Rules<'a>,
-        is_cross_site: bool,
+        suffixes: Option<&'a str>,
+        context: Option<Context>,
     ) -> Result<(), Failure<'a>> {
-        let list = self.list(rules)?;
+        let list = self.list(suffixes)?;
         let store = self.load(file)?;
-        let mut cookies = self.cookies(&store, url, rules.is_strict, is_cross_site)?;
+        let mut cookies = request_cookies(&store, url, context, self.now)?;
         if let Some(list) = &list {
             cookies.retain(|cookie| !is_for_suffix(cookie, list));
         }
@@ -101,39 +103,21 @@ impl<'r> Runner<'r> {
         self.write("-", header.as_bytes())
     }
 
-    // Returns the cookies of a request, in the order of its Cookie header.
-    fn cookies<'s, 'a>(
-        &self,
-        store: &'s CookieStore,
-        url: &Url,
-        is_strict: bool,
-        is_cross_site: bool,
-    ) -> Result<Vec<&'s Cookie<'static>>, Failure<'a>> {
-        if !is_strict {
-            return Ok(store.cookies_in_order(url, self.now)?);
-        }
-        let context = Context {
-            is_same_site: !is_cross_site,
-            is_top_level: false,
-            is_lax_by_default: true,
-        };
-        Ok(strict::cookies_for(store, url, context, self.now)?)
-    }
-
     fn set<'a>(
         &self,
         url: &Url,
         value: &str,
         file: CookieFile<'a>,
-        rules: Rules<'a>,
+        suffixes: Option<&'a str>,
+        is_strict: bool,
     ) -> Result<(), Failure<'a>> {
-        let list = self.list(rules)?;
+        let list = self.list(suffixes)?;
         let store = self.load_or_new(file)?;
         let mut store = match list {
             Some(list) => store.with_suffix_list(list),
             None => store,
         };
-        if rules.is_strict {
+        if is_strict {
             strict::parse(&mut store, value, url, self.now)?;
         } else {
             store.parse(value, url, self.now)?;
@@ -207,9 +191,9 @@ impl<'r> Runner<'r> {
         }
     }
 
-    // Reads the public suffix list of the rules.
-    fn list<'a>(&self, rules: Rules<'a>) -> Result<Option<List>, Failure<'a>> {
-        let Some(name) = rules.suffixes else {
+    // Reads a public suffix list, if its file is named.
+    fn list<'a>(&self, suffixes: Option<&'a str>) -> Result<Option<List>, Failure<'a>> {
+        let Some(name) = suffixes else {
             return Ok(None);
         };
         match self.list_in(name) {
@@ -240,9 +224,4 @@ fn clock<'a>(rt: &HostRuntime) -> Result<DateTime, Failure<'a>> {
         Ok(now) => Ok(Offset::UTC.to_datetime(now)),
         Err(_) => Err(Failure::Clock),
     }
-}
-
-// Whether a cookie is a domain cookie for a public suffix.
-fn is_for_suffix(cookie: &Cookie<'_>, list: &List) -> bool {
-    matches!(cookie.domain, CookieDomain::Suffix(_)) && cookie.domain.is_public_suffix(list)
 }

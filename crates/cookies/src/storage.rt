@@ -7,8 +7,9 @@ ghost use Rattle.cookies.specs.Storage.{Holds, WritesAs};
 use crate::error::FileError;
 use crate::format::Format;
 use cookie_store::device::{Counted, Sink};
+use cookie_store::netscape::NetscapeError;
 use cookie_store::serde::{json, migrate_lines, netscape, ron};
-use cookie_store::{Bulk, CookieStore, StoreAlloc};
+use cookie_store::{Bulk, CookieStore, Error, StoreAlloc};
 use jiff::civil::DateTime;
 
 /// Reads the cookies in `contents`, expired ones and session cookies included.
@@ -34,8 +35,15 @@ pub fn written_cookies(format: Format, store: &CookieStore) -> Result<Vec<u8>, F
     ensures { IfOk result (λ contents. WritesAs format store.now.rows (Some []) (Some contents.items)) }
 {
     let mut sink = Counted::new(Vec::new(store.allocator()));
-    write_cookies(format, store, &mut sink)?;
-    Ok(sink.into_inner())
+    match write_cookies(format, store, &mut sink) {
+        Ok(()) => Ok(sink.into_inner()),
+        // A write to a vector fails only if memory ran out.
+        Err(FileError::Cookies(Error::Io)) => Err(FileError::Cookies(Error::Memory)),
+        Err(FileError::Netscape(NetscapeError::Io)) => {
+            Err(FileError::Netscape(NetscapeError::Memory))
+        }
+        Err(error) => Err(error),
+    }
 }
 
 // Writes all cookies, expired ones and session cookies included.

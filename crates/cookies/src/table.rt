@@ -1,10 +1,10 @@
 //! The table of `cookies show`.
-ghost use Rattle.std.specs.Prelude.{◌≡◌, IfOk, OnOk, string_bytes};
+ghost use Rattle.std.specs.Prelude.{◌≡◌, map, IfOk, OnOk, string_bytes};
 ghost use Rattle.std.specs.Char.{is_control};
 ghost use Rattle.std.specs.Str.{NoCharPasses};
 ghost use Rattle.cookie_words.specs.Moments.{moment_of};
 ghost use Rattle.cookie_parts.specs.Views.{domain_value, expiry_value};
-ghost use Rattle.cookies.specs.Cells.{domain_cell, expiry_cell, flags_cell, same_site_flag, value_cell, with_flag};
+ghost use Rattle.cookies.specs.Cells.{cells_of, domain_cell, expiry_cell, flags_cell, same_site_flag, value_cell, with_flag};
 
 use crate::escape::{escaped, push_escaped};
 use cookie_store::raw::SameSite;
@@ -41,7 +41,9 @@ pub fn table(store: &CookieStore, now: DateTime) -> Result<String, Error> {
 }
 
 // Returns a row for each cookie.
-fn rows(store: &CookieStore, now: DateTime) -> Result<Vec<Row>, Error> {
+fn rows(store: &CookieStore, now: DateTime) -> Result<Vec<Row>, Error>
+    ensures { IfOk result (λ rows. map (map string_bytes) rows.items ≡ map (cells_of (moment_of now)) store.now.rows) }
+{
     let alloc = store.allocator();
     let mut rows = Vec::new(alloc);
     for cookie in store.iter_any() {
@@ -51,7 +53,9 @@ fn rows(store: &CookieStore, now: DateTime) -> Result<Vec<Row>, Error> {
 }
 
 // Returns the cells of a cookie.
-fn row(alloc: Global, cookie: &Cookie<'_>, now: DateTime) -> Result<Row, Error> {
+fn row(alloc: Global, cookie: &Cookie<'_>, now: DateTime) -> Result<Row, Error>
+    ensures { IfOk result (λ cells. map string_bytes cells ≡ cells_of (moment_of now) cookie.now) }
+{
     Ok([
         domain_cell(alloc, &cookie.domain)?,
         escaped(alloc, cookie.path.as_str())?,

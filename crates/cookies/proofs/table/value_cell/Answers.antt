@@ -1,4 +1,4 @@
-use Rattle.std.proofs.Common.{length, map-id, refl, string_bytes, subst, sym, ap, ◌∙◌, ◌<◌, arith}
+use Rattle.std.proofs.Common.{length, map-id, refl, string_bytes, subst, sym, ◌∙◌, ◌<◌, arith}
 use Rattle.std.specs.Char.{encode_utf8, is_control}
 use Rattle.std.specs.Str.{chars}
 use Rattle.std.proofs.lemmas.Iterator.{YieldsList-from_chars}

@@ -1,0 +1,11 @@
+-- The cookies of a request.
+use Rattle.std.specs.Prelude.{Bool, false}
+use Rattle.cookie_psl.specs.Rules.{RuleList}
+use Rattle.cookie_parts.specs.Domain.{DomainValue, HostOnly, Suffix, NotPresent, Empty, is_public_suffix}
+
+-- a domain cookie for a public suffix
+abbrev pub is_for_suffix : RuleList → DomainValue → Bool
+is_for_suffix list (HostOnly d) = false
+is_for_suffix list (Suffix d) = is_public_suffix list (Suffix d)
+is_for_suffix list NotPresent = false
+is_for_suffix list Empty = false
