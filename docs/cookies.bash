@@ -1,12 +1,17 @@
 # Completion of `cookies` for bash: source it, or install it as share/bash-completion/completions/cookies.
 _cookies() {
-    local word=${COMP_WORDS[COMP_CWORD]} before=${COMP_WORDS[COMP_CWORD - 1]} options
+    local word=${COMP_WORDS[COMP_CWORD]} before=${COMP_WORDS[COMP_CWORD - 1]} options=
+    if [ "$word" = = ]; then # bash has made three words of --format=
+        word=
+    elif [ "$before" = = ] && [ "$COMP_CWORD" -ge 3 ]; then
+        before=${COMP_WORDS[COMP_CWORD - 2]}
+    fi
     case $before in
         --format | --from | --to) mapfile -t COMPREPLY < <(compgen -W 'json jsonl ron txt' -- "$word"); return ;;
         --now | --domain) return ;;
     esac
     if [ "$COMP_CWORD" = 1 ]; then
-        mapfile -t COMPREPLY < <(compgen -W 'show header set remove purge convert --help --version' -- "$word")
+        mapfile -t COMPREPLY < <(compgen -W 'show header set remove purge convert help --help --version' -- "$word")
         return
     fi
     case ${COMP_WORDS[1]} in
@@ -16,6 +21,7 @@ _cookies() {
         remove) options='--format' ;;
         purge) options='--expired --session --domain --format' ;;
         convert) options='--from --to' ;;
+        help) mapfile -t COMPREPLY < <(compgen -W 'show header set remove purge convert' -- "$word"); return ;;
     esac
     case $word in
         -*) mapfile -t COMPREPLY < <(compgen -W "$options --now --help" -- "$word") ;;

@@ -69,20 +69,24 @@ fn show<'a>(matches: &ArgMatches<'a>) -> Result<Command<'a>, Usage<'a>> {
 }
 
 fn header<'a>(alloc: Global, matches: &ArgMatches<'a>) -> Result<Command<'a>, Failure<'a>> {
+    let url = url(alloc, matches)?;
+    let file = cookie_file(matches, "FILE", "format", "--format")?;
     Ok(Command::Header {
-        url: url(alloc, matches)?,
-        file: cookie_file(matches, "FILE", "format", "--format")?,
-        suffixes: matches.get_str("suffixes"),
+        url,
+        file,
+        suffixes: suffixes(matches, file)?,
         context: context(matches),
     })
 }
 
 fn set<'a>(alloc: Global, matches: &ArgMatches<'a>) -> Result<Command<'a>, Failure<'a>> {
+    let url = url(alloc, matches)?;
+    let file = cookie_file(matches, "FILE", "format", "--format")?;
     Ok(Command::Set {
-        url: url(alloc, matches)?,
+        url,
         value: word(matches, "SET-COOKIE")?,
-        file: cookie_file(matches, "FILE", "format", "--format")?,
-        suffixes: matches.get_str("suffixes"),
+        file,
+        suffixes: suffixes(matches, file)?,
         is_strict: matches.get_flag("strict"),
     })
 }
@@ -144,6 +148,17 @@ fn cookie_file<'a>(
     match format {
         Some(format) => Ok(CookieFile { name, format }),
         None => Err(Usage::UnknownFormat(name, option)),
+    }
+}
+
+// Returns the file of a public suffix list. Standard input can't be both this and the cookies.
+fn suffixes<'a>(
+    matches: &ArgMatches<'a>,
+    file: CookieFile<'a>,
+) -> Result<Option<&'a str>, Usage<'a>> {
+    match matches.get_str("suffixes") {
+        Some(name) if name == "-" && file.name == "-" => Err(Usage::InputTwice),
+        name => Ok(name),
     }
 }
 

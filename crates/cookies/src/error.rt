@@ -29,6 +29,8 @@ pub enum Usage<'a> {
     BadTime(&'a str),
     /// This is not a URL.
     BadUrl(&'a str),
+    /// Standard input is to hold the cookies and the public suffix list.
+    InputTwice,
 }
 
 impl fmt::Display for Usage<'_> {
@@ -42,6 +44,7 @@ impl fmt::Display for Usage<'_> {
             }
             Usage::BadTime(text) => write!(f, "{text}: not a time such as 2026-01-31T23:59:59Z"),
             Usage::BadUrl(text) => write!(f, "{text}: not a URL"),
+            Usage::InputTwice => f.write_str("standard input is named twice"),
         }
     }
 }
@@ -63,6 +66,8 @@ pub enum FileError {
     Netscape(NetscapeError),
     /// It has no cookie with the domain, path and name.
     NoCookie,
+    /// A cookie for a header has a control character.
+    ControlCharacter,
 }
 
 impl fmt::Display for FileError {
@@ -75,6 +80,9 @@ impl fmt::Display for FileError {
             FileError::Suffixes(error) => error.fmt(f),
             FileError::Netscape(error) => error.fmt(f),
             FileError::NoCookie => f.write_str("no such cookie"),
+            FileError::ControlCharacter => {
+                f.write_str("a cookie of the request has a control character")
+            }
         }
     }
 }
@@ -144,6 +152,16 @@ impl<'a> Failure<'a> {
         match self {
             Failure::Usage(_) => 2,
             _ => 1,
+        }
+    }
+
+    /// Whether nobody reads what was written.
+    pub fn is_broken_pipe(&self) -> bool {
+        match self {
+            Failure::File(_, FileError::System(error)) => {
+                error.kind() == io::ErrorKind::BrokenPipe
+            }
+            _ => false,
         }
     }
 

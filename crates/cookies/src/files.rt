@@ -42,14 +42,21 @@ pub fn read(rt: &HostRuntime, name: &str) -> io::Result<Vec<u8>> {
 /// A regular file is replaced at once or, on an error, left as it was; its mode becomes 0600. A
 /// symbolic link stays, and the file that it names is replaced. A device or a pipe is written.
 pub fn write(rt: &HostRuntime, name: &str, contents: &[u8]) -> io::Result<()> {
-    if name == "-" {
+    if is_standard_output(name) {
         return print(rt, contents);
     }
+    let is_link = fs::read_link(rt, name).is_ok();
     match fs::metadata(rt, name) {
         Ok(metadata) if !metadata.is_file() => fs::write(rt, name, contents),
-        Ok(_) => replace(rt, fs::canonicalize(rt, name)?.as_str(), contents),
-        Err(_) => replace(rt, name, contents),
+        Ok(_) if is_link => replace(rt, fs::canonicalize(rt, name)?.as_str(), contents),
+        Err(error) if is_link => Err(error),
+        _ => replace(rt, name, contents),
     }
+}
+
+// Whether this is a name of standard output, which may be a file that others write too.
+fn is_standard_output(name: &str) -> bool {
+    matches!(name, "-" | "/dev/stdout" | "/dev/fd/1" | "/proc/self/fd/1")
 }
 
 /// Writes to standard output.

@@ -39,11 +39,14 @@ fn words(rt: &HostRuntime) -> Result<Vec<String>, Failure<'static>> {
     }
 }
 
-// Prints the message of a failure. Returns the exit status.
+// Prints the message of a failure, unless nobody reads the output. Returns the exit status.
 fn finish(rt: &HostRuntime, outcome: Result<(), Failure<'_>>) -> ExitCode {
     let Err(failure) = outcome else {
         return ExitCode::SUCCESS;
     };
+    if failure.is_broken_pipe() {
+        return ExitCode::from(failure.status());
+    }
     // A message that cannot be printed has nowhere to go.
     let _ = match failure.message(rt.alloc()) {
         Ok(message) => eprintln!(rt; "{message}"),

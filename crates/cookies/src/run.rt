@@ -99,6 +99,9 @@ impl<'r> Runner<'r> {
             return Ok(());
         }
         let mut header = cookie_string(self.alloc.alloc, &cookies)?;
+        if header.chars().any(|c| c.is_control() && c != '\t') {
+            return Err(Failure::input(file.name, FileError::ControlCharacter));
+        }
         header.push('\n')?;
         self.write("-", header.as_bytes())
     }

@@ -17,6 +17,9 @@ use unicode_width::UnicodeWidthStr;
 /// The number of characters of a value that are shown.
 const SHOWN_CHARS: usize = 40;
 
+/// The most columns of a terminal that cells are aligned to.
+const ALIGNED_WIDTH: usize = 80;
+
 /// The number of columns.
 const COLUMNS: usize = 6;
 
@@ -162,7 +165,7 @@ fn widths(rows: &[Row]) -> [usize; COLUMNS] {
 // Widens the columns that are too narrow for the cells.
 fn widen(widths: &mut [usize; COLUMNS], row: &Row) {
     for (width, cell) in widths.iter_mut().zip(row) {
-        *width = cell.as_str().width().max(*width);
+        *width = cell.as_str().width().min(ALIGNED_WIDTH).max(*width);
     }
 }
 

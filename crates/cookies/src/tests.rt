@@ -1,5 +1,5 @@
-//! Tests of what no clause says: the printed table, the messages for wrong usage, and which suffix
-//! stands for which format.
+//! Tests of what no clause says: the printed table and the messages for wrong usage; and examples of
+//! file names.
 use crate::arguments::parse;
 use crate::format::Format;
 use crate::storage::read_cookies;
