@@ -7,6 +7,9 @@ use std::io::{self, Read, Write};
 use std::os::unix::fs::OpenOptionsExt;
 use std::process;
 
+/// The most files that killed programs may leave beside a file before it cannot be replaced.
+const LEFTOVERS: usize = 100;
+
 /// Returns the name of what is read.
 pub fn input_name(name: &str) -> &str
     ensures { result.now ≡ input_name name.now }
@@ -68,8 +71,7 @@ pub fn print(rt: &HostRuntime, contents: &[u8]) -> io::Result<()> {
 
 // Writes a new file in the same folder, and renames it.
 fn replace(rt: &HostRuntime, name: &str, contents: &[u8]) -> io::Result<()> {
-    let temporary = format!(in rt.alloc(); "{name}.{}.tmp", process::id(rt.process()))?;
-    let file = create(rt, temporary.as_str())?;
+    let (temporary, file) = create_beside(rt, name)?;
     let replaced = fill_and_rename(rt, file, contents, temporary.as_str(), name);
     if replaced.is_err() {
         let _ = fs::remove_file(rt, temporary.as_str());
@@ -77,11 +79,19 @@ fn replace(rt: &HostRuntime, name: &str, contents: &[u8]) -> io::Result<()> {
     replaced
 }
 
-// Creates a file that only its owner can read.
-fn create(rt: &HostRuntime, name: &str) -> io::Result<File> {
+// Creates a file that only its owner can read. Returns its name too.
+fn create_beside(rt: &HostRuntime, name: &str) -> io::Result<(String, File)> {
     let mut options = OpenOptions::new();
     options.write(true).create_new(true).mode(0o600);
-    options.open(rt, name)
+    let id = process::id(rt.process());
+    for number in 0..LEFTOVERS {
+        let temporary = format!(in rt.alloc(); "{name}.{id}.{number}.tmp")?;
+        match options.open(rt, temporary.as_str()) {
+            Err(error) if error.kind() == io::ErrorKind::AlreadyExists => {}
+            opened => return Ok((temporary, opened?)),
+        }
+    }
+    Err(io::Error::from(io::ErrorKind::AlreadyExists))
 }
 
 // Writes to a new file, waits until the disk has it, and renames it.
