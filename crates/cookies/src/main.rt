@@ -16,8 +16,6 @@ mod request;
 mod run;
 mod storage;
 mod table;
-#[cfg(test)]
-mod tests;
 
 use crate::error::{Failure, Usage};
 use std::process::ExitCode;
