@@ -44,6 +44,20 @@ def crates():
     return re.findall(r'^(\w+)', read(f'{ROOT}/crates.txt'), re.M)
 
 
+def line_of(crate):
+    """The line of crates.txt that names a crate."""
+    return re.search(rf'^{crate}\b.*', read(f'{ROOT}/crates.txt'), re.M)[0]
+
+
+def below(crate):
+    """A crate and those of the repository that it uses, directly or through others, lowest first."""
+    needed = {crate}
+    for name in reversed(crates()):
+        if name in needed:
+            needed.update(line_of(name).partition(':')[2].split())
+    return [name for name in crates() if name in needed]
+
+
 def copy_repository(folder, *ignored):
     """Copies the crates and what was built of them, without mutants and names that match `ignored`."""
     shutil.copytree(f'{ROOT}/crates', f'{folder}/crates', ignore=shutil.ignore_patterns('*.edit', *ignored))

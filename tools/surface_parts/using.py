@@ -35,18 +35,11 @@ def spans(text):
     return SPAN.findall(text)
 
 
-def folders(text, listed, crate):
-    """Differences between the folders that the quick start copies and the crates that `crate` needs, by crates.txt."""
-    uses = {line.split(':')[0].split()[0]: line.split(':')[1].split() for line in listed.split('\n') if ':' in line and line[0] != '#'}
-    needed, left = set(), [crate]
-    while left:
-        name = left.pop()
-        if name in uses and name not in needed:
-            needed.add(name)
-            left += uses[name]
-    step = text[text.index('1. Copy the folders'):text.index('\n2. ')]
-    for name in sorted(needed ^ {span for span in spans(step) if span in uses}):
-        yield f'{FILE}: {name}: step 1 of the quick start differs from crates.txt'
+def program_line(text, listed):
+    """The difference, if there is one, between the quick start's line of crates.txt and that of its program."""
+    line = re.search(r'^quick_start\b(.*)', listed, re.M)[1]
+    if f' my_client{line}\n' not in text:
+        yield f'{FILE}: the quick start does not have the line `my_client{line}`'
 
 
 def without_generics(name):
