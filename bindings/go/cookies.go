@@ -1,0 +1,78 @@
+package cookiestore
+
+// #include <cookie_store.h>
+import "C"
+
+import (
+	"time"
+	"unsafe"
+)
+
+// Cookie is a stored cookie.
+type Cookie struct {
+	Domain  string
+	Path    string
+	Name    string
+	Value   string
+	Expires time.Time // the zero time for a session cookie
+
+	HostOnly bool // sent to Domain alone, and not to the hosts below it
+	Secure   bool
+	HttpOnly bool
+}
+
+// Len returns the number of stored cookies, expired ones included, and 0 after Close.
+func (j *Jar) Len() int {
+	j.mu.Lock()
+	defer j.mu.Unlock()
+	return int(C.cookie_store_count(&j.store))
+}
+
+// All returns the stored cookies, expired ones included, and nil after Close.
+func (j *Jar) All() []Cookie {
+	rows, text := j.rows()
+	var cookies []Cookie
+	for _, row := range rows {
+		cookies = append(cookies, Cookie{
+			Domain:   cut(&text, row.domain_len),
+			Path:     cut(&text, row.path_len),
+			Name:     cut(&text, row.name_len),
+			Value:    cut(&text, row.value_len),
+			Expires:  expiry(row),
+			HostOnly: bool(row.host_only),
+			Secure:   bool(row.secure),
+			HttpOnly: bool(row.http_only),
+		})
+	}
+	return cookies
+}
+
+// rows returns the rows of cookie_store_rows, and their strings one after the other.
+func (j *Jar) rows() ([]C.cookie_store_row, string) {
+	j.mu.Lock()
+	defer j.mu.Unlock()
+	rows, text := make([]C.cookie_store_row, 1), make([]byte, 1)
+	for {
+		var count, length C.size_t
+		status := C.cookie_store_rows(&j.store, &rows[0], C.size_t(len(rows)),
+			(*C.char)(unsafe.Pointer(&text[0])), C.size_t(len(text)), &count, &length)
+		if status != C.COOKIE_STORE_NO_ROOM { // OK, or NO_STORE with no row
+			return rows[:count], string(text[:length])
+		}
+		rows, text = make([]C.cookie_store_row, count), make([]byte, length)
+	}
+}
+
+// cut removes the first bytes of text and returns them.
+func cut(text *string, length C.size_t) string {
+	head := (*text)[:length]
+	*text = (*text)[length:]
+	return head
+}
+
+func expiry(row C.cookie_store_row) time.Time {
+	if !row.persistent {
+		return time.Time{}
+	}
+	return time.Unix(int64(row.ends_at), 0).UTC()
+}

@@ -1,0 +1,138 @@
+package cookiestore
+
+// #include <cookie_store.h>
+import "C"
+
+import "fmt"
+
+// Status is the reason of an error, with the numbers of cookie_store.h. It is an error itself: errors.Is(err, ErrPublicSuffix)
+// reports whether a cookie was rejected because its domain is a public suffix.
+type Status int
+
+// The cookie was rejected.
+const (
+	// The scheme of the URL does not begin with "http", and the cookie, or the unexpired one that it would replace or expire,
+	// is HttpOnly.
+	ErrNonHTTPScheme Status = C.COOKIE_STORE_NON_HTTP_SCHEME
+	// The host of the URL does not domain-match the Domain attribute, RFC 6265 5.1.3.
+	ErrDomainMismatch Status = C.COOKIE_STORE_DOMAIN_MISMATCH
+	// The cookie has expired, and no unexpired one with its domain, path and name is stored.
+	ErrExpired Status = C.COOKIE_STORE_EXPIRED
+	// The header value is not a cookie, or its Domain attribute is not a domain name. Of a list to load: an entry is not a cookie.
+	ErrParse Status = C.COOKIE_STORE_PARSE
+	// The domain of the cookie is a public suffix on the list of the jar, and is not the host of the URL.
+	ErrPublicSuffix Status = C.COOKIE_STORE_PUBLIC_SUFFIX
+)
+
+// The cookie was rejected by a strict jar.
+const (
+	// The header value has a control character other than HTAB.
+	ErrControlCharacter Status = C.COOKIE_STORE_CONTROL_CHARACTER
+	// The name and the value together are longer than 4,096 bytes.
+	ErrTooLong Status = C.COOKIE_STORE_TOO_LONG
+	// The cookie is Secure, and the URL is not secure.
+	ErrInsecureURL Status = C.COOKIE_STORE_INSECURE_URL
+	// The cookie has SameSite=None and is not Secure.
+	ErrInsecureSameSiteNone Status = C.COOKIE_STORE_INSECURE_SAME_SITE_NONE
+	// The name begins with __Secure- or __Host-, and the cookie lacks what the prefix demands.
+	ErrPrefix Status = C.COOKIE_STORE_PREFIX
+	// Neither the cookie nor the URL is secure, and the cookie would overlay a stored Secure one.
+	ErrSecureStored Status = C.COOKIE_STORE_SECURE_STORED
+)
+
+// The call failed.
+const (
+	// The jar is closed.
+	ErrClosed Status = C.COOKIE_STORE_NO_STORE
+	// Out of memory.
+	ErrNoMemory Status = C.COOKIE_STORE_NO_MEMORY
+	// The URL is not valid, or has no host.
+	ErrBadURL Status = C.COOKIE_STORE_BAD_URL
+	// A string is not UTF-8.
+	ErrNotUTF8 Status = C.COOKIE_STORE_NOT_UTF8
+	// No cookie with this domain, path and name is stored.
+	ErrNotFound Status = C.COOKIE_STORE_NOT_FOUND
+	// The domain limit is negative.
+	ErrBadLimit Status = C.COOKIE_STORE_BAD_LIMIT
+	// A line of the public suffix list is not a rule.
+	ErrBadRule Status = C.COOKIE_STORE_BAD_RULE
+	// A list to load is not JSON.
+	ErrBadJSON Status = C.COOKIE_STORE_BAD_JSON
+	// A list to load is JSON, but not a list of cookies.
+	ErrBadShape Status = C.COOKIE_STORE_BAD_SHAPE
+	// A list to load is not a list of cookies in RON.
+	ErrBadRON Status = C.COOKIE_STORE_BAD_RON
+	// An expiry of a list to load is not a valid date and time, or one to save is before the year 0.
+	ErrBadEnd Status = C.COOKIE_STORE_BAD_END
+	// A line of a cookies.txt file to load is neither a cookie nor a comment nor blank.
+	ErrBadLine Status = C.COOKIE_STORE_BAD_LINE
+	// A cookies.txt file cannot represent one of the cookies to save.
+	ErrUnrepresentable Status = C.COOKIE_STORE_UNREPRESENTABLE
+)
+
+var texts = map[Status]string{
+	ErrNonHTTPScheme:        "HttpOnly cookie, and the scheme is not HTTP",
+	ErrDomainMismatch:       "the host does not match the Domain attribute",
+	ErrExpired:              "expired cookie",
+	ErrParse:                "not a cookie",
+	ErrPublicSuffix:         "the domain is a public suffix",
+	ErrControlCharacter:     "control character in a cookie",
+	ErrTooLong:              "name and value are longer than 4,096 bytes",
+	ErrInsecureURL:          "Secure cookie, and the URL is not secure",
+	ErrInsecureSameSiteNone: "SameSite=None without Secure",
+	ErrPrefix:               "the cookie lacks what the prefix of its name demands",
+	ErrSecureStored:         "a Secure cookie of this name is stored",
+	ErrClosed:               "the jar is closed",
+	ErrNoMemory:             "out of memory",
+	ErrBadURL:               "not a URL with a host",
+	ErrNotUTF8:              "not UTF-8",
+	ErrNotFound:             "no such cookie",
+	ErrBadLimit:             "negative domain limit",
+	ErrBadRule:              "not a rule of a public suffix list",
+	ErrBadJSON:              "not JSON",
+	ErrBadShape:             "not a list of cookies in JSON",
+	ErrBadRON:               "not a list of cookies in RON",
+	ErrBadEnd:               "an expiry is out of range",
+	ErrBadLine:              "not a line of a cookies.txt file",
+	ErrUnrepresentable:      "a cookies.txt file cannot represent a cookie",
+}
+
+// String describes the status in a few words.
+func (s Status) String() string {
+	if text, ok := texts[s]; ok {
+		return text
+	}
+	return fmt.Sprintf("status %d of cookie_store.h", int(s))
+}
+
+// Error returns the text of String with the name of the package.
+func (s Status) Error() string { return "cookiestore: " + s.String() }
+
+// IsRejection reports whether the cookie was rejected. Otherwise the call failed.
+func (s Status) IsRejection() bool {
+	return s >= ErrNonHTTPScheme && s <= C.COOKIE_STORE_UNSPECIFIED_DOMAIN || s >= ErrControlCharacter && s <= ErrSecureStored
+}
+
+// Error is an error of the store, such as a rejected cookie.
+type Error struct {
+	Status Status
+	Line   int // the first malformed line, counted from 1, of ErrBadRule and ErrBadLine; else 0
+}
+
+func (e *Error) Error() string {
+	if e.Line > 0 {
+		return fmt.Sprintf("cookiestore: line %d: %s", e.Line, e.Status.String())
+	}
+	return e.Status.Error()
+}
+
+// Unwrap returns the status, for errors.Is.
+func (e *Error) Unwrap() error { return e.Status }
+
+// errorOf returns the error of a status, or nil if it is a success.
+func errorOf(status C.enum_cookie_store_status, line C.size_t) error {
+	if status <= C.COOKIE_STORE_EXPIRED_EXISTING {
+		return nil
+	}
+	return &Error{Status(status), int(line)}
+}

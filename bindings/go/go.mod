@@ -1,0 +1,3 @@
+module pulleymaroon/cookiestore
+
+go 1.19

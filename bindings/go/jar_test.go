@@ -1,0 +1,281 @@
+package cookiestore
+
+import (
+	"errors"
+	"fmt"
+	"net/http"
+	"net/url"
+	"reflect"
+	"strings"
+	"sync"
+	"testing"
+	"time"
+)
+
+var start = time.Date(2026, 1, 1, 0, 0, 0, 0, time.UTC)
+
+// newJar returns a jar whose clock is at start, and which is closed after the test.
+func newJar(t *testing.T, options *Options) *Jar {
+	t.Helper()
+	jar, err := New(options)
+	if err != nil {
+		t.Fatalf("New: %v", err)
+	}
+	t.Cleanup(func() { jar.Close() })
+	setClock(jar, start)
+	return jar
+}
+
+func setClock(jar *Jar, now time.Time) { jar.now = func() time.Time { return now } }
+
+func parseURL(t *testing.T, text string) *url.URL {
+	t.Helper()
+	u, err := url.Parse(text)
+	if err != nil {
+		t.Fatal(err)
+	}
+	return u
+}
+
+// setAll sets cookies that must not be rejected.
+func setAll(t *testing.T, jar *Jar, from string, values ...string) {
+	t.Helper()
+	for _, value := range values {
+		if err := jar.Set(parseURL(t, from), value); err != nil {
+			t.Fatalf("%s: Set(%q): %v", from, value, err)
+		}
+	}
+}
+
+func expectHeader(t *testing.T, jar *Jar, to, want string) {
+	t.Helper()
+	got, err := jar.Header(parseURL(t, to))
+	if err != nil || got != want {
+		t.Errorf("Header(%s) = %q, %v, want %q", to, got, err, want)
+	}
+}
+
+func expectStatus(t *testing.T, what string, err error, want Status) {
+	t.Helper()
+	var typed *Error
+	if !errors.Is(err, want) || !errors.As(err, &typed) || typed.Status != want {
+		t.Errorf("%s: %v, want %v", what, err, want)
+	}
+}
+
+func TestHeader(t *testing.T) {
+	long := "a=" + strings.Repeat("x", 5000)
+	for _, row := range []struct{ from, value, to, want string }{
+		{"http://example.com/", "a=1", "http://example.com/", "a=1"},
+		{"http://example.com/", "a=1", "http://deep.example.com/", ""},
+		{"http://example.com/", "a=1; Domain=example.com", "http://deep.example.com/", "a=1"},
+		{"http://deep.example.com/", "a=1; Domain=.example.com", "http://example.com/", "a=1"},
+		{"http://example.com/foo/bar", "a=1", "http://example.com/foo/x?q=1#f", "a=1"},
+		{"http://example.com/foo/bar", "a=1", "http://example.com/foobar", ""},
+		{"http://example.com/", "a=1; Path=/a b", "http://example.com/a%20b", ""},
+		{"https://example.com/", "a=1; Secure", "https://example.com:8443", "a=1"},
+		{"https://example.com/", "a=1; Secure", "http://example.com/", ""},
+		{"http://[::1]:80/", "a=1", "http://[::1]/", "a=1"},
+		{"http://example.com/", "a=", "http://example.com/", "a="},
+		{"http://example.com/", `a="q r, é"`, "http://example.com/", `a="q r, é"`},
+		{"http://example.com/", long, "http://example.com/", long},
+	} {
+		jar := newJar(t, nil)
+		setAll(t, jar, row.from, row.value)
+		expectHeader(t, jar, row.to, row.want)
+	}
+}
+
+func TestSetErrors(t *testing.T) {
+	list, strict := &Options{PublicSuffixList: []byte("uk\nco.uk\n")}, &Options{Strict: true}
+	for _, row := range []struct {
+		options     *Options
+		from, value string
+		want        Status
+	}{
+		{nil, "http://example.com/", "", ErrParse},
+		{nil, "http://example.com/", "a", ErrParse},
+		{nil, "http://example.com/", "a=1; Domain=other.com", ErrDomainMismatch},
+		{nil, "http://example.com/", "a=1; Domain=deep.example.com", ErrDomainMismatch},
+		{nil, "http://example.com/", "a=1; Max-Age=0", ErrExpired},
+		{nil, "ftp://example.com/", "a=1; HttpOnly", ErrNonHTTPScheme},
+		{list, "http://shop.co.uk/", "a=1; Domain=co.uk", ErrPublicSuffix},
+		{strict, "http://example.com/", "a=\x01", ErrControlCharacter},
+		{strict, "http://example.com/", "a=" + strings.Repeat("x", 4096), ErrTooLong},
+		{strict, "http://example.com/", "a=1; Secure", ErrInsecureURL},
+		{strict, "https://example.com/", "a=1; SameSite=None", ErrInsecureSameSiteNone},
+		{strict, "https://example.com/", "__Host-a=1; Path=/", ErrPrefix},
+		{strict, "http://example.com/", "stored=2", ErrSecureStored},
+		{nil, "http:///", "a=1", ErrBadURL},
+		{nil, "http:example.com", "a=1", ErrBadURL},
+		{nil, "", "a=1", ErrBadURL},
+		{nil, "http://example.com/", "a=\xff", ErrNotUTF8},
+	} {
+		jar := newJar(t, row.options)
+		setAll(t, jar, "https://example.com/", "stored=1; Secure")
+		err := jar.Set(parseURL(t, row.from), row.value)
+		name := fmt.Sprintf("%s: Set(%.40q)", row.from, row.value)
+		expectStatus(t, name, err, row.want)
+		if failed := row.want == ErrBadURL || row.want == ErrNotUTF8; row.want.IsRejection() == failed {
+			t.Errorf("%s: IsRejection is %v", name, !failed)
+		}
+		if jar.Len() != 1 {
+			t.Errorf("%s: %d cookies, want the one stored before", name, jar.Len())
+		}
+	}
+}
+
+// A request goes to u.Host, whatever the other fields name.
+func TestHostDecides(t *testing.T) {
+	jar := newJar(t, nil)
+	setAll(t, jar, "http://example.com/", "a=1")
+	for _, u := range []*url.URL{
+		nil,
+		{Scheme: "http", Path: "/example.com/"},
+		{Scheme: "http", Host: "other.com", Opaque: "//example.com/"},
+		{Scheme: "http", Host: "other.com", Path: "//example.com/"},
+		{Scheme: "http", Host: `other.com\@example.com`, Path: "/"},
+		{Scheme: "http", Host: "example.com", Path: "/", User: url.UserPassword("other.com", "@")},
+	} {
+		want := ""
+		if u != nil && u.Host == "example.com" {
+			want = "a=1"
+		}
+		if got, _ := jar.Header(u); got != want {
+			t.Errorf("Header(%#v) = %q, want %q", u, got, want)
+		}
+	}
+}
+
+func TestOptionErrors(t *testing.T) {
+	for _, row := range []struct {
+		options Options
+		want    Error
+		text    string
+	}{
+		{Options{PublicSuffixList: []byte("uk\nco..uk\n")}, Error{ErrBadRule, 2},
+			"cookiestore: line 2: not a rule of a public suffix list"},
+		{Options{PublicSuffixList: []byte("\xff")}, Error{ErrNotUTF8, 0}, "cookiestore: not UTF-8"},
+		{Options{DomainLimit: -1}, Error{ErrBadLimit, 0}, "cookiestore: negative domain limit"},
+	} {
+		_, err := New(&row.options)
+		var typed *Error
+		if !errors.As(err, &typed) || *typed != row.want || err.Error() != row.text {
+			t.Errorf("New(%+v): %v, want %v", row.options, err, row.text)
+		}
+	}
+	if text := Status(99).Error(); text != "cookiestore: status 99 of cookie_store.h" {
+		t.Errorf("an unknown status is %q", text)
+	}
+}
+
+func TestOptions(t *testing.T) {
+	jar := newJar(t, &Options{PublicSuffixList: []byte("uk\nco.uk\n"), DomainLimit: 2})
+	setAll(t, jar, "http://co.uk/", "own=1; Domain=co.uk")
+	expectHeader(t, jar, "http://co.uk/", "own=1")
+	expectHeader(t, jar, "http://shop.co.uk/", "")
+	setAll(t, jar, "http://shop.co.uk/", "a=1", "b=2; Domain=shop.co.uk", "c=3")
+	expectHeader(t, jar, "http://shop.co.uk/", "b=2; c=3")
+
+	jar = newJar(t, &Options{Strict: true})
+	setAll(t, jar, "https://example.com/", "a=1; Max-Age=99999999")
+	if got, want := jar.All()[0].Expires, start.AddDate(0, 0, 400); !got.Equal(want) {
+		t.Errorf("a strict jar's cookie expires at %v, want %v", got, want)
+	}
+}
+
+func TestCookies(t *testing.T) {
+	jar := newJar(t, nil)
+	setAll(t, jar, "https://example.com/foo/bar",
+		"a=1; Max-Age=60; Secure", "b=2; Domain=example.com; Path=/; HttpOnly", "c=; Max-Age=61")
+	want := []Cookie{
+		{"example.com", "/foo", "a", "1", start.Add(time.Minute), true, true, false},
+		{"example.com", "/foo", "c", "", start.Add(61 * time.Second), true, false, false},
+		{"example.com", "/", "b", "2", time.Time{}, false, false, true},
+	}
+	expectAll(t, "set", jar, want)
+	if jar.Len() != 3 {
+		t.Errorf("Len() = %d, want 3", jar.Len())
+	}
+
+	setClock(jar, start.Add(time.Minute))
+	expectHeader(t, jar, "https://example.com/foo/", "c=; b=2")
+	if count, err := jar.RemoveExpired(); count != 1 || err != nil {
+		t.Errorf("RemoveExpired() = %d, %v, want 1", count, err)
+	}
+	expectAll(t, "after RemoveExpired", jar, want[1:])
+
+	expectStatus(t, "Remove", jar.Remove("example.com", "/", "a"), ErrNotFound)
+	if err := jar.Remove("example.com", "/", "b"); err != nil {
+		t.Errorf("Remove: %v", err)
+	}
+	expectAll(t, "after Remove", jar, want[1:2])
+	setAll(t, jar, "http://example.com/foo/", "c=; Max-Age=0") // expires the stored one
+	expectHeader(t, jar, "http://example.com/foo/", "")
+	if err := jar.Clear(); err != nil || jar.Len() != 0 || jar.All() != nil {
+		t.Errorf("Clear: %v, and %d cookies", err, jar.Len())
+	}
+}
+
+func expectAll(t *testing.T, when string, jar *Jar, want []Cookie) {
+	t.Helper()
+	got := map[Cookie]bool{} // the order of the store is no promise
+	for _, cookie := range jar.All() {
+		got[cookie] = true
+	}
+	expected := map[Cookie]bool{}
+	for _, cookie := range want {
+		expected[cookie] = true
+	}
+	if !reflect.DeepEqual(got, expected) {
+		t.Errorf("%s: All() = %+v, want %+v", when, got, expected)
+	}
+}
+
+func TestClosed(t *testing.T) {
+	closed, u := newJar(t, nil), parseURL(t, "http://example.com/")
+	setAll(t, closed, u.String(), "a=1")
+	for _, jar := range []*Jar{closed, new(Jar)} {
+		for range "12" {
+			if err := jar.Close(); err != nil {
+				t.Errorf("Close: %v", err)
+			}
+		}
+		_, headerErr := jar.Header(u)
+		_, expiredErr := jar.RemoveExpired()
+		for name, err := range map[string]error{
+			"Set": jar.Set(u, "a=1"), "Header": headerErr, "Clear": jar.Clear(), "Remove": jar.Remove("", "", ""),
+			"RemoveExpired": expiredErr, "Save": jar.Save(new(strings.Builder), JSON),
+		} {
+			expectStatus(t, name, err, ErrClosed)
+		}
+		jar.SetCookies(u, []*http.Cookie{{Name: "a", Value: "1"}})
+		if jar.Len() != 0 || jar.All() != nil || jar.Cookies(u) != nil {
+			t.Error("a closed jar has cookies")
+		}
+	}
+}
+
+func TestGoroutines(t *testing.T) {
+	const goroutines, each = 8, 200
+	jar := newJar(t, nil)
+	var all sync.WaitGroup
+	for g := 0; g < goroutines; g++ {
+		all.Add(1)
+		go func(page *url.URL) {
+			defer all.Done()
+			for i := 0; i < each; i++ {
+				if err := jar.Set(page, fmt.Sprintf("c%d=%d", i, i)); err != nil {
+					t.Error(err)
+				}
+				if got := len(jar.Cookies(page)); got != i+1 {
+					t.Errorf("%v has %d cookies, want %d", page, got, i+1)
+				}
+			}
+		}(parseURL(t, fmt.Sprintf("http://host%d.com/", g)))
+	}
+	all.Wait()
+	if jar.Len() != goroutines*each {
+		t.Errorf("%d cookies, want %d", jar.Len(), goroutines*each)
+	}
+}
