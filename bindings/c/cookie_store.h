@@ -1,6 +1,7 @@
 /* cookie_store.h - an HTTP cookie store after RFC 6265.
  *
- * For 64-bit machines. Link with -lcookie_store (pkg-config cookie_store).
+ * For 64-bit machines. Link with -lcookie_store (pkg-config cookie_store). No pointer may be NULL,
+ * not even if its length is 0: for an empty string pass "".
  *
  *     cookie_store store = COOKIE_STORE_INIT;
  *     char key[16], header[4096];
@@ -11,7 +12,7 @@
  *
  *     // A response from `url` had the header `Set-Cookie: value`.
  *     status = cookie_store_set(&store, url, strlen(url), value, strlen(value), time(NULL));
- *     if (status == COOKIE_STORE_NO_MEMORY) abort();
+ *     if (status >= 10) printf("not stored: %s\n", cookie_store_status_text(status));
  *
  *     // The Cookie header of a request for `url`.
  *     status = cookie_store_get(&store, url, strlen(url), time(NULL), header, sizeof header,
@@ -42,7 +43,8 @@
  *
  *   The library keeps no pointer into the caller's memory: what a call takes is copied, and what it
  *   returns is written to buffers of the caller. Only the store itself is to be freed, with
- *   cookie_store_free.
+ *   cookie_store_free. Memory is allocated with malloc, realloc and free, which must belong to one
+ *   allocator.
  *
  * Strings and pointers
  *
@@ -70,8 +72,8 @@
  *
  * Errors
  *
- *   A status below 10 is success, from 10 to 16 and from 40 to 45 the cookie is rejected, and from
- *   20 to 36 the call failed. Statuses are named in these comments without their prefix
+ *   A status below 10 is success, from 10 to 19 and from 40 on the cookie is rejected, and from 20
+ *   to 39 the call failed. Statuses are named in these comments without their prefix
  *   COOKIE_STORE_. A call that fails leaves the store unchanged and writes nothing to a buffer.
  *   Each function lists its errors in the order in which they are checked: the first that applies
  *   is returned.
@@ -88,10 +90,12 @@
  *   such as a lock or a join. Different stores may be used at the same time. No function may be
  *   called from a signal handler, or in the forked child of a program that has threads.
  *
- * Platform
+ * ABI
  *
- *   Memory is allocated with malloc, realloc and free, which must belong to one allocator. An enum
- *   must be 32 bits wide. */
+ *   The soname libcookie_store.so.0 and the symbol version COOKIE_STORE_0 promise: functions and
+ *   statuses are only added; no function, status number or struct member changes, and the two
+ *   structs keep their size. Treat a status that you do not know by its range, see Errors.
+ *   COOKIE_STORE_INIT is zero bytes. An enum must be 32 bits wide. */
 #ifndef COOKIE_STORE_H
 #define COOKIE_STORE_H
 
@@ -99,11 +103,16 @@
 #include <stddef.h>
 #include <stdint.h>
 
+/* The version of this header. */
+#define COOKIE_STORE_VERSION_MAJOR 0
+#define COOKIE_STORE_VERSION_MINOR 1
+#define COOKIE_STORE_VERSION_PATCH 0
+
 #ifdef __cplusplus
 extern "C" {
 #endif
 
-/* Status of a call. Values below 10 are success. The numbers do not change. */
+/* Status of a call. Values below 10 are success. */
 enum cookie_store_status {
     /* Success. */
     COOKIE_STORE_OK = 0,
@@ -194,6 +203,46 @@ enum cookie_store_status {
      * path-matches that of the stored one. */
     COOKIE_STORE_SECURE_STORED = 45
 };
+
+/* Returns what a status means, for messages: a few words, or "unknown status". */
+static inline const char *cookie_store_status_text(enum cookie_store_status status) {
+    switch (status) {
+    case COOKIE_STORE_OK: return "success";
+    case COOKIE_STORE_INSERTED: return "inserted";
+    case COOKIE_STORE_UPDATED: return "replaced the stored cookie";
+    case COOKIE_STORE_EXPIRED_EXISTING: return "expired the stored cookie";
+    case COOKIE_STORE_NON_HTTP_SCHEME: return "HttpOnly, and the URL is not HTTP";
+    case COOKIE_STORE_NON_RELATIVE_SCHEME: return "no Domain attribute, and no host in the URL";
+    case COOKIE_STORE_DOMAIN_MISMATCH: return "the host does not match the cookie's domain";
+    case COOKIE_STORE_EXPIRED: return "the cookie has expired";
+    case COOKIE_STORE_PARSE: return "not a cookie";
+    case COOKIE_STORE_PUBLIC_SUFFIX: return "the domain is a public suffix";
+    case COOKIE_STORE_UNSPECIFIED_DOMAIN: return "unspecified domain";
+    case COOKIE_STORE_NO_MEMORY: return "out of memory";
+    case COOKIE_STORE_BAD_URL: return "not a valid URL";
+    case COOKIE_STORE_NOT_UTF8: return "not UTF-8";
+    case COOKIE_STORE_BAD_MOMENT: return "the time is out of range";
+    case COOKIE_STORE_NO_STORE: return "the handle is empty";
+    case COOKIE_STORE_HAS_STORE: return "the handle holds a store already";
+    case COOKIE_STORE_NO_ROOM: return "the buffer is too short";
+    case COOKIE_STORE_NOT_FOUND: return "no such cookie";
+    case COOKIE_STORE_BAD_LIMIT: return "the limit is 0";
+    case COOKIE_STORE_BAD_RULE: return "a line of the list is not a rule";
+    case COOKIE_STORE_BAD_JSON: return "not JSON";
+    case COOKIE_STORE_BAD_SHAPE: return "JSON, but not a list of cookies";
+    case COOKIE_STORE_BAD_RON: return "not a list of cookies in RON";
+    case COOKIE_STORE_BAD_END: return "an expiry is not valid or not representable";
+    case COOKIE_STORE_BAD_LINE: return "a line of the file is not a cookie";
+    case COOKIE_STORE_UNREPRESENTABLE: return "the format cannot represent a cookie";
+    case COOKIE_STORE_CONTROL_CHARACTER: return "a control character in the header value";
+    case COOKIE_STORE_TOO_LONG: return "name and value are longer than 4,096 bytes";
+    case COOKIE_STORE_INSECURE_URL: return "Secure, and the URL is not secure";
+    case COOKIE_STORE_INSECURE_SAME_SITE_NONE: return "SameSite=None, and not Secure";
+    case COOKIE_STORE_PREFIX: return "its prefix __Host- or __Secure- forbids it";
+    case COOKIE_STORE_SECURE_STORED: return "a Secure cookie with its name is stored";
+    }
+    return "unknown status";
+}
 
 /* The handle of a store, or an empty handle. Its members are private. */
 typedef struct cookie_store {

@@ -1,131 +1,199 @@
-/* Fetches the URLs in its arguments with libcurl and one cookie store.
+/* Gets URLs with libcurl, and keeps their cookies in a file between two runs.
        cc -o fetch fetch.c $(pkg-config --cflags --libs cookie_store libcurl)
-       ./fetch http://example.com/
-   It follows redirects itself, so that each hop is sent the cookies that match it, and the store
-   takes those of its response. For each hop it prints a line: the URL, the Cookie header sent, and
-   the result for each cookie received; for a rejected cookie that is the status of cookie_store.h.
-   Exit status: 0 on success, 1 if a fetch failed, 2 without arguments, 3 if out of memory. */
-#define _DEFAULT_SOURCE
+       ./fetch cookies.json http://example.com/
+   It follows redirects itself, so that each request is sent the cookies that match its URL, and the
+   store takes those of its response. It prints the body of the last response to each URL on a line.
+   Exit status: 0; 1 if a URL or the file failed; 2 for wrong usage. */
+#define _GNU_SOURCE
 #include <cookie_store.h>
 #include <curl/curl.h>
+#include <err.h>
+#include <errno.h>
 #include <stdio.h>
 #include <stdlib.h>
 #include <string.h>
 #include <strings.h>
 #include <sys/random.h>
 #include <time.h>
+#include <unistd.h>
 
-enum { MOST_HOPS = 20, DONE = 0, FAILED = 1, BAD_ARGUMENTS = 2, NO_MEMORY = 3 };
+enum { MOST_REDIRECTS = 20 };
 
-/* What curl passes to take_header. */
-struct hop {
+struct response {
     cookie_store *store;
     const char *url;
-    bool has_memory;
+    char *body;
+    size_t length;
 };
 
-/* Inserts the cookie of a Set-Cookie line. Curl passes one whole line with its line end. */
-static size_t take_header(char *line, size_t size, size_t count, void *handed) {
-    static const char name[] = "Set-Cookie:";
-    static const char *const done[] = {"done", "inserted", "updated", "expired existing"};
-    struct hop *hop = handed;
-    size_t length = size * count, begin = sizeof name - 1, end = length;
-    if (length < begin || strncasecmp(line, name, begin) != 0) return length;
-    while (end > begin && (line[end - 1] == '\r' || line[end - 1] == '\n')) end--;
-    enum cookie_store_status status =
-        cookie_store_set(hop->store, hop->url, strlen(hop->url), line + begin, end - begin, (int64_t)time(NULL));
-    hop->has_memory = status != COOKIE_STORE_NO_MEMORY;
-    if (!hop->has_memory) return 0;
-    int written = status <= COOKIE_STORE_EXPIRED_EXISTING ? printf(" [%s]", done[status]) : printf(" [refused: %d]", (int)status);
-    return written < 0 ? 0 : length;
+static void *checked(void *memory) {
+    if (!memory) errx(1, "out of memory");
+    return memory;
 }
 
-static size_t pass_over(char *bytes, size_t size, size_t count, void *handed) {
-    (void)bytes, (void)handed;
+static void check(enum cookie_store_status status, const char *what) {
+    if (status != COOKIE_STORE_OK) errx(1, "%s: %s", what, cookie_store_status_text(status));
+}
+
+/* Returns the content of a file, which the caller frees, or NULL if there is no such file. */
+static char *read_file(const char *path, size_t *length) {
+    FILE *file = fopen(path, "rb");
+    char *content = NULL;
+    size_t room = 0, count = 0;
+    if (!file && errno == ENOENT) return NULL;
+    if (!file) err(1, "%s", path);
+    do {
+        room = 2 * room + 4096;
+        content = checked(realloc(content, room));
+        count += fread(content + count, 1, room - count, file);
+    } while (count == room);
+    if (ferror(file)) err(1, "%s", path);
+    fclose(file);
+    *length = count;
+    return content;
+}
+
+/* Replaces a file: after a crash it has either the old content or the new. mkstemp gives it mode 0600. */
+static void write_file(const char *path, const char *content, size_t length) {
+    char *new_path = NULL;
+    if (asprintf(&new_path, "%s.XXXXXX", path) < 0) errx(1, "out of memory");
+    int descriptor = mkstemp(new_path);
+    FILE *file = descriptor < 0 ? NULL : fdopen(descriptor, "wb");
+    if (!file) err(1, "%s", new_path);
+    bool is_written = fwrite(content, 1, length, file) == length && fflush(file) == 0 && fsync(descriptor) == 0;
+    if (fclose(file) != 0 || !is_written || rename(new_path, path) != 0) {
+        warn("%s", path);
+        unlink(new_path);
+        exit(1);
+    }
+    free(new_path);
+}
+
+/* Creates the store, with the cookies of the file if there is one. */
+static void load(cookie_store *store, const char *path) {
+    char key[16];
+    size_t length = 0;
+    if (getentropy(key, sizeof key) != 0) err(1, "getentropy");
+    char *list = read_file(path, &length);
+    if (list)
+        check(cookie_store_load_json(store, key, sizeof key, list, length, time(NULL), false), path);
+    else
+        check(cookie_store_new(store, key, sizeof key), "cookie_store_new");
+    free(list);
+}
+
+/* Saves the persistent cookies. */
+static void save(cookie_store *store, const char *path) {
+    size_t room, needed = 4096;
+    char *list = NULL;
+    enum cookie_store_status status;
+    do {
+        room = needed;
+        list = checked(realloc(list, room));
+        status = cookie_store_save_json(store, time(NULL), false, list, room, &needed);
+    } while (status == COOKIE_STORE_NO_ROOM);
+    check(status, path);
+    write_file(path, list, needed);
+    free(list);
+}
+
+/* Inserts the cookie of a header line, if it is a Set-Cookie line. Curl passes it with its line end. */
+static size_t take_header(char *line, size_t size, size_t count, void *data) {
+    static const char name[] = "Set-Cookie:";
+    const struct response *response = data;
+    size_t begin = sizeof name - 1, end = size * count;
+    if (end < begin || strncasecmp(line, name, begin) != 0) return end;
+    while (end > begin && (line[end - 1] == '\r' || line[end - 1] == '\n')) end--;
+    enum cookie_store_status status =
+        cookie_store_set(response->store, response->url, strlen(response->url), line + begin, end - begin, time(NULL));
+    if (status >= 10) warnx("%s: cookie not stored: %s", response->url, cookie_store_status_text(status));
     return size * count;
 }
 
-/* Returns the Cookie header for the URL as a C string, or NULL if out of memory. The caller frees
-   it. It is empty if the store does not accept the URL. */
+/* Returns the Cookie header of a request for the URL, which the caller frees, or NULL if it is not a valid URL. */
 static char *header_for(cookie_store *store, const char *url) {
-    size_t room = 256, needed = 0;
+    size_t room, needed = 256;
     char *header = NULL;
-    enum cookie_store_status status = COOKIE_STORE_NO_ROOM;
-    while (status == COOKIE_STORE_NO_ROOM) {
-        free(header);
-        header = malloc(room + 1);
-        if (!header) return NULL;
-        status = cookie_store_get(store, url, strlen(url), (int64_t)time(NULL), header, room, &needed);
+    enum cookie_store_status status;
+    do {
         room = needed;
-    }
-    if (status == COOKIE_STORE_NO_MEMORY) {
-        free(header);
-        return NULL;
-    }
+        header = checked(realloc(header, room + 1));
+        status = cookie_store_get(store, url, strlen(url), time(NULL), header, room, &needed);
+    } while (status == COOKIE_STORE_NO_ROOM);
     header[needed] = 0;
-    return header;
-}
-
-/* Fetches one URL without following a redirect. Sets `*next` to the URL of a redirect, which the
-   caller frees, and does not change it if there is none. */
-static int fetch_hop(CURL *curl, cookie_store *store, const char *url, char **next) {
-    struct hop hop = {store, url, true};
-    char *header = header_for(store, url), *redirect = NULL;
-    if (!header) return NO_MEMORY;
-    CURLcode fault = printf("%s [%s]", url, header) < 0 ? CURLE_WRITE_ERROR : CURLE_OK;
-    if (!fault) fault = curl_easy_setopt(curl, CURLOPT_URL, url);
-    if (!fault) fault = curl_easy_setopt(curl, CURLOPT_COOKIE, *header ? header : NULL);
-    if (!fault) fault = curl_easy_setopt(curl, CURLOPT_HEADERDATA, &hop);
-    if (!fault) fault = curl_easy_perform(curl);
-    if (!fault) fault = curl_easy_getinfo(curl, CURLINFO_REDIRECT_URL, &redirect);
-    if (putchar('\n') == EOF) fault = CURLE_WRITE_ERROR;
+    if (status == COOKIE_STORE_OK) return header;
+    warnx("%s: %s", url, cookie_store_status_text(status));
     free(header);
-    if (!hop.has_memory || fault == CURLE_OUT_OF_MEMORY) return NO_MEMORY;
-    if (fault) fprintf(stderr, "fetch: %s: %s\n", url, curl_easy_strerror(fault));
-    if (fault) return FAILED;
-    if (redirect && !(*next = strdup(redirect))) return NO_MEMORY;
-    return DONE;
+    return NULL;
 }
 
-/* Fetches a URL and follows redirects. */
-static int fetch(CURL *curl, cookie_store *store, const char *begin) {
-    char *url = strdup(begin);
-    int status = url ? DONE : NO_MEMORY;
-    for (int hops = 0; url && status == DONE; hops++) {
-        char *next = NULL;
-        if (hops == MOST_HOPS) fprintf(stderr, "fetch: %s: too many redirects\n", begin);
-        status = hops == MOST_HOPS ? FAILED : fetch_hop(curl, store, url, &next);
-        free(url);
-        url = next;
+/* Makes one request, and returns whether it succeeded. Sets `*next` to a redirect, which the caller frees, or NULL. */
+static bool get(CURL *curl, struct response *response, char **next) {
+    const char *redirect = NULL;
+    char *header = header_for(response->store, response->url);
+    *next = NULL;
+    if (!header) return false;
+    free(response->body);
+    FILE *body = checked(open_memstream(&response->body, &response->length));
+    CURLcode error = curl_easy_setopt(curl, CURLOPT_URL, response->url);
+    if (!error) error = curl_easy_setopt(curl, CURLOPT_COOKIE, *header ? header : NULL);
+    if (!error) error = curl_easy_setopt(curl, CURLOPT_HEADERDATA, response);
+    if (!error) error = curl_easy_setopt(curl, CURLOPT_WRITEDATA, body);
+    if (!error) error = curl_easy_perform(curl);
+    if (!error) error = curl_easy_getinfo(curl, CURLINFO_REDIRECT_URL, &redirect);
+    if (fclose(body) != 0) errx(1, "out of memory");
+    free(header);
+    if (error) warnx("%s: %s", response->url, curl_easy_strerror(error));
+    if (!error && redirect) *next = checked(strdup(redirect));
+    return !error;
+}
+
+/* Gets a URL, follows redirects and prints the body of the last response. Returns whether it succeeded. */
+static bool fetch(CURL *curl, cookie_store *store, const char *url) {
+    struct response response = {store, url, NULL, 0};
+    char *current = NULL, *next = NULL;
+    bool is_received = get(curl, &response, &next);
+    for (int redirects = 1; is_received && next; redirects++) {
+        free(current);
+        response.url = current = next;
+        next = NULL;
+        is_received = redirects <= MOST_REDIRECTS && get(curl, &response, &next);
+        if (redirects > MOST_REDIRECTS) warnx("%s: too many redirects", url);
     }
-    return status;
+    if (is_received) {
+        fwrite(response.body, 1, response.length, stdout);
+        putchar('\n');
+    }
+    free(current);
+    free(response.body);
+    return is_received;
 }
 
-/* Sets the options that all hops share. The headers of a proxy are not the server's. */
-static CURLcode prepare(CURL *curl) {
-    CURLcode fault = curl_easy_setopt(curl, CURLOPT_FOLLOWLOCATION, 0L);
-    if (!fault) fault = curl_easy_setopt(curl, CURLOPT_PROTOCOLS_STR, "http,https");
-    if (!fault) fault = curl_easy_setopt(curl, CURLOPT_SUPPRESS_CONNECT_HEADERS, 1L);
-    if (!fault) fault = curl_easy_setopt(curl, CURLOPT_TIMEOUT, 30L);
-    if (!fault) fault = curl_easy_setopt(curl, CURLOPT_HEADERFUNCTION, take_header);
-    if (!fault) fault = curl_easy_setopt(curl, CURLOPT_WRITEFUNCTION, pass_over);
-    return fault;
+/* Returns a handle with the options that all requests share. The headers of a proxy are not the server's. */
+static CURL *new_handle(void) {
+    CURL *curl = checked(curl_easy_init());
+    const char *authorities = getenv("SSL_CERT_FILE");
+    CURLcode error = curl_easy_setopt(curl, CURLOPT_PROTOCOLS_STR, "http,https");
+    if (!error) error = curl_easy_setopt(curl, CURLOPT_SUPPRESS_CONNECT_HEADERS, 1L);
+    if (!error) error = curl_easy_setopt(curl, CURLOPT_TIMEOUT, 30L);
+    if (!error) error = curl_easy_setopt(curl, CURLOPT_HEADERFUNCTION, take_header);
+    if (!error && authorities) error = curl_easy_setopt(curl, CURLOPT_CAINFO, authorities);
+    if (error) errx(1, "curl: %s", curl_easy_strerror(error));
+    return curl;
 }
 
-int main(int count, char **words) {
+int main(int count, char **arguments) {
     cookie_store store = COOKIE_STORE_INIT;
-    char key[16];
-    if (count < 2) return BAD_ARGUMENTS;
-    if (getentropy(key, sizeof key)) return FAILED;
-    if (curl_global_init(CURL_GLOBAL_DEFAULT)) return FAILED;
-    CURL *curl = curl_easy_init();
-    int status = curl && cookie_store_new(&store, key, sizeof key) == COOKIE_STORE_OK ? DONE : NO_MEMORY;
-    if (status == DONE && prepare(curl)) status = FAILED;
-    for (int at = 1; at < count && status == DONE; at++) status = fetch(curl, &store, words[at]);
-    if (status == NO_MEMORY) fputs("fetch: out of memory\n", stderr);
-    if (fflush(stdout) == EOF && status == DONE) status = FAILED;
+    bool succeeds = true;
+    if (count < 3) errx(2, "usage: fetch FILE URL..");
+    if (curl_global_init(CURL_GLOBAL_DEFAULT)) errx(1, "curl_global_init fails");
+    CURL *curl = new_handle();
+    load(&store, arguments[1]);
+    for (int at = 2; at < count; at++) succeeds = fetch(curl, &store, arguments[at]) && succeeds;
+    save(&store, arguments[1]);
+    if (fflush(stdout) != 0) err(1, "standard output");
     cookie_store_free(&store);
     curl_easy_cleanup(curl);
     curl_global_cleanup();
-    return status;
+    return succeeds ? 0 : 1;
 }

@@ -1,53 +1,9 @@
-/* Calls each function of cookie_store.h with good and bad arguments: what happens to a cookie, the
-   statuses that calls return, each buffer one byte too short, and the layout of the structs.
-   Failures are reported on standard error. The last line is
+/* Calls each function of cookie_store.h with good and bad arguments, but for those of lists
+   (test_lists.c): what happens to a cookie, the statuses that calls return, each buffer one byte too
+   short, and the layout of the structs. Failures are reported on standard error. The last line is
    'test_cookie_store: N passed, M failed'. */
-#include <cookie_store.h>
+#include "test.h"
 #include <stddef.h>
-#include <stdio.h>
-#include <string.h>
-
-static int passed, failed;
-
-static void tell(bool is_well, const char *name, long got, long wanted) {
-    if (is_well) {
-        passed++;
-        return;
-    }
-    failed++;
-    fprintf(stderr, "%s: FAILED: wanted %ld, got %ld\n", name, wanted, got);
-}
-
-static void equal(const char *name, long got, long wanted) { tell(got == wanted, name, got, wanted); }
-
-static void same_text(const char *name, const char *got, size_t length, const char *wanted) {
-    bool is_well = length == strlen(wanted) && memcmp(got, wanted, length) == 0;
-    tell(is_well, name, (long)length, (long)strlen(wanted));
-    if (!is_well) fprintf(stderr, "wanted: %s\ngot: %.*s\n", wanted, (int)length, got);
-}
-
-/* A string as a pointer and a length. */
-#define TEXT(text) (text), strlen(text)
-#define NOT_UTF8 "a=\xff", 3
-#define NOW INT64_C(1767225600) /* 2026-01-01T00:00:00 */
-#define FIRST INT64_C(-377705116800)
-#define LAST INT64_C(253402300799)
-#define UNSET 77
-
-static const char *const PAGE = "http://a.example/d/page";
-
-static enum cookie_store_status set(cookie_store *store, const char *url, const char *text, int64_t now) {
-    return cookie_store_set(store, TEXT(url), TEXT(text), now);
-}
-
-static void gives(const char *name, cookie_store *store, const char *url, int64_t now, const char *wanted) {
-    char out[256];
-    size_t needed = UNSET;
-    memset(out, '-', sizeof out);
-    equal(name, cookie_store_get(store, TEXT(url), now, out, sizeof out, &needed), COOKIE_STORE_OK);
-    same_text(name, out, needed, wanted);
-    equal("no zero is written", out[needed], '-');
-}
 
 /* Set one after the other in one store, at one time. */
 static const struct {
@@ -326,118 +282,6 @@ static void test_rows(void) {
     cookie_store_free(&store);
 }
 
-/* The two formats of a list: the calls that save and load it, and malformed lists. */
-static const struct form {
-    const char *name;
-    enum cookie_store_status (*save)(cookie_store *, int64_t, bool, char *, size_t, size_t *);
-    enum cookie_store_status (*load)(cookie_store *, const char *, size_t, const char *, size_t, int64_t, bool);
-    const char *no_list, *other, *bad_end, *no_cookie;
-    enum cookie_store_status no_list_status, other_status;
-} FORMS[] = {
-    {"JSON", cookie_store_save_json, cookie_store_load_json, "[", "{}",
-     "[{\"raw_cookie\":\"a=1\",\"path\":[\"/\",false],\"domain\":{\"HostOnly\":\"a.example\"},\"expires\":{\"AtUtc\":\"soon\"}}]",
-     "[{\"raw_cookie\":\"a\",\"path\":[\"/\",false],\"domain\":{\"HostOnly\":\"a.example\"},\"expires\":\"SessionEnd\"}]",
-     COOKIE_STORE_BAD_JSON, COOKIE_STORE_BAD_SHAPE},
-    {"RON", cookie_store_save_ron, cookie_store_load_ron, "[", "{}",
-     "[(raw_cookie: \"a=1\", path: (\"/\", false), domain: HostOnly(\"a.example\"), expires: AtUtc(\"soon\"))]",
-     "[(raw_cookie: \"a\", path: (\"/\", false), domain: HostOnly(\"a.example\"), expires: SessionEnd)]",
-     COOKIE_STORE_BAD_RON, COOKIE_STORE_BAD_RON},
-};
-
-static void loads(const char *name, const struct form *form, const char *list, size_t length, int64_t now, bool all,
-                  enum cookie_store_status wanted, size_t count) {
-    cookie_store store = COOKIE_STORE_INIT;
-    equal(name, form->load(&store, TEXT("0123456789abcdef"), list, length, now, all), wanted);
-    equal(form->name, (long)cookie_store_count(&store), (long)count);
-    cookie_store_free(&store);
-}
-
-static void test_list(const struct form *form) {
-    cookie_store store = COOKIE_STORE_INIT;
-    char list[1024];
-    size_t needed = UNSET;
-    cookie_store_new(&store, "", 0);
-    set(&store, PAGE, "a=1; Max-Age=60", NOW);
-    set(&store, PAGE, "b=2", NOW);
-    equal("save", form->save(&store, NOW, true, list, sizeof list, &needed), COOKIE_STORE_OK);
-    loads("load all", form, list, needed, NOW + 60, true, COOKIE_STORE_OK, 2);
-    loads("load those that have not ended", form, list, needed, NOW + 60, false, COOKIE_STORE_OK, 1);
-    equal("a list ends with a line feed", list[needed - 1], '\n');
-    size_t whole = needed;
-    memset(list, '-', sizeof list);
-    equal("save one byte too short", form->save(&store, NOW, true, list, whole - 1, &needed), COOKIE_STORE_NO_ROOM);
-    equal("what is needed", (long)needed, (long)whole);
-    equal("nothing is written", list[0], '-');
-    equal("save in the very room", form->save(&store, NOW, true, list, whole, &needed), COOKIE_STORE_OK);
-    equal("nothing is written after it", list[whole], '-');
-    equal("save those that stay", form->save(&store, NOW, false, list, sizeof list, &needed), COOKIE_STORE_OK);
-    loads("load those that stayed", form, list, needed, NOW, true, COOKIE_STORE_OK, 1);
-    equal("save at no moment", form->save(&store, LAST + 1, false, list, sizeof list, &needed), COOKIE_STORE_BAD_MOMENT);
-    equal("nothing is needed at no moment", (long)needed, 0);
-    equal("load into a store", form->load(&store, "", 0, list, 0, NOW, true), COOKIE_STORE_HAS_STORE);
-    set(&store, PAGE, "c=3; Max-Age=1", FIRST);
-    equal("save an end before the year 0", form->save(&store, FIRST, true, list, sizeof list, &needed), COOKIE_STORE_BAD_END);
-    cookie_store_free(&store);
-    loads("load no list", form, TEXT(form->no_list), NOW, true, form->no_list_status, 0);
-    loads("load nothing", form, TEXT(""), NOW, true, form->no_list_status, 0);
-    loads("load another", form, TEXT(form->other), NOW, true, form->other_status, 0);
-    loads("load a bad end", form, TEXT(form->bad_end), NOW, true, COOKIE_STORE_BAD_END, 0);
-    loads("load no cookie", form, TEXT(form->no_cookie), NOW, true, COOKIE_STORE_PARSE, 0);
-    loads("load not UTF-8", form, NOT_UTF8, NOW, true, COOKIE_STORE_NOT_UTF8, 0);
-    loads("load at no moment", form, TEXT("[]"), LAST + 1, false, COOKIE_STORE_BAD_MOMENT, 0);
-}
-
-/* A cookies.txt file: what is written, buffers that are one byte too short and just long enough, and malformed files. */
-static const char NETSCAPE[] = "# Netscape HTTP Cookie File\n"
-                               "a.example\tFALSE\t/d\tFALSE\t1767225660\ta\t1\n"
-                               "#HttpOnly_.a.example\tTRUE\t/\tFALSE\t0\tb\t2\n";
-
-static const struct netscape_load {
-    const char *name, *file;
-    int64_t now;
-    bool all;
-    enum cookie_store_status status;
-    size_t count, line;
-} NETSCAPE_LOADS[] = {
-    {"load all", NETSCAPE, NOW + 60, true, COOKIE_STORE_OK, 2, 0},
-    {"load those that have not expired", NETSCAPE, NOW + 60, false, COOKIE_STORE_OK, 1, 0},
-    {"load nothing", "", NOW, true, COOKIE_STORE_OK, 0, 0},
-    {"load a malformed line", "# 1\n\na.example\tFALSE\t/\n", NOW, true, COOKIE_STORE_BAD_LINE, 0, 3},
-    {"load a file that is not UTF-8", "# \xff", NOW, true, COOKIE_STORE_NOT_UTF8, 0, 0},
-    {"load at a time out of range", "", LAST + 1, false, COOKIE_STORE_BAD_MOMENT, 0, 0},
-};
-
-static void test_netscape(void) {
-    cookie_store store = COOKIE_STORE_INIT;
-    char file[256];
-    size_t needed = UNSET, whole = strlen(NETSCAPE);
-    cookie_store_new(&store, "", 0);
-    set(&store, PAGE, "a=1; Max-Age=60", NOW);
-    set(&store, PAGE, "b=2; Domain=a.example; Path=/; HttpOnly; SameSite=Lax", NOW);
-    equal("save", cookie_store_save_netscape(&store, NOW, true, file, sizeof file, &needed), COOKIE_STORE_OK);
-    same_text("the file", file, needed, NETSCAPE);
-    memset(file, '-', sizeof file);
-    equal("save one byte too short", cookie_store_save_netscape(&store, NOW, true, file, whole - 1, &needed), COOKIE_STORE_NO_ROOM);
-    equal("what is needed", (long)needed, (long)whole);
-    equal("nothing is written", file[0], '-');
-    equal("save unexpired persistent cookies", cookie_store_save_netscape(&store, NOW + 60, false, file, sizeof file, &needed), COOKIE_STORE_OK);
-    same_text("no cookie", file, needed, "# Netscape HTTP Cookie File\n");
-    equal("save at a time out of range", cookie_store_save_netscape(&store, LAST + 1, false, file, sizeof file, &needed), COOKIE_STORE_BAD_MOMENT);
-    set(&store, PAGE, "c=3; Max-Age=1", FIRST);
-    equal("save an expiry before 1970", cookie_store_save_netscape(&store, NOW, true, file, sizeof file, &needed), COOKIE_STORE_UNREPRESENTABLE);
-    equal("nothing is needed for it", (long)needed, 0);
-    equal("load into a store", cookie_store_load_netscape(&store, "", 0, "", 0, NOW, true, &needed), COOKIE_STORE_HAS_STORE);
-    cookie_store_free(&store);
-    for (size_t at = 0; at < sizeof NETSCAPE_LOADS / sizeof *NETSCAPE_LOADS; at++) {
-        const struct netscape_load *load = &NETSCAPE_LOADS[at];
-        needed = UNSET;
-        equal(load->name, cookie_store_load_netscape(&store, TEXT("0123456789abcdef"), TEXT(load->file), load->now, load->all, &needed), load->status);
-        equal("its cookies", (long)cookie_store_count(&store), (long)load->count);
-        equal("its malformed line", (long)needed, (long)load->line);
-        cookie_store_free(&store);
-    }
-}
-
 /* Buffers that are one byte too short for a header, and just long enough. */
 static void test_room(void) {
     cookie_store store = COOKIE_STORE_INIT;
@@ -475,12 +319,22 @@ static void test_no_store(void) {
         equal("count of none", (long)cookie_store_count(&store), 0);
         equal("rows of none", cookie_store_rows(&store, &row, 1, out, sizeof out, &needed, &other), COOKIE_STORE_NO_STORE);
         equal("nothing is needed of none", (long)(needed + other), 0);
-        for (size_t at = 0; at < sizeof FORMS / sizeof *FORMS; at++)
-            equal("save none", FORMS[at].save(&store, NOW, true, out, sizeof out, &needed), COOKIE_STORE_NO_STORE);
         cookie_store_new(&store, "", 0);
         set(&store, PAGE, "a=1", NOW);
         cookie_store_free(&store);
         cookie_store_free(&store);
+    }
+}
+
+/* The ranges of the statuses that the header documents: each has a text, and no other number. */
+static void test_status_texts(void) {
+    static const int RANGES[][2] = {{0, 3}, {10, 16}, {20, 28}, {30, 36}, {40, 45}};
+    for (int status = 0; status < 100; status++) {
+        const char *text = cookie_store_status_text((enum cookie_store_status)status);
+        bool is_status = false;
+        for (size_t at = 0; at < sizeof RANGES / sizeof *RANGES; at++)
+            is_status = is_status || (RANGES[at][0] <= status && status <= RANGES[at][1]);
+        equal("a status has a text", strcmp(text, "unknown status") != 0, is_status);
     }
 }
 
@@ -543,6 +397,7 @@ static void test_memory(void) {
 
 int main(void) {
     test_layout();
+    test_status_texts();
     test_memory();
     test_set();
     test_strict();
@@ -553,10 +408,7 @@ int main(void) {
     test_remove_expired();
     test_limit_and_key();
     test_rows();
-    for (size_t at = 0; at < sizeof FORMS / sizeof *FORMS; at++) test_list(&FORMS[at]);
-    test_netscape();
     test_room();
     test_no_store();
-    printf("test_cookie_store: %d passed, %d failed\n", passed, failed);
-    return failed > 0;
+    return report("test_cookie_store");
 }

@@ -1,0 +1,154 @@
+# shellcheck shell=bash disable=SC2154
+# Tests the C library: the header, the manual page, the programs of bindings/c and of bindings/c/README.md, and the release
+# archive. tools/bindings sources it.
+
+# compilers_of LANGUAGE COMPILER..: prints those that have the headers of that language, one a line.
+compilers_of() {
+    local compiler
+    for compiler in "${@:2}"; do
+        if "$compiler" -x "$1" -fsyntax-only - <<< '#include <stdio.h>' > "$temp/why" 2>&1; then echo "$compiler"; fi
+    done
+}
+
+# checks_header COMPILER WORD..: a file that includes the header alone compiles without a warning.
+checks_header() {
+    printf '%s\n' '#include <cookie_store.h>' 'int main(void) {' 'cookie_store store = COOKIE_STORE_INIT;' \
+        'return cookie_store_status_text(COOKIE_STORE_OK) == 0 || store.live; }' > "$temp/header.c"
+    "$@" -Wall -Wextra -Werror -pedantic -Wconversion -Wshadow -I "$prefix/include" -fsyntax-only "$temp/header.c"
+}
+
+# The version of the header is that of the installation.
+has_version() {
+    local version
+    version=$(awk '/^#define COOKIE_STORE_VERSION_/ { printf "%s%s", sep, $3; sep = "." }' "$prefix/include/cookie_store.h")
+    [ "$version" = "$(pkg-config --modversion cookie_store)" ] && [ -f "$lib/libcookie_store.so.$version" ]
+}
+
+# links PROGRAM: it asks for the functions in their version.
+links() {
+    nm -D --with-symbol-versions "$1" | grep cookie_store_ > "$temp/linked" && ! grep -v '@COOKIE_STORE_0$' "$temp/linked"
+}
+
+# prints_example COMMAND..: the program of README.md prints what README.md says.
+prints_example() { "$@" > "$temp/printed" && quoted text bindings/c/README.md | diff "$temp/printed" -; }
+
+# test_program NAME KIND: compiles a test of bindings/c into $temp/NAME, with the shared or the static library, and runs it.
+test_program() {
+    local library=$lib/libcookie_store.a
+    [ "$2" = static ] || library=-lcookie_store
+    if try "$1.c, $2" "$cc" "${flags[@]}" -pthread -o "$temp/$1" "bindings/c/$1.c" -L "$lib" "$library"; then
+        try "run of $1.c, $2" timeout 60 "${valgrind[@]}" "$temp/$1" || true
+        tail -n 1 "$temp/log"
+    fi
+}
+
+# Each allocation fails in turn. Valgrind has an allocator of its own.
+test_growths() {
+    if try test_growths.c "$cc" "${flags[@]}" -o "$temp/growths" bindings/c/test_growths.c "$lib/libcookie_store.a" &&
+        try refuse.c compile_refuse "$cc"; then
+        try 'run of test_growths.c' timeout 60 env REFUSE_MARK="$temp/mark" LD_PRELOAD="$temp/refuse.so" "$temp/growths" || true
+        tail -n 1 "$temp/log"
+    fi
+}
+
+# The program of README.md, with each compiler.
+test_example() {
+    quoted c bindings/c/README.md > "$temp/example.c"
+    if try "README.md, $1" "$1" "${flags[@]}" -o "$temp/example" "$temp/example.c" -L "$lib" -lcookie_store; then
+        try "run of README.md, $1" prints_example "${valgrind[@]}" "$temp/example" || true
+        if has nm; then try 'symbol versions of a program' links "$temp/example" || true; fi
+    fi
+}
+
+# After a URL that fails, fetch.c has replaced the file, which its owner alone can read; a malformed file stays.
+replaces_file() {
+    local folder=$temp/cookies status
+    mkdir "$folder" && for content in '[]' '['; do
+        echo "$content" > "$folder/file" && chmod 644 "$folder/file"
+        status=0
+        "${valgrind[@]}" "$temp/fetch" "$folder/file" http://127.0.0.1:1/ || status=$?
+        echo "$content $status $(cat "$folder/file") $(stat -c %a "$folder/file") $(ls "$folder")"
+    done > "$temp/printed"
+    printf '%s\n' '[] 1 [] 600 file' '[ 1 [ 644 file' | diff "$temp/printed" -
+}
+
+# Compiles fetch.c by the command that README.md shows.
+build_fetch() {
+    "$cc" "${flags[@]}" -fsyntax-only bindings/c/fetch.c && cp bindings/c/fetch.c "$temp" &&
+        grep '^cc -o fetch ' bindings/c/README.md > "$temp/build.sh" && (cd "$temp" && bash -e build.sh)
+}
+
+test_fetch() {
+    if try fetch.c build_fetch; then
+        try 'run of fetch.c' timeout 100 tools/bindings_parts/scenario.py "${valgrind[@]}" "$temp/fetch" || true
+        try 'file of fetch.c' replaces_file || true
+    fi
+}
+
+# Two releases are the same bytes, also with another umask and at another time, which a wheel has in steps of two seconds.
+releases() {
+    tools/release "$temp/first" && sleep 2 && (umask 077 && tools/release "$temp/second") &&
+        diff -r "$temp/first" "$temp/second" && (cd "$temp/first" && sha256sum -c SHA256SUMS && tar -xzf ./*.tar.gz)
+}
+
+# The first commands of the release's INSTALL compile and run the program of README.md, as README.md says, with nothing else
+# installed.
+uses_release() {
+    (cd "$temp"/first/*/ && cp "$temp/example.c" . &&
+        sed '/^To install/,$d' INSTALL | sed -n 's/^    //p' > "$temp/install.sh" &&
+        env -u PKG_CONFIG_PATH -u LD_LIBRARY_PATH bash -e "$temp/install.sh" > "$temp/printed") &&
+        quoted text bindings/c/README.md | diff "$temp/printed" - &&
+        quoted sh bindings/c/README.md | diff - <(tail -n 2 "$temp/install.sh")
+}
+
+flags=(-std=c11 -Wall -Wextra -Werror -pedantic -I "$prefix/include")
+mapfile -t compilers < <(compilers_of c clang gcc)
+cc=${compilers[0]:-}
+for compiler in "${compilers[@]}"; do
+    for standard in c99 c11; do try "header, $compiler, $standard" checks_header "$compiler" -std="$standard" || true; done
+done
+for compiler in $(compilers_of c++ clang++ g++); do
+    try "header, $compiler" checks_header "$compiler" -x c++ -std=c++11 || true
+done
+if has mandoc; then
+    try 'manual pages' mandoc -Tlint -Wwarning docs/cookie_store.3 docs/cookies.1 || true
+else
+    skips 'manual pages' 'there is no mandoc'
+fi
+try 'manual page and header' tools/bindings_parts/manual.py || true
+if [ -z "$cc" ]; then
+    skips 'programs of C' 'there is no compiler of C with its headers'
+    return
+fi
+for compiler in "${compilers[@]:1}"; do
+    try "tests, $compiler" "$compiler" "${flags[@]}" -fsyntax-only bindings/c/test_*.c || true
+done
+for kind in shared static; do
+    test_program test_cookie_store "$kind"
+    test_program test_lists "$kind"
+done
+test_program test_threads shared
+if has valgrind; then
+    try 'helgrind of test_threads.c' timeout 100 valgrind -q --tool=helgrind --error-exitcode=9 "$temp/test_threads" || true
+else
+    skips 'helgrind of test_threads.c' 'there is no valgrind'
+fi
+test_growths
+for compiler in "${compilers[@]}"; do test_example "$compiler"; done
+if ! has pkg-config; then
+    skips 'version, fetch.c and release' 'there is no pkg-config'
+    return
+fi
+try version has_version || true
+if ! pkg-config --exists libcurl; then
+    skips fetch.c 'there is no header of libcurl'
+elif ! has openssl || ! has cc; then
+    skips fetch.c 'there is no openssl or no cc'
+else
+    test_fetch
+fi
+if ! git rev-parse HEAD > "$temp/why" 2>&1; then
+    skips release 'this is no git repository'
+elif try release releases; then
+    if has cc; then try INSTALL uses_release || true; else skips INSTALL 'there is no cc'; fi
+fi
