@@ -1,0 +1,27 @@
+use std::time::SystemTime;
+
+/// A stored cookie. Its `Debug` form shows the value.
+#[derive(Clone, Debug, PartialEq, Eq)]
+#[non_exhaustive]
+pub struct Cookie {
+    /// The domain, without a leading dot.
+    pub domain: String,
+    /// The path.
+    pub path: String,
+    /// The name.
+    pub name: String,
+    /// The value.
+    pub value: String,
+    /// The expiry time, rounded down to a whole second, or `None` for a session cookie.
+    /// A cookie that another one expired has the Unix epoch.
+    pub expires: Option<SystemTime>,
+    /// A host-only cookie, sent to that host alone. Otherwise it is also sent to the hosts below its
+    /// domain.
+    pub host_only: bool,
+    /// The path comes from a Path attribute.
+    pub has_path: bool,
+    /// Secure.
+    pub secure: bool,
+    /// HttpOnly.
+    pub http_only: bool,
+}

@@ -1,0 +1,181 @@
+use std::fmt;
+
+use crate::sys;
+
+/// Why a call failed. The store is unchanged.
+#[derive(Clone, Copy, Debug, PartialEq, Eq)]
+#[non_exhaustive]
+pub enum Error {
+    /// The scheme of the URL does not begin with `http`, and the cookie, or the unexpired one that
+    /// it would replace or expire, is HttpOnly.
+    NonHttpScheme,
+    /// The cookie has no Domain attribute, or an empty one, and the URL has no host.
+    NonRelativeScheme,
+    /// The host of the URL does not domain-match the Domain attribute, RFC 6265 5.1.3, or the URL
+    /// has no host.
+    DomainMismatch,
+    /// The cookie has expired, and no unexpired one with its domain, path and name is stored.
+    Expired,
+    /// The header value is not a cookie, or its Domain attribute is not a domain name; or a list to
+    /// load has an entry that is not a cookie.
+    Parse,
+    /// The domain of the cookie is a public suffix, and is not the host of the URL.
+    PublicSuffix,
+
+    /// Strict store: the header value has a control character other than HTAB.
+    ControlCharacter,
+    /// Strict store: the name and the value together are longer than 4,096 bytes.
+    TooLong,
+    /// Strict store: the cookie is Secure, and the URL is not secure: its scheme is not `https`, and
+    /// its host is not this machine.
+    InsecureUrl,
+    /// Strict store: the cookie has SameSite=None and is not Secure.
+    InsecureSameSiteNone,
+    /// Strict store: the name begins with `__Secure-` or `__Host-`, and the cookie lacks what the
+    /// prefix demands.
+    Prefix,
+    /// Strict store: neither the cookie nor the URL is secure, and the cookie would overlay a stored
+    /// Secure cookie.
+    SecureStored,
+
+    /// Out of memory.
+    NoMemory,
+    /// The URL is not valid.
+    BadUrl,
+    /// The time is not in the years -9999 to 9999.
+    BadTime,
+    /// A line of the public suffix list is not a rule.
+    BadRule {
+        /// The number of the first malformed line, from 1.
+        line: usize,
+    },
+    /// The list to load is not JSON.
+    BadJson,
+    /// The list to load is JSON, but not a list of cookies.
+    BadShape,
+    /// The list to load is not a list of cookies in RON.
+    BadRon,
+    /// A list to load has an expiry that is not a date and time; or a cookie to save expires before
+    /// the year 0, which a list cannot represent.
+    BadExpiry,
+    /// A line of a `cookies.txt` file is neither a cookie nor a comment nor blank.
+    BadLine {
+        /// The number of the first malformed line, from 1.
+        line: usize,
+    },
+    /// A `cookies.txt` file cannot represent a cookie to save.
+    Unrepresentable,
+    /// A status that this version of the crate does not expect, from another version of the library.
+    Unexpected(u32),
+}
+
+impl Error {
+    /// Returns whether a cookie was rejected, RFC 6265 5.3, or by the rules of a strict store. A user
+    /// agent ignores such a cookie.
+    pub fn is_rejection(&self) -> bool {
+        matches!(
+            self,
+            Error::NonHttpScheme
+                | Error::NonRelativeScheme
+                | Error::DomainMismatch
+                | Error::Expired
+                | Error::Parse
+                | Error::PublicSuffix
+                | Error::ControlCharacter
+                | Error::TooLong
+                | Error::InsecureUrl
+                | Error::InsecureSameSiteNone
+                | Error::Prefix
+                | Error::SecureStored
+        )
+    }
+
+    /// Returns the error of a status. `line` is the line that the call reports, if it reports one.
+    pub(crate) fn new(status: sys::cookie_store_status, line: usize) -> Error {
+        match status {
+            sys::COOKIE_STORE_NON_HTTP_SCHEME => Error::NonHttpScheme,
+            sys::COOKIE_STORE_NON_RELATIVE_SCHEME => Error::NonRelativeScheme,
+            sys::COOKIE_STORE_DOMAIN_MISMATCH => Error::DomainMismatch,
+            sys::COOKIE_STORE_EXPIRED => Error::Expired,
+            sys::COOKIE_STORE_PARSE => Error::Parse,
+            sys::COOKIE_STORE_PUBLIC_SUFFIX => Error::PublicSuffix,
+            sys::COOKIE_STORE_CONTROL_CHARACTER => Error::ControlCharacter,
+            sys::COOKIE_STORE_TOO_LONG => Error::TooLong,
+            sys::COOKIE_STORE_INSECURE_URL => Error::InsecureUrl,
+            sys::COOKIE_STORE_INSECURE_SAME_SITE_NONE => Error::InsecureSameSiteNone,
+            sys::COOKIE_STORE_PREFIX => Error::Prefix,
+            sys::COOKIE_STORE_SECURE_STORED => Error::SecureStored,
+            sys::COOKIE_STORE_NO_MEMORY => Error::NoMemory,
+            sys::COOKIE_STORE_BAD_URL => Error::BadUrl,
+            sys::COOKIE_STORE_BAD_MOMENT => Error::BadTime,
+            sys::COOKIE_STORE_BAD_RULE => Error::BadRule { line },
+            sys::COOKIE_STORE_BAD_JSON => Error::BadJson,
+            sys::COOKIE_STORE_BAD_SHAPE => Error::BadShape,
+            sys::COOKIE_STORE_BAD_RON => Error::BadRon,
+            sys::COOKIE_STORE_BAD_END => Error::BadExpiry,
+            sys::COOKIE_STORE_BAD_LINE => Error::BadLine { line },
+            sys::COOKIE_STORE_UNREPRESENTABLE => Error::Unrepresentable,
+            status => Error::Unexpected(status),
+        }
+    }
+}
+
+impl fmt::Display for Error {
+    fn fmt(&self, f: &mut fmt::Formatter<'_>) -> fmt::Result {
+        f.write_str(match self {
+            Error::NonHttpScheme => "HttpOnly cookie and a scheme that is not HTTP",
+            Error::NonRelativeScheme => "no Domain attribute and a URL without a host",
+            Error::DomainMismatch => "the host does not match the Domain attribute",
+            Error::Expired => "the cookie has expired",
+            Error::Parse => "not a cookie",
+            Error::PublicSuffix => "the domain is a public suffix",
+            Error::ControlCharacter => "the cookie has a control character",
+            Error::TooLong => "the cookie is too long",
+            Error::InsecureUrl => "Secure cookie from a URL that is not secure",
+            Error::InsecureSameSiteNone => "SameSite=None without Secure",
+            Error::Prefix => "the cookie lacks what its name prefix demands",
+            Error::SecureStored => "the cookie would overlay a Secure cookie",
+            Error::NoMemory => "out of memory",
+            Error::BadUrl => "not a valid URL",
+            Error::BadTime => "the time is not in the years -9999 to 9999",
+            Error::BadRule { line } => return write!(f, "line {line} is not a public suffix rule"),
+            Error::BadJson => "not JSON",
+            Error::BadShape => "JSON, but not a list of cookies",
+            Error::BadRon => "not a list of cookies in RON",
+            Error::BadExpiry => "the expiry of a cookie is not valid",
+            Error::BadLine { line } => return write!(f, "line {line} is not a cookie"),
+            Error::Unrepresentable => "cookies.txt cannot represent a cookie",
+            Error::Unexpected(status) => return write!(f, "unexpected status {status}"),
+        })
+    }
+}
+
+impl std::error::Error for Error {}
+
+/// Returns the error of a status other than OK.
+pub(crate) fn check(status: sys::cookie_store_status, line: usize) -> Result<(), Error> {
+    match status {
+        sys::COOKIE_STORE_OK => Ok(()),
+        status => Err(Error::new(status, line)),
+    }
+}
+
+#[cfg(test)]
+mod tests {
+    use super::*;
+
+    /// The statuses that the other tests do not reach.
+    #[test]
+    fn statuses_are_errors() {
+        let table = [
+            (sys::COOKIE_STORE_OK, Ok(())),
+            (sys::COOKIE_STORE_NO_MEMORY, Err(Error::NoMemory)),
+            (sys::COOKIE_STORE_NO_STORE, Err(Error::Unexpected(24))),
+            (99, Err(Error::Unexpected(99))),
+        ];
+        for (status, expected) in table {
+            assert_eq!(check(status, 0), expected, "{status}");
+        }
+        assert!(!Error::NoMemory.is_rejection());
+    }
+}

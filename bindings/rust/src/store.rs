@@ -1,0 +1,359 @@
+use std::collections::hash_map::RandomState;
+use std::fmt;
+use std::hash::{BuildHasher, Hasher};
+use std::num::NonZeroUsize;
+use std::ptr;
+use std::time::SystemTime;
+
+use crate::buffer::{grow, string, take, HEADER};
+use crate::error::check;
+use crate::sys::{self, cookie_store_row, cookie_store_status};
+use crate::time::{seconds, time_at};
+use crate::{Cookie, Error};
+
+/// What [`CookieStore::parse`] did.
+#[derive(Clone, Copy, Debug, PartialEq, Eq)]
+pub enum StoreAction {
+    /// The cookie was inserted: none with its domain, path and name was stored.
+    Inserted,
+    /// The cookie has expired, and so the stored one with the same domain, path and name was
+    /// expired too. It is not removed.
+    ExpiredExisting,
+    /// The cookie replaced the stored one, expired or not, with the same domain, path and name.
+    UpdatedExisting,
+}
+
+/// Where a cross-site request comes from, and how cookies without a SameSite attribute are treated.
+#[derive(Clone, Copy, Debug, PartialEq, Eq)]
+pub struct CrossSite {
+    /// The request is a top-level navigation with a safe method, such as a link that is followed.
+    pub top_level: bool,
+    /// A cookie without a SameSite attribute is treated as SameSite=Lax, as in the draft. Otherwise
+    /// it is treated as SameSite=None.
+    pub lax_by_default: bool,
+}
+
+/// A cookie store after RFC 6265.
+///
+/// All methods take `&mut self`, also those that only read: the library lets one thread at a time
+/// use a store. To share one between threads, put it into a [`Mutex`](std::sync::Mutex).
+///
+/// The time of a call is its argument `now`, usually [`SystemTime::now`]. It must be in the years
+/// -9999 to 9999. A cookie has expired if its expiry time is `now` or earlier.
+///
+/// A method that returns an error leaves the store unchanged. None panics.
+//
+// SAFETY of the calls below: the handle is initialized, empty or with a store; `&mut self` keeps
+// other calls away; pointers come from references and slices, so they are not NULL, aligned and
+// valid for their lengths; and what a call writes to is borrowed mutably, so it overlaps nothing.
+pub struct CookieStore(pub(crate) sys::cookie_store);
+
+// SAFETY: a store may be used by any thread, one at a time.
+unsafe impl Send for CookieStore {}
+
+impl Drop for CookieStore {
+    fn drop(&mut self) {
+        // SAFETY: see `CookieStore`. The handle is not used again.
+        unsafe { sys::cookie_store_free(&mut self.0) }
+    }
+}
+
+/// Shows nothing of the cookies.
+impl fmt::Debug for CookieStore {
+    fn fmt(&self, f: &mut fmt::Formatter<'_>) -> fmt::Result {
+        f.debug_struct("CookieStore").finish_non_exhaustive()
+    }
+}
+
+impl CookieStore {
+    /// Creates a store without cookies, without a public suffix list and without a limit.
+    ///
+    /// Its hash tables use a random key.
+    ///
+    /// # Errors
+    ///
+    /// [`Error::NoMemory`].
+    pub fn new() -> Result<CookieStore, Error> {
+        CookieStore::create(|store, key, _| {
+            // SAFETY: see `CookieStore`.
+            unsafe { sys::cookie_store_new(store, key.as_ptr().cast(), key.len()) }
+        })
+    }
+
+    /// Sets the public suffix list, in the format of publicsuffix.org, in place of the one before.
+    ///
+    /// From now on a cookie whose Domain attribute is a public suffix on the list is rejected,
+    /// unless it comes from that very host; then it is stored as a host-only cookie. Stored cookies
+    /// stay. A domain that no rule matches is not a public suffix.
+    ///
+    /// # Errors
+    ///
+    /// [`Error::BadRule`], [`Error::NoMemory`].
+    pub fn use_suffixes(&mut self, list: &str) -> Result<(), Error> {
+        let mut line = 0;
+        // SAFETY: see `CookieStore`.
+        let status = unsafe {
+            sys::cookie_store_use_suffixes(&mut self.0, list.as_ptr().cast(), list.len(), &mut line)
+        };
+        check(status, line)
+    }
+
+    /// Limits each domain to `limit` cookies, RFC 6265 6.1.
+    ///
+    /// From now on, before a cookie is inserted, cookies of its domain are evicted until it fits:
+    /// first the expired ones, then the others, both in creation order.
+    pub fn set_domain_limit(&mut self, limit: NonZeroUsize) {
+        // The errors are that the handle is empty, and that the limit is 0.
+        // SAFETY: see `CookieStore`.
+        unsafe { sys::cookie_store_set_domain_limit(&mut self.0, limit.get()) };
+    }
+
+    /// Sets whether the store is strict. A store that was just created or loaded is not.
+    ///
+    /// A strict store follows the rules that the revision of RFC 6265, draft-ietf-httpbis-rfc6265bis,
+    /// adds and browsers follow: [`Error`] lists what it rejects, attributes whose value is longer
+    /// than 1,024 bytes are ignored, and a cookie expires at most 400 days after it was received.
+    /// Stored cookies stay.
+    pub fn set_strict(&mut self, strict: bool) {
+        // The only error is that the handle is empty.
+        // SAFETY: see `CookieStore`.
+        unsafe { sys::cookie_store_set_strict(&mut self.0, strict) };
+    }
+
+    /// Parses a `Set-Cookie` header value received from `url` at `now`, and inserts the cookie,
+    /// RFC 6265 5.3.
+    ///
+    /// # Errors
+    ///
+    /// [`Error::BadTime`], [`Error::BadUrl`], [`Error::NoMemory`], and those with
+    /// [`Error::is_rejection`], which a user agent ignores.
+    pub fn parse(
+        &mut self,
+        set_cookie: &str,
+        url: &str,
+        now: SystemTime,
+    ) -> Result<StoreAction, Error> {
+        // SAFETY: see `CookieStore`.
+        let status = unsafe {
+            sys::cookie_store_set(
+                &mut self.0,
+                url.as_ptr().cast(),
+                url.len(),
+                set_cookie.as_ptr().cast(),
+                set_cookie.len(),
+                seconds(now),
+            )
+        };
+        match status {
+            sys::COOKIE_STORE_INSERTED => Ok(StoreAction::Inserted),
+            sys::COOKIE_STORE_UPDATED => Ok(StoreAction::UpdatedExisting),
+            sys::COOKIE_STORE_EXPIRED_EXISTING => Ok(StoreAction::ExpiredExisting),
+            status => Err(Error::new(status, 0)),
+        }
+    }
+
+    /// Returns the value of the `Cookie` header of a request for `url` at `now`, such as `a=1; b=2`,
+    /// or `None` if no such header is to be sent, RFC 6265 5.4.
+    ///
+    /// Cookies with longer paths come first; cookies with paths of equal length are in creation
+    /// order. A value that was not received in an HTTP header, for example one of a loaded list, may
+    /// have control characters.
+    ///
+    /// # Errors
+    ///
+    /// [`Error::BadTime`], [`Error::BadUrl`], [`Error::NoMemory`].
+    pub fn cookie_header(&mut self, url: &str, now: SystemTime) -> Result<Option<String>, Error> {
+        let header = string(HEADER, |out, len, needed| {
+            // SAFETY: see `CookieStore`.
+            unsafe {
+                sys::cookie_store_get(
+                    &mut self.0,
+                    url.as_ptr().cast(),
+                    url.len(),
+                    seconds(now),
+                    out,
+                    len,
+                    needed,
+                )
+            }
+        })?;
+        Ok(Some(header).filter(|header| !header.is_empty()))
+    }
+
+    /// Returns the value of the `Cookie` header of a cross-site request for `url` at `now`, or
+    /// `None`, draft-ietf-httpbis-rfc6265bis 5.8.3.
+    ///
+    /// Such a request comes from a page of another site, or from a page that is in a frame of one.
+    /// The value is that of [`cookie_header`](CookieStore::cookie_header) without the cookies with
+    /// SameSite=Strict, and without those with SameSite=Lax unless the request is a top-level
+    /// navigation. This holds for any store, strict or not.
+    ///
+    /// # Errors
+    ///
+    /// Those of [`cookie_header`](CookieStore::cookie_header).
+    pub fn cross_site_cookie_header(
+        &mut self,
+        url: &str,
+        now: SystemTime,
+        context: CrossSite,
+    ) -> Result<Option<String>, Error> {
+        let header = string(HEADER, |out, len, needed| {
+            // SAFETY: see `CookieStore`.
+            unsafe {
+                sys::cookie_store_get_cross_site(
+                    &mut self.0,
+                    url.as_ptr().cast(),
+                    url.len(),
+                    seconds(now),
+                    context.top_level,
+                    context.lax_by_default,
+                    out,
+                    len,
+                    needed,
+                )
+            }
+        })?;
+        Ok(Some(header).filter(|header| !header.is_empty()))
+    }
+
+    /// Removes the cookie with this domain, path and name, expired or not, and returns whether there
+    /// was one. The three are compared byte for byte with those of [`cookies`](CookieStore::cookies).
+    pub fn remove(&mut self, domain: &str, path: &str, name: &str) -> bool {
+        // SAFETY: see `CookieStore`.
+        let status = unsafe {
+            sys::cookie_store_remove(
+                &mut self.0,
+                domain.as_ptr().cast(),
+                domain.len(),
+                path.as_ptr().cast(),
+                path.len(),
+                name.as_ptr().cast(),
+                name.len(),
+            )
+        };
+        status == sys::COOKIE_STORE_OK
+    }
+
+    /// Removes all cookies. The public suffix list and the limit stay, and a strict store stays
+    /// strict.
+    pub fn clear(&mut self) {
+        // The only error is that the handle is empty.
+        // SAFETY: see `CookieStore`.
+        unsafe { sys::cookie_store_clear(&mut self.0) };
+    }
+
+    /// Removes the cookies that have expired at `now`, and returns their number.
+    ///
+    /// They are never sent, but stay in the store until they are removed.
+    ///
+    /// # Errors
+    ///
+    /// [`Error::BadTime`].
+    pub fn remove_expired(&mut self, now: SystemTime) -> Result<usize, Error> {
+        let mut removed = 0;
+        // SAFETY: see `CookieStore`.
+        let status =
+            unsafe { sys::cookie_store_remove_expired(&mut self.0, seconds(now), &mut removed) };
+        check(status, 0)?;
+        Ok(removed)
+    }
+
+    /// Returns the number of stored cookies. Expired ones count until they are removed.
+    pub fn len(&mut self) -> usize {
+        // SAFETY: see `CookieStore`.
+        unsafe { sys::cookie_store_count(&mut self.0) }
+    }
+
+    /// Returns whether there are no stored cookies.
+    pub fn is_empty(&mut self) -> bool {
+        self.len() == 0
+    }
+
+    /// Returns all cookies, expired ones included, in the order of the store.
+    ///
+    /// # Errors
+    ///
+    /// [`Error::NoMemory`].
+    pub fn cookies(&mut self) -> Result<Vec<Cookie>, Error> {
+        let (rows, texts) = self.rows()?;
+        let mut cookies = Vec::new();
+        cookies
+            .try_reserve_exact(rows.len())
+            .map_err(|_| Error::NoMemory)?;
+        let mut rest = texts.as_str();
+        for row in rows {
+            cookies.push(Cookie {
+                domain: take(&mut rest, row.domain_len)?,
+                path: take(&mut rest, row.path_len)?,
+                name: take(&mut rest, row.name_len)?,
+                value: take(&mut rest, row.value_len)?,
+                expires: row.persistent.then(|| time_at(row.ends_at)),
+                host_only: row.host_only,
+                has_path: row.has_path,
+                secure: row.secure,
+                http_only: row.http_only,
+            });
+        }
+        Ok(cookies)
+    }
+
+    /// Returns the rows of all cookies, and their strings one after the other.
+    fn rows(&mut self) -> Result<(Vec<cookie_store_row>, String), Error> {
+        let mut rows = Vec::new();
+        let mut rows_needed = 0;
+        let texts = string(0, |out, len, needed| {
+            if grow(&mut rows, rows_needed).is_err() {
+                return sys::COOKIE_STORE_NO_MEMORY;
+            }
+            // SAFETY: see `CookieStore`.
+            unsafe {
+                sys::cookie_store_rows(
+                    &mut self.0,
+                    rows.as_mut_ptr(),
+                    rows.len(),
+                    out,
+                    len,
+                    &mut rows_needed,
+                    needed,
+                )
+            }
+        })?;
+        Ok((rows, texts))
+    }
+
+    /// Returns the store that `create(handle, key, bad_line)` creates in an empty handle.
+    pub(crate) fn create(
+        create: impl FnOnce(&mut sys::cookie_store, &[u8], &mut usize) -> cookie_store_status,
+    ) -> Result<CookieStore, Error> {
+        let mut store = CookieStore(sys::cookie_store {
+            live: false,
+            strict: false,
+            at: ptr::null_mut(),
+        });
+        let mut line = 0;
+        check(create(&mut store.0, &random_key(), &mut line), line)?;
+        Ok(store)
+    }
+}
+
+/// Returns a random hash key.
+///
+/// `RandomState` is what std has of the random bytes of the system, and it cannot fail. The key is
+/// to be unknown to servers, as that of a `HashMap` is.
+fn random_key() -> [u8; 16] {
+    let half = || u128::from(RandomState::new().build_hasher().finish());
+    (half() << 64 | half()).to_ne_bytes()
+}
+
+#[cfg(test)]
+mod tests {
+    use super::random_key;
+
+    #[test]
+    fn both_halves_of_a_key_are_random() {
+        let (first, second) = (random_key(), random_key());
+        assert_ne!(first[..8], second[..8]);
+        assert_ne!(first[8..], second[8..]);
+        assert_ne!(first[..8], first[8..]);
+    }
+}

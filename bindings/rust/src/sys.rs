@@ -1,0 +1,196 @@
+//! The declarations of `cookie_store.h`, which documents them.
+//!
+//! [`CookieStore`](crate::CookieStore) is a safe wrapper of all of them, except that it chooses the
+//! hash key itself.
+#![allow(non_camel_case_types, missing_docs)]
+
+use std::os::raw::{c_char, c_uint, c_void};
+
+pub type cookie_store_status = c_uint;
+
+pub const COOKIE_STORE_OK: cookie_store_status = 0;
+pub const COOKIE_STORE_INSERTED: cookie_store_status = 1;
+pub const COOKIE_STORE_UPDATED: cookie_store_status = 2;
+pub const COOKIE_STORE_EXPIRED_EXISTING: cookie_store_status = 3;
+pub const COOKIE_STORE_NON_HTTP_SCHEME: cookie_store_status = 10;
+pub const COOKIE_STORE_NON_RELATIVE_SCHEME: cookie_store_status = 11;
+pub const COOKIE_STORE_DOMAIN_MISMATCH: cookie_store_status = 12;
+pub const COOKIE_STORE_EXPIRED: cookie_store_status = 13;
+pub const COOKIE_STORE_PARSE: cookie_store_status = 14;
+pub const COOKIE_STORE_PUBLIC_SUFFIX: cookie_store_status = 15;
+pub const COOKIE_STORE_UNSPECIFIED_DOMAIN: cookie_store_status = 16;
+pub const COOKIE_STORE_NO_MEMORY: cookie_store_status = 20;
+pub const COOKIE_STORE_BAD_URL: cookie_store_status = 21;
+pub const COOKIE_STORE_NOT_UTF8: cookie_store_status = 22;
+pub const COOKIE_STORE_BAD_MOMENT: cookie_store_status = 23;
+pub const COOKIE_STORE_NO_STORE: cookie_store_status = 24;
+pub const COOKIE_STORE_HAS_STORE: cookie_store_status = 25;
+pub const COOKIE_STORE_NO_ROOM: cookie_store_status = 26;
+pub const COOKIE_STORE_NOT_FOUND: cookie_store_status = 27;
+pub const COOKIE_STORE_BAD_LIMIT: cookie_store_status = 28;
+pub const COOKIE_STORE_BAD_RULE: cookie_store_status = 30;
+pub const COOKIE_STORE_BAD_JSON: cookie_store_status = 31;
+pub const COOKIE_STORE_BAD_SHAPE: cookie_store_status = 32;
+pub const COOKIE_STORE_BAD_RON: cookie_store_status = 33;
+pub const COOKIE_STORE_BAD_END: cookie_store_status = 34;
+pub const COOKIE_STORE_BAD_LINE: cookie_store_status = 35;
+pub const COOKIE_STORE_UNREPRESENTABLE: cookie_store_status = 36;
+pub const COOKIE_STORE_CONTROL_CHARACTER: cookie_store_status = 40;
+pub const COOKIE_STORE_TOO_LONG: cookie_store_status = 41;
+pub const COOKIE_STORE_INSECURE_URL: cookie_store_status = 42;
+pub const COOKIE_STORE_INSECURE_SAME_SITE_NONE: cookie_store_status = 43;
+pub const COOKIE_STORE_PREFIX: cookie_store_status = 44;
+pub const COOKIE_STORE_SECURE_STORED: cookie_store_status = 45;
+
+#[repr(C)]
+#[derive(Debug)]
+pub struct cookie_store {
+    pub live: bool,
+    pub strict: bool,
+    pub at: *mut c_void,
+}
+
+#[repr(C)]
+#[derive(Clone, Copy, Debug, Default)]
+pub struct cookie_store_row {
+    pub domain_len: usize,
+    pub path_len: usize,
+    pub name_len: usize,
+    pub value_len: usize,
+    pub ends_at: i64,
+    pub persistent: bool,
+    pub host_only: bool,
+    pub has_path: bool,
+    pub secure: bool,
+    pub http_only: bool,
+}
+
+extern "C" {
+    pub fn cookie_store_new(
+        store: *mut cookie_store,
+        key: *const c_char,
+        key_len: usize,
+    ) -> cookie_store_status;
+    pub fn cookie_store_free(store: *mut cookie_store);
+    pub fn cookie_store_use_suffixes(
+        store: *mut cookie_store,
+        list: *const c_char,
+        list_len: usize,
+        bad_line: *mut usize,
+    ) -> cookie_store_status;
+    pub fn cookie_store_set_domain_limit(
+        store: *mut cookie_store,
+        limit: usize,
+    ) -> cookie_store_status;
+    pub fn cookie_store_set_strict(store: *mut cookie_store, strict: bool) -> cookie_store_status;
+    pub fn cookie_store_set_hash_key(
+        store: *mut cookie_store,
+        key: *const c_char,
+        key_len: usize,
+    ) -> cookie_store_status;
+    pub fn cookie_store_set(
+        store: *mut cookie_store,
+        url: *const c_char,
+        url_len: usize,
+        text: *const c_char,
+        text_len: usize,
+        now: i64,
+    ) -> cookie_store_status;
+    pub fn cookie_store_get(
+        store: *mut cookie_store,
+        url: *const c_char,
+        url_len: usize,
+        now: i64,
+        out: *mut c_char,
+        out_len: usize,
+        needed: *mut usize,
+    ) -> cookie_store_status;
+    pub fn cookie_store_get_cross_site(
+        store: *mut cookie_store,
+        url: *const c_char,
+        url_len: usize,
+        now: i64,
+        top_level: bool,
+        lax_by_default: bool,
+        out: *mut c_char,
+        out_len: usize,
+        needed: *mut usize,
+    ) -> cookie_store_status;
+    pub fn cookie_store_remove(
+        store: *mut cookie_store,
+        domain: *const c_char,
+        domain_len: usize,
+        path: *const c_char,
+        path_len: usize,
+        name: *const c_char,
+        name_len: usize,
+    ) -> cookie_store_status;
+    pub fn cookie_store_clear(store: *mut cookie_store) -> cookie_store_status;
+    pub fn cookie_store_remove_expired(
+        store: *mut cookie_store,
+        now: i64,
+        removed: *mut usize,
+    ) -> cookie_store_status;
+    pub fn cookie_store_count(store: *mut cookie_store) -> usize;
+    pub fn cookie_store_rows(
+        store: *mut cookie_store,
+        rows: *mut cookie_store_row,
+        rows_len: usize,
+        texts: *mut c_char,
+        texts_len: usize,
+        rows_needed: *mut usize,
+        texts_needed: *mut usize,
+    ) -> cookie_store_status;
+    pub fn cookie_store_save_json(
+        store: *mut cookie_store,
+        now: i64,
+        all: bool,
+        out: *mut c_char,
+        out_len: usize,
+        needed: *mut usize,
+    ) -> cookie_store_status;
+    pub fn cookie_store_save_ron(
+        store: *mut cookie_store,
+        now: i64,
+        all: bool,
+        out: *mut c_char,
+        out_len: usize,
+        needed: *mut usize,
+    ) -> cookie_store_status;
+    pub fn cookie_store_load_json(
+        store: *mut cookie_store,
+        key: *const c_char,
+        key_len: usize,
+        list: *const c_char,
+        list_len: usize,
+        now: i64,
+        all: bool,
+    ) -> cookie_store_status;
+    pub fn cookie_store_load_ron(
+        store: *mut cookie_store,
+        key: *const c_char,
+        key_len: usize,
+        list: *const c_char,
+        list_len: usize,
+        now: i64,
+        all: bool,
+    ) -> cookie_store_status;
+    pub fn cookie_store_save_netscape(
+        store: *mut cookie_store,
+        now: i64,
+        all: bool,
+        out: *mut c_char,
+        out_len: usize,
+        needed: *mut usize,
+    ) -> cookie_store_status;
+    pub fn cookie_store_load_netscape(
+        store: *mut cookie_store,
+        key: *const c_char,
+        key_len: usize,
+        list: *const c_char,
+        list_len: usize,
+        now: i64,
+        all: bool,
+        bad_line: *mut usize,
+    ) -> cookie_store_status;
+}

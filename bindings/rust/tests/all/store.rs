@@ -1,0 +1,296 @@
+use std::num::NonZeroUsize;
+
+use pulleymaroon::{Cookie, CookieStore, CrossSite, Error, StoreAction};
+
+use crate::{assert_header, at, filled, names, FIRST, LAST, NOW, PAGE, SECURE_PAGE};
+
+/// The URL, the `Set-Cookie` header value, and what `parse` returns.
+type Row<'a> = (&'a str, &'a str, Result<StoreAction, Error>);
+
+const INSERTED: Result<StoreAction, Error> = Ok(StoreAction::Inserted);
+const UPDATED: Result<StoreAction, Error> = Ok(StoreAction::UpdatedExisting);
+const EXPIRED: Result<StoreAction, Error> = Ok(StoreAction::ExpiredExisting);
+
+/// Received one after the other by one store, with a public suffix list of the one rule `example`.
+const ROWS: [Row; 18] = [
+    (PAGE, "a=1", INSERTED),
+    (PAGE, "a=2", UPDATED),
+    (PAGE, "a=3; Max-Age=0", EXPIRED),
+    (PAGE, "new=1; Max-Age=0", Err(Error::Expired)),
+    (PAGE, "h=1; HttpOnly", INSERTED),
+    ("ftp://a.example/d/page", "h=2", Err(Error::NonHttpScheme)),
+    (
+        "ftp://a.example/d/page",
+        "i=1; HttpOnly",
+        Err(Error::NonHttpScheme),
+    ),
+    ("data:x", "a=1", Err(Error::NonRelativeScheme)),
+    (PAGE, "a=1; Domain=b.example", Err(Error::DomainMismatch)),
+    (PAGE, "no pair", Err(Error::Parse)),
+    (PAGE, "", Err(Error::Parse)),
+    (PAGE, "a=1; Domain=example", Err(Error::PublicSuffix)),
+    ("http://example/", "a=1; Domain=example", INSERTED),
+    (PAGE, "s=1; Secure", INSERTED),
+    (PAGE, "__Host-p=1", INSERTED),
+    ("no url", "a=1", Err(Error::BadUrl)),
+    ("", "a=1", Err(Error::BadUrl)),
+    ("", "", Err(Error::BadUrl)),
+];
+
+/// Received one after the other by one strict store.
+const STRICT_ROWS: [Row; 7] = [
+    (PAGE, "a=1", INSERTED),
+    (PAGE, "c=\u{1}", Err(Error::ControlCharacter)),
+    (PAGE, "s=1; Secure", Err(Error::InsecureUrl)),
+    (
+        SECURE_PAGE,
+        "n=1; SameSite=None",
+        Err(Error::InsecureSameSiteNone),
+    ),
+    (SECURE_PAGE, "__Host-p=1; Secure", Err(Error::Prefix)),
+    (SECURE_PAGE, "s=1; Secure", INSERTED),
+    (PAGE, "s=2", Err(Error::SecureStored)),
+];
+
+fn assert_rows(store: &mut CookieStore, rows: &[Row]) {
+    for (url, set_cookie, expected) in rows {
+        let result = store.parse(set_cookie, url, at(NOW));
+        assert_eq!(result, *expected, "{set_cookie} from {url}");
+        if let Err(error) = result {
+            assert_eq!(error.is_rejection(), error != Error::BadUrl, "{error}");
+        }
+    }
+}
+
+#[test]
+fn cookies_are_parsed() {
+    let mut store = CookieStore::new().unwrap();
+    store.use_suffixes("// a comment\nexample\n").unwrap();
+    assert_rows(&mut store, &ROWS);
+    assert_header(&mut store, PAGE, NOW, "h=1; __Host-p=1");
+}
+
+#[test]
+fn a_strict_store_rejects_more() {
+    let mut store = CookieStore::new().unwrap();
+    store.set_strict(true);
+    assert_rows(&mut store, &STRICT_ROWS);
+    let [fits, too_long] = [4095, 4096].map(|length| format!("l={}", "v".repeat(length)));
+    let rows = [
+        (PAGE, fits.as_str(), INSERTED),
+        (PAGE, &too_long, Err(Error::TooLong)),
+    ];
+    assert_rows(&mut store, &rows);
+    store.set_strict(false);
+    assert_eq!(store.parse("s=2", PAGE, at(NOW)), UPDATED);
+}
+
+#[test]
+fn times_are_checked() {
+    let mut store = filled(&["a=1"]);
+    for (now, expected) in [
+        (FIRST, Ok(1)),
+        (LAST, Ok(1)),
+        (FIRST - 1, Err(())),
+        (LAST + 1, Err(())),
+    ] {
+        let value = expected
+            .map(|_| Some("a=1".to_owned()))
+            .map_err(|()| Error::BadTime);
+        assert_eq!(store.cookie_header(PAGE, at(now)), value, "{now}");
+        let removed = expected.map(|_| 0).map_err(|()| Error::BadTime);
+        assert_eq!(store.remove_expired(at(now)), removed, "{now}");
+    }
+    for now in [i64::MIN, FIRST - 1, LAST + 1, i64::MAX] {
+        assert_eq!(
+            store.parse("b=1", PAGE, at(now)),
+            Err(Error::BadTime),
+            "{now}"
+        );
+        assert_eq!(store.save_json(at(now), true), Err(Error::BadTime), "{now}");
+        assert_eq!(
+            CookieStore::load_json("[]", at(now), true).unwrap_err(),
+            Error::BadTime,
+            "{now}"
+        );
+    }
+    assert_eq!(names(&mut store), "a");
+}
+
+#[test]
+fn cookies_expire_before_1970_too() {
+    let mut store = CookieStore::new().unwrap();
+    assert_eq!(store.parse("a=1; Max-Age=10", PAGE, at(-60)), INSERTED);
+    assert_eq!(store.cookies().unwrap()[0].expires, Some(at(-50)));
+    assert_header(&mut store, PAGE, -51, "a=1");
+    assert_header(&mut store, PAGE, -50, "");
+}
+
+fn fields(cookie: &Cookie) -> (&str, &str, &str, &str, Option<i64>, [bool; 4]) {
+    let flags = [
+        cookie.host_only,
+        cookie.has_path,
+        cookie.secure,
+        cookie.http_only,
+    ];
+    let expires = cookie
+        .expires
+        .map(|time| time.duration_since(at(NOW)).unwrap().as_secs() as i64);
+    (
+        &cookie.domain,
+        &cookie.path,
+        &cookie.name,
+        &cookie.value,
+        expires,
+        flags,
+    )
+}
+
+#[test]
+fn cookies_have_all_fields() {
+    let mut store = filled(&[
+        "a=1",
+        "g=gr\u{fc}n; Domain=.A.example; Path=/; Max-Age=60; Secure; HttpOnly",
+    ]);
+    store
+        .parse("b=; Expires=Thu, 01 Jan 2026 00:00:05 GMT", PAGE, at(NOW))
+        .unwrap();
+    let cookies = store.cookies().unwrap();
+    let expected = [
+        (
+            "a.example",
+            "/d",
+            "a",
+            "1",
+            None,
+            [true, false, false, false],
+        ),
+        (
+            "a.example",
+            "/d",
+            "b",
+            "",
+            Some(5),
+            [true, false, false, false],
+        ),
+        (
+            "a.example",
+            "/",
+            "g",
+            "gr\u{fc}n",
+            Some(60),
+            [false, true, true, true],
+        ),
+    ];
+    assert_eq!(cookies.iter().map(fields).collect::<Vec<_>>(), expected);
+    assert_header(&mut store, SECURE_PAGE, NOW + 4, "a=1; b=; g=gr\u{fc}n");
+    assert_header(&mut store, SECURE_PAGE, NOW + 5, "a=1; g=gr\u{fc}n");
+    assert_header(&mut store, "https://b.a.example/", NOW, "g=gr\u{fc}n");
+    assert_header(&mut store, "http://b.a.example/", NOW, "");
+}
+
+#[test]
+fn cross_site_requests_have_fewer_cookies() {
+    let mut store = filled(&[
+        "n=1; SameSite=None; Path=/d",
+        "u=1; Path=/d",
+        "l=1; SameSite=Lax",
+        "s=1; SameSite=Strict",
+    ]);
+    let table = [
+        (false, true, Some("n=1")),
+        (false, false, Some("n=1; u=1")),
+        (true, true, Some("n=1; u=1; l=1")),
+        (true, false, Some("n=1; u=1; l=1")),
+    ];
+    for (top_level, lax_by_default, expected) in table {
+        let context = CrossSite {
+            top_level,
+            lax_by_default,
+        };
+        let header = store
+            .cross_site_cookie_header(PAGE, at(NOW), context)
+            .unwrap();
+        assert_eq!(header.as_deref(), expected, "{context:?}");
+    }
+    let context = CrossSite {
+        top_level: true,
+        lax_by_default: true,
+    };
+    assert_eq!(
+        store.cross_site_cookie_header("http://b.example/", at(NOW), context),
+        Ok(None)
+    );
+    assert_eq!(
+        store.cross_site_cookie_header("", at(NOW), context),
+        Err(Error::BadUrl)
+    );
+}
+
+#[test]
+fn a_limit_evicts_the_first() {
+    let mut store = CookieStore::new().unwrap();
+    store.set_domain_limit(NonZeroUsize::new(2).unwrap());
+    for set_cookie in ["a=1", "b=2", "a=3", "c=4"] {
+        store.parse(set_cookie, PAGE, at(NOW)).unwrap();
+    }
+    assert_header(&mut store, PAGE, NOW, "b=2; c=4");
+}
+
+#[test]
+fn a_bad_rule_is_named() {
+    let mut store = CookieStore::new().unwrap();
+    let error = store.use_suffixes("example\na..b\n").unwrap_err();
+    assert_eq!(error, Error::BadRule { line: 2 });
+    assert_eq!(error.to_string(), "line 2 is not a public suffix rule");
+    assert_eq!(store.parse("a=1; Domain=example", PAGE, at(NOW)), INSERTED);
+    assert_eq!(store.use_suffixes(""), Ok(()));
+}
+
+#[test]
+fn cookies_are_removed() {
+    let mut store = filled(&[
+        "a=1; Max-Age=60",
+        "s=2",
+        "b=3; Max-Age=60",
+        "c=4; Max-Age=61",
+    ]);
+    assert_eq!(store.remove_expired(at(NOW + 59)), Ok(0));
+    assert_eq!(store.remove_expired(at(NOW + 60)), Ok(2));
+    assert_eq!(names(&mut store), "sc");
+    assert!(!store.remove("a.example", "/d", ""));
+    assert!(store.remove("a.example", "/d", "s"));
+    assert!(!store.remove("a.example", "/d", "s"));
+    assert_eq!((store.len(), store.is_empty()), (1, false));
+    store.clear();
+    assert_eq!(
+        (store.len(), store.is_empty(), store.cookies()),
+        (0, true, Ok(vec![]))
+    );
+}
+
+/// Results that are longer than the first buffer.
+#[test]
+fn long_results_are_whole() {
+    let value = "v".repeat(100);
+    let mut store = CookieStore::new().unwrap();
+    let pairs: Vec<_> = (0..100)
+        .map(|number| format!("c{number}={value}"))
+        .collect();
+    for pair in &pairs {
+        store.parse(pair, PAGE, at(NOW)).unwrap();
+    }
+    assert_header(&mut store, PAGE, NOW, &pairs.join("; "));
+    let cookies = store.cookies().unwrap();
+    let stored: Vec<_> = cookies
+        .iter()
+        .map(|cookie| format!("{}={}", cookie.name, cookie.value))
+        .collect();
+    assert_eq!(stored, pairs);
+}
+
+#[test]
+fn debug_shows_no_value() {
+    let shown = format!("{:?}", filled(&["session=secret"]));
+    assert_eq!(shown, "CookieStore { .. }");
+}
