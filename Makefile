@@ -21,7 +21,7 @@ uninstall:
 	rm -f '$(to)'/lib/libcookie_store.* '$(to)/lib/pkgconfig/cookie_store.pc' '$(to)/include/cookie_store.h' \
 	    '$(to)/share/man/man3/cookie_store.3' '$(to)/share/man/man1/cookies.1' \
 	    '$(to)/share/bash-completion/completions/cookies' '$(to)/bin/cookies'
-	rm -rf '$(DESTDIR)$(PYTHONDIR)'/cookie_store '$(DESTDIR)$(PYTHONDIR)'/cookie_store.py
+	rm -rf '$(DESTDIR)$(PYTHONDIR)/cookie_store'
 
 bindings:
 	tools/bindings

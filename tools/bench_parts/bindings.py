@@ -1,9 +1,10 @@
-"""Times a call from C and from Python, and files of cookies, beside Python's http.cookiejar, in half a minute.
+"""Times a call from C and from Python, and files of cookies, beside Python's http.cookiejar, in a minute.
 Usage: tools/bench bindings [--archive FILE]
 
 Prints microseconds of processor time a call, the least of three runs, and how many times as long http.cookiejar takes as
-StoreJar, and then as CookieStore for files. A StoreJar counts unexpired cookies only. The library is installed in a temporary folder, from --archive; without it
-the library is proved and built first. Needs a C compiler.
+StoreJar. A StoreJar counts unexpired cookies only, and is iterated over again without a change, and then after a change each
+time. The library is installed in a temporary folder, from --archive; without it the library is proved and built first. Needs a
+C compiler.
 
 Exit status: 0; 1 if a call fails."""
 import http.cookiejar
@@ -35,7 +36,8 @@ def build(folder, archive):
     prefix, defined = f'{folder}/prefix', {'HOSTS': HOSTS, 'EACH': EACH, 'NOW': NOW, 'SECONDS': SECONDS}
     install(prefix, archive)
     program = compile_c(f'{folder}/calls', '-std=c11', 'tools/bench_parts/calls.c', '-I', f'{prefix}/include',
-                        '-L', f'{prefix}/lib', '-lcookie_store', f'-Wl,-rpath,{prefix}/lib', *(f'-D{name}={value}' for name, value in defined.items()))
+                        '-L', f'{prefix}/lib', '-lcookie_store', f'-Wl,-rpath,{prefix}/lib',
+                        *(f'-D{name}={value}' for name, value in defined.items()))
     return prefix, program
 
 
@@ -58,6 +60,10 @@ def measure_c(program):
     return {name: float(seconds) for name, seconds in map(str.split, printed.splitlines())}
 
 
+def names(cookies):
+    return [cookie.name for cookie in cookies]
+
+
 def measure_store(module):
     urls = [f'http://h{number}.example/a/b' for number in range(HOSTS)]
     many, one = module.CookieStore(), module.CookieStore()
@@ -67,6 +73,8 @@ def measure_store(module):
     took['get_one'] = measure(lambda url: one.header(url, NOW), urls)
     took['get_many'] = measure(lambda url: many.header(url, NOW), urls)
     took['count'] = measure(lambda _: len(many), urls)
+    took['iterate'] = measure(lambda _: names(many), urls[:5])
+    took['iterate_changed'] = measure(lambda url: many.set(url, HEADERS[0], NOW) and names(many), urls[:5])
     return took
 
 
@@ -86,21 +94,26 @@ def measure_jar(new):
     took['get_one'] = measure(lambda request: add_and_remove(one, request), requests)
     took['get_many'] = measure(lambda request: add_and_remove(many, request), requests)
     took['count'] = measure(lambda _: len(many), requests[:5])
+    took['iterate'] = measure(lambda _: names(many), requests[:5])
+    took['iterate_changed'] = measure(lambda request: many.extract_cookies(first, request) or names(many), requests[:5])
     return took
 
 
 def measure_files(module, path, each):
-    """The seconds a line that loading and saving a cookies.txt file take, by CookieStore and by MozillaCookieJar."""
+    """The seconds a line that loading and saving a cookies.txt file take, by CookieStore, StoreJar and MozillaCookieJar."""
     with open(path, 'w', encoding='utf-8') as file:
         file.write('# Netscape HTTP Cookie File\n')
-        file.writelines(f'.h{number // each}.example.com\tTRUE\t/\tFALSE\t4000000000\tc{number % each}\tvalue{number}\n' for number in range(LINES))
+        file.writelines(f'.h{number // each}.example.com\tTRUE\t/\tFALSE\t4000000000\tc{number % each}\tvalue{number}\n'
+                        for number in range(LINES))
     with open(path, encoding='utf-8') as file:
         text = file.read()
-    store, jar = module.CookieStore.load_netscape(text, NOW), http.cookiejar.MozillaCookieJar()
+    store, own, jar = module.CookieStore.load_netscape(text, NOW), module.StoreJar(), http.cookiejar.MozillaCookieJar()
+    own.load(path)
     jar.load(path)
-    calls = {'load': (lambda _: module.CookieStore.load_netscape(text, NOW), lambda _: http.cookiejar.MozillaCookieJar().load(path)),
-             'save': (lambda _: store.save_netscape(NOW), lambda _: jar.save(path))}
-    return {name: [measure(call, [None]) / LINES for call in pair] for name, pair in calls.items()}
+    calls = {'load': (lambda _: module.CookieStore.load_netscape(text, NOW), lambda _: module.StoreJar().load(path),
+                      lambda _: http.cookiejar.MozillaCookieJar().load(path)),
+             'save': (lambda _: store.save_netscape(NOW), lambda _: own.save(f'{path}.own'), lambda _: jar.save(path))}
+    return {name: [measure(call, [None]) / LINES for call in row] for name, row in calls.items()}
 
 
 def run(options):
@@ -109,15 +122,20 @@ def run(options):
         sys.path.insert(0, f'{prefix}/lib/python3/dist-packages')
         os.environ['COOKIE_STORE_LIBRARY'] = f'{prefix}/lib/libcookie_store.so'
         module = importlib.import_module('cookie_store')
-        columns = [measure_c(program), measure_store(module), measure_jar(module.StoreJar), measure_jar(http.cookiejar.CookieJar)]
+        jars = [measure_jar(jar) for jar in (module.StoreJar, http.cookiejar.CookieJar)]
+        columns = [measure_c(program), measure_store(module), *jars]
         files = {each: measure_files(module, f'{folder}/cookies.txt', each) for each in (EACH, 1)}
-    names = ['C', 'CookieStore', 'StoreJar', 'http.cookiejar', 'ratio']
-    print(f'{HOSTS} hosts, microseconds'.ljust(26) + ''.join(name.rjust(15) for name in names))
-    rows = [('set', 'set a cookie'), ('get_one', 'header, 1 cookie a host'), ('get_many', f'header, {EACH} cookies a host'), ('count', 'count')]
+    heads = ['C', 'CookieStore', 'StoreJar', 'http.cookiejar', 'ratio']
+    print(f'{HOSTS} hosts, microseconds'.ljust(26) + ''.join(head.rjust(15) for head in heads))
+    rows = [('set', 'set a cookie'), ('get_one', 'header, 1 cookie a host'), ('get_many', f'header, {EACH} cookies a host'),
+            ('count', 'count'), ('iterate', 'iterate over all'), ('iterate_changed', 'iterate after a set')]
     for key, name in rows:
-        took = [column[key] * 1e6 for column in columns]
-        print(name.ljust(26) + ''.join(f'{each:15.2f}' for each in took + [took[3] / took[2]]))
-    print(f'{LINES:,} lines of cookies.txt, microseconds a line'.ljust(56) + ''.join(name.rjust(18) for name in ('CookieStore', 'MozillaCookieJar', 'ratio')))
+        took = [f'{column[key] * 1e6:.2f}' if key in column else '-' for column in columns]
+        ratio = f'{columns[3][key] / columns[2][key]:.2f}'
+        print(name.ljust(26) + ''.join(each.rjust(15) for each in [*took, ratio]))
+    heads = ['CookieStore', 'StoreJar', 'MozillaCookieJar', 'ratio']
+    print(f'{LINES:,} lines of cookies.txt, microseconds a line'.ljust(48) + ''.join(head.rjust(18) for head in heads))
     for each, took in files.items():
-        for name, (own, other) in took.items():
-            print(f'{name}, {each} a host'.ljust(56) + ''.join(f'{value:18.2f}' for value in (own * 1e6, other * 1e6, other / own)))
+        for name, seconds in took.items():
+            values = [value * 1e6 for value in seconds] + [seconds[2] / seconds[1]]
+            print(f'{name}, {each} a host'.ljust(48) + ''.join(f'{value:18.2f}' for value in values))

@@ -1,24 +1,98 @@
 # shellcheck shell=bash disable=SC2154
-# Tests the Python module. tools/bindings sources it.
-python=$lib/python3/dist-packages
+# Tests the Python package: its unit tests, with each Python of this machine that has clients, its types, its wheel, which pip
+# installs without a network, and the program examples/fetch.py. Sourced by tools/bindings, after the installation.
 
-# The installed module finds the library beside it.
-finds_library() {
-    (cd "$temp" && env -u COOKIE_STORE_LIBRARY -u LD_LIBRARY_PATH PYTHONPATH="$python" python3 -c 'import cookie_store; cookie_store.CookieStore().close()')
+# with_package WORD..: runs a command in the folder of the tests, with the installed package.
+with_package() { (cd bindings/python/tests && PYTHONPATH=$lib/python3/dist-packages "$@"); }
+
+# alone PYTHON WORD..: runs Python without what tells it where the package and the library are.
+alone() { (cd "$temp" && env -u COOKIE_STORE_LIBRARY -u LD_LIBRARY_PATH -u PYTHONPATH "$@"); }
+
+# can_import PYTHON MODULE..: whether that Python has all these modules.
+can_import() {
+    command -v "$1" > /dev/null &&
+        "$1" -c 'import importlib, sys; [importlib.import_module(name) for name in sys.argv[1:]]' "${@:2}" 2> /dev/null
 }
+
+# The installed package finds the library beside it.
+finds_library() {
+    alone env PYTHONPATH="$lib/python3/dist-packages" python3 -c 'import cookie_store; cookie_store.CookieStore()'
+}
+
+# unit_tests PYTHON: prints what was skipped, and how many ran.
+unit_tests() {
+    local status=0
+    try "unit tests, $("$1" --version)" with_package timeout 600 "$1" -m unittest -v || status=$?
+    grep -E ' \.\.\. skipped |^Ran ' "$temp/log" || true
+    return "$status"
+}
+
+# Plain pip, without a network, a cache or an index.
+plain_pip() { PIP_NO_INDEX=1 PIP_NO_CACHE_DIR=1 PIP_DISABLE_PIP_VERSION_CHECK=1 python3 -m pip "$@"; }
+
+# installs_into FOLDER SOURCE: installs into a fresh environment, in which a call of the package then succeeds.
+installs_into() {
+    python3 -m venv --without-pip "$1" && plain_pip --python "$1/bin/python" install --no-deps "$2" &&
+        alone "$1/bin/python" -c "
+from cookie_store import CookieStore
+store = CookieStore()
+store.set('http://example.com/', 'a=1')
+print(store.header('http://example.com/'))" | grep -Fx 'a=1'
+}
+
+# pip builds the same wheel again, also from a library that is built already, and writes nothing into the source folder.
+pip_builds() {
+    local before
+    before=$(find bindings/python | sort)
+    (unset COOKIE_STORE_LIBRARY && plain_pip wheel --no-deps -w "$temp/wheel" ./bindings/python) &&
+        plain_pip wheel --no-deps -w "$temp/again" ./bindings/python &&
+        cmp "$temp/wheel/"*.whl "$temp/again/"*.whl && [ "$before" = "$(find bindings/python | sort)" ]
+}
+
+pip_installs() { (unset COOKIE_STORE_LIBRARY && installs_into "$temp/venv" ./bindings/python); }
+
+# The source archive has no library: COOKIE_STORE_LIBRARY names it.
+sdist_installs() {
+    (cd bindings/python && python3 -c "import build_backend; build_backend.build_sdist('$temp')") &&
+        installs_into "$temp/venv_sdist" "$temp"/cookie_store-*.tar.gz
+}
+
+types_check() { (cd bindings/python && mypy --strict --cache-dir "$temp/mypy"); }
 
 # Python's own leaks do not count: only a report that names the library. The word `python3` may be a script.
 python_tests_lose_nothing() {
     local python3
     python3=$(python3 -c 'import sys; print(sys.executable)')
-    (cd bindings/python &&
-        PYTHONMALLOC=malloc valgrind --leak-check=full --log-file="$temp/valgrind" "$python3" -m unittest test_cookie_store.StoreTests) &&
+    PYTHONMALLOC=malloc with_package valgrind --leak-check=full --log-file="$temp/valgrind" "$python3" -m unittest test_store &&
         grep -q 'HEAP SUMMARY' "$temp/valgrind" && ! grep -B 20 -A 20 -E 'cookie_store_[a-z]|libcookie_store' "$temp/valgrind"
 }
 
-try 'installed module' finds_library || true
-cd bindings/python
-try 'Python tests' timeout 600 python3 -m unittest -v test_cookie_store test_files || true
-grep -E ' \.\.\. skipped |^Ran ' "$temp/log" || true
-cd ../..
-[ "${#valgrind[@]}" = 0 ] || try 'Python under valgrind' python_tests_lose_nothing || true
+if command -v python3 > /dev/null; then
+    try 'installed package' finds_library || true
+    unit_tests python3 || true
+    if [ "$(command -v python3)" != /usr/bin/python3 ] && can_import /usr/bin/python3 httpx aiohttp; then
+        unit_tests /usr/bin/python3 || true
+    elif ! can_import python3 httpx aiohttp; then
+        skips 'unit tests of httpx and aiohttp' 'no Python has both'
+    fi
+    if can_import python3 pip venv; then
+        try 'pip wheel' pip_builds || true
+        try 'pip install ./bindings/python' pip_installs || true
+        try 'pip install of the source archive' sdist_installs || true
+    else
+        skips 'pip install' 'Python has no pip or venv'
+    fi
+    if command -v mypy > /dev/null && can_import /usr/bin/python3 httpx aiohttp requests; then
+        try 'mypy --strict' types_check || true
+    else
+        skips mypy 'there is no mypy, requests, httpx or aiohttp'
+    fi
+    if can_import python3 requests && command -v openssl > /dev/null; then
+        try 'Python, fetch.py' with_package "$root/tools/bindings_parts/scenario.py" python3 ../examples/fetch.py || true
+    else
+        skips 'Python, fetch.py' 'there is no requests or openssl'
+    fi
+    [ -z "${valgrind[*]:-}" ] || try 'Python under valgrind' python_tests_lose_nothing || true
+else
+    skips Python 'there is no python3'
+fi

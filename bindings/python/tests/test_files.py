@@ -28,10 +28,12 @@ SECONDS = 20  # the longest that a test waits for a client
 # Header values received from HOST and PATH that curl, Python and RFC 6265 store alike. Without Path, the default path of curl
 # and Python ends in a slash.
 TEXTS = [
-    'a=1; Path=/d', 'b=2; Path=/', 'c=3; Path=/d', 'd=4; Path=/d/', 'e=5; Path=/other', 'f=; Path=/d', 'g="7"; Path=/d', 'h=a=b; Path=/d',
-    'i=9; Path=/d; Domain=a.example', 'j=10; Domain=.a.example; Path=/', 'k=11; Path=/d; Domain=shop.a.example', 'l=12; Path=/d; HttpOnly',
+    'a=1; Path=/d', 'b=2; Path=/', 'c=3; Path=/d', 'd=4; Path=/d/', 'e=5; Path=/other', 'f=; Path=/d', 'g="7"; Path=/d',
+    'h=a=b; Path=/d', 'i=9; Path=/d; Domain=a.example', 'j=10; Domain=.a.example; Path=/',
+    'k=11; Path=/d; Domain=shop.a.example', 'l=12; Path=/d; HttpOnly',
     'm=13; Path=/; HttpOnly; Domain=a.example', 'n=14; Path=/d; Expires=Tue, 03 Aug 2100 00:38:37 GMT',
-    'o=15; Expires=Fri, 31 Dec 2100 23:59:59 GMT; Path=/; Domain=a.example', 'p=16; Path=/d; SameSite=Lax', 'q.r_s-t=17; Path=/d',
+    'o=15; Expires=Fri, 31 Dec 2100 23:59:59 GMT; Path=/; Domain=a.example', 'p=16; Path=/d; SameSite=Lax',
+    'q.r_s-t=17; Path=/d',
     'u=%2F; Path=/d', 'v=1|2; Path=/d', 'w=x y z; Path=/d',
 ]
 
@@ -42,6 +44,7 @@ LOADED = [
     ('a.example/x\tFALSE\t/\tFALSE\t0\tc\t3\n', 'a shop.a.example, b a.example'),
     ('u@a.example\tFALSE\t/\tFALSE\t0\tc\t3\n', 'a shop.a.example, b a.example'),
     ('a.example:8\tFALSE\t/\tFALSE\t0\tc\t3\n', 'a shop.a.example, b a.example'),
+    ('a.example\tFALSE\t/;x\tFALSE\t0\tc\t3\n', 'a shop.a.example, b a.example'),
     ('[::1]\tFALSE\t/\tFALSE\t0\tc\t3\n', 'a shop.a.example, b a.example, c [::1]'),
     ('127.0.0.1\tFALSE\t/\tFALSE\t0\tc\t3\n', 'a shop.a.example, b a.example, c 127.0.0.1'),
     ('shop.a.example\tFALSE\t/d\tFALSE\t1\ta\t3\n', 'a shop.a.example, b a.example'),
@@ -66,7 +69,8 @@ class Response:
 
 def rows_of(store):
     """Return what a file says of the cookies of a store."""
-    return sorted((row.domain, row.host_only, row.path, row.name, row.value, row.ends_at, row.secure, row.http_only) for row in store)
+    return sorted((row.domain, row.host_only, row.path, row.name, row.value, row.ends_at, row.secure, row.http_only)
+                  for row in store)
 
 
 class Page(http.server.BaseHTTPRequestHandler):
@@ -138,6 +142,7 @@ class FileTests(unittest.TestCase):
     def test_loaded_cookies(self):
         for lines, wanted in LOADED:
             jar = StoreJar()
+            self.assertEqual(list(jar), [])
             self.write(FILE + lines)
             jar.load(self.path, ignore_discard=True, ignore_expires=True)
             self.assertEqual(', '.join(f'{row.name} {row.domain}' for row in jar.store), wanted, lines)

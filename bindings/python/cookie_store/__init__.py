@@ -1,0 +1,49 @@
+"""HTTP cookie handling for web clients, after RFC 6265, with the C library cookie_store.
+
+    import cookie_store
+
+    with cookie_store.CookieStore() as store:
+        store.set('http://example.com/foo/bar', 'cookie1=value1')
+        print(store.header('http://example.com/foo/x'))
+
+Class CookieStore is the store of cookie_store.h. Class StoreJar is a http.cookiejar.CookieJar over
+a CookieStore, for urllib.request and requests. With a store
+
+    cookie_store.requests.use_store() sends its header with each request of a requests.Session,
+    cookie_store.httpx.use_store() does so for a httpx.Client or httpx.AsyncClient, and
+    cookie_store.aiohttp.StoreCookieJar is a cookie jar for an aiohttp.ClientSession.
+
+These three modules are imported by their names. Each needs the package that it is named after.
+
+String arguments are str, or bytes in UTF-8. Times are whole seconds since 1970-01-01T00:00:00 UTC.
+An argument `now` that is None stands for the current time.
+
+Threads may share stores and jars. os.fork() waits until no thread is in a call of a store, so that
+the child may use its copies of them. No call may be made in a signal handler.
+
+The C library is loaded from the file named by the environment variable COOKIE_STORE_LIBRARY; else
+from the folder of this package or the folder three above it, where it is installed; else from where
+the system finds it.
+"""
+from __future__ import annotations
+
+from typing import Any
+
+from ._files import replace_file
+from ._jar import StoreJar
+from ._status import BadLine, BadRule, CookieStoreError, NoDomain, NoMemory, Status
+from ._store import Cookie, CookieStore
+
+__all__ = ['BadLine', 'BadRule', 'Cookie', 'CookieStore', 'CookieStoreError', 'NoDomain', 'NoMemory', 'Status', 'StoreJar',
+           'replace_file', 'requests_adapter']
+
+
+def requests_adapter(jar: StoreJar, **options: Any) -> Any:
+    """Return a cookie_store.requests.StoreAdapter, with the options of requests.adapters.HTTPAdapter.
+
+        session.cookies = jar = StoreJar()
+        for scheme in 'http://', 'https://':
+            session.mount(scheme, requests_adapter(jar))
+    """
+    from .requests import StoreAdapter
+    return StoreAdapter(jar, **options)

@@ -1,0 +1,230 @@
+"""A http.cookiejar.CookieJar over a cookie store."""
+from __future__ import annotations
+
+import http.cookiejar
+import os
+import threading
+import time
+import urllib.request
+from typing import Any, Dict, Iterator, List, Optional
+
+from ._cookies import JarCookie, from_wire, header_values, insert, is_line, set_cookie_text, to_wire, unexpired
+from ._files import Path, replace_file
+from ._mapping import MappingJar
+from ._messages import header_for, receive
+from ._status import CookieStoreError, Status
+from ._store import Cookie, CookieStore
+
+
+class StoreJar(MappingJar):
+    """A http.cookiejar.CookieJar that keeps its cookies in a CookieStore, the attribute store.
+
+        opener = urllib.request.build_opener(urllib.request.HTTPCookieProcessor(StoreJar()))
+
+    The store decides which cookies of a response are stored and which are sent with a request. If a
+    policy is passed, cookies that it rejects are neither stored nor sent either. The jar does not
+    close its store. Each request counts as same-site.
+
+    Iteration and len() leave out expired cookies; they stay in the store until
+    clear_expired_cookies(). Cookies look as in http.cookiejar: the domain of a domain cookie has a
+    leading dot, '.local' is appended to a host without a dot, and each character of a string is one
+    byte of the header.
+
+    The jar has the methods of requests.cookies.RequestsCookieJar, such as get(), set() and
+    get_dict(). As the cookies of a requests.Session it stores what responses set, but requests
+    chooses by its own rules what to send: before each request it copies the cookies into a jar of
+    its own. With cookie_store.requests.use_store() it sends the header of the store.
+
+    Threads may share a jar. A copy of a jar, also by pickle, has a copy of its store.
+    """
+
+    #: The file of load() and save() without a filename.
+    filename: Optional[Path] = None
+
+    def __init__(self, store: Optional[CookieStore] = None, policy: Optional[http.cookiejar.CookiePolicy] = None) -> None:
+        """Create a jar over this store, or over a new one."""
+        super().__init__(policy)
+        self.store = CookieStore() if store is None else store
+        self._has_policy = policy is not None
+
+    def set_policy(self, policy: http.cookiejar.CookiePolicy) -> None:
+        """Set the policy that is asked besides the store from now on."""
+        super().set_policy(policy)
+        self._has_policy = True
+
+    def add_cookie_header(self, request: urllib.request.Request) -> None:
+        """Add the store's Cookie header to request, if there is one and request has none."""
+        if request.has_header('Cookie'):
+            return
+        header = to_wire(header_for(self.store, request.get_full_url()))
+        if self._has_policy:
+            header = self._approved(header, request)
+        if header:
+            request.add_unredirected_header('Cookie', header)
+
+    def _approved(self, header: str, request: urllib.request.Request) -> str:
+        """Return the cookies of a header that the policy accepts. No name or value has a ';'."""
+        self._set_policy_time()
+        policy = self._policy
+        approved = {f'{cookie.name}={cookie.value}' for cookie in self
+                    if policy.domain_return_ok(cookie.domain, request) and policy.path_return_ok(cookie.path, request)
+                    and policy.return_ok(cookie, request)}
+        return '; '.join(pair for pair in header.split('; ') if pair in approved)
+
+    def _set_policy_time(self) -> int:
+        """Pass the current time to the policy, which takes it from its jar, and return it."""
+        self._policy._now = self._now = now = int(time.time())  # type: ignore[attr-defined]
+        return now
+
+    def extract_cookies(self, response: Any, request: urllib.request.Request) -> None:
+        """Store the cookies of response, except rejected ones and headers that are not UTF-8."""
+        now = self._set_policy_time()
+        for text in response.info().get_all('Set-Cookie', []):
+            if not self._has_policy or self._is_approved(text, request, now):
+                receive(self.store, request.get_full_url(), from_wire(text), now)
+
+    def _is_approved(self, text: str, request: urllib.request.Request, now: int) -> bool:
+        """Return whether the policy accepts the cookie of a header value."""
+        return all(self._policy.set_ok(cookie, request) for cookie in self._cookies_made([text], request, now))
+
+    def make_cookies(self, response: Any, request: urllib.request.Request) -> List[http.cookiejar.Cookie]:
+        """Return the cookies of response that a store without a public suffix list accepts.
+
+        The jar is unchanged.
+        """
+        return self._cookies_made(response.info().get_all('Set-Cookie', []), request, self._set_policy_time())
+
+    def _cookies_made(self, texts: List[str], request: urllib.request.Request, now: int) -> List[http.cookiejar.Cookie]:
+        with CookieStore(strict=self.store.strict) as store:
+            for text in texts:
+                receive(store, request.get_full_url(), from_wire(text), now)
+            return [JarCookie(row) for row in unexpired(store)]
+
+    def set_cookie(self, cookie: http.cookiejar.Cookie) -> None:
+        """Set a cookie, without a request. A cookie that has expired expires the stored one.
+
+        Raises NoDomain, a ValueError, if it has no domain, and CookieStoreError with the reason if the
+        store rejects it: PARSE if no header can express it.
+        """
+        status = insert(self.store, cookie)
+        if status not in (Status.INSERTED, Status.UPDATED, Status.EXPIRED_EXISTING, Status.EXPIRED):
+            raise CookieStoreError(status)
+
+    def set_cookie_if_ok(self, cookie: http.cookiejar.Cookie, request: urllib.request.Request) -> None:
+        """Set a cookie that has not expired, if a response to request may set it."""
+        now = self._set_policy_time()
+        text = set_cookie_text(cookie, True, now)
+        if any(made.domain == cookie.domain for made in self._cookies_made([text], request, now)):
+            if not self._has_policy or self._policy.set_ok(cookie, request):
+                receive(self.store, request.get_full_url(), from_wire(text), now)
+
+    def __iter__(self) -> Iterator[http.cookiejar.Cookie]:
+        return (JarCookie(row) for row in unexpired(self.store))
+
+    def __len__(self) -> int:
+        return self.store.count_unexpired()
+
+    def clear(self, domain: Optional[str] = None, path: Optional[str] = None, name: Optional[str] = None) -> None:
+        """Remove all cookies, or those of a domain, of a domain and path, or one by its name.
+
+        With arguments, expired cookies are left out. Raises KeyError if no cookie matches, and
+        ValueError if name or path is passed without the arguments before it.
+        """
+        if domain is None:
+            if path is not None or name is not None:
+                raise ValueError('a path or a name is of a domain')
+            self.store.clear()
+            return
+        if path is None and name is not None:
+            raise ValueError('a name is of a domain and a path')
+        gone = [row for row in unexpired(self.store) if JarCookie(row).domain == domain
+                and path in (None, to_wire(row.path)) and name in (None, to_wire(row.name))]
+        if not gone:
+            raise KeyError(next(word for word in (name, path, domain) if word is not None))
+        self._remove(gone)
+
+    def _remove(self, rows: List[Cookie]) -> None:
+        for row in rows:
+            self.store.remove(row.domain, row.path, row.name)
+
+    def clear_session_cookies(self) -> None:
+        """Remove all session cookies."""
+        self._remove([row for row in self.store if row.ends_at is None])
+
+    def clear_expired_cookies(self) -> None:
+        """Remove all expired cookies."""
+        self.store.remove_expired()
+
+    def load(self, filename: Optional[Path] = None, ignore_discard: bool = False, ignore_expires: bool = False) -> None:
+        """Set the cookies of a cookies.txt file, which curl, wget or MozillaCookieJar wrote.
+
+        Without filename the file is that of the attribute filename. Session cookies are left out unless
+        ignore_discard is true. Expired cookies are left out, whatever ignore_expires is: no request gets
+        them. A cookie that the store rejects is left out, and a domain cookie of a public suffix on its
+        list becomes host-only. The other cookies of the jar stay.
+
+        A first line such as MozillaCookieJar demands need not be there, and an expiry of 0 is that of a
+        session cookie. Raises http.cookiejar.LoadError, an OSError, if the file is not UTF-8 or has a
+        malformed line.
+        """
+        name = self._filename(filename)
+        with open(name, 'rb') as file:
+            text = file.read()
+        try:
+            loaded = CookieStore.load_netscape(text)
+        except CookieStoreError as error:
+            if error.status not in (Status.BAD_LINE, Status.NOT_UTF8):
+                raise
+            raise http.cookiejar.LoadError(f'{name}: {error}') from error
+        with loaded:
+            rows, now = [row for row in loaded.cookies() if ignore_discard or row.ends_at is not None], int(time.time())
+        self.store._set_all(header_values(rows, now), now)
+
+    def _filename(self, filename: Optional[Path]) -> str:
+        name = self.filename if filename is None else filename
+        if name is None:
+            raise ValueError('a jar without the attribute filename needs the argument')
+        return os.fsdecode(name)
+
+    def save(self, filename: Optional[Path] = None, ignore_discard: bool = False, ignore_expires: bool = False) -> None:
+        """Save the cookies as a cookies.txt file, which curl, wget and MozillaCookieJar read.
+
+        Without filename the file is that of the attribute filename. Session cookies are left out unless
+        ignore_discard is true, and expired ones unless ignore_expires is true. Cookies that the format
+        cannot represent are left out: see CookieStore.save_netscape(). The expiry of a session cookie is
+        written as 0, as curl does, and MozillaCookieJar reads that as expired.
+
+        The file is written as replace_file() does.
+        """
+        replace_file(self._filename(filename), self._netscape(ignore_discard, ignore_expires))
+
+    def _netscape(self, ignore_discard: bool, ignore_expires: bool) -> str:
+        is_all = ignore_discard and (ignore_expires or len(self) == len(self.store))
+        if is_all or not (ignore_discard or ignore_expires):
+            try:
+                return self.store.save_netscape(all=is_all)
+            except CookieStoreError as error:
+                if error.status != Status.UNREPRESENTABLE:
+                    raise
+        with CookieStore.load_ron(self.store.save_ron(all=True), all=ignore_expires) as saved:
+            for row in saved.cookies():
+                if not ignore_discard and row.ends_at is None or not is_line(row):
+                    saved.remove(row.domain, row.path, row.name)
+            return saved.save_netscape(all=True)
+
+    def copy(self) -> StoreJar:
+        """Return a copy of the jar, over a copy of its store, with the same policy."""
+        other = type(self)(self.store.copy(), self._policy if self._has_policy else None)
+        other.filename = self.filename
+        return other
+
+    __copy__ = copy
+
+    def __getstate__(self) -> Dict[str, Any]:
+        state = self.__dict__.copy()
+        state.pop('_cookies_lock')  # of http.cookiejar, which cannot be pickled
+        return state
+
+    def __setstate__(self, state: Dict[str, Any]) -> None:
+        self.__dict__.update(state)
+        self._cookies_lock = threading.RLock()

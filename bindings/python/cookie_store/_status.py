@@ -1,0 +1,142 @@
+"""Statuses of the C library, and the exceptions that stand for them."""
+from __future__ import annotations
+
+import enum
+
+
+class Status(enum.IntEnum):
+    """Status of a call, with the numbers of cookie_store.h. Values below 10 are success.
+
+    The cookie was accepted:
+    INSERTED -- no cookie with its domain, path and name was stored
+    UPDATED -- it replaced the stored one with the same domain, path and name
+    EXPIRED_EXISTING -- it has expired, and so the stored one was expired
+
+    The cookie was rejected:
+    NON_HTTP_SCHEME -- it, or the unexpired stored one, is HttpOnly, and the scheme is not HTTP
+    NON_RELATIVE_SCHEME -- it has no Domain attribute or an empty one, and the URL has no host
+    DOMAIN_MISMATCH -- the host of the URL does not domain-match its Domain attribute
+    EXPIRED -- it has expired, and no unexpired one is stored
+    PARSE -- the string is not a cookie, or its Domain attribute is not a domain name
+    PUBLIC_SUFFIX -- its domain is a public suffix on the list, and not the host of the URL
+
+    The cookie was rejected by a strict store:
+    CONTROL_CHARACTER -- the header value has a control character other than HTAB
+    TOO_LONG -- its name and value together are longer than 4,096 bytes
+    INSECURE_URL -- it is Secure, and the URL is not secure
+    INSECURE_SAME_SITE_NONE -- it has SameSite=None and is not Secure
+    PREFIX -- its name begins with __Secure- or __Host-, and it lacks what the prefix demands
+    SECURE_STORED -- it is not Secure, nor is the URL, and it would overlay a stored Secure cookie
+
+    An argument is not valid:
+    BAD_URL -- not a URL
+    NOT_UTF8 -- not UTF-8
+    BAD_MOMENT -- a time that is not in the years -9999 to 9999
+    BAD_LIMIT -- a limit below 1
+    BAD_RULE -- a line of a public suffix list is not a rule
+    BAD_JSON, BAD_SHAPE -- not JSON; JSON, but not a list of cookies
+    BAD_RON -- not a list of cookies in RON
+    BAD_END -- an expiry is not a date and time; or a cookie to save expires before the year 0
+    BAD_LINE -- a line of a cookies.txt file is not a cookie
+    UNREPRESENTABLE -- a cookies.txt file cannot represent a cookie to save
+
+    Other errors:
+    NO_MEMORY -- out of memory
+    NO_STORE -- the store is closed
+
+    The other values are not returned or raised.
+    """
+    OK = 0
+    INSERTED = 1
+    UPDATED = 2
+    EXPIRED_EXISTING = 3
+    NON_HTTP_SCHEME = 10
+    NON_RELATIVE_SCHEME = 11
+    DOMAIN_MISMATCH = 12
+    EXPIRED = 13
+    PARSE = 14
+    PUBLIC_SUFFIX = 15
+    UNSPECIFIED_DOMAIN = 16
+    NO_MEMORY = 20
+    BAD_URL = 21
+    NOT_UTF8 = 22
+    BAD_MOMENT = 23
+    NO_STORE = 24
+    HAS_STORE = 25
+    NO_ROOM = 26
+    NOT_FOUND = 27
+    BAD_LIMIT = 28
+    BAD_RULE = 30
+    BAD_JSON = 31
+    BAD_SHAPE = 32
+    BAD_RON = 33
+    BAD_END = 34
+    BAD_LINE = 35
+    UNREPRESENTABLE = 36
+    CONTROL_CHARACTER = 40
+    TOO_LONG = 41
+    INSECURE_URL = 42
+    INSECURE_SAME_SITE_NONE = 43
+    PREFIX = 44
+    SECURE_STORED = 45
+
+
+STATUSES = {int(status): status for status in Status}
+#: The statuses of an insertion: the cookie was accepted, or why it was rejected.
+REPLIES = frozenset(number for number in STATUSES if number < 20 or number >= 40)
+
+
+class CookieStoreError(Exception):
+    """Raised when a call fails. The reason is in the attribute status, a Status."""
+
+    def __init__(self, status: Status) -> None:
+        super().__init__(status)
+        self.status = status
+
+    def __str__(self) -> str:
+        return self.status.name.lower().replace('_', ' ')
+
+
+class NoMemory(CookieStoreError, MemoryError):
+    """Raised when memory runs out."""
+
+
+class BadRule(CookieStoreError):
+    """Raised for a malformed line of a public suffix list. line is its number, from 1."""
+
+    def __init__(self, line: int) -> None:
+        super().__init__(Status.BAD_RULE)
+        self.args, self.line = (line,), line
+
+    def __str__(self) -> str:
+        return f'bad rule in line {self.line}'
+
+
+class BadLine(CookieStoreError):
+    """Raised for a malformed line of a cookies.txt file. line is its number, from 1."""
+
+    def __init__(self, line: int) -> None:
+        super().__init__(Status.BAD_LINE)
+        self.args, self.line = (line,), line
+
+    def __str__(self) -> str:
+        return f'line {self.line} is not a cookie'
+
+
+class NoDomain(CookieStoreError, ValueError):
+    """Raised for a cookie without a domain, which requests would send to every host."""
+
+    def __init__(self) -> None:
+        super().__init__(Status.BAD_URL)
+        self.args = ()
+
+    def __str__(self) -> str:
+        return 'a cookie needs the domain that it is sent to: pass domain='
+
+
+def check(number: int) -> None:
+    """Raise the exception for a status, unless it is OK."""
+    if number == Status.NO_MEMORY:
+        raise NoMemory(Status.NO_MEMORY)
+    if number != Status.OK:
+        raise CookieStoreError(STATUSES[number])

@@ -1,0 +1,431 @@
+"""The cookie store."""
+from __future__ import annotations
+
+import ctypes
+import operator
+import os
+import threading
+import time
+import weakref
+from typing import Any, Callable, Dict, Iterable, Iterator, List, NamedTuple, Optional, Tuple, Type, Union
+
+from ._library import LIBRARY, ROW, Row, Store
+from ._status import REPLIES, STATUSES, BadLine, BadRule, CookieStoreError, Status, check
+
+Text = Union[str, bytes]
+# What a copy of a store is made from: its class, list, strictness, public suffix list and limit.
+_State = Tuple[Type['CookieStore'], str, bool, Optional[bytes], Optional[int]]
+
+
+class Cookie(NamedTuple):
+    """A stored cookie."""
+    domain: str
+    path: str
+    name: str
+    value: str
+    #: Expiry time, or None for a session cookie.
+    ends_at: Optional[int]
+    #: True for a host-only cookie, False if it is also sent to the hosts below its domain.
+    host_only: bool
+    #: True if the path comes from a Path attribute.
+    has_path: bool
+    secure: bool
+    http_only: bool
+
+
+def _cookies_of(rows: bytes, texts: bytes) -> List[Cookie]:
+    """Return the cookies of the rows and strings that the library writes."""
+    # Lengths are in bytes, and so are those of a string in Latin-1.
+    text, cookies, at = texts.decode('latin-1'), [], 0
+    for domain, path, name, value, ends_at, persistent, host_only, has_path, secure, http_only in ROW.iter_unpack(rows):
+        path_at = at + domain
+        name_at = path_at + path
+        value_at = name_at + name
+        end = value_at + value
+        fields = (text[at:path_at], text[path_at:name_at], text[name_at:value_at], text[value_at:end],
+                  ends_at if persistent else None, host_only, has_path, secure, http_only)
+        cookies.append(tuple.__new__(Cookie, fields))  # Cookie._make() takes longer
+        at = end
+    return cookies if texts.isascii() else [_decoded(cookie) for cookie in cookies]
+
+
+def _decoded(cookie: Cookie) -> Cookie:
+    """Return a cookie whose strings are in Latin-1, each byte a character, with their strings in UTF-8."""
+    return Cookie._make([*(string.encode('latin-1').decode('utf-8') for string in cookie[:4]), *cookie[4:]])
+
+
+def _bytes(text: Text) -> bytes:
+    """Return a string argument as bytes. A lone surrogate becomes bytes that are not UTF-8."""
+    return text if isinstance(text, bytes) else text.encode('utf-8', 'surrogatepass')
+
+
+def _random_key() -> Tuple[bytes, int]:
+    """Return a random hash key and its length."""
+    return os.urandom(16), 16
+
+
+def _moment(now: Optional[int]) -> int:
+    if now is None:
+        return int(time.time())
+    now = operator.index(now)
+    if not -2**63 <= now < 2**63:
+        raise CookieStoreError(Status.BAD_MOMENT)
+    return now
+
+
+class CookieStore:
+    """A cookie store.
+
+    Threads may share a store: a lock lets one call at a time in. Its hash tables use a random key.
+    A store without cookies is false, as an empty list is.
+
+    A method that fails raises CookieStoreError with the status of the library in its attribute
+    status: NOT_UTF8 for a string that is not UTF-8, BAD_MOMENT for a time that is not in the years
+    -9999 to 9999, NO_STORE after close(); or NoMemory. "Raises X" below means that the method can
+    also raise a CookieStoreError with status X. On any of these errors the store is unchanged.
+    """
+
+    def __init__(self, *, strict: bool = False) -> None:
+        """Create a store without cookies, public suffix list and limit.
+
+        If strict is true, it follows the rules of set_strict().
+        """
+        self._store = Store()
+        self._at = ctypes.byref(self._store)
+        self._lock = threading.Lock()
+        self._suffixes: Optional[bytes] = None
+        self._limit: Optional[int] = None
+        self._strict = False
+        self._buffer = ctypes.create_string_buffer(4096)
+        self._cookies: Optional[List[Cookie]] = None  # what cookies() returns, until the store changes
+        check(LIBRARY.cookie_store_new(self._at, *_random_key()))
+        self._finalizer = weakref.finalize(self, LIBRARY.cookie_store_free, self._at)
+        # Another thread may still be in a call when the program ends.
+        self._finalizer.atexit = False
+        _stores.add(self)
+        if strict:
+            self.set_strict(True)
+
+    def close(self) -> None:
+        """Free the store. From then on len() is 0, and other calls raise NO_STORE."""
+        with self._lock:
+            self._cookies = None
+            self._finalizer()
+
+    def __enter__(self) -> CookieStore:
+        return self
+
+    def __exit__(self, *_: object) -> None:
+        self.close()
+
+    def use_suffixes(self, text: Text) -> None:
+        """Set the public suffix list, in the format of publicsuffix.org.
+
+        Stored cookies stay. A domain that no rule matches is not a public suffix. To list top-level
+        domains that have no rule of their own, such as np, append a line with the rule *.
+
+        Raises BadRule with the number of the first malformed line.
+        """
+        rules, line = _bytes(text), ctypes.c_size_t()
+        with self._lock:
+            number = LIBRARY.cookie_store_use_suffixes(self._at, rules, len(rules), line)
+            if number == Status.BAD_RULE:
+                raise BadRule(line.value)
+            check(number)
+            self._suffixes = rules
+
+    def set_domain_limit(self, limit: int) -> None:
+        """Limit each domain to at most limit cookies.
+
+        From now on, before a cookie is inserted, cookies of its domain are evicted until it fits:
+        first the expired ones, then the others, both in creation order.
+
+        Raises BAD_LIMIT if limit is less than 1.
+        """
+        limit = operator.index(limit)
+        if limit < 0:
+            raise CookieStoreError(Status.BAD_LIMIT)
+        limit = min(limit, 2**64 - 1)
+        with self._lock:
+            check(LIBRARY.cookie_store_set_domain_limit(self._at, limit))
+            self._limit = limit
+
+    @property
+    def strict(self) -> bool:
+        """Whether the store is strict. See set_strict()."""
+        return self._strict
+
+    def set_strict(self, strict: bool) -> None:
+        """Set whether set() inserts by the rules that the revision of RFC 6265 adds.
+
+        Browsers follow them. A strict store rejects more cookies, as class Status lists, ignores
+        attributes whose value is longer than 1,024 bytes, and lets a cookie expire at most 400 days
+        after it was received. Stored cookies stay. docs/STRICT.md has the rules, and which ones are
+        left out.
+        """
+        strict = bool(strict)
+        with self._lock:
+            check(LIBRARY.cookie_store_set_strict(self._at, strict))
+            self._strict = strict
+
+    def set(self, url: Text, text: Text, now: Optional[int] = None) -> Status:
+        """Insert the cookie of a Set-Cookie header value received from url.
+
+        Return INSERTED, UPDATED or EXPIRED_EXISTING, or the reason why the cookie was rejected,
+        such as DOMAIN_MISMATCH. Raises BAD_URL.
+        """
+        page, cookie, moment = _bytes(url), _bytes(text), _moment(now)
+        with self._lock:
+            self._cookies = None
+            number = LIBRARY.cookie_store_set(self._at, page, len(page), cookie, len(cookie), moment)
+        if number not in REPLIES:
+            check(number)
+        return STATUSES[number]
+
+    def _set_all(self, pairs: Iterable[Tuple[str, str]], now: int) -> None:
+        """Insert the cookies of pairs of a URL and a header value, except those that are rejected or not valid."""
+        insert = LIBRARY.cookie_store_set
+        with self._lock:
+            self._cookies = None
+            for url, text in pairs:
+                page, cookie = url.encode(), text.encode()
+                number = insert(self._at, page, len(page), cookie, len(cookie), now)
+                if number not in REPLIES and number != Status.BAD_URL:
+                    check(number)
+
+    def header(self, url: Text, now: Optional[int] = None, *, same_site: bool = True, top_level: bool = False,
+               lax_by_default: bool = True) -> str:
+        """Return the value of the Cookie header of a request for url, or '' if none is to be sent.
+
+        The cookies are in the order of RFC 6265 5.4: longer paths first, then in creation order.
+        The value may hold control characters if a cookie did not come as a line of an HTTP header.
+
+        If same_site is false, the request comes from a page of another site, or from a page in a
+        frame of one: cookies with SameSite=Strict are left out, and those with SameSite=Lax unless
+        top_level is true, for a top-level navigation with a safe method. A cookie without a
+        SameSite attribute is treated as SameSite=Lax, or as None if lax_by_default is false. If
+        same_site is true, the other two arguments have no effect.
+
+        Raises BAD_URL.
+        """
+        page, moment, needed = _bytes(url), _moment(now), ctypes.c_size_t()
+        call, context = LIBRARY.cookie_store_get, []
+        if not same_site:
+            call, context = LIBRARY.cookie_store_get_cross_site, [bool(top_level), bool(lax_by_default)]
+        with self._lock:
+            number = call(self._at, page, len(page), moment, *context, self._buffer, len(self._buffer), needed)
+            if number == Status.NO_ROOM:
+                self._buffer = ctypes.create_string_buffer(needed.value)
+                number = call(self._at, page, len(page), moment, *context, self._buffer, len(self._buffer), needed)
+            check(number)
+            return ctypes.string_at(self._buffer, needed.value).decode('utf-8')
+
+    def remove(self, domain: Text, path: Text, name: Text) -> bool:
+        """Remove the cookie with this domain, path and name, expired or not.
+
+        The domain is without a leading dot. Return False if there is no such cookie.
+        """
+        key = [_bytes(domain), _bytes(path), _bytes(name)]
+        with self._lock:
+            self._cookies = None
+            number = LIBRARY.cookie_store_remove(self._at, key[0], len(key[0]), key[1], len(key[1]), key[2], len(key[2]))
+        if number != Status.NOT_FOUND:
+            check(number)
+        return bool(number == Status.OK)
+
+    def clear(self) -> None:
+        """Remove all cookies. The public suffix list and the limit stay, and a strict store stays strict."""
+        with self._lock:
+            self._cookies = None
+            check(LIBRARY.cookie_store_clear(self._at))
+
+    def remove_expired(self, now: Optional[int] = None) -> int:
+        """Remove the cookies that have expired at now, and return how many.
+
+        The others keep their order. For now and later times header() returns the same cookies as
+        before: it never returns an expired one.
+        """
+        moment, removed = _moment(now), ctypes.c_size_t()
+        with self._lock:
+            self._cookies = None
+            check(LIBRARY.cookie_store_remove_expired(self._at, moment, removed))
+        return removed.value
+
+    def __len__(self) -> int:
+        """Return the number of stored cookies, expired ones included."""
+        with self._lock:
+            return int(LIBRARY.cookie_store_count(self._at))
+
+    def count_unexpired(self, now: Optional[int] = None) -> int:
+        """Return the number of stored cookies that have not expired at now."""
+        moment = _moment(now)
+        with self._lock:
+            rows, _ = self._read_rows()
+        return sum(1 for row in ROW.iter_unpack(rows) if not row[5] or row[4] > moment)
+
+    def __iter__(self) -> Iterator[Cookie]:
+        return iter(self.cookies())
+
+    def cookies(self) -> List[Cookie]:
+        """Return a list of all cookies, expired ones included, in the order of the store.
+
+        The store keeps the cookies of the list until it changes, so that the next call is faster.
+        """
+        with self._lock:
+            if self._cookies is None:
+                self._cookies = _cookies_of(*self._read_rows())
+            return list(self._cookies)
+
+    def _sizes(self) -> Tuple[int, int]:
+        """Return the number of cookies, and the bytes of their strings."""
+        rows, texts = ctypes.c_size_t(), ctypes.c_size_t()
+        number = LIBRARY.cookie_store_rows(self._at, (Row * 1)(), 0, ctypes.create_string_buffer(1), 0, rows, texts)
+        if number != Status.NO_ROOM:
+            check(number)
+        return rows.value, texts.value
+
+    def _read_rows(self) -> Tuple[bytes, bytes]:
+        """Return the rows as the library writes them, and their strings."""
+        count, length = self._sizes()
+        rows, texts = (Row * max(1, count))(), ctypes.create_string_buffer(max(1, length))
+        check(LIBRARY.cookie_store_rows(self._at, rows, count, texts, length, ctypes.c_size_t(), ctypes.c_size_t()))
+        return ctypes.string_at(rows, count * ROW.size), ctypes.string_at(texts, length)
+
+    def save_json(self, now: Optional[int] = None, all: bool = False) -> str:
+        """Return the cookies as a list in JSON, followed by a line feed.
+
+        If all is true the list has every cookie; otherwise it has the persistent ones that have not
+        expired. Raises BAD_END if one of them expires before the year 0.
+        """
+        return self._save(LIBRARY.cookie_store_save_json, now, all)
+
+    def save_ron(self, now: Optional[int] = None, all: bool = False) -> str:
+        """Return the cookies as a list in RON. Arguments and errors are those of save_json()."""
+        return self._save(LIBRARY.cookie_store_save_ron, now, all)
+
+    def save_netscape(self, now: Optional[int] = None, all: bool = False) -> str:
+        """Return the cookies as a cookies.txt file, which curl and MozillaCookieJar read.
+
+        Arguments are those of save_json(). SameSite is not saved. Raises UNREPRESENTABLE if the format
+        cannot represent a cookie to be saved: it has a control character, it expires before 1970, its
+        domain is empty or begins with a dot, or, in a loaded store, its path does not begin with `/`, or
+        its name or value is not one that a header value has.
+        """
+        return self._save(LIBRARY.cookie_store_save_netscape, now, all, copies=1, others=40)
+
+    def _save(self, call: Callable[..., int], now: Optional[int], all: bool, *, copies: int = 2, others: int = 512) -> str:
+        """Return what a call writes. A cookie takes at most so many copies of its strings, and so many other bytes.
+
+        A cookie with many escaped characters may take more: then the list is written twice.
+        """
+        moment, needed = _moment(now), ctypes.c_size_t()
+        with self._lock:
+            count, length = self._sizes()
+            room = 4096 + copies * length + others * count
+            while True:
+                out = ctypes.create_string_buffer(room)
+                number = call(self._at, moment, all, out, room, needed)
+                if number != Status.NO_ROOM:
+                    break
+                room = needed.value
+        check(number)
+        return str(memoryview(out)[:needed.value], 'utf-8')
+
+    @classmethod
+    def load_json(cls, text: Text, now: Optional[int] = None, all: bool = False, *, strict: bool = False) -> CookieStore:
+        """Return a new store with the cookies of a list in JSON, as save_json() writes it.
+
+        If all is true it has every cookie of the list; otherwise it has the session cookies and the
+        persistent ones that have not expired. It has no public suffix list and no limit. If strict
+        is true, it follows the rules of set_strict() from then on.
+
+        Raises BAD_JSON, BAD_SHAPE, BAD_END, or PARSE if the string of a cookie is not one.
+        """
+        return cls._load(LIBRARY.cookie_store_load_json, text, now, all, strict)
+
+    @classmethod
+    def load_ron(cls, text: Text, now: Optional[int] = None, all: bool = False, *, strict: bool = False) -> CookieStore:
+        """Return a new store with the cookies of a list in RON, as save_ron() writes it.
+
+        See load_json(). Raises BAD_RON, BAD_END or PARSE.
+        """
+        return cls._load(LIBRARY.cookie_store_load_ron, text, now, all, strict)
+
+    @classmethod
+    def load_netscape(cls, text: Text, now: Optional[int] = None, all: bool = False, *, strict: bool = False) -> CookieStore:
+        """Return a new store with the cookies of a cookies.txt file, as curl and MozillaCookieJar write it.
+
+        See load_json(). has_path is true for all of them. Raises BadLine with the number of the first
+        malformed line.
+        """
+        line = ctypes.c_size_t()
+
+        def call(*arguments: Any) -> int:
+            return int(LIBRARY.cookie_store_load_netscape(*arguments, line))
+
+        try:
+            return cls._load(call, text, now, all, strict)
+        except CookieStoreError as error:
+            if error.status != Status.BAD_LINE:
+                raise
+        raise BadLine(line.value)
+
+    @classmethod
+    def _load(cls, call: Callable[..., int], text: Text, now: Optional[int], all: bool, strict: bool) -> CookieStore:
+        saved, moment, store = _bytes(text), _moment(now), cls()
+        LIBRARY.cookie_store_free(store._at)
+        check(call(store._at, *_random_key(), saved, len(saved), moment, all))
+        if strict:
+            store.set_strict(True)
+        return store
+
+    def copy(self) -> CookieStore:
+        """Return a copy of the store: its cookies, public suffix list and limit, and whether it is strict.
+
+        The cookies are passed through save_ron() and load_ron(), and so count as created in the
+        order of the store. Raises BAD_END if a cookie expires before the year 0.
+
+        copy.copy(), copy.deepcopy() and pickle copy a store in the same way.
+        """
+        return _restore(*self._state())
+
+    def __copy__(self) -> CookieStore:
+        return self.copy()
+
+    def __reduce__(self) -> Tuple[Callable[..., CookieStore], _State]:
+        return _restore, self._state()
+
+    def _state(self) -> _State:
+        return type(self), self.save_ron(all=True), self._strict, self._suffixes, self._limit
+
+
+def _restore(cls: Type[CookieStore], text: str, strict: bool, suffixes: Optional[bytes], limit: Optional[int]) -> CookieStore:
+    store = cls.load_ron(text, all=True, strict=strict)
+    if suffixes is not None:
+        store.use_suffixes(suffixes)
+    if limit is not None:
+        store.set_domain_limit(limit)
+    return store
+
+
+# A child of os.fork() has only the thread that called it. While that thread holds the locks of all stores, no other thread is
+# in a call, which the child would find half done.
+_fork_lock = threading.Lock()
+_stores: weakref.WeakSet[CookieStore] = weakref.WeakSet()
+_held: List[threading.Lock] = []
+
+
+def _before_fork() -> None:
+    _fork_lock.acquire()
+    for store in list(_stores):
+        store._lock.acquire()
+        _held.append(store._lock)
+
+
+def _after_fork() -> None:
+    while _held:
+        _held.pop().release()
+    _fork_lock.release()
+
+
+os.register_at_fork(before=_before_fork, after_in_parent=_after_fork, after_in_child=_after_fork)

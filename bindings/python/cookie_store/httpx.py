@@ -1,0 +1,44 @@
+"""The header of a cookie store for clients of httpx."""
+from __future__ import annotations
+
+import http.cookiejar
+from typing import Union
+
+import httpx
+
+from ._messages import header_for, receive
+from ._store import CookieStore
+
+
+def use_store(client: Union[httpx.Client, httpx.AsyncClient], store: CookieStore) -> None:
+    """Let a client store the cookies of responses in this store, and send its Cookie header.
+
+        with httpx.Client(follow_redirects=True) as client:
+            use_store(client, CookieStore())
+
+    It adds event hooks to the client. client.cookies is then a jar that stays empty. A cookie that
+    is passed to a single request is not sent. Set it in the store.
+    """
+    def before(request: httpx.Request) -> None:
+        request.headers.pop('Cookie', None)
+        header = header_for(store, str(request.url))
+        if header:
+            request.headers.encoding = 'utf-8'  # it may be that of earlier headers, ASCII
+            request.headers['Cookie'] = header
+
+    def after(response: httpx.Response) -> None:
+        for name, value in response.headers.raw:
+            if name.lower() == b'set-cookie':
+                receive(store, str(response.request.url), value)
+
+    async def async_before(request: httpx.Request) -> None:
+        before(request)
+
+    async def async_after(response: httpx.Response) -> None:
+        after(response)
+
+    is_async = isinstance(client, httpx.AsyncClient)
+    stays_empty = http.cookiejar.CookieJar(http.cookiejar.DefaultCookiePolicy(allowed_domains=[]))
+    client.cookies = stays_empty  # type: ignore[assignment]
+    client.event_hooks['request'].append(async_before if is_async else before)
+    client.event_hooks['response'].append(async_after if is_async else after)

@@ -1,0 +1,86 @@
+"""Compares numbers, structs and signatures with cookie_store.h and with the proved functions."""
+import ctypes
+import pathlib
+import re
+import unittest
+
+from cookie_store import Status
+from cookie_store._library import ROW, SIGNATURES, Row, Store
+
+REPOSITORY = pathlib.Path(__file__).resolve().parents[3]
+HEADER = REPOSITORY / 'bindings' / 'c' / 'cookie_store.h'
+PROVED = REPOSITORY / 'crates' / 'cookie_store_c' / 'src'
+
+
+class DeclarationTests(unittest.TestCase):
+    """cookie_store.h agrees with the module, and with the proved functions."""
+
+    TYPES = {'cookie_store *': ctypes.POINTER(Store), 'cookie_store_row *': ctypes.POINTER(Row),
+             'const char *': ctypes.c_char_p, 'char *': ctypes.POINTER(ctypes.c_char), 'size_t': ctypes.c_size_t,
+             'size_t *': ctypes.POINTER(ctypes.c_size_t), 'int64_t': ctypes.c_int64, 'bool': ctypes.c_bool,
+             'void *': ctypes.c_void_p, 'void': None, 'enum cookie_store_status': ctypes.c_int}
+
+    def setUp(self):
+        self.text = re.sub(r'/\*.*?\*/', '', HEADER.read_text(), flags=re.S)
+
+    def declaration(self, text):
+        """Return name and type of a declaration."""
+        kind, star, name = re.fullmatch(r'\s*([\w ]+?)\s*(\*?)(\w+)\s*', text).groups()
+        return name, self.TYPES[f'{kind} {star}'.strip()]
+
+    def test_statuses(self):
+        declared = {name: int(number) for name, number in re.findall(r'COOKIE_STORE_(\w+) = (\d+)', self.text)}
+        self.assertEqual(declared, {status.name: status.value for status in Status})
+
+    def test_structs(self):
+        for name, own in [('cookie_store', Store), ('cookie_store_row', Row)]:
+            body = re.search(r'typedef struct %s \{(.*?)\}' % name, self.text, re.S).group(1)
+            self.assertEqual([self.declaration(line) for line in body.split(';')[:-1]], own._fields_, name)
+        self.assertEqual((ctypes.sizeof(Store), ctypes.sizeof(Row)), (16, 48))
+
+    def test_layout(self):
+        """ROW reads the fields of Row."""
+        for flag in range(5):
+            fields = (1, 2**32, 3, 2**63, -5, *(at == flag for at in range(5)))
+            self.assertEqual(list(ROW.iter_unpack(bytes(Row(*fields)))), [fields])
+
+    def test_signatures(self):
+        calls = re.findall(r'^(enum cookie_store_status|void|size_t) (cookie_store_\w+)\((.*?)\);', self.text, re.M | re.S)
+        declared = {name: (self.TYPES[result], [self.declaration(word)[1] for word in arguments.split(',')])
+                    for result, name, arguments in calls}
+        self.assertEqual({name: declared[name] for name in SIGNATURES}, SIGNATURES)
+
+    # The C types of each Rattle type. C functions have no parameter for the allocator.
+    IN_C = {'Global': [], '&mut StoreHandle': ['cookie_store *'], '&[u8]': ['const char *', 'size_t'],
+            '&mut [u8]': ['char *', 'size_t'], '&mut [CookieRow]': ['cookie_store_row *', 'size_t'],
+            '&mut usize': ['size_t *'], 'usize': ['size_t'], 'i64': ['int64_t'],
+            'bool': ['bool'], 'u8': ['bool'], 'u32': ['enum cookie_store_status'], '': ['void']}
+
+    def in_c(self, words):
+        return [self.TYPES[kind] for word in words for kind in self.IN_C[word.strip()]]
+
+    def test_proved_signatures(self):
+        text = ''.join((PROVED / name).read_text() for name in ('exports.rt', 'list_exports.rt'))
+        exports = re.findall(r'#\[unsafe\(no_mangle\)\]\npub extern "C" fn (\w+)\((.*?)\)(?: -> (\w+))?\n', text, re.S)
+        proved = {name: (self.in_c([result])[0], self.in_c(re.findall(r'\w+: ([^,]+)', arguments)))
+                  for name, arguments, result in exports}
+        self.assertEqual({name: proved[name] for name in SIGNATURES}, SIGNATURES)
+
+    def test_proved_statuses(self):
+        declared = re.findall(r'Status::(\w+) => (\d+),', (PROVED / 'status.rt').read_text())
+        numbers = {re.sub(r'(?<=[a-z])(?=[A-Z])', '_', name).upper(): int(number) for name, number in declared}
+        numbers['OK'] = numbers.pop('DONE')
+        self.assertEqual(numbers, {status.name: status.value for status in Status})
+
+    def test_proved_structs(self):
+        body = re.search(r'pub struct CookieRow \{(.*?)\}', (PROVED / 'cookie_row.rt').read_text(), re.S).group(1)
+        fields = [(name, self.in_c([kind])[0]) for name, kind in re.findall(r'pub (\w+): (\w+),', body)]
+        self.assertEqual(fields, Row._fields_)
+        self.assertRegex((PROVED / 'handle.rt').read_text(),
+                         r'#\[repr\(C\)\]\npub struct StoreHandle \{\n    live: bool,\n(?: *///.*\n)*    pub is_strict: bool,\n'
+                         r'    pub store_ptr: StorePtr,')
+        self.assertRegex((PROVED / 'store_ptr.rt').read_text(), r'#\[repr\(C\)\]\npub struct StorePtr \{\n    at: \*mut u8,')
+
+
+if __name__ == '__main__':
+    unittest.main()

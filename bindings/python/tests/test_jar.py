@@ -1,0 +1,197 @@
+"""Tests of StoreJar as a http.cookiejar.CookieJar."""
+import copy
+import http.cookiejar
+import time
+import unittest
+import urllib.request
+
+from support import PAGE, SECONDS, Response, jar_of, keys, python_cookie, sent
+
+from cookie_store import CookieStore, CookieStoreError, Status, StoreJar
+
+
+class NoCookies(http.cookiejar.CookiePolicy):
+    """A policy that rejects everything."""
+    netscape, rfc2965, hide_cookie2 = True, False, False
+
+    def set_ok(self, cookie, request):
+        return False
+
+    def return_ok(self, cookie, request):
+        return False
+
+    def domain_return_ok(self, domain, request):
+        return False
+
+    def path_return_ok(self, path, request):
+        return False
+
+
+# Cookies for set_cookie, a URL with the Cookie header of its request, and a URL without one.
+TAKEN = [
+    (python_cookie('a.example'), 'http://a.example/', 'a=1', 'http://b.a.example/'),
+    (python_cookie('.a.example'), 'http://b.a.example/', 'a=1', 'http://example/'),
+    (python_cookie('localhost.local'), 'http://localhost/', 'a=1', 'http://a.example/'),
+    (python_cookie('[::1].local'), 'http://[::1]/', 'a=1', 'http://localhost/'),
+    (python_cookie('127.0.0.1', '/d'), 'http://127.0.0.1/d/x', 'a=1', 'http://127.0.0.1/e'),
+    (python_cookie('a.example', '/d', path_specified=False), 'http://a.example/d/x', 'a=1', 'http://a.example/dx'),
+    (python_cookie('a.example', '/d;x', path_specified=False), 'http://a.example/d;x/y', 'a=1', 'http://a.example/d'),
+    (python_cookie('a.example', '/d e', path_specified=False), 'http://a.example/', None, 'http://a.example/d'),
+    (python_cookie('a.example', secure=True, rest={'HttpOnly': None}), 'https://a.example/', 'a=1', 'http://a.example/'),
+    (python_cookie('a.example', value=None), 'http://a.example/', 'a=', 'http://b.example/'),
+    (python_cookie('a.example', expires=4102444800), 'http://a.example/', 'a=1', 'http://b.example/'),
+    (python_cookie('a.example', expires=1), 'http://a.example/', None, 'http://b.example/'),
+]
+
+NOT_TAKEN = [
+    (python_cookie(''), Status.BAD_URL),
+    (python_cookie('a b'), Status.BAD_URL),
+    (python_cookie('a.example', name=''), Status.PARSE),
+    (python_cookie('a.example', name='a=b'), Status.PARSE),
+    (python_cookie('a.example', value='1; Domain=example'), Status.PARSE),
+    (python_cookie('a.example', path='/;'), Status.PARSE),
+]
+
+
+class JarTests(unittest.TestCase):
+    """Tests of each public method of http.cookiejar.CookieJar on a StoreJar."""
+
+    def test_strict(self):
+        jar, request = StoreJar(CookieStore(strict=True)), urllib.request.Request(PAGE)
+        self.assertEqual(jar.make_cookies(Response('s=1; Secure'), request), [])
+        jar.extract_cookies(Response('s=1; Secure', 'a=1'), request)
+        self.assertEqual([cookie.name for cookie in jar], ['a'])
+
+    def test_same_site(self):
+        """A cookie that is set keeps its SameSite attribute."""
+        for same_site, wanted in [('Strict', ''), ('Lax', ''), ('None', 'a=1'), ('?;', 'a=1')]:
+            jar = StoreJar()
+            jar.set_cookie(python_cookie('a.example', rest={'SameSite': same_site}))
+            self.assertEqual(jar.store.header(PAGE, same_site=False, lax_by_default=False), wanted, same_site)
+
+    def test_shown(self):
+        jar = jar_of('a=1', 'b=2; Domain=a.example; Path=/; Secure; HttpOnly; Max-Age=3600', 'c=3; Max-Age=0')
+        first, second = jar
+        self.assertEqual((first.domain, first.domain_specified, first.path, first.path_specified, first.expires, first.discard),
+                         ('a.example', False, '/d', False, None, True))
+        self.assertEqual((second.domain, second.domain_specified, second.path, second.path_specified, second.discard),
+                         ('.a.example', True, '/', True, False))
+        self.assertEqual((first.secure, second.secure), (False, True))
+        self.assertLess(abs(second.expires - time.time() - 3600), SECONDS)
+        self.assertEqual((first.has_nonstandard_attr('HttpOnly'), second.has_nonstandard_attr('HttpOnly')), (False, True))
+        self.assertEqual((len(jar), bool(jar), bool(StoreJar())), (2, True, False))
+        self.assertEqual(str(jar), '<StoreJar[<Cookie a=1 for a.example/d>, <Cookie b=2 for .a.example/>]>')
+        self.assertIn("name='a'", repr(jar))
+
+    def test_header(self):
+        jar = jar_of('a=1', 'b=2; Path=/')
+        self.assertEqual(sent(jar, PAGE), 'a=1; b=2')
+        self.assertIsNone(sent(jar, 'http://b.example/'))
+        request = urllib.request.Request(PAGE, headers={'Cookie': 'own=1'})
+        jar.add_cookie_header(request)
+        self.assertEqual(request.get_header('Cookie'), 'own=1')
+
+    def test_bad_headers(self):
+        """They raise nothing."""
+        jar = jar_of('v=\xff', 'a=1', 'no pair')
+        self.assertEqual(sent(jar, PAGE), 'a=1')
+        bad = urllib.request.Request('http://a b/')
+        jar.extract_cookies(Response('c=3'), bad)
+        jar.add_cookie_header(bad)
+        self.assertIsNone(bad.get_header('Cookie'))
+        self.assertEqual(len(jar), 1)
+
+    def test_bytes(self):
+        """Strings of http.client, one byte a character, are sent as they were received."""
+        wire = 'n=gr\u00fcn'.encode().decode('latin-1')
+        jar = jar_of(wire)
+        self.assertEqual(jar.store.header(PAGE), 'n=gr\u00fcn')
+        self.assertEqual(sent(jar, PAGE), wire)
+        self.assertEqual([cookie.value for cookie in jar], [wire[2:]])
+        jar.clear('a.example', '/d', 'n')
+        self.assertEqual(len(jar), 0)
+
+    def test_make_cookies(self):
+        jar = StoreJar()
+        response = Response('a=1', 'b=2; Domain=b.example', 'c=3; Path=/', 'd=4', 'd=; Max-Age=0')
+        made = jar.make_cookies(response, urllib.request.Request(PAGE))
+        self.assertEqual([(cookie.name, cookie.path) for cookie in made], [('a', '/d'), ('c', '/')])
+        self.assertEqual(len(jar), 0)
+
+    def test_set_cookie(self):
+        for cookie, url, wanted, without in TAKEN:
+            with self.subTest(repr(cookie)):
+                jar = StoreJar()
+                jar.set_cookie(cookie)
+                self.assertEqual((sent(jar, url), sent(jar, without)), (wanted, None))
+        for cookie, status in NOT_TAKEN:
+            with self.subTest(repr(cookie)), self.assertRaises(CookieStoreError) as raised:
+                StoreJar().set_cookie(cookie)
+            self.assertEqual(raised.exception.status, status, repr(cookie))
+
+    def test_set_again(self):
+        """Setting the cookies of a jar in another one gives the same jar."""
+        jar = jar_of('a=1', 'b=2; Domain=a.example; Path=/; Secure; HttpOnly; Max-Age=3600', 'c=3; Path=/d.e')
+        jar.extract_cookies(Response('d=4'), urllib.request.Request('http://web/'))
+        other = StoreJar()
+        for cookie in jar:
+            other.set_cookie(copy.copy(cookie))
+        self.assertEqual(other.store.cookies(), jar.store.cookies())
+
+    def test_set_cookie_if_ok(self):
+        rows = [('its own', python_cookie('a.example'), 1), ('of its domain', python_cookie('.a.example'), 1),
+                ('of another host', python_cookie('b.example'), 0), ('of another domain', python_cookie('.b.example'), 0),
+                ('of a path', python_cookie('a.example', '/x', path_specified=False), 1)]
+        for name, cookie, count in rows:
+            jar = StoreJar()
+            jar.set_cookie_if_ok(cookie, urllib.request.Request(PAGE))
+            self.assertEqual(keys(jar), [(cookie.domain, cookie.path, 'a')] * count, name)
+
+    def test_clear(self):
+        texts = ['a=1', 'b=2', 'c=3; Path=/', 'd=4; Domain=a.example', 'e=5; Max-Age=0']
+        rows = [((), ''), (('a.example',), 'd'), (('.a.example',), 'abc'), (('a.example', '/d'), 'cd'),
+                (('a.example', '/d', 'b'), 'acd')]
+        for words, wanted in rows:
+            jar = jar_of(*texts)
+            jar.clear(*words)
+            self.assertEqual(''.join(sorted(cookie.name for cookie in jar)), wanted, words)
+        jar = jar_of(*texts)
+        for words in [('b.example',), ('a.example', '/x'), ('a.example', '/d', 'e'), ('.a.example', '/d', 'a')]:
+            with self.subTest(words), self.assertRaises(KeyError):
+                jar.clear(*words)
+        for words in [(None, '/d'), (None, None, 'a'), ('a.example', None, 'a')]:
+            with self.subTest(words), self.assertRaises(ValueError):
+                jar.clear(*words)
+        self.assertEqual(len(jar), 4)
+
+    def test_clear_some(self):
+        jar = jar_of('a=1', 'b=2; Max-Age=3600', 'c=3', 'c=3; Max-Age=0')
+        self.assertEqual(len(jar.store), 3)
+        jar.clear_expired_cookies()
+        self.assertEqual((len(jar.store), len(jar)), (2, 2))
+        jar.clear_session_cookies()
+        self.assertEqual([cookie.name for cookie in jar], ['b'])
+
+    def test_copy(self):
+        jar = jar_of('a=1', 'b=2; Max-Age=3600')
+        for other in (jar.copy(), copy.copy(jar)):
+            self.assertEqual(keys(other), keys(jar))
+            other.clear()
+            self.assertEqual(len(jar), 2)
+
+    def test_policy(self):
+        jar = jar_of('a=1')
+        jar.set_policy(NoCookies())
+        jar.extract_cookies(Response('b=2'), urllib.request.Request(PAGE))
+        self.assertEqual((keys(jar), sent(jar, PAGE)), ([('a.example', '/d', 'a')], None))
+        jar = StoreJar(policy=http.cookiejar.DefaultCookiePolicy(blocked_domains=['b.example']))
+        for url in (PAGE, 'http://b.example/'):
+            jar.extract_cookies(Response('a=1; Path=/', 'b=2'), urllib.request.Request(url))
+        self.assertEqual((sent(jar, PAGE), sent(jar, 'http://b.example/')), ('b=2; a=1', None))
+        self.assertEqual(len(jar.copy()), 2)
+        jar.extract_cookies(Response('a=1; Path=/; Max-Age=0'), urllib.request.Request(PAGE))
+        self.assertEqual(sent(jar, PAGE), 'b=2')
+
+
+if __name__ == '__main__':
+    unittest.main()

@@ -1,0 +1,337 @@
+"""Tests of CookieStore: tables list the calls with their statuses."""
+import gc
+import pickle
+import time
+import unittest
+from unittest import mock
+
+from support import NOW, PAGE, SECONDS, in_threads
+
+from cookie_store import BadRule, Cookie, CookieStore, CookieStoreError, Status
+from cookie_store._library import LIBRARY
+
+FIRST, LAST = -377705116800, 253402300799  # the years -9999 and 9999
+
+# Set one after the other in one store, with a public suffix list of the one rule `example`.
+SETS = [
+    ('http://a.example/d/page', 'a=1', Status.INSERTED),
+    ('http://a.example/d/page', 'a=2', Status.UPDATED),
+    ('http://a.example/d/page', 'a=3; Max-Age=0', Status.EXPIRED_EXISTING),
+    ('http://a.example/d/page', 'new=1; Max-Age=0', Status.EXPIRED),
+    ('http://a.example/d/page', 'h=1; HttpOnly', Status.INSERTED),
+    ('ftp://a.example/d/page', 'h=2', Status.NON_HTTP_SCHEME),
+    ('ftp://a.example/d/page', 'i=1; HttpOnly', Status.NON_HTTP_SCHEME),
+    ('data:x', 'a=1', Status.NON_RELATIVE_SCHEME),
+    ('http://a.example/', 'a=1; Domain=b.example', Status.DOMAIN_MISMATCH),
+    ('http://a.example/', 'no pair', Status.PARSE),
+    (b'http://a.example/', b'', Status.PARSE),
+    ('http://a.example/', 'a=1; Domain=example', Status.PUBLIC_SUFFIX),
+    ('http://example/', 'a=1; Domain=example', Status.INSERTED),
+]
+
+# Set one after the other in one strict store.
+STRICT_SETS = [
+    (PAGE, 'a=1', Status.INSERTED),
+    (PAGE, 'a=2; Max-Age=0', Status.EXPIRED_EXISTING),
+    (PAGE, 'c=\x01', Status.CONTROL_CHARACTER),
+    (PAGE, 'c=' + 'v' * 4095, Status.INSERTED),
+    (PAGE, 'c=' + 'v' * 4096, Status.TOO_LONG),
+    (PAGE, 'no pair', Status.PARSE),
+    (PAGE, 's=1; Secure', Status.INSECURE_URL),
+    ('https://a.example/d/page', 'n=1; SameSite=None', Status.INSECURE_SAME_SITE_NONE),
+    ('https://a.example/d/page', '__Host-p=1; Secure', Status.PREFIX),
+    ('https://a.example/d/page', 's=1; Secure', Status.INSERTED),
+    (PAGE, 's=2', Status.SECURE_STORED),
+]
+
+# Arguments of header() for a request from another site, and the cookies that it has: with SameSite
+# None, without, with Lax, and with Strict.
+CROSS_SITE = [
+    ({}, 'n'),
+    ({'lax_by_default': False}, 'nu'),
+    ({'top_level': True}, 'nul'),
+    ({'top_level': True, 'lax_by_default': False}, 'nul'),
+    ({'same_site': True}, 'nuls'),
+]
+
+JSON = '[{"raw_cookie":"%s","path":["/",false],"domain":{"HostOnly":"a.example"},"expires":%s}]'
+RON = '[(raw_cookie: "%s", path: ("/", false), domain: HostOnly("a.example"), expires: %s)]'
+
+# Calls with invalid arguments, and the status that they raise.
+RAISES = [
+    ('set, no URL', lambda store: store.set('no url', 'a=1'), Status.BAD_URL),
+    ('set, an empty URL', lambda store: store.set('', 'a=1'), Status.BAD_URL),
+    ('set, URL not UTF-8', lambda store: store.set(b'\xff', 'a=1'), Status.NOT_UTF8),
+    ('set, text not UTF-8', lambda store: store.set(PAGE, b'a=\xff'), Status.NOT_UTF8),
+    ('set, a lone surrogate', lambda store: store.set(PAGE, 'a=\udcff'), Status.NOT_UTF8),
+    ('set, before the years', lambda store: store.set(PAGE, 'a=1', FIRST - 1), Status.BAD_MOMENT),
+    ('set, after the years', lambda store: store.set(PAGE, 'a=1', LAST + 1), Status.BAD_MOMENT),
+    ('set, a moment of more than 64 bits', lambda store: store.set(PAGE, 'a=1', 2**64), Status.BAD_MOMENT),
+    ('header, no URL', lambda store: store.header('no url'), Status.BAD_URL),
+    ('header, not UTF-8', lambda store: store.header(b'\xff'), Status.NOT_UTF8),
+    ('header, after the years', lambda store: store.header(PAGE, LAST + 1), Status.BAD_MOMENT),
+    ('remove, domain not UTF-8', lambda store: store.remove(b'\xff', '/', 'a'), Status.NOT_UTF8),
+    ('remove, path not UTF-8', lambda store: store.remove('a.example', b'\xff', 'a'), Status.NOT_UTF8),
+    ('remove, name not UTF-8', lambda store: store.remove('a.example', '/', b'\xff'), Status.NOT_UTF8),
+    ('remove_expired, before the years', lambda store: store.remove_expired(FIRST - 1), Status.BAD_MOMENT),
+    ('remove_expired, after the years', lambda store: store.remove_expired(LAST + 1), Status.BAD_MOMENT),
+    ('suffixes, not UTF-8', lambda store: store.use_suffixes(b'\xff'), Status.NOT_UTF8),
+    ('suffixes, no rule', lambda store: store.use_suffixes('example\na..b\n'), Status.BAD_RULE),
+    ('save cookies.txt, after the years', lambda store: store.save_netscape(LAST + 1), Status.BAD_MOMENT),
+    ('load cookies.txt, not UTF-8', lambda store: CookieStore.load_netscape(b'\xff'), Status.NOT_UTF8),
+    ('load cookies.txt, after the years', lambda store: CookieStore.load_netscape('', LAST + 1), Status.BAD_MOMENT),
+    ('load cookies.txt with no cookie', lambda store: CookieStore.load_netscape('\na=1\n'), Status.BAD_LINE),
+    ('save JSON, after the years', lambda store: store.save_json(LAST + 1), Status.BAD_MOMENT),
+    ('save RON, after the years', lambda store: store.save_ron(LAST + 1), Status.BAD_MOMENT),
+    ('load JSON, not UTF-8', lambda store: CookieStore.load_json(b'\xff'), Status.NOT_UTF8),
+    ('load JSON, after the years', lambda store: CookieStore.load_json('[]', LAST + 1), Status.BAD_MOMENT),
+    ('load no JSON', lambda store: CookieStore.load_json('['), Status.BAD_JSON),
+    ('load JSON that is no list', lambda store: CookieStore.load_json('{}'), Status.BAD_SHAPE),
+    ('load JSON with no end', lambda store: CookieStore.load_json(JSON % ('a=1', '{"AtUtc":"soon"}')), Status.BAD_END),
+    ('load JSON with no cookie', lambda store: CookieStore.load_json(JSON % ('a', '"SessionEnd"')), Status.PARSE),
+    ('load RON, not UTF-8', lambda store: CookieStore.load_ron(b'\xff'), Status.NOT_UTF8),
+    ('load RON, after the years', lambda store: CookieStore.load_ron('[]', LAST + 1), Status.BAD_MOMENT),
+    ('load no RON', lambda store: CookieStore.load_ron('{}'), Status.BAD_RON),
+    ('load RON with no end', lambda store: CookieStore.load_ron(RON % ('a=1', 'AtUtc("soon")')), Status.BAD_END),
+    ('load RON with no cookie', lambda store: CookieStore.load_ron(RON % ('a', 'SessionEnd')), Status.PARSE),
+]
+
+# Calls that raise NO_STORE after close().
+CLOSED = [
+    ('set', lambda store: store.set(PAGE, 'a=1')),
+    ('header', lambda store: store.header(PAGE)),
+    ('use_suffixes', lambda store: store.use_suffixes('')),
+    ('header, cross-site', lambda store: store.header(PAGE, same_site=False)),
+    ('set_domain_limit', lambda store: store.set_domain_limit(1)),
+    ('set_strict', lambda store: store.set_strict(True)),
+    ('remove', lambda store: store.remove('', '', '')),
+    ('clear', lambda store: store.clear()),
+    ('remove_expired', lambda store: store.remove_expired()),
+    ('cookies', lambda store: store.cookies()),
+    ('save_json', lambda store: store.save_json()),
+    ('save_ron', lambda store: store.save_ron()),
+    ('save_netscape', lambda store: store.save_netscape()),
+    ('copy', lambda store: store.copy()),
+]
+
+
+def filled(*texts, url=PAGE, now=NOW):
+    """Return a store with these cookies."""
+    store = CookieStore()
+    for text in texts:
+        store.set(url, text, now)
+    return store
+
+
+class StoreTests(unittest.TestCase):
+    """Tests of each method of CookieStore."""
+
+    def assert_raises(self, name, status, call, *handed):
+        with self.subTest(name), self.assertRaises(CookieStoreError) as raised:
+            call(*handed)
+        self.assertEqual(raised.exception.status, status, name)
+        self.assertEqual(pickle.loads(pickle.dumps(raised.exception)).status, status, name)
+
+    def test_set(self):
+        with CookieStore() as store:
+            store.use_suffixes('// a comment\nexample\n')
+            for url, text, wanted in SETS:
+                self.assertIs(store.set(url, text, NOW), wanted, f'{url} {text}')
+            self.assertEqual(store.header(PAGE, NOW), 'h=1')
+
+    def test_raises(self):
+        with filled('a=1') as store:
+            for name, call, status in RAISES:
+                self.assert_raises(name, status, call, store)
+            self.assertEqual(store.header(PAGE, NOW), 'a=1')
+
+    def test_strict(self):
+        with CookieStore(strict=True) as store:
+            for url, text, wanted in STRICT_SETS:
+                self.assertIs(store.set(url, text, NOW), wanted, f'{url} {text[:20]}')
+            self.assertIs(store.copy().set(PAGE, 's=2', NOW), Status.SECURE_STORED)
+            self.assertTrue(store.strict and store.copy().strict)
+            self.assertIs(CookieStore.load_json('[]', strict=True).set(PAGE, 's=1; Secure', NOW), Status.INSECURE_URL)
+            store.set_strict(False)
+            self.assertIs(store.set(PAGE, 's=2', NOW), Status.UPDATED)
+        self.assertIs(CookieStore().set(PAGE, 's=1; Secure', NOW), Status.INSERTED)
+
+    def test_cross_site(self):
+        store = filled('n=1; SameSite=None; Path=/d', 'u=1; Path=/d', 'l=1; SameSite=Lax', 's=1; SameSite=Strict')
+        for words, wanted in CROSS_SITE:
+            header = store.header(PAGE, NOW, **{'same_site': False, **words})
+            self.assertEqual(header, '; '.join(f'{name}=1' for name in wanted), words)
+        store.set(PAGE, 'n=' + 'v' * 5000 + '; SameSite=None', NOW)
+        self.assertEqual(store.header(PAGE, NOW, same_site=False), 'n=' + 'v' * 5000)
+
+    def test_types(self):
+        with CookieStore() as store:
+            for name, call in [('float', lambda: store.set(PAGE, 'a=1', 1.5)), ('None', lambda: store.set(PAGE, None)),
+                               ('number', lambda: store.header(1))]:
+                with self.subTest(name), self.assertRaises((TypeError, AttributeError)):
+                    call()
+
+    def test_bad_rule(self):
+        with CookieStore() as store, self.assertRaises(BadRule) as raised:
+            store.use_suffixes('example\na..b\n')
+        self.assertEqual((raised.exception.line, str(raised.exception)), (2, 'bad rule in line 2'))
+
+    def test_no_memory(self):
+        no_memory = mock.patch.object(LIBRARY, 'cookie_store_set', lambda *_: Status.NO_MEMORY)
+        with CookieStore() as store, no_memory, self.assertRaises(MemoryError) as raised:
+            store.set(PAGE, 'a=1')
+        self.assertIs(raised.exception.status, Status.NO_MEMORY)
+
+    def test_closed(self):
+        store = filled('a=1')
+        self.assertEqual(len(store.cookies()), 1)
+        store.close()
+        store.close()
+        self.assertEqual(len(store), 0)
+        for name, call in CLOSED:
+            self.assert_raises(name, Status.NO_STORE, call, store)
+
+    def test_freed(self):
+        store = filled('a=1')
+        finalizer = store._finalizer
+        del store
+        gc.collect()
+        self.assertFalse(finalizer.alive)
+
+    def test_rows(self):
+        store = filled('a=1', 'g=gr\u00fcn; Domain=.A.example; Path=/; Max-Age=60; Secure; HttpOnly',
+                       'b=; Expires=Thu, 01 Jan 2026 00:00:05 GMT')
+        self.assertEqual(list(store), [
+            Cookie('a.example', '/d', 'a', '1', None, True, False, False, False),
+            Cookie('a.example', '/d', 'b', '', NOW + 5, True, False, False, False),
+            Cookie('a.example', '/', 'g', 'gr\u00fcn', NOW + 60, False, True, True, True),
+        ])
+        self.assertEqual(store.header('https://a.example/d/page', NOW + 4), 'a=1; b=; g=gr\u00fcn')
+        self.assertEqual(store.header('https://a.example/d/page', NOW + 5), 'a=1; g=gr\u00fcn')
+        self.assertEqual(store.header('https://b.a.example/', NOW), 'g=gr\u00fcn')
+        self.assertEqual(store.header('http://b.a.example/', NOW), '')
+        self.assertEqual(CookieStore().cookies(), [])
+
+    def test_cookies_after_changes(self):
+        """cookies() keeps its list until the store changes."""
+        rows = [('set', lambda store: store.set(PAGE, 'c=3', NOW), 'a1 b2 c3'),
+                ('update', lambda store: store.set(PAGE, 'b=4', NOW), 'a1 b4'),
+                ('remove', lambda store: store.remove('a.example', '/d', 'a'), 'b2'),
+                ('remove_expired', lambda store: store.remove_expired(NOW + 60), 'b2'),
+                ('clear', lambda store: store.clear(), ''),
+                ('list', lambda store: store.cookies().clear(), 'a1 b2')]
+        for name, change, wanted in rows:
+            store = filled('a=1; Max-Age=60', 'b=2')
+            self.assertEqual(len(store.cookies()), 2)
+            change(store)
+            self.assertEqual(' '.join(f'{row.name}{row.value}' for row in store), wanted, name)
+
+    def test_order(self):
+        """Longer paths come first, then creation order counts."""
+        store = filled('b=2; Path=/', 'a=1', 'd=4; Domain=example', 'c=3; Path=/')
+        self.assertEqual(store.header(PAGE, NOW), 'a=1; d=4; b=2; c=3')
+
+    def test_domain_limit(self):
+        store = CookieStore()
+        for limit in (0, -1):
+            self.assert_raises(f'limit {limit}', Status.BAD_LIMIT, store.set_domain_limit, limit)
+        store.set_domain_limit(2**70)
+        store.set_domain_limit(2)
+        for text in ('a=1', 'b=2', 'a=3', 'c=4'):
+            store.set(PAGE, text, NOW)
+        self.assertEqual(store.header(PAGE, NOW), 'b=2; c=4')
+        other = store.copy()
+        other.set(PAGE, 'd=5', NOW)
+        self.assertEqual((other.header(PAGE, NOW), store.header(PAGE, NOW)), ('c=4; d=5', 'b=2; c=4'))
+
+    def test_remove(self):
+        store = filled('a=1', 'b=2', 'c=3')
+        self.assertIs(store.remove('a.example', '/d', 'a'), True)
+        self.assertIs(store.remove('a.example', '/d', 'a'), False)
+        self.assertEqual((len(store), store.header(PAGE, NOW)), (2, 'b=2; c=3'))
+        store.clear()
+        self.assertEqual((len(store), store.cookies()), (0, []))
+
+    def test_remove_expired(self):
+        store = filled('a=1; Max-Age=60', 's=2', 'b=3; Path=/; Max-Age=60', 'c=4; Max-Age=61', 'd=5', 'd=6; Max-Age=0')
+        rows = [(NOW - 1, 1, 'ascb'), (NOW + 59, 0, 'ascb'), (NOW + 60, 2, 'sc'), (NOW + 60, 0, 'sc'), (LAST, 1, 's')]
+        for now, removed, left in rows:
+            self.assertEqual(store.count_unexpired(now), len(left), now)
+            self.assertEqual((store.remove_expired(now), ''.join(row.name for row in store)), (removed, left), now)
+        store.set(PAGE, 'e=7; Max-Age=1', int(time.time()) - 1)
+        self.assertEqual((store.remove_expired(), store.header(PAGE)), (1, 's=2'))
+
+    def test_long(self):
+        """Results that are longer than the initial buffers."""
+        store = filled(*(f'c{number}={"v" * 200}' for number in range(100)))
+        wanted = '; '.join(f'c{number}={"v" * 200}' for number in range(100))
+        self.assertEqual(store.header(PAGE, NOW), wanted)
+        self.assertEqual('; '.join(f'{row.name}={row.value}' for row in store), wanted)
+        self.assertEqual(CookieStore.load_json(store.save_json(NOW, all=True), NOW).header(PAGE, NOW), wanted)
+
+    def test_many_cookies_are_saved_by_one_call(self):
+        store, calls = CookieStore(), []
+        for number in range(1000):
+            store.set(PAGE, f'name{number}=value of the cookie {number}; Path=/a/{number}', NOW)
+
+        def save(*arguments):
+            calls.append(arguments)
+            return LIBRARY.cookie_store_save_json(*arguments)
+
+        self.assertEqual(store._save(save, NOW, True), store.save_json(NOW, all=True))
+        self.assertEqual(len(calls), 1)
+
+    def test_lists(self):
+        store = filled('a=1; Max-Age=60', 'b=2', 'c=3; Max-Age=90')
+        forms = [('JSON', CookieStore.save_json, CookieStore.load_json), ('RON', CookieStore.save_ron, CookieStore.load_ron)]
+        saved = [('all', {'all': True}, 'abc'), ('those that stay', {}, 'ac'), ('later', {'now': NOW + 60}, 'c')]
+        loaded = [('all', {'all': True}, 'abc'), ('those that stand', {}, 'abc'), ('later', {'now': NOW + 60}, 'bc')]
+        for form, save, load in forms:
+            for name, words, wanted in saved:
+                text = save(store, **{'now': NOW, **words})
+                self.assertEqual(''.join(row.name for row in load(text, NOW, all=True)), wanted, f'{form}, saved: {name}')
+                self.assertTrue(text.endswith('\n'), form)
+            text = save(store, NOW, all=True)
+            for name, words, wanted in loaded:
+                names = ''.join(row.name for row in load(text, **{'now': NOW, **words}))
+                self.assertEqual(names, wanted, f'{form}, loaded: {name}')
+            self.assertEqual(load(text, NOW).cookies(), store.cookies(), form)
+        early = filled('a=1; Max-Age=1', now=FIRST)
+        for form, save, _ in forms:
+            self.assert_raises(form, Status.BAD_END, lambda: save(early, NOW, all=True))
+
+    def test_clock(self):
+        """Calls without `now` use the current time."""
+        store = CookieStore()
+        self.assertIs(store.set(PAGE, 'a=1; Max-Age=3600'), Status.INSERTED)
+        self.assertEqual(store.header(PAGE), 'a=1')
+        self.assertLess(abs(store.cookies()[0].ends_at - time.time() - 3600), SECONDS)
+        self.assertEqual(len(CookieStore.load_ron(store.save_ron())), 1)
+
+    def test_copy(self):
+        store = filled('a=1; Max-Age=1', 'b=2')
+        store.use_suffixes('example\n')
+        other = store.copy()
+        self.assertEqual(other.cookies(), store.cookies())
+        self.assertIs(other.set(PAGE, 'c=3; Domain=example'), Status.PUBLIC_SUFFIX)
+        other.clear()
+        self.assertEqual(len(store), 2)
+
+    def test_threads(self):
+        store, rounds = CookieStore(), 200
+
+        def work(number):
+            for at in range(rounds):
+                store.set(f'http://h{number}.example/', f'c{at}={number}', NOW)
+                self.assertIn(f'c{at}={number}', store.header(f'http://h{number}.example/', NOW))
+                if at % 50 == 0:
+                    self.assertGreater(len(store.cookies()), 0)
+
+        self.assertEqual(in_threads(8, work), [])
+        self.assertEqual(len(store), 8 * rounds)
+        self.assertEqual({(row.domain, row.name, row.value) for row in store},
+                         {(f'h{number}.example', f'c{at}', f'{number}') for number in range(8) for at in range(rounds)})
+
+
+if __name__ == '__main__':
+    unittest.main()
