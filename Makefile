@@ -7,7 +7,7 @@ to = $(DESTDIR)$(PREFIX)
 .PHONY: help install uninstall bindings check
 
 help:
-	@echo 'make install    builds and installs the C library, the Python module and the program cookies'
+	@echo 'make install    builds and installs the C library, the Python package and the program cookies'
 	@echo 'make uninstall  removes them'
 	@echo 'make bindings   tests the C library and the bindings'
 	@echo 'make check      proves and tests everything'

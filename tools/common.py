@@ -78,7 +78,7 @@ def compile_c(path, *arguments):
 
 
 def install(prefix, archive=None):
-    """Installs the C library and the Python module, from an archive if there is one."""
+    """Installs the C library and the Python package, from an archive if there is one."""
     variables = {**os.environ, **({'COOKIE_STORE_ARCHIVE': archive} if archive else {})}
     if subprocess.run([f'{TOOLS}/install', prefix], env=variables, stdout=subprocess.DEVNULL).returncode:
         stop('the library is not installed')

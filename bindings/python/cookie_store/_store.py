@@ -314,7 +314,7 @@ class CookieStore:
         return self._save(LIBRARY.cookie_store_save_netscape, now, all, copies=1, others=40)
 
     def _save(self, call: Callable[..., int], now: Optional[int], all: bool, *, copies: int = 2, others: int = 512) -> str:
-        """Return what a call writes. A cookie takes at most so many copies of its strings, and so many other bytes.
+        """Return what a call writes. A cookie takes at most `copies` copies of its strings and `others` other bytes.
 
         A cookie with many escaped characters may take more: then the list is written twice.
         """

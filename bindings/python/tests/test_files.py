@@ -1,4 +1,4 @@
-"""Tests for the cookies.txt files of cookie_store.py.
+"""Tests for the cookies.txt files of the package.
 
     COOKIE_STORE_LIBRARY=FILE python3 -m unittest test_files
 
