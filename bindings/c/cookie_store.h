@@ -238,7 +238,7 @@ static inline const char *cookie_store_status_text(enum cookie_store_status stat
     case COOKIE_STORE_TOO_LONG: return "name and value are longer than 4,096 bytes";
     case COOKIE_STORE_INSECURE_URL: return "Secure, and the URL is not secure";
     case COOKIE_STORE_INSECURE_SAME_SITE_NONE: return "SameSite=None, and not Secure";
-    case COOKIE_STORE_PREFIX: return "its prefix __Host- or __Secure- forbids it";
+    case COOKIE_STORE_PREFIX: return "lacks what the prefix of its name demands";
     case COOKIE_STORE_SECURE_STORED: return "a Secure cookie with its name is stored";
     }
     return "unknown status";

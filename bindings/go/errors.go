@@ -70,47 +70,24 @@ const (
 	ErrUnrepresentable Status = C.COOKIE_STORE_UNREPRESENTABLE
 )
 
-var texts = map[Status]string{
-	ErrNonHTTPScheme:        "HttpOnly cookie, and the scheme is not HTTP",
-	ErrDomainMismatch:       "the host does not match the Domain attribute",
-	ErrExpired:              "expired cookie",
-	ErrParse:                "not a cookie",
-	ErrPublicSuffix:         "the domain is a public suffix",
-	ErrControlCharacter:     "control character in a cookie",
-	ErrTooLong:              "name and value are longer than 4,096 bytes",
-	ErrInsecureURL:          "Secure cookie, and the URL is not secure",
-	ErrInsecureSameSiteNone: "SameSite=None without Secure",
-	ErrPrefix:               "the cookie lacks what the prefix of its name demands",
-	ErrSecureStored:         "a Secure cookie of this name is stored",
-	ErrClosed:               "the jar is closed",
-	ErrNoMemory:             "out of memory",
-	ErrBadURL:               "not a URL with a host",
-	ErrNotUTF8:              "not UTF-8",
-	ErrNotFound:             "no such cookie",
-	ErrBadLimit:             "negative domain limit",
-	ErrBadRule:              "not a rule of a public suffix list",
-	ErrBadJSON:              "not JSON",
-	ErrBadShape:             "not a list of cookies in JSON",
-	ErrBadRON:               "not a list of cookies in RON",
-	ErrBadEnd:               "an expiry is out of range",
-	ErrBadLine:              "not a line of a cookies.txt file",
-	ErrUnrepresentable:      "a cookies.txt file cannot represent a cookie",
-}
-
 // String describes the status in a few words.
 func (s Status) String() string {
-	if text, ok := texts[s]; ok {
-		return text
+	switch s {
+	case ErrClosed:
+		return "the jar is closed"
+	case ErrBadLimit:
+		return "negative domain limit"
 	}
-	return fmt.Sprintf("status %d of cookie_store.h", int(s))
+	return C.GoString(C.cookie_store_status_text(C.enum_cookie_store_status(s)))
 }
 
 // Error returns the text of String with the name of the package.
 func (s Status) Error() string { return "cookiestore: " + s.String() }
 
-// IsRejection reports whether the cookie was rejected. Otherwise the call failed.
+// IsRejection reports whether the cookie was rejected. Otherwise the call failed. It holds of statuses that only a newer library
+// has too.
 func (s Status) IsRejection() bool {
-	return s >= ErrNonHTTPScheme && s <= C.COOKIE_STORE_UNSPECIFIED_DOMAIN || s >= ErrControlCharacter && s <= ErrSecureStored
+	return s >= 10 && s < 20 || s >= 40
 }
 
 // Error is an error of the store, such as a rejected cookie.
@@ -121,7 +98,7 @@ type Error struct {
 
 func (e *Error) Error() string {
 	if e.Line > 0 {
-		return fmt.Sprintf("cookiestore: line %d: %s", e.Line, e.Status.String())
+		return fmt.Sprintf("%v (line %d)", e.Status, e.Line)
 	}
 	return e.Status.Error()
 }
@@ -131,7 +108,7 @@ func (e *Error) Unwrap() error { return e.Status }
 
 // errorOf returns the error of a status, or nil if it is a success.
 func errorOf(status C.enum_cookie_store_status, line C.size_t) error {
-	if status <= C.COOKIE_STORE_EXPIRED_EXISTING {
+	if status < 10 {
 		return nil
 	}
 	return &Error{Status(status), int(line)}

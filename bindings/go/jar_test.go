@@ -1,8 +1,10 @@
 package cookiestore
 
 import (
+	"crypto/rand"
 	"errors"
 	"fmt"
+	"io"
 	"net/http"
 	"net/url"
 	"reflect"
@@ -154,7 +156,7 @@ func TestOptionErrors(t *testing.T) {
 		text    string
 	}{
 		{Options{PublicSuffixList: []byte("uk\nco..uk\n")}, Error{ErrBadRule, 2},
-			"cookiestore: line 2: not a rule of a public suffix list"},
+			"cookiestore: a line of the list is not a rule (line 2)"},
 		{Options{PublicSuffixList: []byte("\xff")}, Error{ErrNotUTF8, 0}, "cookiestore: not UTF-8"},
 		{Options{DomainLimit: -1}, Error{ErrBadLimit, 0}, "cookiestore: negative domain limit"},
 	} {
@@ -164,8 +166,24 @@ func TestOptionErrors(t *testing.T) {
 			t.Errorf("New(%+v): %v, want %v", row.options, err, row.text)
 		}
 	}
-	if text := Status(99).Error(); text != "cookiestore: status 99 of cookie_store.h" {
+	if text := Status(99).Error(); text != "cookiestore: unknown status" {
 		t.Errorf("an unknown status is %q", text)
+	}
+	for status, want := range map[Status]bool{9: false, 19: true, 37: false, 46: true} {
+		if got := status.IsRejection(); got != want {
+			t.Errorf("status %d: IsRejection is %v", int(status), got)
+		}
+	}
+}
+
+// The hash key is of the random bytes of the system.
+func TestHashKey(t *testing.T) {
+	system, read := rand.Reader, new(strings.Builder)
+	defer func() { rand.Reader = system }()
+	rand.Reader = io.TeeReader(system, read)
+	newJar(t, nil)
+	if read.Len() != 16 {
+		t.Errorf("%d random bytes were read, want 16", read.Len())
 	}
 }
 
@@ -236,7 +254,7 @@ func TestClosed(t *testing.T) {
 	closed, u := newJar(t, nil), parseURL(t, "http://example.com/")
 	setAll(t, closed, u.String(), "a=1")
 	for _, jar := range []*Jar{closed, new(Jar)} {
-		for range "12" {
+		for i := 0; i < 2; i++ {
 			if err := jar.Close(); err != nil {
 				t.Errorf("Close: %v", err)
 			}

@@ -79,8 +79,10 @@ def library():
         return read(named)
     if not in_repository():
         sys.exit('cookie_store: COOKIE_STORE_LIBRARY must name the C library')
+    # These would have the files written elsewhere.
+    variables = {name: value for name, value in os.environ.items() if name not in ('DESTDIR', 'PYTHONDIR')}
     with tempfile.TemporaryDirectory() as folder:
-        subprocess.run([os.path.join(ROOT, 'tools', 'install'), folder], check=True, stdout=sys.stderr)
+        subprocess.run([os.path.join(ROOT, 'tools', 'install'), folder], check=True, stdout=sys.stderr, env=variables)
         return read(folder, 'lib', LIBRARY)
 
 

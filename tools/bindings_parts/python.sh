@@ -30,10 +30,10 @@ unit_tests() {
 # Plain pip, without a network, a cache or an index.
 plain_pip() { PIP_NO_INDEX=1 PIP_NO_CACHE_DIR=1 PIP_DISABLE_PIP_VERSION_CHECK=1 python3 -m pip "$@"; }
 
-# installs_into FOLDER SOURCE: installs into a fresh environment, in which a call of the package then succeeds.
+# installs_into FOLDER SOURCE: installs into a new folder, from which a call of the package then succeeds.
 installs_into() {
-    python3 -m venv --without-pip "$1" && plain_pip --python "$1/bin/python" install --no-deps "$2" &&
-        alone "$1/bin/python" -c "
+    plain_pip install --no-deps --target "$1" "$2" && [ -f "$1/cookie_store/py.typed" ] &&
+        alone env PYTHONPATH="$1" python3 -c "
 from cookie_store import CookieStore
 store = CookieStore()
 store.set('http://example.com/', 'a=1')
@@ -49,15 +49,15 @@ pip_builds() {
         cmp "$temp/wheel/"*.whl "$temp/again/"*.whl && [ "$before" = "$(find bindings/python | sort)" ]
 }
 
-pip_installs() { (unset COOKIE_STORE_LIBRARY && installs_into "$temp/venv" ./bindings/python); }
+pip_installs() { (unset COOKIE_STORE_LIBRARY && installs_into "$temp/pip" ./bindings/python); }
 
 # The source archive has no library: COOKIE_STORE_LIBRARY names it.
 sdist_installs() {
     (cd bindings/python && python3 -c "import build_backend; build_backend.build_sdist('$temp')") &&
-        installs_into "$temp/venv_sdist" "$temp"/cookie_store-*.tar.gz
+        installs_into "$temp/pip_sdist" "$temp"/cookie_store-*.tar.gz
 }
 
-types_check() { (cd bindings/python && mypy --strict --cache-dir "$temp/mypy"); }
+types_check() { (cd bindings/python && mypy --strict --python-executable /usr/bin/python3 --cache-dir "$temp/mypy"); }
 
 # Python's own leaks do not count: only a report that names the library. The word `python3` may be a script.
 python_tests_lose_nothing() {
@@ -75,12 +75,12 @@ if command -v python3 > /dev/null; then
     elif ! can_import python3 httpx aiohttp; then
         skips 'unit tests of httpx and aiohttp' 'no Python has both'
     fi
-    if can_import python3 pip venv; then
+    if can_import python3 pip; then
         try 'pip wheel' pip_builds || true
         try 'pip install ./bindings/python' pip_installs || true
         try 'pip install of the source archive' sdist_installs || true
     else
-        skips 'pip install' 'Python has no pip or venv'
+        skips 'pip install' 'Python has no pip'
     fi
     if command -v mypy > /dev/null && can_import /usr/bin/python3 httpx aiohttp requests; then
         try 'mypy --strict' types_check || true

@@ -3,7 +3,8 @@
 Usage: tools/bindings_parts/scenario.py COMMAND..
 
 COMMAND is a program with the arguments `FILE URL..`. It loads the cookies of FILE, if there is such a file, gets each URL,
-follows redirects, prints the body of each last response on a line, and saves the persistent cookies to FILE. It is run twice.
+follows redirects, prints the body of each last response on a line, and saves the persistent cookies to FILE, also if a URL
+fails. It is run three times. FILE must then be a new file, alone in its folder, that its owner alone can read.
 
 The program finds the server by http_proxy and https_proxy, and trusts its certificate by SSL_CERT_FILE. The server is a proxy
 that answers for every host itself:
@@ -12,11 +13,13 @@ that answers for every host itself:
     /set?c=VALUE                 the same, with a Set-Cookie header for each c
     /redirect?to=URL&c=VALUE     a redirect, with a Set-Cookie header for each c
     /wait?c=SECONDS              waits, then the Cookie header
+    /fail                        no response
 
 Exit status: 0; 1 if the program printed or returned something else; 2 for a wrong argument."""
 import http.server
 import os
 import ssl
+import stat
 import subprocess
 import sys
 import tempfile
@@ -24,7 +27,7 @@ import threading
 import time
 import urllib.parse
 
-SECONDS = 30  # the longest that a run may take
+SECONDS = 120  # the longest that a run may take
 
 # What is fetched, and the body of the last response.
 FIRST_RUN = [
@@ -33,11 +36,12 @@ FIRST_RUN = [
     ('https://shop.test/set?c=token%3D2%3B+Secure%3B+HttpOnly%3B+Max-Age%3D3600', 'visit=1'),
     ('https://shop.test/echo', 'visit=1; token=2'),
     ('http://shop.test/echo', 'visit=1'),
-    ('http://shop.test/set?c=brief%3D3%3B+Max-Age%3D2&c=session%3D4', 'visit=1'),
+    ('http://shop.test/set?c=brief%3D3%3B+Max-Age%3D5&c=session%3D4', 'visit=1'),
     ('http://shop.test/echo', 'visit=1; brief=3; session=4'),
-    ('http://shop.test/wait?c=3', 'visit=1; brief=3; session=4'),
+    ('http://shop.test/wait?c=6', 'visit=1; brief=3; session=4'),
     ('http://shop.test/echo', 'visit=1; session=4'),
-    ('http://shop.test/set?c=no%3D6%3B+Domain%3Dother.test&c=wide%3D5%3B+Domain%3Dshop.test%3B+Max-Age%3D3600', 'visit=1; session=4'),
+    ('http://shop.test/set?c=no%3D6%3B+Domain%3Dother.test', 'visit=1; session=4'),
+    ('http://shop.test/set?c=wide%3D5%3B+Domain%3Dshop.test%3B+Max-Age%3D3600', 'visit=1; session=4'),
 ]
 SECOND_RUN = [
     ('http://shop.test/echo', 'visit=1; wide=5'),
@@ -45,7 +49,10 @@ SECOND_RUN = [
     ('https://deep.shop.test/echo', 'wide=5'),
     ('https://shop.test/set?c=visit%3D%3B+Max-Age%3D0', 'visit=1; token=2; wide=5'),
     ('https://shop.test/echo', 'token=2; wide=5'),
+    ('http://shop.test/set?c=last%3D7%3B+Max-Age%3D3600', 'wide=5'),
+    ('http://shop.test/fail', None),
 ]
+THIRD_RUN = [('http://shop.test/echo', 'wide=5; last=7')]
 
 
 class Handler(http.server.BaseHTTPRequestHandler):
@@ -61,6 +68,9 @@ class Handler(http.server.BaseHTTPRequestHandler):
 
     def do_GET(self):
         url = urllib.parse.urlsplit(self.path)
+        if url.path == '/fail':
+            self.close_connection = True
+            return
         arguments = urllib.parse.parse_qs(url.query)
         values, to = arguments.get('c', []), arguments.get('to')
         if url.path == '/wait':
@@ -89,17 +99,28 @@ def make_certificate(folder):
 
 
 def run(command, file, expected, environment):
-    """Runs the program, and returns whether it printed what is expected."""
-    urls, bodies = [url for url, _ in expected], [body for _, body in expected]
+    """Runs the program, and returns whether it printed and saved what is expected. A URL without a body fails."""
+    urls, bodies = [url for url, _ in expected], [body for _, body in expected if body is not None]
+    before = os.path.exists(file) and os.stat(file).st_ino
     done = subprocess.run([*command, file, *urls], env=environment, stdin=subprocess.DEVNULL, capture_output=True, text=True,
                           timeout=SECONDS)
     printed = done.stdout.split('\n')[:-1]
     for url, body, got in zip(urls, bodies, printed):
         if got != body:
             print(f'{url}: the server received {got!r}, not {body!r}')
-    if done.returncode or printed != bodies:
+    is_as_expected = printed == bodies and (done.returncode == 0) == (len(bodies) == len(urls))
+    if not is_as_expected:
         print(f'status {done.returncode}, {len(printed)} lines of {len(bodies)}\n{done.stderr}')
-    return done.returncode == 0 and printed == bodies
+    return is_as_expected and is_replaced(file, before)
+
+
+def is_replaced(file, before):
+    """Whether the file is another one than before, alone in its folder, and its owner alone can read it."""
+    status, names = os.stat(file), os.listdir(os.path.dirname(file))
+    is_private = stat.S_IMODE(status.st_mode) == 0o600
+    if not is_private or status.st_ino == before or len(names) > 1:
+        print(f'mode {status.st_mode:o}, replaced: {status.st_ino != before}, files: {names}')
+    return is_private and status.st_ino != before and len(names) == 1
 
 
 def main():
@@ -117,7 +138,9 @@ def main():
         proxy = f'http://127.0.0.1:{server.server_port}'
         environment = {name: value for name, value in os.environ.items() if name.lower() not in ('no_proxy', 'all_proxy')}
         environment |= {'http_proxy': proxy, 'https_proxy': proxy, 'SSL_CERT_FILE': certificate}
-        passed = all([run(command, f'{folder}/cookies', expected, environment) for expected in (FIRST_RUN, SECOND_RUN)])
+        os.mkdir(f'{folder}/saved')
+        file = f'{folder}/saved/cookies'
+        passed = all([run(command, file, expected, environment) for expected in (FIRST_RUN, SECOND_RUN, THIRD_RUN)])
         server.shutdown()
     sys.exit(not passed)
 

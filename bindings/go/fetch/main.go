@@ -34,12 +34,16 @@ func run(file string, urls []string) error {
 	}
 	defer jar.Close()
 	client := &http.Client{Jar: jar, Timeout: 30 * time.Second}
+	var failed error
 	for _, url := range urls {
-		if err := get(client, url); err != nil {
-			return err
+		if failed = get(client, url); failed != nil {
+			break
 		}
 	}
-	return save(jar, file)
+	if err := save(jar, file); err != nil {
+		return err
+	}
+	return failed
 }
 
 func load(name string) (*cookiestore.Jar, error) {

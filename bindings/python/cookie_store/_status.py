@@ -2,6 +2,7 @@
 from __future__ import annotations
 
 import enum
+from typing import Optional
 
 
 class Status(enum.IntEnum):
@@ -80,10 +81,57 @@ class Status(enum.IntEnum):
     PREFIX = 44
     SECURE_STORED = 45
 
+    @classmethod
+    def _missing_(cls, value: object) -> Optional[Status]:
+        """Return a status that only a newer library has: its meaning is that of its range, see cookie_store.h."""
+        if not isinstance(value, int):
+            return None
+        status = int.__new__(cls, value)
+        status._name_, status._value_ = f'UNKNOWN_{value}', value
+        return status
 
-STATUSES = {int(status): status for status in Status}
-#: The statuses of an insertion: the cookie was accepted, or why it was rejected.
-REPLIES = frozenset(number for number in STATUSES if number < 20 or number >= 40)
+
+#: What each status means, in the words of cookie_store.h.
+TEXTS = {
+    Status.OK: 'success',
+    Status.INSERTED: 'inserted',
+    Status.UPDATED: 'replaced the stored cookie',
+    Status.EXPIRED_EXISTING: 'expired the stored cookie',
+    Status.NON_HTTP_SCHEME: 'HttpOnly, and the URL is not HTTP',
+    Status.NON_RELATIVE_SCHEME: 'no Domain attribute, and no host in the URL',
+    Status.DOMAIN_MISMATCH: "the host does not match the cookie's domain",
+    Status.EXPIRED: 'the cookie has expired',
+    Status.PARSE: 'not a cookie',
+    Status.PUBLIC_SUFFIX: 'the domain is a public suffix',
+    Status.UNSPECIFIED_DOMAIN: 'unspecified domain',
+    Status.NO_MEMORY: 'out of memory',
+    Status.BAD_URL: 'not a valid URL',
+    Status.NOT_UTF8: 'not UTF-8',
+    Status.BAD_MOMENT: 'the time is out of range',
+    Status.NO_STORE: 'the handle is empty',
+    Status.HAS_STORE: 'the handle holds a store already',
+    Status.NO_ROOM: 'the buffer is too short',
+    Status.NOT_FOUND: 'no such cookie',
+    Status.BAD_LIMIT: 'the limit is 0',
+    Status.BAD_RULE: 'a line of the list is not a rule',
+    Status.BAD_JSON: 'not JSON',
+    Status.BAD_SHAPE: 'JSON, but not a list of cookies',
+    Status.BAD_RON: 'not a list of cookies in RON',
+    Status.BAD_END: 'an expiry is not valid or not representable',
+    Status.BAD_LINE: 'a line of the file is not a cookie',
+    Status.UNREPRESENTABLE: 'the format cannot represent a cookie',
+    Status.CONTROL_CHARACTER: 'a control character in the header value',
+    Status.TOO_LONG: 'name and value are longer than 4,096 bytes',
+    Status.INSECURE_URL: 'Secure, and the URL is not secure',
+    Status.INSECURE_SAME_SITE_NONE: 'SameSite=None, and not Secure',
+    Status.PREFIX: 'lacks what the prefix of its name demands',
+    Status.SECURE_STORED: 'a Secure cookie with its name is stored',
+}
+
+
+def is_reply(number: int) -> bool:
+    """Return whether a status of an insertion is that the cookie was accepted, or why it was rejected."""
+    return number < 20 or number >= 40
 
 
 class CookieStoreError(Exception):
@@ -94,7 +142,7 @@ class CookieStoreError(Exception):
         self.status = status
 
     def __str__(self) -> str:
-        return self.status.name.lower().replace('_', ' ')
+        return TEXTS.get(self.status, 'unknown status')
 
 
 class NoMemory(CookieStoreError, MemoryError):
@@ -109,7 +157,7 @@ class BadRule(CookieStoreError):
         self.args, self.line = (line,), line
 
     def __str__(self) -> str:
-        return f'bad rule in line {self.line}'
+        return f'{TEXTS[self.status]} (line {self.line})'
 
 
 class BadLine(CookieStoreError):
@@ -120,7 +168,7 @@ class BadLine(CookieStoreError):
         self.args, self.line = (line,), line
 
     def __str__(self) -> str:
-        return f'line {self.line} is not a cookie'
+        return f'{TEXTS[self.status]} (line {self.line})'
 
 
 class NoDomain(CookieStoreError, ValueError):
@@ -139,4 +187,4 @@ def check(number: int) -> None:
     if number == Status.NO_MEMORY:
         raise NoMemory(Status.NO_MEMORY)
     if number != Status.OK:
-        raise CookieStoreError(STATUSES[number])
+        raise CookieStoreError(Status(number))

@@ -10,7 +10,7 @@ import weakref
 from typing import Any, Callable, Dict, Iterable, Iterator, List, NamedTuple, Optional, Tuple, Type, Union
 
 from ._library import LIBRARY, ROW, Row, Store
-from ._status import REPLIES, STATUSES, BadLine, BadRule, CookieStoreError, Status, check
+from ._status import BadLine, BadRule, CookieStoreError, Status, check, is_reply
 
 Text = Union[str, bytes]
 # What a copy of a store is made from: its class, list, strictness, public suffix list and limit.
@@ -102,7 +102,8 @@ class CookieStore:
         self._finalizer = weakref.finalize(self, LIBRARY.cookie_store_free, self._at)
         # Another thread may still be in a call when the program ends.
         self._finalizer.atexit = False
-        _stores.add(self)
+        with _fork_lock:  # os.fork() holds it from its list of stores on
+            _stores.add(self)
         if strict:
             self.set_strict(True)
 
@@ -178,9 +179,9 @@ class CookieStore:
         with self._lock:
             self._cookies = None
             number = LIBRARY.cookie_store_set(self._at, page, len(page), cookie, len(cookie), moment)
-        if number not in REPLIES:
+        if not is_reply(number):
             check(number)
-        return STATUSES[number]
+        return Status(number)
 
     def _set_all(self, pairs: Iterable[Tuple[str, str]], now: int) -> None:
         """Insert the cookies of pairs of a URL and a header value, except those that are rejected or not valid."""
@@ -190,7 +191,7 @@ class CookieStore:
             for url, text in pairs:
                 page, cookie = url.encode(), text.encode()
                 number = insert(self._at, page, len(page), cookie, len(cookie), now)
-                if number not in REPLIES and number != Status.BAD_URL:
+                if not is_reply(number) and number != Status.BAD_URL:
                     check(number)
 
     def header(self, url: Text, now: Optional[int] = None, *, same_site: bool = True, top_level: bool = False,

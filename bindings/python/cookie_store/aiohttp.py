@@ -52,7 +52,7 @@ class StoreCookieJar(AbstractCookieJar):
         """
         if not response_url.host:
             raise ValueError('a cookie needs the URL of its response: pass response_url')
-        own: SimpleCookie[str] = SimpleCookie()
+        own: BaseCookie[str] = SimpleCookie()
         for name, value in cookies.items() if isinstance(cookies, Mapping) else cookies:
             own[name] = value
         self.update_cookies_from_headers([morsel.OutputString() for morsel in own.values()], response_url)
@@ -64,7 +64,7 @@ class StoreCookieJar(AbstractCookieJar):
 
     def filter_cookies(self, request_url: yarl.URL) -> BaseCookie[str]:
         """Return the cookies of a request for request_url."""
-        cookies: SimpleCookie[str] = SimpleCookie()
+        cookies: BaseCookie[str] = SimpleCookie()
         for pair in filter(None, header_for(self.store, str(request_url)).split('; ')):
             name, _, value = pair.partition('=')
             morsel = _morsel(name, value)

@@ -16,8 +16,8 @@ def use_store(client: Union[httpx.Client, httpx.AsyncClient], store: CookieStore
         with httpx.Client(follow_redirects=True) as client:
             use_store(client, CookieStore())
 
-    It adds event hooks to the client. client.cookies is then a jar that stays empty. A cookie that
-    is passed to a single request is not sent. Set it in the store.
+    It adds event hooks to the client. The cookies of responses are not in client.cookies, and those
+    that are set there, or passed to a single request, are not sent: set them in the store.
     """
     def before(request: httpx.Request) -> None:
         request.headers.pop('Cookie', None)

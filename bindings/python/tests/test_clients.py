@@ -7,13 +7,12 @@ import urllib.request
 
 from support import LEFT, SECONDS, VISITS, in_threads, jar_of, keys, start_server
 
-import cookie_store
 from cookie_store import CookieStore, NoDomain, StoreJar
 
 try:
     import requests
 
-    from cookie_store.requests import use_store as use_in_session
+    from cookie_store.requests import StoreAdapter, use_store as use_in_session
 except ImportError:
     requests = None
 try:
@@ -106,7 +105,7 @@ class RequestsTests(ServerTests):
 
     def test_adapter(self):
         self.session.cookies = jar = StoreJar()
-        self.session.mount('http://', cookie_store.requests_adapter(jar, max_retries=0))
+        self.session.mount('http://', StoreAdapter(jar, max_retries=0))
         jar.store.set(self.url('localhost', '/'), 's=1; Secure')
         self.session.get(self.url('localhost', '/own/x'), timeout=SECONDS)
         self.assertEqual(self.server.visits, [('localhost', '/own/x', 's=1')])

@@ -6,6 +6,7 @@ import unittest
 
 from cookie_store import Status
 from cookie_store._library import ROW, SIGNATURES, Row, Store
+from cookie_store._status import TEXTS
 
 REPOSITORY = pathlib.Path(__file__).resolve().parents[3]
 HEADER = REPOSITORY / 'bindings' / 'c' / 'cookie_store.h'
@@ -31,6 +32,10 @@ class DeclarationTests(unittest.TestCase):
     def test_statuses(self):
         declared = {name: int(number) for name, number in re.findall(r'COOKIE_STORE_(\w+) = (\d+)', self.text)}
         self.assertEqual(declared, {status.name: status.value for status in Status})
+
+    def test_texts(self):
+        texts = dict(re.findall(r'case COOKIE_STORE_(\w+): return "(.*)";', self.text))
+        self.assertEqual(texts, {status.name: text for status, text in TEXTS.items()})
 
     def test_structs(self):
         for name, own in [('cookie_store', Store), ('cookie_store_row', Row)]:

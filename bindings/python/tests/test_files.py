@@ -118,7 +118,7 @@ class FileTests(unittest.TestCase):
     def test_malformed_line(self):
         with self.assertRaises(BadLine) as raised:
             CookieStore.load_netscape(FILE + 'a\tb\n')
-        self.assertEqual((raised.exception.line, str(raised.exception)), (4, 'line 4 is not a cookie'))
+        self.assertEqual((raised.exception.line, str(raised.exception)), (4, 'a line of the file is not a cookie (line 4)'))
         self.write(FILE + 'a\tb\n')
         jar = StoreJar()
         with self.assertRaises(http.cookiejar.LoadError):

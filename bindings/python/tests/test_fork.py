@@ -34,13 +34,14 @@ def use_and_exit(store):
 class ForkTests(unittest.TestCase):
 
     def test_fork(self):
-        """A child that is forked while threads are in calls may use the store, and sees it whole."""
+        """A child that is forked while threads are in calls, or create stores, may use the store, and sees it whole."""
         store, stop = CookieStore(), threading.Event()
 
         def work(number):
             at = 0
             while not stop.is_set():
                 store.set(f'http://h{number}.example/', f'c{at % 100}=1', NOW)
+                CookieStore()
                 at += 1
 
         def fork():

@@ -45,7 +45,11 @@ class ReadmeTests(unittest.TestCase):
             self.assertIn(host, ('example.com', b'example.com'))
             return RESOLVE('127.0.0.1', port, *arguments, **words)
 
-        for patch in (mock.patch('socket.getaddrinfo', resolve), mock.patch.dict(os.environ, no_proxy='*')):
+        patches = [mock.patch('socket.getaddrinfo', resolve), mock.patch.dict(os.environ, no_proxy='*')]
+        with contextlib.suppress(ImportError):
+            import aiohttp
+            patches.append(mock.patch('aiohttp.connector.DefaultResolver', aiohttp.ThreadedResolver))
+        for patch in patches:
             patch.start()
             self.addCleanup(patch.stop)
 

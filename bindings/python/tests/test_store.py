@@ -1,5 +1,6 @@
 """Tests of CookieStore: tables list the calls with their statuses."""
 import gc
+import os
 import pickle
 import time
 import unittest
@@ -174,7 +175,27 @@ class StoreTests(unittest.TestCase):
     def test_bad_rule(self):
         with CookieStore() as store, self.assertRaises(BadRule) as raised:
             store.use_suffixes('example\na..b\n')
-        self.assertEqual((raised.exception.line, str(raised.exception)), (2, 'bad rule in line 2'))
+        self.assertEqual((raised.exception.line, str(raised.exception)), (2, 'a line of the list is not a rule (line 2)'))
+
+    def test_hash_keys(self):
+        """New and loaded stores hash by random keys."""
+        with mock.patch('os.urandom', side_effect=os.urandom) as urandom:
+            CookieStore()
+        urandom.assert_called_once_with(16)
+        with mock.patch('os.urandom', side_effect=os.urandom) as urandom:
+            CookieStore.load_json('[]')
+        urandom.assert_called_with(16)
+
+    def test_newer_statuses(self):
+        """A status that only a newer library has means what its range means."""
+        for number, is_error in [(4, False), (19, False), (37, True), (46, False)]:
+            with self.subTest(number), mock.patch.object(LIBRARY, 'cookie_store_set', lambda *_: number), CookieStore() as store:
+                if is_error:
+                    with self.assertRaises(CookieStoreError) as raised:
+                        store.set(PAGE, 'a=1')
+                    self.assertEqual((raised.exception.status, str(raised.exception)), (number, 'unknown status'))
+                else:
+                    self.assertEqual(store.set(PAGE, 'a=1').name, f'UNKNOWN_{number}')
 
     def test_no_memory(self):
         no_memory = mock.patch.object(LIBRARY, 'cookie_store_set', lambda *_: Status.NO_MEMORY)

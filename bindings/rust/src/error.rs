@@ -87,6 +87,7 @@ impl Error {
                 | Error::InsecureSameSiteNone
                 | Error::Prefix
                 | Error::SecureStored
+                | Error::Unexpected(10..=19 | 40..)
         )
     }
 
@@ -123,28 +124,32 @@ impl Error {
 impl fmt::Display for Error {
     fn fmt(&self, f: &mut fmt::Formatter<'_>) -> fmt::Result {
         f.write_str(match self {
-            Error::NonHttpScheme => "HttpOnly cookie and a scheme that is not HTTP",
-            Error::NonRelativeScheme => "no Domain attribute and a URL without a host",
-            Error::DomainMismatch => "the host does not match the Domain attribute",
+            Error::NonHttpScheme => "HttpOnly, and the URL is not HTTP",
+            Error::NonRelativeScheme => "no Domain attribute, and no host in the URL",
+            Error::DomainMismatch => "the host does not match the cookie's domain",
             Error::Expired => "the cookie has expired",
             Error::Parse => "not a cookie",
             Error::PublicSuffix => "the domain is a public suffix",
-            Error::ControlCharacter => "the cookie has a control character",
-            Error::TooLong => "the cookie is too long",
-            Error::InsecureUrl => "Secure cookie from a URL that is not secure",
-            Error::InsecureSameSiteNone => "SameSite=None without Secure",
-            Error::Prefix => "the cookie lacks what its name prefix demands",
-            Error::SecureStored => "the cookie would overlay a Secure cookie",
+            Error::ControlCharacter => "a control character in the header value",
+            Error::TooLong => "name and value are longer than 4,096 bytes",
+            Error::InsecureUrl => "Secure, and the URL is not secure",
+            Error::InsecureSameSiteNone => "SameSite=None, and not Secure",
+            Error::Prefix => "lacks what the prefix of its name demands",
+            Error::SecureStored => "a Secure cookie with its name is stored",
             Error::NoMemory => "out of memory",
             Error::BadUrl => "not a valid URL",
-            Error::BadTime => "the time is not in the years -9999 to 9999",
-            Error::BadRule { line } => return write!(f, "line {line} is not a public suffix rule"),
+            Error::BadTime => "the time is out of range",
+            Error::BadRule { line } => {
+                return write!(f, "a line of the list is not a rule (line {line})")
+            }
             Error::BadJson => "not JSON",
             Error::BadShape => "JSON, but not a list of cookies",
             Error::BadRon => "not a list of cookies in RON",
-            Error::BadExpiry => "the expiry of a cookie is not valid",
-            Error::BadLine { line } => return write!(f, "line {line} is not a cookie"),
-            Error::Unrepresentable => "cookies.txt cannot represent a cookie",
+            Error::BadExpiry => "an expiry is not valid or not representable",
+            Error::BadLine { line } => {
+                return write!(f, "a line of the file is not a cookie (line {line})")
+            }
+            Error::Unrepresentable => "the format cannot represent a cookie",
             Error::Unexpected(status) => return write!(f, "unexpected status {status}"),
         })
     }
@@ -176,6 +181,31 @@ mod tests {
         for (status, expected) in table {
             assert_eq!(check(status, 0), expected, "{status}");
         }
-        assert!(!Error::NoMemory.is_rejection());
+        for (error, expected) in [
+            (Error::NoMemory, false),
+            (Error::Unexpected(19), true),
+            (Error::Unexpected(37), false),
+            (Error::Unexpected(46), true),
+        ] {
+            assert_eq!(error.is_rejection(), expected, "{error}");
+        }
+    }
+
+    /// The texts are those of `cookie_store_status_text`.
+    #[test]
+    fn texts_agree() {
+        let header = include_str!("../../c/cookie_store.h");
+        let texts = header
+            .lines()
+            .filter_map(|line| line.trim().strip_prefix("case COOKIE_STORE_"));
+        for (name, text) in texts.filter_map(|case| case.split_once(": return \"")) {
+            let (_, number) = header.split_once(&format!("{name} = ")).expect(name);
+            let number = number.split([',', '\n']).next().unwrap().parse().unwrap();
+            let error = Error::new(number, 1);
+            if !matches!(error, Error::Unexpected(_)) {
+                let own = error.to_string().replace(" (line 1)", "");
+                assert_eq!(format!("{own}\";"), text, "{name}");
+            }
+        }
     }
 }

@@ -41,7 +41,7 @@ pub struct CrossSite {
 /// The time of a call is its argument `now`, usually [`SystemTime::now`]. It must be in the years
 /// -9999 to 9999. A cookie has expired if its expiry time is `now` or earlier.
 ///
-/// A method that returns an error leaves the store unchanged. None panics.
+/// A method that returns an error leaves the store unchanged.
 //
 // SAFETY of the calls below: the handle is initialized, empty or with a store; `&mut self` keeps
 // other calls away; pointers come from references and slices, so they are not NULL, aligned and

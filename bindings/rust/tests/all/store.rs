@@ -242,7 +242,10 @@ fn a_bad_rule_is_named() {
     let mut store = CookieStore::new().unwrap();
     let error = store.use_suffixes("example\na..b\n").unwrap_err();
     assert_eq!(error, Error::BadRule { line: 2 });
-    assert_eq!(error.to_string(), "line 2 is not a public suffix rule");
+    assert_eq!(
+        error.to_string(),
+        "a line of the list is not a rule (line 2)"
+    );
     assert_eq!(store.parse("a=1; Domain=example", PAGE, at(NOW)), INSERTED);
     assert_eq!(store.use_suffixes(""), Ok(()));
 }
