@@ -8,3 +8,4 @@ pub mod Numbers
 pub mod Seconds
 pub mod SecondsBack
 pub mod Tabs
+pub mod Trimmed

@@ -1,13 +1,15 @@
 -- Reading a number of seconds.
-use Rattle.std.proofs.Common.{◌≡◌, sym, ℕ, ◌+◌, ◌<◌, ◌≤◌, ◌&&◌, min, true, false, eqb, leb, List, length, Some, Result, Ok, Err, refl, ◌∙◌, ⊎_elim, arith}
+use Rattle.std.proofs.Common.{◌≡◌, sym, ℕ, ◌+◌, ◌<◌, ◌≤◌, ◌==◌, Bool, ◌&&◌, not, min, true, false, leb, List, [], ◌∷◌, length, take, drop, Option, Some, None, is_some, option_map, Result, Ok, Err, if◌then◌else◌, refl, ap, ◌∙◌, ⊎_elim, arith}
 use Rattle.std.specs.Char.{is_ascii_digit}
-use Rattle.std.specs.List.{after_first, before_first, list_all}
+use Rattle.std.specs.List.{after_first, before_first, list_all, position_or_len}
 use Rattle.std.specs.Result.{result_unwrap_or, OkIff}
 use Rattle.std.specs.Str.Parse.{ParsesUnsigned, digits_value}
-use Rattle.std.proofs.lemmas.Bool.{and_parts, leb-true, le-leb, cases_lt}
+use Rattle.std.proofs.lemmas.Bool.{and_parts, leb-true, le-leb, cases_lt, false≢true, ne_eqb, true≢false}
+use Rattle.std.proofs.lemmas.List.{drop_all}
 use Rattle.std.proofs.Math.Nat.{min-eq_left, min-eq_right}
+use Rattle.std.proofs.Math.Seq.{take-length}
 use Rattle.std.proofs.lemmas.Str.Parse.{IsDigitsTest, numerals_by_value, parse_digits}
-use Rattle.cookie_netscape.specs.Lines.{is_dot, seconds_from}
+use Rattle.cookie_netscape.specs.Lines.{is_dot, seconds_from, whole_from}
 
 -- `list_all is_ascii_digit` tests for digits
 pub are_digits : IsDigitsTest (λ ds. list_all is_ascii_digit ds ≡ true)
@@ -31,9 +33,88 @@ seconds_read text r several digits h =
     read_or_most r (digits_value 10 text) 18_446_744_073_709_551_615 several
     (parse_digits (numerals_by_value _ are_digits) 64 text r h digits)
 
--- the seconds of a number that was split at its dot
-pub seconds_of_parts : (field whole fraction : List ℕ) → whole ≡ before_first is_dot field → fraction ≡ after_first is_dot field
-    → eqb (length whole) 0 ≡ false → list_all is_ascii_digit whole ≡ true → list_all is_ascii_digit fraction ≡ true
-    → seconds_from field ≡ Some (digits_value 10 whole)
+-- a digit is no dot
+digit_is_no_dot : (b : ℕ) → is_ascii_digit b ≡ true → is_dot b ≡ false
+digit_is_no_dot b digit = ne_eqb b 46 (λ e. false≢true (sym (ap is_ascii_digit e) ∙ digit))
+
+-- digits have no dot
+pub no_dot : (digits : List ℕ) → list_all is_ascii_digit digits ≡ true → position_or_len is_dot digits ≡ length digits
+no_dot [] all = refl
+no_dot (b ∷ digits) all =
+    let parts = and_parts (is_ascii_digit b) (list_all is_ascii_digit digits) all in
+    rw (digit_is_no_dot b parts.0) (omega (arith, no_dot digits parts.1))
+
+-- a third condition that holds
+and_holds : (some digits last : Bool) (number : Option ℕ) → last ≡ true
+    → (if some && digits && last then number else None) ≡ (if some && digits then number else None)
+and_holds true true last number holds = rw holds refl
+and_holds true false last number holds = refl
+and_holds false digits last number holds = refl
+
+-- a third condition that fails
+and_fails : (some digits last : Bool) (number : Option ℕ) → last ≡ false → (if some && digits && last then number else None) ≡ None
+and_fails true true last number fails = rw fails refl
+and_fails true false last number fails = refl
+and_fails false digits last number fails = refl
+
+-- the seconds of a field without a dot
+pub seconds_without_dot : (field : List ℕ) → position_or_len is_dot field ≡ length field → seconds_from field ≡ whole_from field
 unfolding seconds_from
-seconds_of_parts field whole fraction is behind some digits more = rw (← is, ← behind, some, digits, more) refl
+seconds_without_dot field none =
+    let whole : before_first is_dot field ≡ field = ap (λ n. take n field) none ∙ take-length field in
+    let fraction : after_first is_dot field ≡ [] = ap (λ n. drop (n + 1) field) none ∙ drop_all (length field + 1) field (omega arith) in
+    rw (whole, fraction) (and_holds (not (length field == 0)) (list_all is_ascii_digit field) true _ refl)
+
+-- the seconds of a field that was split at its dot
+pub seconds_of_parts : (field whole fraction : List ℕ) → whole ≡ before_first is_dot field → fraction ≡ after_first is_dot field
+    → list_all is_ascii_digit fraction ≡ true → seconds_from field ≡ whole_from whole
+unfolding seconds_from
+seconds_of_parts field whole fraction is behind digits =
+    rw (← is, ← behind) (and_holds (not (length whole == 0)) (list_all is_ascii_digit whole) _ _ digits)
+
+-- what follows its dot is no fraction
+pub no_fraction : (field fraction : List ℕ) → fraction ≡ after_first is_dot field → list_all is_ascii_digit fraction ≡ false
+    → seconds_from field ≡ None
+unfolding seconds_from
+no_fraction field fraction behind other =
+    and_fails (not (length (before_first is_dot field) == 0)) (list_all is_ascii_digit (before_first is_dot field))
+    (list_all is_ascii_digit (after_first is_dot field)) (Some (digits_value 10 (before_first is_dot field)))
+    (ap (list_all is_ascii_digit) (sym behind) ∙ other)
+
+-- the number of digits
+pub whole_of_digits : (digits : List ℕ) → (length digits == 0) ≡ false → list_all is_ascii_digit digits ≡ true
+    → whole_from digits ≡ Some (digits_value 10 digits)
+whole_of_digits digits some all = rw (some, all) refl
+
+-- the second of two conditions that hold
+second_holds : (some digits : Bool) (number : ℕ) → is_some (if some && digits then Some number else None) ≡ true → digits ≡ true
+second_holds true true number found = refl
+second_holds true false number found = absurd (false≢true found)
+second_holds false digits number found = absurd (false≢true found)
+
+-- a number without a fraction has digits alone
+pub whole_is_digits : (field : List ℕ) → is_some (whole_from field) ≡ true → list_all is_ascii_digit field ≡ true
+whole_is_digits field some = second_holds (not (length field == 0)) (list_all is_ascii_digit field) (digits_value 10 field) some
+
+-- what is some after a map was some before it
+some_before : (f : ℕ → ℕ) (found : Option ℕ) → is_some (option_map f found) ≡ true → is_some found ≡ true
+some_before f None some = some
+some_before f (Some n) some = refl
+
+-- what is not some is None
+nothing : (found : Option ℕ) → is_some found ≡ false → found ≡ None
+nothing None none = refl
+nothing (Some n) none = absurd (true≢false none)
+
+-- a number, at most `most`, of a field that has no fraction
+pub seconds_if_whole : (field : List ℕ) (most : ℕ) (read : Option ℕ) → read ≡ option_map (λ n. min n most) (whole_from field)
+    → is_some read ≡ true → read ≡ option_map (λ n. min n most) (seconds_from field)
+seconds_if_whole field most read is some =
+    let digits = whole_is_digits field (some_before (λ n. min n most) (whole_from field) (sym (ap is_some is) ∙ some)) in
+    is ∙ ap (option_map (λ n. min n most)) (sym (seconds_without_dot field (no_dot field digits)))
+
+-- a field without a dot that is no number
+pub no_seconds : (field : List ℕ) (most : ℕ) (read : Option ℕ) → read ≡ option_map (λ n. min n most) (whole_from field)
+    → is_some read ≡ false → position_or_len is_dot field ≡ length field → None ≡ option_map (λ n. min n most) (seconds_from field)
+no_seconds field most read is none dot =
+    sym (nothing read none) ∙ is ∙ ap (option_map (λ n. min n most)) (sym (seconds_without_dot field dot))

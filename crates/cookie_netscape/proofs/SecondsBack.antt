@@ -1,16 +1,15 @@
 -- The second of an expiry, written and read back.
-use Rattle.std.proofs.Common.{◌≡◌, ℕ, ◌+◌, ◌<◌, ◌≤◌, ◌^◌, min, max, get_or, ◌==◌, true, false, ℤ, pos, ◌+ℤ◌, ◌≤ℤ◌, ◌<ℤ◌, List, [], length, take, Some, decimal, sym, ap, ◌∙◌, arith, refl, take_all}
+use Rattle.std.proofs.Common.{◌≡◌, ℕ, ◌<◌, ◌≤◌, ◌^◌, min, max, get_or, ◌==◌, true, false, ℤ, pos, ◌+ℤ◌, ◌≤ℤ◌, ◌<ℤ◌, List, length, Some, decimal, ◌∙◌, arith, refl}
 use Rattle.std.specs.Prelude.{int_le}
 use Rattle.std.specs.Char.{is_ascii_control, is_ascii_digit}
 use Rattle.std.specs.Int.{int_min}
-use Rattle.std.specs.List.{list_all, position_or_len}
+use Rattle.std.specs.List.{list_all}
 use Rattle.std.specs.Str.Parse.{digits_value}
 use Rattle.std.proofs.lemmas.Bool.{and_parts, leb-true, lt-leb, and_right, and_left, or_from, ne_eqb}
 use Rattle.std.proofs.lemmas.Fmt.{decimal_nonempty, digits_decimal, digits_value-decimal}
 use Rattle.std.proofs.lemmas.Int.{ints}
-use Rattle.std.proofs.lemmas.List.{drop_all}
 use Rattle.std.proofs.lemmas.List.Folds.{list_any_none}
-use Rattle.std.proofs.lemmas.List.Sums.{AllPass-from_list_all, position_or_len_is}
+use Rattle.std.proofs.lemmas.List.Sums.{AllPass-from_list_all}
 use Rattle.std.proofs.lemmas.Str.Parse.{IsNumeralModel, numerals_by_value}
 use Rattle.jiff_core.specs.declared.civil.datetime.DateTime.{DateTime}
 use Rattle.jiff_core.proofs.SignedLemmas.{signed_arith}
@@ -18,10 +17,10 @@ use Rattle.jiff.proofs.Family.{civil_nanos_range}
 use Rattle.cookie_words.specs.Moments.{epoch, moment_at, moment_of, nanoseconds}
 use Rattle.cookie_raw.specs.Reading.{of_seconds}
 use Rattle.cookie_parts.specs.Expiry.{Expiry, AtUtc, SessionEnd, latest}
-use Rattle.cookie_netscape.specs.Lines.{expiry_at, expiry_from, is_dot, seconds_from}
+use Rattle.cookie_netscape.specs.Lines.{expiry_at, expiry_from, seconds_from}
 use Rattle.cookie_netscape.specs.Written.{expiry_second, second_of}
 use Rattle.cookie_netscape.proofs.JoinedFields.{IsField}
-use Rattle.cookie_netscape.proofs.Numbers.{are_digits, seconds_of_parts}
+use Rattle.cookie_netscape.proofs.Numbers.{are_digits, no_dot, seconds_without_dot, whole_of_digits}
 use Rattle.cookie_netscape.proofs.Seconds.{no_nanos, same_nanos, second_of_cut}
 
 -- a digit is not a control character
@@ -32,34 +31,16 @@ digit_is_no_control b digit =
     let high : b ≤ 57 = leb-true b 57 parts.1 in
     or_from _ _ (and_right _ _ (lt-leb b 31 (omega arith))) (and_left _ _ (lt-leb 127 b (omega arith)))
 
--- a digit is not a dot
-digit_is_no_dot : (b : ℕ) → is_ascii_digit b ≡ true → is_dot b ≡ false
-digit_is_no_dot b digit =
-    let low : 48 ≤ b = leb-true 48 b (and_parts _ _ digit).0 in
-    ne_eqb b 46 (λ e. omega arith)
-
 -- digits have no control character
 digits_are_field : (digits : List ℕ) → list_all is_ascii_digit digits ≡ true → IsField digits
 digits_are_field digits all =
     list_any_none is_ascii_control digits
     (λ k d within. digit_is_no_control (get_or digits k d) (AllPass-from_list_all is_ascii_digit digits all k d within))
 
--- digits have no dot
-dot_place : (digits : List ℕ) → list_all is_ascii_digit digits ≡ true → position_or_len is_dot digits ≡ length digits
-dot_place digits all =
-    position_or_len_is is_dot digits (length digits) 0 (omega arith)
-    (λ k within. digit_is_no_dot (get_or digits k 0) (AllPass-from_list_all is_ascii_digit digits all k 0 within))
-    (λ within. absurd (omega arith))
-
 -- digits are read as their number of seconds
 seconds_of_digits : (digits : List ℕ) → list_all is_ascii_digit digits ≡ true → (length digits == 0) ≡ false
     → seconds_from digits ≡ Some (digits_value 10 digits)
-seconds_of_digits digits all some =
-    let none = dot_place digits all in
-    seconds_of_parts digits digits []
-    (sym (ap (λ n. take n digits) none ∙ take_all (length digits) digits (omega arith)))
-    (sym (drop_all (position_or_len is_dot digits + 1) digits (omega arith)))
-    some all refl
+seconds_of_digits digits all some = seconds_without_dot digits (no_dot digits all) ∙ whole_of_digits digits some all
 
 -- digits are read as the expiry at their number of seconds
 expiry_of_digits : (digits : List ℕ) (n : ℕ) → list_all is_ascii_digit digits ≡ true → (length digits == 0) ≡ false

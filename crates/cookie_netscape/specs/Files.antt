@@ -32,6 +32,14 @@ BeginsWithCookies text =
     (before after : List (List ℕ)) × (rows : List Row)
     × (lines text ≡ before ++ after) × (rows_in_lines before ≡ Some rows) × (rows ≢ [])
 
+-- the line is malformed, or out of memory for its cookie; the error has this number
+abbrev pub FailsAtLine : NetscapeError → ℕ → List ℕ → Type 0
+FailsAtLine (BadLine at) number line = (at ≡ number) × (line_cookie line ≡ None)
+FailsAtLine Memory number line = (row : Row) × (line_cookie line ≡ Some (Some row))
+FailsAtLine Unrepresentable number line = ⊥
+FailsAtLine Io number line = ⊥
+FailsAtLine NotUtf8 number line = ⊥
+
 -- a line is malformed, or out of memory for a cookie of the lines before any such line
 abbrev pub FailsToRead : NetscapeError → List ℕ → Type 0
 FailsToRead (BadLine number) text = IsFirstBad number text

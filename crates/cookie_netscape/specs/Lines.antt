@@ -61,6 +61,11 @@ fields_from others = None
 abbrev pub is_dot : ℕ → Bool
 is_dot b = b == 46
 
+-- a number without a fraction
+abbrev pub whole_from : List ℕ → Option ℕ
+whole_from digits =
+    if not (length digits == 0) && list_all is_ascii_digit digits then Some (digits_value 10 digits) else None
+
 -- a number of seconds, without the fraction that it may have
 unfoldable pub seconds_from : List ℕ → Option ℕ
 seconds_from field =

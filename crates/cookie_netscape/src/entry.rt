@@ -1,9 +1,8 @@
 //! The cookie of a line.
-ghost use Rattle.std.specs.Prelude.{◌≡◌, IfOk, IfSome, IsTrue, min, option_map};
-ghost use Rattle.std.specs.List.{after_first, before_first};
+ghost use Rattle.std.specs.Prelude.{◌≡◌, IfOk, IfSome, IsTrue, min, option_map, string_bytes};
 ghost use Rattle.cookie_parts.specs.Path.{is_absolute};
 ghost use Rattle.cookie_parts.specs.Views.{expiry_value};
-ghost use Rattle.cookie_netscape.specs.Lines.{cookie_from, expiry_from, is_dot, raw_of, seconds_from, with_name};
+ghost use Rattle.cookie_netscape.specs.Lines.{cookie_from, expiry_from, raw_of, seconds_from, whole_from, with_name};
 ghost use Rattle.cookie_netscape.specs.Views.{entry_row, fields_view};
 
 use crate::fields::{Fields, are_fields, read_flag, split_fields};
@@ -84,31 +83,36 @@ fn read_expiry(field: &str) -> Option<CookieExpiration>
 fn read_seconds(field: &str) -> Option<u64>
     ensures { result ≡ option_map (λ n. min n 18_446_744_073_709_551_615) (seconds_from field.now) }
 {
-    let (whole, fraction) = whole_and_fraction(field);
-    if whole.is_empty() || !is_digits(whole) || !is_digits(fraction) {
+    let whole_number = read_whole(field);
+    if whole_number.is_some() {
+        return whole_number;
+    }
+    let (whole, fraction) = field.split_once('.')?;
+    if !is_digits(fraction) {
         return None;
     }
-    Some(whole.parse().unwrap_or(u64::MAX))
+    read_whole(whole)
 }
 
-// Splits a number at its first dot.
-fn whole_and_fraction(field: &str) -> (&str, &str)
-    ensures whole { result.0.now ≡ before_first is_dot field.now }
-    ensures fraction { result.1.now ≡ after_first is_dot field.now }
+// Reads a number that has no fraction, at most `u64::MAX`.
+fn read_whole(digits: &str) -> Option<u64>
+    ensures { result ≡ option_map (λ n. min n 18_446_744_073_709_551_615) (whole_from digits.now) }
 {
-    match field.split_once('.') {
-        Some(parts) => parts,
-        None => (field, ""),
+    if digits.is_empty() || !is_digits(digits) {
+        return None;
     }
+    Some(digits.parse().unwrap_or(u64::MAX))
 }
 
 impl<'a> Entry<'a> {
     /// Makes the cookie, with strings of its own. Fails only if out of memory.
+    #[inline(always)]
     pub(crate) fn to_cookie(&self, alloc: Global) -> Result<Cookie<'static>, AllocError>
         requires { IsTrue (is_absolute self.now.path.now) }
         ensures { IfOk result (λ cookie. cookie ≡ entry_row self.now) }
     {
-        let raw = self.to_raw(alloc)?;
+        let name = String::from_str(alloc, self.name)?;
+        let value = String::from_str(alloc, self.value)?;
         let domain = self.domain.to_ascii_lowercase(alloc)?;
         let path = CookiePath::parse(alloc, self.path)?.unwrap();
         let domain = if self.has_subdomains {
@@ -116,15 +120,14 @@ impl<'a> Entry<'a> {
         } else {
             CookieDomain::HostOnly(domain)
         };
-        Ok(Cookie::new(raw, domain, path, self.expires))
+        Ok(Cookie::new(self.raw_of(name, value), domain, path, self.expires))
     }
 
-    // The raw cookie: the name, the value, Secure and HttpOnly.
-    fn to_raw(&self, alloc: Global) -> Result<RawCookie<'static>, AllocError>
-        ensures { IfOk result (λ raw. raw ≡ raw_of self.now.name.now self.now.value.now self.now.is_secure self.now.is_http_only) }
+    // The raw cookie of this name and value: with Secure and HttpOnly.
+    #[inline(always)]
+    fn raw_of(&self, name: String, value: String) -> RawCookie<'static>
+        ensures { result ≡ raw_of (string_bytes name) (string_bytes value) self.now.is_secure self.now.is_http_only }
     {
-        let name = String::from_str(alloc, self.name)?;
-        let value = String::from_str(alloc, self.value)?;
         let mut builder = RawCookieBuilder::new(name, value);
         if self.is_secure {
             builder = builder.secure(true);
@@ -132,6 +135,6 @@ impl<'a> Entry<'a> {
         if self.is_http_only {
             builder = builder.http_only(true);
         }
-        Ok(builder.build())
+        builder.build()
     }
 }

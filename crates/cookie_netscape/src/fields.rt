@@ -1,5 +1,6 @@
 //! The fields of a line.
-ghost use Rattle.std.specs.Prelude.{◌≡◌, ◌∷◌, [], ℕ, List, None, Some, option_map, MatchOption};
+ghost use Rattle.std.specs.Prelude.{◌≡◌, ◌∷◌, [], ℕ, List, None, Some, bytes_eq, option_map, MatchOption};
+ghost use Rattle.std.specs.Str.{trim};
 ghost use Rattle.cookie_words.specs.Texts.{pieces};
 ghost use Rattle.cookie_netscape.specs.Lines.{are_fields, fields_from, fields_of, flag_from, has_control, is_domain_field, is_name_field, is_value_field, last_fields};
 ghost use Rattle.cookie_netscape.specs.Views.{fields_view};
@@ -86,7 +87,7 @@ fn split_last(text: &str) -> Option<(&str, &str)>
     let Some((name, value)) = split_field(text) else {
         return Some((text, ""));
     };
-    if split_field(value).is_some() {
+    if value.as_bytes().contains(&b'\t') {
         return None;
     }
     Some((name, value))
@@ -125,12 +126,24 @@ fn is_name_field(name: &str) -> bool
 fn is_value_field(value: &str) -> bool
     ensures { result ≡ is_value_field value.now }
 {
-    !value.as_bytes().contains(&b';') && value.trim() == value && !has_control(value)
+    !value.as_bytes().contains(&b';') && is_trimmed(value) && !has_control(value)
+}
+
+// Whether there is no white space at either end.
+fn is_trimmed(text: &str) -> bool
+    ensures { result ≡ bytes_eq (trim text.now) text.now }
+{
+    text.trim().len() == text.len()
 }
 
 // Whether there is a control character, such as HTAB or a line end.
 fn has_control(text: &str) -> bool
     ensures { result ≡ has_control text.now }
 {
-    text.as_bytes().iter().any(|byte| byte.is_ascii_control())
+    let mut found = false;
+    // Without an early end, LLVM tests many bytes in one step.
+    for byte in text.as_bytes() {
+        found |= byte.is_ascii_control();
+    }
+    found
 }

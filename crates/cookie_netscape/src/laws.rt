@@ -1,13 +1,15 @@
 //! Laws of the format, stated over definitions alone.
-ghost use Rattle.std.specs.Prelude.{◌≡◌, ◌++◌, ◌∷◌, ◌≤ℤ◌, [], IsTrue, List, Some, map, pos};
-ghost use Rattle.std.specs.List.{list_all};
+ghost use Rattle.std.specs.Prelude.{◌≡◌, ◌+◌, ◌++◌, ◌∷◌, ◌≤ℤ◌, [], IsTrue, List, Option, Some, length, map, pos, ℕ};
+ghost use Rattle.std.specs.List.{cons_option, list_all};
+ghost use Rattle.std.specs.Str.Lines.{lines};
 ghost use Rattle.jiff_core.specs.declared.civil.datetime.DateTime.{DateTime};
 ghost use Rattle.cookie_words.specs.Moments.{moment_of, nanoseconds};
 ghost use Rattle.cookie_parts.specs.Cookie.{Row};
 ghost use Rattle.cookie_parts.specs.Expiry.{AtUtc, latest};
-ghost use Rattle.cookie_netscape.specs.Files.{rows_in_file};
-ghost use Rattle.cookie_netscape.specs.Lines.{expiry_at};
+ghost use Rattle.cookie_netscape.specs.Files.{FailsAtLine, FailsToRead, rows_in_file, rows_in_lines};
+ghost use Rattle.cookie_netscape.specs.Lines.{expiry_at, line_cookie};
 ghost use Rattle.cookie_netscape.specs.Written.{as_written, expiry_second, is_representable, written_text};
+ghost use Rattle.cookie_netscape.specs.declared.error.NetscapeError.{NetscapeError};
 
 use cookie_words::moments_round_trip;
 
@@ -18,6 +20,18 @@ pub fn written_reads_back()
         → rows_in_file (written_text rows) ≡ Some (map as_written rows) }
     ensures line { (rows : List Row) → IsTrue (list_all is_representable rows)
         → rows_in_file (written_text rows ++ 10 ∷ []) ≡ Some (map as_written rows) }
+{}
+
+/// A file may be read line by line with [`read_cookie`](crate::read_cookie), which numbers the
+/// lines from 1: the cookie of a line comes after those of the lines before it, and the first error
+/// is the error of the file.
+pub fn reads_line_by_line()
+    ensures next { (before : List (List ℕ)) → (line : List ℕ) → (rows : List Row) → (row : Option Row)
+        → rows_in_lines before ≡ Some rows → line_cookie line ≡ Some row
+        → rows_in_lines (before ++ line ∷ []) ≡ Some (rows ++ cons_option row []) }
+    ensures failed { (text : List ℕ) → (before : List (List ℕ)) → (line : List ℕ) → (after : List (List ℕ)) → (rows : List Row)
+        → (error : NetscapeError) → lines text ≡ before ++ line ∷ after → rows_in_lines before ≡ Some rows
+        → FailsAtLine error (length before + 1) line → FailsToRead error text }
 {}
 
 /// The expiry that a line says of a cookie is its own, cut to whole seconds, if it is from

@@ -21,5 +21,5 @@ mod reading;
 mod writing;
 
 pub use error::NetscapeError;
-pub use reading::from_text;
+pub use reading::{from_text, read_cookie};
 pub use writing::{is_representable, new_text, push_cookie};

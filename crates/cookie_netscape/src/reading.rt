@@ -1,6 +1,6 @@
 //! Reads the cookies of a file.
 ghost use Rattle.std.specs.Prelude.{◌≡◌, IfErr, IfOk, Some, option_map};
-ghost use Rattle.cookie_netscape.specs.Files.{FailsToRead, rows_in_file};
+ghost use Rattle.cookie_netscape.specs.Files.{FailsAtLine, FailsToRead, rows_in_file};
 ghost use Rattle.cookie_netscape.specs.Lines.{cookie_from, is_blank, line_cookie};
 ghost use Rattle.cookie_netscape.specs.Views.{HasAbsolutePath, line_view};
 
@@ -50,13 +50,33 @@ pub fn from_text(alloc: Global, text: &str) -> Result<Vec<Cookie<'static>>, Nets
 {
     let mut cookies = Vec::new(alloc);
     for (index, line) in text.lines().enumerate() {
-        match read_line(line) {
-            Line::Cookie(entry) => cookies.push(entry.to_cookie(alloc)?)?,
-            Line::Skipped => {}
-            Line::Malformed => return Err(NetscapeError::BadLine { line: index + 1 }),
+        if let Some(cookie) = read_cookie(alloc, line, index + 1)? {
+            cookies.push(cookie)?;
         }
     }
     Ok(cookies)
+}
+
+/// Reads the cookie of a line, as [`from_text`] does. Returns `None` for a line that is skipped.
+///
+/// # Errors
+///
+/// - `BadLine`: the line is malformed; the error has `number`.
+/// - `Memory`: out of memory for the cookie.
+#[inline(always)]
+pub fn read_cookie(
+    alloc: Global,
+    line: &str,
+    number: usize,
+) -> Result<Option<Cookie<'static>>, NetscapeError>
+    ensures cookie { IfOk result (λ cookie. line_cookie line.now ≡ Some cookie) }
+    ensures errors { IfErr result (λ error. FailsAtLine error number line.now) }
+{
+    match read_line(line) {
+        Line::Cookie(entry) => Ok(Some(entry.to_cookie(alloc)?)),
+        Line::Skipped => Ok(None),
+        Line::Malformed => Err(NetscapeError::BadLine { line: number }),
+    }
 }
 
 // Reads a line.

@@ -67,6 +67,7 @@ pub fn push_cookie(text: &mut String, cookie: &Cookie<'_>) -> Result<(), AllocEr
 }
 
 // Appends the domain, and whether its subdomains receive the cookie.
+#[inline(always)]
 fn push_domain(text: &mut String, domain: &CookieDomain) -> Result<(), AllocError>
     ensures { OnOk result (string_bytes text.new ≡ string_bytes text.old
         ++ domain_field (domain_value domain.now) ++ 9 ∷ flag_text (has_subdomains (domain_value domain.now))) }
@@ -84,6 +85,7 @@ fn has_subdomains(domain: &CookieDomain) -> bool
 }
 
 // Appends a string if a condition holds.
+#[inline(always)]
 fn push_if(text: &mut String, part: &str, condition: bool) -> Result<(), AllocError>
     ensures { OnOk result (string_bytes text.new ≡ string_bytes text.old ++ flag part.now condition) }
 {
@@ -94,6 +96,7 @@ fn push_if(text: &mut String, part: &str, condition: bool) -> Result<(), AllocEr
 }
 
 // Appends HTAB and a field.
+#[inline(always)]
 fn push_field(text: &mut String, field: &str) -> Result<(), AllocError>
     ensures { OnOk result (string_bytes text.new ≡ string_bytes text.old ++ 9 ∷ field.now) }
 {

@@ -7,6 +7,7 @@ pub mod LoadedLines
 pub mod Migrated
 pub mod NetscapeRead
 pub mod NoneEarly
+pub mod NumberedLines
 pub mod Pairs
 pub mod ParsedJson
 pub mod ParsedRon

@@ -4,7 +4,7 @@
 //! A line has no SameSite and no other attribute, no fraction of a second in the expiry, and not
 //! whether a Path attribute set the path: a loaded cookie has a path as if one had. Its domain is in
 //! lower case. [`netscape::laws`](cookie_netscape::laws) states what reads back.
-ghost use Rattle.std.specs.Prelude.{◌≡◌, ◌-◌, ◌^◌, ◌<◌, false, true, None, filter, option_map, IfErr, IfOk, OnOk, string_bytes};
+ghost use Rattle.std.specs.Prelude.{◌≡◌, ◌-◌, ◌^◌, ◌<◌, ◌⊎◌, IsTrue, false, true, None, filter, option_map, IfErr, IfOk, OnOk, string_bytes};
 ghost use Rattle.std.specs.Io.KnownBytes.{IsAtEnd};
 ghost use Rattle.std.specs.List.{list_all};
 ghost use Rattle.cookie_words.specs.Moments.{moment_of};
@@ -16,14 +16,14 @@ ghost use Rattle.cookie_serde.specs.NetscapeLists.{BuildsFromNetscape, FailsToLo
 ghost use Rattle.cookie_serde.specs.Saving.{is_among, saved_rows};
 
 use crate::saving::is_among;
-use crate::whole_text::{read_bytes, rows_of, write_text};
+use crate::whole_text::{read_bytes, write_text};
 use cookie_core::CookieStore;
 use cookie_device::{Sink, Source};
-use cookie_netscape::{NetscapeError, is_representable, new_text, push_cookie};
+use cookie_netscape::laws::reads_line_by_line;
+use cookie_netscape::{NetscapeError, is_representable, new_text, push_cookie, read_cookie};
 use cookie_parts::Error;
 use cookie_rows::{Rows, StoreAlloc};
 use jiff::civil::DateTime;
-use std::alloc::AllocError;
 
 /// Writes the unexpired persistent cookies as a `cookies.txt` file, in the store's order.
 ///
@@ -33,7 +33,7 @@ use std::alloc::AllocError;
 ///
 /// In the order in which they are checked:
 /// - `Unrepresentable`: [`is_representable`] returns false for a cookie to be saved. Nothing is
-///   written or allocated.
+///   written.
 /// - `Memory`: out of memory. Nothing is written.
 /// - `Io`: the writer failed. A beginning of the file may be written.
 pub fn save<W: Sink>(
@@ -126,8 +126,7 @@ pub fn load_all<A: Into<StoreAlloc>, R: Source>(
 /// # Errors
 ///
 /// In the order in which they are checked:
-/// - `Unrepresentable`: [`is_representable`] returns false for a cookie to be saved. Nothing is
-///   allocated.
+/// - `Unrepresentable`: [`is_representable`] returns false for a cookie to be saved.
 /// - `Memory`: out of memory.
 pub fn to_text(store: &CookieStore, now: DateTime) -> Result<String, NetscapeError>
     ensures { SerializesToNetscape (saved_rows (moment_of now) store.now.rows) result }
@@ -210,10 +209,14 @@ fn save_among<W: Sink>(
 fn text_among(store: &CookieStore, now: &Option<DateTime>) -> Result<String, NetscapeError>
     ensures { SerializesToNetscape (filter (is_among (option_map moment_of now.now)) store.now.rows) result }
 {
-    if !are_representable(store, now) {
-        return Err(NetscapeError::Unrepresentable);
+    match written_text(store, now) {
+        Ok(text) => Ok(text),
+        Err(error) => Err(if are_representable(store, now) {
+            error
+        } else {
+            NetscapeError::Unrepresentable
+        }),
     }
-    Ok(written_text(store, now)?)
 }
 
 // Whether the format can represent all rows that are saved.
@@ -228,13 +231,20 @@ fn are_representable(store: &CookieStore, now: &Option<DateTime>) -> bool
     true
 }
 
-// The lines of the rows that are saved.
-fn written_text(store: &CookieStore, now: &Option<DateTime>) -> Result<String, AllocError>
-    ensures { IfOk result (λ text. string_bytes text ≡ written_text (filter (is_among (option_map moment_of now.now)) store.now.rows)) }
+// The lines of the rows that are saved, up to the first that the format cannot represent.
+fn written_text(store: &CookieStore, now: &Option<DateTime>) -> Result<String, NetscapeError>
+    ensures representable { OnOk result (IsTrue (list_all is_representable (filter (is_among (option_map moment_of now.now)) store.now.rows))) }
+    ensures text { IfOk result (λ text. string_bytes text ≡ written_text (filter (is_among (option_map moment_of now.now)) store.now.rows)) }
+    ensures errors { IfErr result (λ error. (error ≡ NetscapeError.Memory)
+        ⊎ ((error ≡ NetscapeError.Unrepresentable)
+        × (list_all is_representable (filter (is_among (option_map moment_of now.now)) store.now.rows) ≡ false))) }
 {
     let mut text = new_text(store.allocator())?;
     for row in store.iter_any() {
         if is_among(row, now) {
+            if !is_representable(row) {
+                return Err(NetscapeError::Unrepresentable);
+            }
             push_cookie(&mut text, row)?;
         }
     }
@@ -275,9 +285,13 @@ fn rows_of_text(
     ensures built { IfOk result (λ rows. BuildsFromNetscape text.now include_expired (moment_of now) rows) }
     ensures failed { IfErr result (λ error. FailsToRead error text.now) }
 {
-    let cookies = cookie_netscape::from_text(alloc.alloc, text)?;
-    match rows_of(alloc, cookies, include_expired, now) {
-        Ok(rows) => Ok(rows),
-        Err(_) => Err(NetscapeError::Memory),
+    // for the checker: the file may be read line by line
+    reads_line_by_line();
+    let mut rows = Rows::new(alloc);
+    for (index, line) in text.lines().enumerate() {
+        if let Some(cookie) = read_cookie(alloc.alloc, line, index + 1)? {
+            rows.take(cookie, include_expired, now)?;
+        }
     }
+    Ok(rows)
 }

@@ -1,8 +1,13 @@
 use Rattle.std.proofs.Common.{sym, ◌∙◌}
-use Rattle.cookie_netscape.proofs.Tabs.{too_many}
+use Rattle.cookie_netscape.proofs.Tabs.{last_two, too_many}
 use Rattle.cookie_netscape.proofs.fields.split_last.Goals as goal
 
-pub returns-then-is_some : goal.returns-then-is_some
-returns-then-is_some c =
-    too_many c.args.text.now c.in-Some.name c.in-Some.value c.split_field-2.result c.in-Some.ensures c.split_field-2.ensures
-    (sym c.is_some.ensures ∙ c.if-is_some.true)
+pub returns-then-contains : goal.returns-then-contains
+returns-then-contains c =
+    too_many c.args.text.now c.in-Some.name.now c.in-Some.value.now c.in-Some.ensures
+    (rw c.as_bytes.ensures.value at (sym c.contains.ensures.value ∙ c.if-contains.true))
+
+pub returns : goal.returns
+returns c =
+    last_two c.args.text.now c.in-Some.name.now c.in-Some.value.now c.in-Some.ensures
+    (rw c.as_bytes.ensures.value at (sym c.contains.ensures.value ∙ c.if-contains.false))
