@@ -2,9 +2,9 @@
 Usage: tools/bench bindings [--archive FILE]
 
 Prints microseconds of processor time a call, the least of three runs, and how many times as long http.cookiejar takes as
-StoreJar. A StoreJar counts unexpired cookies only, and is iterated over again without a change, and then after a change each
-time. The library is installed in a temporary folder, from --archive; without it the library is proved and built first. Needs a
-C compiler.
+StoreJar, and of files as CookieStore and StoreJar. A StoreJar counts unexpired cookies only, and is iterated over again without a
+change, and then after a change each time. Freeing what was loaded is not counted. The library is installed in a temporary
+folder, from --archive; without it the library is proved and built first. Needs a C compiler.
 
 Exit status: 0; 1 if a call fails."""
 import http.cookiejar
@@ -52,6 +52,17 @@ def measure(call, inputs):
             calls += len(inputs)
             spent = time.process_time() - begun
         least = min(least, spent / calls)
+    return least
+
+
+def measure_once(call):
+    """The seconds that a call takes, the least of five, without those to free its result."""
+    least = float('inf')
+    for _ in range(5):
+        begun = time.process_time()
+        result = call()
+        least = min(least, time.process_time() - begun)
+        del result
     return least
 
 
@@ -110,10 +121,15 @@ def measure_files(module, path, each):
     store, own, jar = module.CookieStore.load_netscape(text, NOW), module.StoreJar(), http.cookiejar.MozillaCookieJar()
     own.load(path)
     jar.load(path)
-    calls = {'load': (lambda _: module.CookieStore.load_netscape(text, NOW), lambda _: module.StoreJar().load(path),
-                      lambda _: http.cookiejar.MozillaCookieJar().load(path)),
-             'save': (lambda _: store.save_netscape(NOW), lambda _: own.save(f'{path}.own'), lambda _: jar.save(path))}
-    return {name: [measure(call, [None]) / LINES for call in row] for name, row in calls.items()}
+    calls = {'load': (lambda: module.CookieStore.load_netscape(text, NOW), lambda: loaded(module.StoreJar(), path),
+                      lambda: loaded(http.cookiejar.MozillaCookieJar(), path)),
+             'save': (lambda: store.save_netscape(NOW), lambda: own.save(f'{path}.own'), lambda: jar.save(path))}
+    return {name: [measure_once(call) / LINES for call in row] for name, row in calls.items()}
+
+
+def loaded(jar, path):
+    jar.load(path)
+    return jar
 
 
 def run(options):
@@ -133,9 +149,9 @@ def run(options):
         took = [f'{column[key] * 1e6:.2f}' if key in column else '-' for column in columns]
         ratio = f'{columns[3][key] / columns[2][key]:.2f}'
         print(name.ljust(26) + ''.join(each.rjust(15) for each in [*took, ratio]))
-    heads = ['CookieStore', 'StoreJar', 'MozillaCookieJar', 'ratio']
+    heads = ['CookieStore', 'StoreJar', 'MozillaCookieJar', 'ratios']
     print(f'{LINES:,} lines of cookies.txt, microseconds a line'.ljust(48) + ''.join(head.rjust(18) for head in heads))
     for each, took in files.items():
-        for name, seconds in took.items():
-            values = [value * 1e6 for value in seconds] + [seconds[2] / seconds[1]]
-            print(f'{name}, {each} a host'.ljust(48) + ''.join(f'{value:18.2f}' for value in values))
+        for name, (store, jar, other) in took.items():
+            values = ''.join(f'{value * 1e6:18.2f}' for value in (store, jar, other))
+            print(f'{name}, {each} a host'.ljust(48) + values + f'{other / store:.2f}, {other / jar:.2f}'.rjust(18))
