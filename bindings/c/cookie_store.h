@@ -155,7 +155,7 @@ enum cookie_store_status {
     /* A string is not UTF-8. */
     COOKIE_STORE_NOT_UTF8 = 22,
     /* The time is not in the years -9999 to 9999. */
-    COOKIE_STORE_BAD_MOMENT = 23,
+    COOKIE_STORE_BAD_TIME = 23,
     /* The handle is empty. */
     COOKIE_STORE_NO_STORE = 24,
     /* The handle holds a store already. */
@@ -221,7 +221,7 @@ static inline const char *cookie_store_status_text(enum cookie_store_status stat
     case COOKIE_STORE_NO_MEMORY: return "out of memory";
     case COOKIE_STORE_BAD_URL: return "not a valid URL";
     case COOKIE_STORE_NOT_UTF8: return "not UTF-8";
-    case COOKIE_STORE_BAD_MOMENT: return "the time is out of range";
+    case COOKIE_STORE_BAD_TIME: return "the time is out of range";
     case COOKIE_STORE_NO_STORE: return "the handle is empty";
     case COOKIE_STORE_HAS_STORE: return "the handle holds a store already";
     case COOKIE_STORE_NO_ROOM: return "the buffer is too short";
@@ -319,7 +319,7 @@ enum cookie_store_status cookie_store_set_hash_key(cookie_store *store, const ch
  * `text` is the value of one Set-Cookie header, and `now` the time at which it was received. On
  * success the status is INSERTED, UPDATED or EXPIRED_EXISTING.
  *
- * Errors, in the order in which they are checked: NO_STORE, NOT_UTF8, BAD_MOMENT, BAD_URL, PARSE
+ * Errors, in the order in which they are checked: NO_STORE, NOT_UTF8, BAD_TIME, BAD_URL, PARSE
  * (not a cookie), NON_HTTP_SCHEME (the cookie is HttpOnly), PARSE (the Domain attribute is not a
  * domain name), NON_RELATIVE_SCHEME, DOMAIN_MISMATCH, PUBLIC_SUFFIX, NON_HTTP_SCHEME (the stored
  * cookie is HttpOnly), EXPIRED.
@@ -347,7 +347,7 @@ enum cookie_store_status cookie_store_set(cookie_store *store, const char *url, 
  * header, for example in a loaded list, may hold control characters: check before you write them to
  * a connection.
  *
- * Errors, in the order in which they are checked: NO_STORE, NOT_UTF8, BAD_MOMENT, BAD_URL, NO_ROOM.
+ * Errors, in the order in which they are checked: NO_STORE, NOT_UTF8, BAD_TIME, BAD_URL, NO_ROOM.
  * May return NO_MEMORY instead of BAD_URL, NO_ROOM or OK. */
 enum cookie_store_status cookie_store_get(cookie_store *store, const char *url, size_t url_len, int64_t now, char *out,
                                           size_t out_len, size_t *needed);
@@ -386,7 +386,7 @@ enum cookie_store_status cookie_store_clear(cookie_store *store);
  * For `now` and later times cookie_store_get returns the same cookies as before: it never returns
  * an expired one. `*removed` is set to the number of cookies removed, and to 0 on an error.
  *
- * Errors, in the order in which they are checked: NO_STORE, BAD_MOMENT. */
+ * Errors, in the order in which they are checked: NO_STORE, BAD_TIME. */
 enum cookie_store_status cookie_store_remove_expired(cookie_store *store, int64_t now, size_t *removed);
 
 /* Returns the number of stored cookies. Expired ones count until they are removed.
@@ -433,7 +433,7 @@ enum cookie_store_status cookie_store_rows(cookie_store *store, cookie_store_row
  * If `all` is true, all cookies are written; otherwise the persistent ones that have not expired at
  * `now`. `now` is checked in both cases.
  *
- * Errors, in the order in which they are checked: NO_STORE, BAD_MOMENT, BAD_END, NO_ROOM.
+ * Errors, in the order in which they are checked: NO_STORE, BAD_TIME, BAD_END, NO_ROOM.
  * May return NO_MEMORY instead of NO_ROOM or OK. */
 enum cookie_store_status cookie_store_save_json(cookie_store *store, int64_t now, bool all, char *out, size_t out_len, size_t *needed);
 enum cookie_store_status cookie_store_save_ron(cookie_store *store, int64_t now, bool all, char *out, size_t out_len, size_t *needed);
@@ -447,7 +447,7 @@ enum cookie_store_status cookie_store_save_ron(cookie_store *store, int64_t now,
  * The store has no public suffix list and no limit, is not strict, and the domains of the cookies
  * are not checked. On an error the handle is unchanged.
  *
- * Errors, in the order in which they are checked: HAS_STORE, BAD_MOMENT, NOT_UTF8, then for JSON
+ * Errors, in the order in which they are checked: HAS_STORE, BAD_TIME, NOT_UTF8, then for JSON
  * BAD_JSON, BAD_SHAPE, BAD_END, PARSE, and for RON BAD_RON, BAD_END, PARSE.
  * May return NO_MEMORY instead of BAD_JSON, BAD_RON, any error after them, or OK. */
 enum cookie_store_status cookie_store_load_json(cookie_store *store, const char *key, size_t key_len, const char *list, size_t list_len,
@@ -470,7 +470,7 @@ enum cookie_store_status cookie_store_load_ron(cookie_store *store, const char *
  * empty or begins with a dot or `#`. Neither can it represent a cookie of a list in JSON or RON whose
  * path does not begin with `/`, or whose name or value a header value cannot have.
  *
- * Errors, in the order in which they are checked: NO_STORE, BAD_MOMENT, UNREPRESENTABLE, NO_ROOM.
+ * Errors, in the order in which they are checked: NO_STORE, BAD_TIME, UNREPRESENTABLE, NO_ROOM.
  * May return NO_MEMORY instead of NO_ROOM or OK. */
 enum cookie_store_status cookie_store_save_netscape(cookie_store *store, int64_t now, bool all, char *out, size_t out_len,
                                                     size_t *needed);
@@ -486,7 +486,7 @@ enum cookie_store_status cookie_store_save_netscape(cookie_store *store, int64_t
  * `*bad_line` is set to the number of the first malformed line, counted from 1, on BAD_LINE, and to
  * 0 otherwise. Each cookie has `has_path`. All else is as in cookie_store_load_json.
  *
- * Errors, in the order in which they are checked: HAS_STORE, BAD_MOMENT, NOT_UTF8, BAD_LINE.
+ * Errors, in the order in which they are checked: HAS_STORE, BAD_TIME, NOT_UTF8, BAD_LINE.
  * May return NO_MEMORY instead of BAD_LINE or OK. */
 enum cookie_store_status cookie_store_load_netscape(cookie_store *store, const char *key, size_t key_len, const char *list,
                                                     size_t list_len, int64_t now, bool all, size_t *bad_line);

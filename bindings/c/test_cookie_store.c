@@ -146,8 +146,8 @@ static void test_get(void) {
     static const struct {
         int64_t now;
         enum cookie_store_status wanted;
-    } MOMENTS[] = {{INT64_MIN, COOKIE_STORE_BAD_MOMENT}, {FIRST - 1, COOKIE_STORE_BAD_MOMENT}, {FIRST, COOKIE_STORE_OK},
-                   {LAST, COOKIE_STORE_OK},              {LAST + 1, COOKIE_STORE_BAD_MOMENT},  {INT64_MAX, COOKIE_STORE_BAD_MOMENT}};
+    } TIMES[] = {{INT64_MIN, COOKIE_STORE_BAD_TIME}, {FIRST - 1, COOKIE_STORE_BAD_TIME}, {FIRST, COOKIE_STORE_OK},
+                 {LAST, COOKIE_STORE_OK},            {LAST + 1, COOKIE_STORE_BAD_TIME},  {INT64_MAX, COOKIE_STORE_BAD_TIME}};
     cookie_store store = COOKIE_STORE_INIT;
     char out[8];
     size_t needed = UNSET;
@@ -163,16 +163,16 @@ static void test_get(void) {
     gives("another path", &store, "http://a.example/", NOW, "b=2");
     gives("a path that only begins so", &store, "http://a.example/dx", NOW, "b=2");
     gives("another host", &store, "http://b.example/d/page", NOW, "");
-    for (size_t at = 0; at < sizeof MOMENTS / sizeof *MOMENTS; at++) {
+    for (size_t at = 0; at < sizeof TIMES / sizeof *TIMES; at++) {
         needed = UNSET;
-        equal("a moment", cookie_store_get(&store, TEXT("http://b.example/"), MOMENTS[at].now, out, sizeof out, &needed), MOMENTS[at].wanted);
+        equal("a time", cookie_store_get(&store, TEXT("http://b.example/"), TIMES[at].now, out, sizeof out, &needed), TIMES[at].wanted);
         equal("nothing is needed", (long)needed, 0);
     }
     needed = UNSET;
     equal("a text with a zero", cookie_store_set(&store, TEXT("http://z.example/"), "z=1\0" "2", 5, NOW), COOKIE_STORE_INSERTED);
     equal("get a zero", cookie_store_get(&store, TEXT("http://z.example/"), NOW, out, sizeof out, &needed), COOKIE_STORE_OK);
     equal("what came is given", needed == 5 && memcmp(out, "z=1\0" "2", 5) == 0, true);
-    equal("set at no moment", set(&store, PAGE, "a=1", LAST + 1), COOKIE_STORE_BAD_MOMENT);
+    equal("set at a time out of range", set(&store, PAGE, "a=1", LAST + 1), COOKIE_STORE_BAD_TIME);
     needed = UNSET;
     equal("get not UTF-8", cookie_store_get(&store, NOT_UTF8, NOW, out, sizeof out, &needed), COOKIE_STORE_NOT_UTF8);
     equal("nothing is needed of no UTF-8", (long)needed, 0);
@@ -206,7 +206,7 @@ static void test_remove_expired(void) {
         int64_t now;
         enum cookie_store_status wanted;
         size_t removed, left;
-    } CALLS[] = {{FIRST - 1, COOKIE_STORE_BAD_MOMENT, 0, 5}, {LAST + 1, COOKIE_STORE_BAD_MOMENT, 0, 5}, {NOW - 1, COOKIE_STORE_OK, 1, 4},
+    } CALLS[] = {{FIRST - 1, COOKIE_STORE_BAD_TIME, 0, 5}, {LAST + 1, COOKIE_STORE_BAD_TIME, 0, 5}, {NOW - 1, COOKIE_STORE_OK, 1, 4},
                  {NOW + 59, COOKIE_STORE_OK, 0, 4},          {NOW + 60, COOKIE_STORE_OK, 2, 2},         {NOW + 60, COOKIE_STORE_OK, 0, 2},
                  {LAST, COOKIE_STORE_OK, 1, 1}};
     cookie_store store = COOKIE_STORE_INIT;

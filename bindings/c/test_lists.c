@@ -49,8 +49,8 @@ static void test_list(const struct form *form) {
     equal("nothing is written after it", list[whole], '-');
     equal("save those that stay", form->save(&store, NOW, false, list, sizeof list, &needed), COOKIE_STORE_OK);
     loads("load those that stayed", form, list, needed, NOW, true, COOKIE_STORE_OK, 1);
-    equal("save at no moment", form->save(&store, LAST + 1, false, list, sizeof list, &needed), COOKIE_STORE_BAD_MOMENT);
-    equal("nothing is needed at no moment", (long)needed, 0);
+    equal("save at a time out of range", form->save(&store, LAST + 1, false, list, sizeof list, &needed), COOKIE_STORE_BAD_TIME);
+    equal("nothing is needed at a time out of range", (long)needed, 0);
     equal("load into a store", form->load(&store, "", 0, list, 0, NOW, true), COOKIE_STORE_HAS_STORE);
     set(&store, PAGE, "c=3; Max-Age=1", FIRST);
     equal("save an end before the year 0", form->save(&store, FIRST, true, list, sizeof list, &needed), COOKIE_STORE_BAD_END);
@@ -61,7 +61,7 @@ static void test_list(const struct form *form) {
     loads("load a bad end", form, TEXT(form->bad_end), NOW, true, COOKIE_STORE_BAD_END, 0);
     loads("load no cookie", form, TEXT(form->no_cookie), NOW, true, COOKIE_STORE_PARSE, 0);
     loads("load not UTF-8", form, NOT_UTF8, NOW, true, COOKIE_STORE_NOT_UTF8, 0);
-    loads("load at no moment", form, TEXT("[]"), LAST + 1, false, COOKIE_STORE_BAD_MOMENT, 0);
+    loads("load at a time out of range", form, TEXT("[]"), LAST + 1, false, COOKIE_STORE_BAD_TIME, 0);
 }
 
 /* A cookies.txt file: what is written, buffers that are one byte too short and just long enough, and malformed files. */
@@ -81,7 +81,7 @@ static const struct netscape_load {
     {"load nothing", "", NOW, true, COOKIE_STORE_OK, 0, 0},
     {"load a malformed line", "# 1\n\na.example\tFALSE\t/\n", NOW, true, COOKIE_STORE_BAD_LINE, 0, 3},
     {"load a file that is not UTF-8", "# \xff", NOW, true, COOKIE_STORE_NOT_UTF8, 0, 0},
-    {"load at a time out of range", "", LAST + 1, false, COOKIE_STORE_BAD_MOMENT, 0, 0},
+    {"load at a time out of range", "", LAST + 1, false, COOKIE_STORE_BAD_TIME, 0, 0},
 };
 
 static void test_netscape(void) {
@@ -99,7 +99,7 @@ static void test_netscape(void) {
     equal("nothing is written", file[0], '-');
     equal("save unexpired persistent cookies", cookie_store_save_netscape(&store, NOW + 60, false, file, sizeof file, &needed), COOKIE_STORE_OK);
     same_text("no cookie", file, needed, "# Netscape HTTP Cookie File\n");
-    equal("save at a time out of range", cookie_store_save_netscape(&store, LAST + 1, false, file, sizeof file, &needed), COOKIE_STORE_BAD_MOMENT);
+    equal("save at a time out of range", cookie_store_save_netscape(&store, LAST + 1, false, file, sizeof file, &needed), COOKIE_STORE_BAD_TIME);
     set(&store, PAGE, "c=3; Max-Age=1", FIRST);
     equal("save an expiry before 1970", cookie_store_save_netscape(&store, NOW, true, file, sizeof file, &needed), COOKIE_STORE_UNREPRESENTABLE);
     equal("nothing is needed for it", (long)needed, 0);

@@ -32,7 +32,7 @@ class Status(enum.IntEnum):
     An argument is not valid:
     BAD_URL -- not a URL
     NOT_UTF8 -- not UTF-8
-    BAD_MOMENT -- a time that is not in the years -9999 to 9999
+    BAD_TIME -- a time that is not in the years -9999 to 9999
     BAD_LIMIT -- a limit below 1
     BAD_RULE -- a line of a public suffix list is not a rule
     BAD_JSON, BAD_SHAPE -- not JSON; JSON, but not a list of cookies
@@ -61,7 +61,7 @@ class Status(enum.IntEnum):
     NO_MEMORY = 20
     BAD_URL = 21
     NOT_UTF8 = 22
-    BAD_MOMENT = 23
+    BAD_TIME = 23
     NO_STORE = 24
     HAS_STORE = 25
     NO_ROOM = 26
@@ -107,7 +107,7 @@ TEXTS = {
     Status.NO_MEMORY: 'out of memory',
     Status.BAD_URL: 'not a valid URL',
     Status.NOT_UTF8: 'not UTF-8',
-    Status.BAD_MOMENT: 'the time is out of range',
+    Status.BAD_TIME: 'the time is out of range',
     Status.NO_STORE: 'the handle is empty',
     Status.HAS_STORE: 'the handle holds a store already',
     Status.NO_ROOM: 'the buffer is too short',

@@ -64,12 +64,12 @@ def _random_key() -> Tuple[bytes, int]:
     return os.urandom(16), 16
 
 
-def _moment(now: Optional[int]) -> int:
+def _seconds(now: Optional[int]) -> int:
     if now is None:
         return int(time.time())
     now = operator.index(now)
     if not -2**63 <= now < 2**63:
-        raise CookieStoreError(Status.BAD_MOMENT)
+        raise CookieStoreError(Status.BAD_TIME)
     return now
 
 
@@ -80,7 +80,7 @@ class CookieStore:
     A store without cookies is false, as an empty list is.
 
     A method that fails raises CookieStoreError with the status of the library in its attribute
-    status: NOT_UTF8 for a string that is not UTF-8, BAD_MOMENT for a time that is not in the years
+    status: NOT_UTF8 for a string that is not UTF-8, BAD_TIME for a time that is not in the years
     -9999 to 9999, NO_STORE after close(); or NoMemory. "Raises X" below means that the method can
     also raise a CookieStoreError with status X. On any of these errors the store is unchanged.
     """
@@ -175,10 +175,10 @@ class CookieStore:
         Return INSERTED, UPDATED or EXPIRED_EXISTING, or the reason why the cookie was rejected,
         such as DOMAIN_MISMATCH. Raises BAD_URL.
         """
-        page, cookie, moment = _bytes(url), _bytes(text), _moment(now)
+        page, cookie, seconds = _bytes(url), _bytes(text), _seconds(now)
         with self._lock:
             self._cookies = None
-            number = LIBRARY.cookie_store_set(self._at, page, len(page), cookie, len(cookie), moment)
+            number = LIBRARY.cookie_store_set(self._at, page, len(page), cookie, len(cookie), seconds)
         if not is_reply(number):
             check(number)
         return Status(number)
@@ -209,15 +209,15 @@ class CookieStore:
 
         Raises BAD_URL.
         """
-        page, moment, needed = _bytes(url), _moment(now), ctypes.c_size_t()
+        page, seconds, needed = _bytes(url), _seconds(now), ctypes.c_size_t()
         call, context = LIBRARY.cookie_store_get, []
         if not same_site:
             call, context = LIBRARY.cookie_store_get_cross_site, [bool(top_level), bool(lax_by_default)]
         with self._lock:
-            number = call(self._at, page, len(page), moment, *context, self._buffer, len(self._buffer), needed)
+            number = call(self._at, page, len(page), seconds, *context, self._buffer, len(self._buffer), needed)
             if number == Status.NO_ROOM:
                 self._buffer = ctypes.create_string_buffer(needed.value)
-                number = call(self._at, page, len(page), moment, *context, self._buffer, len(self._buffer), needed)
+                number = call(self._at, page, len(page), seconds, *context, self._buffer, len(self._buffer), needed)
             check(number)
             return ctypes.string_at(self._buffer, needed.value).decode('utf-8')
 
@@ -246,10 +246,10 @@ class CookieStore:
         The others keep their order. For now and later times header() returns the same cookies as
         before: it never returns an expired one.
         """
-        moment, removed = _moment(now), ctypes.c_size_t()
+        seconds, removed = _seconds(now), ctypes.c_size_t()
         with self._lock:
             self._cookies = None
-            check(LIBRARY.cookie_store_remove_expired(self._at, moment, removed))
+            check(LIBRARY.cookie_store_remove_expired(self._at, seconds, removed))
         return removed.value
 
     def __len__(self) -> int:
@@ -259,10 +259,10 @@ class CookieStore:
 
     def count_unexpired(self, now: Optional[int] = None) -> int:
         """Return the number of stored cookies that have not expired at now."""
-        moment = _moment(now)
+        seconds = _seconds(now)
         with self._lock:
             rows, _ = self._read_rows()
-        return sum(1 for row in ROW.iter_unpack(rows) if not row[5] or row[4] > moment)
+        return sum(1 for row in ROW.iter_unpack(rows) if not row[5] or row[4] > seconds)
 
     def __iter__(self) -> Iterator[Cookie]:
         return iter(self.cookies())
@@ -319,13 +319,13 @@ class CookieStore:
 
         A cookie with many escaped characters may take more: then the list is written twice.
         """
-        moment, needed = _moment(now), ctypes.c_size_t()
+        seconds, needed = _seconds(now), ctypes.c_size_t()
         with self._lock:
             count, length = self._sizes()
             room = 4096 + copies * length + others * count
             while True:
                 out = ctypes.create_string_buffer(room)
-                number = call(self._at, moment, all, out, room, needed)
+                number = call(self._at, seconds, all, out, room, needed)
                 if number != Status.NO_ROOM:
                     break
                 room = needed.value
@@ -373,9 +373,9 @@ class CookieStore:
 
     @classmethod
     def _load(cls, call: Callable[..., int], text: Text, now: Optional[int], all: bool, strict: bool) -> CookieStore:
-        saved, moment, store = _bytes(text), _moment(now), cls()
+        saved, seconds, store = _bytes(text), _seconds(now), cls()
         LIBRARY.cookie_store_free(store._at)
-        check(call(store._at, *_random_key(), saved, len(saved), moment, all))
+        check(call(store._at, *_random_key(), saved, len(saved), seconds, all))
         if strict:
             store.set_strict(True)
         return store

@@ -108,7 +108,7 @@ impl Error {
             sys::COOKIE_STORE_SECURE_STORED => Error::SecureStored,
             sys::COOKIE_STORE_NO_MEMORY => Error::NoMemory,
             sys::COOKIE_STORE_BAD_URL => Error::BadUrl,
-            sys::COOKIE_STORE_BAD_MOMENT => Error::BadTime,
+            sys::COOKIE_STORE_BAD_TIME => Error::BadTime,
             sys::COOKIE_STORE_BAD_RULE => Error::BadRule { line },
             sys::COOKIE_STORE_BAD_JSON => Error::BadJson,
             sys::COOKIE_STORE_BAD_SHAPE => Error::BadShape,

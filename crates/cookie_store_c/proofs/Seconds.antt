@@ -13,7 +13,7 @@ use Rattle.jiff_core.specs.declared.civil.datetime.DateTime.{DateTime}
 use Rattle.jiff.specs.Words.{civil_nanos}
 use Rattle.jiff.proofs.Family.{civil_nanos_range}
 use Rattle.cookie_store_c.specs.Inputs.{first_second, last_second, moment_in}
-use Rattle.cookie_store_c.specs.declared.status.Status.TheVariants.{BadMoment}
+use Rattle.cookie_store_c.specs.declared.status.Status.TheVariants.{BadTime}
 
 -- the test that seconds lie in the years -9999 to 9999
 abbrev pub is_counted : ℤ → Bool
@@ -69,7 +69,7 @@ module _ (start : DateTime) (seconds : ℤ) (e : moment_of start ≡ epoch) wher
       (ap Ok (sym (scale moment) ∙ ap moment_at (sym (same_nanos moment) ∙ n)))
 
   -- if no time is, there is none
-  pub not_told : (IsCivilNanos (civil_nanos start +ℤ seconds *ℤ pos 1_000_000_000) → ⊥) → Err BadMoment ≡ moment_in seconds
+  pub not_told : (IsCivilNanos (civil_nanos start +ℤ seconds *ℤ pos 1_000_000_000) → ⊥) → Err BadTime ≡ moment_in seconds
   not_told beyond =
       let begin : civil_nanos start ≡ pos 0 = begins start e in
       let n : civil_nanos start +ℤ seconds *ℤ pos 1_000_000_000 ≡ seconds *ℤ pos 1_000_000_000 = omega (arith, signed_arith, begin) in

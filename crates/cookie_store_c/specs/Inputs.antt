@@ -9,7 +9,7 @@ use Rattle.cookie_parts.specs.Hosts.{url_at}
 use Rattle.cookie_laws.specs.Rows.{key_at}
 use Rattle.cookie_laws.specs.Runs.{Call, Set, Remove}
 use Rattle.cookie_store_c.specs.declared.status.Status.{Status}
-use Rattle.cookie_store_c.specs.declared.status.Status.TheVariants.{NoMemory, BadUrl, NotUtf8, BadMoment}
+use Rattle.cookie_store_c.specs.declared.status.Status.TheVariants.{NoMemory, BadUrl, NotUtf8, BadTime}
 
 -- a string in UTF-8
 abbrev pub text_in : List ℕ → Result (List ℕ) Status
@@ -27,7 +27,7 @@ last_second = pos 253_402_300_799
 abbrev pub moment_in : ℤ → Result Moment Status
 moment_in seconds =
     if int_le first_second seconds && int_le seconds last_second then Ok (moment_at (seconds *ℤ pos 1_000_000_000))
-    else Err BadMoment
+    else Err BadTime
 
 -- the URL that a string parses to
 unfoldable pub url_in : List ℕ → Result Parts Status

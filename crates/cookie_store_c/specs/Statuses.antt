@@ -10,7 +10,7 @@ use Rattle.cookie_laws.specs.Runs.{Reply, Stored, Removed, Cleared}
 use Rattle.cookie_strict.specs.declared.error.StrictError.{StrictError}
 use Rattle.cookie_strict.specs.declared.error.StrictError.TheVariants as StrictCase
 use Rattle.cookie_store_c.specs.declared.status.Status.{Status}
-use Rattle.cookie_store_c.specs.declared.status.Status.TheVariants.{Done, Inserted, Updated, ExpiredExisting, NonHttpScheme, NonRelativeScheme, DomainMismatch, Expired, Parse, PublicSuffix, UnspecifiedDomain, NoMemory, BadUrl, NotUtf8, BadMoment, NoStore, HasStore, NoRoom, NotFound, BadLimit, BadRule, BadJson, BadShape, BadRon, BadEnd, BadLine, Unrepresentable, ControlCharacter, TooLong, InsecureUrl, InsecureSameSiteNone, Prefix, SecureStored}
+use Rattle.cookie_store_c.specs.declared.status.Status.TheVariants.{Done, Inserted, Updated, ExpiredExisting, NonHttpScheme, NonRelativeScheme, DomainMismatch, Expired, Parse, PublicSuffix, UnspecifiedDomain, NoMemory, BadUrl, NotUtf8, BadTime, NoStore, HasStore, NoRoom, NotFound, BadLimit, BadRule, BadJson, BadShape, BadRon, BadEnd, BadLine, Unrepresentable, ControlCharacter, TooLong, InsecureUrl, InsecureSameSiteNone, Prefix, SecureStored}
 
 -- the number of a status
 abbrev pub status_code : Status → ℕ
@@ -28,7 +28,7 @@ status_code UnspecifiedDomain = 16
 status_code NoMemory = 20
 status_code BadUrl = 21
 status_code NotUtf8 = 22
-status_code BadMoment = 23
+status_code BadTime = 23
 status_code NoStore = 24
 status_code HasStore = 25
 status_code NoRoom = 26

@@ -149,7 +149,7 @@ pub extern "C" fn cookie_store_set_hash_key(
 /// In the order in which they are checked; the store is unchanged:
 /// - `NoStore`: the handle has no store.
 /// - `NotUtf8`: `text` or `url` is not UTF-8.
-/// - `BadMoment`: `now` is not in the years -9999 to 9999.
+/// - `BadTime`: `now` is not in the years -9999 to 9999.
 /// - `BadUrl`: `url` is not a valid URL.
 /// - The errors of `CookieStore::parse`, or of `strict::parse` if the store is strict.
 /// - `NoMemory`: out of memory. It may come instead of any error but the first three.
@@ -185,7 +185,7 @@ pub extern "C" fn cookie_store_set(
 /// In the order in which they are checked; `out` is unchanged:
 /// - `NoStore`: the handle has no store.
 /// - `NotUtf8`: `url` is not UTF-8.
-/// - `BadMoment`: `now` is not in the years -9999 to 9999.
+/// - `BadTime`: `now` is not in the years -9999 to 9999.
 /// - `BadUrl`: `url` is not a valid URL.
 /// - `NoRoom`: `out` is shorter than `needed`.
 /// - `NoMemory`: out of memory. It may come instead of any error but the first three.
@@ -333,7 +333,7 @@ pub extern "C" fn cookie_store_clear(alloc: Global, handle: &mut StoreHandle) ->
 ///
 /// In the order in which they are checked; the store is unchanged:
 /// - `NoStore`: the handle has no store.
-/// - `BadMoment`: `now` is not in the years -9999 to 9999.
+/// - `BadTime`: `now` is not in the years -9999 to 9999.
 #[unsafe(no_mangle)]
 pub extern "C" fn cookie_store_remove_expired(
     alloc: Global,

@@ -24,7 +24,7 @@ pub(crate) fn text_in(bytes: &[u8]) -> Result<&str, Status>
     }
 }
 
-/// Returns the time `seconds` after the epoch, or `BadMoment` outside the years -9999 to 9999.
+/// Returns the time `seconds` after the epoch, or `BadTime` outside the years -9999 to 9999.
 pub(crate) fn moment_in(seconds: i64) -> Result<DateTime, Status>
     ensures { result_map_both moment_of (λ status. status) result ≡ moment_in seconds }
 {
@@ -32,7 +32,7 @@ pub(crate) fn moment_in(seconds: i64) -> Result<DateTime, Status>
     moments_round_trip();
     match epoch().checked_add(SignedDuration::from_secs(seconds)) {
         Ok(moment) => Ok(moment),
-        Err(_) => Err(Status::BadMoment),
+        Err(_) => Err(Status::BadTime),
     }
 }
 
@@ -57,7 +57,7 @@ fn url_or_status(parsed: Result<Option<Url>, AllocError>) -> Result<Url, Status>
 
 /// Parses `url` and reads the time `now` seconds after the epoch.
 ///
-/// The errors are `NotUtf8`, `BadMoment` and `BadUrl`, checked in this order. `NoMemory` is
+/// The errors are `NotUtf8`, `BadTime` and `BadUrl`, checked in this order. `NoMemory` is
 /// returned only if neither of the first two applies.
 pub(crate) fn request(alloc: Global, url: &[u8], now: i64) -> Result<(Url, DateTime), Status>
     ensures value { GivesOrRunsOut (result_map_both (λ request. (request.0, moment_of request.1)) (λ status. status) result) (request url.now now) }

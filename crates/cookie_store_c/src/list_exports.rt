@@ -23,7 +23,7 @@ use std::alloc::Global;
 ///
 /// In the order in which they are checked; `out` is unchanged:
 /// - `NoStore`: the handle has no store.
-/// - `BadMoment`: `now` is not in the years -9999 to 9999, also if `all` is true.
+/// - `BadTime`: `now` is not in the years -9999 to 9999, also if `all` is true.
 /// - `BadEnd`: a cookie to be saved expires before the year 0.
 /// - `NoRoom`: `out` is shorter than `needed`.
 /// - `NoMemory`: out of memory. It may come instead of any error but the first three.
@@ -60,7 +60,7 @@ pub extern "C" fn cookie_store_save_json(
 ///
 /// In the order in which they are checked; `out` is unchanged:
 /// - `NoStore`: the handle has no store.
-/// - `BadMoment`: `now` is not in the years -9999 to 9999, also if `all` is true.
+/// - `BadTime`: `now` is not in the years -9999 to 9999, also if `all` is true.
 /// - `BadEnd`: a cookie to be saved expires before the year 0.
 /// - `NoRoom`: `out` is shorter than `needed`.
 /// - `NoMemory`: out of memory. It may come instead of any error but the first three.
@@ -97,7 +97,7 @@ pub extern "C" fn cookie_store_save_ron(
 ///
 /// In the order in which they are checked; `out` is unchanged:
 /// - `NoStore`: the handle has no store.
-/// - `BadMoment`: `now` is not in the years -9999 to 9999, also if `all` is true.
+/// - `BadTime`: `now` is not in the years -9999 to 9999, also if `all` is true.
 /// - `Unrepresentable`: the format cannot represent a cookie to be saved.
 /// - `NoRoom`: `out` is shorter than `needed`.
 /// - `NoMemory`: out of memory. It may come instead of any error but the first three.
@@ -133,7 +133,7 @@ pub extern "C" fn cookie_store_save_netscape(
 ///
 /// In the order in which they are checked; the handle is unchanged:
 /// - `HasStore`: the handle has a store.
-/// - `BadMoment`: `now` is not in the years -9999 to 9999, also if `all` is true.
+/// - `BadTime`: `now` is not in the years -9999 to 9999, also if `all` is true.
 /// - `NotUtf8`: `list` is not UTF-8.
 /// - `BadJson`, `BadShape`, `BadEnd` or `Parse`: `list` is not a valid list of cookies.
 /// - `NoMemory`: out of memory. It may come instead of any error but the first three.
@@ -169,7 +169,7 @@ pub extern "C" fn cookie_store_load_json(
 ///
 /// In the order in which they are checked; the handle is unchanged:
 /// - `HasStore`: the handle has a store.
-/// - `BadMoment`: `now` is not in the years -9999 to 9999, also if `all` is true.
+/// - `BadTime`: `now` is not in the years -9999 to 9999, also if `all` is true.
 /// - `NotUtf8`: `list` is not UTF-8.
 /// - `BadRon`, `BadEnd` or `Parse`: `list` is not a valid list of cookies.
 /// - `NoMemory`: out of memory. It may come instead of any error but the first three.
@@ -206,7 +206,7 @@ pub extern "C" fn cookie_store_load_ron(
 ///
 /// In the order in which they are checked; the handle is unchanged:
 /// - `HasStore`: the handle has a store.
-/// - `BadMoment`: `now` is not in the years -9999 to 9999, also if `all` is true.
+/// - `BadTime`: `now` is not in the years -9999 to 9999, also if `all` is true.
 /// - `NotUtf8`: `list` is not UTF-8.
 /// - `BadLine`: a line of `list` is malformed.
 /// - `NoMemory`: out of memory. It may come instead of any error but the first three.
