@@ -176,7 +176,7 @@ enum cookie_store_status {
     COOKIE_STORE_BAD_RON = 33,
     /* Of a list to load: an expiry is not a valid date and time. Of cookies to save: one expires
      * before the year 0, which a list cannot represent. */
-    COOKIE_STORE_BAD_END = 34,
+    COOKIE_STORE_BAD_EXPIRY = 34,
     /* A line of a cookies.txt file to load is neither a cookie nor a comment nor blank. Its number is
      * reported. */
     COOKIE_STORE_BAD_LINE = 35,
@@ -231,7 +231,7 @@ static inline const char *cookie_store_status_text(enum cookie_store_status stat
     case COOKIE_STORE_BAD_JSON: return "not JSON";
     case COOKIE_STORE_BAD_SHAPE: return "JSON, but not a list of cookies";
     case COOKIE_STORE_BAD_RON: return "not a list of cookies in RON";
-    case COOKIE_STORE_BAD_END: return "an expiry is not valid or not representable";
+    case COOKIE_STORE_BAD_EXPIRY: return "an expiry is not valid or not representable";
     case COOKIE_STORE_BAD_LINE: return "a line of the file is not a cookie";
     case COOKIE_STORE_UNREPRESENTABLE: return "the format cannot represent a cookie";
     case COOKIE_STORE_CONTROL_CHARACTER: return "a control character in the header value";
@@ -433,7 +433,7 @@ enum cookie_store_status cookie_store_rows(cookie_store *store, cookie_store_row
  * If `all` is true, all cookies are written; otherwise the persistent ones that have not expired at
  * `now`. `now` is checked in both cases.
  *
- * Errors, in the order in which they are checked: NO_STORE, BAD_TIME, BAD_END, NO_ROOM.
+ * Errors, in the order in which they are checked: NO_STORE, BAD_TIME, BAD_EXPIRY, NO_ROOM.
  * May return NO_MEMORY instead of NO_ROOM or OK. */
 enum cookie_store_status cookie_store_save_json(cookie_store *store, int64_t now, bool all, char *out, size_t out_len, size_t *needed);
 enum cookie_store_status cookie_store_save_ron(cookie_store *store, int64_t now, bool all, char *out, size_t out_len, size_t *needed);
@@ -448,7 +448,7 @@ enum cookie_store_status cookie_store_save_ron(cookie_store *store, int64_t now,
  * are not checked. On an error the handle is unchanged.
  *
  * Errors, in the order in which they are checked: HAS_STORE, BAD_TIME, NOT_UTF8, then for JSON
- * BAD_JSON, BAD_SHAPE, BAD_END, PARSE, and for RON BAD_RON, BAD_END, PARSE.
+ * BAD_JSON, BAD_SHAPE, BAD_EXPIRY, PARSE, and for RON BAD_RON, BAD_EXPIRY, PARSE.
  * May return NO_MEMORY instead of BAD_JSON, BAD_RON, any error after them, or OK. */
 enum cookie_store_status cookie_store_load_json(cookie_store *store, const char *key, size_t key_len, const char *list, size_t list_len,
                                                 int64_t now, bool all);

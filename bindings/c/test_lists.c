@@ -8,7 +8,7 @@ static const struct form {
     const char *name;
     enum cookie_store_status (*save)(cookie_store *, int64_t, bool, char *, size_t, size_t *);
     enum cookie_store_status (*load)(cookie_store *, const char *, size_t, const char *, size_t, int64_t, bool);
-    const char *no_list, *other, *bad_end, *no_cookie;
+    const char *no_list, *other, *bad_expiry, *no_cookie;
     enum cookie_store_status no_list_status, other_status;
 } FORMS[] = {
     {"JSON", cookie_store_save_json, cookie_store_load_json, "[", "{}",
@@ -53,12 +53,12 @@ static void test_list(const struct form *form) {
     equal("nothing is needed at a time out of range", (long)needed, 0);
     equal("load into a store", form->load(&store, "", 0, list, 0, NOW, true), COOKIE_STORE_HAS_STORE);
     set(&store, PAGE, "c=3; Max-Age=1", FIRST);
-    equal("save an end before the year 0", form->save(&store, FIRST, true, list, sizeof list, &needed), COOKIE_STORE_BAD_END);
+    equal("save an expiry before the year 0", form->save(&store, FIRST, true, list, sizeof list, &needed), COOKIE_STORE_BAD_EXPIRY);
     cookie_store_free(&store);
     loads("load no list", form, TEXT(form->no_list), NOW, true, form->no_list_status, 0);
     loads("load nothing", form, TEXT(""), NOW, true, form->no_list_status, 0);
     loads("load another", form, TEXT(form->other), NOW, true, form->other_status, 0);
-    loads("load a bad end", form, TEXT(form->bad_end), NOW, true, COOKIE_STORE_BAD_END, 0);
+    loads("load a bad expiry", form, TEXT(form->bad_expiry), NOW, true, COOKIE_STORE_BAD_EXPIRY, 0);
     loads("load no cookie", form, TEXT(form->no_cookie), NOW, true, COOKIE_STORE_PARSE, 0);
     loads("load not UTF-8", form, NOT_UTF8, NOW, true, COOKIE_STORE_NOT_UTF8, 0);
     loads("load at a time out of range", form, TEXT("[]"), LAST + 1, false, COOKIE_STORE_BAD_TIME, 0);

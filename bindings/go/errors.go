@@ -63,7 +63,7 @@ const (
 	// A list to load is not a list of cookies in RON.
 	ErrBadRON Status = C.COOKIE_STORE_BAD_RON
 	// An expiry of a list to load is not a valid date and time, or one to save is before the year 0.
-	ErrBadEnd Status = C.COOKIE_STORE_BAD_END
+	ErrBadExpiry Status = C.COOKIE_STORE_BAD_EXPIRY
 	// A line of a cookies.txt file to load is neither a cookie nor a comment nor blank.
 	ErrBadLine Status = C.COOKIE_STORE_BAD_LINE
 	// A cookies.txt file cannot represent one of the cookies to save.

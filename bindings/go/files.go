@@ -19,7 +19,7 @@ const (
 
 // Save writes the persistent cookies that have not expired.
 //
-// Errors: ErrUnrepresentable (Netscape), ErrBadEnd (JSON and RON), and those of w.
+// Errors: ErrUnrepresentable (Netscape), ErrBadExpiry (JSON and RON), and those of w.
 func (j *Jar) Save(w io.Writer, format Format) error { return j.save(w, format, false) }
 
 // SaveAll writes all cookies, session cookies and expired ones included. Errors as Save.
@@ -56,8 +56,8 @@ func (j *Jar) list(format Format, all C.bool) ([]byte, error) {
 // Load returns a jar with the cookies of r that have not expired, session cookies included. Nil options are those of a zero
 // Options. No option applies to the loaded cookies: their domains are not checked.
 //
-// Errors: ErrNotUTF8; of JSON ErrBadJSON, ErrBadShape, ErrBadEnd and ErrParse; of RON ErrBadRON, ErrBadEnd and ErrParse; of
-// Netscape ErrBadLine with its line; those of r and of New.
+// Errors: ErrNotUTF8; of JSON ErrBadJSON, ErrBadShape, ErrBadExpiry and ErrParse; of RON ErrBadRON, ErrBadExpiry and
+// ErrParse; of Netscape ErrBadLine with its line; those of r and of New.
 func Load(r io.Reader, format Format, options *Options) (*Jar, error) {
 	read, err := io.ReadAll(r)
 	if err != nil {

@@ -37,7 +37,7 @@ class Status(enum.IntEnum):
     BAD_RULE -- a line of a public suffix list is not a rule
     BAD_JSON, BAD_SHAPE -- not JSON; JSON, but not a list of cookies
     BAD_RON -- not a list of cookies in RON
-    BAD_END -- an expiry is not a date and time; or a cookie to save expires before the year 0
+    BAD_EXPIRY -- an expiry is not a date and time; or a cookie to save expires before the year 0
     BAD_LINE -- a line of a cookies.txt file is not a cookie
     UNREPRESENTABLE -- a cookies.txt file cannot represent a cookie to save
 
@@ -71,7 +71,7 @@ class Status(enum.IntEnum):
     BAD_JSON = 31
     BAD_SHAPE = 32
     BAD_RON = 33
-    BAD_END = 34
+    BAD_EXPIRY = 34
     BAD_LINE = 35
     UNREPRESENTABLE = 36
     CONTROL_CHARACTER = 40
@@ -117,7 +117,7 @@ TEXTS = {
     Status.BAD_JSON: 'not JSON',
     Status.BAD_SHAPE: 'JSON, but not a list of cookies',
     Status.BAD_RON: 'not a list of cookies in RON',
-    Status.BAD_END: 'an expiry is not valid or not representable',
+    Status.BAD_EXPIRY: 'an expiry is not valid or not representable',
     Status.BAD_LINE: 'a line of the file is not a cookie',
     Status.UNREPRESENTABLE: 'the format cannot represent a cookie',
     Status.CONTROL_CHARACTER: 'a control character in the header value',

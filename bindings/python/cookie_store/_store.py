@@ -296,7 +296,7 @@ class CookieStore:
         """Return the cookies as a list in JSON, followed by a line feed.
 
         If all is true the list has every cookie; otherwise it has the persistent ones that have not
-        expired. Raises BAD_END if one of them expires before the year 0.
+        expired. Raises BAD_EXPIRY if one of them expires before the year 0.
         """
         return self._save(LIBRARY.cookie_store_save_json, now, all)
 
@@ -340,7 +340,7 @@ class CookieStore:
         persistent ones that have not expired. It has no public suffix list and no limit. If strict
         is true, it follows the rules of set_strict() from then on.
 
-        Raises BAD_JSON, BAD_SHAPE, BAD_END, or PARSE if the string of a cookie is not one.
+        Raises BAD_JSON, BAD_SHAPE, BAD_EXPIRY, or PARSE if the string of a cookie is not one.
         """
         return cls._load(LIBRARY.cookie_store_load_json, text, now, all, strict)
 
@@ -348,7 +348,7 @@ class CookieStore:
     def load_ron(cls, text: Text, now: Optional[int] = None, all: bool = False, *, strict: bool = False) -> CookieStore:
         """Return a new store with the cookies of a list in RON, as save_ron() writes it.
 
-        See load_json(). Raises BAD_RON, BAD_END or PARSE.
+        See load_json(). Raises BAD_RON, BAD_EXPIRY or PARSE.
         """
         return cls._load(LIBRARY.cookie_store_load_ron, text, now, all, strict)
 
@@ -384,7 +384,7 @@ class CookieStore:
         """Return a copy of the store: its cookies, public suffix list and limit, and whether it is strict.
 
         The cookies are passed through save_ron() and load_ron(), and so count as created in the
-        order of the store. Raises BAD_END if a cookie expires before the year 0.
+        order of the store. Raises BAD_EXPIRY if a cookie expires before the year 0.
 
         copy.copy(), copy.deepcopy() and pickle copy a store in the same way.
         """

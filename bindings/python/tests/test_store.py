@@ -88,12 +88,12 @@ RAISES = [
     ('load JSON, after the years', lambda store: CookieStore.load_json('[]', LAST + 1), Status.BAD_TIME),
     ('load no JSON', lambda store: CookieStore.load_json('['), Status.BAD_JSON),
     ('load JSON that is no list', lambda store: CookieStore.load_json('{}'), Status.BAD_SHAPE),
-    ('load JSON with no end', lambda store: CookieStore.load_json(JSON % ('a=1', '{"AtUtc":"soon"}')), Status.BAD_END),
+    ('load JSON with a bad expiry', lambda store: CookieStore.load_json(JSON % ('a=1', '{"AtUtc":"soon"}')), Status.BAD_EXPIRY),
     ('load JSON with no cookie', lambda store: CookieStore.load_json(JSON % ('a', '"SessionEnd"')), Status.PARSE),
     ('load RON, not UTF-8', lambda store: CookieStore.load_ron(b'\xff'), Status.NOT_UTF8),
     ('load RON, after the years', lambda store: CookieStore.load_ron('[]', LAST + 1), Status.BAD_TIME),
     ('load no RON', lambda store: CookieStore.load_ron('{}'), Status.BAD_RON),
-    ('load RON with no end', lambda store: CookieStore.load_ron(RON % ('a=1', 'AtUtc("soon")')), Status.BAD_END),
+    ('load RON with a bad expiry', lambda store: CookieStore.load_ron(RON % ('a=1', 'AtUtc("soon")')), Status.BAD_EXPIRY),
     ('load RON with no cookie', lambda store: CookieStore.load_ron(RON % ('a', 'SessionEnd')), Status.PARSE),
 ]
 
@@ -319,7 +319,7 @@ class StoreTests(unittest.TestCase):
             self.assertEqual(load(text, NOW).cookies(), store.cookies(), form)
         early = filled('a=1; Max-Age=1', now=FIRST)
         for form, save, _ in forms:
-            self.assert_raises(form, Status.BAD_END, lambda: save(early, NOW, all=True))
+            self.assert_raises(form, Status.BAD_EXPIRY, lambda: save(early, NOW, all=True))
 
     def test_clock(self):
         """Calls without `now` use the current time."""

@@ -113,7 +113,7 @@ impl Error {
             sys::COOKIE_STORE_BAD_JSON => Error::BadJson,
             sys::COOKIE_STORE_BAD_SHAPE => Error::BadShape,
             sys::COOKIE_STORE_BAD_RON => Error::BadRon,
-            sys::COOKIE_STORE_BAD_END => Error::BadExpiry,
+            sys::COOKIE_STORE_BAD_EXPIRY => Error::BadExpiry,
             sys::COOKIE_STORE_BAD_LINE => Error::BadLine { line },
             sys::COOKIE_STORE_UNREPRESENTABLE => Error::Unrepresentable,
             status => Error::Unexpected(status),

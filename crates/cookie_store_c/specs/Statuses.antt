@@ -10,7 +10,7 @@ use Rattle.cookie_laws.specs.Runs.{Reply, Stored, Removed, Cleared}
 use Rattle.cookie_strict.specs.declared.error.StrictError.{StrictError}
 use Rattle.cookie_strict.specs.declared.error.StrictError.TheVariants as StrictCase
 use Rattle.cookie_store_c.specs.declared.status.Status.{Status}
-use Rattle.cookie_store_c.specs.declared.status.Status.TheVariants.{Done, Inserted, Updated, ExpiredExisting, NonHttpScheme, NonRelativeScheme, DomainMismatch, Expired, Parse, PublicSuffix, UnspecifiedDomain, NoMemory, BadUrl, NotUtf8, BadTime, NoStore, HasStore, NoRoom, NotFound, BadLimit, BadRule, BadJson, BadShape, BadRon, BadEnd, BadLine, Unrepresentable, ControlCharacter, TooLong, InsecureUrl, InsecureSameSiteNone, Prefix, SecureStored}
+use Rattle.cookie_store_c.specs.declared.status.Status.TheVariants.{Done, Inserted, Updated, ExpiredExisting, NonHttpScheme, NonRelativeScheme, DomainMismatch, Expired, Parse, PublicSuffix, UnspecifiedDomain, NoMemory, BadUrl, NotUtf8, BadTime, NoStore, HasStore, NoRoom, NotFound, BadLimit, BadRule, BadJson, BadShape, BadRon, BadExpiry, BadLine, Unrepresentable, ControlCharacter, TooLong, InsecureUrl, InsecureSameSiteNone, Prefix, SecureStored}
 
 -- the number of a status
 abbrev pub status_code : Status → ℕ
@@ -38,7 +38,7 @@ status_code BadRule = 30
 status_code BadJson = 31
 status_code BadShape = 32
 status_code BadRon = 33
-status_code BadEnd = 34
+status_code BadExpiry = 34
 status_code BadLine = 35
 status_code Unrepresentable = 36
 status_code ControlCharacter = 40
@@ -85,7 +85,7 @@ error_status (ErrorCase.Cookie rejection) = cookie_error_status rejection
 error_status (ErrorCase.Saved SavedCase.Json) = BadJson
 error_status (ErrorCase.Saved SavedCase.Shape) = BadShape
 error_status (ErrorCase.Saved SavedCase.Ron) = BadRon
-error_status (ErrorCase.Saved SavedCase.Moment) = BadEnd
+error_status (ErrorCase.Saved SavedCase.Moment) = BadExpiry
 error_status ErrorCase.NotUtf8 = NotUtf8
 error_status (ErrorCase.Saved SavedCase.Memory) = NoMemory
 error_status ErrorCase.Memory = NoMemory

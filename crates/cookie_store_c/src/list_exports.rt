@@ -24,7 +24,7 @@ use std::alloc::Global;
 /// In the order in which they are checked; `out` is unchanged:
 /// - `NoStore`: the handle has no store.
 /// - `BadTime`: `now` is not in the years -9999 to 9999, also if `all` is true.
-/// - `BadEnd`: a cookie to be saved expires before the year 0.
+/// - `BadExpiry`: a cookie to be saved expires before the year 0.
 /// - `NoRoom`: `out` is shorter than `needed`.
 /// - `NoMemory`: out of memory. It may come instead of any error but the first three.
 #[unsafe(no_mangle)]
@@ -61,7 +61,7 @@ pub extern "C" fn cookie_store_save_json(
 /// In the order in which they are checked; `out` is unchanged:
 /// - `NoStore`: the handle has no store.
 /// - `BadTime`: `now` is not in the years -9999 to 9999, also if `all` is true.
-/// - `BadEnd`: a cookie to be saved expires before the year 0.
+/// - `BadExpiry`: a cookie to be saved expires before the year 0.
 /// - `NoRoom`: `out` is shorter than `needed`.
 /// - `NoMemory`: out of memory. It may come instead of any error but the first three.
 #[unsafe(no_mangle)]
@@ -135,7 +135,7 @@ pub extern "C" fn cookie_store_save_netscape(
 /// - `HasStore`: the handle has a store.
 /// - `BadTime`: `now` is not in the years -9999 to 9999, also if `all` is true.
 /// - `NotUtf8`: `list` is not UTF-8.
-/// - `BadJson`, `BadShape`, `BadEnd` or `Parse`: `list` is not a valid list of cookies.
+/// - `BadJson`, `BadShape`, `BadExpiry` or `Parse`: `list` is not a valid list of cookies.
 /// - `NoMemory`: out of memory. It may come instead of any error but the first three.
 #[unsafe(no_mangle)]
 pub extern "C" fn cookie_store_load_json(
@@ -171,7 +171,7 @@ pub extern "C" fn cookie_store_load_json(
 /// - `HasStore`: the handle has a store.
 /// - `BadTime`: `now` is not in the years -9999 to 9999, also if `all` is true.
 /// - `NotUtf8`: `list` is not UTF-8.
-/// - `BadRon`, `BadEnd` or `Parse`: `list` is not a valid list of cookies.
+/// - `BadRon`, `BadExpiry` or `Parse`: `list` is not a valid list of cookies.
 /// - `NoMemory`: out of memory. It may come instead of any error but the first three.
 #[unsafe(no_mangle)]
 pub extern "C" fn cookie_store_load_ron(

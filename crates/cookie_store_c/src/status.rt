@@ -34,7 +34,7 @@ pub enum Status {
     BadJson,
     BadShape,
     BadRon,
-    BadEnd,
+    BadExpiry,
     BadLine,
     Unrepresentable,
     ControlCharacter,
@@ -75,7 +75,7 @@ impl Status {
             Status::BadJson => 31,
             Status::BadShape => 32,
             Status::BadRon => 33,
-            Status::BadEnd => 34,
+            Status::BadExpiry => 34,
             Status::BadLine => 35,
             Status::Unrepresentable => 36,
             Status::ControlCharacter => 40,
@@ -141,7 +141,7 @@ impl Status {
             Error::Saved(SavedError::Json) => Status::BadJson,
             Error::Saved(SavedError::Shape) => Status::BadShape,
             Error::Saved(SavedError::Ron) => Status::BadRon,
-            Error::Saved(SavedError::Moment) => Status::BadEnd,
+            Error::Saved(SavedError::Moment) => Status::BadExpiry,
             Error::NotUtf8 => Status::NotUtf8,
             Error::Saved(SavedError::Memory)
             | Error::Memory
