@@ -403,7 +403,7 @@ typedef struct cookie_store_row {
     size_t value_len;
     /* The expiry time, rounded down to a whole second: a loaded list may have fractions. 0 for a
      * session cookie, and for a cookie that another one expired (EXPIRED_EXISTING). */
-    int64_t ends_at;
+    int64_t expires;
     /* The cookie has an expiry time. Otherwise it is a session cookie. */
     bool persistent;
     /* A host-only cookie, sent to that host alone. Otherwise it is also sent to the hosts below its

@@ -272,11 +272,11 @@ static void test_rows(void) {
     equal("lengths of a row", first->domain_len == 9 && first->path_len == 2 && first->name_len == 1 && first->value_len == 1, true);
     equal("lengths of another", second->domain_len == 7 && second->path_len == 1 && second->name_len == 3 && second->value_len == 2, true);
     equal("of a session", first->persistent, false);
-    equal("no expiry", (long)first->ends_at, 0);
+    equal("no expiry", (long)first->expires, 0);
     equal("for its host", first->host_only, true);
     equal("without more", first->has_path || first->secure || first->http_only, false);
     equal("persistent", second->persistent, true);
-    equal("its expiry", (long)(second->ends_at - NOW), 60);
+    equal("its expiry", (long)(second->expires - NOW), 60);
     equal("for more hosts", second->host_only, false);
     equal("with more", second->has_path && second->secure && second->http_only, true);
     cookie_store_free(&store);
@@ -345,7 +345,7 @@ static void test_layout(void) {
     equal("at", (long)offsetof(cookie_store, at), 8);
     equal("size of a row", (long)sizeof(cookie_store_row), 48);
     equal("value_len", (long)offsetof(cookie_store_row, value_len), 24);
-    equal("ends_at", (long)offsetof(cookie_store_row, ends_at), 32);
+    equal("expires", (long)offsetof(cookie_store_row, expires), 32);
     equal("persistent", (long)offsetof(cookie_store_row, persistent), 40);
     equal("host_only", (long)offsetof(cookie_store_row, host_only), 41);
     equal("has_path", (long)offsetof(cookie_store_row, has_path), 42);

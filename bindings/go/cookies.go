@@ -74,5 +74,5 @@ func expiry(row C.cookie_store_row) time.Time {
 	if !row.persistent {
 		return time.Time{}
 	}
-	return time.Unix(int64(row.ends_at), 0).UTC()
+	return time.Unix(int64(row.expires), 0).UTC()
 }

@@ -38,7 +38,7 @@ class JarCookie(http.cookiejar.Cookie):
 
     def __init__(self, row: Cookie) -> None:  # pylint: disable=super-init-not-called
         # What is the same for all cookies is in the class: iteration is twice as fast as with the constructor of Cookie.
-        domain, path, name, value, ends_at, host_only, has_path, secure, http_only = row
+        domain, path, name, value, expires, host_only, has_path, secure, http_only = row
         if not (domain.isascii() and path.isascii() and name.isascii() and value.isascii()):
             domain, path, name, value = to_wire(domain), to_wire(path), to_wire(name), to_wire(value)
         self.store_domain = domain
@@ -47,14 +47,14 @@ class JarCookie(http.cookiejar.Cookie):
         self.domain = domain if host_only else '.' + domain
         self.domain_specified = not host_only
         self.path, self.path_specified, self.name, self.value = path, has_path, name, value
-        self.secure, self.expires, self.discard = secure, ends_at, ends_at is None
+        self.secure, self.expires, self.discard = secure, expires, expires is None
         self._rest: Dict[str, Any] = {'HttpOnly': None} if http_only else {}
 
 
 def unexpired(store: CookieStore) -> List[Cookie]:
     """Return the cookies of a store that have not expired."""
     now = int(time.time())
-    return [row for row in store.cookies() if row.ends_at is None or row.ends_at > now]
+    return [row for row in store.cookies() if row.expires is None or row.expires > now]
 
 
 def new_cookie(name: str, value: str, *, domain: str = '', path: str = '/', secure: bool = False, expires: Optional[int] = None,
@@ -132,14 +132,14 @@ def insert(store: CookieStore, cookie: http.cookiejar.Cookie) -> Status:
 def header_values(rows: List[Cookie], now: int) -> Iterator[Tuple[str, str]]:
     """Yield for each cookie of a cookies.txt file a URL and a Set-Cookie header value, if they can express it."""
     hosts = {domain for domain in {row.domain for row in rows} if _PLAIN_HOST.fullmatch(domain)}
-    for domain, path, name, value, ends_at, host_only, _, secure, http_only in rows:
+    for domain, path, name, value, expires, host_only, _, secure, http_only in rows:
         if domain in hosts and ';' not in path:
             yield f'https://{domain}/', (f'{name}={value}; Path={path}{"" if host_only else "; Domain=" + domain}'
-                                         f'{"" if ends_at is None else f"; Max-Age={ends_at - now}"}'
+                                         f'{"" if expires is None else f"; Max-Age={expires - now}"}'
                                          f'{"; Secure" if secure else ""}{"; HttpOnly" if http_only else ""}')
 
 
 def is_line(row: Cookie) -> bool:
     """Return whether a cookie that the store received can be a line of a cookies.txt file."""
     return (not any(_CONTROL.search(text) for text in row[:4]) and row.path.startswith('/')
-            and not row.domain.startswith('.') and (row.ends_at is None or row.ends_at >= 0))
+            and not row.domain.startswith('.') and (row.expires is None or row.expires >= 0))

@@ -149,7 +149,7 @@ class StoreJar(MappingJar):
 
     def clear_session_cookies(self) -> None:
         """Remove all session cookies."""
-        self._remove([row for row in self.store if row.ends_at is None])
+        self._remove([row for row in self.store if row.expires is None])
 
     def clear_expired_cookies(self) -> None:
         """Remove all expired cookies."""
@@ -177,7 +177,7 @@ class StoreJar(MappingJar):
                 raise
             raise http.cookiejar.LoadError(f'{name}: {error}') from error
         with loaded:
-            rows, now = [row for row in loaded.cookies() if ignore_discard or row.ends_at is not None], int(time.time())
+            rows, now = [row for row in loaded.cookies() if ignore_discard or row.expires is not None], int(time.time())
         self.store._set_all(header_values(rows, now), now)
 
     def _filename(self, filename: Optional[Path]) -> str:
@@ -208,7 +208,7 @@ class StoreJar(MappingJar):
                     raise
         with CookieStore.load_ron(self.store.save_ron(all=True), all=ignore_expires) as saved:
             for row in saved.cookies():
-                if not ignore_discard and row.ends_at is None or not is_line(row):
+                if not ignore_discard and row.expires is None or not is_line(row):
                     saved.remove(row.domain, row.path, row.name)
             return saved.save_netscape(all=True)
 

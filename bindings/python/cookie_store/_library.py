@@ -16,7 +16,7 @@ class Store(ctypes.Structure):
 class Row(ctypes.Structure):
     """The struct cookie_store_row of cookie_store.h."""
     _fields_ = [('domain_len', ctypes.c_size_t), ('path_len', ctypes.c_size_t), ('name_len', ctypes.c_size_t),
-                ('value_len', ctypes.c_size_t), ('ends_at', ctypes.c_int64), ('persistent', ctypes.c_bool),
+                ('value_len', ctypes.c_size_t), ('expires', ctypes.c_int64), ('persistent', ctypes.c_bool),
                 ('host_only', ctypes.c_bool), ('has_path', ctypes.c_bool), ('secure', ctypes.c_bool),
                 ('http_only', ctypes.c_bool)]
 

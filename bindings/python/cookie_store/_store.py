@@ -24,7 +24,7 @@ class Cookie(NamedTuple):
     name: str
     value: str
     #: Expiry time, or None for a session cookie.
-    ends_at: Optional[int]
+    expires: Optional[int]
     #: True for a host-only cookie, False if it is also sent to the hosts below its domain.
     host_only: bool
     #: True if the path comes from a Path attribute.
@@ -37,13 +37,13 @@ def _cookies_of(rows: bytes, texts: bytes) -> List[Cookie]:
     """Return the cookies of the rows and strings that the library writes."""
     # Lengths are in bytes, and so are those of a string in Latin-1.
     text, cookies, at = texts.decode('latin-1'), [], 0
-    for domain, path, name, value, ends_at, persistent, host_only, has_path, secure, http_only in ROW.iter_unpack(rows):
+    for domain, path, name, value, expires, persistent, host_only, has_path, secure, http_only in ROW.iter_unpack(rows):
         path_at = at + domain
         name_at = path_at + path
         value_at = name_at + name
         end = value_at + value
         fields = (text[at:path_at], text[path_at:name_at], text[name_at:value_at], text[value_at:end],
-                  ends_at if persistent else None, host_only, has_path, secure, http_only)
+                  expires if persistent else None, host_only, has_path, secure, http_only)
         cookies.append(tuple.__new__(Cookie, fields))  # Cookie._make() takes longer
         at = end
     return cookies if texts.isascii() else [_decoded(cookie) for cookie in cookies]

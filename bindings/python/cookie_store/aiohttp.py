@@ -89,7 +89,7 @@ class StoreCookieJar(AbstractCookieJar):
         for row in unexpired(self.store):
             morsel = _morsel(row.name, row.value)
             if morsel is not None:
-                expires = '' if row.ends_at is None else email.utils.formatdate(row.ends_at, usegmt=True)
+                expires = '' if row.expires is None else email.utils.formatdate(row.expires, usegmt=True)
                 words: Dict[str, Any] = {'secure': row.secure, 'httponly': row.http_only}
                 morsel.update({'domain': row.domain, 'path': row.path, 'expires': expires, **words})
                 yield row, morsel

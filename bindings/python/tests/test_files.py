@@ -69,7 +69,7 @@ class Response:
 
 def rows_of(store):
     """Return what a file says of the cookies of a store."""
-    return sorted((row.domain, row.host_only, row.path, row.name, row.value, row.ends_at, row.secure, row.http_only)
+    return sorted((row.domain, row.host_only, row.path, row.name, row.value, row.expires, row.secure, row.http_only)
                   for row in store)
 
 
@@ -106,7 +106,7 @@ class FileTests(unittest.TestCase):
 
     def test_store(self):
         store = CookieStore.load_netscape(FILE, NOW)
-        self.assertEqual([(row.name, row.host_only, row.has_path, row.ends_at) for row in store],
+        self.assertEqual([(row.name, row.host_only, row.has_path, row.expires) for row in store],
                          [('a', True, True, None), ('b', False, True, 4121282317)])
         self.assertEqual(store.save_netscape(NOW, all=True), FILE)
         self.assertEqual(store.save_netscape(4121282317), '# Netscape HTTP Cookie File\n')

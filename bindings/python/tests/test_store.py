@@ -326,7 +326,7 @@ class StoreTests(unittest.TestCase):
         store = CookieStore()
         self.assertIs(store.set(PAGE, 'a=1; Max-Age=3600'), Status.INSERTED)
         self.assertEqual(store.header(PAGE), 'a=1')
-        self.assertLess(abs(store.cookies()[0].ends_at - time.time() - 3600), SECONDS)
+        self.assertLess(abs(store.cookies()[0].expires - time.time() - 3600), SECONDS)
         self.assertEqual(len(CookieStore.load_ron(store.save_ron())), 1)
 
     def test_copy(self):

@@ -287,7 +287,7 @@ impl CookieStore {
                 path: take(&mut rest, row.path_len)?,
                 name: take(&mut rest, row.name_len)?,
                 value: take(&mut rest, row.value_len)?,
-                expires: row.persistent.then(|| time_at(row.ends_at)),
+                expires: row.persistent.then(|| time_at(row.expires)),
                 host_only: row.host_only,
                 has_path: row.has_path,
                 secure: row.secure,

@@ -57,7 +57,7 @@ pub struct cookie_store_row {
     pub path_len: usize,
     pub name_len: usize,
     pub value_len: usize,
-    pub ends_at: i64,
+    pub expires: i64,
     pub persistent: bool,
     pub host_only: bool,
     pub has_path: bool,

@@ -25,7 +25,7 @@ pub struct CookieRow {
     pub name_len: usize,
     pub value_len: usize,
     /// The second in which it expires, counted from the epoch; 0 for a session cookie.
-    pub ends_at: i64,
+    pub expires: i64,
     pub persistent: u8,
     pub host_only: u8,
     /// Whether the path is that of a Path attribute.
@@ -132,7 +132,7 @@ fn reported(row: &Cookie<'static>) -> CookieRow
         path_len: row.path.as_str().len(),
         name_len: row.name().len(),
         value_len: row.value().len(),
-        ends_at: expiry_second(&row.expires),
+        expires: expiry_second(&row.expires),
         persistent: u8::from(row.is_persistent()),
         host_only: u8::from(matches!(row.domain, CookieDomain::HostOnly(_))),
         has_path: u8::from(row.path.is_from_path_attr()),
