@@ -11,7 +11,7 @@ use Rattle.cookie_serde.specs.declared.migration.MigrateError.TheVariants as Mig
 use Rattle.cookie_script.specs.declared.error.ConvertFault.{ConvertFault}
 use Rattle.cookie_script.specs.declared.error.ConvertFault.TheVariants as Conversion
 use Rattle.cookie_script.specs.declared.error.MainFault.{MainFault}
-use Rattle.cookie_script.specs.declared.error.MainFault.TheVariants.{BadArguments, CannotReadList, BadRule, CannotDrawKey, Run, Convert}
+use Rattle.cookie_script.specs.declared.error.MainFault.TheVariants.{BadArguments, CannotReadList, BadRule, NoRandomKey, Run, Convert}
 use Rattle.cookie_script.specs.declared.error.RunFault.{RunFault}
 use Rattle.cookie_script.specs.declared.error.RunFault.TheVariants.{Read, Write, Memory}
 
@@ -20,7 +20,7 @@ abbrev pub status_of : MainFault → ℕ
 status_of BadArguments = 2
 status_of CannotReadList = 2
 status_of (BadRule line) = 2
-status_of CannotDrawKey = 1
+status_of NoRandomKey = 1
 status_of (Run Read) = 1
 status_of (Run Write) = 1
 status_of (Run Memory) = 3
@@ -47,7 +47,7 @@ abbrev pub main_error_text : MainFault → List ℕ
 main_error_text BadArguments = codes "cookie_jar: bad arguments"
 main_error_text CannotReadList = codes "cookie_jar: cannot read list"
 main_error_text (BadRule line) = codes "cookie_jar: bad rule in line " ++ decimal line
-main_error_text CannotDrawKey = codes "cookie_jar: cannot draw a hash key"
+main_error_text NoRandomKey = codes "cookie_jar: cannot get a random hash key"
 main_error_text (Run fault) = codes "cookie_jar: " ++ run_error_text fault
 main_error_text (Convert fault) = codes "cookie_jar: " ++ convert_error_text fault
 

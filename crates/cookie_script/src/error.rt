@@ -131,7 +131,7 @@ pub enum MainFault {
     /// The first malformed line of the public suffix list, counted from 1.
     BadRule(usize),
     /// The system returned no random bytes for the hash key.
-    CannotDrawKey,
+    NoRandomKey,
     /// Running the script failed.
     Run(RunFault),
     /// Converting lines of JSON failed.
@@ -150,7 +150,7 @@ impl MainFault {
     {
         match self {
             MainFault::BadArguments | MainFault::CannotReadList | MainFault::BadRule(_) => 2,
-            MainFault::CannotDrawKey => 1,
+            MainFault::NoRandomKey => 1,
             MainFault::Run(RunFault::Read | RunFault::Write) => 1,
             MainFault::Run(RunFault::Memory) => 3,
             MainFault::Convert(ConvertFault::Read | ConvertFault::Write) => 1,
@@ -206,9 +206,9 @@ impl From<ListError> for MainFault {
 
 /// Returns the error for failing to get a random hash key.
 pub fn random_key_error(_error: io::Error) -> MainFault
-    ensures { result ≡ MainFault.CannotDrawKey }
+    ensures { result ≡ MainFault.NoRandomKey }
 {
-    MainFault::CannotDrawKey
+    MainFault::NoRandomKey
 }
 
 /// Formats the whole line for standard error, without its line feed.
@@ -229,7 +229,7 @@ impl fmt::Display for MainFault {
                 f.write_str("cookie_jar: bad rule in line ")?;
                 f.write_str(Buffer::new().format(*line))
             }
-            MainFault::CannotDrawKey => f.write_str("cookie_jar: cannot draw a hash key"),
+            MainFault::NoRandomKey => f.write_str("cookie_jar: cannot get a random hash key"),
             MainFault::Run(fault) => {
                 f.write_str("cookie_jar: ")?;
                 fault.fmt(f)

@@ -162,9 +162,9 @@ static MAIN_ERRORS: [(MainFault, u8, &str); 11] = [
     (MainFault::CannotReadList, 2, "cookie_jar: cannot read list"),
     (MainFault::BadRule(17), 2, "cookie_jar: bad rule in line 17"),
     (
-        MainFault::CannotDrawKey,
+        MainFault::NoRandomKey,
         1,
-        "cookie_jar: cannot draw a hash key",
+        "cookie_jar: cannot get a random hash key",
     ),
     (MainFault::Run(RunFault::Read), 1, "cookie_jar: read failed"),
     (
