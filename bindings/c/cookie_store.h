@@ -316,7 +316,7 @@ enum cookie_store_status cookie_store_set_hash_key(cookie_store *store, const ch
 
 /* Parses a Set-Cookie header value received from `url` and inserts the cookie, RFC 6265 5.3.
  *
- * `text` is the value of one Set-Cookie header, and `now` the time at which it was received. On
+ * `value` is the value of one Set-Cookie header, and `now` the time at which it was received. On
  * success the status is INSERTED, UPDATED or EXPIRED_EXISTING.
  *
  * Errors, in the order in which they are checked: NO_STORE, NOT_UTF8, BAD_TIME, BAD_URL, PARSE
@@ -328,8 +328,8 @@ enum cookie_store_status cookie_store_set_hash_key(cookie_store *store, const ch
  * If the store is strict, the errors after BAD_URL are: CONTROL_CHARACTER, PARSE (not a cookie),
  * TOO_LONG, those above from NON_HTTP_SCHEME (the cookie is HttpOnly) on, INSECURE_URL,
  * INSECURE_SAME_SITE_NONE, PREFIX, SECURE_STORED. */
-enum cookie_store_status cookie_store_set(cookie_store *store, const char *url, size_t url_len, const char *text, size_t text_len,
-                                          int64_t now);
+enum cookie_store_status cookie_store_set(cookie_store *store, const char *url, size_t url_len, const char *value,
+                                          size_t value_len, int64_t now);
 
 /* Writes the value of the Cookie header of a request for `url` at `now`, RFC 6265 5.4.
  *
@@ -418,15 +418,15 @@ typedef struct cookie_store_row {
 /* Writes all cookies, expired ones included, in the order of the store.
  *
  * Each cookie is written to one item of `rows`, and the strings of all of them one after the other
- * to `texts`. `*rows_needed` is set to the number of cookies and `*texts_needed` to the length of
- * all strings. If one of the two buffers is too short, neither is written to. On any other error
+ * to `strings`. `*rows_needed` is set to the number of cookies and `*strings_needed` to the length
+ * of all strings. If one of the two buffers is too short, neither is written to. On any other error
  * both numbers are 0.
  *
  * Errors, in the order in which they are checked: NO_STORE, NO_ROOM.
  * May return NO_MEMORY instead of NO_ROOM or OK, but only if one of the two lengths is 2^64 or
  * more. */
-enum cookie_store_status cookie_store_rows(cookie_store *store, cookie_store_row *rows, size_t rows_len, char *texts,
-                                           size_t texts_len, size_t *rows_needed, size_t *texts_needed);
+enum cookie_store_status cookie_store_rows(cookie_store *store, cookie_store_row *rows, size_t rows_len, char *strings,
+                                           size_t strings_len, size_t *rows_needed, size_t *strings_needed);
 
 /* Writes the cookies as a list in JSON or RON, in UTF-8, followed by a line feed.
  *

@@ -249,25 +249,25 @@ static void test_limit_and_key(void) {
 static void test_rows(void) {
     cookie_store store = COOKIE_STORE_INIT;
     cookie_store_row rows[2];
-    char texts[64];
+    char strings[64];
     const char *whole = "a.example/da1example/k\xc3\xbc" "22";
-    size_t rows_needed = UNSET, texts_needed = UNSET;
+    size_t rows_needed = UNSET, strings_needed = UNSET;
     cookie_store_new(&store, "", 0);
-    equal("no rows", cookie_store_rows(&store, rows, 0, texts, 0, &rows_needed, &texts_needed), COOKIE_STORE_OK);
-    equal("no rows needed", (long)(rows_needed + texts_needed), 0);
+    equal("no rows", cookie_store_rows(&store, rows, 0, strings, 0, &rows_needed, &strings_needed), COOKIE_STORE_OK);
+    equal("no rows needed", (long)(rows_needed + strings_needed), 0);
     set(&store, PAGE, "a=1", NOW);
     set(&store, "http://b.example/", "k\xc3\xbc=22; Domain=example; Path=/; Max-Age=60; Secure; HttpOnly", NOW);
     for (int is_short = 2; is_short >= 0; is_short--) {
-        rows_needed = texts_needed = UNSET;
-        memset(texts, '-', sizeof texts);
-        enum cookie_store_status status = cookie_store_rows(&store, rows, is_short == 2 ? 1 : 2, texts, strlen(whole) - (is_short == 1),
-                                                            &rows_needed, &texts_needed);
+        rows_needed = strings_needed = UNSET;
+        memset(strings, '-', sizeof strings);
+        enum cookie_store_status status = cookie_store_rows(&store, rows, is_short == 2 ? 1 : 2, strings, strlen(whole) - (is_short == 1),
+                                                            &rows_needed, &strings_needed);
         equal("rows with room, or not", status, is_short ? COOKIE_STORE_NO_ROOM : COOKIE_STORE_OK);
         equal("rows needed", (long)rows_needed, 2);
-        equal("texts needed", (long)texts_needed, (long)strlen(whole));
-        equal("nothing is written after the texts", texts[is_short ? 0 : texts_needed], '-');
+        equal("strings needed", (long)strings_needed, (long)strlen(whole));
+        equal("nothing is written after the strings", strings[is_short ? 0 : strings_needed], '-');
     }
-    same_text("texts", texts, texts_needed, whole);
+    same_text("strings", strings, strings_needed, whole);
     const cookie_store_row *first = &rows[0], *second = &rows[1];
     equal("lengths of a row", first->domain_len == 9 && first->path_len == 2 && first->name_len == 1 && first->value_len == 1, true);
     equal("lengths of another", second->domain_len == 7 && second->path_len == 1 && second->name_len == 3 && second->value_len == 2, true);

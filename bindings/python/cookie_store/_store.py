@@ -33,10 +33,10 @@ class Cookie(NamedTuple):
     http_only: bool
 
 
-def _cookies_of(rows: bytes, texts: bytes) -> List[Cookie]:
+def _cookies_of(rows: bytes, strings: bytes) -> List[Cookie]:
     """Return the cookies of the rows and strings that the library writes."""
     # Lengths are in bytes, and so are those of a string in Latin-1.
-    text, cookies, at = texts.decode('latin-1'), [], 0
+    text, cookies, at = strings.decode('latin-1'), [], 0
     for domain, path, name, value, expires, persistent, host_only, has_path, secure, http_only in ROW.iter_unpack(rows):
         path_at = at + domain
         name_at = path_at + path
@@ -46,7 +46,7 @@ def _cookies_of(rows: bytes, texts: bytes) -> List[Cookie]:
                   expires if persistent else None, host_only, has_path, secure, http_only)
         cookies.append(tuple.__new__(Cookie, fields))  # Cookie._make() takes longer
         at = end
-    return cookies if texts.isascii() else [_decoded(cookie) for cookie in cookies]
+    return cookies if strings.isascii() else [_decoded(cookie) for cookie in cookies]
 
 
 def _decoded(cookie: Cookie) -> Cookie:
@@ -119,7 +119,7 @@ class CookieStore:
     def __exit__(self, *_: object) -> None:
         self.close()
 
-    def use_suffixes(self, text: Text) -> None:
+    def use_suffixes(self, suffixes: Text) -> None:
         """Set the public suffix list, in the format of publicsuffix.org.
 
         Stored cookies stay. A domain that no rule matches is not a public suffix. To list top-level
@@ -127,7 +127,7 @@ class CookieStore:
 
         Raises BadRule with the number of the first malformed line.
         """
-        rules, line = _bytes(text), ctypes.c_size_t()
+        rules, line = _bytes(suffixes), ctypes.c_size_t()
         with self._lock:
             number = LIBRARY.cookie_store_use_suffixes(self._at, rules, len(rules), line)
             if number == Status.BAD_RULE:
@@ -169,13 +169,13 @@ class CookieStore:
             check(LIBRARY.cookie_store_set_strict(self._at, strict))
             self._strict = strict
 
-    def set(self, url: Text, text: Text, now: Optional[int] = None) -> Status:
+    def set(self, url: Text, value: Text, now: Optional[int] = None) -> Status:
         """Insert the cookie of a Set-Cookie header value received from url.
 
         Return INSERTED, UPDATED or EXPIRED_EXISTING, or the reason why the cookie was rejected,
         such as DOMAIN_MISMATCH. Raises BAD_URL.
         """
-        page, cookie, seconds = _bytes(url), _bytes(text), _seconds(now)
+        page, cookie, seconds = _bytes(url), _bytes(value), _seconds(now)
         with self._lock:
             self._cookies = None
             number = LIBRARY.cookie_store_set(self._at, page, len(page), cookie, len(cookie), seconds)
@@ -188,8 +188,8 @@ class CookieStore:
         insert = LIBRARY.cookie_store_set
         with self._lock:
             self._cookies = None
-            for url, text in pairs:
-                page, cookie = url.encode(), text.encode()
+            for url, value in pairs:
+                page, cookie = url.encode(), value.encode()
                 number = insert(self._at, page, len(page), cookie, len(cookie), now)
                 if not is_reply(number) and number != Status.BAD_URL:
                     check(number)
@@ -279,18 +279,18 @@ class CookieStore:
 
     def _sizes(self) -> Tuple[int, int]:
         """Return the number of cookies, and the bytes of their strings."""
-        rows, texts = ctypes.c_size_t(), ctypes.c_size_t()
-        number = LIBRARY.cookie_store_rows(self._at, (Row * 1)(), 0, ctypes.create_string_buffer(1), 0, rows, texts)
+        rows, strings = ctypes.c_size_t(), ctypes.c_size_t()
+        number = LIBRARY.cookie_store_rows(self._at, (Row * 1)(), 0, ctypes.create_string_buffer(1), 0, rows, strings)
         if number != Status.NO_ROOM:
             check(number)
-        return rows.value, texts.value
+        return rows.value, strings.value
 
     def _read_rows(self) -> Tuple[bytes, bytes]:
         """Return the rows as the library writes them, and their strings."""
         count, length = self._sizes()
-        rows, texts = (Row * max(1, count))(), ctypes.create_string_buffer(max(1, length))
-        check(LIBRARY.cookie_store_rows(self._at, rows, count, texts, length, ctypes.c_size_t(), ctypes.c_size_t()))
-        return ctypes.string_at(rows, count * ROW.size), ctypes.string_at(texts, length)
+        rows, strings = (Row * max(1, count))(), ctypes.create_string_buffer(max(1, length))
+        check(LIBRARY.cookie_store_rows(self._at, rows, count, strings, length, ctypes.c_size_t(), ctypes.c_size_t()))
+        return ctypes.string_at(rows, count * ROW.size), ctypes.string_at(strings, length)
 
     def save_json(self, now: Optional[int] = None, all: bool = False) -> str:
         """Return the cookies as a list in JSON, followed by a line feed.

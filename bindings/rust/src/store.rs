@@ -275,12 +275,12 @@ impl CookieStore {
     ///
     /// [`Error::NoMemory`].
     pub fn cookies(&mut self) -> Result<Vec<Cookie>, Error> {
-        let (rows, texts) = self.rows()?;
+        let (rows, strings) = self.rows()?;
         let mut cookies = Vec::new();
         cookies
             .try_reserve_exact(rows.len())
             .map_err(|_| Error::NoMemory)?;
-        let mut rest = texts.as_str();
+        let mut rest = strings.as_str();
         for row in rows {
             cookies.push(Cookie {
                 domain: take(&mut rest, row.domain_len)?,
@@ -301,7 +301,7 @@ impl CookieStore {
     fn rows(&mut self) -> Result<(Vec<cookie_store_row>, String), Error> {
         let mut rows = Vec::new();
         let mut rows_needed = 0;
-        let texts = string(0, |out, len, needed| {
+        let strings = string(0, |out, len, needed| {
             if grow(&mut rows, rows_needed).is_err() {
                 return sys::COOKIE_STORE_NO_MEMORY;
             }
@@ -318,7 +318,7 @@ impl CookieStore {
                 )
             }
         })?;
-        Ok((rows, texts))
+        Ok((rows, strings))
     }
 
     /// Returns the store that `create(handle, key, bad_line)` creates in an empty handle.

@@ -92,8 +92,8 @@ extern "C" {
         store: *mut cookie_store,
         url: *const c_char,
         url_len: usize,
-        text: *const c_char,
-        text_len: usize,
+        value: *const c_char,
+        value_len: usize,
         now: i64,
     ) -> cookie_store_status;
     pub fn cookie_store_get(
@@ -136,10 +136,10 @@ extern "C" {
         store: *mut cookie_store,
         rows: *mut cookie_store_row,
         rows_len: usize,
-        texts: *mut c_char,
-        texts_len: usize,
+        strings: *mut c_char,
+        strings_len: usize,
         rows_needed: *mut usize,
-        texts_needed: *mut usize,
+        strings_needed: *mut usize,
     ) -> cookie_store_status;
     pub fn cookie_store_save_json(
         store: *mut cookie_store,

@@ -43,8 +43,8 @@ request url now = and_then (text_and_time url now) (λ inputs. and_then (url_in 
 
 -- a Set-Cookie header value received from a URL at a time
 abbrev pub set_call : List ℕ → List ℕ → ℤ → Result Call Status
-set_call url text now =
-    and_then (text_in text) (λ value. and_then (request url now) (λ inputs. Ok (Set value inputs.0 inputs.1)))
+set_call url value now =
+    and_then (text_in value) (λ text. and_then (request url now) (λ inputs. Ok (Set text inputs.0 inputs.1)))
 
 -- the removal of the cookie with a domain, a path and a name
 abbrev pub remove_call : List ℕ → List ℕ → List ℕ → Result Call Status

@@ -41,44 +41,44 @@ cookie_row row = record {
 }
 
 -- the strings of a row
-abbrev pub row_texts : Row → List ℕ
-row_texts row = domain_text row.domain ++ row.path.text ++ row.raw.name ++ row.raw.value
+abbrev pub row_strings : Row → List ℕ
+row_strings row = domain_text row.domain ++ row.path.text ++ row.raw.name ++ row.raw.value
 
 -- the status, the two buffers after the call, and the lengths that they need
 pub record BufferOutcome : Type 0 where
   pub status : Status
   pub rows : List CookieRow
-  pub texts : List ℕ
+  pub strings : List ℕ
   pub rows_needed : ℕ
-  pub texts_needed : ℕ
+  pub strings_needed : ℕ
 
 -- a status alone: nothing is written, and both lengths are 0
 abbrev pub nothing_written : Status → List CookieRow → List ℕ → BufferOutcome
-nothing_written status rows texts =
-    record { status = status; rows = rows; texts = texts; rows_needed = 0; texts_needed = 0 }
+nothing_written status rows strings =
+    record { status = status; rows = rows; strings = strings; rows_needed = 0; strings_needed = 0 }
 
 -- the lengths that the buffers need
 abbrev pub lengths_outcome : List Row → List CookieRow → List ℕ → BufferOutcome
-lengths_outcome all rows texts =
-    record (nothing_written NoRoom rows texts) { rows_needed = length all; texts_needed = length (flat_map row_texts all) }
+lengths_outcome all rows strings =
+    record (nothing_written NoRoom rows strings) { rows_needed = length all; strings_needed = length (flat_map row_strings all) }
 
 -- rows and strings are written if both fit
 abbrev pub rows_outcome : List Row → List CookieRow → List ℕ → BufferOutcome
-rows_outcome all rows texts =
-    if nat_le (length all) (length rows) && nat_le (length (flat_map row_texts all)) (length texts) then record (lengths_outcome all rows texts) {
+rows_outcome all rows strings =
+    if nat_le (length all) (length rows) && nat_le (length (flat_map row_strings all)) (length strings) then record (lengths_outcome all rows strings) {
       status = Done;
       rows = at_front (map cookie_row all) rows;
-      texts = at_front (flat_map row_texts all) texts;
+      strings = at_front (flat_map row_strings all) strings;
     }
-    else lengths_outcome all rows texts
+    else lengths_outcome all rows strings
 
 -- the number of rows or the length of all strings is 2^64 or more
 abbrev pub IsTooLong : List Row → Type 0
-IsTooLong rows = (2 ^ 64 ≤ length rows) ⊎ (2 ^ 64 ≤ length (flat_map row_texts rows))
+IsTooLong rows = (2 ^ 64 ≤ length rows) ⊎ (2 ^ 64 ≤ length (flat_map row_strings rows))
 
 -- the rows of a store are written if they fit; `NoMemory` if a length is too great, `NoStore` without a store
 abbrev pub ReportsRows : Option Contents → List CookieRow → List ℕ → BufferOutcome → Type 0
-ReportsRows None rows texts reported = reported ≡ nothing_written NoStore rows texts
-ReportsRows (Some store) rows texts reported =
-    (reported ≡ rows_outcome store.rows rows texts)
-    ⊎ (IsTooLong store.rows × (reported ≡ nothing_written NoMemory rows texts))
+ReportsRows None rows strings reported = reported ≡ nothing_written NoStore rows strings
+ReportsRows (Some store) rows strings reported =
+    (reported ≡ rows_outcome store.rows rows strings)
+    ⊎ (IsTooLong store.rows × (reported ≡ nothing_written NoMemory rows strings))

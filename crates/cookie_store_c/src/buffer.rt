@@ -46,18 +46,18 @@ fn put(buffer: &mut [u8], place: usize, text: &[u8]) -> usize
     end
 }
 
-/// Copies `answer` into the front of the buffer, if it is `Ok` and fits, and returns the status.
+/// Copies `output` into the front of the buffer, if it is `Ok` and fits, and returns the status.
 ///
-/// `needed` is set to its length, also if the result is `NoRoom`, and to 0 if `answer` is an error.
+/// `needed` is set to its length, also if the result is `NoRoom`, and to 0 if `output` is an error.
 pub(crate) fn copy_out(
-    answer: Result<Vec<u8>, Status>,
+    output: Result<Vec<u8>, Status>,
     buffer: &mut [u8],
     needed: &mut usize,
 ) -> Status
     ensures { record { status = result; buffer = buffer.new; needed = needed.new }
-        ≡ text_outcome (result_map_both (λ text. text.items) (λ status. status) answer) buffer.old }
+        ≡ text_outcome (result_map_both (λ text. text.items) (λ status. status) output) buffer.old }
 {
-    match answer {
+    match output {
         Ok(text) => {
             *needed = text.len();
             if buffer.len() < text.len() {

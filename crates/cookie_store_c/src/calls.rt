@@ -15,20 +15,20 @@ use std::hash::RandomState;
 use std::random::RandomSource;
 use std::{io, mem};
 
-/// Parses the `Set-Cookie` header value `text` received from `url` and inserts the cookie, under the
-/// rules of browsers if `is_strict` is true.
+/// Parses the `Set-Cookie` header value `value` received from `url` and inserts the cookie, under
+/// the rules of browsers if `is_strict` is true.
 pub(crate) fn set(
     alloc: Global,
     store: &mut CookieStore,
     is_strict: bool,
     url: &[u8],
-    text: &[u8],
+    value: &[u8],
     now: i64,
 ) -> Status
-    ensures { HasOutcome (insertion_outcome is_strict store.old (set_call url.now text.now now)) (IsOk (text_in text.now) × IsOk (text_and_time url.now now))
+    ensures { HasOutcome (insertion_outcome is_strict store.old (set_call url.now value.now now)) (IsOk (text_in value.now) × IsOk (text_and_time url.now now))
         (Some store.old) result (Some store.new) }
 {
-    let text = match text_in(text) {
+    let text = match text_in(value) {
         Ok(text) => text,
         Err(status) => return status,
     };

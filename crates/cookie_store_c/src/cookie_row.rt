@@ -5,7 +5,7 @@ ghost use Rattle.std.specs.Int.{int_div_euclid};
 ghost use Rattle.cookie_words.specs.Moments.{moment_of, nanoseconds};
 ghost use Rattle.cookie_parts.specs.Views.{expiry_value};
 ghost use Rattle.cookie_store_c.specs.Buffers.{at_front};
-ghost use Rattle.cookie_store_c.specs.Rows.{expiry_second, nothing_written, row_texts, cookie_row, rows_outcome, IsTooLong};
+ghost use Rattle.cookie_store_c.specs.Rows.{expiry_second, nothing_written, row_strings, cookie_row, rows_outcome, IsTooLong};
 ghost use Rattle.cookie_store_c.specs.declared.status.Status.TheVariants.{NoMemory};
 
 use crate::buffer::{put_all, with_lengths};
@@ -34,31 +34,31 @@ pub struct CookieRow {
     pub http_only: u8,
 }
 
-/// Writes all rows into `rows`, and their strings, one after the other, into `texts`.
+/// Writes all rows into `rows`, and their strings, one after the other, into `strings`.
 pub(crate) fn write_rows(
     store: &CookieStore,
     rows: &mut [CookieRow],
-    texts: &mut [u8],
+    strings: &mut [u8],
     rows_needed: &mut usize,
-    texts_needed: &mut usize,
+    strings_needed: &mut usize,
 ) -> Status
-    ensures { (record { status = result; rows = rows.new; texts = texts.new; rows_needed = rows_needed.new; texts_needed = texts_needed.new }
-        ≡ rows_outcome store.now.rows rows.old texts.old)
+    ensures { (record { status = result; rows = rows.new; strings = strings.new; rows_needed = rows_needed.new; strings_needed = strings_needed.new }
+        ≡ rows_outcome store.now.rows rows.old strings.old)
         ⊎ (IsTooLong store.now.rows
-        × (record { status = result; rows = rows.new; texts = texts.new; rows_needed = rows_needed.new; texts_needed = texts_needed.new }
-        ≡ nothing_written NoMemory rows.old texts.old)) }
+        × (record { status = result; rows = rows.new; strings = strings.new; rows_needed = rows_needed.new; strings_needed = strings_needed.new }
+        ≡ nothing_written NoMemory rows.old strings.old)) }
 {
-    (*rows_needed, *texts_needed) = (0, 0);
-    let (Some(count), Some(length)) = (rows_len(store.iter_any()), texts_len(store.iter_any()))
+    (*rows_needed, *strings_needed) = (0, 0);
+    let (Some(count), Some(length)) = (rows_len(store.iter_any()), strings_len(store.iter_any()))
     else {
         return Status::NoMemory;
     };
-    (*rows_needed, *texts_needed) = (count, length);
-    if rows.len() < count || texts.len() < length {
+    (*rows_needed, *strings_needed) = (count, length);
+    if rows.len() < count || strings.len() < length {
         return Status::NoRoom;
     }
     put_rows(store.iter_any(), rows);
-    put_texts(store.iter_any(), texts);
+    put_strings(store.iter_any(), strings);
     Status::Done
 }
 
@@ -74,8 +74,8 @@ pub(crate) fn rows_len(all: IterAny<'_>) -> Option<usize>
 }
 
 // Returns the total length of the strings of all rows, or `None` on overflow.
-fn texts_len(all: IterAny<'_>) -> Option<usize>
-    ensures { MatchOption result (2 ^ 64 ≤ length (flat_map row_texts all.entry)) (λ n. n ≡ length (flat_map row_texts all.entry)) }
+fn strings_len(all: IterAny<'_>) -> Option<usize>
+    ensures { MatchOption result (2 ^ 64 ≤ length (flat_map row_strings all.entry)) (λ n. n ≡ length (flat_map row_strings all.entry)) }
 {
     let mut total = 0;
     for row in all {
@@ -93,14 +93,14 @@ fn texts_len(all: IterAny<'_>) -> Option<usize>
 }
 
 // Writes the strings of all rows to the front of the buffer.
-fn put_texts(all: IterAny<'_>, texts: &mut [u8])
-    requires { length (flat_map row_texts all) ≤ length texts.old }
-    ensures { texts.new ≡ at_front (flat_map row_texts all.entry) texts.old }
+fn put_strings(all: IterAny<'_>, strings: &mut [u8])
+    requires { length (flat_map row_strings all) ≤ length strings.old }
+    ensures { strings.new ≡ at_front (flat_map row_strings all.entry) strings.old }
 {
     let mut place = 0;
     for row in all {
         place = put_all(
-            texts,
+            strings,
             place,
             &[
                 row.domain.as_str(),

@@ -141,35 +141,35 @@ pub extern "C" fn cookie_store_set_hash_key(
     status.code()
 }
 
-/// Parses the `Set-Cookie` header value `text` received from `url` and inserts the cookie, RFC 6265
+/// Parses the `Set-Cookie` header value `value` received from `url` and inserts the cookie, RFC 6265
 /// 5.3; under the rules of browsers if the store is strict.
 ///
 /// # Errors
 ///
 /// In the order in which they are checked; the store is unchanged:
 /// - `NoStore`: the handle has no store.
-/// - `NotUtf8`: `text` or `url` is not UTF-8.
+/// - `NotUtf8`: `value` or `url` is not UTF-8.
 /// - `BadTime`: `now` is not in the years -9999 to 9999.
 /// - `BadUrl`: `url` is not a valid URL.
 /// - The errors of `CookieStore::parse`, or of `strict::parse` if the store is strict.
-/// - `NoMemory`: out of memory. It may come instead of any error but the first three.
+/// - `NoMemory`: out of memory. May be returned instead of any error but the first three.
 #[unsafe(no_mangle)]
 pub extern "C" fn cookie_store_set(
     alloc: Global,
     handle: &mut StoreHandle,
     url: &[u8],
-    text: &[u8],
+    value: &[u8],
     now: i64,
 ) -> u32
-    ensures outcome { IsCodeOf result (λ status. HasOutcome (insertion_outcome_in handle.old.is_strict handle.old.store_ptr.store (set_call url.now text.now now))
-        (IsSome handle.old.store_ptr.store × IsOk (text_in text.now) × IsOk (text_and_time url.now now))
+    ensures outcome { IsCodeOf result (λ status. HasOutcome (insertion_outcome_in handle.old.is_strict handle.old.store_ptr.store (set_call url.now value.now now))
+        (IsSome handle.old.store_ptr.store × IsOk (text_in value.now) × IsOk (text_and_time url.now now))
         handle.old.store_ptr.store status handle.new.store_ptr.store) }
     ensures strict { handle.new.is_strict ≡ handle.old.is_strict }
 {
     let Some(mut store) = handle.take(alloc) else {
         return Status::NoStore.code();
     };
-    let status = calls::set(alloc, &mut store, handle.is_strict, url, text, now);
+    let status = calls::set(alloc, &mut store, handle.is_strict, url, value, now);
     handle.put(alloc, store);
     status.code()
 }
@@ -188,7 +188,7 @@ pub extern "C" fn cookie_store_set(
 /// - `BadTime`: `now` is not in the years -9999 to 9999.
 /// - `BadUrl`: `url` is not a valid URL.
 /// - `NoRoom`: `out` is shorter than `needed`.
-/// - `NoMemory`: out of memory. It may come instead of any error but the first three.
+/// - `NoMemory`: out of memory. May be returned instead of any error but the first three.
 #[unsafe(no_mangle)]
 pub extern "C" fn cookie_store_get(
     alloc: Global,
@@ -259,7 +259,7 @@ pub extern "C" fn cookie_store_get_cross_site(
 /// - `NoStore`: the handle has no store.
 /// - `NotUtf8`: `list` is not UTF-8.
 /// - `BadRule`: a line of `list` is malformed.
-/// - `NoMemory`: out of memory. It may come instead of `BadRule`.
+/// - `NoMemory`: out of memory. May be returned instead of `BadRule`.
 #[unsafe(no_mangle)]
 pub extern "C" fn cookie_store_use_suffixes(
     alloc: Global,
@@ -371,36 +371,36 @@ pub extern "C" fn cookie_store_count(alloc: Global, handle: &mut StoreHandle) ->
     count
 }
 
-/// Writes all cookies, expired ones included, into `rows`, and their strings into `texts`.
+/// Writes all cookies, expired ones included, into `rows`, and their strings into `strings`.
 ///
-/// The store is unchanged. `rows_needed` and `texts_needed` are set to the lengths that the buffers
-/// need, and to 0 on any error but `NoRoom`.
+/// The store is unchanged. `rows_needed` and `strings_needed` are set to the lengths that the
+/// buffers need, and to 0 on any error but `NoRoom`.
 ///
 /// # Errors
 ///
-/// In the order in which they are checked; `rows` and `texts` are unchanged:
+/// In the order in which they are checked; `rows` and `strings` are unchanged:
 /// - `NoStore`: the handle has no store.
 /// - `NoMemory`: one of the two lengths is 2^64 or more.
-/// - `NoRoom`: `rows` or `texts` is too short.
+/// - `NoRoom`: `rows` or `strings` is too short.
 #[unsafe(no_mangle)]
 pub extern "C" fn cookie_store_rows(
     alloc: Global,
     handle: &mut StoreHandle,
     rows: &mut [CookieRow],
-    texts: &mut [u8],
+    strings: &mut [u8],
     rows_needed: &mut usize,
-    texts_needed: &mut usize,
+    strings_needed: &mut usize,
 ) -> u32
-    ensures reported { IsCodeOf result (λ status. ReportsRows handle.old.store_ptr.store rows.old texts.old
-        (record { status = status; rows = rows.new; texts = texts.new; rows_needed = rows_needed.new; texts_needed = texts_needed.new })) }
+    ensures reported { IsCodeOf result (λ status. ReportsRows handle.old.store_ptr.store rows.old strings.old
+        (record { status = status; rows = rows.new; strings = strings.new; rows_needed = rows_needed.new; strings_needed = strings_needed.new })) }
     ensures store { handle.new.store_ptr.store ≡ handle.old.store_ptr.store }
     ensures strict { handle.new.is_strict ≡ handle.old.is_strict }
 {
-    (*rows_needed, *texts_needed) = (0, 0);
+    (*rows_needed, *strings_needed) = (0, 0);
     let Some(store) = handle.take(alloc) else {
         return Status::NoStore.code();
     };
-    let status = cookie_row::write_rows(&store, rows, texts, rows_needed, texts_needed);
+    let status = cookie_row::write_rows(&store, rows, strings, rows_needed, strings_needed);
     handle.put(alloc, store);
     status.code()
 }

@@ -26,7 +26,7 @@ use std::alloc::Global;
 /// - `BadTime`: `now` is not in the years -9999 to 9999, also if `all` is true.
 /// - `BadExpiry`: a cookie to be saved expires before the year 0.
 /// - `NoRoom`: `out` is shorter than `needed`.
-/// - `NoMemory`: out of memory. It may come instead of any error but the first three.
+/// - `NoMemory`: out of memory. May be returned instead of any error but the first three.
 #[unsafe(no_mangle)]
 pub extern "C" fn cookie_store_save_json(
     alloc: Global,
@@ -63,7 +63,7 @@ pub extern "C" fn cookie_store_save_json(
 /// - `BadTime`: `now` is not in the years -9999 to 9999, also if `all` is true.
 /// - `BadExpiry`: a cookie to be saved expires before the year 0.
 /// - `NoRoom`: `out` is shorter than `needed`.
-/// - `NoMemory`: out of memory. It may come instead of any error but the first three.
+/// - `NoMemory`: out of memory. May be returned instead of any error but the first three.
 #[unsafe(no_mangle)]
 pub extern "C" fn cookie_store_save_ron(
     alloc: Global,
@@ -100,7 +100,7 @@ pub extern "C" fn cookie_store_save_ron(
 /// - `BadTime`: `now` is not in the years -9999 to 9999, also if `all` is true.
 /// - `Unrepresentable`: the format cannot represent a cookie to be saved.
 /// - `NoRoom`: `out` is shorter than `needed`.
-/// - `NoMemory`: out of memory. It may come instead of any error but the first three.
+/// - `NoMemory`: out of memory. May be returned instead of any error but the first three.
 #[unsafe(no_mangle)]
 pub extern "C" fn cookie_store_save_netscape(
     alloc: Global,
@@ -136,7 +136,7 @@ pub extern "C" fn cookie_store_save_netscape(
 /// - `BadTime`: `now` is not in the years -9999 to 9999, also if `all` is true.
 /// - `NotUtf8`: `list` is not UTF-8.
 /// - `BadJson`, `BadShape`, `BadExpiry` or `Parse`: `list` is not a valid list of cookies.
-/// - `NoMemory`: out of memory. It may come instead of any error but the first three.
+/// - `NoMemory`: out of memory. May be returned instead of any error but the first three.
 #[unsafe(no_mangle)]
 pub extern "C" fn cookie_store_load_json(
     alloc: Global,
@@ -172,7 +172,7 @@ pub extern "C" fn cookie_store_load_json(
 /// - `BadTime`: `now` is not in the years -9999 to 9999, also if `all` is true.
 /// - `NotUtf8`: `list` is not UTF-8.
 /// - `BadRon`, `BadExpiry` or `Parse`: `list` is not a valid list of cookies.
-/// - `NoMemory`: out of memory. It may come instead of any error but the first three.
+/// - `NoMemory`: out of memory. May be returned instead of any error but the first three.
 #[unsafe(no_mangle)]
 pub extern "C" fn cookie_store_load_ron(
     alloc: Global,
@@ -209,7 +209,7 @@ pub extern "C" fn cookie_store_load_ron(
 /// - `BadTime`: `now` is not in the years -9999 to 9999, also if `all` is true.
 /// - `NotUtf8`: `list` is not UTF-8.
 /// - `BadLine`: a line of `list` is malformed.
-/// - `NoMemory`: out of memory. It may come instead of any error but the first three.
+/// - `NoMemory`: out of memory. May be returned instead of any error but the first three.
 #[unsafe(no_mangle)]
 pub extern "C" fn cookie_store_load_netscape(
     alloc: Global,

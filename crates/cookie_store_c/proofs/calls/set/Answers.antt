@@ -10,8 +10,8 @@ pub returns-then-is_strict : goal.returns-then-is_strict
 returns-then-is_strict c =
     let url = c.in-Ok-request.inputs.0 in
     let now = moment_of c.in-Ok-request.inputs.1 in
-    let call : set_call c.args.url.now c.args.text.now c.args.now ≡ Ok (Set c.in-Ok.text.now url now) = search rules in
-    let valid : IsOk (text_in c.args.text.now) × IsOk (text_and_time c.args.url.now c.args.now) = search rules in
+    let call : set_call c.args.url.now c.args.value.now c.args.now ≡ Ok (Set c.in-Ok.text.now url now) = search rules in
+    let valid : IsOk (text_in c.args.value.now) × IsOk (text_and_time c.args.url.now c.args.now) = search rules in
     rw (c.if-is_strict.true, call)
     (strict_outcome _ c.parse.result (strict_call (Set c.in-Ok.text.now url now) c.args.store.now) c.args.store.now c.parse.new.store c.of_strict.result valid
     c.parse.ensures.reply c.parse.ensures.store c.parse.ensures.unchanged c.of_strict.ensures.inserted c.of_strict.ensures.rejected)
