@@ -10,6 +10,7 @@ import sys
 TOOLS = os.path.dirname(os.path.abspath(__file__))
 ROOT = os.path.dirname(TOOLS)
 PROGRAM = os.path.realpath(os.environ.get('COOKIE_JAR') or f'{ROOT}/crates/cookie_jar/out/cookie_jar')
+COOKIES = os.path.realpath(os.environ.get('COOKIES') or f'{ROOT}/crates/cookies/out/cookies')
 ARCHIVE = os.path.realpath(os.environ.get('COOKIE_STORE_ARCHIVE') or f'{ROOT}/crates/cookie_store_c/out/libcookie_store_c.a')
 TOOL = os.path.basename(sys.argv[0])
 

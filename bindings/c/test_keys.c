@@ -13,24 +13,45 @@
 enum { MOST = 4000, BYTES = 16, ROUNDS = 5, NOW = 1700000000 };
 
 static const char other[] = "0123456789abcdef";
-static char urls[MOST][40], texts[MOST][40];
+static char urls[MOST][40], values[MOST][40];
 static int count;
-static char *list;
-static size_t list_len;
+
+/* The cookies in each form in which a store is loaded. */
+static struct {
+    char *list;
+    size_t len;
+} json, ron, netscape;
 
 static void set(cookie_store *store, int number) {
-    for (int at = 0; at < number; at++) cookie_store_set(store, urls[at], strlen(urls[at]), texts[at], strlen(texts[at]), NOW);
+    for (int at = 0; at < number; at++) cookie_store_set(store, urls[at], strlen(urls[at]), values[at], strlen(values[at]), NOW);
 }
 
 /* Adds a cookie with another path, so that the store has a table of paths above those of names. */
 static void begin(cookie_store *store, const char *key) {
-    static const char text[] = "a=1; Path=/other";
+    static const char value[] = "a=1; Path=/other";
     cookie_store_new(store, key, BYTES);
-    cookie_store_set(store, urls[0], strlen(urls[0]), text, sizeof text - 1, NOW);
+    cookie_store_set(store, urls[0], strlen(urls[0]), value, sizeof value - 1, NOW);
     set(store, count);
 }
 
-static void load(cookie_store *store, const char *key) { cookie_store_load_ron(store, key, BYTES, list, list_len, NOW, true); }
+static void begin_with_limit(cookie_store *store, const char *key) {
+    cookie_store_new(store, key, BYTES);
+    cookie_store_set_domain_limit(store, (size_t)count);
+    set(store, count);
+}
+
+static void load_json(cookie_store *store, const char *key) {
+    cookie_store_load_json(store, key, BYTES, json.list, json.len, NOW, true);
+}
+
+static void load_ron(cookie_store *store, const char *key) {
+    cookie_store_load_ron(store, key, BYTES, ron.list, ron.len, NOW, true);
+}
+
+static void load_netscape(cookie_store *store, const char *key) {
+    size_t bad_line;
+    cookie_store_load_netscape(store, key, BYTES, netscape.list, netscape.len, NOW, true, &bad_line);
+}
 
 /* Two cookies are enough for a hash table at the level at which they collide. */
 static void change_key(cookie_store *store, const char *key) {
@@ -72,24 +93,33 @@ static void measure(void (*make)(cookie_store *, const char *), double least[BYT
     }
 }
 
-static bool save(void) {
+/* Returns the list that `call` saves, or NULL if it fails. */
+static char *saved(enum cookie_store_status (*call)(cookie_store *, int64_t, bool, char *, size_t, size_t *), size_t *len) {
     cookie_store store = COOKIE_STORE_INIT;
     begin(&store, other);
-    cookie_store_save_ron(&store, NOW, true, texts[0], 0, &list_len);
-    list = malloc(list_len);
-    bool is_saved = list && cookie_store_save_ron(&store, NOW, true, list, list_len, &list_len) == COOKIE_STORE_OK;
+    call(&store, NOW, true, values[0], 0, len);
+    char *list = malloc(*len);
+    if (list && call(&store, NOW, true, list, *len, len) != COOKIE_STORE_OK) {
+        free(list);
+        list = NULL;
+    }
     cookie_store_free(&store);
-    return is_saved;
+    return list;
 }
 
 int main(int argc, char **argv) {
     static const struct {
         const char *name;
         void (*make)(cookie_store *, const char *);
-    } calls[] = {{"new", begin}, {"load", load}, {"set_hash_key", change_key}, {"clear", clear}};
+    } calls[] = {{"new", begin}, {"new, with a limit", begin_with_limit}, {"load_json", load_json}, {"load_ron", load_ron},
+                 {"load_netscape", load_netscape}, {"set_hash_key", change_key}, {"clear", clear}};
     int passed = 0, failed = 0;
-    while (count < MOST && scanf("%39s %39[^\n]", urls[count], texts[count]) == 2) count++;
-    if (argc != 2 || count == 0 || !save()) return 2;
+    while (count < MOST && scanf("%39s %39[^\n]", urls[count], values[count]) == 2) count++;
+    if (argc != 2 || count == 0) return 2;
+    json.list = saved(cookie_store_save_json, &json.len);
+    ron.list = saved(cookie_store_save_ron, &ron.len);
+    netscape.list = saved(cookie_store_save_netscape, &netscape.len);
+    if (!json.list || !ron.list || !netscape.list) return 2;
     for (size_t call = 0; call < sizeof calls / sizeof *calls; call++) {
         double least[BYTES + 1];
         measure(calls[call].make, least);
@@ -102,7 +132,9 @@ int main(int argc, char **argv) {
             *(is_well ? &passed : &failed) += 1;
         }
     }
-    free(list);
+    free(json.list);
+    free(ron.list);
+    free(netscape.list);
     printf("test_keys, %s: %d passed, %d failed\n", argv[1], passed, failed);
     return failed > 0;
 }
