@@ -83,5 +83,5 @@ with_compiler() {
     { "$1" clang || "$1" cc || "$1" "$own" -fuse-ld=lld -nostdlib; } > "$temp/log" 2>&1 || stop "no C compiler succeeds" "$temp/log"
 }
 
-# compile_refuse COMPILER..: compiles tools/refuse.c into $temp/refuse.so.
-compile_refuse() { "$@" -O2 -shared -fPIC -nostdlib -o "$temp/refuse.so" tools/refuse.c; }
+# compile_fail_allocation COMPILER..: compiles tools/fail_allocation.c into $temp/fail_allocation.so.
+compile_fail_allocation() { "$@" -O2 -shared -fPIC -nostdlib -o "$temp/fail_allocation.so" tools/fail_allocation.c; }

@@ -43,10 +43,10 @@ test_program() {
 }
 
 # Each allocation fails in turn. Valgrind has an allocator of its own.
-test_growths() {
-    if try test_growths.c "$cc" "${flags[@]}" -o "$temp/growths" bindings/c/test_growths.c "$lib/libcookie_store.a" &&
-        try refuse.c compile_refuse "$cc"; then
-        try 'run of test_growths.c' timeout 60 env REFUSE_MARK="$temp/mark" LD_PRELOAD="$temp/refuse.so" "$temp/growths" || true
+test_allocations() {
+    if try test_allocations.c "$cc" "${flags[@]}" -o "$temp/allocations" bindings/c/test_allocations.c "$lib/libcookie_store.a" &&
+        try fail_allocation.c compile_fail_allocation "$cc"; then
+        try 'run of test_allocations.c' timeout 60 env FAIL_MARK="$temp/mark" LD_PRELOAD="$temp/fail_allocation.so" "$temp/allocations" || true
         tail -n 1 "$temp/log"
     fi
 }
@@ -133,7 +133,7 @@ if has valgrind; then
 else
     skips 'helgrind of test_threads.c' 'there is no valgrind'
 fi
-test_growths
+test_allocations
 for compiler in "${compilers[@]}"; do test_example "$compiler"; done
 if ! has pkg-config; then
     skips 'version, fetch.c and release' 'there is no pkg-config'

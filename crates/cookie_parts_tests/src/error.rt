@@ -116,8 +116,13 @@ fn other_errors_convert(rt: HostRuntime) {
     let fault = IdnaErrors::from(idna::Errors::Invalid);
     is_equal(&rt, invalid, Error::Idna(fault), &"no name");
     let wanting = Error::from(idna::Errors::OutOfMemory);
-    is_equal(&rt, wanting, Error::Memory, &"a growth of idna");
-    is_equal(&rt, Error::from(AllocError), Error::Memory, &"a growth");
+    is_equal(&rt, wanting, Error::Memory, &"an allocation of idna");
+    is_equal(
+        &rt,
+        Error::from(AllocError),
+        Error::Memory,
+        &"an allocation",
+    );
     let kept = Error::from(AllocFailed { value: 5_u8 });
     is_equal(&rt, kept, Error::Memory, &"a value without room");
     let error = CookieError::from(RawCookieParseError::EmptyName);

@@ -3,6 +3,8 @@
 #![tactic(auto)]
 
 #[cfg(test)]
+mod allocations;
+#[cfg(test)]
 mod checks;
 #[cfg(test)]
 mod conversion;
@@ -18,8 +20,6 @@ mod domain;
 mod error;
 #[cfg(test)]
 mod expiry;
-#[cfg(test)]
-mod growths;
 #[cfg(test)]
 mod parts;
 #[cfg(test)]

@@ -3,11 +3,11 @@
 #![tactic(auto)]
 
 #[cfg(test)]
+mod allocations;
+#[cfg(test)]
 mod conversions;
 #[cfg(test)]
 mod devices;
-#[cfg(test)]
-mod growths;
 #[cfg(test)]
 mod lists;
 #[cfg(test)]

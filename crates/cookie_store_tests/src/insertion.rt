@@ -1,8 +1,8 @@
 //! Insertion of cookies, by each call that inserts.
+use crate::allocations::{end, start};
 use crate::built::UrlAndValue;
 use crate::calls::{CallCase, call};
 use crate::checks::is_equal;
-use crate::growths::{end, start};
 use crate::steps::{EXPIRED, INSERTED, UPDATED, new_year};
 use crate::texts::url;
 use cookie_store::{Cookie, CookieError, CookieStore, InsertResult, RawCookie, Reply};

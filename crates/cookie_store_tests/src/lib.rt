@@ -2,6 +2,8 @@
 #![tactic(auto)]
 
 #[cfg(test)]
+mod allocations;
+#[cfg(test)]
 mod built;
 #[cfg(test)]
 mod calls;
@@ -15,8 +17,6 @@ mod devices;
 mod expired;
 #[cfg(test)]
 mod forms;
-#[cfg(test)]
-mod growths;
 #[cfg(test)]
 mod header;
 #[cfg(test)]

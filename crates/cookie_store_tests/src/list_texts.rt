@@ -72,9 +72,9 @@ fn lists_are_formatted(rt: HostRuntime) {
 // Loads the list and checks its rows, or that memory ran out.
 fn is_parsed(rt: &impl Abort, alloc: Global, listed: &Listed, ample: bool) {
     let wanted = store_of(rt, alloc, &RECEIVED[..if listed.1 { 2 } else { 1 }]);
-    crate::growths::start(alloc);
+    crate::allocations::start(alloc);
     let outcome = store_in(listed.0, alloc, listed.2, &which_of(listed.1));
-    crate::growths::end(alloc);
+    crate::allocations::end(alloc);
     match &outcome {
         Ok(store) => has_the_same_rows(rt, store, &wanted),
         Err(_) => is_equal(rt, &(end_of(&outcome), ample), &("memory", false), listed),
@@ -106,10 +106,10 @@ fn other_strings_are_rejected(rt: HostRuntime) {
     }
 }
 
-mod growths {
+mod allocations {
     use super::{LISTS, RECEIVED, is_listed, is_parsed, text_of, which_of};
+    use crate::allocations::{end, start};
     use crate::built::store_of;
-    use crate::growths::{end, start};
 
     #[test]
     fn to_text(rt: HostRuntime) {

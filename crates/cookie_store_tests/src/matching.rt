@@ -1,7 +1,7 @@
 //! Cookies that match a URL.
+use crate::allocations::{ReadCall, reads_or_keeps};
 use crate::checks::is_equal;
 use crate::forms::{FROM as ORIGIN, IN_RON, loaded};
-use crate::growths::{ReadCall, reads_or_keeps};
 use crate::saved::Which;
 use crate::steps::{INSERTED, Step, UPDATED, new_year, take_all};
 use cookie_store::{CookieError, CookieStore};

@@ -1,7 +1,7 @@
 //! `cookies.txt` files.
+use crate::allocations::{end, start};
 use crate::built::{UrlAndValue, store_of};
 use crate::checks::is_equal;
-use crate::growths::{end, start};
 use crate::loaded::Loaded;
 use crate::saved::{Saved, Which};
 use crate::steps::new_year;
@@ -284,7 +284,7 @@ fn a_time_selects_cookies(rt: HostRuntime) {
     has_lines(&rt, &saved, lasting, true, "saved");
 }
 
-mod growths {
+mod allocations {
     use super::{READ, WRITTEN, is_read, is_written};
 
     #[test]

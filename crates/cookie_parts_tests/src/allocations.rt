@@ -10,7 +10,7 @@ use std::process::Abort;
 const START: usize = 48_271;
 
 fn start(rt: &impl Abort, alloc: Global) {
-    let _growth: Vec<u8> = Vec::with_capacity(alloc, START).expect(rt, "memory");
+    let _allocation: Vec<u8> = Vec::with_capacity(alloc, START).expect(rt, "memory");
 }
 
 #[test]

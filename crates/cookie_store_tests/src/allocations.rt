@@ -1,5 +1,5 @@
 //! Each call that allocates returns what it does with enough memory, or out of memory.
-//! `tools/refuse.c` makes each allocation fail in turn.
+//! `tools/fail_allocation.c` makes each allocation fail in turn.
 mod runs;
 mod saving;
 

@@ -9,7 +9,7 @@ use std::alloc::Global;
 use std::process::Abort;
 use std::test::Fail;
 
-// tools/refuse.c counts the allocations after one of this many bytes.
+// tools/fail_allocation.c counts the allocations after one of this many bytes.
 const START: usize = 48271;
 
 const SCRIPT: &[u8] = b"now 2026-01-01T00:00:00Z\n\

@@ -1,8 +1,8 @@
 /* Makes each allocation fail in turn, in each call that allocates: the call must return NO_MEMORY
    and leave the store unchanged, or succeed without that memory. Calls that never allocate must not
-   meet a failed allocation. tools/refuse.c, preloaded in front of malloc (LD_PRELOAD), makes the
-   allocations fail and then creates the file REFUSE_MARK. Failures of the test are reported on
-   standard error. The last line is 'test_growths: N passed, M failed'. */
+   meet a failed allocation. tools/fail_allocation.c, preloaded in front of malloc (LD_PRELOAD), makes the
+   allocations fail and then creates the file FAIL_MARK. Failures of the test are reported on
+   standard error. The last line is 'test_allocations: N passed, M failed'. */
 #define _POSIX_C_SOURCE 200809L
 #include <cookie_store.h>
 #include <stdio.h>
@@ -10,7 +10,7 @@
 #include <string.h>
 #include <unistd.h>
 
-/* Allocations of these sizes start and end the count of tools/refuse.c. */
+/* Allocations of these sizes start and end the count of tools/fail_allocation.c. */
 enum { START = 48271, END = 48281, MOST = 10000 };
 
 #define NOW INT64_C(1767225600) /* 2026-01-01T00:00:00 */
@@ -139,29 +139,29 @@ static void grow(size_t size) {
 
 /* Runs the call again and again, with the next allocation failing each time, until none fails.
    Returns how many failed, or -1 if the call then behaved wrongly. */
-static int refused_in(size_t at, const char *mark) {
-    for (int growth = 1; growth < MOST; growth++) {
+static int failures_in(size_t at, const char *mark) {
+    for (int number = 1; number < MOST; number++) {
         char digits[16];
         cookie_store store = COOKIE_STORE_INIT;
         if (CALLS[at].is_begun && fill(&store) != COOKIE_STORE_INSERTED) return -1;
-        snprintf(digits, sizeof digits, "%d", growth);
-        if (setenv("REFUSE_GROWTH", digits, 1)) return -1;
+        snprintf(digits, sizeof digits, "%d", number);
+        if (setenv("FAIL_ALLOCATION", digits, 1)) return -1;
         grow(START);
         enum cookie_store_status status = CALLS[at].call(&store);
         grow(END);
-        bool is_refused = unlink(mark) == 0;
+        bool did_fail = unlink(mark) == 0;
         bool is_well = status == CALLS[at].wanted ||
-                       (is_refused && status == COOKIE_STORE_NO_MEMORY && is_as_it_was(&store, CALLS[at].is_begun));
+                       (did_fail && status == COOKIE_STORE_NO_MEMORY && is_as_it_was(&store, CALLS[at].is_begun));
         cookie_store_free(&store);
-        if (!is_well) fprintf(stderr, "%s, growth %d: FAILED: answered %d\n", CALLS[at].name, growth, (int)status);
+        if (!is_well) fprintf(stderr, "%s, allocation %d: FAILED: returned %d\n", CALLS[at].name, number, (int)status);
         if (!is_well) return -1;
-        if (!is_refused) return growth - 1;
+        if (!did_fail) return number - 1;
     }
     return -1;
 }
 
 int main(void) {
-    const char *mark = getenv("REFUSE_MARK");
+    const char *mark = getenv("FAIL_MARK");
     cookie_store store = COOKIE_STORE_INIT;
     int passed = 0, failed = 0;
     bool is_ready = mark && fill(&store) == COOKIE_STORE_INSERTED &&
@@ -170,11 +170,11 @@ int main(void) {
                     cookie_store_save_netscape(&store, NOW, true, netscape, sizeof netscape, &netscape_len) == COOKIE_STORE_OK;
     cookie_store_free(&store);
     for (size_t at = 0; at < sizeof CALLS / sizeof *CALLS; at++) {
-        int refused = is_ready ? refused_in(at, mark) : -1;
-        bool is_well = refused >= 0 && (refused == 0) == CALLS[at].never_allocates;
-        if (refused >= 0 && !is_well) fprintf(stderr, "%s: FAILED: %d growths\n", CALLS[at].name, refused);
+        int failures = is_ready ? failures_in(at, mark) : -1;
+        bool is_well = failures >= 0 && (failures == 0) == CALLS[at].never_allocates;
+        if (failures >= 0 && !is_well) fprintf(stderr, "%s: FAILED: %d allocations\n", CALLS[at].name, failures);
         is_well ? passed++ : failed++;
     }
-    printf("test_growths: %d passed, %d failed\n", passed, failed);
+    printf("test_allocations: %d passed, %d failed\n", passed, failed);
     return failed > 0;
 }

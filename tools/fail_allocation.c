@@ -1,12 +1,12 @@
 // Makes one allocation fail: preloaded (LD_PRELOAD) into a program, it replaces the C library's
-// `malloc` and `realloc`, and passes on every call but one. `tools/growths` and `tools/bindings`
+// `malloc` and `realloc`, and passes on every call but one. `tools/allocations` and `tools/bindings`
 // build it.
 //
-//   REFUSE_GROWTH=k       the allocation that fails, from 1
-//   REFUSE_MARK=FILE      the file that is created when it fails
-//   REFUSE_FROM_START=1   every allocation counts, from the program's first on
+//   FAIL_ALLOCATION=k       the allocation that fails, from 1
+//   FAIL_MARK=FILE      the file that is created when it fails
+//   COUNT_FROM_START=1   every allocation counts, from the program's first on
 //
-// Without REFUSE_FROM_START a test marks the allocations that count by two of odd sizes: one of
+// Without COUNT_FROM_START a test marks the allocations that count by two of odd sizes: one of
 // START bytes (`Vec::<u8>::with_capacity(alloc, 48_271)?`) starts the count at 0, and one of END
 // bytes ends it. So what a test allocates before its call, or to compare after it, never fails. A
 // test may start the count again for its next call. There are no headers, so that a compiler
@@ -33,13 +33,13 @@ static int fails(size_t size) {
         count = 0;
         return 0;
     }
-    if (!is_counting && !getenv("REFUSE_FROM_START")) return 0;
+    if (!is_counting && !getenv("COUNT_FROM_START")) return 0;
     count++;
-    const char *digits = getenv("REFUSE_GROWTH");
+    const char *digits = getenv("FAIL_ALLOCATION");
     unsigned long failing = 0;
     while (digits && *digits >= '0' && *digits <= '9') failing = 10 * failing + (*digits++ - '0');
     if (count != failing) return 0;
-    const char *mark = getenv("REFUSE_MARK");
+    const char *mark = getenv("FAIL_MARK");
     if (mark) close(creat(mark, 0644));
     *__errno_location() = 12; // ENOMEM
     return 1;
