@@ -1,8 +1,8 @@
 /* Makes each allocation fail in turn, in each call that allocates: the call must return NO_MEMORY
    and leave the store unchanged, or succeed without that memory. Calls that never allocate must not
-   meet a failed allocation. tools/fail_allocation.c, preloaded in front of malloc (LD_PRELOAD), makes the
-   allocations fail and then creates the file FAIL_MARK. Failures of the test are reported on
-   standard error. The last line is 'test_allocations: N passed, M failed'. */
+   meet a failed allocation. tools/fail_allocation.c, preloaded in front of malloc (LD_PRELOAD),
+   makes the allocations fail and then creates the file FAIL_MARK. Failures of the test are reported
+   on standard error. The last line is 'test_allocations: N passed, M failed'. */
 #define _POSIX_C_SOURCE 200809L
 #include <cookie_store.h>
 #include <stdio.h>
