@@ -277,7 +277,8 @@ void cookie_store_free(cookie_store *store);
  *
  * A domain that no rule matches is not a public suffix. The list of publicsuffix.org has nine
  * top-level domains like np, with a rule *.np and no rule np. To list these too, append a line with
- * the rule *.
+ * the rule *. A file without rules, such as an HTML error page, is a list that protects nothing, and
+ * no error.
  *
  * `*bad_line` is set to the number of the first malformed line, counted from 1, on BAD_RULE, and to
  * 0 otherwise.

@@ -123,7 +123,8 @@ class CookieStore:
         """Set the public suffix list, in the format of publicsuffix.org.
 
         Stored cookies stay. A domain that no rule matches is not a public suffix. To list top-level
-        domains that have no rule of their own, such as np, append a line with the rule *.
+        domains that have no rule of their own, such as np, append a line with the rule *. A string
+        without rules is a list that protects nothing, and no error.
 
         Raises BadRule with the number of the first malformed line.
         """

@@ -84,7 +84,9 @@ impl CookieStore {
     ///
     /// From now on a cookie whose Domain attribute is a public suffix on the list is rejected,
     /// unless it comes from that very host; then it is stored as a host-only cookie. Stored cookies
-    /// stay. A domain that no rule matches is not a public suffix.
+    /// stay. A domain that no rule matches is not a public suffix: to list the top-level domains
+    /// that have no rule of their own, such as `np`, append a line with the rule `*`. A string
+    /// without rules is a list that protects nothing, and no error.
     ///
     /// # Errors
     ///

@@ -5,7 +5,8 @@
 //! `remove DOMAIN PATH NAME` or `clear`, where `VALUE` is a `Set-Cookie` header value. The output
 //! goes to standard output.
 //!
-//! - `--suffixes FILE`: puts the store under the public suffix list of that file.
+//! - `--suffixes FILE`: puts the store under the public suffix list of that file. A file without
+//!   rules protects nothing; a line `*` lists the top-level domains without a rule of their own.
 //! - `--limit N`: limits each domain to N cookies. An insertion evicts the surplus.
 //! - `--convert`: reads lines of JSON, as older programs save cookies, in place of a script, and
 //!   writes a RON list of their cookies.

@@ -17,6 +17,6 @@ is_removed purge now row =
     (purge.is_expired && is_expired now row) || (purge.is_session && not (is_persistent row.expires))
     || names_domain (option_copied purge.domain) (domain_text row.domain)
 
--- the cookies that are kept, in their order
-abbrev pub kept_rows : Purge → Moment → List Row → List Row
-kept_rows purge now rows = filter (λ row. not (is_removed purge now row)) rows
+-- the cookies that remain, in their order
+abbrev pub remaining_rows : Purge → Moment → List Row → List Row
+remaining_rows purge now rows = filter (λ row. not (is_removed purge now row)) rows

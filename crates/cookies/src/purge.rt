@@ -4,7 +4,7 @@ ghost use Rattle.std.specs.Option.{option_copied};
 ghost use Rattle.cookie_words.specs.Moments.{moment_of};
 ghost use Rattle.cookie_store.specs.Contents.{rows_in_order};
 ghost use Rattle.cookie_store.specs.Rows.{built};
-ghost use Rattle.cookies.specs.Purges.{is_removed, kept_rows, names_domain};
+ghost use Rattle.cookies.specs.Purges.{is_removed, remaining_rows, names_domain};
 
 use cookie_store::{Cookie, CookieStore, Error, StoreAlloc};
 use jiff::civil::DateTime;
@@ -64,26 +64,26 @@ pub fn purged(
     purge: Purge<'_>,
     now: DateTime,
 ) -> Result<CookieStore, Error>
-    ensures built { IfOk result (λ kept. rows_in_order kept ≡ built true (moment_of now) (kept_rows purge.entry (moment_of now) store.now.rows)) }
+    ensures built { IfOk result (λ remaining. rows_in_order remaining ≡ built true (moment_of now) (remaining_rows purge.entry (moment_of now) store.now.rows)) }
     ensures memory { IfErr result (λ error. error ≡ Error.Memory) }
 {
-    let kept = kept(store, purge, now)?;
-    CookieStore::from_cookies(alloc, kept.into_iter(), true, now)
+    let remaining = remaining(store, purge, now)?;
+    CookieStore::from_cookies(alloc, remaining.into_iter(), true, now)
 }
 
 // Copies the cookies that `purge` does not remove, as `from_cookies` takes them.
-fn kept(
+fn remaining(
     store: &CookieStore,
     purge: Purge<'_>,
     now: DateTime,
 ) -> Result<Vec<Result<Cookie<'static>, Error>>, AllocError>
-    ensures { IfOk result (λ kept. kept.items ≡ map Ok (kept_rows purge.entry (moment_of now) store.now.rows)) }
+    ensures { IfOk result (λ remaining. remaining.items ≡ map Ok (remaining_rows purge.entry (moment_of now) store.now.rows)) }
 {
-    let mut kept = Vec::new(store.allocator());
+    let mut remaining = Vec::new(store.allocator());
     for cookie in store.iter_any() {
         if !purge.removes(cookie, now) {
-            kept.push(Ok(cookie.clone()?))?;
+            remaining.push(Ok(cookie.clone()?))?;
         }
     }
-    Ok(kept)
+    Ok(remaining)
 }
