@@ -27,6 +27,7 @@ type Jar struct {
 type Options struct {
 	// PublicSuffixList is the content of a list in the format of publicsuffix.org. A cookie for a public suffix, such as all
 	// of co.uk, is rejected, unless it comes from that very host. Without a list a server may set a cookie for all of co.uk.
+	// A line with the rule * lists the top-level domains that have no rule of their own, such as np.
 	PublicSuffixList []byte
 
 	// DomainLimit is how many cookies each domain may have, or 0 for no limit. Before a cookie is inserted, cookies of its

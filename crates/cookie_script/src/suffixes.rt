@@ -18,7 +18,7 @@ use std::io;
 /// In the order in which they are checked:
 /// - `CannotReadList`: the bytes are not UTF-8.
 /// - `BadRule`: a line is malformed, with the number of the first one.
-/// - `Run(Memory)`: out of memory. It may come instead of `BadRule`.
+/// - `Run(Memory)`: out of memory. May be returned instead of `BadRule`.
 #[tactic(auto, unfolding(crate::specs::Suffixes::list_in_file))]
 pub fn list_of(alloc: Global, bytes: &[u8]) -> Result<List, MainFault>
     ensures value { ParsesListFile result (list_in_file bytes.now) }
