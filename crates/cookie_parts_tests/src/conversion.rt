@@ -1,6 +1,6 @@
 //! A cookie as a saved form, and back.
 use crate::checks::{holds, is_equal};
-use crate::parts::{Hosts, cookie_from, domain_of, end_at, ends_at, is_for, is_path, saved};
+use crate::parts::{Hosts, cookie_from, domain_of, expires_at, expiry_at, is_for, is_path, saved};
 use cookie_parts::{Cookie, CookieError, Error};
 use cookie_saved::{SavedExpiry, from_value, to_value};
 use jiff::civil::DateTime;
@@ -79,7 +79,7 @@ const KINDS: &[(Hosts, Option<&str>)] = &[
 fn cookie_of(rt: &impl Abort, alloc: Global, row: &(Hosts, Option<&str>)) -> Cookie<'static> {
     let mut cookie = cookie_from(rt, alloc, "a=1; Path=/p", "http://a.org/", DateTime::ZERO);
     cookie.domain = domain_of(rt, alloc, &row.0);
-    cookie.expires = end_at(rt, row.1);
+    cookie.expires = expiry_at(rt, row.1);
     cookie
 }
 
@@ -92,8 +92,8 @@ fn converts_back(rt: &impl Abort, alloc: Global, cookie: &Cookie<'_>, row: &(Hos
         is_path(&back.path, "/p", true),
     );
     is_equal(rt, hosts_and_path, (true, true), row);
-    let end_and_all = (ends_at(rt, &back.expires, row.1), back == *cookie);
-    is_equal(rt, end_and_all, (true, true), row);
+    let expiry_and_all = (expires_at(rt, &back.expires, row.1), back == *cookie);
+    is_equal(rt, expiry_and_all, (true, true), row);
 }
 
 fn one_converts_back(rt: &impl Abort, alloc: Global, row: &(Hosts, Option<&str>)) {

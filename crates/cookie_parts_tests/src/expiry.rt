@@ -1,6 +1,6 @@
 //! Expiry times.
 use crate::checks::{holds, is_equal};
-use crate::parts::{cookie_from, end_at, ends_at, moment};
+use crate::parts::{cookie_from, expires_at, expiry_at, moment};
 use cookie_parts::CookieExpiration;
 use cookie_raw::Expiration;
 use jiff::SignedDuration;
@@ -12,7 +12,7 @@ use std::process::Abort;
 #[derive(Debug)]
 enum ExpirySource {
     // The expiry itself; `None` is a session cookie.
-    End(Option<&'static str>),
+    Expiry(Option<&'static str>),
     Moment(&'static str),
     // Seconds after a time.
     Seconds(u64, &'static str),
@@ -41,9 +41,9 @@ fn attribute(rt: &impl Abort, text: Option<&str>) -> CookieExpiration {
     })
 }
 
-fn end_of(rt: &impl Abort, alloc: Global, expiry_source: &ExpirySource) -> CookieExpiration {
+fn expiry_of(rt: &impl Abort, alloc: Global, expiry_source: &ExpirySource) -> CookieExpiration {
     match expiry_source {
-        ExpirySource::End(text) => end_at(rt, *text),
+        ExpirySource::Expiry(text) => expiry_at(rt, *text),
         ExpirySource::Moment(text) => CookieExpiration::from_moment(moment(rt, text)),
         ExpirySource::Seconds(seconds, from) => CookieExpiration::from_secs(
             *seconds,
@@ -64,24 +64,24 @@ fn end_of(rt: &impl Abort, alloc: Global, expiry_source: &ExpirySource) -> Cooki
 // An expiry, a time, and whether it has expired then.
 const MOMENTS: &[(ExpirySource, &str, bool)] = &[
     (
-        ExpirySource::End(Some("2015-10-21T07:28:00")),
+        ExpirySource::Expiry(Some("2015-10-21T07:28:00")),
         "2015-10-21T07:27:59",
         false,
     ),
     (
-        ExpirySource::End(Some("2015-10-21T07:28:00")),
+        ExpirySource::Expiry(Some("2015-10-21T07:28:00")),
         "2015-10-21T07:28:00",
         true,
     ),
     (
-        ExpirySource::End(Some("2015-10-21T07:28:00")),
+        ExpirySource::Expiry(Some("2015-10-21T07:28:00")),
         "2015-10-21T07:28:01",
         true,
     ),
-    (ExpirySource::End(None), "2015-10-21T07:27:59", false),
-    (ExpirySource::End(None), "2015-10-21T07:28:00", false),
-    (ExpirySource::End(None), "2015-10-21T07:28:01", false),
-    (ExpirySource::End(None), LAST, false),
+    (ExpirySource::Expiry(None), "2015-10-21T07:27:59", false),
+    (ExpirySource::Expiry(None), "2015-10-21T07:28:00", false),
+    (ExpirySource::Expiry(None), "2015-10-21T07:28:01", false),
+    (ExpirySource::Expiry(None), LAST, false),
     (ExpirySource::Seconds(0, NOW), NOW, true),
     (ExpirySource::Seconds(0, NOW), "2025-12-31T00:00:00", true),
     (ExpirySource::Seconds(60, NOW), NOW, false),
@@ -111,9 +111,9 @@ const MOMENTS: &[(ExpirySource, &str, bool)] = &[
 
 fn is_expired_as_expected(rt: &impl Abort, alloc: Global, row: &(ExpirySource, &str, bool)) {
     let (expiry_source, at, wanted) = row;
-    let end = end_of(rt, alloc, expiry_source);
+    let expiry = expiry_of(rt, alloc, expiry_source);
     let at = moment(rt, at);
-    let results = (end.is_expired(at), end.expires_by(&at));
+    let results = (expiry.is_expired(at), expiry.expires_by(&at));
     is_equal(rt, results, (*wanted, *wanted), row);
 }
 
@@ -165,8 +165,8 @@ const EXPIRIES: &[(ExpirySource, Option<&str>)] = &[
 ];
 
 fn gives_expiry(rt: &impl Abort, alloc: Global, row: &(ExpirySource, Option<&str>)) {
-    let end = end_of(rt, alloc, &row.0);
-    holds(rt, ends_at(rt, &end, row.1), row);
+    let expiry = expiry_of(rt, alloc, &row.0);
+    holds(rt, expires_at(rt, &expiry, row.1), row);
 }
 
 #[test]
@@ -206,7 +206,12 @@ const EQUAL: &[(Option<&str>, Option<&str>, bool)] = &[
 #[test]
 fn fractions_of_a_second_do_not_count(rt: HostRuntime) {
     for row in EQUAL {
-        let (end, other, wanted) = *row;
-        is_equal(&rt, end_at(&rt, end) == end_at(&rt, other), wanted, row);
+        let (expiry, other, wanted) = *row;
+        is_equal(
+            &rt,
+            expiry_at(&rt, expiry) == expiry_at(&rt, other),
+            wanted,
+            row,
+        );
     }
 }

@@ -62,7 +62,7 @@ pub(crate) fn moment(rt: &impl Abort, text: &str) -> DateTime {
 }
 
 // The expiry at this time; `None` is a session cookie.
-pub(crate) fn end_at(rt: &impl Abort, text: Option<&str>) -> CookieExpiration {
+pub(crate) fn expiry_at(rt: &impl Abort, text: Option<&str>) -> CookieExpiration {
     match text {
         Some(text) => CookieExpiration::AtUtc(moment(rt, text)),
         None => CookieExpiration::SessionEnd,
@@ -70,9 +70,13 @@ pub(crate) fn end_at(rt: &impl Abort, text: Option<&str>) -> CookieExpiration {
 }
 
 // Whether the expiry is at this time, to the nanosecond; `None` is a session cookie.
-pub(crate) fn ends_at(rt: &impl Abort, expires: &CookieExpiration, wanted: Option<&str>) -> bool {
+pub(crate) fn expires_at(
+    rt: &impl Abort,
+    expires: &CookieExpiration,
+    wanted: Option<&str>,
+) -> bool {
     match (expires, wanted) {
-        (CookieExpiration::AtUtc(end), Some(text)) => *end == moment(rt, text),
+        (CookieExpiration::AtUtc(time), Some(text)) => *time == moment(rt, text),
         (CookieExpiration::SessionEnd, None) => true,
         _ => false,
     }

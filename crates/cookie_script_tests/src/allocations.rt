@@ -1,5 +1,5 @@
 //! Scripts and lists with each allocation failing in turn.
-use crate::lists::LIST;
+use crate::suffix_lists::LIST;
 use cookie_device::Counted;
 use cookie_psl::List;
 use cookie_script::error::{MainFault, RunFault};

@@ -9,10 +9,10 @@ mod conversions;
 #[cfg(test)]
 mod devices;
 #[cfg(test)]
-mod lists;
-#[cfg(test)]
 mod order;
 #[cfg(test)]
 mod scripts;
+#[cfg(test)]
+mod suffix_lists;
 #[cfg(test)]
 mod words;

@@ -2,7 +2,7 @@
 use crate::built::store_of;
 use crate::checks::{end_of, has_the_same_rows, is_equal};
 use crate::forms::{CASES, Case, FROM, RECEIVED, Shape, load, loaded, save};
-use crate::saved::Which;
+use crate::saved_lines::Which;
 use crate::steps::new_year;
 use crate::texts::url;
 use cookie_fakes::Fake;

@@ -5,7 +5,7 @@ use crate::json::{load_json_from, save_json};
 use crate::lists::{Form, load_list, load_text, save_list, save_text};
 use crate::loaded::{Loaded, Notes, load_lines};
 use crate::netscape::{load_file, save_file};
-use crate::saved::{LASTING, Names, Saved, Which, save_lines};
+use crate::saved_lines::{LASTING, Names, Saved, Which, save_lines};
 use crate::steps::new_year;
 use crate::texts::{are_all, are_listed, listed, unexpired, url, value_of};
 use crate::{json, lists, loaded, netscape, ron};

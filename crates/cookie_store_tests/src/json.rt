@@ -1,6 +1,6 @@
 //! Cookies as lines of JSON.
 use crate::built::UrlAndValue;
-use crate::saved::Which;
+use crate::saved_lines::Which;
 use crate::steps::new_year;
 use cookie_fakes::Fake;
 use cookie_store::device::{Counted, Sink, Source};

@@ -48,7 +48,7 @@ mod ron;
 #[cfg(test)]
 mod rows;
 #[cfg(test)]
-mod saved;
+mod saved_lines;
 #[cfg(test)]
 mod steps;
 #[cfg(test)]

@@ -4,7 +4,7 @@ use crate::checks::{end_of, has_the_same_rows, is_equal};
 use crate::json::fault_of;
 use crate::lists::{self, Form, RECEIVED};
 use crate::ron;
-use crate::saved::Which;
+use crate::saved_lines::Which;
 use crate::steps::new_year;
 use cookie_store::{CookieStore, Error, serde};
 use std::alloc::Global;

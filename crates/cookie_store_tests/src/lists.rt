@@ -1,7 +1,7 @@
 //! Cookies as one list: by functions, in JSON or in RON.
 use crate::built::UrlAndValue;
 use crate::loaded::{Loaded, cookie_of};
-use crate::saved::{Saved, Which};
+use crate::saved_lines::{Saved, Which};
 use crate::steps::new_year;
 use cookie_fakes::Fake;
 use cookie_store::device::{Counted, Sink, Source};

@@ -1,6 +1,6 @@
 //! Stores loaded from lines.
 use crate::checks::{end_of, is_equal};
-use crate::saved::Which;
+use crate::saved_lines::Which;
 use crate::steps::new_year;
 use crate::texts::url;
 use cookie_fakes::Fake;

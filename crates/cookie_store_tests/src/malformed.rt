@@ -4,7 +4,7 @@ use crate::checks::{has_the_same_rows, is_equal};
 use crate::forms::{FROM, IN_JSON, IN_RON, Shape, load, loaded};
 use crate::json::fault_of;
 use crate::lists::Form;
-use crate::saved::Which;
+use crate::saved_lines::Which;
 use crate::steps::new_year;
 use crate::texts::url;
 use crate::{json, lists, ron};

@@ -2,7 +2,7 @@
 use crate::built::{Item, built, cookie};
 use crate::checks::is_equal;
 use crate::forms::{Shape, load};
-use crate::saved::Which;
+use crate::saved_lines::Which;
 use crate::steps::{INSERTED, new_year};
 use crate::texts::{add, url, value_of};
 use cookie_fakes::Fake;

@@ -2,7 +2,7 @@
 use crate::allocations::{ReadCall, reads_or_keeps};
 use crate::checks::is_equal;
 use crate::forms::{FROM as ORIGIN, IN_RON, loaded};
-use crate::saved::Which;
+use crate::saved_lines::Which;
 use crate::steps::{INSERTED, Step, UPDATED, new_year, take_all};
 use cookie_store::{CookieError, CookieStore};
 use jiff::civil::DateTime;

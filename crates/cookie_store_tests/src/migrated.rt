@@ -3,7 +3,7 @@ use crate::built::store_of;
 use crate::checks::{has_the_same_rows, is_equal};
 use crate::forms::{IN_RON, RECEIVED, Shape, save};
 use crate::lists::{Form, load_list};
-use crate::saved::Which;
+use crate::saved_lines::Which;
 use crate::texts::all_rows;
 use cookie_fakes::Fake;
 use cookie_store::CookieStore;

@@ -3,7 +3,7 @@ use crate::allocations::{end, start};
 use crate::built::{UrlAndValue, store_of};
 use crate::checks::is_equal;
 use crate::loaded::Loaded;
-use crate::saved::{Saved, Which};
+use crate::saved_lines::{Saved, Which};
 use crate::steps::new_year;
 use cookie_fakes::Fake;
 use cookie_store::device::{Counted, Sink, Source};

@@ -5,7 +5,7 @@ use crate::checks::{end_of, has_the_same_rows, is_equal};
 use crate::forms;
 use crate::forms::{CASES as FORMS, Shape};
 use crate::lists::Form;
-use crate::saved::Which;
+use crate::saved_lines::Which;
 use crate::steps::new_year;
 use crate::texts::{are_given, url};
 use cookie_fakes::Fake;
