@@ -2,8 +2,8 @@
 // `malloc` and `realloc`, and passes on every call but one. `tools/allocations` and `tools/bindings`
 // build it.
 //
-//   FAIL_ALLOCATION=k       the allocation that fails, from 1
-//   FAIL_MARK=FILE      the file that is created when it fails
+//   FAIL_ALLOCATION=k    the allocation that fails, from 1
+//   FAIL_MARK=FILE       the file that is created when it fails
 //   COUNT_FROM_START=1   every allocation counts, from the program's first on
 //
 // Without COUNT_FROM_START a test marks the allocations that count by two of odd sizes: one of
