@@ -283,12 +283,12 @@ fn to_raw(alloc: Global, cookie: Cookie<'_>) -> Result<RawCookie<'static>, Alloc
     } = cookie;
     let name = String::from_str(alloc, raw.name())?;
     let value = String::from_str(alloc, raw.value())?;
-    let builder = with_end(RawCookieBuilder::new(name, value), expires);
+    let builder = with_expiration(RawCookieBuilder::new(name, value), expires);
     Ok(with_domain(with_path(builder, path), domain).build())
 }
 
 // Adds Expires for a persistent cookie.
-fn with_end(builder: RawCookieBuilder, expires: CookieExpiration) -> RawCookieBuilder
+fn with_expiration(builder: RawCookieBuilder, expires: CookieExpiration) -> RawCookieBuilder
     ensures { result ≡ record builder { expires = option_or (expires_attribute (expiry_value expires)) builder.expires } }
 {
     match expires {

@@ -1,5 +1,5 @@
 //! The groups of a store, by domain.
-ghost use Rattle.std.specs.Prelude.{◌≡◌, ◌≢◌, ◌<◌, ℕ, true, ◌==◌, [], length, not, string_bytes, IfOk, None, OnErr, OnOk};
+ghost use Rattle.std.specs.Prelude.{◌≡◌, ◌≢◌, ◌<◌, ℕ, true, ◌==◌, [], length, not, is_none, string_bytes, IfOk, None, OnErr, OnOk};
 ghost use Rattle.std.specs.Option.{option_copied};
 ghost use Rattle.cookie_words.specs.Moments.{moment_of};
 ghost use Rattle.cookie_parts.specs.Domain.{domain_text};
@@ -69,6 +69,31 @@ pub(crate) fn add_row(
             let (domain, group) = entry_of(alloc, row)?;
             groups.insert(domain, group)?;
             Ok(())
+        }
+    }
+}
+
+// Replaces the row of the cookie's key, which keeps its number, or adds a new row with this number.
+// Returns whether it is new.
+pub(crate) fn put_row(
+    groups: &mut IndexMap<String, Paths, HashKey>,
+    cookie: Cookie<'static>,
+    number: u64,
+) -> Result<bool, AllocError>
+    ensures put { OnOk result (texts_of groups.new.entries ≡ put_items cookie.entry number (texts_of groups.old.entries)) }
+    ensures is_new { IfOk result (λ is_new. is_new ≡ is_none (find_items (key_of cookie.entry) (texts_of groups.old.entries))) }
+    ensures unchanged { OnErr result (texts_of groups.new.entries ≡ texts_of groups.old.entries) }
+    ensures memory { OnErr result (find_items (key_of cookie.entry) (texts_of groups.old.entries) ≡ None) }
+{
+    let alloc = *groups.allocator();
+    let hash_key = *groups.hasher();
+    match groups.get_mut(cookie.domain.as_str()) {
+        Some(group) => group.put(alloc, hash_key, cookie, number),
+        None => {
+            let row = BoxedCookie::new(alloc, cookie, number)?;
+            let (domain, group) = entry_of(alloc, row)?;
+            groups.insert(domain, group)?;
+            Ok(true)
         }
     }
 }

@@ -1,5 +1,5 @@
 //! The rows of one domain, by path.
-ghost use Rattle.std.specs.Prelude.{◌≡◌, ◌∷◌, [], ◌++◌, ◌==◌, ◌<◌, ◌≤◌, length, map, option_map, slice_get, string_bytes, None, IfNone, IfOk, IfSome, OnErr, OnOk, OnSome, ℕ, bytes_eq, false, ◌≢◌};
+ghost use Rattle.std.specs.Prelude.{◌≡◌, ◌∷◌, [], ◌++◌, ◌==◌, ◌<◌, ◌≤◌, is_none, length, map, option_map, slice_get, string_bytes, None, IfNone, IfOk, IfSome, OnErr, OnOk, OnSome, ℕ, bytes_eq, false, ◌≢◌};
 ghost use Rattle.std.specs.Option.{option_copied};
 ghost use Rattle.std.specs.String.{string_eq};
 ghost use Rattle.indexmap.specs.IndexMap.{spare};
@@ -166,6 +166,28 @@ impl Paths {
         let (groups, outcome) = with_row(groups, alloc, hash_key, row);
         self.groups = groups;
         outcome
+    }
+
+    // Replaces the row of the cookie's path and name, which keeps its number, or adds a new row with
+    // this number. Returns whether it is new.
+    pub(crate) fn put(
+        &mut self,
+        alloc: Global,
+        hash_key: HashKey,
+        cookie: Cookie<'static>,
+        number: u64,
+    ) -> Result<bool, AllocError>
+        ensures put { OnOk result (self.new ≡ put_item_paths cookie.entry number self.old) }
+        ensures is_new { IfOk result (λ is_new. is_new ≡ is_none (find_item_paths cookie.entry.path.text cookie.entry.raw.name self.old)) }
+        ensures unchanged { OnErr result (self.new ≡ self.old) }
+        ensures memory { OnErr result (find_item_paths cookie.entry.path.text cookie.entry.raw.name self.old ≡ None) }
+    {
+        if self.get(cookie.path.as_str(), cookie.name()).is_some() {
+            self.replace(cookie);
+            return Ok(false);
+        }
+        self.add(alloc, hash_key, BoxedCookie::new(alloc, cookie, number)?)?;
+        Ok(true)
     }
 
     // Adds a new row and evicts rows of the domain, so that at most `limit` are stored. Returns

@@ -20,7 +20,8 @@ ghost use Rattle.cookie_rows.specs.Items.{AreItems, groups_in_order};
 use crate::boxed::BoxedCookie;
 use crate::copying::rehashed_table;
 use crate::domains::{
-    add_row, expire_row, find_row, insert_row_within_limit, remove_row, replace_row, retain_groups,
+    add_row, expire_row, find_row, insert_row_within_limit, put_row, remove_row, replace_row,
+    retain_groups,
 };
 use crate::hashing::{HashKey, StoreAlloc};
 use crate::header_order::in_header_order;
@@ -294,13 +295,29 @@ impl Rows {
         ensures memory { OnErr result (IsNewRow include_expired (moment_of now) self.old cookie.entry) }
     {
         if include_expired || !cookie.is_expired(now) {
-            return self.put(cookie, now);
+            return self.put(cookie);
         }
         Ok(())
     }
 
     // Replaces the row of the cookie's domain, path and name, or adds a new row.
-    fn put(&mut self, cookie: Cookie<'static>, now: DateTime) -> Result<(), AllocError>
+    fn put(&mut self, cookie: Cookie<'static>) -> Result<(), AllocError>
+        ensures put { OnOk result (self.new
+            ≡ record { rows = put self.old.rows cookie.entry; created = add_created self.old.created (key_of cookie.entry) }) }
+        ensures unchanged { OnErr result (self.new ≡ self.old) }
+        ensures memory { OnErr result (row_of (key_of cookie.entry) self.old.rows ≡ None) }
+    {
+        let Some(next) = self.created.checked_add(1) else {
+            return self.replace_stored(cookie);
+        };
+        if put_row(&mut self.groups, cookie, self.created)? {
+            self.created = next;
+        }
+        Ok(())
+    }
+
+    // Replaces the row of the cookie's domain, path and name. Fails if there is none.
+    fn replace_stored(&mut self, cookie: Cookie<'static>) -> Result<(), AllocError>
         ensures put { OnOk result (self.new
             ≡ record { rows = put self.old.rows cookie.entry; created = add_created self.old.created (key_of cookie.entry) }) }
         ensures unchanged { OnErr result (self.new ≡ self.old) }
@@ -311,7 +328,7 @@ impl Rows {
                 self.replace(cookie);
                 Ok(())
             }
-            None => self.insert_within_limit(cookie, None, now),
+            None => Err(AllocError),
         }
     }
 

@@ -15,7 +15,7 @@ returns c =
       c.build.ensures,
       c.with_domain.ensures,
       c.with_path.ensures,
-      c.with_end-builder.ensures,
+      c.with_expiration-builder.ensures,
       c.new.ensures,
       or_nothing (expires_attribute (expiry_value c.cookie.inside.expires)),
       or_nothing (path_attribute c.cookie.inside.path),

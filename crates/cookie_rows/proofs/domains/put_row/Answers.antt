@@ -1,0 +1,95 @@
+use Rattle.std.proofs.Common.{◌∙◌, sym, ap, Some, []}
+use Rattle.std.specs.Prelude.{is_none}
+use Rattle.std.specs.String.{string_eq}
+use Rattle.std.specs.Map.{set_value}
+use Rattle.indexmap.specs.IndexMap.{insert_entry}
+use Rattle.cookie_parts.specs.Cookie.{Row}
+use Rattle.cookie_parts.specs.Domain.{domain_text}
+use Rattle.cookie_rows.specs.Groups.{texts_of, put_at, found}
+use Rattle.cookie_rows.specs.Items.{find_item_paths, put_item_paths, Item}
+use Rattle.cookie_rows.proofs.Maps.{at_text, put_set, same_set, put_insert, found_some, found_none}
+use Rattle.cookie_rows.proofs.Results.{on_ok_map, on_err_map, if_ok_map, either_way}
+use Rattle.cookie_rows.proofs.domains.put_row.Goals as goal
+
+pub returns-in-Some-clause-put : goal.returns-in-Some-clause-put
+returns-in-Some-clause-put c =
+    let es = c.args.groups.now.entries in
+    let q = c.as_str.result.now in
+    let domain = c.as_str.ensures ∙ ap (λ (r : Row). domain_text r.domain) c.cookie.view_is in
+    let change = put_item_paths c.args.cookie c.args.number in
+    on_ok_map c.put.result
+    (λ new. ap texts_of (c.get_mut.follows.holds c.put.new.self).0
+    ∙ ap (λ v. texts_of (set_value (at_text q) es v)) new
+    ∙ put_set change q es c.in-Some.group.now c.in-Some.ensures.value
+    ∙ ap (λ t. put_at change t (texts_of es)) domain)
+    c.put.ensures.put
+
+pub returns-in-Some-clause-is_new : goal.returns-in-Some-clause-is_new
+returns-in-Some-clause-is_new c =
+    let es = c.args.groups.now.entries in
+    let q = c.as_str.result.now in
+    let domain = c.as_str.ensures ∙ ap (λ (r : Row). domain_text r.domain) c.cookie.view_is in
+    let named = find_item_paths c.args.cookie.path.text c.args.cookie.raw.name in
+    if_ok_map c.put.result
+    (λ is_new is. is ∙ ap is_none (found_some named q es c.in-Some.group.now c.in-Some.ensures.value ∙ ap (λ t. found named t (texts_of es)) domain))
+    c.put.ensures.is_new
+
+pub returns-in-Some-clause-unchanged : goal.returns-in-Some-clause-unchanged
+returns-in-Some-clause-unchanged c =
+    on_err_map c.put.result
+    (λ same. ap texts_of (c.get_mut.follows.holds c.put.new.self).0 ∙ same_set _ c.args.groups.now.entries c.put.new.self (ap Some same ∙ c.in-Some.ensures.value))
+    c.put.ensures.unchanged
+
+pub returns-in-Some-clause-memory : goal.returns-in-Some-clause-memory
+returns-in-Some-clause-memory c =
+    let es = c.args.groups.now.entries in
+    let q = c.as_str.result.now in
+    let domain = c.as_str.ensures ∙ ap (λ (r : Row). domain_text r.domain) c.cookie.view_is in
+    let named = find_item_paths c.args.cookie.path.text c.args.cookie.raw.name in
+    on_err_map c.put.result
+    (λ none. sym (found_some named q es c.in-Some.group.now c.in-Some.ensures.value ∙ ap (λ t. found named t (texts_of es)) domain) ∙ none)
+    c.put.ensures.memory
+
+pub returns-in_err-row-in-None-clause-memory : goal.returns-in_err-row-in-None-clause-memory
+returns-in_err-row-in-None-clause-memory c =
+    let es = c.args.groups.now.entries in
+    let domain = c.as_str.ensures ∙ ap (λ (r : Row). domain_text r.domain) c.cookie.view_is in
+    let named = find_item_paths c.args.cookie.path.text c.args.cookie.raw.name in
+    either_way c.from_residual.result (sym (found_none named c.as_str.result.now es c.in-None.ensures.value ∙ ap (λ t. found named t (texts_of es)) domain))
+
+pub returns-in_err-domain-in-None-clause-memory : goal.returns-in_err-domain-in-None-clause-memory
+returns-in_err-domain-in-None-clause-memory c =
+    let es = c.args.groups.now.entries in
+    let domain = c.as_str.ensures ∙ ap (λ (r : Row). domain_text r.domain) c.cookie.view_is in
+    let named = find_item_paths c.args.cookie.path.text c.args.cookie.raw.name in
+    either_way c.from_residual-in_err-domain-in-None.result
+    (sym (found_none named c.as_str.result.now es c.in-None.ensures.value ∙ ap (λ t. found named t (texts_of es)) domain))
+
+pub returns-in_err-insert-in-None-clause-memory : goal.returns-in_err-insert-in-None-clause-memory
+returns-in_err-insert-in-None-clause-memory c =
+    let es = c.args.groups.now.entries in
+    let domain = c.as_str.ensures ∙ ap (λ (r : Row). domain_text r.domain) c.cookie.view_is in
+    let named = find_item_paths c.args.cookie.path.text c.args.cookie.raw.name in
+    either_way c.from_residual-in_err-insert-in-None.result
+    (sym (found_none named c.as_str.result.now es c.in-None.ensures.value ∙ ap (λ t. found named t (texts_of es)) domain))
+
+pub returns-in_ok-insert-in-None-clause-put : goal.returns-in_ok-insert-in-None-clause-put
+returns-in_ok-insert-in-None-clause-put c =
+    let es = c.args.groups.now.entries in
+    let q = c.as_str.result.now in
+    let domain = c.as_str.ensures ∙ ap (λ (r : Row). domain_text r.domain) c.cookie.view_is in
+    let change = put_item_paths c.args.cookie c.args.number in
+    let row = c.in_ok-row-in-None.ensures in
+    let key = c.in_ok-domain-in-None.domain in
+    ap texts_of c.in_ok-insert-in-None.ensures.entries
+    ∙ ap (λ m. texts_of (insert_entry string_eq m.entries key c.in_ok-domain-in-None.group)) c.get_mut.follows.holds-at-none
+    ∙ ap (λ v. texts_of (insert_entry string_eq es key v)) (c.in_ok-domain-in-None.ensures.group ∙ ap (λ (i : Item). put_item_paths i.row i.number []) row)
+    ∙ put_insert change q key es (c.in_ok-domain-in-None.ensures.domain ∙ ap (λ (i : Item). domain_text i.row.domain) row ∙ sym domain) c.in-None.ensures.value
+    ∙ ap (λ t. put_at change t (texts_of es)) domain
+
+pub returns-in_ok-insert-in-None-clause-is_new : goal.returns-in_ok-insert-in-None-clause-is_new
+returns-in_ok-insert-in-None-clause-is_new c =
+    let es = c.args.groups.now.entries in
+    let domain = c.as_str.ensures ∙ ap (λ (r : Row). domain_text r.domain) c.cookie.view_is in
+    let named = find_item_paths c.args.cookie.path.text c.args.cookie.raw.name in
+    ap is_none (found_none named c.as_str.result.now es c.in-None.ensures.value ∙ ap (λ t. found named t (texts_of es)) domain)
