@@ -20,10 +20,12 @@ pub mod LeftItems
 pub mod Maps
 pub mod Members
 pub mod Named
+pub mod NamedItems
 pub mod NumberedPuts
 pub mod NumberedTakes
 pub mod Ordered
 pub mod Places
+pub mod Positions
 pub mod Puts
 pub mod RankOrder
 pub mod Removed

@@ -1,10 +1,15 @@
 -- What an unknown result implies.
-use Rattle.std.proofs.Common.{IfOk, Result, Ok, Err, OnOk, OnErr}
+use Rattle.std.proofs.Common.{IfOk, IsOk, Result, Ok, Err, OnOk, OnErr}
 
 -- what follows from what holds after success
 pub on_ok_map : {T E P Q : Type 0} (r : Result T E) → (P → Q) → OnOk r P → OnOk r Q
 on_ok_map (Ok x) f h = f h
 on_ok_map (Err e) f h = tt
+
+-- what holds after a success that is known
+pub known_ok : {T E P : Type 0} (r : Result T E) → IsOk r → OnOk r P → P
+known_ok (Ok x) ok h = h
+known_ok (Err e) ok h = absurd (cc)
 
 -- of a value
 pub if_ok_map : {T E : Type 0} {P Q : T → Type 0} (r : Result T E) → ((x : T) → P x → Q x) → IfOk r P → IfOk r Q

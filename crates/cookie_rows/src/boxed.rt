@@ -1,6 +1,6 @@
 //! A numbered cookie in a box. Maps of rows reserve room ahead; with boxes they reserve it for
 //! pointers only.
-ghost use Rattle.std.specs.Prelude.{◌≡◌, IfOk};
+ghost use Rattle.std.specs.Prelude.{◌≡◌, ◌++◌, map, IfOk, OnOk};
 ghost use Rattle.cookie_words.specs.Moments.{moment_of};
 ghost use Rattle.cookie_parts.specs.Cookie.{expired_row};
 ghost use Rattle.cookie_rows.specs.Eviction.{rank_of};
@@ -117,4 +117,18 @@ impl BoxedCookie {
     {
         Box::into_inner(self.inner).cookie
     }
+}
+
+// Adds the places of these rows in eviction order.
+pub(crate) fn push_ranks(
+    ranks: &mut Vec<(bool, u64)>,
+    rows: &[BoxedCookie],
+    now: DateTime,
+) -> Result<(), AllocError>
+    ensures { OnOk result (ranks.new.items ≡ ranks.old.items ++ map (rank_of (moment_of now)) rows.now) }
+{
+    for row in rows {
+        ranks.push(row.rank(now))?;
+    }
+    Ok(())
 }

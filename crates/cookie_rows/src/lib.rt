@@ -12,6 +12,7 @@ mod hashing;
 mod header_order;
 mod iter;
 mod map_search;
+mod name_list;
 mod names;
 mod path_table;
 mod paths;

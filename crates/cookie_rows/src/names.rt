@@ -1,18 +1,20 @@
 //! The rows of one domain and path, by name.
-ghost use Rattle.std.specs.Prelude.{◌≡◌, ◌≢◌, ◌<◌, ◌+◌, ◌^◌, ◌∷◌, [], ◌==◌, ℕ, filter, length, option_map, slice_get, string_bytes, None, IfOk, IfSome, OnErr, OnOk, false, ◌≤◌, List};
+ghost use Rattle.std.specs.Prelude.{◌≡◌, ◌≢◌, ◌<◌, ◌+◌, ◌^◌, ◌∷◌, [], ◌==◌, ℕ, filter, length, option_map, slice_get, None, IfOk, IfSome, OnErr, OnOk, ◌≤◌, List, IsTrue, vec_capacity};
 ghost use Rattle.std.specs.Map.{values_of};
 ghost use Rattle.std.specs.Option.{option_copied};
-ghost use Rattle.std.specs.String.{string_eq};
-ghost use Rattle.indexmap.specs.IndexMap.{spare};
 ghost use Rattle.cookie_words.specs.Moments.{moment_of};
 ghost use Rattle.cookie_rows.specs.Groups.{row_named};
 ghost use Rattle.cookie_rows.specs.Items.{AreNamed, expire_item, put_item, remove_item, rows_of, Item};
-ghost use Rattle.cookie_rows.specs.NameMaps.{items_of, HasNames};
+ghost use Rattle.cookie_rows.specs.NameMaps.{items_of, names_differ, HasNames};
 ghost use Rattle.cookie_rows.specs.Eviction.{survives};
 
 use crate::boxed::BoxedCookie;
 use crate::copying::{Rehash, rehashed_table};
 use crate::hashing::HashKey;
+use crate::name_list::{
+    MOST_LISTED, expire_among, fill_table, push_row, remove_among, replace_among, retain_among,
+    row_among, table_for,
+};
 use cookie_parts::Cookie;
 use indexmap::IndexMap;
 use jiff::civil::DateTime;
@@ -20,11 +22,12 @@ use std::alloc::{AllocError, Global};
 use std::marker::Model;
 use std::{mem, slice};
 
-/// Rows by name. A single row is stored in place, so that a path with one cookie needs no table.
+/// Rows by name. A single row is stored in place, and a few rows are a list without an index.
 #[derive(Drop)]
 pub(crate) enum NameMap {
     Empty,
     Single(BoxedCookie),
+    List(Box<Vec<BoxedCookie>>),
     Table(Box<IndexMap<String, BoxedCookie, HashKey>>),
 }
 
@@ -74,6 +77,7 @@ impl Names {
         match &self.rows {
             NameMap::Empty => &[],
             NameMap::Single(row) => slice::from_ref(row),
+            NameMap::List(rows) => rows.as_ref().as_slice(),
             NameMap::Table(rows) => rows.values().as_slice(),
         }
     }
@@ -104,6 +108,7 @@ impl Names {
         match &self.rows {
             NameMap::Empty => None,
             NameMap::Single(row) => single_of(row, name),
+            NameMap::List(rows) => row_among(rows.as_ref(), name),
             NameMap::Table(rows) => row_in(rows.as_ref(), name),
         }
     }
@@ -193,6 +198,7 @@ fn rehashed(rows: &NameMap, alloc: Global, hash_key: HashKey) -> Result<NameMap,
     match rows {
         NameMap::Empty => Ok(NameMap::Empty),
         NameMap::Single(row) => Ok(NameMap::Single(row.clone()?)),
+        NameMap::List(rows) => Ok(NameMap::List(rows.clone()?)),
         NameMap::Table(rows) => {
             let copies = rehashed_table(rows, alloc, hash_key)?;
             Ok(NameMap::Table(Box::new(alloc, copies)?))
@@ -210,6 +216,7 @@ fn replace_row(rows: &mut NameMap, cookie: Cookie<'static>)
     match rows {
         NameMap::Empty => {}
         NameMap::Single(row) => row.set(cookie),
+        NameMap::List(rows) => replace_among(rows.as_mut(), cookie),
         NameMap::Table(rows) => replace_in(rows.as_mut(), cookie),
     }
 }
@@ -242,7 +249,8 @@ fn with_row(
 {
     match rows {
         NameMap::Empty => (NameMap::Single(row), Ok(())),
-        NameMap::Single(first) => with_second(first, alloc, hash_key, row),
+        NameMap::Single(first) => with_second(first, alloc, row),
+        NameMap::List(rows) => with_next(rows, alloc, hash_key, row),
         NameMap::Table(mut table) => {
             let outcome = add_in(&mut table, alloc, row);
             (NameMap::Table(table), outcome)
@@ -254,7 +262,6 @@ fn with_row(
 fn with_second(
     first: BoxedCookie,
     alloc: Global,
-    hash_key: HashKey,
     row: BoxedCookie,
 ) -> (NameMap, Result<(), AllocError>)
     requires new { row_named row.row.raw.name (first.row ∷ []) ≡ None }
@@ -262,50 +269,63 @@ fn with_second(
     ensures unchanged { OnErr result.1 (items_of result.0 ≡ first ∷ []) }
     ensures named { HasNames result.0 }
 {
-    match table_for(alloc, hash_key, &first, &row) {
-        Ok((table, first_name, name)) => (pair(table, first_name, first, name, row), Ok(())),
+    match room_for_two(alloc) {
+        Ok(rows) => (NameMap::List(pair(rows, first, row)), Ok(())),
         Err(error) => (NameMap::Single(first), Err(error)),
     }
 }
 
-// Returns an empty table with room for two rows, and their names.
-fn table_for(
-    alloc: Global,
-    hash_key: HashKey,
-    first: &BoxedCookie,
-    second: &BoxedCookie,
-) -> Result<(Box<IndexMap<String, BoxedCookie, HashKey>>, String, String), AllocError>
-    ensures empty { IfOk result (λ created. created.0.value.entries ≡ []) }
-    ensures room { IfOk result (λ created. 2 ≤ spare created.0.value) }
-    ensures first { IfOk result (λ created. string_bytes created.1 ≡ first.now.row.raw.name) }
-    ensures second { IfOk result (λ created. string_bytes created.2 ≡ second.now.row.raw.name) }
+// Returns an empty list with room for two rows.
+fn room_for_two(alloc: Global) -> Result<Box<Vec<BoxedCookie>>, AllocError>
+    ensures empty { IfOk result (λ rows. rows.value.items ≡ []) }
+    ensures room { IfOk result (λ rows. 2 ≤ vec_capacity rows.value) }
 {
-    let first = String::from_str(alloc, first.cookie().name())?;
-    let second = String::from_str(alloc, second.cookie().name())?;
-    let table = IndexMap::with_capacity_and_hasher(alloc, 2, hash_key)?;
-    Ok((Box::new(alloc, table)?, first, second))
+    let rows = Vec::with_capacity(alloc, 2)?;
+    Ok(Box::new(alloc, rows)?)
 }
 
-// Returns a table of two rows.
+// Returns a list of two rows.
 fn pair(
-    table: Box<IndexMap<String, BoxedCookie, HashKey>>,
-    first_name: String,
+    rows: Box<Vec<BoxedCookie>>,
     first: BoxedCookie,
-    second_name: String,
     second: BoxedCookie,
-) -> NameMap
-    requires empty { table.value.entries ≡ [] }
-    requires room { 2 ≤ spare table.value }
-    requires differ { string_eq second_name first_name ≡ false }
-    requires first { string_bytes first_name ≡ first.row.raw.name }
-    requires second { string_bytes second_name ≡ second.row.raw.name }
-    ensures items { items_of result ≡ first ∷ second ∷ [] }
-    ensures named { HasNames result }
+) -> Box<Vec<BoxedCookie>>
+    requires empty { rows.value.items ≡ [] }
+    requires room { 2 ≤ vec_capacity rows.value }
+    ensures { result.value.items ≡ first ∷ second ∷ [] }
 {
-    let mut table = table;
-    table.insert(first_name, first).unwrap();
-    table.insert(second_name, second).unwrap();
-    NameMap::Table(table)
+    let mut rows = rows;
+    rows.push_reserved(first);
+    rows.push_reserved(second);
+    rows
+}
+
+// Adds the row at the end of a list, which becomes a table if it is full. Returns the same rows if
+// out of memory.
+fn with_next(
+    mut rows: Box<Vec<BoxedCookie>>,
+    alloc: Global,
+    hash_key: HashKey,
+    row: BoxedCookie,
+) -> (NameMap, Result<(), AllocError>)
+    requires differ { IsTrue (names_differ rows.value.items) }
+    requires new { row_named row.row.raw.name (rows_of rows.value.items) ≡ None }
+    ensures added { OnOk result.1 (items_of result.0 ≡ put_item row.row row.number rows.value.items) }
+    ensures unchanged { OnErr result.1 (items_of result.0 ≡ rows.value.items) }
+    ensures named { HasNames result.0 }
+{
+    if rows.len() < MOST_LISTED {
+        let outcome = push_row(&mut rows, row);
+        return (NameMap::List(rows), outcome);
+    }
+    match table_for(alloc, hash_key, &rows) {
+        Ok((mut table, names)) => {
+            fill_table(&mut table, names, Box::into_inner(rows));
+            let outcome = add_in(&mut table, alloc, row);
+            (NameMap::Table(table), outcome)
+        }
+        Err(error) => (NameMap::List(rows), Err(error)),
+    }
 }
 
 // Adds the row at the end of a table.
@@ -338,6 +358,7 @@ fn retain_rows(rows: &mut NameMap, first: (bool, u64), now: DateTime)
                 *rows = NameMap::Empty;
             }
         }
+        NameMap::List(rows) => retain_among(rows.as_mut(), first, now),
         NameMap::Table(rows) => retain_in(rows.as_mut(), first, now),
     }
 }
@@ -368,6 +389,7 @@ fn expire_row(rows: &mut NameMap, name: &str)
                 row.expire();
             }
         }
+        NameMap::List(rows) => expire_among(rows.as_mut(), name),
         NameMap::Table(rows) => expire_in(rows.as_mut(), name),
     }
 }
@@ -399,6 +421,10 @@ fn without_row(rows: NameMap, name: &str) -> (NameMap, Option<Cookie<'static>>)
             } else {
                 (NameMap::Single(row), None)
             }
+        }
+        NameMap::List(mut rows) => {
+            let row = remove_among(rows.as_mut(), name);
+            (NameMap::List(rows), row)
         }
         NameMap::Table(mut table) => {
             let row = remove_in(table.as_mut(), name);

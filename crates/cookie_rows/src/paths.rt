@@ -1,5 +1,5 @@
 //! The rows of one domain, by path.
-ghost use Rattle.std.specs.Prelude.{◌≡◌, ◌∷◌, [], ◌++◌, ◌==◌, ◌<◌, ◌≤◌, is_none, length, map, option_map, slice_get, string_bytes, None, IfNone, IfOk, IfSome, OnErr, OnOk, OnSome, ℕ, bytes_eq, false, ◌≢◌};
+ghost use Rattle.std.specs.Prelude.{◌≡◌, ◌∷◌, [], ◌==◌, ◌<◌, ◌≤◌, is_none, length, map, option_map, slice_get, string_bytes, None, IfNone, IfOk, IfSome, OnErr, OnOk, OnSome, ℕ, bytes_eq, false, ◌≢◌};
 ghost use Rattle.std.specs.Option.{option_copied};
 ghost use Rattle.std.specs.String.{string_eq};
 ghost use Rattle.indexmap.specs.IndexMap.{spare};
@@ -8,9 +8,9 @@ ghost use Rattle.cookie_lookup.specs.SearchView.{group_position, under};
 ghost use Rattle.cookie_rows.specs.PathMaps.{groups_of};
 ghost use Rattle.cookie_rows.specs.HeaderItems.{items_in};
 ghost use Rattle.cookie_rows.specs.Items.{expire_item_paths, find_item_paths, put_item_paths, remove_item_paths, ItemPaths};
-ghost use Rattle.cookie_rows.specs.Eviction.{is_single, is_single_paths, filter_paths, moved_to_end_if, survives, rank_of, ranks_of, InsertsInPaths, IsFirstSurvivor};
+ghost use Rattle.cookie_rows.specs.Eviction.{is_single, is_single_paths, filter_paths, moved_to_end_if, survives, ranks_of, InsertsInPaths, IsFirstSurvivor};
 
-use crate::boxed::BoxedCookie;
+use crate::boxed::{BoxedCookie, push_ranks};
 use crate::copying::{Rehash, rehashed_table};
 use crate::hashing::HashKey;
 use crate::names::Names;
@@ -407,20 +407,6 @@ fn pair(
     table.insert(first, names).unwrap();
     table.insert(path, Names::of_one(row)).unwrap();
     PathMap::Table(table)
-}
-
-// Adds the places of these rows in eviction order.
-fn push_ranks(
-    ranks: &mut Vec<(bool, u64)>,
-    rows: &[BoxedCookie],
-    now: DateTime,
-) -> Result<(), AllocError>
-    ensures { OnOk result (ranks.new.items ≡ ranks.old.items ++ map (rank_of (moment_of now)) rows.now) }
-{
-    for row in rows {
-        ranks.push(row.rank(now))?;
-    }
-    Ok(())
 }
 
 // Keeps the rows that do not come before `first` in eviction order, and drops empty groups.

@@ -130,7 +130,7 @@ impl Rows {
     }
 
     /// Returns the rows given for `url` at `now`, RFC 6265 5.4, in order, and how many lookups that
-    /// took. The lookups of domains, and those of paths, are at least as many as were found.
+    /// took: at least one of a domain for each domain found, and one of a path for each path found.
     ///
     /// # Errors
     ///
