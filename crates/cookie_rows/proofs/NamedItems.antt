@@ -121,7 +121,7 @@ absent_ahead (x ∷ xs) ys y d =
     let rest : names_differ (xs ++ y ∷ ys) ≡ true = grind (arith, nat_tests, d) in
     let other : bytes_eq x.row.raw.name y.row.raw.name ≡ false = not_there x.row.raw.name xs ys y none in
     let flip : bytes_eq y.row.raw.name x.row.raw.name ≡ false =
-        grind (arith, nat_tests, other, bytes_eq-Decides x.row.raw.name y.row.raw.name, bytes_eq-Decides y.row.raw.name x.row.raw.name) in
+    grind (arith, nat_tests, other, bytes_eq-Decides x.row.raw.name y.row.raw.name, bytes_eq-Decides y.row.raw.name x.row.raw.name) in
     rw flip (absent_ahead xs ys y rest)
 
 -- of rows that move into a map one by one, each under its name, one more did

@@ -14,7 +14,7 @@ loop-row-preserved-in-Some-next c =
     let all = into_iter_items c.into_iter-row-iterator.result in
     let next : into_iter_items c.loop-row.row-iterator ≡ c.in-Some.row ∷ left = c.in-Some.ensures.steps.0 in
     let names : map string_bytes (c.in-Some-next.name ∷ into_iter_items c.next-in-loop-row.new.self) ≡ names_in (c.in-Some.row ∷ left) =
-        sym (ap (map string_bytes) c.in-Some-next.ensures.items) ∙ c.loop-row.invariant.names ∙ ap names_in next in
+    sym (ap (map string_bytes) c.in-Some-next.ensures.items) ∙ c.loop-row.invariant.names ∙ ap names_in next in
     let key : string_bytes c.in-Some-next.name ≡ c.in-Some.row.row.raw.name = cc in
     let whole = ap (λ items. values_of c.loop-row.table.entries ++ items) (sym next) ∙ c.loop-row.invariant.rows in
     let d : names_differ all ≡ true = subst (λ items. names_differ items ≡ true) (sym c.into_iter-row-iterator.ensures.into_iter_gives.0) c.requires.differ in
@@ -36,7 +36,7 @@ loop-row-preserved-in-Some-next-2 c =
     let all = into_iter_items c.into_iter-row-iterator.result in
     let next : into_iter_items c.loop-row.row-iterator ≡ c.in-Some.row ∷ left = c.in-Some.ensures.steps.0 in
     let names : map string_bytes (c.in-Some-next.name ∷ into_iter_items c.next-in-loop-row.new.self) ≡ names_in (c.in-Some.row ∷ left) =
-        sym (ap (map string_bytes) c.in-Some-next.ensures.items) ∙ c.loop-row.invariant.names ∙ ap names_in next in
+    sym (ap (map string_bytes) c.in-Some-next.ensures.items) ∙ c.loop-row.invariant.names ∙ ap names_in next in
     let key : string_bytes c.in-Some-next.name ≡ c.in-Some.row.row.raw.name = cc in
     let whole = ap (λ items. values_of c.loop-row.table.entries ++ items) (sym next) ∙ c.loop-row.invariant.rows in
     let d : names_differ all ≡ true = subst (λ items. names_differ items ≡ true) (sym c.into_iter-row-iterator.ensures.into_iter_gives.0) c.requires.differ in
