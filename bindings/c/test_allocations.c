@@ -13,18 +13,32 @@
 /* Allocations of these sizes start and end the count of tools/fail_allocation.c. */
 enum { START = 48271, END = 48281, MOST = 10000 };
 
+/* Enough for a saved list of all cookies. */
+enum { ROOM = 16384 };
+
 #define NOW INT64_C(1767225600) /* 2026-01-01T00:00:00 */
 #define TEXT(text) (text), strlen(text)
 
 static const char *const PAGE = "http://shop.a.example/d/page";
 static const char *const TEXTS[] = {"a=1; Domain=a.example", "b=2; Path=/; Max-Age=60", "c=3; Expires=Thu, 01 Jan 2099 00:00:00 GMT"};
-static char json[4096], ron[4096], netscape[4096];
+static char json[ROOM], ron[ROOM], netscape[ROOM];
 static size_t json_len, ron_len, netscape_len;
+
+/* A store keeps so many cookies of a path in a list; the next one makes it a table. */
+enum { MOST_LISTED = 32 };
+
+static enum cookie_store_status set_listed(cookie_store *store, int number) {
+    char text[32];
+    snprintf(text, sizeof text, "n%d=1; Path=/list", number);
+    return cookie_store_set(store, TEXT(PAGE), TEXT(text), NOW);
+}
 
 static enum cookie_store_status fill(cookie_store *store) {
     enum cookie_store_status status = cookie_store_new(store, "", 0);
     for (size_t at = 0; status <= COOKIE_STORE_INSERTED && at < sizeof TEXTS / sizeof *TEXTS; at++)
         status = cookie_store_set(store, TEXT(PAGE), TEXT(TEXTS[at]), NOW);
+    for (int number = 0; status == COOKIE_STORE_INSERTED && number < MOST_LISTED; number++)
+        status = set_listed(store, number);
     return status;
 }
 
@@ -33,6 +47,8 @@ static enum cookie_store_status begin(cookie_store *store) { return cookie_store
 static enum cookie_store_status set_new(cookie_store *store) {
     return cookie_store_set(store, TEXT("http://b.example/x/y"), TEXT("d=4; Domain=b.example; Path=/x"), NOW);
 }
+
+static enum cookie_store_status set_next(cookie_store *store) { return set_listed(store, MOST_LISTED); }
 
 static enum cookie_store_status set_again(cookie_store *store) { return cookie_store_set(store, TEXT(PAGE), TEXT(TEXTS[0]), NOW); }
 
@@ -61,19 +77,19 @@ static enum cookie_store_status use_suffixes(cookie_store *store) {
 static enum cookie_store_status set_hash_key(cookie_store *store) { return cookie_store_set_hash_key(store, TEXT("0123456789abcdef")); }
 
 static enum cookie_store_status save_json(cookie_store *store) {
-    char out[4096];
+    char out[ROOM];
     size_t needed;
     return cookie_store_save_json(store, NOW, true, out, sizeof out, &needed);
 }
 
 static enum cookie_store_status save_ron(cookie_store *store) {
-    char out[4096];
+    char out[ROOM];
     size_t needed;
     return cookie_store_save_ron(store, NOW, true, out, sizeof out, &needed);
 }
 
 static enum cookie_store_status save_netscape(cookie_store *store) {
-    char out[4096];
+    char out[ROOM];
     size_t needed;
     return cookie_store_save_netscape(store, NOW, true, out, sizeof out, &needed);
 }
@@ -105,6 +121,7 @@ static const struct {
 } CALLS[] = {
     {"new", false, begin, COOKIE_STORE_OK, false},
     {"set", true, set_new, COOKIE_STORE_INSERTED, false},
+    {"set, to a full list", true, set_next, COOKIE_STORE_INSERTED, false},
     {"set again", true, set_again, COOKIE_STORE_UPDATED, false},
     {"set, strict", true, set_strict, COOKIE_STORE_INSERTED, false},
     {"get", true, get, COOKIE_STORE_OK, false},
@@ -124,7 +141,7 @@ static const struct {
 
 /* Whether the store has the cookies that it started with, or still does not exist. */
 static bool is_as_it_was(cookie_store *store, bool is_begun) {
-    char out[4096];
+    char out[ROOM];
     size_t needed = 0;
     enum cookie_store_status status = cookie_store_save_json(store, NOW, true, out, sizeof out, &needed);
     if (!is_begun) return status == COOKIE_STORE_NO_STORE;
