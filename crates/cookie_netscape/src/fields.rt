@@ -95,6 +95,7 @@ fn split_last(text: &str) -> Option<(&str, &str)>
 
 /// Whether the strings are those of a cookie that the format can represent.
 #[tactic(auto, unfolding(crate::specs::Lines::are_fields))]
+#[inline(always)]
 pub(crate) fn are_fields(domain: &str, path: &str, name: &str, value: &str) -> bool
     ensures { result ≡ are_fields domain.now path.now name.now value.now }
 {
@@ -123,6 +124,7 @@ fn is_name_field(name: &str) -> bool
 }
 
 // Whether this is the value of a cookie-pair, in one field.
+#[inline(always)]
 fn is_value_field(value: &str) -> bool
     ensures { result ≡ is_value_field value.now }
 {

@@ -40,7 +40,7 @@ put_last w n (x ∷ xs) none = elim (cases_Bool (is_item_named w.raw.name x)) [
   | inr f ↦ let none' = rw f at none in rw f (ap (λ rest. x ∷ rest) (put_last w n xs none'))
 ]
 
--- a stored one in the place of the other
+-- a row of a stored name replaces that row
 put_changed : (w : Row) (n : ℕ) (items : List Item) → list_any (is_item_named w.raw.name) items ≡ true
     → changed (is_item_named w.raw.name) (λ item. record item { row = w }) items ≡ put_item w n items
 put_changed w n [] some = absurd (cc)
@@ -56,7 +56,7 @@ put_there w n items at d is =
     changed_there (is_item_named w.raw.name) (λ item. record item { row = w }) items at d is
     ∙ put_changed w n items (passes (is_item_named w.raw.name) items at is)
 
--- its name is that of the other
+-- a replacement changes no name
 pub names_put : (w : Row) (n : ℕ) (items : List Item) → list_any (is_item_named w.raw.name) items ≡ true → names_in (put_item w n items) ≡ names_in items
 names_put w n [] some = absurd (cc)
 names_put w n (x ∷ xs) some = elim (cases_Bool (is_item_named w.raw.name x)) [
@@ -124,7 +124,7 @@ absent_ahead (x ∷ xs) ys y d =
     grind (arith, nat_tests, other, bytes_eq-Decides x.row.raw.name y.row.raw.name, bytes_eq-Decides y.row.raw.name x.row.raw.name) in
     rw flip (absent_ahead xs ys y rest)
 
--- of rows that move into a map one by one, each under its name, one more did
+-- the next row is inserted into a map under its name
 
 module _ {A : Type 0} (es : List (String A × Item)) (left all : List Item) (x : Item) (k : String A) (named : AreNamed es)
     (key : string_bytes k ≡ x.row.raw.name) (whole : values_of es ++ x ∷ left ≡ all) (d : names_differ all ≡ true) where

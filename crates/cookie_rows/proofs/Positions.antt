@@ -79,7 +79,7 @@ module _ {T : Type 0} (test : T → Bool) where
   removed_there xs at h = rw (position_first xs at h).0 (remove_first xs)
 
   -- without a position no item passes
-  pub none_passes : (xs : List T) → position test xs ≡ None → list_any test xs ≡ false
+  none_passes : (xs : List T) → position test xs ≡ None → list_any test xs ≡ false
   none_passes xs h = grind (arith, first_within xs)
 
   -- none is found

@@ -63,6 +63,7 @@ impl Rehash for BoxedCookie {
 
 impl BoxedCookie {
     // Boxes the cookie with this number.
+    #[inline(always)]
     pub(crate) fn new(
         alloc: Global,
         cookie: Cookie<'static>,
@@ -119,7 +120,7 @@ impl BoxedCookie {
     }
 }
 
-// Adds the places of these rows in eviction order.
+// Appends each row's place in eviction order to `ranks`.
 pub(crate) fn push_ranks(
     ranks: &mut Vec<(bool, u64)>,
     rows: &[BoxedCookie],

@@ -73,8 +73,9 @@ pub(crate) fn add_row(
     }
 }
 
-// Replaces the row of the cookie's key, which keeps its number, or adds a new row with this number.
-// Returns whether it is new.
+// Replaces the row of the cookie's key and keeps its number, or adds a new row with this number.
+// Returns whether the row is new.
+#[inline(always)]
 pub(crate) fn put_row(
     groups: &mut IndexMap<String, Paths, HashKey>,
     cookie: Cookie<'static>,

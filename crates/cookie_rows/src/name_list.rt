@@ -16,8 +16,8 @@ use indexmap::IndexMap;
 use jiff::civil::DateTime;
 use std::alloc::{AllocError, Global};
 
-/// The most rows that are kept in a list. To search so many takes about as long as a lookup in a
-/// table, which has a copy of each name.
+/// The most rows of a list. To search 32 rows takes about as long as a lookup in a table, which has a
+/// copy of each name besides.
 pub(crate) const MOST_LISTED: usize = 32;
 
 // Adds the row at the end.
@@ -32,7 +32,7 @@ pub(crate) fn push_row(rows: &mut Vec<BoxedCookie>, row: BoxedCookie) -> Result<
     Ok(())
 }
 
-// The position of the row of this name.
+// The position of the row of this name, if there is one.
 fn position_of(rows: &[BoxedCookie], name: &str) -> Option<usize>
     ensures place { result ≡ position (is_item_named name.now) rows.now }
     ensures within { IfSome result (λ at. at < length rows.now) }
@@ -62,7 +62,7 @@ pub(crate) fn replace_among(rows: &mut Vec<BoxedCookie>, cookie: Cookie<'static>
     }
 }
 
-// Expires the row of this name.
+// Expires the row of this name, if there is one.
 pub(crate) fn expire_among(rows: &mut Vec<BoxedCookie>, name: &str)
     ensures expired_row { rows.new.items ≡ expire_item name.now rows.old.items }
     ensures names { names_in rows.new.items ≡ names_in rows.old.items }
@@ -73,7 +73,7 @@ pub(crate) fn expire_among(rows: &mut Vec<BoxedCookie>, name: &str)
     }
 }
 
-// Removes the row of this name. The others keep their order.
+// Removes and returns the row of this name, if there is one. The others keep their order.
 pub(crate) fn remove_among(rows: &mut Vec<BoxedCookie>, name: &str) -> Option<Cookie<'static>>
     requires { IsTrue (names_differ rows.old.items) }
     ensures value { result ≡ row_named name.now (rows_of rows.old.items) }
@@ -110,14 +110,14 @@ fn names_of(alloc: Global, rows: &[BoxedCookie]) -> Result<Vec<String>, AllocErr
     Ok(names)
 }
 
-// Returns an empty table with room for the rows, and their names.
+// Returns an empty table with room for the rows and one more, and the names of the rows.
 pub(crate) fn table_for(
     alloc: Global,
     hash_key: HashKey,
     rows: &[BoxedCookie],
 ) -> Result<(Box<IndexMap<String, BoxedCookie, HashKey>>, Vec<String>), AllocError>
     ensures empty { IfOk result (λ created. created.0.value.entries ≡ []) }
-    ensures room { IfOk result (λ created. length rows.now ≤ spare created.0.value) }
+    ensures room { IfOk result (λ created. length rows.now < spare created.0.value) }
     ensures names { IfOk result (λ created. map string_bytes created.1.items ≡ names_in rows.now) }
 {
     let names = names_of(alloc, rows)?;

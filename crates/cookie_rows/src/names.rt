@@ -22,7 +22,8 @@ use std::alloc::{AllocError, Global};
 use std::marker::Model;
 use std::{mem, slice};
 
-/// Rows by name. A single row is stored in place, and a few rows are a list without an index.
+/// Rows by name: a single row in place, at most [`MOST_LISTED`] in a list, more in a table, which
+/// stays one. Lists and tables are boxed, so that a `NameMap` is small.
 #[derive(Drop)]
 pub(crate) enum NameMap {
     Empty,
@@ -300,8 +301,8 @@ fn pair(
     rows
 }
 
-// Adds the row at the end of a list, which becomes a table if it is full. Returns the same rows if
-// out of memory.
+// Adds the row at the end of a list. A full list becomes a table. On an error the rows are
+// unchanged.
 fn with_next(
     mut rows: Box<Vec<BoxedCookie>>,
     alloc: Global,

@@ -168,8 +168,9 @@ impl Paths {
         outcome
     }
 
-    // Replaces the row of the cookie's path and name, which keeps its number, or adds a new row with
-    // this number. Returns whether it is new.
+    // Replaces the row of the cookie's path and name and keeps its number, or adds a new row with
+    // this number. Returns whether the row is new.
+    #[inline(always)]
     pub(crate) fn put(
         &mut self,
         alloc: Global,

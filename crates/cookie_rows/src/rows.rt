@@ -130,7 +130,7 @@ impl Rows {
     }
 
     /// Returns the rows given for `url` at `now`, RFC 6265 5.4, in order, and how many lookups that
-    /// took: at least one of a domain for each domain found, and one of a path for each path found.
+    /// took: at least one lookup for each domain found, and one for each path found.
     ///
     /// # Errors
     ///
@@ -281,6 +281,7 @@ impl Rows {
     /// # Errors
     ///
     /// `AllocError`: out of memory, only if the cookie would be a new row. The rows are unchanged.
+    #[inline(always)]
     pub fn take(
         &mut self,
         cookie: Cookie<'static>,
@@ -301,6 +302,7 @@ impl Rows {
     }
 
     // Replaces the row of the cookie's domain, path and name, or adds a new row.
+    #[inline(always)]
     fn put(&mut self, cookie: Cookie<'static>) -> Result<(), AllocError>
         ensures put { OnOk result (self.new
             ≡ record { rows = put self.old.rows cookie.entry; created = add_created self.old.created (key_of cookie.entry) }) }
@@ -316,8 +318,10 @@ impl Rows {
         Ok(())
     }
 
-    // Replaces the row of the cookie's domain, path and name. Fails if there is none.
+    // Replaces the row of the cookie's domain, path and name. It is an error if there is none, since no
+    // number is left for a new row.
     fn replace_stored(&mut self, cookie: Cookie<'static>) -> Result<(), AllocError>
+        ensures stored { OnOk result (row_of (key_of cookie.entry) self.old.rows ≢ None) }
         ensures put { OnOk result (self.new
             ≡ record { rows = put self.old.rows cookie.entry; created = add_created self.old.created (key_of cookie.entry) }) }
         ensures unchanged { OnErr result (self.new ≡ self.old) }

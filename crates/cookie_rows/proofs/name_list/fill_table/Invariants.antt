@@ -1,4 +1,4 @@
--- The rows that were moved, each under its name, and those that are left are all rows.
+-- The rows in the table, each under its name, and then those that are left are all rows.
 use Rattle.std.proofs.Common.{◌≡◌, ◌++◌, ◌≤◌, length, map, string_bytes}
 use Rattle.std.specs.Map.{values_of}
 use Rattle.std.specs.Vec.Iter.{into_iter_items}

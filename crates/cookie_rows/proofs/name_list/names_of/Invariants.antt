@@ -1,4 +1,4 @@
--- The names of the rows that were passed.
+-- The names of the rows before the index.
 use Rattle.std.proofs.Common.{◌≡◌, map, string_bytes, take}
 use Rattle.cookie_rows.specs.NameMaps.{names_in}
 use Rattle.cookie_rows.proofs.name_list.names_of.Given as goal
