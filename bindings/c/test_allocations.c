@@ -24,7 +24,7 @@ static const char *const TEXTS[] = {"a=1; Domain=a.example", "b=2; Path=/; Max-A
 static char json[ROOM], ron[ROOM], netscape[ROOM];
 static size_t json_len, ron_len, netscape_len;
 
-/* A store keeps so many cookies of a path in a list; the next one makes it a table. */
+/* The most cookies of a path in a list; one more makes it a table. */
 enum { MOST_LISTED = 32 };
 
 static enum cookie_store_status set_listed(cookie_store *store, int number) {

@@ -53,17 +53,19 @@ static void load_netscape(cookie_store *store, const char *key) {
     cookie_store_load_netscape(store, key, BYTES, netscape.list, netscape.len, NOW, true, &bad_line);
 }
 
-/* Two cookies are enough for a hash table at the level at which they collide. */
+/* Enough cookies for a hash table at the level at which they collide: a path has up to 32 in a list. */
+enum { TABLE = 33 };
+
 static void change_key(cookie_store *store, const char *key) {
     cookie_store_new(store, other, BYTES);
-    set(store, 2);
+    set(store, TABLE);
     cookie_store_set_hash_key(store, key, BYTES);
     set(store, count);
 }
 
 static void clear(cookie_store *store, const char *key) {
     cookie_store_new(store, key, BYTES);
-    set(store, 2);
+    set(store, TABLE);
     cookie_store_clear(store);
     set(store, count);
 }
