@@ -12,6 +12,10 @@
 
 enum { MOST = 4000, BYTES = 16, ROUNDS = 5, NOW = 1700000000 };
 
+/* What the key of zeros takes longer by, at least. A key that is not used gives a factor of 1; 2.4 or more
+   is measured, least under a limit, where each set looks at all cookies of the host. */
+static const double FACTOR = 1.6;
+
 static const char other[] = "0123456789abcdef";
 static char urls[MOST][40], values[MOST][40];
 static int count;
@@ -126,7 +130,7 @@ int main(int argc, char **argv) {
         double least[BYTES + 1];
         measure(calls[call].make, least);
         for (int at = 0; at < BYTES; at++) {
-            bool is_well = least[at] >= 0 && least[BYTES] > 2.5 * least[at];
+            bool is_well = least[at] >= 0 && least[BYTES] > FACTOR * least[at];
             if (!is_well) {
                 fprintf(stderr, "%s, %s, byte %d of the key: FAILED: %f seconds, with zeros %f\n", argv[1], calls[call].name, at,
                         least[at], least[BYTES]);
