@@ -100,7 +100,7 @@ LINEAR = [
     Family('get after n cookies of different paths were removed', 250, get_after_removals),
     Family('get, n expired cookies of the host', 40_000, get_beside_expired, has_peer=False),
     Family('set, value of n bytes', 10_000, lambda n: set_one(f'c={"v" * n}')),
-    Family('set, name of n bytes, 31 names that begin alike', 10_000, set_beside_long),
+    Family('set, name of n bytes, 31 names that begin alike', 2000, set_beside_long),
     Family('set, n attributes', 10_000, lambda n: set_one(f'c=1{"; a=b" * n}')),
     Family('set, date of n words', 10_000, lambda n: set_one(f'c=1; Expires={"x " * n}3 Aug 2100 00:38:37')),
     Family('n lines of JSON by --convert', 5000, convert, has_peer=False),
