@@ -12,8 +12,8 @@
 
 enum { MOST = 4000, BYTES = 16, ROUNDS = 5, NOW = 1700000000 };
 
-/* What the key of zeros takes longer by, at least. A key that is not used gives a factor of 1; 2.4 or more
-   is measured, least under a limit, where each set looks at all cookies of the host. */
+/* The factor by which the key of zeros must take longer. A key that is not used gives 1, one that is
+   at least 2; the least is that under a limit, where each set looks at all cookies of the host. */
 static const double FACTOR = 1.6;
 
 static const char other[] = "0123456789abcdef";
