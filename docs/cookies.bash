@@ -16,8 +16,8 @@ _cookies() {
     fi
     case ${COMP_WORDS[1]} in
         show) options='--json --format' ;;
-        header) options='--suffixes --strict --cross-site --format' ;;
-        set) options='--suffixes --strict --format' ;;
+        header) options='--suffixes --only-listed --strict --cross-site --format' ;;
+        set) options='--suffixes --only-listed --strict --format' ;;
         remove) options='--format' ;;
         purge) options='--expired --session --domain --format' ;;
         convert) options='--from --to' ;;

@@ -57,6 +57,19 @@
  *   call writes to them. Memory that a call writes to must not overlap any other argument; this
  *   includes the handle and `*needed`. A bool must be 0 or 1.
  *
+ *   Build `url` from the scheme, host, port and path by which the client connects, and do not pass
+ *   the string that the client was given. The store reads a URL as browsers do, by the WHATWG
+ *   standard. If the client reads another host from the same string, it sends the cookies of one
+ *   host to the other: `http://A\@B/` is host A to the standard, and host B to other parsers.
+ *
+ *   A URL that parsers read differently is BAD_URL:
+ *   - one with a control character or a space;
+ *   - with the scheme http, https, ws, wss or ftp: one without `//` and a nonempty authority behind
+ *     the scheme; with a backslash in the authority; with a `%` or a character that is not ASCII in
+ *     the host: a domain name is passed in Punycode; or with a host that ends in a number and a dot,
+ *     such as `127.1.`, or in a number without being decimal numbers alone, such as `0x7f.1`;
+ *   - with the scheme file: one with a backslash, or with such a host.
+ *
  * Buffers
  *
  *   A call that returns a string writes it to the start of `out`, at most `out_len` bytes, and sets
@@ -146,11 +159,11 @@ enum cookie_store_status {
     /* Never returned. It stands for an error of the Rust crate cookie_store. */
     COOKIE_STORE_UNSPECIFIED_DOMAIN = 16,
 
-    /* 20 to 36: the call failed. */
+    /* 20 to 37: the call failed. */
 
     /* Out of memory. */
     COOKIE_STORE_NO_MEMORY = 20,
-    /* The URL is not valid. */
+    /* The URL is not valid, or parsers read different hosts from it, see Strings and pointers. */
     COOKIE_STORE_BAD_URL = 21,
     /* A string is not UTF-8. */
     COOKIE_STORE_NOT_UTF8 = 22,
@@ -182,8 +195,10 @@ enum cookie_store_status {
     COOKIE_STORE_BAD_LINE = 35,
     /* Of cookies to save as cookies.txt: the format cannot represent one. */
     COOKIE_STORE_UNREPRESENTABLE = 36,
+    /* No line of the public suffix list is a rule. */
+    COOKIE_STORE_NO_RULES = 37,
 
-    /* 40 to 45: the cookie is rejected under the rules of browsers, see cookie_store_set_strict. */
+    /* 40 to 46: the cookie is rejected under the rules of browsers, see cookie_store_set_strict. */
 
     /* The header value has a control character other than HTAB. */
     COOKIE_STORE_CONTROL_CHARACTER = 40,
@@ -201,7 +216,10 @@ enum cookie_store_status {
     /* Neither the cookie nor the URL is secure, and an unexpired Secure cookie with the same name is
      * stored: one of the two domains domain-matches the other, and the path of the new cookie
      * path-matches that of the stored one. */
-    COOKIE_STORE_SECURE_STORED = 45
+    COOKIE_STORE_SECURE_STORED = 45,
+    /* The cookie is not Secure, and its domain has as many unexpired Secure cookies as
+     * cookie_store_set_domain_limit allows, or more. */
+    COOKIE_STORE_SECURE_LIMIT = 46
 };
 
 /* Returns what a status means, for messages: a few words, or "unknown status". */
@@ -234,12 +252,14 @@ static inline const char *cookie_store_status_text(enum cookie_store_status stat
     case COOKIE_STORE_BAD_EXPIRY: return "an expiry is not valid or not representable";
     case COOKIE_STORE_BAD_LINE: return "a line of the file is not a cookie";
     case COOKIE_STORE_UNREPRESENTABLE: return "the format cannot represent a cookie";
+    case COOKIE_STORE_NO_RULES: return "the public suffix list has no rules";
     case COOKIE_STORE_CONTROL_CHARACTER: return "a control character in the header value";
     case COOKIE_STORE_TOO_LONG: return "name and value are longer than 4,096 bytes";
     case COOKIE_STORE_INSECURE_URL: return "Secure, and the URL is not secure";
     case COOKIE_STORE_INSECURE_SAME_SITE_NONE: return "SameSite=None, and not Secure";
     case COOKIE_STORE_PREFIX: return "lacks what the prefix of its name demands";
     case COOKIE_STORE_SECURE_STORED: return "a Secure cookie with its name is stored";
+    case COOKIE_STORE_SECURE_LIMIT: return "the domain has its limit of Secure cookies";
     }
     return "unknown status";
 }
@@ -275,23 +295,28 @@ void cookie_store_free(cookie_store *store);
  * comes from that very host; then it is stored as a host-only cookie. Cookies that are stored
  * already stay.
  *
- * A domain that no rule matches is not a public suffix. The list of publicsuffix.org has nine
- * top-level domains like np, with a rule *.np and no rule np. To list these too, append a line with
- * the rule *. A file without rules, such as an HTML error page, is a list that protects nothing, and
- * no error.
+ * A top-level domain that no rule matches is a public suffix too, as in browsers: the rule `*` is
+ * added to the list, unless `only_listed` is true. Then a domain that no rule matches is not a
+ * public suffix. The list of publicsuffix.org has nine top-level domains like np, with a rule *.np
+ * and no rule np.
+ *
+ * `list` is the content of the file, not its name. A line whose rule has one of the bytes
+ * / < { " : @ = is malformed: a path, an HTML page or JSON is not a list.
  *
  * `*bad_line` is set to the number of the first malformed line, counted from 1, on BAD_RULE, and to
  * 0 otherwise.
  *
- * Errors, in the order in which they are checked: NO_STORE, NOT_UTF8, BAD_RULE.
- * May return NO_MEMORY instead of BAD_RULE or OK. */
-enum cookie_store_status cookie_store_use_suffixes(cookie_store *store, const char *list, size_t list_len, size_t *bad_line);
+ * Errors, in the order in which they are checked: NO_STORE, NOT_UTF8, BAD_RULE, NO_RULES.
+ * May return NO_MEMORY instead of BAD_RULE, NO_RULES or OK. */
+enum cookie_store_status cookie_store_use_suffixes(cookie_store *store, const char *list, size_t list_len, bool only_listed,
+                                                   size_t *bad_line);
 
 /* Limits each domain to `limit` cookies, RFC 6265 6.1.
  *
  * From now on, before a cookie is inserted, cookies of its domain are evicted until it fits: first
  * the expired ones, then the others, both in creation order. Until then the stored cookies stay.
- * Replacing a cookie evicts none, and does not change its place in creation order.
+ * Replacing a cookie evicts none, and does not change its place in creation order. In a strict store
+ * Secure cookies that have not expired are evicted last.
  *
  * Errors, in the order in which they are checked: NO_STORE, BAD_LIMIT. */
 enum cookie_store_status cookie_store_set_domain_limit(cookie_store *store, size_t limit);
@@ -299,12 +324,15 @@ enum cookie_store_status cookie_store_set_domain_limit(cookie_store *store, size
 /* Sets whether the store is strict. A store that was just created or loaded is not.
  *
  * Into a strict store, cookie_store_set inserts by rules that the revision of RFC 6265,
- * draft-ietf-httpbis-rfc6265bis, adds and browsers follow: the statuses 40 to 45 list what is
+ * draft-ietf-httpbis-rfc6265bis, adds and browsers follow: the statuses 40 to 46 list what is
  * rejected, attributes whose value is longer than 1,024 bytes are ignored, and a cookie expires at
- * most 400 days after it was received. docs/STRICT.md also lists the rules that are left out.
+ * most 400 days after it was received. With a public suffix list, a cookie is also rejected with
+ * PUBLIC_SUFFIX if its domain is above the site of the host of the URL, such as amazonaws.com for
+ * bucket.s3.amazonaws.com. docs/STRICT.md also lists the rules that are left out.
  *
  * Stored cookies stay. For a cookie that is not Secure, received from a URL that is not secure,
- * cookie_store_set takes time in proportion to the number of stored cookies (SECURE_STORED).
+ * cookie_store_set takes time in proportion to the number of Secure cookies of its name. The first
+ * such call also reads all stored cookies, and so does one after about as many new Secure cookies.
  *
  * Errors: NO_STORE. */
 enum cookie_store_status cookie_store_set_strict(cookie_store *store, bool strict);
@@ -328,7 +356,8 @@ enum cookie_store_status cookie_store_set_hash_key(cookie_store *store, const ch
  *
  * If the store is strict, the errors after BAD_URL are: CONTROL_CHARACTER, PARSE (not a cookie),
  * TOO_LONG, those above from NON_HTTP_SCHEME (the cookie is HttpOnly) on, INSECURE_URL,
- * INSECURE_SAME_SITE_NONE, PREFIX, SECURE_STORED. */
+ * INSECURE_SAME_SITE_NONE, PREFIX, SECURE_STORED, SECURE_LIMIT. PUBLIC_SUFFIX then also stands for a
+ * domain above the site of the host. */
 enum cookie_store_status cookie_store_set(cookie_store *store, const char *url, size_t url_len, const char *value,
                                           size_t value_len, int64_t now);
 

@@ -2,13 +2,17 @@
        cc -o fetch fetch.c $(pkg-config --cflags --libs cookie_store libcurl)
        ./fetch cookies.json http://example.com/
    It follows redirects itself, so that each request is sent the cookies that match its URL, and the
-   store takes those of its response. It prints the body of the last response to each URL on a line.
+   store takes those of its response. Both libcurl and the store are passed the URL that libcurl's URL
+   parser writes: in http://a\@b/ each could find another host. The user and the password of a URL
+   are removed; a client that needs them passes them by CURLOPT_USERPWD.
+   It prints the body of the last response to each URL on a line.
    Exit status: 0; 1 if a URL or the file failed; 2 for wrong usage. */
 #define _GNU_SOURCE
 #include <cookie_store.h>
 #include <curl/curl.h>
 #include <err.h>
 #include <errno.h>
+#include <locale.h>
 #include <stdio.h>
 #include <stdlib.h>
 #include <string.h>
@@ -97,20 +101,47 @@ static void save(cookie_store *store, const char *path) {
     free(list);
 }
 
-/* Inserts the cookie of a header line, if it is a Set-Cookie line. Curl passes it with its line end. */
+/* Returns the URL as libcurl reads it, without user and password, which the caller frees, or NULL if it is not a valid URL. It
+   is passed to libcurl and to the store. */
+static char *parse_url(const char *url) {
+    CURLU *parts = checked(curl_url());
+    char *written = NULL, *parsed = NULL;
+    CURLUcode error = curl_url_set(parts, CURLUPART_URL, url, 0);
+    if (!error) error = curl_url_set(parts, CURLUPART_USER, NULL, 0);
+    if (!error) error = curl_url_set(parts, CURLUPART_PASSWORD, NULL, 0);
+    if (!error) error = curl_url_get(parts, CURLUPART_URL, &written, CURLU_PUNYCODE);
+    if (error) warnx("%s: %s", url, curl_url_strerror(error));
+    if (!error) parsed = checked(strdup(written));
+    curl_free(written);
+    curl_url_cleanup(parts);
+    return parsed;
+}
+
+/* Whether a header value has a control character other than HTAB, which could begin another header. */
+static bool has_control(const char *value, size_t length) {
+    for (size_t at = 0; at < length; at++) {
+        unsigned char byte = (unsigned char)value[at];
+        if ((byte < 0x20 && byte != '\t') || byte == 0x7F) return true;
+    }
+    return false;
+}
+
+/* Inserts the cookie of a header line, if it is a Set-Cookie line. Curl passes it with its line end. A cookie with a control
+   character is ignored: stored, it would only keep its hosts from being requested. */
 static size_t take_header(char *line, size_t size, size_t count, void *data) {
     static const char name[] = "Set-Cookie:";
     const struct response *response = data;
     size_t begin = sizeof name - 1, end = size * count;
     if (end < begin || strncasecmp(line, name, begin) != 0) return end;
     while (end > begin && (line[end - 1] == '\r' || line[end - 1] == '\n')) end--;
-    enum cookie_store_status status =
-        cookie_store_set(response->store, response->url, strlen(response->url), line + begin, end - begin, time(NULL));
+    enum cookie_store_status status = COOKIE_STORE_CONTROL_CHARACTER;
+    if (!has_control(line + begin, end - begin))
+        status = cookie_store_set(response->store, response->url, strlen(response->url), line + begin, end - begin, time(NULL));
     if (status >= 10) warnx("%s: cookie not stored: %s", response->url, cookie_store_status_text(status));
     return size * count;
 }
 
-/* Returns the Cookie header of a request for the URL, which the caller frees, or NULL if it is not a valid URL. */
+/* Returns the Cookie header of a request for the URL, which the caller frees, or NULL if there is to be no request. */
 static char *header_for(cookie_store *store, const char *url) {
     size_t room, needed = 256;
     char *header = NULL;
@@ -121,8 +152,9 @@ static char *header_for(cookie_store *store, const char *url) {
         status = cookie_store_get(store, url, strlen(url), time(NULL), header, room, &needed);
     } while (status == COOKIE_STORE_NO_ROOM);
     header[needed] = 0;
+    if (status == COOKIE_STORE_OK && has_control(header, needed)) status = COOKIE_STORE_CONTROL_CHARACTER;
     if (status == COOKIE_STORE_OK) return header;
-    warnx("%s: %s", url, cookie_store_status_text(status));
+    warnx("%s: no request: %s", url, cookie_store_status_text(status));
     free(header);
     return NULL;
 }
@@ -144,15 +176,15 @@ static bool get(CURL *curl, struct response *response, char **next) {
     if (fclose(body) != 0) errx(1, "out of memory");
     free(header);
     if (error) warnx("%s: %s", response->url, curl_easy_strerror(error));
-    if (!error && redirect) *next = checked(strdup(redirect));
-    return !error;
+    if (!error && redirect) *next = parse_url(redirect);
+    return !error && (!redirect || *next);
 }
 
 /* Gets a URL, follows redirects and prints the body of the last response. Returns whether it succeeded. */
 static bool fetch(CURL *curl, cookie_store *store, const char *url) {
-    struct response response = {store, url, NULL, 0};
-    char *current = NULL, *next = NULL;
-    bool is_received = get(curl, &response, &next);
+    char *next = NULL, *current = parse_url(url);
+    struct response response = {store, current, NULL, 0};
+    bool is_received = current && get(curl, &response, &next);
     for (int redirects = 1; is_received && next; redirects++) {
         free(current);
         response.url = current = next;
@@ -186,6 +218,7 @@ int main(int count, char **arguments) {
     cookie_store store = COOKIE_STORE_INIT;
     bool succeeds = true;
     if (count < 3) errx(2, "usage: fetch FILE URL..");
+    setlocale(LC_CTYPE, ""); /* in whose encoding libcurl reads hosts that are not ASCII */
     if (curl_global_init(CURL_GLOBAL_DEFAULT)) errx(1, "curl_global_init fails");
     CURL *curl = new_handle();
     load(&store, arguments[1]);

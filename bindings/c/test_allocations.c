@@ -20,7 +20,8 @@ enum { ROOM = 16384 };
 #define TEXT(text) (text), strlen(text)
 
 static const char *const PAGE = "http://shop.a.example/d/page";
-static const char *const TEXTS[] = {"a=1; Domain=a.example", "b=2; Path=/; Max-Age=60", "c=3; Expires=Thu, 01 Jan 2099 00:00:00 GMT"};
+static const char *const TEXTS[] = {"a=1; Domain=a.example", "b=2; Path=/; Max-Age=60", "c=3; Expires=Thu, 01 Jan 2099 00:00:00 GMT",
+                                    "s=4; Path=/; Secure"};
 static char json[ROOM], ron[ROOM], netscape[ROOM];
 static size_t json_len, ron_len, netscape_len;
 
@@ -57,6 +58,12 @@ static enum cookie_store_status set_strict(cookie_store *store) {
     return status == COOKIE_STORE_OK ? set_new(store) : status;
 }
 
+/* The index of Secure cookies is made, or all cookies are read. */
+static enum cookie_store_status set_over_secure(cookie_store *store) {
+    enum cookie_store_status status = cookie_store_set_strict(store, true);
+    return status == COOKIE_STORE_OK ? cookie_store_set(store, TEXT(PAGE), TEXT("s=5; Path=/"), NOW) : status;
+}
+
 static enum cookie_store_status get(cookie_store *store) {
     char out[256];
     size_t needed;
@@ -71,7 +78,7 @@ static enum cookie_store_status get_cross_site(cookie_store *store) {
 
 static enum cookie_store_status use_suffixes(cookie_store *store) {
     size_t line;
-    return cookie_store_use_suffixes(store, TEXT("com\n*.ck\n!www.ck\nb\xc3\xbc" "cher.example\n"), &line);
+    return cookie_store_use_suffixes(store, TEXT("com\n*.ck\n!www.ck\nb\xc3\xbc" "cher.example\n"), false, &line);
 }
 
 static enum cookie_store_status set_hash_key(cookie_store *store) { return cookie_store_set_hash_key(store, TEXT("0123456789abcdef")); }
@@ -124,6 +131,7 @@ static const struct {
     {"set, to a full list", true, set_next, COOKIE_STORE_INSERTED, false},
     {"set again", true, set_again, COOKIE_STORE_UPDATED, false},
     {"set, strict", true, set_strict, COOKIE_STORE_INSERTED, false},
+    {"set, strict, over a Secure cookie", true, set_over_secure, COOKIE_STORE_SECURE_STORED, false},
     {"get", true, get, COOKIE_STORE_OK, false},
     {"get_cross_site", true, get_cross_site, COOKIE_STORE_OK, false},
     {"use_suffixes", true, use_suffixes, COOKIE_STORE_OK, false},

@@ -29,13 +29,19 @@ static const struct {
     {"http://example/", "a=1; Domain=example", COOKIE_STORE_INSERTED},
     {"no url", "a=1", COOKIE_STORE_BAD_URL},
     {"", "a=1", COOKIE_STORE_BAD_URL},
+    {"http://a.example\\@b.example/", "a=1", COOKIE_STORE_BAD_URL},
+    {"http:a.example", "a=1", COOKIE_STORE_BAD_URL},
+    {"http://127.1./", "a=1", COOKIE_STORE_BAD_URL},
+    {"http://a%2eexample/", "a=1", COOKIE_STORE_BAD_URL},
+    {" http://a.example/", "a=1", COOKIE_STORE_BAD_URL},
+    {"http://user:pass@[::1]:80/x", "a=1", COOKIE_STORE_INSERTED},
 };
 
 static void test_set(void) {
     cookie_store store = COOKIE_STORE_INIT;
     size_t line = UNSET;
     equal("new", cookie_store_new(&store, "", 0), COOKIE_STORE_OK);
-    equal("suffixes", cookie_store_use_suffixes(&store, TEXT("// a comment\nexample\n"), &line), COOKIE_STORE_OK);
+    equal("suffixes", cookie_store_use_suffixes(&store, TEXT("// a comment\nexample\n"), true, &line), COOKIE_STORE_OK);
     equal("no bad line", (long)line, 0);
     for (size_t at = 0; at < sizeof SETS / sizeof *SETS; at++) {
         char name[128];
@@ -48,11 +54,14 @@ static void test_set(void) {
     cookie_store_free(&store);
 }
 
-/* Set one after the other in one strict store, at one time. */
-static const struct {
+/* A Set-Cookie header value, the URL that it is received from, and the status. */
+struct set_case {
     const char *url, *text;
     enum cookie_store_status wanted;
-} STRICT_SETS[] = {
+};
+
+/* Set one after the other in one strict store, at one time. */
+static const struct set_case STRICT_SETS[] = {
     {"http://a.example/d/page", "a=1", COOKIE_STORE_INSERTED},
     {"http://a.example/d/page", "a=2", COOKIE_STORE_UPDATED},
     {"http://a.example/d/page", "a=3; Max-Age=0", COOKIE_STORE_EXPIRED_EXISTING},
@@ -72,6 +81,39 @@ static const struct {
     {"no url", "a=1\x01", COOKIE_STORE_BAD_URL},
 };
 
+/* The same in a strict store with at most two cookies a domain, and with the suffix s3.a.example. */
+static const struct set_case STRICT_LIMITED[] = {
+    {"https://a.example/", "s=1; Secure", COOKIE_STORE_INSERTED},
+    {"http://a.example/", "p=1", COOKIE_STORE_INSERTED},
+    {"http://a.example/", "q=1", COOKIE_STORE_INSERTED},
+    {"http://a.example/", "s=2", COOKIE_STORE_SECURE_STORED},
+    {"https://a.example/", "t=1; Secure", COOKIE_STORE_INSERTED},
+    {"http://a.example/", "r=1", COOKIE_STORE_SECURE_LIMIT},
+    {"https://b.s3.a.example/", "d=1; Domain=a.example", COOKIE_STORE_PUBLIC_SUFFIX},
+    {"https://b.s3.a.example/", "d=1; Domain=b.s3.a.example", COOKIE_STORE_INSERTED},
+};
+
+static void set_all(cookie_store *store, const struct set_case *sets, size_t count) {
+    for (size_t at = 0; at < count; at++) {
+        char name[128];
+        snprintf(name, sizeof name, "strict: set %s %s", sets[at].url, sets[at].text);
+        equal(name, set(store, sets[at].url, sets[at].text, NOW), sets[at].wanted);
+    }
+}
+
+/* Secure cookies are evicted last, and no cookie is for more than the site of its host. */
+static void test_strict_limit(void) {
+    static const char list[] = "s3.a.example\n";
+    cookie_store store = COOKIE_STORE_INIT;
+    size_t bad_line;
+    cookie_store_new(&store, "", 0);
+    cookie_store_set_strict(&store, true);
+    cookie_store_set_domain_limit(&store, 2);
+    cookie_store_use_suffixes(&store, TEXT(list), false, &bad_line);
+    set_all(&store, STRICT_LIMITED, sizeof STRICT_LIMITED / sizeof *STRICT_LIMITED);
+    cookie_store_free(&store);
+}
+
 /* The rules of browsers, also as they are set and reset. */
 static void test_strict(void) {
     cookie_store store = COOKIE_STORE_INIT;
@@ -80,11 +122,7 @@ static void test_strict(void) {
     longest[1] = '=';
     cookie_store_new(&store, "", 0);
     equal("set_strict", cookie_store_set_strict(&store, true), COOKIE_STORE_OK);
-    for (size_t at = 0; at < sizeof STRICT_SETS / sizeof *STRICT_SETS; at++) {
-        char name[128];
-        snprintf(name, sizeof name, "strict: set %s %s", STRICT_SETS[at].url, STRICT_SETS[at].text);
-        equal(name, set(&store, STRICT_SETS[at].url, STRICT_SETS[at].text, NOW), STRICT_SETS[at].wanted);
-    }
+    set_all(&store, STRICT_SETS, sizeof STRICT_SETS / sizeof *STRICT_SETS);
     equal("4096 bytes", cookie_store_set(&store, TEXT(PAGE), longest, 4097, NOW), COOKIE_STORE_INSERTED);
     equal("4097 bytes", cookie_store_set(&store, TEXT(PAGE), longest, 4098, NOW), COOKIE_STORE_TOO_LONG);
     equal("strict after clear", cookie_store_clear(&store), COOKIE_STORE_OK);
@@ -128,16 +166,39 @@ static void test_cross_site(void) {
     cookie_store_free(&store);
 }
 
+/* What is not a public suffix list. */
+static const struct {
+    const char *list;
+    enum cookie_store_status wanted;
+    long line;
+} LISTS[] = {
+    {"example\na..b\n", COOKIE_STORE_BAD_RULE, 2},
+    {"suffixes.dat: not found", COOKIE_STORE_BAD_RULE, 1},
+    {"./suffixes.dat", COOKIE_STORE_BAD_RULE, 1},
+    {"\n<!DOCTYPE html>\n", COOKIE_STORE_BAD_RULE, 2},
+    {"{\"error\": 404}", COOKIE_STORE_BAD_RULE, 1},
+    {"a@b\na..b", COOKIE_STORE_BAD_RULE, 1},
+    {"a..b\na=b", COOKIE_STORE_BAD_RULE, 1},
+    {"", COOKIE_STORE_NO_RULES, 0},
+    {"// a comment\n\n \n", COOKIE_STORE_NO_RULES, 0},
+};
+
 static void test_suffixes(void) {
     cookie_store store = COOKIE_STORE_INIT;
     size_t line = UNSET;
     cookie_store_new(&store, "", 0);
-    equal("bad rule", cookie_store_use_suffixes(&store, TEXT("example\na..b\n"), &line), COOKIE_STORE_BAD_RULE);
-    equal("its line", (long)line, 2);
+    for (size_t at = 0; at < sizeof LISTS / sizeof *LISTS; at++) {
+        line = UNSET;
+        equal(LISTS[at].list, cookie_store_use_suffixes(&store, TEXT(LISTS[at].list), true, &line), LISTS[at].wanted);
+        equal("its line", (long)line, LISTS[at].line);
+    }
     equal("the list is as it was", set(&store, PAGE, "a=1; Domain=example", NOW), COOKIE_STORE_INSERTED);
-    equal("suffixes not UTF-8", cookie_store_use_suffixes(&store, NOT_UTF8, &line), COOKIE_STORE_NOT_UTF8);
+    equal("suffixes not UTF-8", cookie_store_use_suffixes(&store, NOT_UTF8, false, &line), COOKIE_STORE_NOT_UTF8);
     equal("no line of it", (long)line, 0);
-    equal("an empty list", cookie_store_use_suffixes(&store, TEXT(""), &line), COOKIE_STORE_OK);
+    equal("only listed", cookie_store_use_suffixes(&store, TEXT("com"), true, &line), COOKIE_STORE_OK);
+    equal("not listed", set(&store, PAGE, "a=1; Domain=example", NOW), COOKIE_STORE_UPDATED);
+    equal("with the rule *", cookie_store_use_suffixes(&store, TEXT("com"), false, &line), COOKIE_STORE_OK);
+    equal("a top-level domain", set(&store, PAGE, "a=1; Domain=example", NOW), COOKIE_STORE_PUBLIC_SUFFIX);
     cookie_store_free(&store);
 }
 
@@ -305,7 +366,7 @@ static void test_no_store(void) {
     char out[8];
     size_t needed = UNSET, other = UNSET;
     for (int round = 0; round < 2; round++) {
-        equal("suffixes of none", cookie_store_use_suffixes(&store, TEXT("com"), &needed), COOKIE_STORE_NO_STORE);
+        equal("suffixes of none", cookie_store_use_suffixes(&store, TEXT("com"), false, &needed), COOKIE_STORE_NO_STORE);
         equal("set in none", set(&store, PAGE, "a=1", NOW), COOKIE_STORE_NO_STORE);
         equal("get of none", cookie_store_get(&store, TEXT(PAGE), NOW, out, sizeof out, &needed), COOKIE_STORE_NO_STORE);
         equal("strict of none", cookie_store_set_strict(&store, true), COOKIE_STORE_NO_STORE);
@@ -328,7 +389,7 @@ static void test_no_store(void) {
 
 /* The ranges of the statuses that the header documents: each has a text, and no other number. */
 static void test_status_texts(void) {
-    static const int RANGES[][2] = {{0, 3}, {10, 16}, {20, 28}, {30, 36}, {40, 45}};
+    static const int RANGES[][2] = {{0, 3}, {10, 16}, {20, 28}, {30, 37}, {40, 46}};
     for (int status = 0; status < 100; status++) {
         const char *text = cookie_store_status_text((enum cookie_store_status)status);
         bool is_status = false;
@@ -370,8 +431,8 @@ static void test_memory(void) {
         cookie_store store = COOKIE_STORE_INIT;
         if (round == 500) before = used();
         cookie_store_new(&store, "", 0);
-        cookie_store_use_suffixes(&store, TEXT("com\nco.uk"), &needed);
-        cookie_store_use_suffixes(&store, TEXT("com"), &needed);
+        cookie_store_use_suffixes(&store, TEXT("com\nco.uk"), true, &needed);
+        cookie_store_use_suffixes(&store, TEXT("com"), false, &needed);
         cookie_store_set_hash_key(&store, "0123456789abcdef", 16);
         set(&store, PAGE, "a=1; Max-Age=60", NOW);
         set(&store, PAGE, "b=2; Domain=b.example", NOW);
@@ -401,6 +462,7 @@ int main(void) {
     test_memory();
     test_set();
     test_strict();
+    test_strict_limit();
     test_cross_site();
     test_suffixes();
     test_get();

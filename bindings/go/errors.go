@@ -20,13 +20,15 @@ const (
 	ErrExpired Status = C.COOKIE_STORE_EXPIRED
 	// The header value is not a cookie, or its Domain attribute is not a domain name. Of a list to load: an entry is not a cookie.
 	ErrParse Status = C.COOKIE_STORE_PARSE
-	// The domain of the cookie is a public suffix on the list of the jar, and is not the host of the URL.
+	// The domain of the cookie is a public suffix by the list of the jar, and is not the host of the URL. In a strict jar with
+	// a list: it is above the site of that host.
 	ErrPublicSuffix Status = C.COOKIE_STORE_PUBLIC_SUFFIX
 )
 
 // The cookie was rejected by a strict jar.
 const (
-	// The header value has a control character other than HTAB.
+	// The header value has a control character other than HTAB. Of Options.OnDropped also: a stored cookie has one, in a jar
+	// that is not strict, and is not sent.
 	ErrControlCharacter Status = C.COOKIE_STORE_CONTROL_CHARACTER
 	// The name and the value together are longer than 4,096 bytes.
 	ErrTooLong Status = C.COOKIE_STORE_TOO_LONG
@@ -38,6 +40,8 @@ const (
 	ErrPrefix Status = C.COOKIE_STORE_PREFIX
 	// Neither the cookie nor the URL is secure, and the cookie would overlay a stored Secure one.
 	ErrSecureStored Status = C.COOKIE_STORE_SECURE_STORED
+	// The cookie is not Secure, and its domain has as many unexpired Secure cookies as the domain limit allows.
+	ErrSecureLimit Status = C.COOKIE_STORE_SECURE_LIMIT
 )
 
 // The call failed.
@@ -46,7 +50,7 @@ const (
 	ErrClosed Status = C.COOKIE_STORE_NO_STORE
 	// Out of memory.
 	ErrNoMemory Status = C.COOKIE_STORE_NO_MEMORY
-	// The URL is not valid, or has no host.
+	// The URL is not valid or has no host, or the library could read another host from it than net/http connects to.
 	ErrBadURL Status = C.COOKIE_STORE_BAD_URL
 	// A string is not UTF-8.
 	ErrNotUTF8 Status = C.COOKIE_STORE_NOT_UTF8
@@ -56,6 +60,8 @@ const (
 	ErrBadLimit Status = C.COOKIE_STORE_BAD_LIMIT
 	// A line of the public suffix list is not a rule.
 	ErrBadRule Status = C.COOKIE_STORE_BAD_RULE
+	// The public suffix list has no rules.
+	ErrNoRules Status = C.COOKIE_STORE_NO_RULES
 	// A list to load is not JSON.
 	ErrBadJSON Status = C.COOKIE_STORE_BAD_JSON
 	// A list to load is JSON, but not a list of cookies.

@@ -8,7 +8,6 @@ import (
 	"net/http"
 	"net/http/httptest"
 	"net/url"
-	"os"
 
 	"pulleymaroon/cookiestore"
 )
@@ -37,11 +36,18 @@ func Example() {
 }
 
 func ExampleNew() {
-	list, err := os.ReadFile("/usr/share/publicsuffix/public_suffix_list.dat")
+	list, err := cookiestore.SystemPublicSuffixList()
 	if err != nil {
 		log.Fatal(err)
 	}
-	jar, err := cookiestore.New(&cookiestore.Options{PublicSuffixList: list, DomainLimit: 50, Strict: true})
+	jar, err := cookiestore.New(&cookiestore.Options{
+		PublicSuffixList: list,
+		DomainLimit:      50,
+		Strict:           true,
+		OnDropped: func(host, name string, err error) {
+			log.Printf("%q: cookie %q: %v", host, name, err)
+		},
+	})
 	if err != nil {
 		log.Fatal(err)
 	}

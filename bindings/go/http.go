@@ -9,17 +9,28 @@ import (
 
 var _ http.CookieJar = (*Jar)(nil)
 
-// SetCookies inserts the cookies of a response from u. It drops those for which Set would return an error, and does nothing
-// after Close.
+// SetCookies inserts the cookies of a response from u. It drops those for which Set would return an error, all of them after
+// Close, and passes each to Options.OnDropped.
 //
 // A cookie of a response is inserted by its Set-Cookie header as received (Raw): RFC 6265 reads more dates than net/http. A
 // cookie that was made by hand, or whose fields were changed, is inserted by the header that its method String returns.
 func (j *Jar) SetCookies(u *url.URL, cookies []*http.Cookie) {
+	for i, err := range j.setAll(address(u), cookies) {
+		if err != nil {
+			j.dropped(u, cookies[i].Name, err)
+		}
+	}
+}
+
+// setAll inserts cookies and returns the error of each.
+func (j *Jar) setAll(url string, cookies []*http.Cookie) []error {
 	j.mu.Lock()
 	defer j.mu.Unlock()
-	for _, cookie := range cookies {
-		_ = j.set(address(u), setCookie(cookie)) // the interface reports nothing
+	errs := make([]error, len(cookies))
+	for i, cookie := range cookies {
+		errs[i] = j.set(url, setCookie(cookie))
 	}
+	return errs
 }
 
 // setCookie returns the Set-Cookie header value of a cookie.
@@ -34,17 +45,18 @@ func setCookie(cookie *http.Cookie) string {
 }
 
 // Cookies returns the names and values of the cookies of a request for u, in the order of Header. It returns nil if there are
-// none, if u is not a URL with a host, and after Close.
+// none, and on an error, such as ErrBadURL, or ErrClosed after Close. It passes that error, and each cookie that Header would
+// leave out, to Options.OnDropped.
 //
 // A value is as received, but without double quotes around it, as net/http reads and writes cookies. Header returns the exact
 // values.
 func (j *Jar) Cookies(u *url.URL) []*http.Cookie {
-	header, err := j.Header(u)
-	if err != nil || header == "" {
-		return nil
+	pairs, err := j.pairs(u)
+	if err != nil {
+		j.dropped(u, "", err)
 	}
 	var cookies []*http.Cookie
-	for _, pair := range strings.Split(header, "; ") { // no name and no value has a semicolon
+	for _, pair := range pairs {
 		cookies = append(cookies, requestCookie(pair))
 	}
 	return cookies

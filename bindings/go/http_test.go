@@ -3,12 +3,15 @@ package cookiestore
 import (
 	"context"
 	"crypto/tls"
+	"errors"
+	"fmt"
 	"io"
 	"net"
 	"net/http"
 	"net/http/cookiejar"
 	"net/http/httptest"
 	"net/url"
+	"reflect"
 	"strings"
 	"testing"
 	"time"
@@ -124,12 +127,281 @@ func TestUnlikeCookiejar(t *testing.T) {
 			"ftp://example.com/", "http://example.com/", "a=1", "a"},
 		{"this machine counts as secure, as it does to browsers",
 			"https://localhost/", "http://localhost/", "a=1; Secure", "a"},
+		{"a WebSocket handshake is HTTP, RFC 6455 4.1",
+			"wss://example.com/", "https://example.com/", "a=1; Secure; HttpOnly", "a"},
+		{"a host that ends in a number is an IPv4 address in URLs, and a name to net/http",
+			"http://web.1/", "http://web.1/", "a=1", ""},
+		{"the same, if there is such an address",
+			"http://127.1/", "http://127.1/", "a=1", ""},
+		{"a URL has no zone of an IPv6 address",
+			"http://[fe80::1%25eth0]/", "http://[fe80::1%25eth0]/", "a=1", ""},
 	} {
 		jar := newJar(t, nil)
-		jar.SetCookies(parseURL(t, row.from), received(row.value))
-		if got := names(jar, parseURL(t, row.to)); got != row.want {
+		peer, err := cookiejar.New(nil)
+		if err != nil {
+			t.Fatal(err)
+		}
+		from, to, values := parseURL(t, row.from), parseURL(t, row.to), received(row.value)
+		jar.SetCookies(from, values)
+		peer.SetCookies(from, values)
+		if got := names(jar, to); got != row.want {
 			t.Errorf("%s: %q, want %q", row.why, got, row.want)
 		}
+		if got := names(peer, to); got == row.want {
+			t.Errorf("%s: cookiejar returns %q too", row.why, got)
+		}
+	}
+}
+
+// The host whose cookies a URL has is the one that net/http connects to, or none.
+func TestHostIsThatOfTheConnection(t *testing.T) {
+	const either = "either" // as this version of Unicode has it
+	var dialed string
+	transport := &http.Transport{DialContext: func(_ context.Context, _, address string) (net.Conn, error) {
+		dialed, _, _ = net.SplitHostPort(address)
+		return nil, io.ErrClosedPipe
+	}}
+	for target, want := range map[string]string{
+		"http://example.com":                 "example.com",
+		"http://EXAMPLE.com:80/":             "example.com",
+		"http://example.com:8080/":           "example.com",
+		"http://example.com:/":               "example.com",
+		"http://example.com./":               "example.com.",
+		"http://other.com@example.com/":      "example.com",
+		"http://other.com:80@example.com/":   "example.com",
+		"http://other.com%5C@example.com/":   "example.com",
+		"http://example.com?@other.com/":     "example.com",
+		"http://example.com#@other.com/":     "example.com",
+		"http://example.com/@other.com/":     "example.com",
+		"http://a_b.example/":                "a_b.example",
+		"http://127.0.0.1/":                  "127.0.0.1",
+		"http://[::1]:80/":                   "::1",
+		"http://[0:0::0:1]/":                 "::1",
+		"http://b\u00fccher.example/":        "xn--bcher-kva.example",
+		"http://B\u00dcCHER.example:8080/":   "xn--bcher-kva.example",
+		"http://b%C3%BCcher.example/":        "xn--bcher-kva.example",
+		"http://xn--bcher-kva.example/":      "xn--bcher-kva.example",
+		"http://fa\u00df.example/":           "xn--fa-hia.example",
+		"http://example\u3002com/":           "example.com",
+		"http://\uff11\uff12\uff17.0.0.1/":   "127.0.0.1",
+		"http://\u2f47.example/":             "xn--wgv.example",
+		"http://127.1/":                      "",
+		"http://127.0.0.1./":                 "",
+		"http://0x7f.0.0.1/":                 "",
+		"http://2130706433/":                 "",
+		"http://0177.0.0.1/":                 "",
+		"http://1.2.3.300/":                  "",
+		"http://web.1/":                      "",
+		"http://[fe80::1%25eth0]/":           "",
+		"http://a_b\u00fccher.example/":      "", // net/http connects to the name as it is
+		"http://example.com\u2100other.com/": "",
+		"http://%EF%BC%85.example/":          "",
+		"http://example<.com/":               "",
+		"http://xn--a.example/":              "xn--a.example",
+		"http://\u1e9e.example/":             either,
+		"http://\u0130.example/":             "xn--i-9bb.example",
+		"http://a\u200db.example/":           "",
+		"http://\U0001f600.example/":         "xn--e28h.example",
+		"http://example.com:99999/":          "",
+	} {
+		jar := newJar(t, nil)
+		u := parseURL(t, target)
+		got := ""
+		if err := jar.Set(u, "a=1"); err == nil {
+			got = strings.Trim(jar.All()[0].Domain, "[]")
+		} else {
+			expectStatus(t, target, err, ErrBadURL)
+		}
+		if got != want && want != either {
+			t.Errorf("%s: a cookie of %q, want %q", target, got, want)
+		}
+		if _, err := (&http.Client{Transport: transport}).Get(target); !errors.Is(err, io.ErrClosedPipe) {
+			t.Errorf("%s: %v, want it dialed", target, err)
+		}
+		if ip := net.ParseIP(dialed); ip != nil {
+			dialed = ip.String()
+		}
+		if got != "" && !strings.EqualFold(got, dialed) {
+			t.Errorf("%s: a cookie of %q, and a connection to %q", target, got, dialed)
+		}
+	}
+}
+
+// A server cannot have the cookies of another host by a redirect to a URL that two readers could read as of two hosts, nor set one
+// for that host.
+func TestRedirectToAmbiguousURL(t *testing.T) {
+	const steal = "/steal"
+	var location string
+	stolen := false
+	server := httptest.NewServer(http.HandlerFunc(func(w http.ResponseWriter, r *http.Request) {
+		if r.URL.Path == "/redirect" {
+			w.Header().Set("Location", location)
+			w.WriteHeader(http.StatusFound)
+			return
+		}
+		stolen = stolen || strings.Contains(r.Header.Get("Cookie"), "secret")
+		w.Header().Set("Set-Cookie", "planted=1")
+	}))
+	defer server.Close()
+	host := strings.TrimPrefix(server.URL, "http://") // 127.0.0.1 with a port
+	for _, row := range []struct {
+		location string
+		follows  bool
+	}{
+		{`http://localhost\@` + host + steal, false},
+		{`//localhost\@` + host + steal, false},
+		{`http://` + host + `\@localhost` + steal, false},
+		{`http:\\` + host + steal, false},
+		{"http:" + host + steal, false},
+		{"http://localhost %00@" + host + steal, false},
+		{"http://localhost%00@" + host + steal, true},
+		{"http://localhost%5C@" + host + steal, true},
+		{"http://localhost@" + host + steal, true},
+		{"http://localhost:80@" + host + steal, true},
+	} {
+		jar := newJar(t, nil)
+		setAll(t, jar, "http://localhost/", "secret=1; Path=/")
+		location = row.location
+		response, err := (&http.Client{Jar: jar}).Get(server.URL + "/redirect")
+		if err == nil {
+			response.Body.Close()
+		}
+		if (err == nil) != row.follows {
+			t.Errorf("%q: %v", location, err)
+		}
+		if stolen {
+			t.Fatalf("%q: the server got the cookie of localhost", location)
+		}
+		want := []Cookie{{Domain: "localhost", Path: "/", Name: "secret", Value: "1", HostOnly: true}}
+		if row.follows {
+			want = append(want, Cookie{Domain: "127.0.0.1", Path: "/", Name: "planted", Value: "1", HostOnly: true})
+		}
+		expectAll(t, location, jar, want)
+	}
+}
+
+// A loaded list may have what a header must not have.
+func TestControlCharactersAreNotSent(t *testing.T) {
+	var got http.Header
+	server := httptest.NewServer(http.HandlerFunc(func(w http.ResponseWriter, r *http.Request) { got = r.Header }))
+	defer server.Close()
+	var list []string
+	for _, raw := range []string{`first=1`, `crlf=1\r\nX: y`, `lf=1\n2`, `nul=1\u0000`, `us=1\u001f`, `del=1\u007f`, `na\r\nX: me=1`,
+		`tab=1\t2`, `last=\u00e9`} {
+		list = append(list, fmt.Sprintf(`{"raw_cookie": "%s; Path=/", "path": ["/", true], "domain": {"HostOnly": "127.0.0.1"},
+			"expires": "SessionEnd"}`, raw))
+	}
+	var dropped []string
+	jar, err := Load(strings.NewReader("["+strings.Join(list, ",")+"]"), JSON, &Options{
+		OnDropped: func(host, name string, err error) {
+			if !errors.Is(err, ErrControlCharacter) || "http://"+host != server.URL {
+				t.Errorf("%s: %v", host, err)
+			}
+			dropped = append(dropped, name)
+		}})
+	if err != nil {
+		t.Fatal(err)
+	}
+	defer jar.Close()
+	if jar.Len() != len(list) {
+		t.Fatalf("%d cookies, want %d", jar.Len(), len(list))
+	}
+	header, err := jar.Header(parseURL(t, server.URL))
+	if want := "first=1; tab=1\t2; last=\u00e9"; err != nil || header != want {
+		t.Errorf("Header() = %q, %v, want %q", header, err, want)
+	}
+	wantDropped := []string{"crlf", "lf", "nul", "us", "del", "na\r\nX: me"}
+	if !reflect.DeepEqual(dropped, wantDropped) {
+		t.Errorf("dropped %q, want %q", dropped, wantDropped)
+	}
+
+	exact, err := http.NewRequest("GET", server.URL, nil)
+	if err != nil {
+		t.Fatal(err)
+	}
+	exact.Header.Set("Cookie", header)
+	plain := exact.Clone(context.Background())
+	plain.Header.Del("Cookie")
+	for _, row := range []struct {
+		client  *http.Client
+		request *http.Request
+		want    string
+	}{
+		{new(http.Client), exact, header},
+		{&http.Client{Jar: jar}, plain, "first=1; tab=12; last="}, // net/http leaves out more
+	} {
+		response, err := row.client.Do(row.request)
+		if err != nil {
+			t.Fatal(err)
+		}
+		response.Body.Close()
+		if cookie := got.Get("Cookie"); cookie != row.want || got.Get("X") != "" {
+			t.Errorf("the server got %q, want %q", got, row.want)
+		}
+	}
+	if want := append(wantDropped, wantDropped...); !reflect.DeepEqual(dropped, want) {
+		t.Errorf("dropped %q, want %q", dropped, want)
+	}
+}
+
+// A WebSocket handshake is a request by HTTP.
+func TestWebSocket(t *testing.T) {
+	jar := newJar(t, &Options{Strict: true})
+	setAll(t, jar, "https://example.com/", "secure=1; Secure; HttpOnly")
+	setAll(t, jar, "http://example.com/", "plain=2; HttpOnly")
+	setAll(t, jar, "wss://example.com/", "__Host-b=3; Secure; HttpOnly; Path=/")
+	setAll(t, jar, "ws://example.com/", "a=4; HttpOnly")
+	expectStatus(t, "ws", jar.Set(parseURL(t, "ws://example.com/"), "b=5; Secure"), ErrInsecureURL)
+	const plain, all = "plain=2; a=4", "secure=1; plain=2; __Host-b=3; a=4"
+	for to, want := range map[string]string{"ws": plain, "http": plain, "wss": all, "https": all, "WSS": all, "ftp": "", "wsss": ""} {
+		got, err := jar.Header(&url.URL{Scheme: to, Host: "example.com"})
+		if err != nil || got != want {
+			t.Errorf("%s: %q, %v, want %q", to, got, err, want)
+		}
+	}
+}
+
+// What SetCookies and Cookies drop is reported, without values.
+func TestDropped(t *testing.T) {
+	var jar *Jar
+	var got []string
+	jar = newJar(t, &Options{OnDropped: func(host, name string, err error) {
+		got = append(got, fmt.Sprintf("%s %s: %v (%d stored)", host, name, err, jar.Len())) // the jar is not locked
+	}})
+	for _, row := range []struct {
+		target string
+		values []string
+		want   []string
+	}{
+		{"http://example.com/", []string{"a=value", "b=value; Max-Age=60"}, nil},
+		{"http://example.com/?query=value", []string{"c=value; Domain=other.com", "d=value", "e=value; Domain=com.example"}, []string{
+			"example.com c: cookiestore: the host does not match the cookie's domain (3 stored)",
+			"example.com e: cookiestore: the host does not match the cookie's domain (3 stored)"}},
+		{"http://example.com:80/", []string{"a=value; Path=/\xff"}, []string{"example.com:80 a: cookiestore: not UTF-8 (3 stored)"}},
+		{"http://example.com/", []string{"none=value; Max-Age=0"}, []string{"example.com none: cookiestore: the cookie has expired (3 stored)"}},
+		{"http://web.1/", []string{"a=value"}, []string{
+			"web.1 a: cookiestore: not a valid URL (3 stored)", "web.1 : cookiestore: not a valid URL (3 stored)"}},
+		{"http://1.2.3.300/", nil, []string{"1.2.3.300 : cookiestore: not a valid URL (3 stored)"}},
+		{"http://user:value@[fe80::1%25eth0]/", []string{"a=value"}, []string{
+			"[fe80::1%eth0] a: cookiestore: not a valid URL (3 stored)", "[fe80::1%eth0] : cookiestore: not a valid URL (3 stored)"}},
+	} {
+		got = nil
+		u := parseURL(t, row.target)
+		jar.SetCookies(u, received(row.values...))
+		jar.Cookies(u)
+		if !reflect.DeepEqual(got, row.want) {
+			t.Errorf("%s, %q: %q, want %q", row.target, row.values, got, row.want)
+		}
+	}
+	got = nil
+	jar.SetCookies(nil, []*http.Cookie{{Name: "a", Value: "value"}})
+	jar.Close()
+	jar.SetCookies(parseURL(t, "http://example.com/"), []*http.Cookie{{Name: "a", Value: "value"}})
+	jar.Cookies(parseURL(t, "http://example.com/"))
+	want := []string{" a: cookiestore: not a valid URL (3 stored)", "example.com a: cookiestore: the jar is closed (0 stored)",
+		"example.com : cookiestore: the jar is closed (0 stored)"}
+	if !reflect.DeepEqual(got, want) {
+		t.Errorf("%q, want %q", got, want)
 	}
 }
 

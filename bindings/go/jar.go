@@ -7,7 +7,9 @@ import "C"
 import (
 	"crypto/rand"
 	"net/url"
+	"os"
 	"runtime"
+	"strings"
 	"sync"
 	"time"
 	"unsafe"
@@ -18,30 +20,59 @@ import (
 // Create one with New or Load; the zero value is a closed jar. Errors of the store are of type *Error. After Close their status
 // is ErrClosed.
 type Jar struct {
-	mu    sync.Mutex
-	store C.cookie_store
-	now   func() time.Time // the clock of a test, or nil
+	mu        sync.Mutex
+	store     C.cookie_store
+	now       func() time.Time                   // the clock of a test, or nil
+	onDropped func(host, name string, err error) // or nil
 }
 
 // Options are the options of a jar.
 type Options struct {
-	// PublicSuffixList is the content of a list in the format of publicsuffix.org. A cookie for a public suffix, such as all
-	// of co.uk, is rejected, unless it comes from that very host. Without a list a server may set a cookie for all of co.uk.
-	// A line with the rule * lists the top-level domains that have no rule of their own, such as np.
+	// PublicSuffixList is the content of a list in the format of publicsuffix.org, such as SystemPublicSuffixList returns. A
+	// cookie for a public suffix, such as all of co.uk, is rejected, unless it comes from that very host. If it is nil there
+	// is no list, and a server may set a cookie for all of co.uk. A list without rules is an error, and so is an empty one.
+	//
+	// A line has one rule, such as co.uk, *.ck or !www.ck, and what follows white space is ignored. Lines without a rule and
+	// lines that begin with // are skipped. A line is malformed if its rule has an empty label or one of the characters
+	// / < { " : @ =, so that a path with a slash, an HTML page or a JSON document is an error.
 	PublicSuffixList []byte
 
+	// OnlyListed is whether only the domains that a rule of the list matches are public suffixes. Otherwise the rule * is
+	// added, as publicsuffix.org specifies, and a top-level domain without a rule of its own is a public suffix too.
+	OnlyListed bool
+
 	// DomainLimit is how many cookies each domain may have, or 0 for no limit. Before a cookie is inserted, cookies of its
-	// domain are evicted until it fits: first the expired ones, then the others, both in creation order.
+	// domain are evicted until it fits: first the expired ones, then the others, both in creation order. A strict jar evicts
+	// Secure cookies that have not expired last.
 	DomainLimit int
 
 	// Strict is whether the jar rejects more cookies, as browsers do (draft-ietf-httpbis-rfc6265bis). It then also ignores
-	// attributes whose value is longer than 1,024 bytes, and a cookie expires at most 400 days after it was received.
+	// attributes whose value is longer than 1,024 bytes, and a cookie expires at most 400 days after it was received. With a
+	// public suffix list, the Domain of a cookie may not be above the site of the host that sets it.
 	Strict bool
+
+	// OnDropped, if it is not nil, is called for each cookie that SetCookies does not store, with the error that Set would
+	// have returned, and for each stored cookie that Cookies and Header leave out, with ErrControlCharacter. If Cookies
+	// returns nil because of an error, it is called with that error and an empty name.
+	//
+	// It gets the host of the URL, with the port if it has one, and the name of the cookie, but never a value. Both are as
+	// received: print them with %q. A server that expires a cookie which is not stored is the harmless ErrExpired.
+	//
+	// Several goroutines may call it at once. The jar is not locked meanwhile, so that it may use the jar; but a jar to which
+	// it refers is freed by Close alone.
+	OnDropped func(host, name string, err error)
 }
+
+// publicSuffixFile is where Debian's package publicsuffix installs the list.
+const publicSuffixFile = "/usr/share/publicsuffix/public_suffix_list.dat"
+
+// SystemPublicSuffixList returns the content of /usr/share/publicsuffix/public_suffix_list.dat, which Debian's package publicsuffix
+// installs. For another file use os.ReadFile.
+func SystemPublicSuffixList() ([]byte, error) { return os.ReadFile(publicSuffixFile) }
 
 // New returns a jar without cookies. Nil options are those of a zero Options.
 //
-// Errors: ErrBadRule with its line, ErrNotUTF8 (the list), ErrBadLimit.
+// Errors: ErrNotUTF8 (the list), ErrBadRule with its line, ErrNoRules, ErrBadLimit.
 func New(options *Options) (*Jar, error) {
 	return create(options, func(jar *Jar, key string) error {
 		return errorOf(C.cookie_store_new(&jar.store, chars(key), size(key)), 0)
@@ -70,9 +101,13 @@ func create(options *Options, begin func(jar *Jar, key string) error) (*Jar, err
 }
 
 func (j *Jar) configure(options *Options) error {
-	list, line := string(options.PublicSuffixList), C.size_t(0)
-	if err := errorOf(C.cookie_store_use_suffixes(&j.store, chars(list), size(list), &line), line); err != nil {
-		return err
+	j.onDropped = options.OnDropped
+	if options.PublicSuffixList != nil {
+		list, line := string(options.PublicSuffixList), C.size_t(0)
+		status := C.cookie_store_use_suffixes(&j.store, chars(list), size(list), C.bool(options.OnlyListed), &line)
+		if err := errorOf(status, line); err != nil {
+			return err
+		}
 	}
 	if options.DomainLimit < 0 {
 		return &Error{Status: ErrBadLimit}
@@ -109,9 +144,36 @@ func (j *Jar) set(url, setCookie string) error {
 // Header returns the value of the Cookie header of a request for u, RFC 6265 5.4, or "" if none is to be sent. Names and values
 // are as received. Longer paths come first, and cookies with paths of equal length in creation order.
 //
+// Cookies whose name or value has a control character other than HTAB are left out: such a header could end early and begin
+// another one. They can come from Load, and from Set with another string than a header that net/http received.
+//
 // Errors: ErrBadURL, ErrNotUTF8 (the URL).
 func (j *Jar) Header(u *url.URL) (string, error) {
-	url := address(u)
+	pairs, err := j.pairs(u)
+	return strings.Join(pairs, "; "), err
+}
+
+// pairs returns the pairs name=value of the Cookie header of a request for u.
+func (j *Jar) pairs(u *url.URL) ([]string, error) {
+	header, err := j.get(address(u))
+	if err != nil || header == "" {
+		return nil, err
+	}
+	var pairs []string
+	for _, pair := range strings.Split(header, "; ") { // no name and no value has a semicolon
+		if strings.IndexFunc(pair, isControl) < 0 {
+			pairs = append(pairs, pair)
+			continue
+		}
+		name, _, _ := strings.Cut(pair, "=")
+		j.dropped(u, name, &Error{Status: ErrControlCharacter})
+	}
+	return pairs, nil
+}
+
+func isControl(r rune) bool { return r < ' ' && r != '\t' || r == 0x7f }
+
+func (j *Jar) get(url string) (string, error) {
 	j.mu.Lock()
 	defer j.mu.Unlock()
 	now := j.seconds()
@@ -119,6 +181,18 @@ func (j *Jar) Header(u *url.URL) (string, error) {
 		return C.cookie_store_get(&j.store, chars(url), size(url), now, out, room, needed)
 	})
 	return string(header), err
+}
+
+// dropped calls Options.OnDropped. The lock must not be held.
+func (j *Jar) dropped(u *url.URL, name string, err error) {
+	if j.onDropped == nil {
+		return
+	}
+	host := ""
+	if u != nil {
+		host = u.Host
+	}
+	j.onDropped(host, name, err)
 }
 
 // Clear removes all cookies.
@@ -155,15 +229,6 @@ func (j *Jar) seconds() C.int64_t {
 		now = j.now
 	}
 	return C.int64_t(now().Unix())
-}
-
-// address returns the URL as the library takes it, or "" if it has no host. Only what matters to cookies is in it: a request
-// goes to u.Host, also if u.Opaque names another host.
-func address(u *url.URL) string {
-	if u == nil || u.Host == "" {
-		return ""
-	}
-	return (&url.URL{Scheme: u.Scheme, Host: u.Host, Path: u.Path, RawPath: u.RawPath}).String()
 }
 
 // chars returns a copy of s with a zero byte after it, since the library takes no pointer that is NULL.

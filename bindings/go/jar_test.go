@@ -7,6 +7,7 @@ import (
 	"io"
 	"net/http"
 	"net/url"
+	"os"
 	"reflect"
 	"strings"
 	"sync"
@@ -90,6 +91,8 @@ func TestHeader(t *testing.T) {
 
 func TestSetErrors(t *testing.T) {
 	list, strict := &Options{PublicSuffixList: []byte("uk\nco.uk\n")}, &Options{Strict: true}
+	full := &Options{Strict: true, DomainLimit: 1}
+	sites := &Options{Strict: true, PublicSuffixList: []byte("com\ns3.example.com\n")}
 	for _, row := range []struct {
 		options     *Options
 		from, value string
@@ -108,6 +111,8 @@ func TestSetErrors(t *testing.T) {
 		{strict, "https://example.com/", "a=1; SameSite=None", ErrInsecureSameSiteNone},
 		{strict, "https://example.com/", "__Host-a=1; Path=/", ErrPrefix},
 		{strict, "http://example.com/", "stored=2", ErrSecureStored},
+		{full, "https://example.com/", "a=1", ErrSecureLimit},
+		{sites, "https://shop.s3.example.com/", "a=1; Domain=example.com", ErrPublicSuffix},
 		{nil, "http:///", "a=1", ErrBadURL},
 		{nil, "http:example.com", "a=1", ErrBadURL},
 		{nil, "", "a=1", ErrBadURL},
@@ -131,20 +136,32 @@ func TestSetErrors(t *testing.T) {
 func TestHostDecides(t *testing.T) {
 	jar := newJar(t, nil)
 	setAll(t, jar, "http://example.com/", "a=1")
-	for _, u := range []*url.URL{
-		nil,
-		{Scheme: "http", Path: "/example.com/"},
-		{Scheme: "http", Host: "other.com", Opaque: "//example.com/"},
-		{Scheme: "http", Host: "other.com", Path: "//example.com/"},
-		{Scheme: "http", Host: `other.com\@example.com`, Path: "/"},
-		{Scheme: "http", Host: "example.com", Path: "/", User: url.UserPassword("other.com", "@")},
+	for _, row := range []struct {
+		u    *url.URL
+		want string
+	}{
+		{nil, ""},
+		{&url.URL{Scheme: "http", Path: "/example.com/"}, ""},
+		{&url.URL{Scheme: "http", Host: "other.com", Opaque: "//example.com/"}, ""},
+		{&url.URL{Scheme: "http", Host: "other.com", Path: "//example.com/"}, ""},
+		{&url.URL{Scheme: "http", Host: `other.com\@example.com`, Path: "/"}, ""},
+		{&url.URL{Scheme: "http", Host: `example.com\@other.com`, Path: "/"}, ""},
+		{&url.URL{Scheme: "http", Host: "example.com/@other.com", Path: "/"}, ""},
+		{&url.URL{Scheme: "http", Host: "example.com#@other.com", Path: "/"}, ""},
+		{&url.URL{Scheme: "http", Host: "example.com \u00fc", Path: "/"}, ""},
+		{&url.URL{Scheme: "http", Host: "example.com/\u00fc", Path: "/"}, ""},
+		{&url.URL{Scheme: "http", Host: "example.com\r\nX:\u00fc", Path: "/"}, ""},
+		{&url.URL{Scheme: "http", Host: "\u00fc\nHost:example.com", Path: "/"}, ""},
+		{&url.URL{Scheme: "http://example.com/?", Host: "other.com", Path: "/"}, ""},
+		{&url.URL{Scheme: "http", Host: "example.com", Path: "/", User: url.UserPassword("other.com", "@")}, "a=1"},
+		{&url.URL{Scheme: "http", Host: "example.com", Opaque: "/a"}, "a=1"},
+		{&url.URL{Scheme: "http", Host: "example.com", Opaque: "//example.com/a"}, "a=1"},
+		{&url.URL{Scheme: "http", Host: "example.com", Opaque: "//other.com/a"}, ""}, // a proxy connects to other.com
+		{&url.URL{Scheme: "http", Host: "example.com", Opaque: "//example.com@other.com/a"}, ""},
+		{&url.URL{Scheme: "http", Host: "example.com", Opaque: "http://other.com/a"}, ""},
 	} {
-		want := ""
-		if u != nil && u.Host == "example.com" {
-			want = "a=1"
-		}
-		if got, _ := jar.Header(u); got != want {
-			t.Errorf("Header(%#v) = %q, want %q", u, got, want)
+		if got, _ := jar.Header(row.u); got != row.want {
+			t.Errorf("Header(%#v) = %q, want %q", row.u, got, row.want)
 		}
 	}
 }
@@ -158,6 +175,15 @@ func TestOptionErrors(t *testing.T) {
 		{Options{PublicSuffixList: []byte("uk\nco..uk\n")}, Error{ErrBadRule, 2},
 			"cookiestore: a line of the list is not a rule (line 2)"},
 		{Options{PublicSuffixList: []byte("\xff")}, Error{ErrNotUTF8, 0}, "cookiestore: not UTF-8"},
+		{Options{PublicSuffixList: []byte{}}, Error{ErrNoRules, 0}, "cookiestore: the public suffix list has no rules"},
+		{Options{PublicSuffixList: []byte("// a comment\n\n"), OnlyListed: true}, Error{ErrNoRules, 0},
+			"cookiestore: the public suffix list has no rules"},
+		{Options{PublicSuffixList: []byte(publicSuffixFile)}, Error{ErrBadRule, 1},
+			"cookiestore: a line of the list is not a rule (line 1)"},
+		{Options{PublicSuffixList: []byte("\n<!DOCTYPE html>\n<html>\n")}, Error{ErrBadRule, 2},
+			"cookiestore: a line of the list is not a rule (line 2)"},
+		{Options{PublicSuffixList: []byte(`{"error": 1}`), OnlyListed: true}, Error{ErrBadRule, 1},
+			"cookiestore: a line of the list is not a rule (line 1)"},
 		{Options{DomainLimit: -1}, Error{ErrBadLimit, 0}, "cookiestore: negative domain limit"},
 	} {
 		_, err := New(&row.options)
@@ -169,7 +195,7 @@ func TestOptionErrors(t *testing.T) {
 	if text := Status(99).Error(); text != "cookiestore: unknown status" {
 		t.Errorf("an unknown status is %q", text)
 	}
-	for status, want := range map[Status]bool{9: false, 19: true, 37: false, 46: true} {
+	for status, want := range map[Status]bool{9: false, 19: true, ErrNoRules: false, 38: false, ErrSecureLimit: true, 47: true} {
 		if got := status.IsRejection(); got != want {
 			t.Errorf("status %d: IsRejection is %v", int(status), got)
 		}
@@ -199,6 +225,48 @@ func TestOptions(t *testing.T) {
 	setAll(t, jar, "https://example.com/", "a=1; Max-Age=99999999")
 	if got, want := jar.All()[0].Expires, start.AddDate(0, 0, 400); !got.Equal(want) {
 		t.Errorf("a strict jar's cookie expires at %v, want %v", got, want)
+	}
+}
+
+func TestPublicSuffixLists(t *testing.T) {
+	for name, row := range map[string]struct {
+		options Options
+		want    []string // the domains of which all hosts below may get a cookie
+	}{
+		"no list":                {Options{}, []string{"shop.co.uk", "co.uk", "shop.np", "np"}},
+		"no list, only listed":   {Options{OnlyListed: true}, []string{"shop.co.uk", "co.uk", "shop.np", "np"}},
+		"a list":                 {Options{PublicSuffixList: []byte("uk\nco.uk\n")}, []string{"shop.co.uk", "shop.np"}},
+		"a list, only listed":    {Options{PublicSuffixList: []byte("uk\nco.uk\n"), OnlyListed: true}, []string{"shop.co.uk", "shop.np", "np"}},
+		"only the rule * itself": {Options{PublicSuffixList: []byte("*"), OnlyListed: true}, []string{"shop.co.uk", "co.uk", "shop.np"}},
+	} {
+		jar := newJar(t, &row.options)
+		var got []string
+		for _, domain := range []string{"shop.co.uk", "co.uk", "shop.np", "np"} {
+			err := jar.Set(parseURL(t, "http://deep."+domain+"/"), "a=1; Domain="+domain)
+			if err == nil {
+				got = append(got, domain)
+			} else {
+				expectStatus(t, name+": "+domain, err, ErrPublicSuffix)
+			}
+		}
+		if !reflect.DeepEqual(got, row.want) {
+			t.Errorf("%s: cookies for all of %q, want %q", name, got, row.want)
+		}
+	}
+}
+
+func TestSystemPublicSuffixList(t *testing.T) {
+	list, err := SystemPublicSuffixList()
+	if errors.Is(err, os.ErrNotExist) {
+		t.Skip(err)
+	}
+	if err != nil {
+		t.Fatal(err)
+	}
+	jar := newJar(t, &Options{PublicSuffixList: list})
+	setAll(t, jar, "http://www.shop.co.uk/", "a=1; Domain=shop.co.uk")
+	for from, value := range map[string]string{"http://shop.co.uk/": "a=1; Domain=co.uk", "http://shop.np/": "a=1; Domain=np"} {
+		expectStatus(t, value, jar.Set(parseURL(t, from), value), ErrPublicSuffix)
 	}
 }
 

@@ -82,6 +82,20 @@ def get_after_removals(size):
     return get(set_cookie('a=1; Path=/') + stored + removed, slashes(4000))
 
 
+def set_secure(number):
+    return f'set https://h.com/ s{number}=1; Secure\n'
+
+
+def set_beside_secure(size):
+    """Sets a cookie over http beside Secure cookies of other names. The first time, which may index them, is not timed."""
+    return repeated(NOW + ''.join(map(set_secure, range(size))) + set_cookie('a=1'), set_cookie('a=1'))
+
+
+def set_in_turn(size):
+    """Each Secure cookie changes what a cookie set over http may overlay."""
+    return repeated(NOW, ''.join(set_secure(number) + set_cookie(f'a{number}=1') for number in range(size)) + CLEAR)
+
+
 def convert(size):
     lines = saved_lines(size)
     return Task(lambda _: '', lambda _: lines, arguments=('--convert',), most=1)
@@ -104,6 +118,12 @@ LINEAR = [
     Family('set, n attributes', 10_000, lambda n: set_one(f'c=1{"; a=b" * n}')),
     Family('set, date of n words', 10_000, lambda n: set_one(f'c=1; Expires={"x " * n}3 Aug 2100 00:38:37')),
     Family('n lines of JSON by --convert', 5000, convert, has_peer=False),
+]
+
+# For a strict store of the C library.
+STRICT = [
+    Family('strict: set over http, n Secure cookies of other names', 5000, set_beside_secure, has_peer=False),
+    Family('strict: n sets of a Secure cookie, and one over http after each', 10_000, set_in_turn, has_peer=False),
 ]
 
 

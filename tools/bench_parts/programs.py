@@ -7,7 +7,7 @@ import subprocess
 import sys
 
 from bench_parts.measure import Program
-from common import ROOT, c_compiler, compile_c, stop
+from common import ARCHIVE, ROOT, c_compiler, compile_c, install, stop
 
 PEERS = os.path.join(ROOT, 'tools', 'peers')
 REGISTRY = '/usr/share/cargo/registry'
@@ -69,6 +69,17 @@ def build_go(folder):
     path = os.path.join(folder, 'jar')
     run_compiler('go', 'build', '-o', path, os.path.join(PEERS, 'go', 'jar.go'), cwd=folder)
     return Program(GO, (path,), f'net/http/cookiejar, {output("go", "version")}')
+
+
+def build_strict(folder):
+    """A strict store of the C library, which runs the sets of a script. None if the library is not built."""
+    if not (c_compiler() and os.path.exists(ARCHIVE)):
+        return None
+    prefix = os.path.join(folder, 'prefix')
+    install(prefix, ARCHIVE)
+    path = compile_c(os.path.join(folder, 'strict'), '-std=c11', 'tools/bench_parts/strict.c', '-I', f'{prefix}/include',
+                     '-L', f'{prefix}/lib', '-lcookie_store', f'-Wl,-rpath,{prefix}/lib')
+    return Program(OWN, (path,), 'C library')
 
 
 def run_compiler(*command, cwd):

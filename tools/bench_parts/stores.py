@@ -121,12 +121,15 @@ def hostile_table(meter, own, *peers):
     finder = programs.build_collisions(meter.folder)
     families = [*hostile.LINEAR, *([hostile.colliding(finder)] if finder else [])]
     grown = hostile.measure(meter, own, *peers, families=families, steepest=hostile.STEEPEST)
+    strict = programs.build_strict(meter.folder)
+    if strict:
+        grown += hostile.measure(meter, strict, families=hostile.STRICT, steepest=hostile.STEEPEST)
     note = f'''Milliseconds of the operation in the first column. Between 4n and 16n the time grew as n to the power of
 the exponent: 0 does not grow, 1 is linear, 2 is quadratic. Each must be linear or less: `tools/bench` fails if an
 exponent of {own.name} is above {hostile.STEEPEST}. A larger one is measured again, at most {hostile.ATTEMPTS} times in all, and the least
 times count. Each n is large enough that fixed costs do not matter, and 4n and 16n are on the same side of the
-size of the processor's caches. Where 16n would take too long, the exponent is that from n to 4n. `-` was not
-measured.'''
+size of the processor's caches. A strict store is that of the C library, if it is built. Where 16n would take too
+long, the exponent is that from n to 4n. `-` was not measured.'''
     result = growth_table('Hostile inputs', note, grown, own, *peers)
     exponents = [(family.title, hostile.exponent(took[own.name]) or 0) for family, took in grown]
     result.warnings = [f'Warning: the exponent of "{title}" is {exponent}, above {hostile.STEEPEST}.'

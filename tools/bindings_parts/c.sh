@@ -72,6 +72,18 @@ replaces_file() {
     printf '%s\n' '[] 1 [] 600 file' '[ 1 [ 644 file' | diff "$temp/printed" -
 }
 
+# fetch.c makes no request with a Cookie header that has a control character other than HTAB, which a list can have.
+refuses_controls() {
+    local code escaped file=$temp/controls
+    for code in {0..31} 127; do
+        printf -v escaped '\\u%04x' "$code"
+        echo '[{"raw_cookie":"a=1'"$escaped"'b","path":["/",false],"domain":{"HostOnly":"127.0.0.1"},"expires":"SessionEnd"}]' > "$file"
+        "$temp/fetch" "$file" http://127.0.0.1:1/ 2> "$temp/why" || true
+        grep -q ': no request: a control character' "$temp/why" || echo "$code"
+    done > "$temp/printed"
+    echo 9 | diff "$temp/printed" -
+}
+
 # Compiles fetch.c by the command that README.md shows.
 build_fetch() {
     "$cc" "${flags[@]}" -fsyntax-only bindings/c/fetch.c && cp bindings/c/fetch.c "$temp" &&
@@ -82,6 +94,7 @@ test_fetch() {
     if try fetch.c build_fetch; then
         try 'run of fetch.c' tools/bindings_parts/scenario.py "${valgrind[@]}" "$temp/fetch" || true
         try 'file of fetch.c' replaces_file || true
+        try 'control characters of fetch.c' refuses_controls || true
     fi
 }
 
@@ -140,8 +153,8 @@ if ! has pkg-config; then
     return
 fi
 try version has_version || true
-if ! pkg-config --exists 'libcurl >= 7.85'; then
-    skips fetch.c 'there is no header of libcurl 7.85 or later'
+if ! pkg-config --exists 'libcurl >= 7.88'; then
+    skips fetch.c 'there is no header of libcurl 7.88 or later'
 elif ! has openssl || ! has cc; then
     skips fetch.c 'there is no openssl or no cc'
 else

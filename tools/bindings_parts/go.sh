@@ -26,12 +26,15 @@ go_block() {
         bindings/go/README.md
 }
 
-# The README's first program is part of an example, and the second is fetch.
+# The README's first and third programs are parts of examples, and the second is fetch.
 go_quotes_are_tested() {
-    local short example
-    short=$(go_block go 1 | sed 's/^./\t&/')
+    local part example n
     example=$(< bindings/go/example_test.go)
-    [ -n "$short" ] && [[ $example = *"$short"* ]] && go_block go 2 | diff bindings/go/fetch/main.go -
+    for n in 1 3; do
+        part=$(go_block go "$n" | sed 's/^./\t&/')
+        [ -n "$part" ] && [[ $example = *"$part"* ]] || return 1
+    done
+    go_block go 2 | diff bindings/go/fetch/main.go -
 }
 
 # Runs the README's commands in a new home. They build $temp/home/fetch/fetch, which finds the library by itself.

@@ -15,6 +15,9 @@ a CookieStore, for urllib.request and requests. With a store
 
 These three modules are imported by their names. Each needs the package that it is named after.
 
+Cookies that these clients do not store or send are logged at level DEBUG by the logger cookie_store,
+with the host, the name and the reason, and without the value.
+
 String arguments are str, or bytes in UTF-8. Times are whole seconds since 1970-01-01T00:00:00 UTC.
 An argument `now` that is None stands for the current time.
 

@@ -8,8 +8,10 @@ import re
 import time
 from typing import Any, Dict, Iterator, List, Optional, Tuple
 
+from ._messages import log_not_stored
 from ._status import CookieStoreError, NoDomain, Status
 from ._store import Cookie, CookieStore, Text
+from ._urls import is_plain_host
 
 # A path that needs no escaping in a URL.
 _PLAIN_PATH = re.compile(r"/[-a-zA-Z0-9_~!$&'()*+,;=:@/]*")
@@ -122,21 +124,25 @@ def insert(store: CookieStore, cookie: http.cookiejar.Cookie) -> Status:
     """Insert a cookie, without a request, and return the status of the store."""
     if not cookie.domain:
         raise NoDomain()
-    now = int(time.time())
+    host, now = _host(cookie), int(time.time())
+    if not is_plain_host(host):
+        raise CookieStoreError(Status.BAD_URL)
     has_path = cookie.path_specified or not _PLAIN_PATH.fullmatch(cookie.path)
     path = '/' if has_path or cookie.path == '/' else cookie.path + '/'
     text = set_cookie_text(cookie, has_path, now)
-    return store.set(from_wire(f'https://{_host(cookie)}{path}'), from_wire(text), now)
+    return store.set(from_wire(f'https://{host}{path}'), from_wire(text), now)
 
 
 def header_values(rows: List[Cookie], now: int) -> Iterator[Tuple[str, str]]:
-    """Yield for each cookie of a cookies.txt file a URL and a Set-Cookie header value, if they can express it."""
+    """Yield for each cookie of a cookies.txt file a host and a Set-Cookie header value, if they can express it."""
     hosts = {domain for domain in {row.domain for row in rows} if _PLAIN_HOST.fullmatch(domain)}
     for domain, path, name, value, expires, host_only, _, secure, http_only in rows:
         if domain in hosts and ';' not in path:
-            yield f'https://{domain}/', (f'{name}={value}; Path={path}{"" if host_only else "; Domain=" + domain}'
-                                         f'{"" if expires is None else f"; Max-Age={expires - now}"}'
-                                         f'{"; Secure" if secure else ""}{"; HttpOnly" if http_only else ""}')
+            yield domain, (f'{name}={value}; Path={path}{"" if host_only else "; Domain=" + domain}'
+                           f'{"" if expires is None else f"; Max-Age={expires - now}"}'
+                           f'{"; Secure" if secure else ""}{"; HttpOnly" if http_only else ""}')
+        else:
+            log_not_stored(domain, name, 'no header value can express it')
 
 
 def is_line(row: Cookie) -> bool:

@@ -11,9 +11,10 @@ from typing import Any, Dict, Iterator, List, Optional
 from ._cookies import JarCookie, from_wire, header_values, insert, is_line, set_cookie_text, to_wire, unexpired
 from ._files import Path, replace_file
 from ._mapping import MappingJar
-from ._messages import header_for, receive
-from ._status import CookieStoreError, Status
+from ._messages import header_for, insert_header, log_not_saved, log_not_stored, name_of, receive
+from ._status import CookieStoreError, Status, text_of
 from ._store import Cookie, CookieStore
+from ._urls import target_of
 
 
 class StoreJar(MappingJar):
@@ -23,7 +24,8 @@ class StoreJar(MappingJar):
 
     The store decides which cookies of a response are stored and which are sent with a request. If a
     policy is passed, cookies that it rejects are neither stored nor sent either. The jar does not
-    close its store. Each request counts as same-site.
+    close its store. Each request counts as same-site. A request for ws: or wss: has the cookies of
+    http: or https:.
 
     Iteration and len() leave out expired cookies; they stay in the store until
     clear_expired_cookies(). Cookies look as in http.cookiejar: the domain of a domain cookie has a
@@ -32,8 +34,8 @@ class StoreJar(MappingJar):
 
     The jar has the methods of requests.cookies.RequestsCookieJar, such as get(), set() and
     get_dict(). As the cookies of a requests.Session it stores what responses set, but requests
-    chooses by its own rules what to send: before each request it copies the cookies into a jar of
-    its own. With cookie_store.requests.use_store() it sends the header of the store.
+    chooses by its own rules what to send: before each request it copies the cookies to a jar of its
+    own. After cookie_store.requests.use_store() it sends the header of the store.
 
     Threads may share a jar. A copy of a jar, also by pickle, has a copy of its store.
     """
@@ -53,10 +55,13 @@ class StoreJar(MappingJar):
         self._has_policy = True
 
     def add_cookie_header(self, request: urllib.request.Request) -> None:
-        """Add the store's Cookie header to request, if there is one and request has none."""
+        """Add the store's Cookie header to request, if there is one and request has none.
+
+        A cookie with a control character other than HTAB, which a loaded list may have, is not sent.
+        """
         if request.has_header('Cookie'):
             return
-        header = to_wire(header_for(self.store, request.get_full_url()))
+        header = to_wire(header_for(self.store, target_of(request)))
         if self._has_policy:
             header = self._approved(header, request)
         if header:
@@ -78,10 +83,12 @@ class StoreJar(MappingJar):
 
     def extract_cookies(self, response: Any, request: urllib.request.Request) -> None:
         """Store the cookies of response, except rejected ones and headers that are not UTF-8."""
-        now = self._set_policy_time()
+        target, now = target_of(request), self._set_policy_time()
         for text in response.info().get_all('Set-Cookie', []):
             if not self._has_policy or self._is_approved(text, request, now):
-                receive(self.store, request.get_full_url(), from_wire(text), now)
+                receive(self.store, target, from_wire(text), now)
+            else:
+                log_not_stored(target.host, name_of(from_wire(text)), 'rejected by the policy')
 
     def _is_approved(self, text: str, request: urllib.request.Request, now: int) -> bool:
         """Return whether the policy accepts the cookie of a header value."""
@@ -95,9 +102,10 @@ class StoreJar(MappingJar):
         return self._cookies_made(response.info().get_all('Set-Cookie', []), request, self._set_policy_time())
 
     def _cookies_made(self, texts: List[str], request: urllib.request.Request, now: int) -> List[http.cookiejar.Cookie]:
+        target = target_of(request)
         with CookieStore(strict=self.store.strict) as store:
             for text in texts:
-                receive(store, request.get_full_url(), from_wire(text), now)
+                insert_header(store, target, from_wire(text), now)
             return [JarCookie(row) for row in unexpired(store)]
 
     def set_cookie(self, cookie: http.cookiejar.Cookie) -> None:
@@ -112,11 +120,14 @@ class StoreJar(MappingJar):
 
     def set_cookie_if_ok(self, cookie: http.cookiejar.Cookie, request: urllib.request.Request) -> None:
         """Set a cookie that has not expired, if a response to request may set it."""
-        now = self._set_policy_time()
+        target, now = target_of(request), self._set_policy_time()
         text = set_cookie_text(cookie, True, now)
-        if any(made.domain == cookie.domain for made in self._cookies_made([text], request, now)):
-            if not self._has_policy or self._policy.set_ok(cookie, request):
-                receive(self.store, request.get_full_url(), from_wire(text), now)
+        if not any(made.domain == cookie.domain for made in self._cookies_made([text], request, now)):
+            log_not_stored(target.host, cookie.name, 'a response from the host may not set it')
+        elif self._has_policy and not self._policy.set_ok(cookie, request):
+            log_not_stored(target.host, cookie.name, 'rejected by the policy')
+        else:
+            receive(self.store, target, from_wire(text), now)
 
     def __iter__(self) -> Iterator[http.cookiejar.Cookie]:
         return (JarCookie(row) for row in unexpired(self.store))
@@ -178,7 +189,8 @@ class StoreJar(MappingJar):
             raise http.cookiejar.LoadError(f'{name}: {error}') from error
         with loaded:
             rows, now = [row for row in loaded.cookies() if ignore_discard or row.expires is not None], int(time.time())
-        self.store._set_all(header_values(rows, now), now)
+        for host, header_value, status in self.store._set_all(header_values(rows, now), now):
+            log_not_stored(host, name_of(header_value), text_of(status))
 
     def _filename(self, filename: Optional[Path]) -> str:
         name = self.filename if filename is None else filename
@@ -208,7 +220,11 @@ class StoreJar(MappingJar):
                     raise
         with CookieStore.load_ron(self.store.save_ron(all=True), all=ignore_expires) as saved:
             for row in saved.cookies():
-                if not ignore_discard and row.expires is None or not is_line(row):
+                is_left_out = row.expires is None and not ignore_discard
+                if not is_left_out and not is_line(row):
+                    log_not_saved(row.domain, row.name, text_of(Status.UNREPRESENTABLE))
+                    is_left_out = True
+                if is_left_out:
                     saved.remove(row.domain, row.path, row.name)
             return saved.save_netscape(all=True)
 

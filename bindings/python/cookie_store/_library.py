@@ -35,7 +35,7 @@ _LOAD: Tuple[Any, List[Any]] = (ctypes.c_int, [_AT, *_TEXT, *_TEXT, ctypes.c_int
 SIGNATURES: Dict[str, Tuple[Any, List[Any]]] = {
     'cookie_store_new': (ctypes.c_int, [_AT, *_TEXT]),
     'cookie_store_free': (None, [_AT]),
-    'cookie_store_use_suffixes': (ctypes.c_int, [_AT, *_TEXT, _LENGTH]),
+    'cookie_store_use_suffixes': (ctypes.c_int, [_AT, *_TEXT, ctypes.c_bool, _LENGTH]),
     'cookie_store_set_domain_limit': (ctypes.c_int, [_AT, ctypes.c_size_t]),
     'cookie_store_set_hash_key': (ctypes.c_int, [_AT, *_TEXT]),
     'cookie_store_set_strict': (ctypes.c_int, [_AT, ctypes.c_bool]),

@@ -19,7 +19,8 @@ class Status(enum.IntEnum):
     DOMAIN_MISMATCH -- the host of the URL does not domain-match its Domain attribute
     EXPIRED -- it has expired, and no unexpired one is stored
     PARSE -- the string is not a cookie, or its Domain attribute is not a domain name
-    PUBLIC_SUFFIX -- its domain is a public suffix on the list, and not the host of the URL
+    PUBLIC_SUFFIX -- its domain is a public suffix on the list, and not the host of the URL; in a
+        strict store also a domain above the site of the host
 
     The cookie was rejected by a strict store:
     CONTROL_CHARACTER -- the header value has a control character other than HTAB
@@ -28,13 +29,15 @@ class Status(enum.IntEnum):
     INSECURE_SAME_SITE_NONE -- it has SameSite=None and is not Secure
     PREFIX -- its name begins with __Secure- or __Host-, and it lacks what the prefix demands
     SECURE_STORED -- it is not Secure, nor is the URL, and it would overlay a stored Secure cookie
+    SECURE_LIMIT -- it is not Secure, and its domain has its limit of unexpired Secure cookies
 
     An argument is not valid:
-    BAD_URL -- not a URL
+    BAD_URL -- not a URL, or one from which parsers read different hosts
     NOT_UTF8 -- not UTF-8
     BAD_TIME -- a time that is not in the years -9999 to 9999
     BAD_LIMIT -- a limit below 1
     BAD_RULE -- a line of a public suffix list is not a rule
+    NO_RULES -- a public suffix list has no rules
     BAD_JSON, BAD_SHAPE -- not JSON; JSON, but not a list of cookies
     BAD_RON -- not a list of cookies in RON
     BAD_EXPIRY -- an expiry is not a date and time; or a cookie to save expires before the year 0
@@ -74,12 +77,19 @@ class Status(enum.IntEnum):
     BAD_EXPIRY = 34
     BAD_LINE = 35
     UNREPRESENTABLE = 36
+    NO_RULES = 37
     CONTROL_CHARACTER = 40
     TOO_LONG = 41
     INSECURE_URL = 42
     INSECURE_SAME_SITE_NONE = 43
     PREFIX = 44
     SECURE_STORED = 45
+    SECURE_LIMIT = 46
+
+    @property
+    def is_success(self) -> bool:
+        """Whether the call succeeded: the cookie is neither rejected nor an argument invalid."""
+        return self < 10
 
     @classmethod
     def _missing_(cls, value: object) -> Optional[Status]:
@@ -120,13 +130,20 @@ TEXTS = {
     Status.BAD_EXPIRY: 'an expiry is not valid or not representable',
     Status.BAD_LINE: 'a line of the file is not a cookie',
     Status.UNREPRESENTABLE: 'the format cannot represent a cookie',
+    Status.NO_RULES: 'the public suffix list has no rules',
     Status.CONTROL_CHARACTER: 'a control character in the header value',
     Status.TOO_LONG: 'name and value are longer than 4,096 bytes',
     Status.INSECURE_URL: 'Secure, and the URL is not secure',
     Status.INSECURE_SAME_SITE_NONE: 'SameSite=None, and not Secure',
     Status.PREFIX: 'lacks what the prefix of its name demands',
     Status.SECURE_STORED: 'a Secure cookie with its name is stored',
+    Status.SECURE_LIMIT: 'the domain has its limit of Secure cookies',
 }
+
+
+def text_of(status: Status) -> str:
+    """Return what a status means, in a few words."""
+    return TEXTS.get(status, 'unknown status')
 
 
 def is_reply(number: int) -> bool:
@@ -142,7 +159,7 @@ class CookieStoreError(Exception):
         self.status = status
 
     def __str__(self) -> str:
-        return TEXTS.get(self.status, 'unknown status')
+        return text_of(self.status)
 
 
 class NoMemory(CookieStoreError, MemoryError):
@@ -157,7 +174,7 @@ class BadRule(CookieStoreError):
         self.args, self.line = (line,), line
 
     def __str__(self) -> str:
-        return f'{TEXTS[self.status]} (line {self.line})'
+        return f'{text_of(self.status)} (line {self.line})'
 
 
 class BadLine(CookieStoreError):
@@ -168,7 +185,7 @@ class BadLine(CookieStoreError):
         self.args, self.line = (line,), line
 
     def __str__(self) -> str:
-        return f'{TEXTS[self.status]} (line {self.line})'
+        return f'{text_of(self.status)} (line {self.line})'
 
 
 class NoDomain(CookieStoreError, ValueError):

@@ -2,6 +2,7 @@
 from __future__ import annotations
 
 import ctypes
+import errno
 import operator
 import os
 import threading
@@ -9,12 +10,18 @@ import time
 import weakref
 from typing import Any, Callable, Dict, Iterable, Iterator, List, NamedTuple, Optional, Tuple, Type, Union
 
+from ._files import Path
 from ._library import LIBRARY, ROW, Row, Store
 from ._status import BadLine, BadRule, CookieStoreError, Status, check, is_reply
 
 Text = Union[str, bytes]
+# A public suffix list, and whether only the listed domains are public suffixes.
+_Suffixes = Tuple[bytes, bool]
 # What a copy of a store is made from: its class, list, strictness, public suffix list and limit.
-_State = Tuple[Type['CookieStore'], str, bool, Optional[bytes], Optional[int]]
+_State = Tuple[Type['CookieStore'], str, bool, Optional[_Suffixes], Optional[int]]
+
+#: The public suffix list of Debian's package publicsuffix.
+SYSTEM_SUFFIXES = '/usr/share/publicsuffix/public_suffix_list.dat'
 
 
 class Cookie(NamedTuple):
@@ -56,7 +63,20 @@ def _decoded(cookie: Cookie) -> Cookie:
 
 def _bytes(text: Text) -> bytes:
     """Return a string argument as bytes. A lone surrogate becomes bytes that are not UTF-8."""
-    return text if isinstance(text, bytes) else text.encode('utf-8', 'surrogatepass')
+    if isinstance(text, bytes):
+        return text
+    if isinstance(text, str):
+        return text.encode('utf-8', 'surrogatepass')
+    raise TypeError(f'expected str or bytes, not {type(text).__name__}')
+
+
+def _suffix_list(path: Optional[Path]) -> bytes:
+    """Return the public suffix list of a file, or that of the system."""
+    if path is None and not os.path.exists(SYSTEM_SUFFIXES):
+        words = 'no public suffix list: install the package publicsuffix, or pass suffixes or path'
+        raise FileNotFoundError(errno.ENOENT, words, SYSTEM_SUFFIXES)
+    with open(SYSTEM_SUFFIXES if path is None else path, 'rb') as file:
+        return file.read()
 
 
 def _random_key() -> Tuple[bytes, int]:
@@ -93,7 +113,7 @@ class CookieStore:
         self._store = Store()
         self._at = ctypes.byref(self._store)
         self._lock = threading.Lock()
-        self._suffixes: Optional[bytes] = None
+        self._suffixes: Optional[_Suffixes] = None
         self._limit: Optional[int] = None
         self._strict = False
         self._buffer = ctypes.create_string_buffer(4096)
@@ -119,28 +139,38 @@ class CookieStore:
     def __exit__(self, *_: object) -> None:
         self.close()
 
-    def use_suffixes(self, suffixes: Text) -> None:
-        """Set the public suffix list, in the format of publicsuffix.org.
+    def use_suffixes(self, suffixes: Optional[Text] = None, *, path: Optional[Path] = None, only_listed: bool = False) -> None:
+        """Set the public suffix list: domains such as co.uk, for all of which no server may set a cookie.
 
-        Stored cookies stay. A domain that no rule matches is not a public suffix. To list top-level
-        domains that have no rule of their own, such as np, append a line with the rule *. A string
-        without rules is a list that protects nothing, and no error.
+            store.use_suffixes()                 # that of the system: Debian's package publicsuffix
+            store.use_suffixes(path='list.dat')  # a file
+            store.use_suffixes('com\nco.uk\n')   # a string
 
-        Raises BadRule with the number of the first malformed line.
+        The list is in the format of publicsuffix.org. A domain that no rule matches is a public
+        suffix if it has one label, as by the rule *, which is added to the list unless only_listed is
+        true. Stored cookies stay.
+
+        Raises BadRule with the number of the first line that cannot be a rule, NO_RULES for a list
+        without rules, TypeError if both suffixes and path are passed, and OSError if the file cannot
+        be read.
         """
-        rules, line = _bytes(suffixes), ctypes.c_size_t()
+        if suffixes is not None and path is not None:
+            raise TypeError('use_suffixes() takes suffixes or path, not both')
+        rules, line = _suffix_list(path) if suffixes is None else _bytes(suffixes), ctypes.c_size_t()
+        only_listed = bool(only_listed)
         with self._lock:
-            number = LIBRARY.cookie_store_use_suffixes(self._at, rules, len(rules), line)
+            number = LIBRARY.cookie_store_use_suffixes(self._at, rules, len(rules), only_listed, line)
             if number == Status.BAD_RULE:
                 raise BadRule(line.value)
             check(number)
-            self._suffixes = rules
+            self._suffixes = rules, only_listed
 
     def set_domain_limit(self, limit: int) -> None:
         """Limit each domain to at most limit cookies.
 
         From now on, before a cookie is inserted, cookies of its domain are evicted until it fits:
-        first the expired ones, then the others, both in creation order.
+        first the expired ones, then the others, both in creation order. A strict store evicts Secure
+        cookies that have not expired last.
 
         Raises BAD_LIMIT if limit is less than 1.
         """
@@ -162,8 +192,9 @@ class CookieStore:
 
         Browsers follow them. A strict store rejects more cookies, as class Status lists, ignores
         attributes whose value is longer than 1,024 bytes, and lets a cookie expire at most 400 days
-        after it was received. Stored cookies stay. docs/STRICT.md has the rules, and which ones are
-        left out.
+        after it was received. With a public suffix list, the domain of a cookie may not be above the
+        site of the host that sets it. Stored cookies stay. docs/STRICT.md has the rules, and which
+        ones are left out.
         """
         strict = bool(strict)
         with self._lock:
@@ -184,23 +215,28 @@ class CookieStore:
             check(number)
         return Status(number)
 
-    def _set_all(self, pairs: Iterable[Tuple[str, str]], now: int) -> None:
-        """Insert the cookies of pairs of a URL and a header value, except those that are rejected or not valid."""
-        insert = LIBRARY.cookie_store_set
+    def _set_all(self, pairs: Iterable[Tuple[str, str]], now: int) -> List[Tuple[str, str, Status]]:
+        """Insert the cookies of pairs of a host and a header value. Return those that are rejected, with the reasons."""
+        insert, rejected = LIBRARY.cookie_store_set, []
         with self._lock:
             self._cookies = None
-            for url, value in pairs:
-                page, cookie = url.encode(), value.encode()
+            for host, value in pairs:
+                page, cookie = f'https://{host}/'.encode(), value.encode()
                 number = insert(self._at, page, len(page), cookie, len(cookie), now)
-                if not is_reply(number) and number != Status.BAD_URL:
-                    check(number)
+                if number >= 10:
+                    if not is_reply(number) and number != Status.BAD_URL:
+                        check(number)
+                    rejected.append((host, value, Status(number)))
+        return rejected
 
     def header(self, url: Text, now: Optional[int] = None, *, same_site: bool = True, top_level: bool = False,
                lax_by_default: bool = True) -> str:
         """Return the value of the Cookie header of a request for url, or '' if none is to be sent.
 
         The cookies are in the order of RFC 6265 5.4: longer paths first, then in creation order.
-        The value may hold control characters if a cookie did not come as a line of an HTTP header.
+        The value may have control characters if a cookie did not come as a line of an HTTP header: check
+        it before you write it to a connection. The jars and clients of this package leave such cookies
+        out.
 
         If same_site is false, the request comes from a page of another site, or from a page in a
         frame of one: cookies with SameSite=Strict are left out, and those with SameSite=Lax unless
@@ -401,10 +437,12 @@ class CookieStore:
         return type(self), self.save_ron(all=True), self._strict, self._suffixes, self._limit
 
 
-def _restore(cls: Type[CookieStore], text: str, strict: bool, suffixes: Optional[bytes], limit: Optional[int]) -> CookieStore:
+def _restore(cls: Type[CookieStore], text: str, strict: bool, suffixes: Optional[_Suffixes],
+             limit: Optional[int]) -> CookieStore:
     store = cls.load_ron(text, all=True, strict=strict)
     if suffixes is not None:
-        store.use_suffixes(suffixes)
+        rules, only_listed = suffixes
+        store.use_suffixes(rules, only_listed=only_listed)
     if limit is not None:
         store.set_domain_limit(limit)
     return store

@@ -9,8 +9,9 @@ import yarl
 from aiohttp.abc import AbstractCookieJar
 
 from ._cookies import unexpired
-from ._messages import header_for, receive
+from ._messages import header_for, log_not_sent, receive
 from ._store import Cookie, CookieStore
+from ._urls import Target, target_of_parts
 
 
 def _morsel(name: str, value: str) -> Optional[Morsel[str]]:
@@ -21,6 +22,10 @@ def _morsel(name: str, value: str) -> Optional[Morsel[str]]:
     except CookieError:
         return None
     return morsel
+
+
+def _target(url: yarl.URL) -> Target:
+    return target_of_parts(url.scheme, url.raw_host or '', url.raw_path)
 
 
 class StoreCookieJar(AbstractCookieJar):
@@ -60,15 +65,20 @@ class StoreCookieJar(AbstractCookieJar):
     def update_cookies_from_headers(self, headers: Iterable[str], response_url: yarl.URL) -> None:
         """Store the cookies of Set-Cookie headers, which newer versions of aiohttp pass."""
         for header in headers:
-            receive(self.store, str(response_url), header.encode('utf-8', 'surrogateescape'))
+            receive(self.store, _target(response_url), header.encode('utf-8', 'surrogateescape'))
 
     def filter_cookies(self, request_url: yarl.URL) -> BaseCookie[str]:
         """Return the cookies of a request for request_url."""
         cookies: BaseCookie[str] = SimpleCookie()
-        for pair in filter(None, header_for(self.store, str(request_url)).split('; ')):
+        target = _target(request_url)
+        for pair in filter(None, header_for(self.store, target).split('; ')):
             name, _, value = pair.partition('=')
             morsel = _morsel(name, value)
-            if morsel is not None and name not in cookies:
+            if morsel is None:
+                log_not_sent(target.host, name, 'http.cookies does not allow it')
+            elif name in cookies:
+                log_not_sent(target.host, name, 'another cookie has this name')
+            else:
                 cookies[name] = morsel
         return cookies
 

@@ -6,8 +6,13 @@ from typing import Union
 
 import httpx
 
-from ._messages import header_for, receive
+from ._messages import header_for, log_not_sent, receive
 from ._store import CookieStore
+from ._urls import Target, target_of_parts
+
+
+def _target(url: httpx.URL) -> Target:
+    return target_of_parts(url.scheme, url.raw_host.decode('ascii'), url.raw_path.decode('ascii').partition('?')[0])
 
 
 def use_store(client: Union[httpx.Client, httpx.AsyncClient], store: CookieStore) -> None:
@@ -16,12 +21,15 @@ def use_store(client: Union[httpx.Client, httpx.AsyncClient], store: CookieStore
         with httpx.Client(follow_redirects=True) as client:
             use_store(client, CookieStore())
 
-    It adds event hooks to the client. The cookies of responses are not in client.cookies, and those
-    that are set there, or passed to a single request, are not sent: set them in the store.
+    It adds event hooks to the client: do not assign client.event_hooks afterwards. The cookies of
+    responses are not in client.cookies, and those that are set there, or passed to a single request,
+    are not sent: set them in the store.
     """
     def before(request: httpx.Request) -> None:
-        request.headers.pop('Cookie', None)
-        header = header_for(store, str(request.url))
+        target = _target(request.url)
+        for pair in filter(None, request.headers.pop('Cookie', '').split('; ')):
+            log_not_sent(target.host, pair.partition('=')[0], 'it is not of the store')
+        header = header_for(store, target)
         if header:
             request.headers.encoding = 'utf-8'  # it may be that of earlier headers, ASCII
             request.headers['Cookie'] = header
@@ -29,7 +37,7 @@ def use_store(client: Union[httpx.Client, httpx.AsyncClient], store: CookieStore
     def after(response: httpx.Response) -> None:
         for name, value in response.headers.raw:
             if name.lower() == b'set-cookie':
-                receive(store, str(response.request.url), value)
+                receive(store, _target(response.request.url), value)
 
     async def async_before(request: httpx.Request) -> None:
         before(request)

@@ -2,8 +2,16 @@
 import email.message
 import http.cookiejar
 import http.server
+import shutil
+import socket
+import ssl
+import subprocess
+import tempfile
 import threading
+import unittest
+import urllib.parse
 import urllib.request
+from unittest import mock
 
 from cookie_store import StoreJar
 
@@ -115,11 +123,73 @@ class Page(http.server.BaseHTTPRequestHandler):
         pass
 
 
-def start_server(test, handler=Page):
-    """Return a server, with the requests that it received in visits, that is stopped when the test ends."""
+class Echo(http.server.BaseHTTPRequestHandler):
+    """Sends the Cookie header back, and records it. `?c=VALUE` sets a cookie, `?to=URL` redirects."""
+
+    def do_GET(self):
+        url = urllib.parse.urlsplit(self.path)
+        arguments = urllib.parse.parse_qs(url.query)
+        cookie = self.headers['Cookie']
+        self.server.visits.append((self.headers['Host'].rsplit(':', 1)[0], url.path, cookie))
+        self.server.headers.append(self.headers)
+        body = (cookie or '').encode('latin-1')
+        self.send_response(302 if 'to' in arguments else 200)
+        for text in arguments.get('c', []):
+            self.send_header('Set-Cookie', text)
+        for text in arguments.get('to', []):
+            self.send_header('Location', text)
+        self.send_header('Content-Length', str(len(body)))
+        self.end_headers()
+        self.wfile.write(body)
+
+    def log_message(self, *_):
+        pass
+
+
+def query(url, **arguments):
+    """Return a URL with arguments. A list stands for several of the same name."""
+    return f'{url}?{urllib.parse.urlencode(arguments, doseq=True)}'
+
+
+def resolve_to_server(test):
+    """Let every host name be 127.0.0.1 until the test ends."""
+    resolve = socket.getaddrinfo
+
+    def on_this_machine(_, *arguments, **words):
+        return resolve('127.0.0.1', *arguments, **words)
+
+    patch = mock.patch('socket.getaddrinfo', on_this_machine)
+    patch.start()
+    test.addCleanup(patch.stop)
+
+
+def make_certificate(test):
+    """Return the files of a certificate of a.example and the hosts below it, and of its key."""
+    if shutil.which('openssl') is None:
+        raise unittest.SkipTest('there is no openssl')
+    folder = tempfile.TemporaryDirectory()
+    test.addCleanup(folder.cleanup)
+    files = f'{folder.name}/certificate.pem', f'{folder.name}/key.pem'
+    subprocess.run(['openssl', 'req', '-x509', '-newkey', 'ec', '-pkeyopt', 'ec_paramgen_curve:P-256', '-nodes', '-days', '2',
+                    '-subj', '/CN=a.example', '-addext', 'subjectAltName=DNS:a.example,DNS:*.a.example',
+                    '-out', files[0], '-keyout', files[1]], check=True, capture_output=True)
+    return files
+
+
+def server_context(files):
+    """Return the TLS context of a server with this certificate and key."""
+    context = ssl.SSLContext(ssl.PROTOCOL_TLS_SERVER)
+    context.load_cert_chain(*files)
+    return context
+
+
+def start_server(test, handler=Page, context=None):
+    """Return a server that is stopped when the test ends, with what it received in visits and headers."""
     server = http.server.ThreadingHTTPServer(('127.0.0.1', 0), handler)
     server.daemon_threads = True
-    server.visits = []
+    server.visits, server.headers = [], []
+    if context is not None:
+        server.socket = context.wrap_socket(server.socket, server_side=True)
     test.addCleanup(server.server_close)
     thread = threading.Thread(target=server.serve_forever, kwargs={'poll_interval': 0.05}, daemon=True)
     thread.start()

@@ -5,14 +5,14 @@ import pickle
 import unittest
 import urllib.request
 
-from support import LEFT, SECONDS, VISITS, in_threads, jar_of, keys, start_server
+from support import LEFT, SECONDS, VISITS, Echo, in_threads, jar_of, keys, query, resolve_to_server, start_server
 
 from cookie_store import CookieStore, NoDomain, StoreJar
 
 try:
     import requests
 
-    from cookie_store.requests import StoreAdapter, use_store as use_in_session
+    from cookie_store.requests import use_store as use_in_session
 except ImportError:
     requests = None
 try:
@@ -92,23 +92,14 @@ class RequestsTests(ServerTests):
     def test_use_store(self):
         """The store's header is sent, also if http.cookiejar would choose other cookies."""
         store = CookieStore()
-        use_in_session(self.session, store, max_retries=0)
+        use_in_session(self.session, store)
         self.session.get(self.begin, timeout=SECONDS)
         self.assert_followed(self.session.cookies)
         self.assertIs(self.session.cookies.store, store)
         self.server.visits.clear()
         store.set(self.url('localhost', '/'), 's=1; Secure')
-        self.session.get(self.url('localhost', '/own/x'), cookies={'mine': '1'}, headers={'Cookie': 'own=1'}, timeout=SECONDS)
-        store.clear()
-        self.session.get(self.url('localhost', '/none'), headers={'Cookie': 'own=1'}, timeout=SECONDS)
-        self.assertEqual(self.server.visits, [('localhost', '/own/x', 'c=3; s=1'), ('localhost', '/none', None)])
-
-    def test_adapter(self):
-        self.session.cookies = jar = StoreJar()
-        self.session.mount('http://', StoreAdapter(jar, max_retries=0))
-        jar.store.set(self.url('localhost', '/'), 's=1; Secure')
         self.session.get(self.url('localhost', '/own/x'), timeout=SECONDS)
-        self.assertEqual(self.server.visits, [('localhost', '/own/x', 's=1')])
+        self.assertEqual(self.server.visits, [('localhost', '/own/x', 'c=3; s=1')])
 
     def test_copies(self):
         """A copy of a session by copy.copy() has the same jar; other copies have their own."""
@@ -156,6 +147,18 @@ class HttpxTests(ServerTests):
             self.assertEqual(self.server.visits, [('localhost', '/own/x', 'c=3; s=1'), ('localhost', '/none', None)])
             self.assertEqual(len(client.cookies), 0)
 
+    def test_later_changes(self):
+        """A host-only cookie goes to no other host, whatever is assigned to the client later."""
+        resolve_to_server(self)
+        server = start_server(self, Echo)
+        for name, value in [('event_hooks', {}), ('cookies', {}), ('cookies', None), ('headers', {'Cookie': 'own=1'})]:
+            with httpx.Client(trust_env=False, timeout=SECONDS) as client:
+                use_in_client(client, CookieStore())
+                setattr(client, name, value)
+                client.get(query(f'http://a.example:{server.server_port}/x', c='only=1'))
+                client.get(f'http://b.a.example:{server.server_port}/x')
+            self.assertNotIn('only', server.visits.pop()[2] or '', name)
+
     def test_async_client(self):
         store = CookieStore()
 
@@ -191,6 +194,17 @@ class AiohttpTests(ServerTests):
                 visits.append((host, path, '; '.join(pairs) or None))
             self.assertEqual(self.server.visits, visits)
             self.assertEqual(keys(StoreJar(jar.store)), LEFT[:-1] if drops else LEFT)
+
+        self.run_with_jar(work)
+
+    def test_own_cookies(self):
+        """Cookies and a header of a single request are sent with those of the store, and not stored."""
+        async def work(jar, session):
+            jar.store.set(self.begin, 'a=1; Path=/')
+            await (await session.get(self.url('localhost', '/first'), cookies={'mine': '2'})).read()
+            await (await session.get(self.url('localhost', '/second'), headers={'Cookie': 'own=3'})).read()
+            await (await session.get(self.url('localhost', '/third'))).read()
+            self.assertEqual([cookie for _, _, cookie in self.server.visits], ['a=1; mine=2', 'a=1; own=3', 'a=1'])
 
         self.run_with_jar(work)
 

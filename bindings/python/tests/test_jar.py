@@ -45,7 +45,9 @@ TAKEN = [
 
 NOT_TAKEN = [
     (python_cookie(''), Status.BAD_URL),
-    (python_cookie('a b'), Status.BAD_URL),
+    *((python_cookie(domain), Status.BAD_URL) for domain in (
+        'a b', 'a.example/x', 'a.example#x', 'a.example?x', 'u@a.example', 'localhost\\@a.example', 'a.example:80',
+        '%61.example', 'a.example\n', '[::1', '1.2.3.300')),
     (python_cookie('a.example', name=''), Status.PARSE),
     (python_cookie('a.example', name='a=b'), Status.PARSE),
     (python_cookie('a.example', value='1; Domain=example'), Status.PARSE),

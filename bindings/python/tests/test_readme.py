@@ -45,7 +45,9 @@ class ReadmeTests(unittest.TestCase):
             self.assertIn(host, ('example.com', b'example.com'))
             return RESOLVE('127.0.0.1', port, *arguments, **words)
 
-        patches = [mock.patch('socket.getaddrinfo', resolve), mock.patch.dict(os.environ, no_proxy='*')]
+        pathlib.Path('list.dat').write_text('co.uk\n')
+        patches = [mock.patch('socket.getaddrinfo', resolve), mock.patch.dict(os.environ, no_proxy='*'),
+                   mock.patch('cookie_store._store.SYSTEM_SUFFIXES', 'list.dat')]
         with contextlib.suppress(ImportError):
             import aiohttp
             patches.append(mock.patch('aiohttp.connector.DefaultResolver', aiohttp.ThreadedResolver))

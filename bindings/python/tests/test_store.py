@@ -1,7 +1,9 @@
 """Tests of CookieStore: tables list the calls with their statuses."""
 import gc
 import os
+import pathlib
 import pickle
+import tempfile
 import time
 import unittest
 from unittest import mock
@@ -10,6 +12,7 @@ from support import NOW, PAGE, SECONDS, in_threads
 
 from cookie_store import BadRule, Cookie, CookieStore, CookieStoreError, Status
 from cookie_store._library import LIBRARY
+from cookie_store._store import SYSTEM_SUFFIXES
 
 FIRST, LAST = -377705116800, 253402300799  # the years -9999 and 9999
 
@@ -28,6 +31,30 @@ SETS = [
     (b'http://a.example/', b'', Status.PARSE),
     ('http://a.example/', 'a=1; Domain=example', Status.PUBLIC_SUFFIX),
     ('http://example/', 'a=1; Domain=example', Status.INSERTED),
+]
+
+# Public suffix lists, with the status of a cookie for all of co.uk, of unlisted, and of example, each from a host below.
+LISTS = [
+    ({'suffixes': 'co.uk\n'}, 'PUBLIC_SUFFIX', 'PUBLIC_SUFFIX', 'PUBLIC_SUFFIX'),
+    ({'suffixes': b'co.uk\n'}, 'PUBLIC_SUFFIX', 'PUBLIC_SUFFIX', 'PUBLIC_SUFFIX'),
+    ({'suffixes': 'co.uk\n', 'only_listed': True}, 'PUBLIC_SUFFIX', 'INSERTED', 'INSERTED'),
+    ({'suffixes': 'example\n', 'only_listed': True}, 'INSERTED', 'INSERTED', 'PUBLIC_SUFFIX'),
+    ({'suffixes': 'example\n'}, 'INSERTED', 'PUBLIC_SUFFIX', 'PUBLIC_SUFFIX'),
+]
+
+# What is no public suffix list, with the status and the line.
+NO_LISTS = [
+    ('/usr/share/publicsuffix/public_suffix_list.dat', Status.BAD_RULE, 1),
+    ('public_suffix_list.dat:1', Status.BAD_RULE, 1),
+    ('<!DOCTYPE html>\n<html><body>Not found</body></html>\n', Status.BAD_RULE, 1),
+    ('com\n<p>Not found</p>\n', Status.BAD_RULE, 2),
+    ('{"error": 1}', Status.BAD_RULE, 1),
+    ('error=1', Status.BAD_RULE, 1),
+    ('user@a.example', Status.BAD_RULE, 1),
+    ('a..b', Status.BAD_RULE, 1),
+    ('', Status.NO_RULES, None),
+    (b'', Status.NO_RULES, None),
+    ('\n// a comment\n', Status.NO_RULES, None),
 ]
 
 # Set one after the other in one strict store.
@@ -101,7 +128,7 @@ RAISES = [
 CLOSED = [
     ('set', lambda store: store.set(PAGE, 'a=1')),
     ('header', lambda store: store.header(PAGE)),
-    ('use_suffixes', lambda store: store.use_suffixes('')),
+    ('use_suffixes', lambda store: store.use_suffixes('com')),
     ('header, cross-site', lambda store: store.header(PAGE, same_site=False)),
     ('set_domain_limit', lambda store: store.set_domain_limit(1)),
     ('set_strict', lambda store: store.set_strict(True)),
@@ -172,10 +199,67 @@ class StoreTests(unittest.TestCase):
                 with self.subTest(name), self.assertRaises((TypeError, AttributeError)):
                     call()
 
+    def assert_suffixes(self, store, *wanted):
+        """Check the statuses of cookies for co.uk, unlisted and example."""
+        names = [store.set(f'http://a.{domain}/', f'a=1; Domain={domain}', NOW).name
+                 for domain in ('co.uk', 'unlisted', 'example')]
+        self.assertEqual(names, list(wanted))
+
+    def test_suffixes(self):
+        for words, *wanted in LISTS:
+            store = CookieStore()
+            self.assertIsNone(store.use_suffixes(**words))
+            copied = store.copy()
+            for one in (store, copied, pickle.loads(pickle.dumps(copied))):
+                with self.subTest(words):
+                    self.assert_suffixes(one, *wanted)
+
+    def test_no_suffixes(self):
+        """What is no list raises, and the list before stays."""
+        for text, status, line in NO_LISTS:
+            store = CookieStore()
+            store.use_suffixes('co.uk\n', only_listed=True)
+            with self.subTest(text), self.assertRaises(CookieStoreError) as raised:
+                store.use_suffixes(text)
+            self.assertEqual((raised.exception.status, getattr(raised.exception, 'line', None)), (status, line), text)
+            self.assert_suffixes(store, 'PUBLIC_SUFFIX', 'INSERTED', 'INSERTED')
+
     def test_bad_rule(self):
         with CookieStore() as store, self.assertRaises(BadRule) as raised:
             store.use_suffixes('example\na..b\n')
         self.assertEqual((raised.exception.line, str(raised.exception)), (2, 'a line of the list is not a rule (line 2)'))
+
+    def test_suffixes_of_a_file(self):
+        with tempfile.TemporaryDirectory() as folder:
+            path = pathlib.Path(folder, 'list.dat')
+            path.write_bytes(b'// gr\xc3\xbcn\nco.uk\n')
+            for name in (path, str(path), os.fsencode(path)):
+                store = CookieStore()
+                store.use_suffixes(path=name, only_listed=True)
+                self.assert_suffixes(store, 'PUBLIC_SUFFIX', 'INSERTED', 'INSERTED')
+            path.write_bytes(b'com\n<p>')
+            with self.assertRaises(BadRule):
+                store.use_suffixes(path=path)
+            for call, kind in [(lambda: store.use_suffixes(path=path.with_name('none')), FileNotFoundError),
+                               (lambda: store.use_suffixes('com', path=path), TypeError),
+                               (lambda: store.use_suffixes('', path=path), TypeError),
+                               (lambda: store.use_suffixes(path), TypeError), (lambda: store.use_suffixes(['com']), TypeError)]:
+                with self.assertRaises(kind):
+                    call()
+            self.assert_suffixes(store, 'PUBLIC_SUFFIX', 'UPDATED', 'UPDATED')
+
+    @unittest.skipUnless(os.path.exists(SYSTEM_SUFFIXES), 'publicsuffix is not installed')
+    def test_suffixes_of_the_system(self):
+        store = CookieStore()
+        store.use_suffixes()
+        self.assert_suffixes(store, 'PUBLIC_SUFFIX', 'PUBLIC_SUFFIX', 'PUBLIC_SUFFIX')
+        store.use_suffixes(only_listed=True)
+        self.assert_suffixes(store, 'PUBLIC_SUFFIX', 'INSERTED', 'INSERTED')
+
+    def test_no_suffixes_of_the_system(self):
+        with mock.patch('cookie_store._store.SYSTEM_SUFFIXES', '/none/list.dat'):
+            with self.assertRaisesRegex(FileNotFoundError, 'publicsuffix.*/none/list.dat'):
+                CookieStore().use_suffixes()
 
     def test_hash_keys(self):
         """New and loaded stores hash by random keys."""
@@ -188,7 +272,7 @@ class StoreTests(unittest.TestCase):
 
     def test_newer_statuses(self):
         """A status that only a newer library has means what its range means."""
-        for number, is_error in [(4, False), (19, False), (37, True), (46, False)]:
+        for number, is_error in [(4, False), (19, False), (38, True), (47, False)]:
             with self.subTest(number), mock.patch.object(LIBRARY, 'cookie_store_set', lambda *_: number), CookieStore() as store:
                 if is_error:
                     with self.assertRaises(CookieStoreError) as raised:

@@ -1,4 +1,4 @@
-use std::fmt;
+use std::{fmt, io};
 
 use crate::sys;
 
@@ -19,7 +19,8 @@ pub enum Error {
     /// The header value is not a cookie, or its Domain attribute is not a domain name; or a list to
     /// load has an entry that is not a cookie.
     Parse,
-    /// The domain of the cookie is a public suffix, and is not the host of the URL.
+    /// The domain of the cookie is a public suffix, and is not the host of the URL. In a strict store
+    /// with a list: it is above the site of that host.
     PublicSuffix,
 
     /// Strict store: the header value has a control character other than HTAB.
@@ -37,11 +38,17 @@ pub enum Error {
     /// Strict store: neither the cookie nor the URL is secure, and the cookie would overlay a stored
     /// Secure cookie.
     SecureStored,
+    /// Strict store: the cookie is not Secure, and its domain has as many unexpired Secure cookies as
+    /// the domain limit allows.
+    SecureLimit,
 
     /// Out of memory.
     NoMemory,
-    /// The URL is not valid.
+    /// The URL is not valid, or parsers read different hosts from it.
     BadUrl,
+    /// A string is not UTF-8. The methods of this crate take `&str`: only what reads files and headers
+    /// returns it.
+    NotUtf8,
     /// The time is not in the years -9999 to 9999.
     BadTime,
     /// A line of the public suffix list is not a rule.
@@ -49,6 +56,8 @@ pub enum Error {
         /// The number of the first malformed line, from 1.
         line: usize,
     },
+    /// The public suffix list has no rules.
+    NoRules,
     /// The list to load is not JSON.
     BadJson,
     /// The list to load is JSON, but not a list of cookies.
@@ -87,6 +96,7 @@ impl Error {
                 | Error::InsecureSameSiteNone
                 | Error::Prefix
                 | Error::SecureStored
+                | Error::SecureLimit
                 | Error::Unexpected(10..=19 | 40..)
         )
     }
@@ -106,10 +116,13 @@ impl Error {
             sys::COOKIE_STORE_INSECURE_SAME_SITE_NONE => Error::InsecureSameSiteNone,
             sys::COOKIE_STORE_PREFIX => Error::Prefix,
             sys::COOKIE_STORE_SECURE_STORED => Error::SecureStored,
+            sys::COOKIE_STORE_SECURE_LIMIT => Error::SecureLimit,
             sys::COOKIE_STORE_NO_MEMORY => Error::NoMemory,
             sys::COOKIE_STORE_BAD_URL => Error::BadUrl,
+            sys::COOKIE_STORE_NOT_UTF8 => Error::NotUtf8,
             sys::COOKIE_STORE_BAD_TIME => Error::BadTime,
             sys::COOKIE_STORE_BAD_RULE => Error::BadRule { line },
+            sys::COOKIE_STORE_NO_RULES => Error::NoRules,
             sys::COOKIE_STORE_BAD_JSON => Error::BadJson,
             sys::COOKIE_STORE_BAD_SHAPE => Error::BadShape,
             sys::COOKIE_STORE_BAD_RON => Error::BadRon,
@@ -136,12 +149,15 @@ impl fmt::Display for Error {
             Error::InsecureSameSiteNone => "SameSite=None, and not Secure",
             Error::Prefix => "lacks what the prefix of its name demands",
             Error::SecureStored => "a Secure cookie with its name is stored",
+            Error::SecureLimit => "the domain has its limit of Secure cookies",
             Error::NoMemory => "out of memory",
             Error::BadUrl => "not a valid URL",
+            Error::NotUtf8 => "not UTF-8",
             Error::BadTime => "the time is out of range",
             Error::BadRule { line } => {
                 return write!(f, "a line of the list is not a rule (line {line})")
             }
+            Error::NoRules => "the public suffix list has no rules",
             Error::BadJson => "not JSON",
             Error::BadShape => "JSON, but not a list of cookies",
             Error::BadRon => "not a list of cookies in RON",
@@ -156,6 +172,18 @@ impl fmt::Display for Error {
 }
 
 impl std::error::Error for Error {}
+
+/// The error of a file with such content: [`InvalidData`](io::ErrorKind::InvalidData), or
+/// [`OutOfMemory`](io::ErrorKind::OutOfMemory).
+impl From<Error> for io::Error {
+    fn from(error: Error) -> io::Error {
+        let kind = match error {
+            Error::NoMemory => io::ErrorKind::OutOfMemory,
+            _ => io::ErrorKind::InvalidData,
+        };
+        io::Error::new(kind, error)
+    }
+}
 
 /// Returns the error of a status other than OK.
 pub(crate) fn check(status: sys::cookie_store_status, line: usize) -> Result<(), Error> {
@@ -184,11 +212,26 @@ mod tests {
         for (error, expected) in [
             (Error::NoMemory, false),
             (Error::Unexpected(19), true),
-            (Error::Unexpected(37), false),
-            (Error::Unexpected(46), true),
+            (Error::NoRules, false),
+            (Error::NotUtf8, false),
+            (Error::Unexpected(38), false),
+            (Error::SecureLimit, true),
+            (Error::Unexpected(47), true),
         ] {
             assert_eq!(error.is_rejection(), expected, "{error}");
         }
+    }
+
+    #[test]
+    fn errors_of_files_have_a_kind() {
+        let error = io::Error::from(Error::BadRule { line: 2 });
+        assert_eq!(error.kind(), io::ErrorKind::InvalidData);
+        assert_eq!(
+            error.to_string(),
+            "a line of the list is not a rule (line 2)"
+        );
+        let error = io::Error::from(Error::NoMemory);
+        assert_eq!(error.kind(), io::ErrorKind::OutOfMemory);
     }
 
     /// The texts are those of `cookie_store_status_text`.

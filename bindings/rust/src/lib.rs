@@ -47,7 +47,7 @@ mod time;
 
 pub use cookie::Cookie;
 pub use error::Error;
-pub use store::{CookieStore, CrossSite, StoreAction};
+pub use store::{CookieStore, CrossSite, StoreAction, SYSTEM_SUFFIX_FILE};
 
 #[cfg(doctest)]
 #[doc = include_str!("../README.md")]

@@ -2,14 +2,19 @@ use std::collections::hash_map::RandomState;
 use std::fmt;
 use std::hash::{BuildHasher, Hasher};
 use std::num::NonZeroUsize;
-use std::ptr;
+use std::path::Path;
 use std::time::SystemTime;
+use std::{fs, io, ptr};
 
 use crate::buffer::{grow, string, take, HEADER};
 use crate::error::check;
 use crate::sys::{self, cookie_store_row, cookie_store_status};
 use crate::time::{seconds, time_at};
 use crate::{Cookie, Error};
+
+/// The public suffix list that Debian's package `publicsuffix` installs, for
+/// [`CookieStore::use_suffix_file`].
+pub const SYSTEM_SUFFIX_FILE: &str = "/usr/share/publicsuffix/public_suffix_list.dat";
 
 /// What [`CookieStore::parse`] did.
 #[derive(Clone, Copy, Debug, PartialEq, Eq)]
@@ -80,22 +85,69 @@ impl CookieStore {
         })
     }
 
-    /// Sets the public suffix list, in the format of publicsuffix.org, in place of the one before.
+    /// Sets the public suffix list, in the format of publicsuffix.org, in place of the one before,
+    /// and adds the rule `*`, as publicsuffix.org specifies: a top-level domain without a rule of its
+    /// own, such as `np`, is a public suffix too.
     ///
-    /// From now on a cookie whose Domain attribute is a public suffix on the list is rejected,
-    /// unless it comes from that very host; then it is stored as a host-only cookie. Stored cookies
-    /// stay. A domain that no rule matches is not a public suffix: to list the top-level domains
-    /// that have no rule of their own, such as `np`, append a line with the rule `*`. A string
-    /// without rules is a list that protects nothing, and no error.
+    /// From now on a cookie whose Domain attribute is a public suffix is rejected, unless it comes
+    /// from that very host; then it is stored as a host-only cookie. Stored cookies stay.
+    ///
+    /// `list` is the content of a file, and [`use_suffix_file`](CookieStore::use_suffix_file) takes its
+    /// path. A line has one rule, such as `co.uk`, `*.ck` or `!www.ck`, and what follows white space is
+    /// ignored. Lines without a rule and lines that begin with `//` are skipped. A line is malformed if
+    /// its rule has an empty label or one of the characters `/ < { " : @ =`, so that a path with a slash,
+    /// an HTML page or a JSON document is an error.
     ///
     /// # Errors
     ///
-    /// [`Error::BadRule`], [`Error::NoMemory`].
+    /// [`Error::BadRule`], [`Error::NoRules`], [`Error::NoMemory`].
     pub fn use_suffixes(&mut self, list: &str) -> Result<(), Error> {
+        self.set_suffixes(list, false)
+    }
+
+    /// Sets the public suffix list as [`use_suffixes`](CookieStore::use_suffixes) does, but does not
+    /// add the rule `*`: a domain that no rule of the list matches is not a public suffix.
+    ///
+    /// # Errors
+    ///
+    /// Those of [`use_suffixes`](CookieStore::use_suffixes).
+    pub fn use_only_listed_suffixes(&mut self, list: &str) -> Result<(), Error> {
+        self.set_suffixes(list, true)
+    }
+
+    /// Sets the public suffix list to the content of a file, as
+    /// [`use_suffixes`](CookieStore::use_suffixes) does. [`SYSTEM_SUFFIX_FILE`] is the one of the
+    /// machine.
+    ///
+    /// ```no_run
+    /// use pulleymaroon::{CookieStore, SYSTEM_SUFFIX_FILE};
+    ///
+    /// let mut store = CookieStore::new()?;
+    /// store.use_suffix_file(SYSTEM_SUFFIX_FILE)?;
+    /// # Ok::<(), Box<dyn std::error::Error>>(())
+    /// ```
+    ///
+    /// # Errors
+    ///
+    /// Those of reading the file. If its content is not a list, the kind is
+    /// [`InvalidData`](io::ErrorKind::InvalidData), and [`get_ref`](io::Error::get_ref) is the
+    /// [`Error`]: [`Error::NotUtf8`] or one of [`use_suffixes`](CookieStore::use_suffixes).
+    pub fn use_suffix_file(&mut self, path: impl AsRef<Path>) -> io::Result<()> {
+        let list = String::from_utf8(fs::read(path)?).map_err(|_| Error::NotUtf8)?;
+        Ok(self.use_suffixes(&list)?)
+    }
+
+    fn set_suffixes(&mut self, list: &str, only_listed: bool) -> Result<(), Error> {
         let mut line = 0;
         // SAFETY: see `CookieStore`.
         let status = unsafe {
-            sys::cookie_store_use_suffixes(&mut self.0, list.as_ptr().cast(), list.len(), &mut line)
+            sys::cookie_store_use_suffixes(
+                &mut self.0,
+                list.as_ptr().cast(),
+                list.len(),
+                only_listed,
+                &mut line,
+            )
         };
         check(status, line)
     }
@@ -103,7 +155,8 @@ impl CookieStore {
     /// Limits each domain to `limit` cookies, RFC 6265 6.1.
     ///
     /// From now on, before a cookie is inserted, cookies of its domain are evicted until it fits:
-    /// first the expired ones, then the others, both in creation order.
+    /// first the expired ones, then the others, both in creation order. A strict store evicts Secure
+    /// cookies that have not expired last.
     pub fn set_domain_limit(&mut self, limit: NonZeroUsize) {
         // The errors are that the handle is empty, and that the limit is 0.
         // SAFETY: see `CookieStore`.
@@ -115,7 +168,8 @@ impl CookieStore {
     /// A strict store follows the rules that the revision of RFC 6265, draft-ietf-httpbis-rfc6265bis,
     /// adds and browsers follow: [`Error`] lists what it rejects, attributes whose value is longer
     /// than 1,024 bytes are ignored, and a cookie expires at most 400 days after it was received.
-    /// Stored cookies stay.
+    /// With a public suffix list, the domain of a cookie may not be above the site of the host that
+    /// sets it. Stored cookies stay.
     pub fn set_strict(&mut self, strict: bool) {
         // The only error is that the handle is empty.
         // SAFETY: see `CookieStore`.
@@ -124,6 +178,9 @@ impl CookieStore {
 
     /// Parses a `Set-Cookie` header value received from `url` at `now`, and inserts the cookie,
     /// RFC 6265 5.3.
+    ///
+    /// The URL of a response to a WebSocket handshake is to begin with `http` or `https`, not with `ws`
+    /// or `wss`: the handshake is HTTP, and HttpOnly cookies are for HTTP alone.
     ///
     /// # Errors
     ///
@@ -158,8 +215,12 @@ impl CookieStore {
     /// or `None` if no such header is to be sent, RFC 6265 5.4.
     ///
     /// Cookies with longer paths come first; cookies with paths of equal length are in creation
-    /// order. A value that was not received in an HTTP header, for example one of a loaded list, may
-    /// have control characters.
+    /// order. The URL of a WebSocket handshake is to begin with `http` or `https`, not with `ws` or
+    /// `wss`, which have no HttpOnly cookies and no Secure ones.
+    ///
+    /// Names and values are as they were received. Those that did not come in an HTTP header, for
+    /// example in a loaded list, may have control characters, with which a header could end early and
+    /// begin another one. The `HeaderValue` of the crate `http` rejects them.
     ///
     /// # Errors
     ///

@@ -35,12 +35,14 @@ pub const COOKIE_STORE_BAD_RON: cookie_store_status = 33;
 pub const COOKIE_STORE_BAD_EXPIRY: cookie_store_status = 34;
 pub const COOKIE_STORE_BAD_LINE: cookie_store_status = 35;
 pub const COOKIE_STORE_UNREPRESENTABLE: cookie_store_status = 36;
+pub const COOKIE_STORE_NO_RULES: cookie_store_status = 37;
 pub const COOKIE_STORE_CONTROL_CHARACTER: cookie_store_status = 40;
 pub const COOKIE_STORE_TOO_LONG: cookie_store_status = 41;
 pub const COOKIE_STORE_INSECURE_URL: cookie_store_status = 42;
 pub const COOKIE_STORE_INSECURE_SAME_SITE_NONE: cookie_store_status = 43;
 pub const COOKIE_STORE_PREFIX: cookie_store_status = 44;
 pub const COOKIE_STORE_SECURE_STORED: cookie_store_status = 45;
+pub const COOKIE_STORE_SECURE_LIMIT: cookie_store_status = 46;
 
 #[repr(C)]
 #[derive(Debug)]
@@ -76,6 +78,7 @@ extern "C" {
         store: *mut cookie_store,
         list: *const c_char,
         list_len: usize,
+        only_listed: bool,
         bad_line: *mut usize,
     ) -> cookie_store_status;
     pub fn cookie_store_set_domain_limit(

@@ -1,5 +1,9 @@
 pub mod CookieStrings
 pub mod EarlyErrors
 pub mod Inserted
+pub mod Insertions
+pub mod KeyedRows
 pub mod LongerRuns
+pub mod OverlaidRows
 pub mod StyledTexts
+pub mod Walked

@@ -1,2 +1,5 @@
 pub mod CallViews
+pub mod Insertions
+pub mod Overlaid
 pub mod Responses
+pub mod SecureIndexes

@@ -12,20 +12,19 @@ ghost use Rattle.cookie_laws.specs.Contents.{contents_of, rows_in_order, unexpir
 ghost use Rattle.cookie_lookup.specs.SearchView.{domains_found, paths_found};
 ghost use Rattle.cookie_lookup.specs.Candidates.{most_domains, most_paths};
 ghost use Rattle.cookie_rows.specs.Building.{Builds, FailsFirst, ReachesNewRow};
-ghost use Rattle.cookie_rows.specs.Requests.{name_and_value};
 ghost use Rattle.cookie_laws.specs.Given.{given};
-ghost use Rattle.cookie_laws.specs.Header.{InHeaderOrder};
 ghost use Rattle.cookie_laws.specs.Rows.{are_rows, if_unexpired, key_at, unexpired_rows, row_of};
+ghost use Rattle.cookie_core.specs.SecureIndexes.{Indexes};
 ghost use Rattle.cookie_laws.specs.Runs.{step, Clear, Insert, IsReply, Remove, Removed, Set, Stored, UnlessMemory};
 
 use crate::insertion::{accept, owned_cookie, owned_raw_cookie};
+use crate::secure::{SecureIndex, with_cookie};
+use cookie_laws::kept_by_calls;
 use cookie_lookup::Lookups;
 use cookie_parts::{Cookie, CookieError, CookieResult, Error, StoreAction};
 use cookie_psl::List;
 use cookie_raw::RawCookie;
-use cookie_rows::{
-    HashKey, IterAny, IterUnexpired, RequestCookies, RequestValues, Rows, StoreAlloc,
-};
+use cookie_rows::{EvictionOrder, HashKey, IterAny, IterUnexpired, Rows, StoreAlloc};
 use jiff::civil::DateTime;
 use std::alloc::{AllocError, Global};
 use std::marker::Model;
@@ -45,13 +44,16 @@ pub struct CookieStore {
     alloc: Global,
     pub(crate) rows: Rows,
     pub(crate) suffixes: Option<List>,
-    limit: Option<usize>,
+    pub(crate) limit: Option<usize>,
+    pub(crate) secure: Option<SecureIndex>,
 }
 
 impl Model for CookieStore {
     ghost Value = { Contents };
 
     ghost view = { λ s. contents_of s.rows s.suffixes s.limit };
+
+    ghost invariant = { λ s. Indexes s.secure s.rows.rows };
 }
 
 impl Clone for CookieStore {
@@ -63,6 +65,7 @@ impl Clone for CookieStore {
             rows: self.rows.clone()?,
             suffixes: self.suffixes.clone()?,
             limit: self.limit,
+            secure: None,
         })
     }
 }
@@ -103,6 +106,7 @@ impl CookieStore {
             rows: Rows::new(alloc.into()),
             suffixes,
             limit: None,
+            secure: None,
         }
     }
 
@@ -218,9 +222,13 @@ impl CookieStore {
         ensures memory { result ≡ Err Memory
             → (step (Insert cookie.entry url.now (moment_of now)) self.old).reply ≡ Stored (Ok Inserted) }
     {
+        self.secure = with_cookie(self.secure.take(), &self.rows, &cookie);
+        // for the checker: what the index says of the cookie and the rows, it says of the rows after
+        kept_by_calls();
         accept(
             self.suffixes.as_ref(),
             self.limit,
+            EvictionOrder::ExpiredFirst,
             &mut self.rows,
             cookie,
             url,
@@ -321,6 +329,8 @@ impl CookieStore {
             ≡ (step (Remove (key_at domain.now path.now name.now)) self.old).reply }
         ensures store { self.new ≡ (step (Remove (key_at domain.now path.now name.now)) self.old).store }
     {
+        // for the checker: what the index says of the rows, it says of those that are left
+        kept_by_calls();
         self.rows.remove(domain, path, name)
     }
 
@@ -348,6 +358,7 @@ impl CookieStore {
         ensures store { self.new ≡ self.old }
         ensures memory { OnErr result (self.old.rows ≢ []) }
     {
+        self.secure = None;
         self.rows.set_hash_key(self.alloc, hash_key)
     }
 
@@ -355,6 +366,7 @@ impl CookieStore {
     pub fn clear(&mut self)
         ensures { self.new ≡ (step Clear self.old).store }
     {
+        self.secure = None;
         self.rows.clear();
     }
 
@@ -398,54 +410,6 @@ impl CookieStore {
         self.rows.given_counted(self.alloc, url, now)
     }
 
-    /// Returns the cookies that [`matches`](Self::matches) does, in the order of the Cookie header.
-    ///
-    /// Cookies with longer paths come first, and among equal lengths those created first, RFC 6265
-    /// 5.4 step 2. A cookie that replaces another keeps its place in creation order, even if that
-    /// one had expired and was not yet removed. Loaded cookies are created in the order of the
-    /// list. Allocates only if a cookie matches.
-    pub fn cookies_in_order(
-        &self,
-        url: &Url,
-        now: DateTime,
-    ) -> Result<Vec<&Cookie<'static>>, AllocError>
-        ensures order { IfOk result
-            (λ cookies. InHeaderOrder url.now (moment_of now) self.now (map (λ c. c.now) cookies.items)) }
-        ensures memory { OnErr result (given url.now (moment_of now) self.now.rows ≢ []) }
-    {
-        self.rows.in_header_order(self.alloc, url, now)
-    }
-
-    /// Returns the names and values of the cookies of [`matches`](Self::matches), in the same
-    /// order.
-    ///
-    /// Allocates only if a cookie matches.
-    pub fn get_request_values(
-        &self,
-        url: &Url,
-        now: DateTime,
-    ) -> Result<RequestValues<'_>, AllocError>
-        ensures values { IfOk result (λ values. values ≡ map name_and_value (given url.now (moment_of now) self.now.rows)) }
-        ensures memory { OnErr result (given url.now (moment_of now) self.now.rows ≢ []) }
-    {
-        self.rows.request_values(self.alloc, url, now)
-    }
-
-    /// Returns the raw cookies of the cookies of [`matches`](Self::matches), in the same order.
-    ///
-    /// Allocates only if a cookie matches.
-    #[deprecated(note = "use `get_request_values`")]
-    pub fn get_request_cookies(
-        &self,
-        url: &Url,
-        now: DateTime,
-    ) -> Result<RequestCookies<'_>, AllocError>
-        ensures cookies { IfOk result (λ cookies. cookies ≡ map (λ c. c.raw) (given url.now (moment_of now) self.now.rows)) }
-        ensures memory { OnErr result (given url.now (moment_of now) self.now.rows ≢ []) }
-    {
-        self.rows.request_cookies(self.alloc, url, now)
-    }
-
     // Inserts the cookie, or returns the error of creating it.
     fn insert_created(
         &mut self,
@@ -461,15 +425,7 @@ impl CookieStore {
         ensures memory { result ≡ Err Memory → (created.entry ≡ Err Memory)
             ⊎ ((received self.old created.entry url.now (moment_of now)).reply ≡ Ok Inserted) }
     {
-        let cookie = created?;
-        accept(
-            self.suffixes.as_ref(),
-            self.limit,
-            &mut self.rows,
-            cookie,
-            url,
-            now,
-        )
+        self.insert(created?, url, now)
     }
 
     /// Returns a store of these rows, without a public suffix list or a limit.
@@ -481,7 +437,22 @@ impl CookieStore {
             rows,
             suffixes: None,
             limit: None,
+            secure: None,
         }
+    }
+
+    /// Returns the public suffix list, if there is one.
+    pub fn suffix_list(&self) -> Option<&List>
+        ensures { option_copied result ≡ self.now.suffixes }
+    {
+        self.suffixes.as_ref()
+    }
+
+    /// Returns how many cookies a domain may have, if that is limited.
+    pub fn domain_limit(&self) -> Option<usize>
+        ensures { result ≡ self.now.limit }
+    {
+        self.limit
     }
 
     /// Returns the allocator of the store.

@@ -1,5 +1,5 @@
 //! Insertion of a cookie, RFC 6265 5.3.
-ghost use Rattle.std.specs.Prelude.{◌≡◌, ◌≢◌, ℕ, true, if◌then◌else◌, Option, Err, Ok, Some, IfErr, IfOk, IfSome, OnErr, OnOk};
+ghost use Rattle.std.specs.Prelude.{◌≡◌, ◌≢◌, ℕ, true, if◌then◌else◌, Option, Err, Ok, Some, IfErr, IfOk, IfSome, IsTrue, OnErr, OnOk};
 ghost use Rattle.std.specs.Option.{option_copied};
 ghost use Rattle.cookie_words.specs.Moments.{moment_of};
 ghost use Rattle.cookie_raw.specs.Reading.{reading};
@@ -10,14 +10,16 @@ ghost use Rattle.cookie_parts.specs.Views.{domain_value};
 ghost use Rattle.cookie_parts.specs.declared.cookie_error.CookieError.TheVariants.{Memory};
 ghost use Rattle.cookie_parts.specs.declared.store_action.StoreAction.TheVariants.{Inserted};
 ghost use Rattle.cookie_laws.specs.Acceptance.{accept, admitted, by_list, reply_at, IsInsertionError};
-ghost use Rattle.cookie_laws.specs.Contents.{contents_of, rows_in_order};
+ghost use Rattle.cookie_laws.specs.Contents.{contents_of, rows_in_order, HasCreationOrder};
+ghost use Rattle.cookie_laws.specs.Rows.{are_rows, key_of, row_of};
 ghost use Rattle.cookie_laws.specs.Runs.{step, Insert, IsReply, Stored, UnlessMemory};
+ghost use Rattle.cookie_core.specs.Insertions.{store_in, HasRoomIfInserted};
 
 use crate::{CookieStore, InsertResult};
 use cookie_parts::{Cookie, CookieDomain, CookieError, CookieResult, StoreAction};
 use cookie_psl::List;
 use cookie_raw::RawCookie;
-use cookie_rows::Rows;
+use cookie_rows::{EvictionOrder, Rows};
 use jiff::civil::DateTime;
 use std::alloc::{AllocError, Global};
 use std::mem;
@@ -26,11 +28,52 @@ use url::Url;
 impl CookieStore {
     /// Returns what [`insert`](Self::insert) would return for the cookie, but never `Memory`. The
     /// store is unchanged. Allocates nothing.
+    #[tactic(auto, unfolding(cookie_laws::specs::Acceptance::accept))]
     pub fn check_insert(&self, cookie: &Cookie<'static>, url: &Url, now: DateTime) -> InsertResult
         ensures reply { Stored result ≡ (step (Insert cookie.now url.now (moment_of now)) self.now).reply }
         ensures errors { IfErr result (λ error. IsInsertionError error × (error ≢ Memory)) }
     {
-        check(self.suffixes.as_ref(), &self.rows, cookie, url, now)
+        self.check_admitted(cookie, url)?;
+        self.check_stored(cookie, url, now)
+    }
+
+    /// Makes those checks of [`insert`](Self::insert) that depend on no stored cookie, RFC 6265 5.3
+    /// steps 10, 5 and 6. Returns whether the cookie is stored as a host-only cookie because its
+    /// domain is a public suffix on the store's list.
+    ///
+    /// # Errors
+    ///
+    /// In the order in which they are checked: `NonHttpScheme`, `PublicSuffix`, `DomainMismatch`.
+    pub fn check_admitted(&self, cookie: &Cookie<'static>, url: &Url) -> Result<bool, CookieError>
+        ensures admitted { IfOk result (λ is_listed. admitted self.now.suffixes url.now cookie.now
+            ≡ Ok (if is_listed then record cookie.now { domain = HostOnly (domain_text cookie.now.domain) } else cookie.now)) }
+        ensures rejected { IfErr result (λ error. admitted self.now.suffixes url.now cookie.now ≡ Err error) }
+        ensures errors { IfErr result (λ error. IsInsertionError error × (error ≢ Memory)) }
+    {
+        if cookie.is_out_of_reach(url) {
+            return Err(CookieError::NonHttpScheme);
+        }
+        let is_listed = is_made_host_only(self.suffixes.as_ref(), cookie, url)?;
+        // A cookie that the list makes host-only is for the URL's host.
+        if !is_listed && !cookie.domain.matches(url) {
+            return Err(CookieError::DomainMismatch);
+        }
+        Ok(is_listed)
+    }
+
+    /// Makes those checks of [`insert`](Self::insert) that depend on the stored cookie with the
+    /// same domain, path and name, RFC 6265 5.3 step 11.
+    ///
+    /// # Errors
+    ///
+    /// In the order in which they are checked: `NonHttpScheme`, `Expired`.
+    pub fn check_stored(&self, cookie: &Cookie<'static>, url: &Url, now: DateTime) -> InsertResult
+        ensures reply { result ≡ reply_at (row_of (key_of cookie.now) self.now.rows) cookie.now url.now (moment_of now) }
+        ensures in_order { IsTrue (are_rows self.now.rows) }
+        ensures has_creation_order { HasCreationOrder self.now }
+        ensures errors { IfErr result (λ error. IsInsertionError error × (error ≢ Memory)) }
+    {
+        reply_at(self.rows.row_of(cookie), cookie, url, now)
     }
 }
 
@@ -160,44 +203,23 @@ fn reply_at(
     }
 }
 
-// The result of `accept`, which is never `Memory`.
-#[tactic(auto, unfolding(cookie_laws::specs::Acceptance::accept))]
-fn check(
-    suffixes: Option<&List>,
-    rows: &Rows,
-    cookie: &Cookie<'static>,
-    url: &Url,
-    now: DateTime,
-) -> InsertResult
-    ensures reply { (limit : Option ℕ) → result
-        ≡ (accept (contents_of rows.now (option_copied suffixes.entry) limit) cookie.now url.now (moment_of now)).reply }
-    ensures errors { IfErr result (λ error. IsInsertionError error × (error ≢ Memory)) }
-{
-    if cookie.is_out_of_reach(url) {
-        return Err(CookieError::NonHttpScheme);
-    }
-    // A cookie that the list makes host-only is for the URL's host.
-    if !is_made_host_only(suffixes, cookie, url)? && !cookie.domain.matches(url) {
-        return Err(CookieError::DomainMismatch);
-    }
-    reply_at(rows.row_of(cookie), cookie, url, now)
-}
-
-/// Inserts a cookie received from `url`, under the list and the limit. On any error, out of memory
-/// included, the rows are unchanged.
+/// Inserts a cookie received from `url`, under the list and the limit; rows over the limit are evicted
+/// in this order. On any error, out of memory included, the rows are unchanged.
 #[tactic(auto, unfolding(cookie_laws::specs::Acceptance::accept))]
 pub(crate) fn accept(
     suffixes: Option<&List>,
     limit: Option<usize>,
+    order: EvictionOrder,
     rows: &mut Rows,
     cookie: Cookie<'static>,
     url: &Url,
     now: DateTime,
 ) -> InsertResult
+    requires room { HasRoomIfInserted order (contents_of rows.old (option_copied suffixes) limit) cookie url.now (moment_of now) }
     ensures reply { IsReply result (Stored
         (accept (contents_of rows.old (option_copied suffixes.entry) limit) cookie.entry url.now (moment_of now)).reply) }
     ensures rows { UnlessMemory result (rows.new
-        ≡ rows_in_order (accept (contents_of rows.old (option_copied suffixes.entry) limit) cookie.entry url.now (moment_of now)).store) }
+        ≡ rows_in_order (store_in order (contents_of rows.old (option_copied suffixes.entry) limit) cookie.entry url.now (moment_of now))) }
     ensures unchanged { OnErr result (rows.new ≡ rows.old) }
     ensures errors { IfErr result IsInsertionError }
     ensures memory { result ≡ Err Memory
@@ -207,7 +229,7 @@ pub(crate) fn accept(
     admit(suffixes, &mut cookie, url)?;
     match reply_at(rows.row_of(&cookie), &cookie, url, now)? {
         StoreAction::Inserted => action_or_memory(
-            rows.insert_within_limit(cookie, limit, now),
+            rows.insert_within_limit(cookie, limit, order, now),
             StoreAction::Inserted,
         ),
         StoreAction::UpdatedExisting => {

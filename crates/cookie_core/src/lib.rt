@@ -8,7 +8,10 @@ mod call;
 mod cookie_store;
 mod header;
 mod insertion;
+mod requests;
 mod response;
+mod secure;
+mod secure_last;
 
 pub use as_store::AsStore;
 pub use call::{Call, Reply, Stopped};

@@ -28,7 +28,7 @@ module _ {T : Type 0} (P : T → Type 0) where
       (λ _. All-cons P x (after_last test xs y) first (All-after_last test xs y new rest))
 
   -- after an item is changed
-  All-changed : (test : T → Bool) (change : T → T) → ((x : T) → P x → P (change x)) → (xs : List T) → All P xs → All P (changed test change xs)
+  pub All-changed : (test : T → Bool) (change : T → T) → ((x : T) → P x → P (change x)) → (xs : List T) → All P xs → All P (changed test change xs)
   All-changed test change keeps [] old = old
   All-changed test change keeps (x ∷ xs) old =
       let first = All-head P x xs old in
@@ -38,7 +38,7 @@ module _ {T : Type 0} (P : T → Type 0) where
       (λ _. All-cons P x (changed test change xs) first (All-changed test change keeps xs rest))
 
   -- after an item is removed
-  All-removed : (test : T → Bool) (xs : List T) → All P xs → All P (removed test xs)
+  pub All-removed : (test : T → Bool) (xs : List T) → All P xs → All P (removed test xs)
   All-removed test [] old = old
   All-removed test (x ∷ xs) old =
       let rest = All-tail P x xs old in
@@ -95,7 +95,7 @@ module _ (P : Row → Type 0) (ends : (row : Row) → P row → P (expired_row r
       (λ _. All-after_last P (in_domain key) rows cookie new old)
 
   -- after a cookie is stored
-  All-put : (rows : List Row) (cookie : Row) → P cookie → All P rows → All P (put rows cookie)
+  pub All-put : (rows : List Row) (cookie : Row) → P cookie → All P rows → All P (put rows cookie)
   All-put rows cookie new old =
       let key = key_of cookie in
       cond_both (list_any (has_key key) rows) (replaced (has_key key) rows cookie) (placed rows cookie) (All P)
@@ -119,7 +119,7 @@ module _ (P : Row → Type 0) (ends : (row : Row) → P row → P (expired_row r
       All-store_by (reply_at (row_of (key_of cookie) store.rows) cookie url now) store cookie now (new cookie refl) old
 
   -- after a received cookie
-  All-accept : (store : Contents) (given : Row) (url : Parts) (now : Moment)
+  pub All-accept : (store : Contents) (given : Row) (url : Parts) (now : Moment)
       → ((cookie : Row) → admitted store.suffixes url given ≡ Ok cookie → IsPut (accept store given url now).reply → P cookie)
       → All P store.rows → All P (accept store given url now).store.rows
   unfolding accept

@@ -36,7 +36,7 @@ pub IfOk_at : (P : Row → Type 0) (cookie_result : Result Row CookieError) (coo
 IfOk_at P cookie_result cookie holds is = subst (λ r. IfOk r P) is holds
 
 -- what a step after another gives
-and_then-IfOk : (P : Row → Type 0) (cookie_result : Result Row CookieError) (next : Row → Result Row CookieError)
+pub and_then-IfOk : (P : Row → Type 0) (cookie_result : Result Row CookieError) (next : Row → Result Row CookieError)
     → ((cookie : Row) → cookie_result ≡ Ok cookie → IfOk (next cookie) P) → IfOk (and_then cookie_result next) P
 and_then-IfOk P (Ok cookie) next after = after cookie refl
 and_then-IfOk P (Err rejection) next after = tt

@@ -94,7 +94,7 @@ over_limit-first (Some limit) now rows keys first later comes leaves =
     first-taken (same_key first) (same_key later) (length keys + 1 - limit) (eviction_order now rows keys) comes leaves
 
 -- a key of which a test is false is not among keys that pass it
-none-passing : (test : Key → Bool) (key : Key) (keys : List Key) → test key ≡ false → list_any (same_key key) (filter test keys) ≡ false
+pub none-passing : (test : Key → Bool) (key : Key) (keys : List Key) → test key ≡ false → list_any (same_key key) (filter test keys) ≡ false
 none-passing test key keys away =
     let apart : (k : Key) → test k ≡ true → same_key key k ≡ false = λ k passed.
     ⊎_elim (λ same. absurd (both_ways (test k) (same_key-passes test key false away k same) passed))

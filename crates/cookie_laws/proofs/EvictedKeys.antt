@@ -9,7 +9,7 @@ use Rattle.cookie_parts.specs.Cookie.{Row}
 use Rattle.cookie_laws.specs.Contents.{Contents, over_limit, eviction_order, has_expired, is_none_of, evicted, without}
 use Rattle.cookie_laws.specs.Rows.{Key, differ, removed, same_domain, same_key, same_key_equiv}
 use Rattle.cookie_laws.proofs.DifferentKeys.{differ-filter, differ-permutation}
-use Rattle.cookie_laws.proofs.Filtered.{filter-swap}
+use Rattle.cookie_laws.proofs.Filtered.{filter-all, filter-swap}
 use Rattle.cookie_laws.proofs.SameCounts.{permuted-count}
 
 -- a filter does not increase how many pass
@@ -22,11 +22,6 @@ pub removed-fewer : {T : Type 0} (p test : T → Bool) (xs : List T) → length 
 removed-fewer p test [] = omega arith
 removed-fewer p test (x ∷ xs) = grind (arith, removed-fewer p test xs)
 
--- all are none of no keys
-none_of_none : (keys : List Key) → filter (is_none_of []) keys ≡ keys
-none_of_none [] = refl
-none_of_none (key ∷ keys) = ap (λ ks. key ∷ ks) (none_of_none keys)
-
 -- keys among which this one is not are none of it
 none_of_other : (key : Key) (others keys : List Key) → list_any (same_key key) keys ≡ false
     → filter (is_none_of (key ∷ others)) keys ≡ filter (is_none_of others) keys
@@ -35,7 +30,7 @@ none_of_other key others (k ∷ ks) none = grind (arith, same_key_equiv.symm key
 
 -- of keys that differ, those that are none of the first n are those after them
 none_of_front : (n : ℕ) (keys : List Key) → differ same_key keys ≡ true → filter (is_none_of (take n keys)) keys ≡ drop n keys
-none_of_front zero keys d = none_of_none keys
+none_of_front zero keys d = filter-all keys
 none_of_front (suc n) [] d = refl
 none_of_front (suc n) (key ∷ keys) d =
     let parts = and_parts (not (list_any (same_key key) keys)) (differ same_key keys) d in

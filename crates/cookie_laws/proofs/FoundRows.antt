@@ -62,7 +62,7 @@ row_of-expired_other key own rows away =
     sym (row_of-passing test key (changed (has_key own) expired_row rows) here) ∙ ap (row_of key) (expired_row-other test own rows away) ∙ row_of-passing test key rows here
 
 -- if no item passes, none is found
-find-none : {T : Type 0} (test : T → Bool) (xs : List T) → list_any test xs ≡ false → find test xs ≡ None
+pub find-none : {T : Type 0} (test : T → Bool) (xs : List T) → list_any test xs ≡ false → find test xs ≡ None
 find-none test [] none = refl
 find-none test (x ∷ xs) none = grind (arith, find-none test xs)
 

@@ -16,9 +16,12 @@ pub mod PreservedByCalls
 pub mod RebuiltRows
 pub mod ReceivedCookies
 pub mod RelatedCalls
+pub mod Removals
 pub mod RowsOfKeys
+pub mod RowsThatPass
 pub mod RunsOfKeys
 pub mod SameCounts
+pub mod SecureLastKeys
 pub mod SingleInsertions
 pub mod StoresOfKeys
 pub mod UnexpiredRows

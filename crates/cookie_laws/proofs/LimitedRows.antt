@@ -39,7 +39,7 @@ put_action-old None is = absurd (grind (arith, is))
 put_action-old (Some row) is = refl
 
 -- so if the reply is `Inserted`, there was no row
-reply_at-new : (row : Option Row) (cookie : Row) (url : Parts) (now : Moment)
+pub reply_at-new : (row : Option Row) (cookie : Row) (url : Parts) (now : Moment)
     → reply_at row cookie url now ≡ Ok Inserted → is_some row ≡ false
 reply_at-new None cookie url now is = refl
 reply_at-new (Some row) cookie url now is = grind (arith, is, put_action-new (Some row))
@@ -51,7 +51,7 @@ reply_at-old None cookie url now is = grind (arith, is, put_action-old None)
 reply_at-old (Some row) cookie url now is = refl
 
 -- if an item passes, there is a first one
-found-any : {T : Type 0} (test : T → Bool) (xs : List T) → is_some (find test xs) ≡ list_any test xs
+pub found-any : {T : Type 0} (test : T → Bool) (xs : List T) → is_some (find test xs) ≡ list_any test xs
 found-any test [] = refl
 found-any test (x ∷ xs) = grind (arith, found-any test xs)
 

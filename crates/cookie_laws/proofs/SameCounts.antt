@@ -16,7 +16,7 @@ permuted-count p xs ys moved =
     length-filter p ys ∙ sum_by-IsPermutation (λ x. cond (p x) 1 0) xs ys moved ∙ sym (length-filter p xs)
 
 -- a key of a list can be moved to the front
-key_first : (key : Key) (keys : List Key) → list_any (same_key key) keys ≡ true → IsPermutation keys (key ∷ removed (same_key key) keys)
+pub key_first : (key : Key) (keys : List Key) → list_any (same_key key) keys ≡ true → IsPermutation keys (key ∷ removed (same_key key) keys)
 key_first key [] some = absurd (cc)
 key_first key (k ∷ ks) some =
     ⊎_elim (λ same.
@@ -32,6 +32,11 @@ key_first key (k ∷ ks) some =
     (IsPermutation-middle (k ∷ []) key rest)))
     (cases_Bool (same_key key k))
 
+-- if a first key is the same in two lists, and a test passes as many in both, it does so in the rest
+pub same_first-count : (test : Key → Bool) (x : Key) (xs ys : List Key) → length (filter test (x ∷ xs)) ≡ length (filter test (x ∷ ys))
+    → length (filter test xs) ≡ length (filter test ys)
+same_first-count test x xs ys same = grind (arith, same)
+
 -- if each test passes as many in both, one list is a permutation of the other
 permutation_from_counts : (xs ys : List Key) → ((test : Key → Bool) → length (filter test xs) ≡ length (filter test ys))
     → IsPermutation xs ys
@@ -44,15 +49,10 @@ permutation_from_counts (x ∷ xs) ys alike =
     let rest = removed (same_key x) ys in
     let moved = key_first x ys some in
     let same : (test : Key → Bool) → length (filter test xs) ≡ length (filter test rest) = λ test.
-    cancel test x xs rest (alike test ∙ sym (permuted-count test ys (x ∷ rest) moved)) in
+    same_first-count test x xs rest (alike test ∙ sym (permuted-count test ys (x ∷ rest) moved)) in
     IsPermutation-trans (x ∷ xs) (x ∷ rest) ys
     (IsPermutation-cons x xs rest (permutation_from_counts xs rest same))
     (IsPermutation-sym ys (x ∷ rest) moved)
-  where
-    -- so they do without a first key that both have
-    cancel : (test : Key → Bool) (x : Key) (xs zs : List Key) → length (filter test (x ∷ xs)) ≡ length (filter test (x ∷ zs))
-        → length (filter test xs) ≡ length (filter test zs)
-    cancel test x xs zs same = grind (arith, same)
 
 -- the keys of rows pass as the rows do
 keys-count : (test : Key → Bool) (rows : List Row) → length (filter test (map key_of rows)) ≡ length (passing test rows)

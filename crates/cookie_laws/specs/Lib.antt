@@ -6,3 +6,4 @@ pub mod Header
 pub mod Related
 pub mod Rows
 pub mod Runs
+pub mod SecureLast

@@ -8,18 +8,20 @@
 #![tactic(auto)]
 
 ghost use Rattle.cookie_parts.specs.Cookie.{Row, expired_row, is_out_of_reach};
+ghost use Rattle.cookie_raw.specs.Raw.{Raw};
 ghost use Rattle.cookie_parts.specs.Domain.{domain_text, HostOnly};
 ghost use Rattle.cookie_parts.specs.Hosts.{host_of};
 ghost use Rattle.cookie_parts.specs.declared.cookie_error.CookieError.{CookieError};
 ghost use Rattle.cookie_parts.specs.declared.store_action.StoreAction.TheVariants.{ExpiredExisting, Inserted};
-ghost use Rattle.cookie_laws.specs.Acceptance.{admitted, is_listed, received, IsPut, IsEvicted};
+ghost use Rattle.cookie_laws.specs.Acceptance.{accept, admitted, is_listed, received, IsPut, IsEvicted};
 ghost use Rattle.cookie_laws.specs.Confinement.{IsConfined, IsConfinedAsPut, WasAccepted};
 ghost use Rattle.cookie_laws.specs.Contents.{contents_of, has_expired, evicted, unexpired, Contents, HasCreationOrder};
 ghost use Rattle.cookie_laws.specs.Given.{given, is_given};
 ghost use Rattle.cookie_laws.specs.Header.{InHeaderOrder};
 ghost use Rattle.cookie_laws.specs.Related.{may_affect, domain_calls, domain_keys, domain_rows, is_of_domain, is_related, calls_related_to, replies_to};
-ghost use Rattle.cookie_laws.specs.Rows.{are_rows, built, changed, has_key, is_unexpired, key_of, row_of, same_domain, same_key, Key};
+ghost use Rattle.cookie_laws.specs.Rows.{are_rows, built, changed, has_key, is_unexpired, key_of, removed, row_of, same_domain, same_key, Key};
 ghost use Rattle.cookie_laws.specs.Runs.{Call, replies, rows_after, store_after};
+ghost use Rattle.cookie_laws.specs.SecureLast.{accept_secure_last, evicted_secure_last, is_full_of_secure, is_secure_key, removals, secure_last_calls};
 ghost use Rattle.cookie_psl.specs.Rules.{RuleList};
 ghost use Rattle.cookie_words.specs.Moments.{epoch, nanoseconds, Moment};
 ghost use Rattle.std.specs.List.{list_any, All};
@@ -172,4 +174,31 @@ pub fn given_without_expired()
     ensures given { (store : Contents) (url : Parts) (now later : Moment) → nanoseconds now ≤ℤ nanoseconds later
         → given url later (unexpired now store).rows ≡ given url later store.rows }
     ensures has_creation_order { (store : Contents) (now : Moment) → HasCreationOrder store → HasCreationOrder (unexpired now store) }
+{}
+
+/// With a domain limit that evicts Secure rows last, an insertion leaves what plain calls leave:
+/// the removals of the evicted rows, and then the insertion, for which nothing more is evicted. No
+/// unexpired Secure row is evicted unless its domain has the limit of them, or more.
+pub fn evictions_are_removals()
+    ensures store { (store : Contents) (cookie : Row) (url : Parts) (now : Moment) → are_rows store.rows ≡ true → HasCreationOrder store
+        → store_after (secure_last_calls store cookie url now) store ≡ accept_secure_last store cookie url now }
+    ensures evicts_no_more { (store : Contents) (now : Moment) (key : Key)
+        → evicted (store_after (removals (evicted_secure_last store now key)) store) now key ≡ [] }
+    ensures secure_stays { (store : Contents) (now : Moment) (new key : Key) → is_full_of_secure store now new ≡ false
+        → is_secure_key now store.rows key ≡ true
+        → row_of key (store_after (removals (evicted_secure_last store now new)) store).rows ≡ row_of key store.rows }
+{}
+
+/// What a test says of the raw cookie and the key of each row, and of a cookie that is inserted, it
+/// says of each row after the insertion, in either order of eviction, and after a removal.
+pub fn kept_by_calls()
+    ensures inserted { (test : Raw → Key → Bool) (store : Contents) (cookie : Row) (url : Parts) (now : Moment)
+        → test cookie.raw (key_of cookie) ≡ true → All (λ row. test row.raw (key_of row) ≡ true) store.rows
+        → All (λ row. test row.raw (key_of row) ≡ true) (accept store cookie url now).store.rows }
+    ensures inserted_secure_last { (test : Raw → Key → Bool) (store : Contents) (cookie : Row) (url : Parts) (now : Moment)
+        → test cookie.raw (key_of cookie) ≡ true → All (λ row. test row.raw (key_of row) ≡ true) store.rows
+        → All (λ row. test row.raw (key_of row) ≡ true) (accept_secure_last store cookie url now).rows }
+    ensures removed { (test : Raw → Key → Bool) (key : Key) (rows : List Row)
+        → All (λ row. test row.raw (key_of row) ≡ true) rows
+        → All (λ row. test row.raw (key_of row) ≡ true) (removed (has_key key) rows) }
 {}

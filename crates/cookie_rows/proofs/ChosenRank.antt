@@ -1,5 +1,5 @@
--- Turns that are split around one: sorted, they have it at the same place.
-use Rattle.std.proofs.Common.{◌≡◌, ℕ, zero, suc, ◌+◌, ◌-◌, ◌<◌, true, false, List, [], ◌∷◌, ◌++◌, length, get_or, slice_get, Some, refl, ◌∙◌, ap, inl, inr, add-one, arith, IsPermutation, IsSorted}
+-- Ranks that are split around one: sorted, they have it at the same place.
+use Rattle.std.proofs.Common.{◌≡◌, ℕ, zero, suc, ◌+◌, ◌-◌, ◌<◌, false, List, [], ◌∷◌, ◌++◌, length, get_or, slice_get, Some, refl, ◌∙◌, ap, inl, inr, add-one, arith, IsPermutation, IsSorted}
 use Rattle.std.specs.Prelude.{if◌then◌else◌}
 use Rattle.std.specs.List.{AllByRecursion}
 use Rattle.std.specs.List.Sorted.{IsSplitAround}
@@ -8,6 +8,7 @@ use Rattle.std.proofs.lemmas.List.Sorted.{IsPermutation-refl, IsPermutation-sym,
 use Rattle.cookie_words.specs.Moments.{Moment}
 use Rattle.cookie_rows.specs.Items.{ItemPaths}
 use Rattle.cookie_rows.specs.Eviction.{EvictionRank, rank_cmp, comes_before, ranks_of, IsFirstSurvivor}
+use Rattle.cookie_rows.specs.declared.eviction_order.EvictionOrder.{EvictionOrder}
 use Rattle.cookie_rows.proofs.ByNumber.{all_map}
 use Rattle.cookie_rows.proofs.RankOrder.{Ascends, all_by_index, ranks_order}
 use Rattle.cookie_rows.proofs.Eviction.{all_joined, all_moved}
@@ -103,10 +104,10 @@ module _ (front : List EvictionRank) (first : EvictionRank) (back : List Evictio
       sorted_ascends both_in_order ascends
 
   -- of the ranks of a domain and that of a new row, split around one with as many in front as leave, that one is the first that stays
-  pub first_between : (limit : ℕ) (now : Moment) (number : ℕ) (paths : ItemPaths) → IsPermutation (ranks_of now paths ++ (true, number) ∷ []) (front ++ first ∷ back)
-      → IsSplitAround rank_cmp front first back → length front + limit ≡ length (ranks_of now paths ++ (true, number) ∷ []) → IsFirstSurvivor limit now number paths first
-  first_between limit now number paths moved split count =
-      let unsorted : List EvictionRank = ranks_of now paths ++ (true, number) ∷ [] in
+  pub first_between : (limit : ℕ) (order : EvictionOrder) (now : Moment) (rank : EvictionRank) (paths : ItemPaths) → IsPermutation (ranks_of order now paths ++ rank ∷ []) (front ++ first ∷ back)
+      → IsSplitAround rank_cmp front first back → length front + limit ≡ length (ranks_of order now paths ++ rank ∷ []) → IsFirstSurvivor limit order now rank paths first
+  first_between limit order now rank paths moved split count =
+      let unsorted : List EvictionRank = ranks_of order now paths ++ rank ∷ [] in
       let all = IsPermutation-trans unsorted (front ++ first ∷ back) both_in_order moved both_moved in
       let place : length both_in_order - limit ≡ length (in_order front) = omega (arith, count, length_permutation unsorted both_in_order all, length_permutation front (in_order front) (order_moved front)) in
       record {

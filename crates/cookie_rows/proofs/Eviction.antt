@@ -1,11 +1,11 @@
 -- Keys in the order of their numbers, and in eviction order.
-use Rattle.std.proofs.Common.{◌≡◌, ℕ, ◌+◌, ◌-◌, ◌<◌, ◌≤◌, Bool, true, false, not, List, [], ◌∷◌, ◌++◌, length, map, filter, take, slice_get, Some, sum_by, refl, sym, ◌∙◌, ap, subst, inl, inr, arith, IsPermutation, IsSorted}
-use Rattle.std.specs.Prelude.{nat_eq, nat_le}
+use Rattle.std.proofs.Common.{◌≡◌, ℕ, zero, suc, ◌+◌, ◌-◌, ◌<◌, ◌≤◌, Bool, true, false, not, List, [], ◌∷◌, ◌++◌, length, map, filter, take, slice_get, Some, sum_by, refl, sym, ◌∙◌, ap, subst, inl, inr, append-nil, arith, length-append, IsPermutation, IsSorted}
+use Rattle.std.specs.Prelude.{◌⊎◌, nat_eq, nat_le}
 use Rattle.std.specs.List.{AllByRecursion, IsDistinct, list_any}
-use Rattle.std.proofs.lemmas.Bool.{and_parts, and_from, or_parts, or_from, not-true, cases_Bool, cond_both, leb-true, leb-false, eqb-false}
-use Rattle.std.proofs.lemmas.List.{length-map, length_push, take-map}
+use Rattle.std.proofs.lemmas.Bool.{and_parts, and_from, or_parts, or_from, not-true, cases_Bool, cond_both, leb-true, leb-false, eqb-false, eqb-true}
+use Rattle.std.proofs.lemmas.List.{length-map, length_push, map-append, take-map}
 use Rattle.std.proofs.lemmas.List.Elements.{All-from_recursion, recursion_from_All}
-use Rattle.std.proofs.lemmas.List.Sorted.{IsPermutation-refl, IsPermutation-sym, IsPermutation-trans, IsPermutation-cons, IsPermutation-middle, IsPermutation-map, IsPermutation-append_left, IsPermutation-filter_both, All-permutation, length_permutation, sum_by-IsPermutation}
+use Rattle.std.proofs.lemmas.List.Sorted.{IsPermutation-refl, IsPermutation-sym, IsPermutation-trans, IsPermutation-cons, IsPermutation-middle, IsPermutation-map, IsPermutation-append_comm, IsPermutation-append_left, All-permutation, length_permutation, sum_by-IsPermutation}
 use Rattle.std.proofs.lemmas.Map.Keys.{IsDistinct-IsPermutation}
 use Rattle.cookie_laws.specs.Rows.{Key, same_key, same_key_equiv, differ}
 use Rattle.cookie_rows.specs.Items.{place, by_number}
@@ -13,7 +13,8 @@ use Rattle.cookie_rows.specs.Eviction.{EvictionRank, rank_cmp, comes_before}
 use Rattle.cookie_rows.proofs.AfterLast.{list_any-map}
 use Rattle.cookie_rows.proofs.ByNumber.{all_map, all_place, any_ordered}
 use Rattle.cookie_rows.proofs.Ordered.{From, Ascend, from_more, ascend_ordered, place_first}
-use Rattle.cookie_rows.proofs.RankOrder.{Rises, all_both, ascends_ranks, before_alike, before_apart, before_new, leaves_before, sorted_is}
+use Rattle.cookie_rows.proofs.FilteredGroups.{all_any, all_parts}
+use Rattle.cookie_rows.proofs.RankOrder.{Rises, all_both, ascends_ranks, before_apart, before_within, leaves_before, not_before_itself, rank_at_place, ranks_order, sorted_is}
 
 -- what passes a test
 
@@ -125,10 +126,6 @@ ordered_moved (x ∷ xs) = IsPermutation-trans (x ∷ xs) (x ∷ by_number xs) (
 pub sums_ordered : (f : Key × ℕ → ℕ) (xs : List (Key × ℕ)) → sum_by f (by_number xs) ≡ sum_by f xs
 sums_ordered f xs = sum_by-IsPermutation f xs (by_number xs) (ordered_moved xs)
 
--- so it has over those that pass and those that do not
-pub sums_parted : (f : Key × ℕ → ℕ) (p : Key × ℕ → Bool) (xs : List (Key × ℕ)) → sum_by f (filter p xs ++ filter (λ e. not (p e)) xs) ≡ sum_by f xs
-sums_parted f p xs = sum_by-IsPermutation f xs (filter p xs ++ filter (λ e. not (p e)) xs) (IsPermutation-filter_both p (λ e. not (p e)) (λ e. refl) xs)
-
 -- numbers that differ
 
 -- each number is below those of all later ones
@@ -174,78 +171,200 @@ rises_joined t P Q w (x ∷ xs) ys p q a b = (
   rises_joined t P Q w xs ys p.1 q a.1 b,
 )
 
-module _ (expired_row : Key × ℕ → Bool) where
+-- classes
+
+-- the items of a class
+abbrev pub in_class : {T : Type 0} → (T → ℕ) → ℕ → List T → List T
+in_class cls k xs = filter (λ x. nat_eq (cls x) k) xs
+
+-- those of the classes 0, 1 and 2
+abbrev pub by_class : {T : Type 0} → (T → ℕ) → List T → List T
+by_class cls xs = in_class cls 0 xs ++ in_class cls 1 xs ++ in_class cls 2 xs
+
+module _ {T : Type 0} (cls : T → ℕ) where
+  -- if there are no other classes, these are the same items
+  pub classes_moved : ((x : T) → cls x ≤ 2) → (xs : List T) → IsPermutation xs (by_class cls xs)
+  classes_moved few [] = IsPermutation-refl []
+  classes_moved few (x ∷ xs) =
+      let a = in_class cls 0 xs in
+      let b = in_class cls 1 xs in
+      let c = in_class cls 2 xs in
+      let rest : IsPermutation (x ∷ xs) (x ∷ (a ++ b ++ c)) = IsPermutation-cons x xs (a ++ b ++ c) (classes_moved few xs) in
+      elim (one_class (cls x) (few x)) [
+        | inl e ↦ rw (e.0, e.1, e.2) rest
+        | inr (inl e) ↦
+            let middle = IsPermutation-append_left c (x ∷ (a ++ b)) (a ++ x ∷ b) (IsPermutation-sym (a ++ x ∷ b) (x ∷ (a ++ b)) (IsPermutation-middle a x b)) in
+            rw (e.0, e.1, e.2) (IsPermutation-trans (x ∷ xs) (x ∷ (a ++ b ++ c)) ((a ++ x ∷ b) ++ c) rest middle)
+        | inr (inr e) ↦
+            let last = IsPermutation-sym ((a ++ b) ++ x ∷ c) (x ∷ ((a ++ b) ++ c)) (IsPermutation-middle (a ++ b) x c) in
+            rw (e.0, e.1, e.2) (IsPermutation-trans (x ∷ xs) (x ∷ (a ++ b ++ c)) ((a ++ b) ++ x ∷ c) rest last)
+      ]
+    where
+      -- which of the classes it is
+      one_class : (n : ℕ) → n ≤ 2 → ((nat_eq n 0 ≡ true) × (nat_eq n 1 ≡ false) × (nat_eq n 2 ≡ false))
+          ⊎ (((nat_eq n 0 ≡ false) × (nat_eq n 1 ≡ true) × (nat_eq n 2 ≡ false)) ⊎ ((nat_eq n 0 ≡ false) × (nat_eq n 1 ≡ false) × (nat_eq n 2 ≡ true)))
+      one_class zero l = inl (refl, refl, refl)
+      one_class (suc zero) l = inr (inl (refl, refl, refl))
+      one_class (suc (suc zero)) l = inr (inr (refl, refl, refl))
+      one_class (suc (suc (suc n))) l = absurd (omega (arith, l))
+
+  -- those of a class are of that class
+  of_class : (k : ℕ) (xs : List T) → AllByRecursion (λ x. cls x ≡ k) (in_class cls k xs)
+  of_class k xs = all_map (λ x. nat_eq (cls x) k ≡ true) (λ x. cls x ≡ k) (λ x h. eqb-true (cls x) k h) (in_class cls k xs) (all_pass (λ x. nat_eq (cls x) k) xs)
+
+-- entries of which `front` come before a new one of this class and the others after it, if at most `count` of them leave
+pub record SplitsAround (cls : Key × ℕ → ℕ) (xs : List (Key × ℕ)) (class count : ℕ) : Type 0 where
+  pub front : List (Key × ℕ)
+  pub back : List (Key × ℕ)
+  pub both : front ++ back ≡ by_class cls (by_number xs)
+  pub before : AllByRecursion (λ e. cls e ≤ class) front
+  pub after : AllByRecursion (λ e. class < cls e) back
+  pub enough : count ≤ length front
+
+module _ (cls : Key × ℕ → ℕ) where
   -- the rank of an entry
   abbrev pub entry_rank : Key × ℕ → EvictionRank
-  entry_rank e = (not (expired_row e), e.1)
+  entry_rank e = (cls e, e.1)
 
-  -- entries in eviction order: first the expired ones, each part by number
+  -- entries in eviction order: by class, in each class by number
   abbrev pub in_eviction_order : List (Key × ℕ) → List (Key × ℕ)
-  in_eviction_order xs = filter expired_row (by_number xs) ++ filter (λ e. not (expired_row e)) (by_number xs)
+  in_eviction_order xs = by_class cls (by_number xs)
 
-  -- they are the same entries
-  pub turned : (xs : List (Key × ℕ)) → IsPermutation xs (in_eviction_order xs)
-  turned xs = IsPermutation-trans xs (by_number xs) (in_eviction_order xs) (ordered_moved xs) (IsPermutation-filter_both expired_row (λ e. not (expired_row e)) (λ e. refl) (by_number xs))
-
-  -- of entries whose numbers rise, those that pass have rising ranks, if all of them have expired or none has
-  rises_passing : (p : Key × ℕ → Bool) (b : Bool) → ((e : Key × ℕ) → p e ≡ true → not (expired_row e) ≡ b) → (zs : List (Key × ℕ)) → NumbersRise zs → Rises entry_rank (filter p zs)
-  rises_passing p b same [] r = tt
-  rises_passing p b same (z ∷ zs) r =
-      cond_both (p z) (z ∷ filter p zs) (filter p zs) (Rises entry_rank)
+  -- of entries whose numbers rise, those of a class have rising ranks
+  rises_class : (k : ℕ) (zs : List (Key × ℕ)) → NumbersRise zs → Rises entry_rank (in_class cls k zs)
+  rises_class k [] r = tt
+  rises_class k (z ∷ zs) r =
+      cond_both (nat_eq (cls z) k) (z ∷ in_class cls k zs) (in_class cls k zs) (Rises entry_rank)
       (λ h. (
-        all_both (λ f. z.1 < f.1) (λ f. p f ≡ true) (λ f. comes_before (entry_rank z) (entry_rank f) ≡ true)
-            (λ f l k. before_alike (entry_rank z) (entry_rank f) (same z h ∙ sym (same f k)) l)
-            (filter p zs) (all_filtered p (λ f. z.1 < f.1) zs r.0) (all_pass p zs),
-        rises_passing p b same zs r.1,
+        all_both (λ f. z.1 < f.1) (λ f. cls f ≡ k) (λ f. comes_before (entry_rank z) (entry_rank f) ≡ true)
+            (λ f l same. before_within (entry_rank z) (entry_rank f) (omega (arith, eqb-true (cls z) k h, same)) l)
+            (in_class cls k zs) (all_filtered (λ e. nat_eq (cls e) k) (λ f. z.1 < f.1) zs r.0) (of_class cls k zs),
+        rises_class k zs r.1,
       ))
-      (λ _. rises_passing p b same zs r.1)
+      (λ _. rises_class k zs r.1)
+
+  -- the entries of the classes 0 and 1 are of these
+  low_classes : (zs : List (Key × ℕ)) → AllByRecursion (λ e. cls e ≤ 1) (in_class cls 0 zs ++ in_class cls 1 zs)
+  low_classes zs =
+      all_joined (λ e. cls e ≤ 1) (in_class cls 0 zs) (in_class cls 1 zs)
+      (all_map (λ e. cls e ≡ 0) (λ e. cls e ≤ 1) (λ e h. omega (arith, h)) (in_class cls 0 zs) (of_class cls 0 zs))
+      (all_map (λ e. cls e ≡ 1) (λ e. cls e ≤ 1) (λ e h. omega (arith, h)) (in_class cls 1 zs) (of_class cls 1 zs))
 
   -- entries whose numbers differ have rising ranks
   pub ranks_rise : (xs : List (Key × ℕ)) → differ nat_eq (map (λ x. x.1) xs) ≡ true → Rises entry_rank (in_eviction_order xs)
   ranks_rise xs d =
       let zs = by_number xs in
       let r = numbers_rise xs d in
-      rises_joined entry_rank (λ e. expired_row e ≡ true) (λ e. not (expired_row e) ≡ true) (λ x y h k. before_apart (entry_rank x) (entry_rank y) (ap not h) k)
-      (filter expired_row zs) (filter (λ e. not (expired_row e)) zs) (all_pass expired_row zs) (all_pass (λ e. not (expired_row e)) zs)
-      (rises_passing expired_row false (λ e h. ap not h) zs r) (rises_passing (λ e. not (expired_row e)) true (λ e h. h) zs r)
+      let low = rises_joined entry_rank (λ e. cls e ≡ 0) (λ e. cls e ≡ 1) (λ x y h k. before_apart (entry_rank x) (entry_rank y) (omega (arith, h, k)))
+      (in_class cls 0 zs) (in_class cls 1 zs) (of_class cls 0 zs) (of_class cls 1 zs) (rises_class 0 zs r) (rises_class 1 zs r) in
+      rises_joined entry_rank (λ e. cls e ≤ 1) (λ e. cls e ≡ 2) (λ x y h k. before_apart (entry_rank x) (entry_rank y) (omega (arith, h, k)))
+      (in_class cls 0 zs ++ in_class cls 1 zs) (in_class cls 2 zs) (low_classes zs) (of_class cls 2 zs) low (rises_class 2 zs r)
 
-  -- all come before a new entry, whose number is above theirs
-  pub ranks_before : (xs : List (Key × ℕ)) (n : ℕ) → AllByRecursion (λ x. x.1 < n) xs → AllByRecursion (λ e. comes_before (entry_rank e) (true, n) ≡ true) (in_eviction_order xs)
-  ranks_before xs n b =
-      all_map (λ x. x.1 < n) (λ e. comes_before (entry_rank e) (true, n) ≡ true) (λ e l. before_new (entry_rank e) n l)
-      (in_eviction_order xs) (all_moved (λ x. x.1 < n) xs (in_eviction_order xs) (turned xs) b)
+  module _ (few : (e : Key × ℕ) → cls e ≤ 2) where
+    -- they are the same entries
+    pub turned : (xs : List (Key × ℕ)) → IsPermutation xs (in_eviction_order xs)
+    turned xs = IsPermutation-trans xs (by_number xs) (in_eviction_order xs) (ordered_moved xs) (classes_moved cls few (by_number xs))
 
-  -- entries whose keys differ do so in their ranks
-  pub keys_in_eviction_order : (xs : List (Key × ℕ)) → differ same_key (map (λ x. x.0) xs) ≡ true → differ same_key (map (λ x. x.0) (in_eviction_order xs)) ≡ true
-  keys_in_eviction_order xs d = differ_moved same_key same_key_equiv.symm (map (λ x. x.0) xs) (map (λ x. x.0) (in_eviction_order xs)) (IsPermutation-map (λ x. x.0) xs (in_eviction_order xs) (turned xs)) d
+    -- entries whose keys differ do so in their ranks
+    pub keys_in_eviction_order : (xs : List (Key × ℕ)) → differ same_key (map (λ x. x.0) xs) ≡ true → differ same_key (map (λ x. x.0) (in_eviction_order xs)) ≡ true
+    keys_in_eviction_order xs d = differ_moved same_key same_key_equiv.symm (map (λ x. x.0) xs) (map (λ x. x.0) (in_eviction_order xs)) (IsPermutation-map (λ x. x.0) xs (in_eviction_order xs) (turned xs)) d
 
-  module _ (xs : List (Key × ℕ)) (n : ℕ) (numbers : differ nat_eq (map (λ x. x.1) xs) ≡ true) (below : AllByRecursion (λ x. x.1 < n) xs)
-      (ranks : List EvictionRank) (moved : IsPermutation (map entry_rank xs ++ (true, n) ∷ []) ranks) where
-    -- the ranks of the entries and that of a new one, sorted, are those of the entries in their ranks, and then that of the new one
-    pub sorted_ranks : IsSorted rank_cmp ranks → ranks ≡ map entry_rank (in_eviction_order xs) ++ (true, n) ∷ []
-    sorted_ranks sorted =
-        let unsorted : List EvictionRank = map entry_rank xs ++ (true, n) ∷ [] in
-        let all : List EvictionRank = map entry_rank (in_eviction_order xs) ++ (true, n) ∷ [] in
-        let same = IsPermutation-append_left ((true, n) ∷ []) (map entry_rank xs) (map entry_rank (in_eviction_order xs)) (IsPermutation-map entry_rank xs (in_eviction_order xs) (turned xs)) in
-        let ascends = ascends_ranks entry_rank (true, n) (in_eviction_order xs) (ranks_rise xs numbers) (ranks_before xs n below) in
-        sorted_is unsorted ranks all (λ f. sym (sum_by-IsPermutation f unsorted all same)) ascends moved sorted
+    -- a new entry of the highest class comes after all others
+    pub all_in_front : (xs : List (Key × ℕ)) (class limit : ℕ) → ((e : Key × ℕ) → cls e ≤ class) → 0 < limit → SplitsAround cls xs class (length xs + 1 - limit)
+    all_in_front xs class limit highest some =
+        let all = in_eviction_order xs in record {
+          front = all;
+          back = [];
+          both = append-nil all;
+          before = all_any (λ e. cls e ≤ class) highest all;
+          after = tt;
+          enough = omega (arith, length_permutation xs all (turned xs), some);
+        }
 
-    -- one more than there are entries
-    count_ranks : length ranks ≡ length xs + 1
-    count_ranks =
-        length_permutation (map entry_rank xs ++ (true, n) ∷ []) ranks moved
-        ∙ length_push (map entry_rank xs) (true, n)
-        ∙ ap (λ m. m + 1) (length-map xs entry_rank)
+    -- one of class 1 comes before those of class 2, which must be fewer than the limit
+    pub last_class_behind : (xs : List (Key × ℕ)) (limit : ℕ) → length (in_class cls 2 (by_number xs)) < limit → SplitsAround cls xs 1 (length xs + 1 - limit)
+    last_class_behind xs limit room =
+        let front = in_class cls 0 (by_number xs) ++ in_class cls 1 (by_number xs) in
+        let back = in_class cls 2 (by_number xs) in record {
+          front = front;
+          back = back;
+          both = refl;
+          before = low_classes (by_number xs);
+          after = all_map (λ e. cls e ≡ 2) (λ e. 1 < cls e) (λ e h. omega (arith, h)) back (of_class cls 2 (by_number xs));
+          enough = omega (arith, length_permutation xs (in_eviction_order xs) (turned xs), length-append front back, room);
+        }
 
-    -- of entries whose keys differ, those evicted so that with a new one at most the limit remain are those whose
-    -- ranks come before the first that survives
-    pub leaving_entries : differ same_key (map (λ x. x.0) xs) ≡ true → IsSorted rank_cmp ranks → (limit : ℕ) (first : EvictionRank) → slice_get ranks (length ranks - limit) ≡ Some first
-        → AllByRecursion (λ e. list_any (same_key e.0) (take (length xs + 1 - limit) (map (λ f. f.0) (in_eviction_order xs))) ≡ comes_before (entry_rank e) first) xs
-    leaving_entries keys sorted limit first is =
-        let ts = in_eviction_order xs in
-        let k = length xs + 1 - limit in
-        let all = sorted_ranks sorted in
-        let moves : slice_get ranks (length ranks - limit) ≡ slice_get (map entry_rank ts ++ (true, n) ∷ []) k = λ i. slice_get (all i) (count_ranks i - limit) in
-        let leave = leaves_before entry_rank (true, n) ts (ranks_rise xs numbers) (keys_in_eviction_order xs keys) (ranks_before xs n below) k first (sym moves ∙ is) in
-        let back = all_moved (λ e. list_any (same_key e.0) (map (λ f. f.0) (take k ts)) ≡ comes_before (entry_rank e) first) ts xs (IsPermutation-sym xs ts (turned xs)) leave in
-        subst (λ evicted. AllByRecursion (λ e. list_any (same_key e.0) evicted ≡ comes_before (entry_rank e) first) xs) (sym (take-map (λ (f : Key × ℕ). f.0) k ts)) back
+    module _ (xs : List (Key × ℕ)) (n class limit : ℕ) (s : SplitsAround cls xs class (length xs + 1 - limit)) (numbers : differ nat_eq (map (λ x. x.1) xs) ≡ true)
+        (below : AllByRecursion (λ x. x.1 < n) xs) (ranks : List EvictionRank) (moved : IsPermutation (map entry_rank xs ++ (class, n) ∷ []) ranks) where
+      -- the ranks of the entries and that of a new one, in order
+      abbrev all : List EvictionRank
+      all = map entry_rank s.front ++ (class, n) ∷ map entry_rank s.back
+
+      -- entries in front come before a new one, whose number is above theirs
+      front_before : AllByRecursion (λ e. comes_before (entry_rank e) (class, n) ≡ true) s.front
+      front_before =
+          let less = all_moved (λ x. x.1 < n) xs (in_eviction_order xs) (turned xs) below in
+          let parts = all_parts (λ x. x.1 < n) s.front s.back (subst (AllByRecursion (λ x. x.1 < n)) (sym s.both) less) in
+          all_both (λ e. cls e ≤ class) (λ e. e.1 < n) (λ e. comes_before (entry_rank e) (class, n) ≡ true) (λ e l m. before_within (entry_rank e) (class, n) l m)
+          s.front s.before parts.0
+
+      -- and it comes before the others
+      back_after : AllByRecursion (λ e. comes_before (class, n) (entry_rank e) ≡ true) s.back
+      back_after = all_map (λ e. class < cls e) (λ e. comes_before (class, n) (entry_rank e) ≡ true) (λ e l. before_apart (class, n) (entry_rank e) l) s.back s.after
+
+      -- they rise without it
+      both_rise : Rises entry_rank (s.front ++ s.back)
+      both_rise = subst (Rises entry_rank) (sym s.both) (ranks_rise xs numbers)
+
+      -- they are the same ranks
+      all_same : IsPermutation (map entry_rank xs ++ (class, n) ∷ []) all
+      all_same =
+          let front = map entry_rank s.front in
+          let back = map entry_rank s.back in
+          let new : EvictionRank = (class, n) in
+          let entries : IsPermutation (map entry_rank xs) (front ++ back)
+          = subst (IsPermutation (map entry_rank xs)) (ap (map entry_rank) (sym s.both) ∙ map-append entry_rank s.front s.back) (IsPermutation-map entry_rank xs (in_eviction_order xs) (turned xs)) in
+          IsPermutation-trans (map entry_rank xs ++ new ∷ []) ((front ++ back) ++ new ∷ []) (front ++ new ∷ back)
+          (IsPermutation-append_left (new ∷ []) (map entry_rank xs) (front ++ back) entries)
+          (IsPermutation-trans ((front ++ back) ++ new ∷ []) (new ∷ (front ++ back)) (front ++ new ∷ back)
+          (IsPermutation-append_comm (front ++ back) (new ∷ [])) (IsPermutation-sym (front ++ new ∷ back) (new ∷ (front ++ back)) (IsPermutation-middle front new back)))
+
+      -- sorted they are these
+      pub sorted_ranks : IsSorted rank_cmp ranks → ranks ≡ all
+      sorted_ranks sorted =
+          let unsorted : List EvictionRank = map entry_rank xs ++ (class, n) ∷ [] in
+          let ascends = ascends_ranks entry_rank (class, n) s.front s.back both_rise front_before back_after in
+          sorted_is unsorted ranks all (λ f. sym (sum_by-IsPermutation f unsorted all all_same)) ascends moved sorted
+
+      -- one more than there are entries
+      count_ranks : length ranks ≡ length xs + 1
+      count_ranks =
+          length_permutation (map entry_rank xs ++ (class, n) ∷ []) ranks moved
+          ∙ length_push (map entry_rank xs) (class, n)
+          ∙ ap (λ m. m + 1) (length-map xs entry_rank)
+
+      module _ (sorted : IsSorted rank_cmp ranks) (first : EvictionRank) (is : slice_get ranks (length ranks - limit) ≡ Some first) where
+        -- the first rank that survives is in front or the new one
+        at_place : slice_get all (length xs + 1 - limit) ≡ Some first
+        at_place = sym (λ i. slice_get (sorted_ranks sorted i) (count_ranks i - limit)) ∙ is
+
+        -- so the new entry survives
+        pub new_survives : comes_before (class, n) first ≡ false
+        new_survives =
+            rank_at_place entry_rank (class, n) (λ t. comes_before (class, n) t ≡ false) s.front s.back (length xs + 1 - limit) first s.enough
+            (all_map (λ e. comes_before (entry_rank e) (class, n) ≡ true) (λ e. comes_before (class, n) (entry_rank e) ≡ false)
+            (λ e h. ranks_order.one_way (entry_rank e) (class, n) h) s.front front_before)
+            (not_before_itself (class, n)) at_place
+
+        -- of entries whose keys differ, those evicted so that with a new one at most the limit remain are those whose
+        -- ranks come before the first that survives
+        pub leaving_entries : differ same_key (map (λ x. x.0) xs) ≡ true
+            → AllByRecursion (λ e. list_any (same_key e.0) (take (length xs + 1 - limit) (map (λ f. f.0) (in_eviction_order xs))) ≡ comes_before (entry_rank e) first) xs
+        leaving_entries keys =
+            let ts = in_eviction_order xs in
+            let k = length xs + 1 - limit in
+            let keys' : differ same_key (map (λ (e : Key × ℕ). e.0) (s.front ++ s.back)) ≡ true = ap (λ es. differ same_key (map (λ (e : Key × ℕ). e.0) es)) s.both ∙ keys_in_eviction_order xs keys in
+            let leave = leaves_before entry_rank (class, n) s.front s.back both_rise keys' front_before back_after k first s.enough at_place in
+            let leave' = subst (λ es. AllByRecursion (λ e. list_any (same_key e.0) (map (λ f. f.0) (take k es)) ≡ comes_before (entry_rank e) first) es) s.both leave in
+            let back = all_moved (λ e. list_any (same_key e.0) (map (λ f. f.0) (take k ts)) ≡ comes_before (entry_rank e) first) ts xs (IsPermutation-sym xs ts (turned xs)) leave' in
+            subst (λ evicted. AllByRecursion (λ e. list_any (same_key e.0) evicted ≡ comes_before (entry_rank e) first) xs) (sym (take-map (λ (f : Key × ℕ). f.0) k ts)) back

@@ -9,6 +9,7 @@ pub mod ByNumber
 pub mod ChosenRank
 pub mod Copies
 pub mod Created
+pub mod DomainMaps
 pub mod Eviction
 pub mod FilteredGroups
 pub mod Flat
@@ -16,11 +17,13 @@ pub mod FoundRows
 pub mod HeaderItems
 pub mod Inserted
 pub mod Joined
+pub mod KeyClasses
 pub mod LeftItems
 pub mod Maps
 pub mod Members
 pub mod Named
 pub mod NamedItems
+pub mod NamedScopes
 pub mod NumberedPuts
 pub mod NumberedTakes
 pub mod Ordered
@@ -32,5 +35,6 @@ pub mod Removed
 pub mod Results
 pub mod RowsInOrder
 pub mod SameOrder
+pub mod SecureRows
 pub mod StoredThenEvicted
 pub mod UnexpiredItems

@@ -1,24 +1,25 @@
 -- Ranks (places in eviction order): a sorted list of ranks is their ascending list, and which entries come before the
 -- first rank that survives.
-use Rattle.std.proofs.Common.{◌≡◌, ℕ, zero, suc, ◌+◌, ◌<◌, ◌≤◌, Bool, true, false, cond, not, ◌&&◌, ◌||◌, eqb, ltb, List, [], ◌∷◌, ◌++◌, length, map, take, get_or, slice_get, Some, refl, sym, ◌∙◌, ap, subst, arith, is_lt, IsPermutation, IsSorted}
-use Rattle.std.specs.Ordering.{bool_cmp, ordering_then}
+use Rattle.std.proofs.Common.{◌≡◌, ℕ, zero, suc, ◌+◌, ◌<◌, ◌≤◌, Bool, true, false, cond, not, ◌&&◌, ◌||◌, eqb, ltb, List, [], ◌∷◌, ◌++◌, length, map, take, get_or, slice_get, Some, refl, sym, ◌∙◌, ap, subst, inl, inr, arith, is_lt, IsPermutation, IsSorted}
+use Rattle.std.specs.Ordering.{ordering_then}
 use Rattle.std.specs.declared.cmp.Ordering.TheVariants.{Less, Equal, Greater}
-use Rattle.std.specs.Cmp.{IsTotalOrder, IsStrictWeakOrder, bool_cmp_total}
+use Rattle.std.specs.Cmp.{IsTotalOrder, IsStrictWeakOrder}
 use Rattle.std.specs.List.{AllByRecursion, list_any, sum_by}
-use Rattle.std.proofs.lemmas.Bool.{and_parts, or_parts, or_left, not-true, ltb-false, lt-ltb}
+use Rattle.std.proofs.lemmas.Bool.{and_parts, cases_Bool, eq-eqb, or_parts, or_left, not-true, ltb-false, lt-ltb}
 use Rattle.std.proofs.lemmas.Cmp.{nat_cmp_total, then_total, on_total, tied_itself}
 use Rattle.std.proofs.lemmas.List.Sorted.{ranks_by, sorted_far, sum_by-IsPermutation}
 use Rattle.std.proofs.lemmas.List.Sums.{sum_by-cons}
-use Rattle.std.proofs.lemmas.Option.{none-some, same_Some}
+use Rattle.std.proofs.lemmas.Option.{same_Some}
 use Rattle.cookie_laws.specs.Rows.{Key, same_key, same_key_equiv, differ}
 use Rattle.cookie_rows.specs.Eviction.{EvictionRank, rank_cmp, comes_before}
 use Rattle.cookie_rows.proofs.ByNumber.{all_map}
+use Rattle.cookie_rows.proofs.FilteredGroups.{all_parts, all_to_map}
 
 -- which of two ranks comes first
 
 -- ranks have a total order
 pub ranks_total : IsTotalOrder rank_cmp
-ranks_total = then_total (on_total (λ (t : EvictionRank). t.0) bool_cmp_total) (on_total (λ (t : EvictionRank). t.1) nat_cmp_total)
+ranks_total = then_total (on_total (λ (t : EvictionRank). t.0) nat_cmp_total) (on_total (λ (t : EvictionRank). t.1) nat_cmp_total)
 
 -- so they can be sorted
 pub ranks_order : IsStrictWeakOrder comes_before
@@ -29,61 +30,50 @@ pub not_before_itself : (a : EvictionRank) → comes_before a a ≡ false
 not_before_itself a = ap is_lt (tied_itself ranks_total a)
 
 -- the two comparisons as tests
-in_tests : (x y l e : Bool) → is_lt (ordering_then (bool_cmp x y) (cond l Less (cond e Equal Greater))) ≡ cond x (y && l) (y || l)
-in_tests true true true e = refl
-in_tests true true false true = refl
-in_tests true true false false = refl
-in_tests true false l e = refl
-in_tests false true l e = refl
-in_tests false false true e = refl
-in_tests false false false true = refl
-in_tests false false false false = refl
+in_tests : (x d y e : Bool) → is_lt (ordering_then (cond x Less (cond d Equal Greater)) (cond y Less (cond e Equal Greater))) ≡ (x || (d && y))
+in_tests true d y e = refl
+in_tests false true true e = refl
+in_tests false true false true = refl
+in_tests false true false false = refl
+in_tests false false y e = refl
 
--- a rank comes before another by its first part, and else by its number
-pub before_tests : (a b : EvictionRank) → comes_before a b ≡ cond a.0 (b.0 && ltb a.1 b.1) (b.0 || ltb a.1 b.1)
-before_tests a b = in_tests a.0 b.0 (ltb a.1 b.1) (eqb a.1 b.1)
+-- a rank comes before another by its class, and in the same class by its number
+pub before_tests : (a b : EvictionRank) → comes_before a b ≡ (ltb a.0 b.0 || (eqb a.0 b.0 && ltb a.1 b.1))
+before_tests a b = in_tests (ltb a.0 b.0) (eqb a.0 b.0) (ltb a.1 b.1) (eqb a.1 b.1)
 
--- of two ranks with the same first part the one with the smaller number comes first
-pub before_alike : (a b : EvictionRank) → a.0 ≡ b.0 → a.1 < b.1 → comes_before a b ≡ true
-before_alike a b e l = before_tests a b ∙ passes a.0 b.0 (ltb a.1 b.1) e (lt-ltb a.1 b.1 l)
+-- a rank comes before one of a higher class
+pub before_apart : (a b : EvictionRank) → a.0 < b.0 → comes_before a b ≡ true
+before_apart a b l = before_tests a b ∙ or_left (ltb a.0 b.0) (eqb a.0 b.0 && ltb a.1 b.1) (lt-ltb a.0 b.0 l)
+
+-- a rank comes before one of a class as high and of a greater number
+pub before_within : (a b : EvictionRank) → a.0 ≤ b.0 → a.1 < b.1 → comes_before a b ≡ true
+before_within a b l m = elim (cases_Bool (ltb a.0 b.0)) [
+  | inl e ↦ before_tests a b ∙ or_left (ltb a.0 b.0) (eqb a.0 b.0 && ltb a.1 b.1) e
+  | inr e ↦
+      let same : a.0 ≡ b.0 = omega (arith, l, ltb-false a.0 b.0 e) in
+      before_tests a b ∙ passes (ltb a.0 b.0) (eqb a.0 b.0) (ltb a.1 b.1) (eq-eqb a.0 b.0 same) (lt-ltb a.1 b.1 m)
+]
   where
     -- the cases of the test
-    passes : (x y l : Bool) → x ≡ y → l ≡ true → cond x (y && l) (y || l) ≡ true
-    passes true true l e h = h
-    passes true false l e h = absurd (cc)
-    passes false true l e h = refl
-    passes false false l e h = h
-
--- the rank of an expired row comes before that of an unexpired one
-pub before_apart : (a b : EvictionRank) → a.0 ≡ false → b.0 ≡ true → comes_before a b ≡ true
-before_apart a b e f = before_tests a b ∙ passes a.0 b.0 (ltb a.1 b.1) e f
-  where
-    -- the cases of the test
-    passes : (x y l : Bool) → x ≡ false → y ≡ true → cond x (y && l) (y || l) ≡ true
-    passes x y l e f = rw (e, f) refl
-
--- a rank comes before that of a new row, whose number is greater
-pub before_new : (a : EvictionRank) (n : ℕ) → a.1 < n → comes_before a (true, n) ≡ true
-before_new a n l = before_tests a (true, n) ∙ passes a.0 (ltb a.1 n) (lt-ltb a.1 n l)
-  where
-    -- the cases of the test
-    passes : (x l : Bool) → l ≡ true → cond x (true && l) (true || l) ≡ true
-    passes true l h = h
-    passes false l h = refl
+    passes : (x d y : Bool) → d ≡ true → y ≡ true → (x || (d && y)) ≡ true
+    passes true d y f h = refl
+    passes false d y f h = rw (f, h) refl
 
 -- ranks of which neither comes before the other are the same
 pub neither_before : (a b : EvictionRank) → comes_before a b ≡ false → comes_before b a ≡ false → a ≡ b
 neither_before a b h k =
-    let same = neither_passes a.0 b.0 (ltb a.1 b.1) (ltb b.1 a.1) (sym (before_tests a b) ∙ h) (sym (before_tests b a) ∙ k) in
-    let number : a.1 ≡ b.1 = omega (arith, ltb-false a.1 b.1 same.1, ltb-false b.1 a.1 same.2) in
-    λ i. (same.0 i, number i)
+    let first = or_parts (ltb a.0 b.0) (eqb a.0 b.0 && ltb a.1 b.1) (sym (before_tests a b) ∙ h) in
+    let second = or_parts (ltb b.0 a.0) (eqb b.0 a.0 && ltb b.1 a.1) (sym (before_tests b a) ∙ k) in
+    let class : a.0 ≡ b.0 = omega (arith, ltb-false a.0 b.0 first.0, ltb-false b.0 a.0 second.0) in
+    let less = fails (eqb a.0 b.0) (ltb a.1 b.1) (eq-eqb a.0 b.0 class) first.1 in
+    let more = fails (eqb b.0 a.0) (ltb b.1 a.1) (eq-eqb b.0 a.0 (sym class)) second.1 in
+    let number : a.1 ≡ b.1 = omega (arith, ltb-false a.1 b.1 less, ltb-false b.1 a.1 more) in
+    λ i. (class i, number i)
   where
-    -- their first parts are, and neither number is smaller
-    neither_passes : (x y l m : Bool) → cond x (y && l) (y || l) ≡ false → cond y (x && m) (x || m) ≡ false → (x ≡ y) × (l ≡ false) × (m ≡ false)
-    neither_passes true true l m h k = (refl, h, k)
-    neither_passes true false l m h k = absurd (cc)
-    neither_passes false true l m h k = absurd (cc)
-    neither_passes false false l m h k = (refl, h, k)
+    -- neither number is smaller
+    fails : (d y : Bool) → d ≡ true → (d && y) ≡ false → y ≡ false
+    fails true y e h = h
+    fails false y e h = absurd (cc)
 
 -- ascending ranks
 
@@ -170,28 +160,42 @@ other_keys key (e ∷ es) n =
     let parts = or_parts (same_key key e.0) (list_any (same_key key) (map (λ f. f.0) es)) n in
     (same_key_equiv.symm e.0 key ∙ parts.0, other_keys key es parts.1)
 
+-- the ranks of entries, and a new one between those of the first and those of the others
 module _ (t : Key × ℕ → EvictionRank) (new : EvictionRank) where
   -- what holds of the ranks of all entries and of the new one holds of all ranks
-  all_ranks : (P : EvictionRank → Type 0) (es : List (Key × ℕ)) → AllByRecursion (λ e. P (t e)) es → P new → AllByRecursion P (map t es ++ new ∷ [])
-  all_ranks P [] a p = (p, tt)
-  all_ranks P (e ∷ es) a p = (a.0, all_ranks P es a.1 p)
+  all_ranks : (P : EvictionRank → Type 0) (front back : List (Key × ℕ)) → AllByRecursion (λ e. P (t e)) front → P new → AllByRecursion (λ e. P (t e)) back → AllByRecursion P (map t front ++ new ∷ map t back)
+  all_ranks P [] back a p b = (p, all_to_map t P back b)
+  all_ranks P (e ∷ front) back a p b = (a.0, all_ranks P front back a.1 p b)
 
-  -- and of the one at each place
-  pub rank_at_place : (P : EvictionRank → Type 0) (es : List (Key × ℕ)) (k : ℕ) (first : EvictionRank) → AllByRecursion (λ e. P (t e)) es → P new → slice_get (map t es ++ new ∷ []) k ≡ Some first → P first
-  rank_at_place P [] zero first a p h = subst P (same_Some new first h) p
-  rank_at_place P [] (suc k) first a p h = absurd (none-some first h)
-  rank_at_place P (e ∷ es) zero first a p h = subst P (same_Some (t e) first h) a.0
-  rank_at_place P (e ∷ es) (suc k) first a p h = rank_at_place P es k first a.1 p h
+  -- what holds of the ranks in front and of the new one holds of the one at each place so far
+  pub rank_at_place : (P : EvictionRank → Type 0) (front back : List (Key × ℕ)) (k : ℕ) (first : EvictionRank) → k ≤ length front → AllByRecursion (λ e. P (t e)) front → P new → slice_get (map t front ++ new ∷ map t back) k ≡ Some first → P first
+  rank_at_place P [] back zero first l a p h = subst P (same_Some new first h) p
+  rank_at_place P [] back (suc k) first l a p h = absurd (omega (arith, l))
+  rank_at_place P (e ∷ front) back zero first l a p h = subst P (same_Some (t e) first h) a.0
+  rank_at_place P (e ∷ front) back (suc k) first l a p h = rank_at_place P front back k first (omega (arith, l)) a.1 p h
 
-  -- ranks that rise, all of them before the new one, ascend with it
-  pub ascends_ranks : (es : List (Key × ℕ)) → Rises t es → AllByRecursion (λ e. comes_before (t e) new ≡ true) es → Ascends (map t es ++ new ∷ [])
-  ascends_ranks [] r l = (tt, tt)
-  ascends_ranks (e ∷ es) r l = (
-    all_ranks (λ y. comes_before y (t e) ≡ false) es
-        (all_map (λ f. comes_before (t e) (t f) ≡ true) (λ f. comes_before (t f) (t e) ≡ false) (λ f h. ranks_order.one_way (t e) (t f) h) es r.0)
-        (ranks_order.one_way (t e) new l.0),
-    ascends_ranks es r.1 l.1,
+  -- ranks that rise ascend
+  ascends_rise : (es : List (Key × ℕ)) → Rises t es → Ascends (map t es)
+  ascends_rise [] r = tt
+  ascends_rise (e ∷ es) r = (
+    all_to_map t (λ y. comes_before y (t e) ≡ false) es
+        (all_map (λ f. comes_before (t e) (t f) ≡ true) (λ f. comes_before (t f) (t e) ≡ false) (λ f h. ranks_order.one_way (t e) (t f) h) es r.0),
+    ascends_rise es r.1,
   )
+
+  -- and do so with the new one, if those in front come before it, and it before the others
+  pub ascends_ranks : (front back : List (Key × ℕ)) → Rises t (front ++ back) → AllByRecursion (λ e. comes_before (t e) new ≡ true) front → AllByRecursion (λ e. comes_before new (t e) ≡ true) back → Ascends (map t front ++ new ∷ map t back)
+  ascends_ranks [] back r l m = (
+    all_to_map t (λ y. comes_before y new ≡ false) back
+        (all_map (λ f. comes_before new (t f) ≡ true) (λ f. comes_before (t f) new ≡ false) (λ f h. ranks_order.one_way new (t f) h) back m),
+    ascends_rise back r,
+  )
+  ascends_ranks (e ∷ front) back r l m =
+      let behind = all_map (λ f. comes_before (t e) (t f) ≡ true) (λ f. comes_before (t f) (t e) ≡ false) (λ f h. ranks_order.one_way (t e) (t f) h) (front ++ back) r.0 in
+      let parts = all_parts (λ f. comes_before (t f) (t e) ≡ false) front back behind in (
+        all_ranks (λ y. comes_before y (t e) ≡ false) front back parts.0 (ranks_order.one_way (t e) new l.0) parts.1,
+        ascends_ranks front back r.1 l.1 m,
+      )
 
   -- if the first entry survives, no rank comes before its own
   first_stays : (e : Key × ℕ) (es : List (Key × ℕ)) → AllByRecursion (λ f. comes_before (t e) (t f) ≡ true) es → AllByRecursion (λ f. false ≡ comes_before (t f) (t e)) (e ∷ es)
@@ -211,17 +215,25 @@ module _ (t : Key × ℕ → EvictionRank) (new : EvictionRank) where
       passed_over : (b c d : Bool) → b ≡ false → c ≡ d → (b || c) ≡ d
       passed_over b c d h k = rw h k
 
-  -- of entries whose keys differ and whose ranks rise, all of them before the new one, the keys of the first k are those of the entries whose ranks come before the one at k
-  pub leaves_before : (es : List (Key × ℕ)) → Rises t es → differ same_key (map (λ e. e.0) es) ≡ true → AllByRecursion (λ e. comes_before (t e) new ≡ true) es
-      → (k : ℕ) (first : EvictionRank) → slice_get (map t es ++ new ∷ []) k ≡ Some first
-      → AllByRecursion (λ e. list_any (same_key e.0) (map (λ f. f.0) (take k es)) ≡ comes_before (t e) first) es
-  leaves_before [] r d l k first h = tt
-  leaves_before (e ∷ es) r d l zero first h =
-      subst (λ x. AllByRecursion (λ f. false ≡ comes_before (t f) x) (e ∷ es)) (same_Some (t e) first h) (first_stays e es r.0)
-  leaves_before (e ∷ es) r d l (suc k) first h =
+  -- of entries whose keys differ and whose ranks rise, those in front before the new one and the others after it, the keys
+  -- of the first k in front are those of the entries whose ranks come before the one at k
+  pub leaves_before : (front back : List (Key × ℕ)) → Rises t (front ++ back) → differ same_key (map (λ e. e.0) (front ++ back)) ≡ true
+      → AllByRecursion (λ e. comes_before (t e) new ≡ true) front → AllByRecursion (λ e. comes_before new (t e) ≡ true) back
+      → (k : ℕ) (first : EvictionRank) → k ≤ length front → slice_get (map t front ++ new ∷ map t back) k ≡ Some first
+      → AllByRecursion (λ e. list_any (same_key e.0) (map (λ f. f.0) (take k (front ++ back))) ≡ comes_before (t e) first) (front ++ back)
+  leaves_before [] back r d l m zero first few h =
+      all_map (λ f. comes_before new (t f) ≡ true) (λ f. false ≡ comes_before (t f) first)
+      (λ f w. subst (λ x. false ≡ comes_before (t f) x) (same_Some new first h) (sym (ranks_order.one_way new (t f) w))) back m
+  leaves_before [] back r d l m (suc k) first few h = absurd (omega (arith, few))
+  leaves_before (e ∷ front) back r d l m zero first few h =
+      subst (λ x. AllByRecursion (λ f. false ≡ comes_before (t f) x) (e ∷ (front ++ back))) (same_Some (t e) first h) (first_stays e (front ++ back) r.0)
+  leaves_before (e ∷ front) back r d l m (suc k) first few h =
+      let es = front ++ back in
       let keys = map (λ (f : Key × ℕ). f.0) (take k es) in
       let parts = and_parts (not (list_any (same_key e.0) (map (λ f. f.0) es))) (differ same_key (map (λ f. f.0) es)) d in
-      let leaves : comes_before (t e) first ≡ true = rank_at_place (λ x. comes_before (t e) x ≡ true) es k first r.0 l.0 h in (
+      let less : k ≤ length front = omega (arith, few) in
+      let others = all_parts (λ f. comes_before (t e) (t f) ≡ true) front back r.0 in
+      let leaves : comes_before (t e) first ≡ true = rank_at_place (λ x. comes_before (t e) x ≡ true) front back k first less others.0 l.0 h in (
         or_left (same_key e.0 e.0) (list_any (same_key e.0) keys) (same_key_equiv.refl e.0) ∙ sym leaves,
-        first_leaves e es keys first (other_keys e.0 es (not-true _ parts.0)) (leaves_before es r.1 parts.1 l.1 k first h),
+        first_leaves e es keys first (other_keys e.0 es (not-true _ parts.0)) (leaves_before front back r.1 parts.1 l.1 m k first less h),
       )

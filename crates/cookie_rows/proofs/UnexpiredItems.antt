@@ -1,6 +1,6 @@
 -- Items of all domains that fail a test are removed; the rows and keys that remain if these are the expired ones.
 use Rattle.std.proofs.Common.{◌≡◌, ℕ, ◌<◌, ◌≤◌, Bool, true, false, not, ◌&&◌, ◌||◌, List, [], ◌∷◌, ◌++◌, cond, eqb, ltb, length, map, refl, sym, ◌∙◌, ap, ap₂, subst, inl, inr, bytes_eq, arith, None}
-use Rattle.std.specs.Prelude.{◌==◌, IsTrue, nat_eq, string_bytes, String}
+use Rattle.std.specs.Prelude.{if◌then◌else◌, ◌==◌, IsTrue, nat_eq, string_bytes, String}
 use Rattle.std.specs.List.{AllByRecursion, filter, list_any}
 use Rattle.std.specs.Map.Calls.{RetainsPairs}
 use Rattle.std.proofs.lemmas.Bool.{or_cases}
@@ -16,6 +16,7 @@ use Rattle.cookie_lookup.specs.Groups.{ArePaths, AreGroups, flat}
 use Rattle.cookie_rows.specs.Groups.{texts_of}
 use Rattle.cookie_rows.specs.Items.{AreItems, Item, ItemGroups, ItemPaths, bare, bare_paths, by_number, groups_in_order, creation_order, numbered, rows_of}
 use Rattle.cookie_rows.specs.Eviction.{is_filled, filter_paths, filter_groups, survives, rank_of}
+use Rattle.cookie_rows.specs.declared.eviction_order.EvictionOrder.TheVariants.{ExpiredFirst}
 use Rattle.cookie_rows.proofs.Bare.{viewed_texts}
 use Rattle.cookie_rows.proofs.StoredThenEvicted.{changed_retained}
 use Rattle.cookie_rows.proofs.FilteredGroups.{all_any, all_filter, are_rows-filter, differ-filter, map-filter, paths_passing}
@@ -104,18 +105,18 @@ pub fewer_rows : (now : Moment) (rows : List Row) → length (unexpired_rows now
 fewer_rows now [] = omega arith
 fewer_rows now (row ∷ rows) = grind (arith, fewer_rows now rows)
 
--- no rank of such an item comes before (true, 0)
-stays_unexpired : (now : Moment) (x : Item) → is_unexpired now x.row ≡ survives now (true, 0) x
-stays_unexpired now x = sym (ap not (before_tests (rank_of now x) (true, 0)) ∙ passes (is_unexpired now x.row) (ltb x.number 0) none)
+-- no rank of such an item comes before (1, 0)
+stays_unexpired : (now : Moment) (x : Item) → is_unexpired now x.row ≡ survives ExpiredFirst now (1, 0) x
+stays_unexpired now x = sym (ap not (before_tests (rank_of ExpiredFirst now x) (1, 0)) ∙ passes (is_expired now x.row) (ltb x.number 0) none)
   where
     -- no number is below 0
     none : ltb x.number 0 ≡ false
     none = grind (arith, nat_tests)
 
     -- the cases of the test
-    passes : (live l : Bool) → l ≡ false → not (cond live (true && l) (true || l)) ≡ live
-    passes true l h = ap not h
-    passes false l h = refl
+    passes : (past l : Bool) → l ≡ false → not (ltb (if past then 0 else 1) 1 || (eqb (if past then 0 else 1) 1 && l)) ≡ not past
+    passes true l h = refl
+    passes false l h = ap not h
 
 module _ (n : ℕ) (gs : ItemGroups) (a : AreItems n gs) where
   -- there are no more rows than numbers
@@ -137,7 +138,7 @@ module _ (n : ℕ) (gs : ItemGroups) (a : AreItems n gs) where
   module _ (now : Moment) where
     -- the groups that are left
     abbrev left : ItemGroups
-    left = filter_groups (survives now (true, 0)) gs
+    left = filter_groups (survives ExpiredFirst now (1, 0)) gs
 
     -- the key of the row is unchanged
     abbrev key_stays : Key → Bool
@@ -146,17 +147,17 @@ module _ (n : ℕ) (gs : ItemGroups) (a : AreItems n gs) where
     -- the rows that are left
     rows_left : flat (bare left) ≡ unexpired_rows now (flat (bare gs))
     rows_left =
-        let each = all_any (λ (g : List ℕ × ItemPaths). AllByRecursion (λ p. AllByRecursion (λ x. is_unexpired now x.row ≡ survives now (true, 0) x) p.1) g.1)
-        (λ g. each_in_any (λ p x. is_unexpired now x.row ≡ survives now (true, 0) x) (λ p x. stays_unexpired now x) g.1) gs in
-        rows_listed left ∙ groups_left (survives now (true, 0)) (is_unexpired now) (λ d p x. x.row) gs each ∙ ap (filter (is_unexpired now)) (sym (rows_listed gs))
+        let each = all_any (λ (g : List ℕ × ItemPaths). AllByRecursion (λ p. AllByRecursion (λ x. is_unexpired now x.row ≡ survives ExpiredFirst now (1, 0) x) p.1) g.1)
+        (λ g. each_in_any (λ p x. is_unexpired now x.row ≡ survives ExpiredFirst now (1, 0) x) (λ p x. stays_unexpired now x) g.1) gs in
+        rows_listed left ∙ groups_left (survives ExpiredFirst now (1, 0)) (is_unexpired now) (λ d p x. x.row) gs each ∙ ap (filter (is_unexpired now)) (sym (rows_listed gs))
 
     -- the numbered keys
     numbered_left : numbered left ≡ filter (λ x. key_stays x.0) (numbered gs)
     numbered_left =
         let each = each_map (λ d p x. has_expired now (flat (bare gs)) (key_at d p x.row.raw.name) ≡ is_expired now x.row)
-        (λ d p x. key_stays (key_at d p x.row.raw.name) ≡ survives now (true, 0) x)
+        (λ d p x. key_stays (key_at d p x.row.raw.name) ≡ survives ExpiredFirst now (1, 0) x)
         (λ d p x h. ap not h ∙ stays_unexpired now x) gs (has_expired_item n gs a now) in
-        groups_left (survives now (true, 0)) (λ (x : Key × ℕ). key_stays x.0) (λ d p x. (key_at d p x.row.raw.name, x.number)) gs each
+        groups_left (survives ExpiredFirst now (1, 0)) (λ (x : Key × ℕ). key_stays x.0) (λ d p x. (key_at d p x.row.raw.name, x.number)) gs each
 
     -- the keys in creation order
     created_left : creation_order left ≡ filter key_stays (creation_order gs)
@@ -172,7 +173,7 @@ module _ (n : ℕ) (gs : ItemGroups) (a : AreItems n gs) where
     -- the groups
     pub items_unexpired : AreItems n left
     items_unexpired = (
-      groups_are (survives now (true, 0)) gs a.0,
+      groups_are (survives ExpiredFirst now (1, 0)) gs a.0,
       subst (λ rows. IsTrue (are_rows rows)) (sym rows_left) (are_rows-filter (is_unexpired now) (flat (bare gs)) a.1),
       subst (AllByRecursion (λ x. x.1 < n)) (sym numbered_left) (all_filter (λ x. x.1 < n) (λ x. key_stays x.0) (numbered gs) a.2),
       ap (λ xs. differ nat_eq (map (λ x. x.1) xs)) numbered_left ∙ differ-filter (λ (x : Key × ℕ). x.1) (λ x. key_stays x.0) nat_eq (numbered gs) a.3,

@@ -1,38 +1,73 @@
 -- The rows that are evicted from a domain for a new one.
-use Rattle.std.specs.Prelude.{◌≡◌, ◌<◌, ◌≤◌, ◌==◌, ◌-◌, ◌⊎◌, ℕ, Bool, true, false, not, List, [], ◌∷◌, ◌++◌, filter, flat_map, length, map, bytes_eq, slice_get, Some, if◌then◌else◌}
+use Rattle.std.specs.Prelude.{◌≡◌, ◌<◌, ◌≤◌, ◌==◌, ◌-◌, ◌⊎◌, ℕ, Bool, true, false, not, ◌&&◌, List, [], ◌∷◌, ◌++◌, filter, flat_map, length, map, bytes_eq, slice_get, Some, ⊤, if◌then◌else◌}
 use Rattle.std.specs.List.Sorted.{IsPermutation, IsSorted}
-use Rattle.std.specs.Ordering.{bool_cmp, is_lt, nat_cmp, ordering_then}
+use Rattle.std.specs.Ordering.{is_lt, nat_cmp, ordering_then}
 use Rattle.std.specs.declared.cmp.Ordering.{Ordering}
 use Rattle.cookie_words.specs.Moments.{Moment}
-use Rattle.cookie_parts.specs.Cookie.{Row}
+use Rattle.cookie_parts.specs.Cookie.{Row, is_expired, is_secure_only}
 use Rattle.cookie_parts.specs.Domain.{domain_text}
-use Rattle.cookie_laws.specs.Rows.{is_unexpired}
+use Rattle.cookie_laws.specs.Contents.{Contents, evicted, with_cookie, without}
+use Rattle.cookie_laws.specs.Rows.{Key, is_unexpired, key_of}
+use Rattle.cookie_laws.specs.SecureLast.{evicted_secure_last, is_full_of_secure}
+use Rattle.cookie_rows.specs.declared.eviction_order.EvictionOrder.{EvictionOrder}
+use Rattle.cookie_rows.specs.declared.eviction_order.EvictionOrder.TheVariants.{ExpiredFirst, SecureLast}
 use Rattle.cookie_rows.specs.Groups.{put_at}
 use Rattle.cookie_rows.specs.Items.{Item, ItemGroups, ItemPaths, put_item_paths, put_items}
 
--- the place of a row in eviction order: expired rows (false) before the others, then by creation
+-- the keys whose rows are evicted for a new row of this key
+abbrev pub evicted_in : EvictionOrder → Contents → Moment → Key → List Key
+evicted_in ExpiredFirst store now key = evicted store now key
+evicted_in SecureLast store now key = evicted_secure_last store now key
+
+-- the store with a new cookie: rows over the limit are evicted, then the cookie is added
+abbrev pub with_inserted : EvictionOrder → Contents → Row → Moment → Contents
+with_inserted order store cookie now = with_cookie (without (evicted_in order store now (key_of cookie)) store) cookie
+
+-- rows can be evicted for a new cookie: under `SecureLast` it is Secure, or its domain has fewer unexpired Secure rows than the limit
+abbrev pub HasRoom : EvictionOrder → Contents → Row → Moment → Type 0
+HasRoom ExpiredFirst store cookie now = ⊤
+HasRoom SecureLast store cookie now = is_secure_only cookie.raw ≡ false → is_full_of_secure store now (key_of cookie) ≡ false
+
+-- the class of an unexpired row
+abbrev pub unexpired_class : EvictionOrder → Row → ℕ
+unexpired_class ExpiredFirst row = 1
+unexpired_class SecureLast row = if is_secure_only row.raw then 2 else 1
+
+-- the class of a row: rows of lower classes are evicted first, expired ones (0) before all others
+abbrev pub class_of : EvictionOrder → Moment → Row → ℕ
+class_of order now row = if is_expired now row then 0 else unexpired_class order row
+
+-- the place of a row in eviction order: by class, then by creation
 abbrev pub EvictionRank : Type 0
-EvictionRank = Bool × ℕ
+EvictionRank = ℕ × ℕ
 
 -- the place of a row in eviction order at this time
-abbrev pub rank_of : Moment → Item → EvictionRank
-rank_of now item = (is_unexpired now item.row, item.number)
+abbrev pub rank_of : EvictionOrder → Moment → Item → EvictionRank
+rank_of order now item = (class_of order now item.row, item.number)
 
 -- the comparison of two places
 abbrev pub rank_cmp : EvictionRank → EvictionRank → Ordering
-rank_cmp a b = ordering_then (bool_cmp a.0 b.0) (nat_cmp a.1 b.1)
+rank_cmp a b = ordering_then (nat_cmp a.0 b.0) (nat_cmp a.1 b.1)
 
 -- one place comes before another
 abbrev pub comes_before : EvictionRank → EvictionRank → Bool
 comes_before a b = is_lt (rank_cmp a b)
 
 -- the places of the rows of a domain
-abbrev pub ranks_of : Moment → ItemPaths → List EvictionRank
-ranks_of now paths = flat_map (λ p. map (rank_of now) p.1) paths
+abbrev pub ranks_of : EvictionOrder → Moment → ItemPaths → List EvictionRank
+ranks_of order now paths = flat_map (λ p. map (rank_of order now) p.1) paths
+
+-- the row has not expired and is Secure
+abbrev pub is_secure_item : Moment → Item → Bool
+is_secure_item now item = is_unexpired now item.row && is_secure_only item.row.raw
+
+-- how many rows of a domain have not expired and are Secure
+abbrev pub count_secure : Moment → ItemPaths → ℕ
+count_secure now paths = length (filter (is_secure_item now) (flat_map (λ p. p.1) paths))
 
 -- the row survives if the rows that come before `first` are evicted
-abbrev pub survives : Moment → EvictionRank → Item → Bool
-survives now first item = not (comes_before (rank_of now item) first)
+abbrev pub survives : EvictionOrder → Moment → EvictionRank → Item → Bool
+survives order now first item = not (comes_before (rank_of order now item) first)
 
 -- the group is not empty
 abbrev pub is_filled : {X : Type 0} → List ℕ × List X → Bool
@@ -52,11 +87,11 @@ abbrev pub paths_of : List ℕ → ItemGroups → ItemPaths
 paths_of domain [] = []
 paths_of domain (g ∷ gs) = if bytes_eq domain g.0 then g.1 else paths_of domain gs
 
--- `first` is the first place that survives: the domain's places and that of a new row with this
--- number are sorted, and the last `limit` of them survive
-pub record IsFirstSurvivor (limit : ℕ) (now : Moment) (number : ℕ) (paths : ItemPaths) (first : EvictionRank) : Type 0 where
+-- `first` is the first place that survives: the domain's places and that of a new row, `rank`, are
+-- sorted, and the last `limit` of them survive
+pub record IsFirstSurvivor (limit : ℕ) (order : EvictionOrder) (now : Moment) (rank : EvictionRank) (paths : ItemPaths) (first : EvictionRank) : Type 0 where
   pub ranks : List EvictionRank
-  pub moved : IsPermutation (ranks_of now paths ++ (true, number) ∷ []) ranks
+  pub moved : IsPermutation (ranks_of order now paths ++ rank ∷ []) ranks
   pub sorted : IsSorted rank_cmp ranks
   pub is : slice_get ranks (length ranks - limit) ≡ Some first
 
@@ -89,17 +124,17 @@ insert_in_domains test row number groups =
 
 -- the groups of a domain after a new row is inserted: either there was room, or rows were evicted
 -- (`left`)
-abbrev pub InsertsInPaths : ℕ → Moment → Row → ℕ → ItemPaths → ItemPaths → Bool → Type 0
-InsertsInPaths limit now row number old new left =
-    ((length (ranks_of now old) < limit) × (new ≡ put_item_paths row number old) × (left ≡ false))
-    ⊎ ((first : EvictionRank) × IsFirstSurvivor limit now number old first × (limit ≤ length (ranks_of now old))
-    × (new ≡ insert_in_paths (survives now first) row number old) × (left ≡ true))
+abbrev pub InsertsInPaths : ℕ → EvictionOrder → Moment → Row → ℕ → ItemPaths → ItemPaths → Bool → Type 0
+InsertsInPaths limit order now row number old new left =
+    ((length (ranks_of order now old) < limit) × (new ≡ put_item_paths row number old) × (left ≡ false))
+    ⊎ ((first : EvictionRank) × IsFirstSurvivor limit order now (class_of order now row, number) old first
+    × (limit ≤ length (ranks_of order now old)) × (new ≡ insert_in_paths (survives order now first) row number old) × (left ≡ true))
 
 -- all groups after a new row is inserted: either its domain had room, or rows of the domain were
 -- evicted
-abbrev pub InsertsInDomains : ℕ → Moment → Row → ℕ → ItemGroups → ItemGroups → Type 0
-InsertsInDomains limit now row number old new =
-    ((length (ranks_of now (paths_of (domain_text row.domain) old)) < limit) × (new ≡ put_items row number old))
-    ⊎ ((first : EvictionRank) × IsFirstSurvivor limit now number (paths_of (domain_text row.domain) old) first
-    × (limit ≤ length (ranks_of now (paths_of (domain_text row.domain) old)))
-    × (new ≡ insert_in_domains (survives now first) row number old))
+abbrev pub InsertsInDomains : ℕ → EvictionOrder → Moment → Row → ℕ → ItemGroups → ItemGroups → Type 0
+InsertsInDomains limit order now row number old new =
+    ((length (ranks_of order now (paths_of (domain_text row.domain) old)) < limit) × (new ≡ put_items row number old))
+    ⊎ ((first : EvictionRank) × IsFirstSurvivor limit order now (class_of order now row, number) (paths_of (domain_text row.domain) old) first
+    × (limit ≤ length (ranks_of order now (paths_of (domain_text row.domain) old)))
+    × (new ≡ insert_in_domains (survives order now first) row number old))

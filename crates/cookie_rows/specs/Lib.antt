@@ -6,4 +6,5 @@ pub mod Items
 pub mod NameMaps
 pub mod PathMaps
 pub mod Requests
+pub mod SecureKeys
 pub mod Eviction

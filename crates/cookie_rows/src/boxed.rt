@@ -6,6 +6,7 @@ ghost use Rattle.cookie_parts.specs.Cookie.{expired_row};
 ghost use Rattle.cookie_rows.specs.Eviction.{rank_of};
 
 use crate::copying::Rehash;
+use crate::eviction_order::EvictionOrder;
 use crate::hashing::HashKey;
 use cookie_parts::Cookie;
 use jiff::civil::DateTime;
@@ -90,12 +91,12 @@ impl BoxedCookie {
         self.inner.as_ref().number
     }
 
-    // The place in eviction order: expired rows first, then by creation.
-    pub(crate) fn rank(&self, now: DateTime) -> (bool, u64)
-        ensures { result ≡ rank_of (moment_of now) self.now }
+    // The place in eviction order: by class, then by creation.
+    pub(crate) fn rank(&self, order: EvictionOrder, now: DateTime) -> (u8, u64)
+        ensures { result ≡ rank_of order (moment_of now) self.now }
     {
         let inner = self.inner.as_ref();
-        (!inner.cookie.is_expired(now), inner.number)
+        (order.class_of(&inner.cookie, now), inner.number)
     }
 
     // Replaces the cookie and keeps the number.
@@ -122,14 +123,15 @@ impl BoxedCookie {
 
 // Appends each row's place in eviction order to `ranks`.
 pub(crate) fn push_ranks(
-    ranks: &mut Vec<(bool, u64)>,
+    ranks: &mut Vec<(u8, u64)>,
     rows: &[BoxedCookie],
+    order: EvictionOrder,
     now: DateTime,
 ) -> Result<(), AllocError>
-    ensures { OnOk result (ranks.new.items ≡ ranks.old.items ++ map (rank_of (moment_of now)) rows.now) }
+    ensures { OnOk result (ranks.new.items ≡ ranks.old.items ++ map (rank_of order (moment_of now)) rows.now) }
 {
     for row in rows {
-        ranks.push(row.rank(now))?;
+        ranks.push(row.rank(order, now))?;
     }
     Ok(())
 }

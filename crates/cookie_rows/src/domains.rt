@@ -9,6 +9,7 @@ ghost use Rattle.cookie_rows.specs.Items.{expire_items, find_items, put_item_pat
 ghost use Rattle.cookie_rows.specs.Eviction.{is_single_paths, filter_paths, filter_groups, moved_to_end_if, survives, InsertsInDomains};
 
 use crate::boxed::BoxedCookie;
+use crate::eviction_order::EvictionOrder;
 use crate::hashing::HashKey;
 use crate::paths::Paths;
 use cookie_parts::Cookie;
@@ -105,11 +106,12 @@ pub(crate) fn insert_row_within_limit(
     groups: &mut IndexMap<String, Paths, HashKey>,
     row: BoxedCookie,
     limit: usize,
+    order: EvictionOrder,
     now: DateTime,
 ) -> Result<(), AllocError>
     requires limit { 0 < limit }
     requires new { find_items (key_of row.row) (texts_of groups.old.entries) ≡ None }
-    ensures inserted { OnOk result (InsertsInDomains limit (moment_of now) row.row row.number
+    ensures inserted { OnOk result (InsertsInDomains limit order (moment_of now) row.row row.number
         (texts_of groups.old.entries) (texts_of groups.new.entries)) }
     ensures unchanged { OnErr result (texts_of groups.new.entries ≡ texts_of groups.old.entries) }
 {
@@ -117,7 +119,7 @@ pub(crate) fn insert_row_within_limit(
     let hash_key = *groups.hasher();
     let domain = String::from_str(alloc, row.cookie().domain.as_str())?;
     let left = match groups.get_mut(domain.as_str()) {
-        Some(group) => group.insert_within_limit(alloc, hash_key, row, limit, now)?,
+        Some(group) => group.insert_within_limit(alloc, hash_key, row, limit, order, now)?,
         None => return add_row(groups, row),
     };
     if left {
@@ -187,15 +189,15 @@ pub(crate) fn remove_row(
 }
 
 // Keeps the rows that have not expired at `now`, and drops empty groups. An expired row is one that
-// comes before (true, 0) in eviction order.
+// comes before (1, 0) in eviction order.
 pub(crate) fn retain_groups(groups: &mut IndexMap<String, Paths, HashKey>, now: DateTime)
-    ensures { texts_of groups.new.entries ≡ filter_groups (survives (moment_of now) (true, 0)) (texts_of groups.old.entries) }
+    ensures { texts_of groups.new.entries ≡ filter_groups (survives EvictionOrder.ExpiredFirst (moment_of now) (1, 0)) (texts_of groups.old.entries) }
 {
     groups.retain(
         |_domain: &String, group: &mut Paths| -> bool
-            ensures { (group.new ≡ filter_paths (survives (moment_of now) (true, 0)) group.old) × (result ≡ not (length group.new == 0)) }
+            ensures { (group.new ≡ filter_paths (survives EvictionOrder.ExpiredFirst (moment_of now) (1, 0)) group.old) × (result ≡ not (length group.new == 0)) }
         {
-            group.retain((true, 0), now);
+            group.retain((1, 0), EvictionOrder::ExpiredFirst, now);
             !group.is_empty()
         },
     );

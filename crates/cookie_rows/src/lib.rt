@@ -8,6 +8,7 @@
 mod boxed;
 mod copying;
 mod domains;
+mod eviction_order;
 mod hashing;
 mod header_order;
 mod iter;
@@ -18,8 +19,12 @@ mod path_table;
 mod paths;
 mod request;
 mod rows;
+mod secure_keys;
+mod secure_rows;
 
+pub use eviction_order::EvictionOrder;
 pub use hashing::{HashKey, StoreAlloc};
 pub use iter::{IterAny, IterUnexpired};
 pub use request::{RequestCookies, RequestValues};
 pub use rows::Rows;
+pub use secure_keys::{Scope, SecureKeys};

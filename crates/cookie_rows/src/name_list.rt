@@ -10,6 +10,7 @@ ghost use Rattle.cookie_rows.specs.NameMaps.{names_differ, names_in};
 ghost use Rattle.cookie_rows.specs.Eviction.{survives};
 
 use crate::boxed::BoxedCookie;
+use crate::eviction_order::EvictionOrder;
 use crate::hashing::HashKey;
 use cookie_parts::Cookie;
 use indexmap::IndexMap;
@@ -87,15 +88,20 @@ pub(crate) fn remove_among(rows: &mut Vec<BoxedCookie>, name: &str) -> Option<Co
 }
 
 // Keeps the rows that do not come before `first` in eviction order.
-pub(crate) fn retain_among(rows: &mut Vec<BoxedCookie>, first: (bool, u64), now: DateTime)
+pub(crate) fn retain_among(
+    rows: &mut Vec<BoxedCookie>,
+    first: (u8, u64),
+    order: EvictionOrder,
+    now: DateTime,
+)
     requires { IsTrue (names_differ rows.old.items) }
-    ensures retained { rows.new.items ≡ filter (survives (moment_of now) first) rows.old.items }
+    ensures retained { rows.new.items ≡ filter (survives order (moment_of now) first) rows.old.items }
     ensures differ { IsTrue (names_differ rows.new.items) }
 {
     rows.retain(
         |row: &BoxedCookie| -> bool
-            ensures { result ≡ survives (moment_of now) first row.now }
-        { row.rank(now) >= first },
+            ensures { result ≡ survives order (moment_of now) first row.now }
+        { row.rank(order, now) >= first },
     );
 }
 

@@ -10,6 +10,7 @@ ghost use Rattle.cookie_rows.specs.Eviction.{survives};
 
 use crate::boxed::BoxedCookie;
 use crate::copying::{Rehash, rehashed_table};
+use crate::eviction_order::EvictionOrder;
 use crate::hashing::HashKey;
 use crate::name_list::{
     MOST_LISTED, expire_among, fill_table, push_row, remove_among, replace_among, retain_among,
@@ -140,10 +141,10 @@ impl Names {
     }
 
     // Keeps the rows that do not come before `first` in eviction order.
-    pub(crate) fn retain(&mut self, first: (bool, u64), now: DateTime)
-        ensures { self.new ≡ filter (survives (moment_of now) first) self.old }
+    pub(crate) fn retain(&mut self, first: (u8, u64), order: EvictionOrder, now: DateTime)
+        ensures { self.new ≡ filter (survives order (moment_of now) first) self.old }
     {
-        retain_rows(&mut self.rows, first, now);
+        retain_rows(&mut self.rows, first, order, now);
     }
 
     // Expires the row of this name.
@@ -347,33 +348,38 @@ fn add_in(
 }
 
 // Keeps the rows that do not come before `first` in eviction order.
-fn retain_rows(rows: &mut NameMap, first: (bool, u64), now: DateTime)
+fn retain_rows(rows: &mut NameMap, first: (u8, u64), order: EvictionOrder, now: DateTime)
     requires named { HasNames rows.old }
-    ensures retained { items_of rows.new ≡ filter (survives (moment_of now) first) (items_of rows.old) }
+    ensures retained { items_of rows.new ≡ filter (survives order (moment_of now) first) (items_of rows.old) }
     ensures named { HasNames rows.new }
 {
     match rows {
         NameMap::Empty => {}
         NameMap::Single(row) => {
-            if row.rank(now) < first {
+            if row.rank(order, now) < first {
                 *rows = NameMap::Empty;
             }
         }
-        NameMap::List(rows) => retain_among(rows.as_mut(), first, now),
-        NameMap::Table(rows) => retain_in(rows.as_mut(), first, now),
+        NameMap::List(rows) => retain_among(rows.as_mut(), first, order, now),
+        NameMap::Table(rows) => retain_in(rows.as_mut(), first, order, now),
     }
 }
 
 // Keeps the rows of a table that do not come before `first` in eviction order.
-fn retain_in(rows: &mut IndexMap<String, BoxedCookie, HashKey>, first: (bool, u64), now: DateTime)
+fn retain_in(
+    rows: &mut IndexMap<String, BoxedCookie, HashKey>,
+    first: (u8, u64),
+    order: EvictionOrder,
+    now: DateTime,
+)
     requires named { AreNamed rows.old.entries }
-    ensures retained { values_of rows.new.entries ≡ filter (survives (moment_of now) first) (values_of rows.old.entries) }
+    ensures retained { values_of rows.new.entries ≡ filter (survives order (moment_of now) first) (values_of rows.old.entries) }
     ensures named { AreNamed rows.new.entries }
 {
     rows.retain(
         |_name: &String, row: &mut BoxedCookie| -> bool
-            ensures { (result ≡ survives (moment_of now) first row.old) × (row.new ≡ row.old) }
-        { row.rank(now) >= first },
+            ensures { (result ≡ survives order (moment_of now) first row.old) × (row.new ≡ row.old) }
+        { row.rank(order, now) >= first },
     );
 }
 

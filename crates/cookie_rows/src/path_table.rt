@@ -7,6 +7,7 @@ ghost use Rattle.cookie_rows.specs.Items.{expire_item_paths, find_item_paths, pu
 ghost use Rattle.cookie_rows.specs.Eviction.{is_single, filter_paths, moved_to_end_if, survives};
 
 use crate::boxed::BoxedCookie;
+use crate::eviction_order::EvictionOrder;
 use crate::hashing::HashKey;
 use crate::names::Names;
 use cookie_parts::Cookie;
@@ -74,16 +75,17 @@ pub(crate) fn add_in(
 // groups.
 pub(crate) fn retain_in(
     groups: &mut IndexMap<String, Names, HashKey>,
-    first: (bool, u64),
+    first: (u8, u64),
+    order: EvictionOrder,
     now: DateTime,
 )
-    ensures { texts_of groups.new.entries ≡ filter_paths (survives (moment_of now) first) (texts_of groups.old.entries) }
+    ensures { texts_of groups.new.entries ≡ filter_paths (survives order (moment_of now) first) (texts_of groups.old.entries) }
 {
     groups.retain(
         |_path: &String, names: &mut Names| -> bool
-            ensures { (names.new ≡ filter (survives (moment_of now) first) names.old) × (result ≡ not (length names.new == 0)) }
+            ensures { (names.new ≡ filter (survives order (moment_of now) first) names.old) × (result ≡ not (length names.new == 0)) }
         {
-            names.retain(first, now);
+            names.retain(first, order, now);
             !names.is_empty()
         },
     );

@@ -8,10 +8,11 @@ ghost use Rattle.cookie_lookup.specs.SearchView.{group_position, under};
 ghost use Rattle.cookie_rows.specs.PathMaps.{groups_of};
 ghost use Rattle.cookie_rows.specs.HeaderItems.{items_in};
 ghost use Rattle.cookie_rows.specs.Items.{expire_item_paths, find_item_paths, put_item_paths, remove_item_paths, ItemPaths};
-ghost use Rattle.cookie_rows.specs.Eviction.{is_single, is_single_paths, filter_paths, moved_to_end_if, survives, ranks_of, InsertsInPaths, IsFirstSurvivor};
+ghost use Rattle.cookie_rows.specs.Eviction.{is_single, is_single_paths, filter_paths, moved_to_end_if, survives, rank_of, ranks_of, InsertsInPaths, IsFirstSurvivor};
 
 use crate::boxed::{BoxedCookie, push_ranks};
 use crate::copying::{Rehash, rehashed_table};
+use crate::eviction_order::EvictionOrder;
 use crate::hashing::HashKey;
 use crate::names::Names;
 use crate::path_table::{
@@ -199,72 +200,72 @@ impl Paths {
         hash_key: HashKey,
         row: BoxedCookie,
         limit: usize,
+        order: EvictionOrder,
         now: DateTime,
     ) -> Result<bool, AllocError>
         requires limit { 0 < limit }
         requires new { find_item_paths row.row.path.text row.row.raw.name self.old ≡ None }
-        ensures inserted { IfOk result (λ left. InsertsInPaths limit (moment_of now) row.row row.number self.old self.new left) }
+        ensures inserted { IfOk result (λ left. InsertsInPaths limit order (moment_of now) row.row row.number self.old self.new left) }
         ensures unchanged { OnErr result (self.new ≡ self.old) }
     {
-        let Some(first) = self.first_survivor(alloc, row.number(), limit, now)? else {
+        let Some(first) = self.first_survivor(alloc, &row, limit, order, now)? else {
             self.add(alloc, hash_key, row)?;
             return Ok(false);
         };
         let path = String::from_str(alloc, row.cookie().path.as_str())?;
         self.add(alloc, hash_key, row)?;
-        self.retain(first, now);
-        self.move_single_to_end(path.as_str());
+        self.retain(first, order, now);
+        move_path_to_end(&mut self.groups, path.as_str());
         Ok(true)
     }
 
-    // Returns the place in eviction order of the first row that survives once a new row of this
-    // number is added. `None` if nothing need be evicted.
+    // Returns the place in eviction order of the first row that survives once this new row is
+    // added. `None` if nothing need be evicted.
     fn first_survivor(
         &self,
         alloc: Global,
-        number: u64,
+        row: &BoxedCookie,
         limit: usize,
+        order: EvictionOrder,
         now: DateTime,
-    ) -> Result<Option<(bool, u64)>, AllocError>
+    ) -> Result<Option<(u8, u64)>, AllocError>
         requires limit { 0 < limit }
-        ensures room { IfOk result (λ first. IfNone first (length (ranks_of (moment_of now) self.now) < limit)) }
-        ensures full { IfOk result (λ first. OnSome first (limit ≤ length (ranks_of (moment_of now) self.now))) }
-        ensures first { IfOk result (λ first. IfSome first (IsFirstSurvivor limit (moment_of now) number self.now)) }
+        ensures room { IfOk result (λ first. IfNone first (length (ranks_of order (moment_of now) self.now) < limit)) }
+        ensures full { IfOk result (λ first. OnSome first (limit ≤ length (ranks_of order (moment_of now) self.now))) }
+        ensures first { IfOk result (λ first. IfSome first (IsFirstSurvivor limit order (moment_of now) (rank_of order (moment_of now) row.now) self.now)) }
     {
-        let mut ranks = self.ranks(alloc, now)?;
+        let mut ranks = self.ranks(alloc, order, now)?;
         if ranks.len() < limit {
             return Ok(None);
         }
-        ranks.push((true, number))?;
+        ranks.push(row.rank(order, now))?;
         let place = ranks.len() - limit;
         let (_, first, _) = ranks.select_nth_unstable(place);
         Ok(Some(*first))
     }
 
     // The places of the rows in eviction order.
-    fn ranks(&self, alloc: Global, now: DateTime) -> Result<Vec<(bool, u64)>, AllocError>
-        ensures { IfOk result (λ ranks. ranks.items ≡ ranks_of (moment_of now) self.now) }
+    fn ranks(
+        &self,
+        alloc: Global,
+        order: EvictionOrder,
+        now: DateTime,
+    ) -> Result<Vec<(u8, u64)>, AllocError>
+        ensures { IfOk result (λ ranks. ranks.items ≡ ranks_of order (moment_of now) self.now) }
     {
         let mut ranks = Vec::new(alloc);
         let groups = self.groups();
         for names in groups {
-            push_ranks(&mut ranks, names.rows(), now)?;
+            push_ranks(&mut ranks, names.rows(), order, now)?;
         }
         Ok(ranks)
     }
 
     // Keeps the rows that do not come before `first` in eviction order, and drops empty groups.
-    pub(crate) fn retain(&mut self, first: (bool, u64), now: DateTime)
-        ensures { self.new ≡ filter_paths (survives (moment_of now) first) self.old }
+    pub(crate) fn retain(&mut self, first: (u8, u64), order: EvictionOrder, now: DateTime)
+        ensures { self.new ≡ filter_paths (survives order (moment_of now) first) self.old }
     {
-        retain_paths(&mut self.groups, first, now);
-    }
-
-    // Moves the group of this path to the end, if it has a single row.
-    fn move_single_to_end(&mut self, path: &str)
-        ensures { self.new ≡ moved_to_end_if is_single path.now self.old }
-    {
-        move_path_to_end(&mut self.groups, path);
+        retain_paths(&mut self.groups, first, order, now);
     }
 
     // Whether there is exactly one row.
@@ -411,18 +412,18 @@ fn pair(
 }
 
 // Keeps the rows that do not come before `first` in eviction order, and drops empty groups.
-fn retain_paths(groups: &mut PathMap, first: (bool, u64), now: DateTime)
-    ensures { groups_of groups.new ≡ filter_paths (survives (moment_of now) first) (groups_of groups.old) }
+fn retain_paths(groups: &mut PathMap, first: (u8, u64), order: EvictionOrder, now: DateTime)
+    ensures { groups_of groups.new ≡ filter_paths (survives order (moment_of now) first) (groups_of groups.old) }
 {
     match groups {
         PathMap::Empty => {}
         PathMap::Single(_, names) => {
-            names.retain(first, now);
+            names.retain(first, order, now);
             if names.is_empty() {
                 *groups = PathMap::Empty;
             }
         }
-        PathMap::Table(groups) => retain_in(groups.as_mut(), first, now),
+        PathMap::Table(groups) => retain_in(groups.as_mut(), first, order, now),
     }
 }
 

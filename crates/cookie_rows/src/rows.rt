@@ -1,18 +1,18 @@
 //! The rows of a store, as one list.
-ghost use Rattle.std.specs.Prelude.{◌≡◌, ◌≢◌, ◌≤◌, ◌<◌, false, ◌+◌, ◌*◌, [], ◌∷◌, length, map, IfErr, IfOk, IfSome, IsTrue, None, Ok, OnErr, OnOk, Some, ◌⊎◌};
+ghost use Rattle.std.specs.Prelude.{◌≡◌, ◌≢◌, ◌≤◌, ◌<◌, false, ◌+◌, ◌*◌, [], ◌∷◌, length, map, IfErr, IfOk, IfSome, IsTrue, None, OnErr, OnOk, Some, ◌⊎◌};
 ghost use Rattle.std.specs.Iterator.{IsFinite};
 ghost use Rattle.std.specs.Option.{option_copied};
 ghost use Rattle.cookie_words.specs.Moments.{moment_of};
 ghost use Rattle.cookie_parts.specs.Cookie.{expired_row, is_expired};
-ghost use Rattle.cookie_parts.specs.declared.store_action.StoreAction.TheVariants.{Inserted};
-ghost use Rattle.cookie_laws.specs.Acceptance.{store_by};
 ghost use Rattle.cookie_laws.specs.Contents.{contents_of, rows_in_order, unexpired, HasCreationOrder};
 ghost use Rattle.cookie_laws.specs.Given.{given};
 ghost use Rattle.cookie_laws.specs.Header.{InHeaderOrder};
 ghost use Rattle.cookie_laws.specs.Rows.{are_rows, changed, has_key, included, key_at, key_of, unexpired_rows, add_created, add_all_created, put, put_all, removed, row_of, same_key, RowsInOrder};
+ghost use Rattle.cookie_laws.specs.SecureLast.{is_full_of_secure};
 ghost use Rattle.cookie_lookup.specs.SearchView.{domains_found, paths_found};
 ghost use Rattle.cookie_lookup.specs.Candidates.{most_domains, most_paths};
 ghost use Rattle.cookie_rows.specs.Building.{Builds, BuildsAt, FailsFirst, FailsFirstAt, IsNewRow, TakesCookie, ReachesNewRow, ReachesNewRowAt};
+ghost use Rattle.cookie_rows.specs.Eviction.{with_inserted, HasRoom};
 ghost use Rattle.cookie_rows.specs.Groups.{texts_of};
 ghost use Rattle.cookie_rows.specs.Requests.{name_and_value};
 ghost use Rattle.cookie_rows.specs.Items.{AreItems, groups_in_order};
@@ -23,12 +23,15 @@ use crate::domains::{
     add_row, expire_row, find_row, insert_row_within_limit, put_row, remove_row, replace_row,
     retain_groups,
 };
+use crate::eviction_order::EvictionOrder;
 use crate::hashing::{HashKey, StoreAlloc};
 use crate::header_order::in_header_order;
 use crate::iter::{IterAny, IterUnexpired, count_rows};
 use crate::map_search::searched;
 use crate::paths::Paths;
 use crate::request::{RequestCookies, RequestValues};
+use crate::secure_keys::Scope;
+use crate::secure_rows;
 use cookie_lookup::Lookups;
 use cookie_parts::{Cookie, Error};
 use indexmap::IndexMap;
@@ -103,16 +106,28 @@ impl Rows {
 
     /// Returns the row of this domain, path and name, if there is one.
     pub fn named(&self, domain: &str, path: &str, name: &str) -> Option<&Cookie<'static>>
-        ensures { option_copied result ≡ row_of (key_at domain.now path.now name.now) self.now.rows }
+        ensures value { option_copied result ≡ row_of (key_at domain.now path.now name.now) self.now.rows }
+        ensures in_order { IsTrue (are_rows self.now.rows) }
+        ensures has_creation_order { HasCreationOrder (contents_of self.now None None) }
     {
         find_row(&self.groups, domain, path, name)
     }
 
     /// Returns the row of the cookie's domain, path and name, if there is one.
     pub fn row_of(&self, cookie: &Cookie<'static>) -> Option<&Cookie<'static>>
-        ensures { option_copied result ≡ row_of (key_of cookie.now) self.now.rows }
+        ensures value { option_copied result ≡ row_of (key_of cookie.now) self.now.rows }
+        ensures in_order { IsTrue (are_rows self.now.rows) }
+        ensures has_creation_order { HasCreationOrder (contents_of self.now None None) }
     {
         self.named(cookie.domain.as_str(), cookie.path.as_str(), cookie.name())
+    }
+
+    /// Returns the row of this domain, path and name, if there is one.
+    pub fn in_scope(&self, scope: &Scope, name: &str) -> Option<&Cookie<'static>>
+        ensures row { option_copied result ≡ row_of (key_at scope.now.domain scope.now.path name.now) self.now.rows }
+        ensures in_order { IsTrue (are_rows self.now.rows) }
+    {
+        find_row(&self.groups, scope.domain(), scope.path(), name)
     }
 
     /// Returns an iterator over all rows, in order.
@@ -237,9 +252,26 @@ impl Rows {
         replace_row(&mut self.groups, cookie);
     }
 
+    /// Returns whether the cookie's domain has at least `limit` Secure rows that have not expired
+    /// at `now`. `false` without a limit.
+    pub fn is_full_of_secure(
+        &self,
+        cookie: &Cookie<'static>,
+        limit: Option<usize>,
+        now: DateTime,
+    ) -> bool
+        ensures { result ≡ is_full_of_secure (contents_of self.now None limit) (moment_of now) (key_of cookie.now) }
+    {
+        match limit {
+            Some(limit) => secure_rows::is_full(&self.groups, cookie.domain.as_str(), limit, now),
+            None => false,
+        }
+    }
+
     /// Adds the cookie as a new row, the last one in creation order. With a limit, rows of its
-    /// domain are evicted so that at most `limit` are stored (0 counts as 1): expired rows first,
-    /// then the others, in each case the least recently created.
+    /// domain are evicted in the given order so that at most `limit` are stored (0 counts as 1).
+    /// Under `SecureLast`, a cookie that is not Secure needs room: see
+    /// [`is_full_of_secure`](Self::is_full_of_secure).
     ///
     /// # Errors
     ///
@@ -248,12 +280,14 @@ impl Rows {
         &mut self,
         cookie: Cookie<'static>,
         limit: Option<usize>,
+        order: EvictionOrder,
         now: DateTime,
     ) -> Result<(), AllocError>
         requires new { row_of (key_of cookie) self.old.rows ≡ None }
         requires unexpired { IfSome limit (λ _. is_expired (moment_of now) cookie ≡ false) }
+        requires room { HasRoom order (contents_of self.old None limit) cookie (moment_of now) }
         ensures inserted { OnOk result (self.new
-            ≡ rows_in_order (store_by (Ok Inserted) (contents_of self.old None limit) cookie.entry (moment_of now))) }
+            ≡ rows_in_order (with_inserted order (contents_of self.old None limit) cookie.entry (moment_of now))) }
         ensures unchanged { OnErr result (self.new ≡ self.old) }
     {
         let Some(next) = self.created.checked_add(1) else {
@@ -268,7 +302,7 @@ impl Rows {
             }
             Some(limit) => {
                 // a limit of 0 evicts the same rows as 1: all others of the domain
-                insert_row_within_limit(&mut self.groups, row, limit.max(1), now)?;
+                insert_row_within_limit(&mut self.groups, row, limit.max(1), order, now)?;
                 self.created = next;
                 Ok(())
             }
@@ -364,13 +398,18 @@ impl Rows {
         before - self.len()
     }
 
-    // Returns how many rows there are.
-    fn len(&self) -> usize
+    /// Returns how many rows there are.
+    pub fn len(&self) -> usize
         ensures { result ≡ length self.now.rows }
     {
         // for the checker: all rows have different numbers below this one, so their count fits
         let _created = self.created;
         count_rows(self.groups.values().as_slice())
+    }
+
+    /// Returns the key by which the maps hash.
+    pub fn hash_key(&self) -> HashKey {
+        *self.groups.hasher()
     }
 
     /// Copies the rows into maps that hash by this key.

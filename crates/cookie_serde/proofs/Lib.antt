@@ -15,4 +15,3 @@ pub mod RonBack
 pub mod SavedAlike
 pub mod SavedLines
 pub mod StyledTexts
-pub mod Walked

@@ -20,7 +20,7 @@ use Rattle.cookie_serde.specs.SavedForms.{cookies_of_saved}
 use Rattle.cookie_serde.specs.Lists.{BuildsFromList, BuildsFromText, FailsAtText, FailsToLoadList, FailsToSaveList, IsAll, ParsesToCookies, ParsesToVec, RejectsText, WritesList}
 use Rattle.cookie_serde.specs.Saving.{line_text}
 use Rattle.cookie_serde.proofs.SavedLines.{filter_around}
-use Rattle.cookie_serde.proofs.Walked.{around}
+use Rattle.cookie_core.proofs.Walked.{around}
 
 -- a list with an item is not empty
 with_item : {A : Type 0} (before : List A) (x : A) (after : List A) → before ++ x ∷ after ≢ []

@@ -1,3 +1,5 @@
+pub use Rattle.cookie_inputs.specs.Suffixes
+pub use Rattle.cookie_inputs.specs.Urls
 pub use Rattle.cookie_laws.specs.Acceptance
 pub use Rattle.cookie_laws.specs.Confinement
 pub use Rattle.cookie_laws.specs.Contents
@@ -6,9 +8,11 @@ pub use Rattle.cookie_laws.specs.Header
 pub use Rattle.cookie_laws.specs.Related
 pub use Rattle.cookie_laws.specs.Rows
 pub use Rattle.cookie_laws.specs.Runs
+pub use Rattle.cookie_laws.specs.SecureLast
 pub use Rattle.cookie_rows.specs.Building
 pub use Rattle.cookie_rows.specs.Requests
 pub use Rattle.cookie_core.specs.CallViews
+pub use Rattle.cookie_core.specs.Overlaid
 pub use Rattle.cookie_core.specs.Responses
 pub use Rattle.cookie_serde.specs.Cuts
 pub use Rattle.cookie_serde.specs.JsonLines
@@ -26,6 +30,7 @@ pub use Rattle.cookie_strict.specs.CrossSite
 pub use Rattle.cookie_strict.specs.HeaderValue
 pub use Rattle.cookie_strict.specs.HostPrefix
 pub use Rattle.cookie_strict.specs.Lifetime
+pub use Rattle.cookie_strict.specs.SiteRule
 pub use Rattle.cookie_strict.specs.StrictErrors
 pub use Rattle.cookie_strict.specs.StrictRules
 pub use Rattle.cookie_strict.specs.StrictRuns

@@ -1,19 +1,20 @@
 -- What each call returns, and the store after it.
 use Rattle.std.specs.Prelude.{◌≡◌, ◌==◌, if◌then◌else◌, ◌⊎◌, ℕ, ◌^◌, ◌-◌, min, Bool, true, false, List, [], length, Option, Some, None, Result, Ok, Err}
+use Rattle.std.specs.Result.{result_map_both}
 use Rattle.cookie_words.specs.Moments.{Moment}
-use Rattle.cookie_psl.specs.Reading.{rules_from}
 use Rattle.cookie_psl.specs.Rules.{RuleList, SameRules}
-use Rattle.cookie_psl.specs.declared.error.ListError.{ListError}
-use Rattle.cookie_psl.specs.declared.error.ListError.TheVariants as ListCase
 use Rattle.cookie_parts.specs.Cookie.{Row}
+use Rattle.cookie_inputs.specs.Suffixes.{suffixes_from, with_default}
+use Rattle.cookie_inputs.specs.declared.suffixes.SuffixesError.{SuffixesError}
+use Rattle.cookie_inputs.specs.declared.suffixes.SuffixesError.TheVariants as SuffixesCase
 use Rattle.cookie_laws.specs.Contents.{Contents, unexpired}
 use Rattle.cookie_laws.specs.Runs.{Call, step}
 use Rattle.cookie_store_c.specs.Inputs.{text_in}
-use Rattle.cookie_strict.specs.StrictRuns.{strict_call}
+use Rattle.cookie_strict.specs.StrictRuns.{store_after_call, strict_call}
 use Rattle.cookie_strict.specs.declared.error.StrictError.{StrictError}
 use Rattle.cookie_store_c.specs.Statuses.{reply_status, strict_error_status}
 use Rattle.cookie_store_c.specs.declared.status.Status.{Status}
-use Rattle.cookie_store_c.specs.declared.status.Status.TheVariants.{Done, NoMemory, NoStore, HasStore, BadLimit, BadRule}
+use Rattle.cookie_store_c.specs.declared.status.Status.TheVariants.{Done, NoMemory, NoStore, HasStore, BadLimit, BadRule, NoRules}
 
 -- the status that a call returns, and the store after it, if there is one
 pub record CallOutcome : Type 0 where
@@ -29,9 +30,9 @@ abbrev pub store_outcome : Contents → Result Call Status → CallOutcome
 store_outcome store (Ok call) = record { status = reply_status (step call store).reply; store = Some (step call store).store }
 store_outcome store (Err status) = error_outcome (Some store) status
 
--- the plain call that a call becomes under the rules of browsers, or the error
+-- what a call becomes under the rules of browsers, or the error
 abbrev pub allowed_outcome : Contents → Result Call StrictError → CallOutcome
-allowed_outcome store (Ok call) = store_outcome store (Ok call)
+allowed_outcome store (Ok call) = record { status = reply_status (step call store).reply; store = Some (store_after_call (Ok call) store) }
 allowed_outcome store (Err error) = error_outcome (Some store) (strict_error_status error)
 
 -- an insertion into a store, under the rules of browsers if it is strict
@@ -93,27 +94,30 @@ abbrev pub HasOutcome : CallOutcome → Type 0 → Option Contents → Status �
 HasOutcome outcome MayAllocate old status new =
     (record { status = status; store = new } ≡ outcome) ⊎ RunsOut MayAllocate old status new
 
--- the status of a list's error, and its malformed line
-abbrev pub list_error_status : ListError → Status × ℕ
-list_error_status (ListCase.BadRule line) = (BadRule, line)
-list_error_status ListCase.Memory = (NoMemory, 0)
+-- the status of the error of a list, and its malformed line
+abbrev pub suffixes_error_status : SuffixesError → Status × ℕ
+suffixes_error_status (SuffixesCase.BadRule line) = (BadRule, line)
+suffixes_error_status SuffixesCase.NoRules = (NoRules, 0)
+suffixes_error_status SuffixesCase.Memory = (NoMemory, 0)
 
--- the store is put under a list of these rules and is otherwise unchanged; or a line is malformed
-abbrev pub UsesRules : Contents → Result RuleList ℕ → ℕ → CallOutcome → Type 0
+-- the store is put under a list of these rules and is otherwise unchanged; or the status of the error of the list
+abbrev pub UsesRules : Contents → Result RuleList SuffixesError → ℕ → CallOutcome → Type 0
 UsesRules store (Ok rules) line outcome =
     (list : RuleList) × SameRules list rules × (line ≡ 0)
     × (outcome ≡ record { status = Done; store = Some (record store { suffixes = Some list }) })
-UsesRules store (Err bad) line outcome = (line ≡ bad) × (outcome ≡ error_outcome (Some store) BadRule)
+UsesRules store (Err error) line outcome =
+    (line ≡ (suffixes_error_status error).1) × (outcome ≡ error_outcome (Some store) (suffixes_error_status error).0)
 
--- the same for the string of a list
-abbrev pub UsesSuffixText : Contents → Result (List ℕ) Status → ℕ → CallOutcome → Type 0
-UsesSuffixText store (Ok text) line outcome = UsesRules store (rules_from text) line outcome
-UsesSuffixText store (Err status) line outcome = (line ≡ 0) × (outcome ≡ error_outcome (Some store) status)
+-- the same for the string of a list, and the rule `*` unless only listed suffixes are public
+abbrev pub UsesSuffixText : Bool → Contents → Result (List ℕ) Status → ℕ → CallOutcome → Type 0
+UsesSuffixText only_listed store (Ok text) line outcome =
+    UsesRules store (result_map_both (with_default only_listed) (λ error. error) (suffixes_from text)) line outcome
+UsesSuffixText only_listed store (Err status) line outcome = (line ≡ 0) × (outcome ≡ error_outcome (Some store) status)
 
 -- the same for a list in bytes, if there is a store
-abbrev pub UsesSuffixes : Option Contents → List ℕ → ℕ → CallOutcome → Type 0
-UsesSuffixes None list line outcome = (line ≡ 0) × (outcome ≡ error_outcome None NoStore)
-UsesSuffixes (Some store) list line outcome = UsesSuffixText store (text_in list) line outcome
+abbrev pub UsesSuffixes : Bool → Option Contents → List ℕ → ℕ → CallOutcome → Type 0
+UsesSuffixes only_listed None list line outcome = (line ≡ 0) × (outcome ≡ error_outcome None NoStore)
+UsesSuffixes only_listed (Some store) list line outcome = UsesSuffixText only_listed store (text_in list) line outcome
 
 -- a function of the rows of a store, or `NoStore` if there is none
 abbrev pub in_store : {T : Type 0} → (List Row → Result T Status) → Option Contents → Result T Status

@@ -5,7 +5,7 @@ use Rattle.std.specs.Str.{is_utf8}
 use Rattle.url.specs.Parts.{Parts}
 use Rattle.cookie_words.specs.Moments.{Moment, moment_at}
 use Rattle.cookie_parts.specs.Cookie.{and_then}
-use Rattle.cookie_parts.specs.Hosts.{url_at}
+use Rattle.cookie_inputs.specs.Urls.{unambiguous_url}
 use Rattle.cookie_laws.specs.Rows.{key_at}
 use Rattle.cookie_laws.specs.Runs.{Call, Set, Remove}
 use Rattle.cookie_store_c.specs.declared.status.Status.{Status}
@@ -29,9 +29,9 @@ moment_in seconds =
     if int_le first_second seconds && int_le seconds last_second then Ok (moment_at (seconds *ℤ pos 1_000_000_000))
     else Err BadTime
 
--- the URL that a string parses to
+-- the URL that a string parses to, unless it is ambiguous
 unfoldable pub url_in : List ℕ → Result Parts Status
-url_in text = ok_or (url_at text) BadUrl
+url_in text = ok_or (unambiguous_url text) BadUrl
 
 -- the string of a URL, and a time
 abbrev pub text_and_time : List ℕ → ℤ → Result (List ℕ × Moment) Status

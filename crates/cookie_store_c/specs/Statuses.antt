@@ -10,7 +10,7 @@ use Rattle.cookie_laws.specs.Runs.{Reply, Stored, Removed, Cleared}
 use Rattle.cookie_strict.specs.declared.error.StrictError.{StrictError}
 use Rattle.cookie_strict.specs.declared.error.StrictError.TheVariants as StrictCase
 use Rattle.cookie_store_c.specs.declared.status.Status.{Status}
-use Rattle.cookie_store_c.specs.declared.status.Status.TheVariants.{Done, Inserted, Updated, ExpiredExisting, NonHttpScheme, NonRelativeScheme, DomainMismatch, Expired, Parse, PublicSuffix, UnspecifiedDomain, NoMemory, BadUrl, NotUtf8, BadTime, NoStore, HasStore, NoRoom, NotFound, BadLimit, BadRule, BadJson, BadShape, BadRon, BadExpiry, BadLine, Unrepresentable, ControlCharacter, TooLong, InsecureUrl, InsecureSameSiteNone, Prefix, SecureStored}
+use Rattle.cookie_store_c.specs.declared.status.Status.TheVariants.{Done, Inserted, Updated, ExpiredExisting, NonHttpScheme, NonRelativeScheme, DomainMismatch, Expired, Parse, PublicSuffix, UnspecifiedDomain, NoMemory, BadUrl, NotUtf8, BadTime, NoStore, HasStore, NoRoom, NotFound, BadLimit, BadRule, BadJson, BadShape, BadRon, BadExpiry, BadLine, Unrepresentable, NoRules, ControlCharacter, TooLong, InsecureUrl, InsecureSameSiteNone, Prefix, SecureStored, SecureLimit}
 
 -- the number of a status
 abbrev pub status_code : Status → ℕ
@@ -41,12 +41,14 @@ status_code BadRon = 33
 status_code BadExpiry = 34
 status_code BadLine = 35
 status_code Unrepresentable = 36
+status_code NoRules = 37
 status_code ControlCharacter = 40
 status_code TooLong = 41
 status_code InsecureUrl = 42
 status_code InsecureSameSiteNone = 43
 status_code Prefix = 44
 status_code SecureStored = 45
+status_code SecureLimit = 46
 
 -- the status of an insertion error
 abbrev pub cookie_error_status : CookieError → Status
@@ -68,6 +70,7 @@ strict_error_status StrictCase.InsecureUrl = InsecureUrl
 strict_error_status StrictCase.InsecureSameSiteNone = InsecureSameSiteNone
 strict_error_status StrictCase.Prefix = Prefix
 strict_error_status StrictCase.SecureStored = SecureStored
+strict_error_status StrictCase.SecureLimit = SecureLimit
 
 -- the status of a reply of the store
 abbrev pub reply_status : Reply → Status

@@ -4,11 +4,11 @@ ghost use Rattle.std.specs.Result.{result_map_both};
 ghost use Rattle.cookie_laws.specs.Rows.{key_at};
 ghost use Rattle.cookie_laws.specs.Runs.{Clear, Remove};
 ghost use Rattle.cookie_store_c.specs.Inputs.{text_and_time, moment_in, remove_call, set_call, text_in};
-ghost use Rattle.cookie_store_c.specs.Calls.{expired_outcome, insertion_outcome, limit_outcome, list_error_status, store_outcome, HasOutcome, UsesSuffixText, RunsOut};
+ghost use Rattle.cookie_store_c.specs.Calls.{expired_outcome, insertion_outcome, limit_outcome, store_outcome, suffixes_error_status, HasOutcome, UsesSuffixText, RunsOut};
 
 use crate::inputs::{moment_in, request, text_in};
 use crate::status::Status;
-use cookie_store::psl::{List, ListError};
+use cookie_inputs::{SuffixesError, parse_suffixes};
 use cookie_store::{CookieStore, HashKey, strict};
 use std::alloc::Global;
 use std::hash::RandomState;
@@ -43,15 +43,17 @@ pub(crate) fn set(
     }
 }
 
-/// Puts the store under the public suffix list `list`. Sets `bad_line` to the number of the first
-/// malformed line after `BadRule`, and otherwise to 0.
+/// Puts the store under the public suffix list `list` and, unless `only_listed` is true, the rule
+/// `*`. Sets `bad_line` to the number of the first malformed line after `BadRule`, and otherwise to
+/// 0.
 pub(crate) fn use_suffixes(
     alloc: Global,
     store: &mut CookieStore,
     list: &[u8],
+    only_listed: bool,
     bad_line: &mut usize,
 ) -> Status
-    ensures { UsesSuffixText store.old (text_in list.now) bad_line.new (record { status = result; store = Some store.new })
+    ensures { UsesSuffixText only_listed store.old (text_in list.now) bad_line.new (record { status = result; store = Some store.new })
         ⊎ ((bad_line.new ≡ 0) × RunsOut (IsOk (text_in list.now)) (Some store.old) result (Some store.new)) }
 {
     *bad_line = 0;
@@ -59,28 +61,29 @@ pub(crate) fn use_suffixes(
         Ok(text) => text,
         Err(status) => return status,
     };
-    match List::from_text(alloc, text) {
+    match parse_suffixes(alloc, text, only_listed) {
         Ok(list) => {
             // `with_suffix_list` takes the store by value.
             let begun = mem::replace(store, CookieStore::new(alloc));
             *store = begun.with_suffix_list(list);
             Status::Done
         }
-        Err(error) => list_error_status(error, bad_line),
+        Err(error) => suffixes_error_status(error, bad_line),
     }
 }
 
 // The status of a list's error. Sets `bad_line` to its malformed line, if there is one.
-fn list_error_status(error: ListError, bad_line: &mut usize) -> Status
+fn suffixes_error_status(error: SuffixesError, bad_line: &mut usize) -> Status
     requires { bad_line.old ≡ 0 }
-    ensures { (result, bad_line.new) ≡ list_error_status error }
+    ensures { (result, bad_line.new) ≡ suffixes_error_status error }
 {
     match error {
-        ListError::BadRule { line } => {
+        SuffixesError::BadRule { line } => {
             *bad_line = line;
             Status::BadRule
         }
-        ListError::Memory => Status::NoMemory,
+        SuffixesError::NoRules => Status::NoRules,
+        SuffixesError::Memory => Status::NoMemory,
     }
 }
 

@@ -249,7 +249,9 @@ pub extern "C" fn cookie_store_get_cross_site(
     status.code()
 }
 
-/// Puts the store under the public suffix list `list`. The stored cookies stay.
+/// Puts the store under the public suffix list `list` and, unless `only_listed` is true, the rule
+/// `*`, by which each top-level domain without a rule of its own is a public suffix. The stored
+/// cookies stay.
 ///
 /// `bad_line` is set to the number of the first malformed line after `BadRule`, and otherwise to 0.
 ///
@@ -258,17 +260,19 @@ pub extern "C" fn cookie_store_get_cross_site(
 /// In the order in which they are checked; the store is unchanged:
 /// - `NoStore`: the handle has no store.
 /// - `NotUtf8`: `list` is not UTF-8.
-/// - `BadRule`: a line of `list` is malformed.
-/// - `NoMemory`: out of memory. May be returned instead of `BadRule`.
+/// - `BadRule`: a line of `list` is malformed, or its rule has one of the bytes `/ < { " : @ =`.
+/// - `NoRules`: each line of `list` is empty or a comment.
+/// - `NoMemory`: out of memory. May be returned instead of `BadRule` and `NoRules`.
 #[unsafe(no_mangle)]
 pub extern "C" fn cookie_store_use_suffixes(
     alloc: Global,
     handle: &mut StoreHandle,
     list: &[u8],
+    only_listed: bool,
     bad_line: &mut usize,
 ) -> u32
     ensures outcome { IsCodeOf result (λ status.
-        UsesSuffixes handle.old.store_ptr.store list.now bad_line.new (record { status = status; store = handle.new.store_ptr.store })
+        UsesSuffixes only_listed handle.old.store_ptr.store list.now bad_line.new (record { status = status; store = handle.new.store_ptr.store })
         ⊎ ((bad_line.new ≡ 0) × RunsOut (IsSome handle.old.store_ptr.store × IsOk (text_in list.now))
         handle.old.store_ptr.store status handle.new.store_ptr.store)) }
     ensures strict { handle.new.is_strict ≡ handle.old.is_strict }
@@ -277,7 +281,7 @@ pub extern "C" fn cookie_store_use_suffixes(
     let Some(mut store) = handle.take(alloc) else {
         return Status::NoStore.code();
     };
-    let status = calls::use_suffixes(alloc, &mut store, list, bad_line);
+    let status = calls::use_suffixes(alloc, &mut store, list, only_listed, bad_line);
     handle.put(alloc, store);
     status.code()
 }

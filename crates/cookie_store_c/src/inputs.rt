@@ -7,7 +7,7 @@ ghost use Rattle.cookie_parts.specs.Cookie.{and_then};
 ghost use Rattle.cookie_store_c.specs.Inputs.{text_and_time, moment_in, request, text_in, url_in, GivesOrRunsOut};
 
 use crate::status::Status;
-use cookie_store::utils::parse_url;
+use cookie_inputs::parse_unambiguous;
 use cookie_words::{epoch, moments_round_trip};
 use jiff::SignedDuration;
 use jiff::civil::DateTime;
@@ -36,12 +36,12 @@ pub(crate) fn moment_in(seconds: i64) -> Result<DateTime, Status>
     }
 }
 
-// Parses a URL.
+// Parses a URL from which all parsers read the same host.
 #[tactic(auto, unfolding(crate::specs::Inputs::url_in))]
 fn url_in(alloc: Global, text: &str) -> Result<Url, Status>
     ensures { GivesOrRunsOut result (url_in text.now) }
 {
-    url_or_status(parse_url(alloc, text))
+    url_or_status(parse_unambiguous(alloc, text))
 }
 
 // The URL that was parsed, or `BadUrl` if there is none.

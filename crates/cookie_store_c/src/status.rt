@@ -37,12 +37,14 @@ pub enum Status {
     BadExpiry,
     BadLine,
     Unrepresentable,
+    NoRules,
     ControlCharacter,
     TooLong,
     InsecureUrl,
     InsecureSameSiteNone,
     Prefix,
     SecureStored,
+    SecureLimit,
 }
 
 impl Status {
@@ -78,12 +80,14 @@ impl Status {
             Status::BadExpiry => 34,
             Status::BadLine => 35,
             Status::Unrepresentable => 36,
+            Status::NoRules => 37,
             Status::ControlCharacter => 40,
             Status::TooLong => 41,
             Status::InsecureUrl => 42,
             Status::InsecureSameSiteNone => 43,
             Status::Prefix => 44,
             Status::SecureStored => 45,
+            Status::SecureLimit => 46,
         }
     }
 
@@ -113,6 +117,7 @@ impl Status {
             Err(StrictError::InsecureSameSiteNone) => Status::InsecureSameSiteNone,
             Err(StrictError::Prefix) => Status::Prefix,
             Err(StrictError::SecureStored) => Status::SecureStored,
+            Err(StrictError::SecureLimit) => Status::SecureLimit,
         }
     }
 

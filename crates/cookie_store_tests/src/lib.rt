@@ -20,6 +20,8 @@ mod forms;
 #[cfg(test)]
 mod header;
 #[cfg(test)]
+mod inputs;
+#[cfg(test)]
 mod insertion;
 #[cfg(test)]
 mod json;
@@ -53,5 +55,7 @@ mod saved_lines;
 mod steps;
 #[cfg(test)]
 mod strict;
+#[cfg(test)]
+mod strict_runs;
 #[cfg(test)]
 mod texts;

@@ -445,7 +445,7 @@ fn urls_are_same_site(rt: HostRuntime) {
     }
 }
 
-static ERRORS: [(StrictError, &str); 7] = [
+static ERRORS: [(StrictError, &str); 8] = [
     (
         StrictError::ControlCharacter,
         "Set-Cookie value has a control character",
@@ -473,6 +473,10 @@ static ERRORS: [(StrictError, &str); 7] = [
     (
         StrictError::SecureStored,
         "cookie would overlay a stored Secure cookie",
+    ),
+    (
+        StrictError::SecureLimit,
+        "domain has its limit of Secure cookies",
     ),
 ];
 

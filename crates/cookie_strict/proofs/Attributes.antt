@@ -1,6 +1,6 @@
 -- The pieces of a header value, and the header value that is joined from them.
-use Rattle.std.proofs.Common.{◌≡◌, ◌<◌, ℕ, ◌+◌, Bool, true, false, not, List, [], ◌∷◌, ◌++◌, length, drop, filter, flat_map, refl, sym, ap, ◌∙◌, inl, inr, arith, lit<, suc, take}
-use Rattle.std.specs.List.{after_first, before_first, list_any, onto_first, position_or_len, slice_split}
+use Rattle.std.proofs.Common.{◌≡◌, ◌<◌, ℕ, ◌+◌, true, false, List, [], ◌∷◌, ◌++◌, length, drop, refl, sym, ap, ◌∙◌, inl, inr, arith, lit<, suc, take}
+use Rattle.std.specs.List.{after_first, list_any, onto_first, position_or_len}
 use Rattle.std.specs.Str.{trim, trim_start, trim_end, chars}
 use Rattle.std.specs.Str.Iter.{split_text, split_has_more, split_pattern, split_steps}
 use Rattle.std.specs.Str.Pattern.{FindsChar}
@@ -11,7 +11,7 @@ use Rattle.std.proofs.lemmas.Iterator.Consumers.{YieldsList-at}
 use Rattle.std.proofs.lemmas.Iterator.Splits.{YieldsList-from_str_split}
 use Rattle.std.proofs.lemmas.List.{drop_all}
 use Rattle.std.proofs.lemmas.List.Splits.{slice_split-cons_yes, slice_split-cons_no, slice_split_first, slice_split_none}
-use Rattle.std.proofs.lemmas.List.Sums.{fails_before_first, split_at_first}
+use Rattle.std.proofs.lemmas.List.Sums.{fails_before_first}
 use Rattle.cookie_words.specs.Texts.{pieces}
 use Rattle.cookie_raw.specs.Reading.{attributes, is_equals, is_semicolon, pair_of, value_of}
 use Rattle.cookie_strict.specs.HeaderValue.{is_long, joined_attributes, short_attributes, without_long_attributes}

@@ -6,7 +6,7 @@ use Rattle.cookie_raw.specs.declared.same_site.SameSite.{SameSite}
 use Rattle.cookie_raw.specs.declared.same_site.SameSite.TheVariants as same_site
 use Rattle.cookie_parts.specs.Cookie.{Row}
 use Rattle.cookie_laws.specs.Contents.{Contents}
-use Rattle.cookie_laws.specs.Header.{InHeaderOrder, cookie_string}
+use Rattle.cookie_laws.specs.Header.{InHeaderOrder}
 use Rattle.cookie_strict.specs.declared.requests.Context.{Context}
 
 -- 5.8.3: a cross-site request receives the cookie. Strict: never. Lax: if it is a top-level navigation with a safe

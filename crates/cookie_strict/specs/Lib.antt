@@ -2,6 +2,7 @@ pub mod CrossSite
 pub mod HeaderValue
 pub mod HostPrefix
 pub mod Lifetime
+pub mod SiteRule
 pub mod Sites
 pub mod StrictErrors
 pub mod StrictRules

@@ -2,7 +2,7 @@
 use Rattle.std.specs.Prelude.{ℕ, List, codes}
 use Rattle.cookie_parts.specs.Errors.{cookie_error_text}
 use Rattle.cookie_strict.specs.declared.error.StrictError.{StrictError}
-use Rattle.cookie_strict.specs.declared.error.StrictError.TheVariants.{ControlCharacter, TooLong, Cookie, InsecureUrl, InsecureSameSiteNone, Prefix, SecureStored}
+use Rattle.cookie_strict.specs.declared.error.StrictError.TheVariants.{ControlCharacter, TooLong, Cookie, InsecureUrl, InsecureSameSiteNone, Prefix, SecureStored, SecureLimit}
 
 -- the message of an error
 abbrev pub strict_error_text : StrictError → List ℕ
@@ -13,3 +13,4 @@ strict_error_text InsecureUrl = codes "cookie is Secure but request-uri is not s
 strict_error_text InsecureSameSiteNone = codes "cookie has SameSite=None but is not Secure"
 strict_error_text Prefix = codes "cookie lacks what the prefix of its name demands"
 strict_error_text SecureStored = codes "cookie would overlay a stored Secure cookie"
+strict_error_text SecureLimit = codes "domain has its limit of Secure cookies"

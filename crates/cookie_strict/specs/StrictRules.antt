@@ -1,5 +1,5 @@
 -- The rules that the draft adds to the insertion of a cookie, draft-ietf-httpbis-rfc6265bis 5.4 and 5.7.
-use Rattle.std.specs.Prelude.{ℕ, Bool, true, false, not, ◌&&◌, ◌||◌, List, bytes_eq, codes, length, take, Option, Some, None, ⊤, if◌then◌else◌}
+use Rattle.std.specs.Prelude.{ℕ, Bool, true, false, not, ◌&&◌, ◌||◌, List, bytes_eq, codes, length, take, Option, Some, None, is_some, ⊤, if◌then◌else◌}
 use Rattle.std.specs.List.{list_any}
 use Rattle.std.specs.Str.{str_eq_ignore_ascii_case}
 use Rattle.url.specs.Parts.{Parts}
@@ -7,12 +7,14 @@ use Rattle.cookie_words.specs.Moments.{Moment}
 use Rattle.cookie_raw.specs.declared.same_site.SameSite.{SameSite}
 use Rattle.cookie_raw.specs.declared.same_site.SameSite.TheVariants as same_site
 use Rattle.cookie_parts.specs.Cookie.{Row, is_secure_only}
-use Rattle.cookie_parts.specs.Domain.{DomainValue, HostOnly, Suffix, NotPresent, Empty, domain_text}
-use Rattle.cookie_parts.specs.Hosts.{covers, is_secure}
-use Rattle.cookie_parts.specs.Path.{covers_path}
-use Rattle.cookie_laws.specs.Rows.{is_unexpired}
+use Rattle.cookie_parts.specs.Domain.{DomainValue, HostOnly, Suffix, NotPresent, Empty}
+use Rattle.cookie_parts.specs.Hosts.{is_secure}
+use Rattle.cookie_laws.specs.Contents.{Contents}
+use Rattle.cookie_laws.specs.Rows.{key_of, row_of}
+use Rattle.cookie_laws.specs.SecureLast.{is_full_of_secure}
+use Rattle.cookie_core.specs.Overlaid.{is_overlaid}
 use Rattle.cookie_strict.specs.declared.error.StrictError.{StrictError}
-use Rattle.cookie_strict.specs.declared.error.StrictError.TheVariants.{InsecureUrl, InsecureSameSiteNone, Prefix, SecureStored}
+use Rattle.cookie_strict.specs.declared.error.StrictError.TheVariants.{InsecureUrl, InsecureSameSiteNone, Prefix, SecureStored, SecureLimit}
 
 -- 5.7: the cookie is Secure, and the URL is not secure
 abbrev pub needs_secure_url : Row → Parts → Bool
@@ -54,30 +56,26 @@ breaks_host_prefix cookie =
     has_prefix (codes "__Host-") cookie.raw.name
     && not (is_secure_only cookie.raw && (is_host_only cookie.domain && has_root_path cookie))
 
--- 5.7: one of the domains covers the other
-abbrev pub are_related : List ℕ → List ℕ → Bool
-are_related a b = covers a b || covers b a
-
--- 5.7: the row is Secure and has not expired, it has the name of the cookie, one of their domains covers the other, and
--- the path of the cookie path-matches that of the row
-abbrev pub is_overlaid : Row → Moment → Row → Bool
-is_overlaid cookie now row =
-    (is_unexpired now row && is_secure_only row.raw)
-    && (bytes_eq row.raw.name cookie.raw.name
-    && (are_related (domain_text row.domain) (domain_text cookie.domain) && covers_path row.path.text cookie.path.text))
-
 -- 5.7, "leave secure cookies alone": neither the cookie nor the URL is secure, and the cookie overlays a stored one
 abbrev pub overlays_secure : Row → Parts → Moment → List Row → Bool
 overlays_secure cookie url now rows =
     (not (is_secure_only cookie.raw) && not (is_secure url)) && list_any (is_overlaid cookie now) rows
 
+-- the cookie is not Secure and no row has its key, and its domain has the limit of unexpired Secure rows: a Secure row
+-- would be evicted for it
+abbrev pub evicts_secure : Row → Moment → Contents → Bool
+evicts_secure cookie now store =
+    not (is_secure_only cookie.raw)
+    && (is_full_of_secure store now (key_of cookie) && not (is_some (row_of (key_of cookie) store.rows)))
+
 -- the first rule that the cookie breaks, if any
-abbrev pub broken_rule : Row → Parts → Moment → List Row → Option StrictError
-broken_rule cookie url now rows =
+abbrev pub broken_rule : Row → Parts → Moment → Contents → Option StrictError
+broken_rule cookie url now store =
     if needs_secure_url cookie url then Some InsecureUrl
     else (if needs_secure_flag cookie then Some InsecureSameSiteNone
     else (if breaks_secure_prefix cookie || breaks_host_prefix cookie then Some Prefix
-    else (if overlays_secure cookie url now rows then Some SecureStored else None)))
+    else (if overlays_secure cookie url now store.rows then Some SecureStored
+    else (if evicts_secure cookie now store then Some SecureLimit else None))))
 
 -- the errors of these rules
 abbrev pub IsRuleError : StrictError → Type 0
@@ -85,4 +83,5 @@ IsRuleError InsecureUrl = ⊤
 IsRuleError InsecureSameSiteNone = ⊤
 IsRuleError Prefix = ⊤
 IsRuleError SecureStored = ⊤
+IsRuleError SecureLimit = ⊤
 IsRuleError other = ⊥

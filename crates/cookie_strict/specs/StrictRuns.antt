@@ -1,17 +1,21 @@
 -- Calls on a store under the draft's rules, draft-ietf-httpbis-rfc6265bis 5.7.
-use Rattle.std.specs.Prelude.{◌≡◌, ℕ, List, [], ◌∷◌, ◌++◌, map, Option, Some, None, Result, Ok, Err, ◌⊎◌, if◌then◌else◌}
+use Rattle.std.specs.Prelude.{◌≡◌, ℕ, true, false, List, [], ◌∷◌, ◌++◌, map, Option, Some, None, Result, Ok, Err, ◌⊎◌}
 use Rattle.url.specs.Parts.{Parts}
 use Rattle.cookie_words.specs.Moments.{Moment}
 use Rattle.cookie_parts.specs.Cookie.{Row, and_then}
+use Rattle.cookie_parts.specs.Hosts.{is_secure}
 use Rattle.cookie_parts.specs.declared.cookie_error.CookieError.{CookieError}
 use Rattle.cookie_parts.specs.declared.cookie_error.CookieError.TheVariants.{Memory}
 use Rattle.cookie_parts.specs.declared.store_action.StoreAction.{StoreAction}
 use Rattle.cookie_parts.specs.declared.store_action.StoreAction.TheVariants.{Inserted}
-use Rattle.cookie_laws.specs.Acceptance.{accept}
+use Rattle.cookie_laws.specs.Acceptance.{outcome_after_checks}
 use Rattle.cookie_laws.specs.Contents.{Contents}
-use Rattle.cookie_laws.specs.Runs.{Call, Set, Insert, Remove, Clear, Stored, step}
+use Rattle.cookie_laws.specs.Rows.{is_unexpired}
+use Rattle.cookie_laws.specs.Runs.{Call, Set, Insert, Remove, Clear, Stored, step, store_after}
+use Rattle.cookie_laws.specs.SecureLast.{secure_last_calls}
 use Rattle.cookie_strict.specs.HeaderValue.{header_error, pair_error, strict_cookie}
 use Rattle.cookie_strict.specs.Lifetime.{limited_cookie}
+use Rattle.cookie_strict.specs.SiteRule.{admitted_by_site}
 use Rattle.cookie_strict.specs.StrictRules.{broken_rule}
 use Rattle.cookie_strict.specs.declared.error.StrictError.{StrictError}
 use Rattle.cookie_strict.specs.declared.error.StrictError.TheVariants.{Cookie}
@@ -26,10 +30,14 @@ abbrev pub if_accepted : Result StoreAction CookieError → Option StrictError �
 if_accepted (Ok action) broken call = unless_broken broken call
 if_accepted (Err error) broken call = Err (Cookie error)
 
+-- the reply to the plain insertion, or the error of a cookie above the site of its host
+abbrev pub site_reply : Row → Parts → Moment → Contents → Result StoreAction CookieError
+site_reply cookie url now store = (outcome_after_checks (admitted_by_site store.suffixes url cookie) url now store).reply
+
 -- the plain insertion of a cookie that expires in time, or the error
 abbrev pub allowed_insertion : Row → Parts → Moment → Contents → Result Call StrictError
 allowed_insertion cookie url now store =
-    if_accepted (accept store cookie url now).reply (broken_rule cookie url now store.rows) (Insert cookie url now)
+    if_accepted (site_reply cookie url now store) (broken_rule cookie url now store) (Insert cookie url now)
 
 -- the plain insertion, unless there is an error
 abbrev pub unless_error : Option StrictError → Result Call StrictError → Result Call StrictError
@@ -47,9 +55,17 @@ strict_call (Insert cookie url now) store = strict_insertion cookie url now stor
 strict_call (Remove key) store = Ok (Remove key)
 strict_call Clear store = Ok Clear
 
--- the store after a plain call, or unchanged after an error
+-- the plain calls that an allowed call stands for: of an insertion, the removals of the rows that are evicted, and then
+-- the insertion
+abbrev pub plain_calls : Call → Contents → List Call
+plain_calls (Set text url now) store = Set text url now ∷ []
+plain_calls (Insert cookie url now) store = secure_last_calls store cookie url now
+plain_calls (Remove key) store = Remove key ∷ []
+plain_calls Clear store = Clear ∷ []
+
+-- the store after an allowed call, or unchanged after an error
 abbrev pub store_after_call : Result Call StrictError → Contents → Contents
-store_after_call (Ok call) store = (step call store).store
+store_after_call (Ok call) store = store_after (plain_calls call store) store
 store_after_call (Err error) store = store
 
 -- the result is that of the plain call, or the error; any result is if it is out of memory
@@ -68,16 +84,16 @@ abbrev pub strict_store_after : List Call → Contents → Contents
 strict_store_after [] store = store
 strict_store_after (call ∷ calls) store = strict_store_after calls (store_after_call (strict_call call store) store)
 
--- the call in front, if it is allowed
-abbrev pub allowed_first : Result Call StrictError → List Call → List Call
-allowed_first (Ok call) calls = call ∷ calls
-allowed_first (Err error) calls = calls
+-- the plain calls of a call in front, if it is allowed
+abbrev pub allowed_first : Result Call StrictError → Contents → List Call → List Call
+allowed_first (Ok call) store calls = plain_calls call store ++ calls
+allowed_first (Err error) store calls = calls
 
 -- the plain calls that calls under the rules become
 abbrev pub allowed_calls : List Call → Contents → List Call
 allowed_calls [] store = []
 allowed_calls (call ∷ calls) store =
-    allowed_first (strict_call call store) (allowed_calls calls (store_after_call (strict_call call store) store))
+    allowed_first (strict_call call store) store (allowed_calls calls (store_after_call (strict_call call store) store))
 
 -- the calls that insert the cookies of these header values, received from the URL at this time
 abbrev pub set_calls : Parts → Moment → List (List ℕ) → List Call
@@ -88,3 +104,10 @@ abbrev pub StopsAt : Parts → Moment → List (List ℕ) → Contents → Conte
 StopsAt url now values old new =
     (before : List (List ℕ)) × (value : List ℕ) × (after : List (List ℕ)) × (values ≡ before ++ value ∷ after)
     × (header_error value ≡ None) × (new ≡ strict_store_after (set_calls url now before) old)
+
+-- an insertion from a URL that is not secure, at a time at which this row has not expired
+abbrev pub IsInsecureInsertion : Row → Call → Type 0
+IsInsecureInsertion row (Set text url now) = (is_secure url ≡ false) × (is_unexpired now row ≡ true)
+IsInsecureInsertion row (Insert cookie url now) = (is_secure url ≡ false) × (is_unexpired now row ≡ true)
+IsInsecureInsertion row (Remove key) = ⊥
+IsInsecureInsertion row Clear = ⊥

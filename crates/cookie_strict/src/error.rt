@@ -27,6 +27,8 @@ pub enum StrictError {
     Prefix,
     /// Neither the cookie nor the URL is secure, and the cookie overlays a stored Secure cookie.
     SecureStored,
+    /// The cookie is not Secure, and a Secure cookie would be evicted for it.
+    SecureLimit,
 }
 
 impl StrictError {
@@ -42,6 +44,7 @@ impl StrictError {
             StrictError::InsecureSameSiteNone => "cookie has SameSite=None but is not Secure",
             StrictError::Prefix => "cookie lacks what the prefix of its name demands",
             StrictError::SecureStored => "cookie would overlay a stored Secure cookie",
+            StrictError::SecureLimit => "domain has its limit of Secure cookies",
         }
     }
 }

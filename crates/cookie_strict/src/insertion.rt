@@ -1,5 +1,5 @@
 //! Insertion of a cookie under the draft's rules.
-ghost use Rattle.std.specs.Prelude.{◌≡◌, false, Err, None, Ok, Some, OnErr, OnOk};
+ghost use Rattle.std.specs.Prelude.{◌≡◌, ◌≢◌, false, Err, None, Ok, Some, IfErr, IfOk, IsTrue, OnErr, OnOk};
 ghost use Rattle.std.specs.List.{list_any};
 ghost use Rattle.cookie_words.specs.Moments.{moment_of};
 ghost use Rattle.cookie_raw.specs.Reading.{attributes, reading};
@@ -7,16 +7,20 @@ ghost use Rattle.cookie_parts.specs.Cookie.{cookie_from_header, early};
 ghost use Rattle.cookie_parts.specs.Outcomes.{ReturnsOrMemory};
 ghost use Rattle.cookie_parts.specs.declared.cookie_error.CookieError.{CookieError};
 ghost use Rattle.cookie_parts.specs.declared.cookie_error.CookieError.TheVariants.{Memory};
-ghost use Rattle.cookie_laws.specs.Runs.{Set};
+ghost use Rattle.cookie_laws.specs.Contents.{HasCreationOrder};
+ghost use Rattle.cookie_laws.specs.Rows.{are_rows};
+ghost use Rattle.cookie_laws.specs.Runs.{step, Insert, Set, Stored};
 ghost use Rattle.cookie_strict.specs.HeaderValue.{header_error, is_long, without_long_attributes};
-ghost use Rattle.cookie_strict.specs.StrictRuns.{strict_call, strict_insertion, store_after_call, InsertsNew, IsStrictReply};
+ghost use Rattle.cookie_strict.specs.StrictRuns.{allowed_insertion, site_reply, strict_call, strict_insertion, store_after_call, InsertsNew, IsStrictReply};
 ghost use Rattle.cookie_strict.specs.declared.error.StrictError.{StrictError};
 ghost use Rattle.cookie_strict.specs.declared.error.StrictError.TheVariants as strict_error;
 
 use crate::header_value::{has_long_attribute, header_error, pair_error, without_long_attributes};
-use crate::rules::{broken_rule, limited_expiry};
+use crate::rules::{broken_rule, index_secure, limited_expiry};
+use crate::site::is_above_site;
 use crate::{StrictError, StrictResult};
-use cookie_core::CookieStore;
+use cookie_core::{CookieStore, InsertResult};
+use cookie_laws::evictions_are_removals;
 use cookie_parts::{Cookie, CookieError, CookieResult};
 use jiff::civil::DateTime;
 use std::alloc::Global;
@@ -94,15 +98,19 @@ fn owned(alloc: Global, cookie: Cookie<'_>) -> CookieResult<'static>
 
 /// Inserts a cookie received from `url` under the draft's rules.
 ///
-/// The cookie expires at most 400 days from `now`. On any error, out of memory included, the store
-/// is unchanged.
+/// The cookie expires at most 400 days from `now`. If the domain has the limit of cookies, an expired
+/// one is evicted first, then one that is not Secure, then a Secure one, in each case the one that
+/// was created first. On any error, out of memory included, the store is unchanged.
 ///
 /// # Errors
 ///
 /// In the order in which they are checked:
 /// - `ControlCharacter`: the name or the value has a control character other than HTAB.
 /// - `TooLong`: the name and the value together are longer than 4,096 bytes.
-/// - `Cookie`: the store rejects the cookie, as [`CookieStore::insert`] does.
+/// - `Cookie`: those of [`CookieStore::check_admitted`].
+/// - `Cookie(PublicSuffix)`: the store has a public suffix list, and the cookie is a domain cookie
+///   whose domain is not a registrable domain suffix of the URL's host, HTML 7.1.1.2.
+/// - `Cookie`: those of [`CookieStore::check_stored`].
 /// - `InsecureUrl`: the cookie is Secure, and the URL is not secure.
 /// - `InsecureSameSiteNone`: the cookie has SameSite=None and is not Secure.
 /// - `Prefix`: the name begins with `__Secure-` and the cookie is not Secure; or it begins with
@@ -110,6 +118,8 @@ fn owned(alloc: Global, cookie: Cookie<'_>) -> CookieResult<'static>
 /// - `SecureStored`: neither the cookie nor the URL is secure, and the store has an unexpired
 ///   Secure cookie of the same name, whose domain covers the new one's or is covered by it, and
 ///   whose path the new one's path-matches.
+/// - `SecureLimit`: the cookie is not Secure and would be `Inserted`, and its domain has the limit of
+///   unexpired Secure cookies.
 /// - `Cookie(Memory)`: out of memory. Only if the cookie would be `Inserted`.
 pub fn insert(
     store: &mut CookieStore,
@@ -129,9 +139,55 @@ pub fn insert(
     }
     let mut cookie = cookie;
     cookie.expires = limited_expiry(cookie.expires, now);
-    store.check_insert(&cookie, url, now)?;
+    insert_limited(store, cookie, url, now)
+}
+
+// Inserts a cookie that expires in time.
+fn insert_limited(
+    store: &mut CookieStore,
+    cookie: Cookie<'static>,
+    url: &Url,
+    now: DateTime,
+) -> StrictResult
+    ensures reply { IsStrictReply result (allowed_insertion cookie.entry url.now (moment_of now) store.old) store.old }
+    ensures store { OnOk result (store.new
+        ≡ store_after_call (allowed_insertion cookie.entry url.now (moment_of now) store.old) store.old) }
+    ensures unchanged { OnErr result (store.new ≡ store.old) }
+    ensures memory { result ≡ Err (strict_error.Cookie Memory)
+        → InsertsNew (allowed_insertion cookie.entry url.now (moment_of now) store.old) store.old }
+{
+    check_insert(store, &cookie, url, now)?;
+    index_secure(store, &cookie, url);
     if let Some(error) = broken_rule(store, &cookie, url, now) {
         return Err(error);
     }
-    Ok(store.insert(cookie, url, now)?)
+    // for the checker: the eviction leaves what the removals leave
+    evictions_are_removals();
+    Ok(store.insert_secure_last(cookie, url, now)?)
+}
+
+// Returns what the store would return for the cookie, and `PublicSuffix` for a domain cookie above
+// the site of the URL's host, but never `Memory`.
+#[tactic(auto, unfolding(cookie_laws::specs::Acceptance::accept))]
+fn check_insert(
+    store: &CookieStore,
+    cookie: &Cookie<'static>,
+    url: &Url,
+    now: DateTime,
+) -> InsertResult
+    ensures reply { result ≡ site_reply cookie.now url.now (moment_of now) store.now }
+    ensures accepted { IfOk result (λ action.
+        (step (Insert cookie.now url.now (moment_of now)) store.now).reply ≡ Stored (Ok action)) }
+    ensures errors { IfErr result (λ error. error ≢ Memory) }
+    ensures in_order { OnOk result (IsTrue (are_rows store.now.rows)) }
+    ensures has_creation_order { OnOk result (HasCreationOrder store.now) }
+{
+    let is_host_only = store.check_admitted(cookie, url)?;
+    if let Some(list) = store.suffix_list()
+        && !is_host_only
+        && is_above_site(&cookie.domain, url, list)
+    {
+        return Err(CookieError::PublicSuffix);
+    }
+    store.check_stored(cookie, url, now)
 }

@@ -1,15 +1,15 @@
 //! The rules that the draft adds to the insertion of a cookie.
-ghost use Rattle.std.specs.List.{list_any};
-ghost use Rattle.std.specs.Prelude.{◌≡◌, IfSome};
+ghost use Rattle.std.specs.Prelude.{◌≡◌, is_some, IfSome};
 ghost use Rattle.cookie_words.specs.Moments.{moment_of};
 ghost use Rattle.cookie_parts.specs.Views.{domain_value, expiry_value};
+ghost use Rattle.cookie_laws.specs.Rows.{key_of, row_of};
 ghost use Rattle.cookie_strict.specs.Lifetime.{limited_expiry};
-ghost use Rattle.cookie_strict.specs.StrictRules.{are_related, breaks_host_prefix, breaks_secure_prefix, broken_rule, has_prefix, has_root_path, is_host_only, is_overlaid, needs_secure_flag, needs_secure_url, overlays_secure, IsRuleError};
+ghost use Rattle.cookie_strict.specs.StrictRules.{breaks_host_prefix, breaks_secure_prefix, broken_rule, evicts_secure, has_prefix, has_root_path, is_host_only, needs_secure_flag, needs_secure_url, overlays_secure, IsRuleError};
 
 use crate::StrictError;
 use cookie_core::CookieStore;
 use cookie_parts::utils::is_secure;
-use cookie_parts::{Cookie, CookieDomain, CookieExpiration, cookie_domain, cookie_path};
+use cookie_parts::{Cookie, CookieDomain, CookieExpiration};
 use cookie_raw::SameSite;
 use jiff::civil::DateTime;
 use url::Url;
@@ -39,7 +39,7 @@ pub(crate) fn broken_rule(
     url: &Url,
     now: DateTime,
 ) -> Option<StrictError>
-    ensures value { result ≡ broken_rule cookie.now url.now (moment_of now) store.now.rows }
+    ensures value { result ≡ broken_rule cookie.now url.now (moment_of now) store.now }
     ensures errors { IfSome result IsRuleError }
 {
     if needs_secure_url(cookie, url) {
@@ -53,6 +53,9 @@ pub(crate) fn broken_rule(
     }
     if overlays_secure(store, cookie, url, now) {
         return Some(StrictError::SecureStored);
+    }
+    if evicts_secure(store, cookie, now) {
+        return Some(StrictError::SecureLimit);
     }
     None
 }
@@ -108,37 +111,32 @@ fn has_root_path(cookie: &Cookie<'static>) -> bool
     cookie.path.is_from_path_attr() && cookie.path.as_str() == "/"
 }
 
+/// Indexes the Secure cookies if the cookie may overlay one.
+pub(crate) fn index_secure(store: &mut CookieStore, cookie: &Cookie<'static>, url: &Url)
+    ensures { store.new ≡ store.old }
+{
+    if !cookie.raw().is_secure() && !is_secure(url) {
+        store.index_secure();
+    }
+}
+
 // Whether neither the cookie nor the URL is secure, and the cookie overlays a stored Secure cookie.
 fn overlays_secure(store: &CookieStore, cookie: &Cookie<'static>, url: &Url, now: DateTime) -> bool
     ensures { result ≡ overlays_secure cookie.now url.now (moment_of now) store.now.rows }
 {
-    !cookie.raw().is_secure() && !is_secure(url) && overlays_any(store, cookie, now)
+    !cookie.raw().is_secure() && !is_secure(url) && store.overlays_secure(cookie, now)
 }
 
-// Whether the cookie overlays a stored Secure cookie.
-fn overlays_any(store: &CookieStore, cookie: &Cookie<'static>, now: DateTime) -> bool
-    ensures { result ≡ list_any (is_overlaid cookie.now (moment_of now)) store.now.rows }
+// Whether the cookie is not Secure, and a Secure cookie would be evicted for it.
+fn evicts_secure(store: &CookieStore, cookie: &Cookie<'static>, now: DateTime) -> bool
+    ensures { result ≡ evicts_secure cookie.now (moment_of now) store.now }
 {
-    store.iter_any().any(|row| is_overlaid(cookie, now, row))
+    !cookie.raw().is_secure() && store.is_full_of_secure(cookie, now) && !is_stored(store, cookie)
 }
 
-// Whether the row is Secure and has not expired, and the cookie overlays it.
-fn is_overlaid(cookie: &Cookie<'static>, now: DateTime, row: &Cookie<'static>) -> bool
-    ensures { result ≡ is_overlaid cookie.now (moment_of now) row.now }
+// Whether a cookie with the same domain, path and name is stored, expired or not.
+fn is_stored(store: &CookieStore, cookie: &Cookie<'static>) -> bool
+    ensures { result ≡ is_some (row_of (key_of cookie.now) store.now.rows) }
 {
-    !row.is_expired(now)
-        && row.raw().is_secure()
-        && row.name() == cookie.name()
-        && are_related(row.domain.as_str(), cookie.domain.as_str())
-        && cookie_path::covers(
-            row.path.as_str().as_bytes(),
-            cookie.path.as_str().as_bytes(),
-        )
-}
-
-// Whether one of the domains covers the other.
-fn are_related(a: &str, b: &str) -> bool
-    ensures { result ≡ are_related a.now b.now }
-{
-    cookie_domain::covers(a, b) || cookie_domain::covers(b, a)
+    store.contains_any(cookie.domain.as_str(), cookie.path.as_str(), cookie.name())
 }

@@ -1,8 +1,11 @@
-//! The site of a URL.
+//! The site of a URL, and the domain cookies that it may set.
 ghost use Rattle.std.specs.Prelude.{◌≡◌, option_map};
+ghost use Rattle.cookie_parts.specs.Views.{domain_value};
+ghost use Rattle.cookie_strict.specs.SiteRule.{is_above_site, is_registrable_suffix};
 ghost use Rattle.cookie_strict.specs.Sites.{is_same_site, site_domain, site_of, site_value};
 
 use cookie_parts::utils::is_host_name;
+use cookie_parts::{CookieDomain, cookie_domain};
 use cookie_psl::List;
 use url::Url;
 
@@ -41,6 +44,28 @@ pub fn is_same_site(first: &Url, second: &Url, list: &List) -> bool
         }
         _ => false,
     }
+}
+
+/// Returns whether this is the domain of a domain cookie that is above the site of `url`'s host: not
+/// a registrable domain suffix of the host, HTML 7.1.1.2.
+pub(crate) fn is_above_site(domain: &CookieDomain, url: &Url, list: &List) -> bool
+    ensures { result ≡ is_above_site list.now (domain_value domain.now) url.now }
+{
+    let CookieDomain::Suffix(domain) = domain else {
+        return false;
+    };
+    match url.host_str() {
+        Some(host) => !is_registrable_suffix(domain, host, list),
+        None => true,
+    }
+}
+
+// Returns whether the domain is not its own public suffix, and the site of the host covers it.
+fn is_registrable_suffix(domain: &str, host: &str, list: &List) -> bool
+    ensures { result ≡ is_registrable_suffix list.now domain.now host.now }
+{
+    list.registrable_domain(domain).is_some()
+        && cookie_domain::covers(site_domain(host, list), domain)
 }
 
 // Returns the registrable domain of the host, or the host itself if it has none.

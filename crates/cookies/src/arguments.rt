@@ -2,13 +2,13 @@
 use crate::command_line::command_line;
 use crate::error::{Failure, Usage};
 use crate::format::Format;
-use crate::options::{Command, CookieFile, Key, Request};
+use crate::options::{Command, CookieFile, Key, Request, SuffixFile};
 use crate::purge::Purge;
 use clap::ArgMatches;
 use clap::error::ErrorKind;
+use cookie_inputs::parse_unambiguous;
 use cookie_store::saved::read_moment;
 use cookie_store::strict::Context;
-use cookie_store::utils::parse_url;
 use cookie_words::without_dot;
 use jiff::civil::DateTime;
 use std::alloc::{AllocError, Global};
@@ -155,10 +155,14 @@ fn cookie_file<'a>(
 fn suffixes<'a>(
     matches: &ArgMatches<'a>,
     file: CookieFile<'a>,
-) -> Result<Option<&'a str>, Usage<'a>> {
+) -> Result<Option<SuffixFile<'a>>, Usage<'a>> {
     match matches.get_str("suffixes") {
         Some(name) if name == "-" && file.name == "-" => Err(Usage::InputTwice),
-        name => Ok(name),
+        Some(name) => Ok(Some(SuffixFile {
+            name,
+            only_listed: matches.get_flag("only-listed"),
+        })),
+        None => Ok(None),
     }
 }
 
@@ -176,7 +180,7 @@ fn context(matches: &ArgMatches<'_>) -> Option<Context> {
 
 fn url<'a>(alloc: Global, matches: &ArgMatches<'a>) -> Result<Url, Failure<'a>> {
     let text = word(matches, "URL")?;
-    match parse_url(alloc, text)? {
+    match parse_unambiguous(alloc, text)? {
         Some(url) => Ok(url),
         None => Err(Failure::from(Usage::BadUrl(text))),
     }

@@ -49,6 +49,7 @@ fn header<'a>(alloc: Global) -> Result<Command<'a>, AllocError> {
             alloc,
             "Leaves out domain cookies of the public suffixes of LIST",
         ))?
+        .arg(only_listed(alloc)?)?
         .arg(flag(alloc, "strict", "Follows the rules of browsers"))?
         .arg(flag(alloc, "cross-site", "The request comes from another site").requires_arg(
             "strict",
@@ -71,6 +72,7 @@ fn set<'a>(alloc: Global) -> Result<Command<'a>, AllocError> {
             alloc,
             "Rejects domain cookies for the public suffixes of LIST",
         ))?
+        .arg(only_listed(alloc)?)?
         .arg(flag(alloc, "strict", "Follows the rules of browsers"))?
         .arg(format(alloc, "format", "The format of FILE"))?
         .arg(now(alloc))
@@ -137,6 +139,10 @@ fn format<'a>(alloc: Global, id: &'a str, help: &'a str) -> Arg<'a> {
 
 fn suffixes<'a>(alloc: Global, help: &'a str) -> Arg<'a> {
     option(alloc, "suffixes", "LIST", help)
+}
+
+fn only_listed<'a>(alloc: Global) -> Result<Arg<'a>, AllocError> {
+    flag(alloc, "only-listed", "Does not add the rule * to LIST").requires_arg("suffixes")
 }
 
 fn now<'a>(alloc: Global) -> Arg<'a> {

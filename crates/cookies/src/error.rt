@@ -6,8 +6,8 @@ ghost use Rattle.cookies.specs.Statuses.{status_of};
 
 use crate::escape::escaped;
 use crate::files::{input_name, output_name};
+use cookie_inputs::SuffixesError;
 use cookie_store::netscape::NetscapeError;
-use cookie_store::psl::ListError;
 use cookie_store::serde::MigrateError;
 use cookie_store::strict::StrictError;
 use cookie_store::{CookieError, Error};
@@ -61,12 +61,12 @@ pub enum FileError {
     /// One of its lines is not a cookie.
     Lines(MigrateError),
     /// It is not a public suffix list.
-    Suffixes(ListError),
+    Suffixes(SuffixesError),
     /// It is not a `cookies.txt`, or its cookies cannot be written as one.
     Netscape(NetscapeError),
     /// It has no cookie with the domain, path and name.
     NoCookie,
-    /// A cookie for a header has a control character.
+    /// A cookie for a header has a control character of ASCII other than HTAB.
     ControlCharacter,
 }
 
@@ -111,8 +111,8 @@ impl From<NetscapeError> for FileError {
     }
 }
 
-impl From<ListError> for FileError {
-    fn from(error: ListError) -> FileError {
+impl From<SuffixesError> for FileError {
+    fn from(error: SuffixesError) -> FileError {
         FileError::Suffixes(error)
     }
 }

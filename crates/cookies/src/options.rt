@@ -12,6 +12,14 @@ pub struct CookieFile<'a> {
     pub format: Format,
 }
 
+/// The file of a public suffix list. The name `-` is standard input.
+#[derive(Clone, Copy, Debug, PartialEq, Eq)]
+pub struct SuffixFile<'a> {
+    pub name: &'a str,
+    /// Whether the rule `*` is not added.
+    pub only_listed: bool,
+}
+
 /// The domain, the path and the name of a cookie.
 #[derive(Clone, Copy, Debug, PartialEq, Eq)]
 pub struct Key<'a> {
@@ -36,8 +44,7 @@ pub enum Command<'a> {
     Header {
         url: Url,
         file: CookieFile<'a>,
-        /// The file of a public suffix list.
-        suffixes: Option<&'a str>,
+        suffixes: Option<SuffixFile<'a>>,
         /// Where the request comes from, if the rules of browsers hold.
         context: Option<Context>,
     },
@@ -46,8 +53,7 @@ pub enum Command<'a> {
         url: Url,
         value: &'a str,
         file: CookieFile<'a>,
-        /// The file of a public suffix list.
-        suffixes: Option<&'a str>,
+        suffixes: Option<SuffixFile<'a>>,
         /// Whether the rules of browsers hold.
         is_strict: bool,
     },

@@ -1,9 +1,10 @@
 //! The cookies of a request.
 ghost use Rattle.std.specs.Prelude.{◌≡◌, map, IfOk, IfSome, None};
+ghost use Rattle.std.specs.List.{list_any};
 ghost use Rattle.cookie_words.specs.Moments.{moment_of};
 ghost use Rattle.cookie_store.specs.CrossSite.{IsSent};
 ghost use Rattle.cookie_store.specs.Header.{InHeaderOrder};
-ghost use Rattle.cookies.specs.Requests.{is_for_suffix};
+ghost use Rattle.cookies.specs.Requests.{is_field_control, is_for_suffix};
 
 use cookie_store::psl::List;
 use cookie_store::strict::{self, Context};
@@ -37,4 +38,15 @@ pub fn is_for_suffix(cookie: &Cookie<'_>, list: &List) -> bool
         CookieDomain::Suffix(_) => cookie.domain.is_public_suffix(list),
         _ => false,
     }
+}
+
+/// Returns whether a header field cannot have this value: it has a control character of ASCII other
+/// than HTAB, RFC 9110 5.5.
+pub fn has_control(value: &str) -> bool
+    ensures { result ≡ list_any is_field_control value.now }
+{
+    value
+        .as_bytes()
+        .iter()
+        .any(|byte| byte.is_ascii_control() && *byte != b'\t')
 }

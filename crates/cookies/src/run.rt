@@ -3,11 +3,12 @@ use crate::arguments::parse;
 use crate::error::{Failure, FileError};
 use crate::files;
 use crate::format::Format;
-use crate::options::{Command, CookieFile, Key, Request};
+use crate::options::{Command, CookieFile, Key, Request, SuffixFile};
 use crate::purge::{Purge, purged};
-use crate::request::{is_for_suffix, request_cookies};
+use crate::request::{has_control, is_for_suffix, request_cookies};
 use crate::storage::{read_cookies, written_cookies};
 use crate::table::table;
+use cookie_inputs::parse_suffixes;
 use cookie_store::psl::List;
 use cookie_store::strict::{self, Context};
 use cookie_store::{CookieStore, HashKey, StoreAlloc, cookie_string};
@@ -86,7 +87,7 @@ impl<'r> Runner<'r> {
         &self,
         url: &Url,
         file: CookieFile<'a>,
-        suffixes: Option<&'a str>,
+        suffixes: Option<SuffixFile<'a>>,
         context: Option<Context>,
     ) -> Result<(), Failure<'a>> {
         let list = self.list(suffixes)?;
@@ -99,7 +100,7 @@ impl<'r> Runner<'r> {
             return Ok(());
         }
         let mut header = cookie_string(self.alloc.alloc, &cookies)?;
-        if header.chars().any(|c| c.is_control() && c != '\t') {
+        if has_control(header.as_str()) {
             return Err(Failure::input(file.name, FileError::ControlCharacter));
         }
         header.push('\n')?;
@@ -111,7 +112,7 @@ impl<'r> Runner<'r> {
         url: &Url,
         value: &str,
         file: CookieFile<'a>,
-        suffixes: Option<&'a str>,
+        suffixes: Option<SuffixFile<'a>>,
         is_strict: bool,
     ) -> Result<(), Failure<'a>> {
         let list = self.list(suffixes)?;
@@ -195,20 +196,20 @@ impl<'r> Runner<'r> {
     }
 
     // Reads a public suffix list, if its file is named.
-    fn list<'a>(&self, suffixes: Option<&'a str>) -> Result<Option<List>, Failure<'a>> {
-        let Some(name) = suffixes else {
+    fn list<'a>(&self, suffixes: Option<SuffixFile<'a>>) -> Result<Option<List>, Failure<'a>> {
+        let Some(file) = suffixes else {
             return Ok(None);
         };
-        match self.list_in(name) {
+        match self.list_in(file) {
             Ok(list) => Ok(Some(list)),
-            Err(error) => Err(Failure::input(name, error)),
+            Err(error) => Err(Failure::input(file.name, error)),
         }
     }
 
-    fn list_in(&self, name: &str) -> Result<List, FileError> {
-        let contents = files::read(self.rt, name)?;
+    fn list_in(&self, file: SuffixFile<'_>) -> Result<List, FileError> {
+        let contents = files::read(self.rt, file.name)?;
         match str::from_utf8(contents.as_slice()) {
-            Ok(text) => Ok(List::from_text(self.alloc.alloc, text)?),
+            Ok(text) => Ok(parse_suffixes(self.alloc.alloc, text, file.only_listed)?),
             Err(_) => Err(FileError::NotUtf8),
         }
     }

@@ -1,6 +1,9 @@
+use std::io::ErrorKind;
 use std::num::NonZeroUsize;
+use std::path::Path;
+use std::{env, fs, process};
 
-use pulleymaroon::{Cookie, CookieStore, CrossSite, Error, StoreAction};
+use pulleymaroon::{Cookie, CookieStore, CrossSite, Error, StoreAction, SYSTEM_SUFFIX_FILE};
 
 use crate::{assert_header, at, filled, names, FIRST, LAST, NOW, PAGE, SECURE_PAGE};
 
@@ -83,6 +86,30 @@ fn a_strict_store_rejects_more() {
     assert_rows(&mut store, &rows);
     store.set_strict(false);
     assert_eq!(store.parse("s=2", PAGE, at(NOW)), UPDATED);
+}
+
+#[test]
+fn a_strict_store_keeps_secure_cookies_and_sites() {
+    let mut store = CookieStore::new().unwrap();
+    store.set_strict(true);
+    store.set_domain_limit(NonZeroUsize::new(1).unwrap());
+    store.use_suffixes("example\ns3.b.example\n").unwrap();
+    let rows = [
+        (SECURE_PAGE, "s=1; Secure", INSERTED),
+        (PAGE, "n=1", Err(Error::SecureLimit)),
+        (SECURE_PAGE, "n=1", Err(Error::SecureLimit)),
+        (
+            "https://c.s3.b.example/",
+            "n=1; Domain=b.example",
+            Err(Error::PublicSuffix),
+        ),
+        (
+            "https://c.s3.b.example/",
+            "n=1; Domain=c.s3.b.example",
+            INSERTED,
+        ),
+    ];
+    assert_rows(&mut store, &rows);
 }
 
 #[test]
@@ -238,16 +265,134 @@ fn a_limit_evicts_the_first() {
 }
 
 #[test]
-fn a_bad_rule_is_named() {
-    let mut store = CookieStore::new().unwrap();
-    let error = store.use_suffixes("example\na..b\n").unwrap_err();
-    assert_eq!(error, Error::BadRule { line: 2 });
+fn what_is_no_list_is_an_error() {
+    let html = "\n<!DOCTYPE html>\n<html></html>\n";
+    let table = [
+        ("example\na..b\n", Error::BadRule { line: 2 }),
+        (html, Error::BadRule { line: 2 }),
+        (r#"{"error": 1}"#, Error::BadRule { line: 1 }),
+        (SYSTEM_SUFFIX_FILE, Error::BadRule { line: 1 }),
+        ("", Error::NoRules),
+        ("// a comment\n\n", Error::NoRules),
+    ];
+    for (list, expected) in table {
+        let mut store = CookieStore::new().unwrap();
+        assert_eq!(store.use_suffixes(list), Err(expected), "{list}");
+        assert_eq!(
+            store.use_only_listed_suffixes(list),
+            Err(expected),
+            "{list}"
+        );
+        assert_eq!(store.parse("a=1; Domain=example", PAGE, at(NOW)), INSERTED);
+    }
     assert_eq!(
-        error.to_string(),
+        Error::BadRule { line: 2 }.to_string(),
         "a line of the list is not a rule (line 2)"
     );
-    assert_eq!(store.parse("a=1; Domain=example", PAGE, at(NOW)), INSERTED);
-    assert_eq!(store.use_suffixes(""), Ok(()));
+}
+
+/// Returns which of some domains are no public suffixes.
+fn no_suffixes(store: &mut CookieStore) -> Vec<&'static str> {
+    let mut domains = vec!["shop.co.uk", "co.uk", "shop.np", "np"];
+    domains.retain(|domain| {
+        let url = format!("http://deep.{domain}/");
+        let result = store.parse(&format!("a=1; Domain={domain}"), &url, at(NOW));
+        assert!(
+            result == INSERTED || result == Err(Error::PublicSuffix),
+            "{domain}"
+        );
+        result == INSERTED
+    });
+    domains
+}
+
+#[test]
+fn top_level_domains_are_suffixes_unless_only_listed_ones_are() {
+    let list = "uk\nco.uk\n";
+    let mut store = CookieStore::new().unwrap();
+    assert_eq!(
+        no_suffixes(&mut store),
+        ["shop.co.uk", "co.uk", "shop.np", "np"]
+    );
+    let mut store = CookieStore::new().unwrap();
+    store.use_suffixes(list).unwrap();
+    assert_eq!(no_suffixes(&mut store), ["shop.co.uk", "shop.np"]);
+    let mut store = CookieStore::new().unwrap();
+    store.use_only_listed_suffixes(list).unwrap();
+    assert_eq!(no_suffixes(&mut store), ["shop.co.uk", "shop.np", "np"]);
+}
+
+#[test]
+fn a_file_is_a_list() {
+    let file = env::temp_dir().join(format!("pulleymaroon-{}.dat", process::id()));
+    let use_file = |content: &[u8]| {
+        fs::write(&file, content).unwrap();
+        let mut store = CookieStore::new().unwrap();
+        let result = store.use_suffix_file(&file);
+        fs::remove_file(&file).unwrap();
+        result.map(|()| store)
+    };
+    let mut store = use_file(b"uk\nco.uk\n").unwrap();
+    assert_eq!(no_suffixes(&mut store), ["shop.co.uk", "shop.np"]);
+    let table: [(&[u8], Error); 3] = [
+        (b"\xff", Error::NotUtf8),
+        (b"", Error::NoRules),
+        (b"<html>", Error::BadRule { line: 1 }),
+    ];
+    for (content, expected) in table {
+        let error = use_file(content).unwrap_err();
+        assert_eq!(error.kind(), ErrorKind::InvalidData);
+        let inner = error.get_ref().and_then(|inner| inner.downcast_ref());
+        assert_eq!(inner, Some(&expected));
+    }
+    let error = CookieStore::new()
+        .unwrap()
+        .use_suffix_file(&file)
+        .unwrap_err();
+    assert_eq!(error.kind(), ErrorKind::NotFound);
+    if Path::new(SYSTEM_SUFFIX_FILE).exists() {
+        let mut store = CookieStore::new().unwrap();
+        store.use_suffix_file(SYSTEM_SUFFIX_FILE).unwrap();
+        assert_eq!(no_suffixes(&mut store), ["shop.co.uk"]);
+    }
+}
+
+/// URLs from which some parsers read one host and some another.
+#[test]
+fn ambiguous_urls_are_not_valid() {
+    let mut store = filled(&["a=1"]);
+    for url in [
+        r"http://a.example\@b.example/d/",
+        r"http://b.example\@a.example/d/",
+        r"http:\\a.example/d/",
+        "http:a.example/d/",
+        "http:80",
+        "http://127.1./",
+        "http://a.example\t/d/",
+        " http://a.example/d/",
+        "http://a%2eexample/d/",
+        "http://web.1/",
+        "http://1.2.3.300/",
+        "http://[fe80::1%25eth0]/",
+    ] {
+        assert_eq!(
+            store.cookie_header(url, at(NOW)),
+            Err(Error::BadUrl),
+            "{url}"
+        );
+        assert_eq!(
+            store.parse("b=1", url, at(NOW)),
+            Err(Error::BadUrl),
+            "{url}"
+        );
+    }
+    for url in [
+        "http://b.example@a.example/d/",
+        "http://a.example:80/d/",
+        "http://A.EXAMPLE/d/",
+    ] {
+        assert_header(&mut store, url, NOW, "a=1");
+    }
 }
 
 #[test]

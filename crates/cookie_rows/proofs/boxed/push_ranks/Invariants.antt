@@ -5,4 +5,4 @@ use Rattle.cookie_rows.specs.Eviction.{rank_of}
 use Rattle.cookie_rows.proofs.boxed.push_ranks.Given as goal
 
 abbrev pub invariant-loop-row : goal.invariant-loop-row
-invariant-loop-row l = l.ranks.items ≡ l.initial.ranks.items ++ map (rank_of (moment_of l.now)) (take l.row-index l.rows)
+invariant-loop-row l = l.ranks.items ≡ l.initial.ranks.items ++ map (rank_of l.order (moment_of l.now)) (take l.row-index l.rows)

@@ -7,9 +7,9 @@ use Rattle.cookie_rows.proofs.name_list.retain_among.Goals as goal
 
 pub returns-clause-retained : goal.returns-clause-retained
 returns-clause-retained c =
-    filter_same _ (survives (moment_of c.args.now) c.args.first) _ (λ row kept g call. search rules)
+    filter_same _ (survives c.args.order (moment_of c.args.now) c.args.first) _ (λ row kept g call. search rules)
     c.args.rows.now.items c.retain.new.self.items c.retain.ensures.filtered
 
 pub returns-clause-differ : goal.returns-clause-differ
 returns-clause-differ c =
-    rw (returns-clause-retained c) (differ_filtered (survives (moment_of c.args.now) c.args.first) c.args.rows.now.items c.requires)
+    rw (returns-clause-retained c) (differ_filtered (survives c.args.order (moment_of c.args.now) c.args.first) c.args.rows.now.items c.requires)

@@ -6,10 +6,10 @@ use Rattle.cookie_rows.proofs.names.retain_in.Goals as goal
 
 pub returns-clause-retained : goal.returns-clause-retained
 returns-clause-retained c =
-    values_retained _ (survives (moment_of c.args.now) c.args.first) _ (λ k v b w g call. search rules)
+    values_retained _ (survives c.args.order (moment_of c.args.now) c.args.first) _ (λ k v b w g call. search rules)
     c.args.rows.now.entries c.retain.new.self.entries c.retain.ensures.filtered
 
 pub returns-clause-named : goal.returns-clause-named
 returns-clause-named c =
-    named_retained _ (survives (moment_of c.args.now) c.args.first) _ (λ k v b w g call. search rules)
+    named_retained _ (survives c.args.order (moment_of c.args.now) c.args.first) _ (λ k v b w g call. search rules)
     c.args.rows.now.entries c.retain.new.self.entries c.retain.ensures.filtered c.requires.named

@@ -6,5 +6,5 @@ use Rattle.cookie_rows.proofs.path_table.retain_in.Goals as goal
 
 pub returns : goal.returns
 returns c =
-    texts_retained _ (survives (moment_of c.args.now) c.args.first) _ (λ k v b w g call. search rules)
+    texts_retained _ (survives c.args.order (moment_of c.args.now) c.args.first) _ (λ k v b w g call. search rules)
     c.args.groups.now.entries c.retain.new.self.entries c.retain.ensures.filtered

@@ -170,3 +170,11 @@ returns-in_err-fill-clause-memory g c =
     (λ input p.
     let ahead = read_ahead c.lines.input c.fill.new.self _ (flushed c.lines.input _ _ p c.in_ok-flush.ensures.whole c.in_ok-flush.ensures.empty) c.in_err-fill.ensures.bytes in
     (ahead.passed, _, ahead.has_run.split, inl (are_read c.fill.new.self ahead none), ahead.has_run.sends))
+
+pub returns-clause-reads : goal.returns-clause-reads
+returns-clause-reads g c =
+    IfSome_then (g.R.Source.state c.args.source.now).remaining c.lines.invariant.turns
+    (λ input gave.
+    let (left, known, count) = gave in
+    let one = c.in_ok-fill.ensures.fewer in
+    omega arith)

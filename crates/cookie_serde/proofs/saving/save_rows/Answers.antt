@@ -4,7 +4,7 @@ use Rattle.std.proofs.lemmas.Result.{err_from_is_err_and}
 use Rattle.cookie_words.specs.Moments.{moment_of}
 use Rattle.cookie_serde.specs.Saving.{is_among}
 use Rattle.cookie_serde.proofs.SavedLines.{filter_around, filter_past, stopped_at, writes_more}
-use Rattle.cookie_serde.proofs.Walked.{around, done_more, walked_on}
+use Rattle.cookie_core.proofs.Walked.{around, done_more, walked_on}
 use Rattle.cookie_serde.proofs.saving.save_rows.Goals as goal
 
 pub returns-in_err-save_row-clause-stopped : goal.returns-in_err-save_row-clause-stopped

@@ -1,6 +1,5 @@
-use Rattle.std.proofs.Common.{ap, ◌∙◌, None, lit<}
+use Rattle.std.proofs.Common.{ap, ◌∙◌, lit<}
 use Rattle.std.specs.List.{list_any}
-use Rattle.std.proofs.lemmas.Str.Pattern.{split_once_first}
 use Rattle.cookie_strict.specs.HeaderValue.{is_long}
 use Rattle.cookie_strict.proofs.Attributes.{attributes-after_first, attributes-none}
 use Rattle.cookie_strict.proofs.header_value.has_long_attribute.Goals as goal

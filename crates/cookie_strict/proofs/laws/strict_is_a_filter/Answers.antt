@@ -1,14 +1,15 @@
 use Rattle.std.proofs.Common.{◌≡◌, List, [], ◌∷◌, Result, Ok, Err, refl, sym, ◌∙◌}
 use Rattle.cookie_laws.specs.Contents.{Contents}
-use Rattle.cookie_laws.specs.Runs.{Call, step, store_after}
-use Rattle.cookie_strict.specs.StrictRuns.{allowed_calls, allowed_first, store_after_call, strict_call, strict_store_after}
+use Rattle.cookie_laws.specs.Runs.{Call, store_after}
+use Rattle.cookie_strict.specs.StrictRuns.{allowed_calls, allowed_first, plain_calls, store_after_call, strict_call, strict_store_after}
 use Rattle.cookie_strict.specs.declared.error.StrictError.{StrictError}
+use Rattle.cookie_strict.proofs.SecureRows.{store_after-append}
 use Rattle.cookie_strict.proofs.laws.strict_is_a_filter.Goals as goal
 
--- the admitted call in front
-first_allowed : (admitted : Result Call StrictError) (calls : List Call) (store : Contents)
-    → store_after (allowed_first admitted calls) store ≡ store_after calls (store_after_call admitted store)
-first_allowed (Ok call) calls store = refl
+-- the allowed call in front
+first_allowed : (allowed : Result Call StrictError) (calls : List Call) (store : Contents)
+    → store_after (allowed_first allowed store calls) store ≡ store_after calls (store_after_call allowed store)
+first_allowed (Ok call) calls store = store_after-append (plain_calls call store) calls store
 first_allowed (Err error) calls store = refl
 
 filtered : (calls : List Call) (store : Contents) → strict_store_after calls store ≡ store_after (allowed_calls calls store) store

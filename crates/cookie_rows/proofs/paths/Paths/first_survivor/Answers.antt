@@ -1,14 +1,17 @@
-use Rattle.std.proofs.Common.{◌∙◌, ◌++◌, ◌∷◌, [], ap, arith, length, subst, true, IsPermutation}
+use Rattle.std.proofs.Common.{◌∙◌, ◌++◌, ◌∷◌, [], ap, arith, length, subst, IsPermutation}
 use Rattle.cookie_words.specs.Moments.{moment_of}
+use Rattle.cookie_rows.specs.Eviction.{rank_of}
 use Rattle.cookie_rows.proofs.ChosenRank.{first_between}
 use Rattle.cookie_rows.proofs.paths.Paths.first_survivor.Goals as goal
 
 pub returns-clause-first : goal.returns-clause-first
 returns-clause-first c =
+    let now = moment_of c.args.now in
+    let rank = rank_of c.args.order now c.args.row.now in
     let split = c.select_nth_unstable-first.result in
     let all = split.0.now ++ split.1.now ∷ split.2.now in
-    let pushed = c.deref_mut.ensures.value ∙ c.in_ok-push.ensures.items ∙ ap (λ ts. ts ++ (true, c.args.number) ∷ []) c.in_ok-ranks.ensures in
-    first_between split.0.now split.1.now split.2.now c.args.limit (moment_of c.args.now) c.args.number c.args.self.now
+    let pushed = c.deref_mut.ensures.value ∙ c.in_ok-push.ensures.items ∙ ap (λ t. c.in_ok-ranks.ranks.items ++ t ∷ []) c.rank.ensures ∙ ap (λ ts. ts ++ rank ∷ []) c.in_ok-ranks.ensures in
+    first_between split.0.now split.1.now split.2.now c.args.limit c.args.order now rank c.args.self.now
     (subst (λ ts. IsPermutation ts all) pushed c.select_nth_unstable-first.ensures.permutation)
     c.select_nth_unstable-first.ensures.partitioned
     (omega (arith, ap length pushed))

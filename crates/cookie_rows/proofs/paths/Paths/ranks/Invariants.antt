@@ -6,4 +6,4 @@ use Rattle.cookie_rows.specs.Eviction.{rank_of}
 use Rattle.cookie_rows.proofs.paths.Paths.ranks.Given as goal
 
 abbrev pub invariant-loop-names : goal.invariant-loop-names
-invariant-loop-names l = l.ranks.items ≡ flat_map (map (rank_of (moment_of l.now))) (take l.names-index l.groups)
+invariant-loop-names l = l.ranks.items ≡ flat_map (map (rank_of l.order (moment_of l.now))) (take l.names-index l.groups)

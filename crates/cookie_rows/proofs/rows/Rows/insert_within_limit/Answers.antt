@@ -1,14 +1,13 @@
-use Rattle.std.proofs.Common.{◌∙◌, ◌+◌, ap, inl, refl, subst, sym, None, Ok, Some}
+use Rattle.std.proofs.Common.{◌∙◌, ◌+◌, ◌<◌, ap, arith, inl, refl, subst, sym, None, Some}
 use Rattle.cookie_words.specs.Moments.{moment_of}
-use Rattle.cookie_parts.specs.declared.store_action.StoreAction.TheVariants.{Inserted}
-use Rattle.cookie_laws.specs.Acceptance.{store_by}
 use Rattle.cookie_laws.specs.Contents.{contents_of, rows_in_order}
 use Rattle.cookie_laws.specs.Rows.{RowsInOrder, key_of, add_created, put, row_of}
 use Rattle.cookie_rows.specs.Groups.{texts_of}
 use Rattle.cookie_rows.specs.Items.{AreItems, Item, find_items, groups_in_order, put_items}
-use Rattle.cookie_rows.specs.Eviction.{InsertsInDomains}
+use Rattle.cookie_rows.specs.Eviction.{HasRoom, InsertsInDomains, with_inserted}
 use Rattle.cookie_rows.proofs.AreItems.{found_items, items_put, kept_put}
 use Rattle.cookie_rows.proofs.Inserted.{items_inserted, kept_at_least_one, kept_inserted, kept_unlimited}
+use Rattle.cookie_rows.proofs.KeyClasses.{room_at_least_one}
 use Rattle.cookie_rows.proofs.rows.Rows.insert_within_limit.Goals as goal
 
 pub add_row-requires : goal.add_row-requires
@@ -38,7 +37,7 @@ returns-in_ok-add_row-in-None-clause-inserted c =
     (ap groups_in_order (c.in_ok-add_row-in-None.ensures.added ∙ ap (λ (i : Item). put_items i.row i.number gs) c.in_ok-row.ensures)
     ∙ kept_put n gs c.self.invariant row
     ∙ ap (λ (k : RowsInOrder). record { rows = put k.rows row; created = add_created k.created (key_of row) }) c.self.view_is
-    ∙ kept_unlimited c.args.self.now row (moment_of c.args.now))
+    ∙ kept_unlimited c.args.order c.args.self.now row (moment_of c.args.now))
 
 pub insert_row_within_limit-requires-clause-new : goal.insert_row_within_limit-requires-clause-new
 insert_row_within_limit-requires-clause-new c =
@@ -56,9 +55,15 @@ invariant_of-self-in-Some-limit c =
     let new = texts_of c.insert_row_within_limit.new.groups.entries in
     let fresh = ap (λ (k : RowsInOrder). row_of (key_of row) k.rows) c.self.view_is ∙ c.requires.new in
     let live = rw c.in-Some-limit.is at c.requires.unexpired in
-    let inserted = subst (λ (i : Item). InsertsInDomains c.max.result (moment_of c.args.now) i.row i.number gs new) c.in_ok-row.ensures c.in_ok-insert_row_within_limit-in-Some-limit.ensures.inserted in
+    let some : 0 < c.max.result = omega (arith, c.max.ensures) in
+    let given = rw c.in-Some-limit.is at c.requires.room in
+    let room : HasRoom c.args.order (contents_of (groups_in_order gs) None (Some c.max.result)) row (moment_of c.args.now)
+    = subst (λ (k : RowsInOrder). HasRoom c.args.order (contents_of k None (Some c.max.result)) row (moment_of c.args.now)) (sym c.self.view_is)
+    (subst (λ l. HasRoom c.args.order (contents_of c.args.self.now None (Some l)) row (moment_of c.args.now)) (sym c.max.ensures)
+    (room_at_least_one c.args.order c.args.self.now c.in-Some-limit.limit row (moment_of c.args.now) given)) in
+    let inserted = subst (λ (i : Item). InsertsInDomains c.max.result c.args.order (moment_of c.args.now) i.row i.number gs new) c.in_ok-row.ensures c.in_ok-insert_row_within_limit-in-Some-limit.ensures.inserted in
     subst (λ m. AreItems m new) (sym c.in-Some.ensures.1)
-    (items_inserted n c.max.result gs c.self.invariant row (moment_of c.args.now) fresh live new inserted)
+    (items_inserted n c.max.result gs c.self.invariant row c.args.order (moment_of c.args.now) fresh live some room new inserted)
 
 pub returns-in_ok-insert_row_within_limit-in-Some-limit-clause-inserted : goal.returns-in_ok-insert_row_within_limit-in-Some-limit-clause-inserted
 returns-in_ok-insert_row_within_limit-in-Some-limit-clause-inserted c =
@@ -69,9 +74,15 @@ returns-in_ok-insert_row_within_limit-in-Some-limit-clause-inserted c =
     let new = texts_of c.insert_row_within_limit.new.groups.entries in
     let fresh = ap (λ (k : RowsInOrder). row_of (key_of row) k.rows) c.self.view_is ∙ c.requires.new in
     let live = rw c.in-Some-limit.is at c.requires.unexpired in
-    let inserted = subst (λ (i : Item). InsertsInDomains c.max.result now i.row i.number gs new) c.in_ok-row.ensures c.in_ok-insert_row_within_limit-in-Some-limit.ensures.inserted in
+    let some : 0 < c.max.result = omega (arith, c.max.ensures) in
+    let given = rw c.in-Some-limit.is at c.requires.room in
+    let room : HasRoom c.args.order (contents_of (groups_in_order gs) None (Some c.max.result)) row (moment_of c.args.now)
+    = subst (λ (k : RowsInOrder). HasRoom c.args.order (contents_of k None (Some c.max.result)) row (moment_of c.args.now)) (sym c.self.view_is)
+    (subst (λ l. HasRoom c.args.order (contents_of c.args.self.now None (Some l)) row (moment_of c.args.now)) (sym c.max.ensures)
+    (room_at_least_one c.args.order c.args.self.now c.in-Some-limit.limit row (moment_of c.args.now) given)) in
+    let inserted = subst (λ (i : Item). InsertsInDomains c.max.result c.args.order now i.row i.number gs new) c.in_ok-row.ensures c.in_ok-insert_row_within_limit-in-Some-limit.ensures.inserted in
     rw c.in-Some-limit.is
-    (kept_inserted n c.max.result gs c.self.invariant row now fresh live new inserted
-    ∙ ap (λ (k : RowsInOrder). rows_in_order (store_by (Ok Inserted) (contents_of k None (Some c.max.result)) row now)) c.self.view_is
-    ∙ ap (λ l. rows_in_order (store_by (Ok Inserted) (contents_of c.args.self.now None (Some l)) row now)) c.max.ensures
-    ∙ kept_at_least_one c.args.self.now c.in-Some-limit.limit row now)
+    (kept_inserted n c.max.result gs c.self.invariant row c.args.order now fresh live some room new inserted
+    ∙ ap (λ (k : RowsInOrder). rows_in_order (with_inserted c.args.order (contents_of k None (Some c.max.result)) row now)) c.self.view_is
+    ∙ ap (λ l. rows_in_order (with_inserted c.args.order (contents_of c.args.self.now None (Some l)) row now)) c.max.ensures
+    ∙ kept_at_least_one c.args.order c.args.self.now c.in-Some-limit.limit row now)

@@ -10,13 +10,14 @@ use Rattle.std.proofs.MapsCrossing as maps
 use Rattle.std_alloc.proofs.SendSync.{lies}
 use Rattle.cookie_laws.specs.Contents.{Contents}
 use Rattle.cookie_psl.proofs.tree.Node.TheLaws.TheKnot as tree
+use Rattle.cookie_core.proofs.secure.SecureIndex.TheSendSync as index
 use Rattle.cookie_rows.proofs.rows.Rows.TheSendSync as rows
 use Rattle.cookie_store_c.specs.StorePtrs.{holds}
 use Rattle.cookie_store_c.specs.contracts.store_ptr.StorePtr.{the_row}
 use Rattle.cookie_store_c.proofs.StoreBox.{Store}
 
 store_send : IsSend Store
-store_send = search (maps.crosses, boxes.crosses, tree.crosses, rows.the_send, sendable) depth 60 fits 20000
+store_send = search (maps.crosses, boxes.crosses, tree.crosses, rows.the_send, index.the_send, sendable) depth 60 fits 20000
 
 holds_keyless : (at : Ptr) (store : Option Contents) → Keyless (holds at store)
 holds_keyless at None = tt

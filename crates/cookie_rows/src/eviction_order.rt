@@ -1,0 +1,32 @@
+//! The order in which rows are evicted.
+ghost use Rattle.std.specs.Prelude.{◌≡◌};
+ghost use Rattle.cookie_words.specs.Moments.{moment_of};
+ghost use Rattle.cookie_rows.specs.Eviction.{class_of};
+
+use cookie_parts::Cookie;
+use jiff::civil::DateTime;
+
+/// The order in which rows are evicted so that their domain keeps within its limit.
+#[derive(Clone, Copy, Debug)]
+pub enum EvictionOrder {
+    /// Expired rows first, then the others, both in creation order, RFC 6265 5.3.
+    ExpiredFirst,
+    /// Expired rows first, then those that are not Secure, then the Secure ones, each in creation
+    /// order, draft-ietf-httpbis-rfc6265bis 5.7.
+    SecureLast,
+}
+
+impl EvictionOrder {
+    // Returns the class of a row: rows of lower classes are evicted first.
+    pub(crate) fn class_of(self, cookie: &Cookie<'static>, now: DateTime) -> u8
+        ensures { result ≡ class_of self (moment_of now) cookie.now }
+    {
+        if cookie.is_expired(now) {
+            return 0;
+        }
+        match self {
+            EvictionOrder::ExpiredFirst => 1,
+            EvictionOrder::SecureLast => { if cookie.raw().is_secure() { 2 } else { 1 } }
+        }
+    }
+}
