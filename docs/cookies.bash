@@ -15,12 +15,12 @@ _cookies() {
         return
     fi
     case ${COMP_WORDS[1]} in
-        show) options='--json --format' ;;
-        header) options='--suffixes --only-listed --strict --cross-site --format' ;;
+        show) options='--json --skip-malformed --format' ;;
+        header) options='--suffixes --only-listed --strict --cross-site --skip-malformed --format' ;;
         set) options='--suffixes --only-listed --strict --format' ;;
         remove) options='--format' ;;
         purge) options='--expired --session --domain --format' ;;
-        convert) options='--from --to' ;;
+        convert) options='--skip-malformed --skip-unrepresentable --from --to' ;;
         help) mapfile -t COMPREPLY < <(compgen -W 'show header set remove purge convert' -- "$word"); return ;;
     esac
     case $word in

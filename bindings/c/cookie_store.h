@@ -34,10 +34,10 @@
  *
  *   A `cookie_store` is a handle: two words that the caller allocates, and that either hold a store
  *   or are empty. A handle starts empty, as COOKIE_STORE_INIT or as all zero bytes.
- *   cookie_store_new, cookie_store_load_json, cookie_store_load_ron and cookie_store_load_netscape
- *   create a store in an empty handle. cookie_store_free frees the store and leaves the handle
- *   empty, so that it can be used again. A handle may be moved with memcpy if the old one is not
- *   used again; otherwise it must not be copied. Its members are private.
+ *   cookie_store_new and the functions whose names begin with cookie_store_load create a store in an
+ *   empty handle. cookie_store_free frees the store and leaves the handle empty, so that it can be
+ *   used again. A handle may be moved with memcpy if the old one is not used again; otherwise it
+ *   must not be copied. Its members are private.
  *
  * Ownership
  *
@@ -463,6 +463,9 @@ enum cookie_store_status cookie_store_rows(cookie_store *store, cookie_store_row
  * If `all` is true, all cookies are written; otherwise the persistent ones that have not expired at
  * `now`. `now` is checked in both cases.
  *
+ * A cookie that was received with SameSite=None and without Secure is Secure in the store that is
+ * loaded from the list: its entry has a Set-Cookie header value, which has Secure with SameSite=None.
+ *
  * Errors, in the order in which they are checked: NO_STORE, BAD_TIME, BAD_EXPIRY, NO_ROOM.
  * May return NO_MEMORY instead of NO_ROOM or OK. */
 enum cookie_store_status cookie_store_save_json(cookie_store *store, int64_t now, bool all, char *out, size_t out_len, size_t *needed);
@@ -505,6 +508,16 @@ enum cookie_store_status cookie_store_load_ron(cookie_store *store, const char *
 enum cookie_store_status cookie_store_save_netscape(cookie_store *store, int64_t now, bool all, char *out, size_t out_len,
                                                     size_t *needed);
 
+/* Writes the cookies as cookie_store_save_netscape does, but leaves out those that the format cannot
+ * represent.
+ *
+ * `*left_out` is set to how many are left out, also on NO_ROOM, and to 0 on any other error.
+ *
+ * Errors, in the order in which they are checked: NO_STORE, BAD_TIME, NO_ROOM.
+ * May return NO_MEMORY instead of NO_ROOM or OK. */
+enum cookie_store_status cookie_store_save_netscape_representable(cookie_store *store, int64_t now, bool all, char *out, size_t out_len,
+                                                                  size_t *needed, size_t *left_out);
+
 /* Creates a store, in an empty handle, with the cookies of a cookies.txt file, in UTF-8.
  *
  * Lines end in LF or CRLF. They have the fields that cookie_store_save_netscape writes, or as other
@@ -520,6 +533,19 @@ enum cookie_store_status cookie_store_save_netscape(cookie_store *store, int64_t
  * May return NO_MEMORY instead of BAD_LINE or OK. */
 enum cookie_store_status cookie_store_load_netscape(cookie_store *store, const char *key, size_t key_len, const char *list,
                                                     size_t list_len, int64_t now, bool all, size_t *bad_line);
+
+/* Creates a store as cookie_store_load_netscape does, but leaves out the malformed lines.
+ *
+ * `*malformed` is set to how many lines are malformed, and the numbers of the first `lines_len` of
+ * them, counted from 1, are written to the start of `lines`, in order. To load without the numbers,
+ * pass a `lines_len` of 0 and any pointer that is not NULL. On an error `lines` is unchanged and
+ * `*malformed` is 0.
+ *
+ * Errors, in the order in which they are checked: HAS_STORE, BAD_TIME, NOT_UTF8.
+ * May return NO_MEMORY instead of OK. */
+enum cookie_store_status cookie_store_load_netscape_well_formed(cookie_store *store, const char *key, size_t key_len, const char *list,
+                                                                size_t list_len, int64_t now, bool all, size_t *lines, size_t lines_len,
+                                                                size_t *malformed);
 
 #ifdef __cplusplus
 }

@@ -106,6 +106,27 @@ static enum cookie_store_status load_netscape(cookie_store *store) {
     return cookie_store_load_netscape(store, "", 0, netscape, netscape_len, NOW, true, &line);
 }
 
+/* The value of `t` has a TAB, so that the cookie is left out. */
+static enum cookie_store_status save_representable(cookie_store *store) {
+    char out[ROOM];
+    size_t needed, left_out = 0;
+    enum cookie_store_status status = cookie_store_set(store, TEXT(PAGE), TEXT("t=x\ty"), NOW);
+    if (status != COOKIE_STORE_INSERTED) return status;
+    status = cookie_store_save_netscape_representable(store, NOW, true, out, sizeof out, &needed, &left_out);
+    cookie_store_remove(store, TEXT("shop.a.example"), TEXT("/d"), TEXT("t"));
+    return left_out == (status == COOKIE_STORE_OK) ? status : COOKIE_STORE_HAS_STORE;
+}
+
+/* The lines are written on success alone. */
+static enum cookie_store_status load_well_formed(cookie_store *store) {
+    static const char file[] = "a\n.b.example\tTRUE\t/\tFALSE\t0\ta\t1\nb\nb.example\tFALSE\t/\tFALSE\t0\tc\t3\nd\n";
+    size_t lines[] = {77, 77, 77}, malformed;
+    enum cookie_store_status status = cookie_store_load_netscape_well_formed(store, "", 0, TEXT(file), NOW, true, lines, 2, &malformed);
+    size_t number = status == COOKIE_STORE_OK ? 3 : 0;
+    bool is_written = lines[0] == (number ? 1 : 77) && lines[1] == (number ? 3 : 77) && lines[2] == 77;
+    return is_written && malformed == number ? status : COOKIE_STORE_HAS_STORE;
+}
+
 static enum cookie_store_status load_json(cookie_store *store) { return cookie_store_load_json(store, "", 0, json, json_len, NOW, true); }
 
 static enum cookie_store_status remove_cookie(cookie_store *store) {
@@ -139,9 +160,11 @@ static const struct {
     {"save_json", true, save_json, COOKIE_STORE_OK, false},
     {"save_ron", true, save_ron, COOKIE_STORE_OK, false},
     {"save_netscape", true, save_netscape, COOKIE_STORE_OK, false},
+    {"save_netscape_representable", true, save_representable, COOKIE_STORE_OK, false},
     {"load_json", false, load_json, COOKIE_STORE_OK, false},
     {"load_ron", false, load_ron, COOKIE_STORE_OK, false},
     {"load_netscape", false, load_netscape, COOKIE_STORE_OK, false},
+    {"load_netscape_well_formed", false, load_well_formed, COOKIE_STORE_OK, false},
     {"remove", true, remove_cookie, COOKIE_STORE_OK, true},
     {"remove_expired", true, remove_expired, COOKIE_STORE_OK, true},
     {"clear", true, cookie_store_clear, COOKIE_STORE_OK, true},

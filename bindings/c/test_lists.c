@@ -115,6 +115,86 @@ static void test_netscape(void) {
     }
 }
 
+/* A cookie with a TAB in its value, which is left out, among those that are written. */
+static void test_representable(void) {
+    static const char file_of_b[] = "# Netscape HTTP Cookie File\na.example\tFALSE\t/d\tFALSE\t0\tb\t2\n";
+    cookie_store store = COOKIE_STORE_INIT;
+    char file[256];
+    size_t needed = UNSET, left_out = UNSET, whole = strlen(file_of_b);
+    cookie_store_new(&store, "", 0);
+    set(&store, PAGE, "a=x\ty", NOW);
+    set(&store, PAGE, "b=2", NOW);
+    equal("save all", cookie_store_save_netscape(&store, NOW, true, file, sizeof file, &needed), COOKIE_STORE_UNREPRESENTABLE);
+    memset(file, '-', sizeof file);
+    equal("save in the very room", cookie_store_save_netscape_representable(&store, NOW, true, file, whole, &needed, &left_out), COOKIE_STORE_OK);
+    same_text("the file without the TAB", file, needed, file_of_b);
+    equal("nothing is written after it", file[whole], '-');
+    equal("how many are left out", (long)left_out, 1);
+    needed = left_out = UNSET;
+    memset(file, '-', sizeof file);
+    equal("save one byte too short", cookie_store_save_netscape_representable(&store, NOW, true, file, whole - 1, &needed, &left_out),
+          COOKIE_STORE_NO_ROOM);
+    equal("what is needed", (long)needed, (long)whole);
+    equal("how many would be left out", (long)left_out, 1);
+    equal("nothing is written", file[0], '-');
+    equal("save no session cookie", cookie_store_save_netscape_representable(&store, NOW, false, file, sizeof file, &needed, &left_out), COOKIE_STORE_OK);
+    same_text("no cookie", file, needed, "# Netscape HTTP Cookie File\n");
+    equal("none is left out", (long)left_out, 0);
+    needed = left_out = UNSET;
+    equal("save at a time out of range", cookie_store_save_netscape_representable(&store, LAST + 1, true, file, sizeof file, &needed, &left_out),
+          COOKIE_STORE_BAD_TIME);
+    equal("nothing is needed then", (long)needed, 0);
+    equal("nothing is left out then", (long)left_out, 0);
+    cookie_store_free(&store);
+}
+
+/* Two malformed lines among the lines of a file, and buffers for none, for one, for both and for more numbers. */
+static void test_well_formed(void) {
+    static const char file[] = "# 1\na.example\tFALSE\t/\na.example\tFALSE\t/d\tFALSE\t1767225660\ta\t1\nb=2\n"
+                               "a.example\tFALSE\t/d\tFALSE\t0\tc\t3\n";
+    static const size_t wanted[] = {2, 4};
+    for (size_t room = 0; room < 4; room++) {
+        cookie_store store = COOKIE_STORE_INIT;
+        size_t lines[] = {UNSET, UNSET, UNSET, UNSET}, malformed = UNSET;
+        equal("load the well-formed lines", cookie_store_load_netscape_well_formed(&store, "", 0, TEXT(file), NOW, true, lines, room, &malformed),
+              COOKIE_STORE_OK);
+        equal("the malformed lines", (long)malformed, 2);
+        for (size_t at = 0; at < 4; at++) equal("a number", (long)lines[at], at < 2 && at < room ? (long)wanted[at] : UNSET);
+        gives("the well-formed lines", &store, PAGE, NOW, "a=1; c=3");
+        malformed = UNSET;
+        equal("load into a store", cookie_store_load_netscape_well_formed(&store, "", 0, TEXT(file), NOW, true, lines, 4, &malformed),
+              COOKIE_STORE_HAS_STORE);
+        equal("no malformed line", (long)malformed, 0);
+        equal("no number", (long)lines[3], UNSET);
+        cookie_store_free(&store);
+        equal("load unexpired cookies", cookie_store_load_netscape_well_formed(&store, "", 0, TEXT(file), NOW + 60, false, lines, 4, &malformed),
+              COOKIE_STORE_OK);
+        gives("the unexpired cookies", &store, PAGE, NOW, "c=3");
+        cookie_store_free(&store);
+    }
+}
+
+/* Files that are not loaded: no line number is written. */
+static void test_not_well_formed(void) {
+    static const struct {
+        const char *name, *file;
+        int64_t now;
+        enum cookie_store_status wanted;
+    } rows[] = {
+        {"load a file that is not UTF-8", "a\n\xff", NOW, COOKIE_STORE_NOT_UTF8},
+        {"load at a time out of range", "a\n\xff", LAST + 1, COOKIE_STORE_BAD_TIME},
+    };
+    for (size_t at = 0; at < sizeof rows / sizeof *rows; at++) {
+        cookie_store store = COOKIE_STORE_INIT;
+        size_t line = UNSET, malformed = UNSET;
+        equal(rows[at].name, cookie_store_load_netscape_well_formed(&store, "", 0, TEXT(rows[at].file), rows[at].now, true, &line, 1, &malformed),
+              rows[at].wanted);
+        equal("no malformed line", (long)malformed, 0);
+        equal("no number", (long)line, UNSET);
+        equal("save none", cookie_store_save_json(&store, NOW, true, (char[1]){0}, 0, &malformed), COOKIE_STORE_NO_STORE);
+    }
+}
+
 /* An empty handle. */
 static void test_no_store(void) {
     cookie_store store = COOKIE_STORE_INIT;
@@ -126,11 +206,19 @@ static void test_no_store(void) {
     needed = UNSET;
     equal("save no cookies.txt", cookie_store_save_netscape(&store, NOW, true, out, sizeof out, &needed), COOKIE_STORE_NO_STORE);
     equal("nothing is needed of it", (long)needed, 0);
+    size_t left_out = needed = UNSET;
+    equal("save no representable cookie", cookie_store_save_netscape_representable(&store, NOW, true, out, sizeof out, &needed, &left_out),
+          COOKIE_STORE_NO_STORE);
+    equal("nothing is needed of none", (long)needed, 0);
+    equal("nothing is left out of none", (long)left_out, 0);
 }
 
 int main(void) {
     for (size_t at = 0; at < sizeof FORMS / sizeof *FORMS; at++) test_list(&FORMS[at]);
     test_netscape();
+    test_representable();
+    test_well_formed();
+    test_not_well_formed();
     test_no_store();
     return report("test_lists");
 }

@@ -4,6 +4,7 @@ package cookiestore
 import "C"
 
 import (
+	"bytes"
 	"fmt"
 	"io"
 )
@@ -17,7 +18,8 @@ const (
 	Netscape               // a cookies.txt file, as curl and wget read and write it; it has no SameSite
 )
 
-// Save writes the persistent cookies that have not expired.
+// Save writes the persistent cookies that have not expired. In JSON and RON a cookie that was received with SameSite=None and
+// without Secure is Secure after Load.
 //
 // Errors: ErrUnrepresentable (Netscape), ErrBadExpiry (JSON and RON), and those of w.
 func (j *Jar) Save(w io.Writer, format Format) error { return j.save(w, format, false) }
@@ -53,6 +55,29 @@ func (j *Jar) list(format Format, all C.bool) ([]byte, error) {
 	})
 }
 
+// SaveRepresentable writes the persistent cookies that have not expired as a cookies.txt file, without those that the format
+// cannot represent, and returns how many are left out.
+//
+// Errors: those of w.
+func (j *Jar) SaveRepresentable(w io.Writer) (leftOut int, err error) {
+	list, leftOut, err := j.representable()
+	if err != nil {
+		return 0, err
+	}
+	_, err = w.Write(list)
+	return leftOut, err
+}
+
+func (j *Jar) representable() ([]byte, int, error) {
+	j.mu.Lock()
+	defer j.mu.Unlock()
+	now, count := j.seconds(), C.size_t(0)
+	list, err := grow(func(out *C.char, room C.size_t, needed *C.size_t) C.enum_cookie_store_status {
+		return C.cookie_store_save_netscape_representable(&j.store, now, false, out, room, needed, &count)
+	})
+	return list, int(count), err
+}
+
 // Load returns a jar with the cookies of r that have not expired, session cookies included. Nil options are those of a zero
 // Options. No option applies to the loaded cookies: their domains are not checked.
 //
@@ -79,6 +104,29 @@ func Load(r io.Reader, format Format, options *Options) (*Jar, error) {
 			return unknown(format)
 		}
 	})
+}
+
+// LoadWellFormed returns a jar with the cookies of a cookies.txt file, as Load does, without the malformed lines, and the numbers
+// of these, counted from 1.
+//
+// Errors: ErrNotUTF8, those of r and of New.
+func LoadWellFormed(r io.Reader, options *Options) (jar *Jar, malformed []int, err error) {
+	read, err := io.ReadAll(r)
+	if err != nil {
+		return nil, nil, err
+	}
+	list, lines, count := string(read), make([]C.size_t, bytes.Count(read, []byte("\n"))+1), C.size_t(0)
+	jar, err = create(options, func(jar *Jar, key string) error {
+		return errorOf(C.cookie_store_load_netscape_well_formed(&jar.store, chars(key), size(key), chars(list), size(list),
+			jar.seconds(), false, &lines[0], C.size_t(len(lines)), &count), 0)
+	})
+	if err != nil {
+		return nil, nil, err
+	}
+	for _, line := range lines[:count] {
+		malformed = append(malformed, int(line))
+	}
+	return jar, malformed, nil
 }
 
 func unknown(format Format) error { return fmt.Errorf("cookiestore: unknown format %d", int(format)) }

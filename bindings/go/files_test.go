@@ -3,6 +3,7 @@ package cookiestore
 import (
 	"errors"
 	"io"
+	"reflect"
 	"strings"
 	"testing"
 	"testing/iotest"
@@ -103,6 +104,63 @@ func TestLoadErrors(t *testing.T) {
 	if _, err := Load(iotest.ErrReader(io.ErrClosedPipe), JSON, nil); err != io.ErrClosedPipe {
 		t.Errorf("Load from a closed pipe: %v", err)
 	}
+}
+
+func TestLoadWellFormed(t *testing.T) {
+	for _, row := range []struct {
+		file      string
+		want      string
+		malformed []int
+	}{
+		{"# comment\nexample.com\n" + line("a", "1") + "b=2\n" + line("c", "3"), "a=1; c=3", []int{2, 4}},
+		{line("a", "1"), "a=1", nil},
+		{"", "", nil},
+		{"b=2", "", []int{1}},
+	} {
+		jar, malformed, err := LoadWellFormed(strings.NewReader(row.file), &Options{DomainLimit: 2})
+		if err != nil || !reflect.DeepEqual(malformed, row.malformed) {
+			t.Fatalf("LoadWellFormed(%q): %v, %v, want %v", row.file, malformed, err, row.malformed)
+		}
+		expectHeader(t, jar, "http://example.com/", row.want)
+		jar.Close()
+	}
+	_, _, err := LoadWellFormed(strings.NewReader("\xff"), nil)
+	expectStatus(t, "LoadWellFormed", err, ErrNotUTF8)
+	_, _, err = LoadWellFormed(strings.NewReader("b=2"), &Options{DomainLimit: -1})
+	expectStatus(t, "LoadWellFormed with a negative limit", err, ErrBadLimit)
+	if _, _, err := LoadWellFormed(iotest.ErrReader(io.ErrClosedPipe), nil); err != io.ErrClosedPipe {
+		t.Errorf("LoadWellFormed from a closed pipe: %v", err)
+	}
+}
+
+// line returns the line of a session cookie of example.com.
+func line(name, value string) string {
+	return "example.com\tFALSE\t/\tFALSE\t0\t" + name + "\t" + value + "\n"
+}
+
+func TestSaveRepresentable(t *testing.T) {
+	jar := newJar(t, nil)
+	setAll(t, jar, "http://example.com/", "a=x\ty"+expires2099, "b=2"+expires2099, "session=3")
+	var file strings.Builder
+	leftOut, err := jar.SaveRepresentable(&file)
+	want := "# Netscape HTTP Cookie File\nexample.com\tFALSE\t/\tFALSE\t4102444799\tb\t2\n"
+	if leftOut != 1 || err != nil || file.String() != want {
+		t.Errorf("SaveRepresentable: %d, %v, %q, want 1 and %q", leftOut, err, file.String(), want)
+	}
+	if err := jar.Remove("example.com", "/", "a"); err != nil {
+		t.Fatal(err)
+	}
+	if leftOut, err := jar.SaveRepresentable(io.Discard); leftOut != 0 || err != nil {
+		t.Errorf("SaveRepresentable of what is representable: %d, %v", leftOut, err)
+	}
+	reader, writer := io.Pipe()
+	reader.Close()
+	if _, err := jar.SaveRepresentable(writer); err != io.ErrClosedPipe {
+		t.Errorf("SaveRepresentable to a closed pipe: %v", err)
+	}
+	jar.Close()
+	_, err = jar.SaveRepresentable(io.Discard)
+	expectStatus(t, "SaveRepresentable of a closed jar", err, ErrClosed)
 }
 
 func TestSaveErrors(t *testing.T) {

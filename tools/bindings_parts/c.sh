@@ -42,6 +42,12 @@ test_program() {
     fi
 }
 
+# test_large.c calls each function that the header declares.
+calls_each() {
+    local name
+    for name in $(declared); do grep -qw "$name" bindings/c/test_large.c || { echo "$name"; return 1; }; done
+}
+
 # Each allocation fails in turn. Valgrind has an allocator of its own.
 test_allocations() {
     if try test_allocations.c "$cc" "${flags[@]}" -o "$temp/allocations" bindings/c/test_allocations.c "$lib/libcookie_store.a" &&
@@ -139,7 +145,9 @@ done
 for kind in shared static; do
     test_program test_cookie_store "$kind"
     test_program test_lists "$kind"
+    test_program test_large "$kind"
 done
+try 'calls of test_large.c' calls_each || true
 test_program test_threads shared
 if has valgrind; then
     try 'helgrind of test_threads.c' timeout 100 valgrind -q --tool=helgrind --error-exitcode=9 "$temp/test_threads" || true

@@ -213,11 +213,9 @@ class StoreJar(MappingJar):
     def _netscape(self, ignore_discard: bool, ignore_expires: bool) -> str:
         is_all = ignore_discard and (ignore_expires or len(self) == len(self.store))
         if is_all or not (ignore_discard or ignore_expires):
-            try:
-                return self.store.save_netscape(all=is_all)
-            except CookieStoreError as error:
-                if error.status != Status.UNREPRESENTABLE:
-                    raise
+            text, left_out = self.store.save_netscape_representable(all=is_all)
+            if not left_out:
+                return text
         with CookieStore.load_ron(self.store.save_ron(all=True), all=ignore_expires) as saved:
             for row in saved.cookies():
                 is_left_out = row.expires is None and not ignore_discard
@@ -226,7 +224,7 @@ class StoreJar(MappingJar):
                     is_left_out = True
                 if is_left_out:
                     saved.remove(row.domain, row.path, row.name)
-            return saved.save_netscape(all=True)
+            return saved.save_netscape_representable(all=True)[0]
 
     def copy(self) -> StoreJar:
         """Return a copy of the jar, over a copy of its store, with the same policy."""

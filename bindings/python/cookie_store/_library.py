@@ -52,7 +52,9 @@ SIGNATURES: Dict[str, Tuple[Any, List[Any]]] = {
     'cookie_store_load_json': _LOAD,
     'cookie_store_load_ron': _LOAD,
     'cookie_store_save_netscape': _SAVE,
+    'cookie_store_save_netscape_representable': (_SAVE[0], [*_SAVE[1], _LENGTH]),
     'cookie_store_load_netscape': (_LOAD[0], [*_LOAD[1], _LENGTH]),
+    'cookie_store_load_netscape_well_formed': (_LOAD[0], [*_LOAD[1], _LENGTH, ctypes.c_size_t, _LENGTH]),
 }
 
 

@@ -334,11 +334,14 @@ class CookieStore:
 
         If all is true the list has every cookie; otherwise it has the persistent ones that have not
         expired. Raises BAD_EXPIRY if one of them expires before the year 0.
+
+        A cookie that was received with SameSite=None and without Secure is Secure in the store that
+        is loaded from the list.
         """
         return self._save(LIBRARY.cookie_store_save_json, now, all)
 
     def save_ron(self, now: Optional[int] = None, all: bool = False) -> str:
-        """Return the cookies as a list in RON. Arguments and errors are those of save_json()."""
+        """Return the cookies as a list in RON. All else is as in save_json()."""
         return self._save(LIBRARY.cookie_store_save_ron, now, all)
 
     def save_netscape(self, now: Optional[int] = None, all: bool = False) -> str:
@@ -350,6 +353,18 @@ class CookieStore:
         its name or value is not one that a header value has.
         """
         return self._save(LIBRARY.cookie_store_save_netscape, now, all, copies=1, others=40)
+
+    def save_netscape_representable(self, now: Optional[int] = None, all: bool = False) -> Tuple[str, int]:
+        """Return the cookies as save_netscape() does, without those that the format cannot represent.
+
+        The second item is the number of those that are left out.
+        """
+        left_out = ctypes.c_size_t()
+
+        def call(*arguments: Any) -> int:
+            return int(LIBRARY.cookie_store_save_netscape_representable(*arguments, left_out))
+
+        return self._save(call, now, all, copies=1, others=40), left_out.value
 
     def _save(self, call: Callable[..., int], now: Optional[int], all: bool, *, copies: int = 2, others: int = 512) -> str:
         """Return what a call writes. A cookie takes at most `copies` copies of its strings and `others` other bytes.
@@ -409,6 +424,23 @@ class CookieStore:
         raise BadLine(line.value)
 
     @classmethod
+    def load_netscape_well_formed(cls, text: Text, now: Optional[int] = None, all: bool = False, *,
+                                  strict: bool = False) -> Tuple[CookieStore, List[int]]:
+        """Return a new store as load_netscape() does, without the cookies of malformed lines.
+
+        The second item has the numbers of these lines, counted from 1.
+        """
+        saved = _bytes(text)
+        room = saved.count(b'\n') + 1
+        lines, malformed = (ctypes.c_size_t * room)(), ctypes.c_size_t()
+
+        def call(*arguments: Any) -> int:
+            return int(LIBRARY.cookie_store_load_netscape_well_formed(*arguments, lines, room, malformed))
+
+        store = cls._load(call, saved, now, all, strict)
+        return store, lines[:malformed.value]
+
+    @classmethod
     def _load(cls, call: Callable[..., int], text: Text, now: Optional[int], all: bool, strict: bool) -> CookieStore:
         saved, seconds, store = _bytes(text), _seconds(now), cls()
         LIBRARY.cookie_store_free(store._at)
@@ -421,7 +453,8 @@ class CookieStore:
         """Return a copy of the store: its cookies, public suffix list and limit, and whether it is strict.
 
         The cookies are passed through save_ron() and load_ron(), and so count as created in the
-        order of the store. Raises BAD_EXPIRY if a cookie expires before the year 0.
+        order of the store. A cookie that was received with SameSite=None and without Secure is Secure
+        in the copy. Raises BAD_EXPIRY if a cookie expires before the year 0.
 
         copy.copy(), copy.deepcopy() and pickle copy a store in the same way.
         """

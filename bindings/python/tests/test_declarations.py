@@ -58,6 +58,7 @@ class DeclarationTests(unittest.TestCase):
     # The C types of each Rattle type. C functions have no parameter for the allocator.
     IN_C = {'Global': [], '&mut StoreHandle': ['cookie_store *'], '&[u8]': ['const char *', 'size_t'],
             '&mut [u8]': ['char *', 'size_t'], '&mut [CookieRow]': ['cookie_store_row *', 'size_t'],
+            '&mut [usize]': ['size_t *', 'size_t'],
             '&mut usize': ['size_t *'], 'usize': ['size_t'], 'i64': ['int64_t'],
             'bool': ['bool'], 'u8': ['bool'], 'u32': ['enum cookie_store_status'], '': ['void']}
 

@@ -43,7 +43,7 @@ LOADED = [
     ('a b.example\tFALSE\t/\tFALSE\t0\tc\t3\n', 'a shop.a.example, b a.example'),
     ('a.example/x\tFALSE\t/\tFALSE\t0\tc\t3\n', 'a shop.a.example, b a.example'),
     ('u@a.example\tFALSE\t/\tFALSE\t0\tc\t3\n', 'a shop.a.example, b a.example'),
-    ('a.example:8\tFALSE\t/\tFALSE\t0\tc\t3\n', 'a shop.a.example, b a.example'),
+    ('a.example:8\tFALSE\t/\tFALSE\t0\tc\t3\n', 'a shop.a.example, b a.example, c a.example'),
     ('a.example\tFALSE\t/;x\tFALSE\t0\tc\t3\n', 'a shop.a.example, b a.example'),
     ('[::1]\tFALSE\t/\tFALSE\t0\tc\t3\n', 'a shop.a.example, b a.example, c [::1]'),
     ('127.0.0.1\tFALSE\t/\tFALSE\t0\tc\t3\n', 'a shop.a.example, b a.example, c 127.0.0.1'),
@@ -114,6 +114,20 @@ class FileTests(unittest.TestCase):
         with self.assertRaises(CookieStoreError) as raised:
             store.save_netscape(all=True)
         self.assertEqual(raised.exception.status, Status.UNREPRESENTABLE)
+        self.assertEqual(store.save_netscape_representable(NOW, all=True), (FILE, 1))
+        self.assertEqual(store.save_netscape_representable(4121282317), ('# Netscape HTTP Cookie File\n', 0))
+
+    def test_well_formed_lines(self):
+        first, *others = FILE.splitlines(keepends=True)
+        file = first + 'a\tb\n' + others[0] + 'c=3\n' + others[1]
+        store, malformed = CookieStore.load_netscape_well_formed(file, NOW)
+        self.assertEqual((store.save_netscape(NOW, all=True), store.strict, malformed), (FILE, False, [2, 4]))
+        store, malformed = CookieStore.load_netscape_well_formed('x', strict=True)
+        self.assertEqual((len(store), store.strict, malformed), (0, True, [1]))
+        store, malformed = CookieStore.load_netscape_well_formed(FILE, 4121282317)
+        self.assertEqual(([row.name for row in store], malformed), (['a'], []))
+        store, malformed = CookieStore.load_netscape_well_formed(file.encode(), 4121282317, all=True)
+        self.assertEqual(([row.name for row in store], malformed), (['a', 'b'], [2, 4]))
 
     def test_malformed_line(self):
         with self.assertRaises(BadLine) as raised:
@@ -155,6 +169,14 @@ class FileTests(unittest.TestCase):
         jar.store.set(f'http://{HOST}/', 'e=5; Max-Age=60', -100)
         jar.save(self.path, ignore_discard=True, ignore_expires=True)
         self.assertEqual([row.name for row in CookieStore.load_netscape(self.read(), all=True)], ['b'])
+
+    def test_domain_of_a_list_that_is_no_field_is_left_out(self):
+        """A domain of a list may begin with `#`, as a comment does, and no host does."""
+        list_ = ('[{"raw_cookie":"f=6","path":["/",true],"domain":{"HostOnly":"#a.example"},"expires":"SessionEnd"},'
+                 '{"raw_cookie":"g=7","path":["/",true],"domain":{"HostOnly":"a.example"},"expires":"SessionEnd"}]')
+        jar = StoreJar(CookieStore.load_json(list_))
+        jar.save(self.path, ignore_discard=True)
+        self.assertEqual([row.name for row in CookieStore.load_netscape(self.read(), all=True)], ['g'])
 
     def test_file_names(self):
         jar = StoreJar(CookieStore.load_netscape(FILE, NOW))

@@ -108,6 +108,9 @@ RAISES = [
     ('save cookies.txt, after the years', lambda store: store.save_netscape(LAST + 1), Status.BAD_TIME),
     ('load cookies.txt, not UTF-8', lambda store: CookieStore.load_netscape(b'\xff'), Status.NOT_UTF8),
     ('load cookies.txt, after the years', lambda store: CookieStore.load_netscape('', LAST + 1), Status.BAD_TIME),
+    ('save representable, after the years', lambda store: store.save_netscape_representable(LAST + 1), Status.BAD_TIME),
+    ('load well-formed, not UTF-8', lambda store: CookieStore.load_netscape_well_formed(b'\xff'), Status.NOT_UTF8),
+    ('load well-formed, after the years', lambda store: CookieStore.load_netscape_well_formed('', LAST + 1), Status.BAD_TIME),
     ('load cookies.txt with no cookie', lambda store: CookieStore.load_netscape('\na=1\n'), Status.BAD_LINE),
     ('save JSON, after the years', lambda store: store.save_json(LAST + 1), Status.BAD_TIME),
     ('save RON, after the years', lambda store: store.save_ron(LAST + 1), Status.BAD_TIME),
@@ -139,6 +142,7 @@ CLOSED = [
     ('save_json', lambda store: store.save_json()),
     ('save_ron', lambda store: store.save_ron()),
     ('save_netscape', lambda store: store.save_netscape()),
+    ('save_netscape_representable', lambda store: store.save_netscape_representable()),
     ('copy', lambda store: store.copy()),
 ]
 

@@ -1,7 +1,7 @@
 use std::os::raw::c_char;
 use std::time::SystemTime;
 
-use crate::buffer::string;
+use crate::buffer::{grow, string};
 use crate::sys::{self, cookie_store_status};
 use crate::time::seconds;
 use crate::{CookieStore, Error};
@@ -33,6 +33,9 @@ impl CookieStore {
     /// Returns the cookies as a list in JSON, followed by a line feed: all of them if `all`,
     /// otherwise the persistent ones that have not expired at `now`.
     ///
+    /// A cookie that was received with SameSite=None and without Secure is Secure in the store that is
+    /// loaded from the list.
+    ///
     /// # Errors
     ///
     /// [`Error::BadTime`], [`Error::BadExpiry`], [`Error::NoMemory`].
@@ -57,13 +60,46 @@ impl CookieStore {
         self.save(sys::cookie_store_save_netscape, now, all)
     }
 
+    /// Returns the cookies as [`save_netscape`](CookieStore::save_netscape) does, without those that
+    /// the format cannot represent, and the number of these.
+    ///
+    /// # Errors
+    ///
+    /// [`Error::BadTime`], [`Error::NoMemory`].
+    pub fn save_netscape_representable(
+        &mut self,
+        now: SystemTime,
+        all: bool,
+    ) -> Result<(String, usize), Error> {
+        let mut left_out = 0;
+        let text = string(self.list_len(), |out, len, needed| {
+            let (store, now) = (&mut self.0, seconds(now));
+            // SAFETY: see `CookieStore`.
+            unsafe {
+                sys::cookie_store_save_netscape_representable(
+                    store,
+                    now,
+                    all,
+                    out,
+                    len,
+                    needed,
+                    &mut left_out,
+                )
+            }
+        })?;
+        Ok((text, left_out))
+    }
+
     fn save(&mut self, save: Save, now: SystemTime, all: bool) -> Result<String, Error> {
-        // A list is written twice only if it is longer than this.
-        let len = self.len().saturating_mul(COOKIE).max(COOKIE);
-        string(len, |out, len, needed| {
+        string(self.list_len(), |out, len, needed| {
             // SAFETY: see `CookieStore`. `save` is one of the three functions above.
             unsafe { save(&mut self.0, seconds(now), all, out, len, needed) }
         })
+    }
+
+    /// Returns a length that is enough for most lists. A longer one is written twice.
+    fn list_len(&mut self) -> usize {
+        self.len().saturating_mul(COOKIE).max(COOKIE)
     }
 
     /// Creates a store with the cookies of a list in JSON: all of them if `all`, otherwise those
@@ -125,5 +161,43 @@ impl CookieStore {
                 )
             }
         })
+    }
+
+    /// Creates a store as [`load_netscape`](CookieStore::load_netscape) does, without the malformed
+    /// lines, and returns the numbers of these, counted from 1.
+    ///
+    /// # Errors
+    ///
+    /// [`Error::BadTime`], [`Error::NoMemory`].
+    pub fn load_netscape_well_formed(
+        list: &str,
+        now: SystemTime,
+        all: bool,
+    ) -> Result<(CookieStore, Vec<usize>), Error> {
+        let mut lines = Vec::new();
+        grow(&mut lines, list.matches('\n').count() + 1)?;
+        let mut malformed = 0;
+        let store = CookieStore::create(|store, key, _| {
+            let (key, key_len) = (key.as_ptr().cast(), key.len());
+            let (list, list_len) = (list.as_ptr().cast(), list.len());
+            let (lines, lines_len) = (lines.as_mut_ptr(), lines.len());
+            // SAFETY: see `CookieStore`.
+            unsafe {
+                sys::cookie_store_load_netscape_well_formed(
+                    store,
+                    key,
+                    key_len,
+                    list,
+                    list_len,
+                    seconds(now),
+                    all,
+                    lines,
+                    lines_len,
+                    &mut malformed,
+                )
+            }
+        })?;
+        lines.truncate(malformed);
+        Ok((store, lines))
     }
 }

@@ -186,6 +186,15 @@ extern "C" {
         out_len: usize,
         needed: *mut usize,
     ) -> cookie_store_status;
+    pub fn cookie_store_save_netscape_representable(
+        store: *mut cookie_store,
+        now: i64,
+        all: bool,
+        out: *mut c_char,
+        out_len: usize,
+        needed: *mut usize,
+        left_out: *mut usize,
+    ) -> cookie_store_status;
     pub fn cookie_store_load_netscape(
         store: *mut cookie_store,
         key: *const c_char,
@@ -195,5 +204,17 @@ extern "C" {
         now: i64,
         all: bool,
         bad_line: *mut usize,
+    ) -> cookie_store_status;
+    pub fn cookie_store_load_netscape_well_formed(
+        store: *mut cookie_store,
+        key: *const c_char,
+        key_len: usize,
+        list: *const c_char,
+        list_len: usize,
+        now: i64,
+        all: bool,
+        lines: *mut usize,
+        lines_len: usize,
+        malformed: *mut usize,
     ) -> cookie_store_status;
 }

@@ -9,7 +9,7 @@ ghost use Rattle.cookie_parts.specs.Outcomes.{ReturnsOrMemory};
 ghost use Rattle.cookie_parts.specs.Views.{domain_value};
 ghost use Rattle.cookie_parts.specs.declared.cookie_error.CookieError.TheVariants.{Memory};
 ghost use Rattle.cookie_parts.specs.declared.store_action.StoreAction.TheVariants.{Inserted};
-ghost use Rattle.cookie_laws.specs.Acceptance.{accept, admitted, by_list, reply_at, IsInsertionError};
+ghost use Rattle.cookie_laws.specs.Acceptance.{accept, admitted, by_list, is_listed, reply_at, IsInsertionError};
 ghost use Rattle.cookie_laws.specs.Contents.{contents_of, rows_in_order, HasCreationOrder};
 ghost use Rattle.cookie_laws.specs.Rows.{are_rows, key_of, row_of};
 ghost use Rattle.cookie_laws.specs.Runs.{step, Insert, IsReply, Stored, UnlessMemory};
@@ -47,6 +47,7 @@ impl CookieStore {
     pub fn check_admitted(&self, cookie: &Cookie<'static>, url: &Url) -> Result<bool, CookieError>
         ensures admitted { IfOk result (λ is_listed. admitted self.now.suffixes url.now cookie.now
             ≡ Ok (if is_listed then record cookie.now { domain = HostOnly (domain_text cookie.now.domain) } else cookie.now)) }
+        ensures listed { IfOk result (λ is_host_only. is_host_only ≡ is_listed self.now.suffixes cookie.now.domain) }
         ensures rejected { IfErr result (λ error. admitted self.now.suffixes url.now cookie.now ≡ Err error) }
         ensures errors { IfErr result (λ error. IsInsertionError error × (error ≢ Memory)) }
     {
@@ -135,6 +136,7 @@ fn is_made_host_only(
 ) -> Result<bool, CookieError>
     ensures accepted { IfOk result (λ is_host_only. by_list (option_copied suffixes.entry) url.now cookie.now
         ≡ Ok (if is_host_only then record cookie.now { domain = HostOnly (domain_text cookie.now.domain) } else cookie.now)) }
+    ensures listed { IfOk result (λ is_host_only. is_host_only ≡ is_listed (option_copied suffixes.entry) cookie.now.domain) }
     ensures identical { IfOk result (λ is_host_only. is_host_only ≡ true → host_is_identical cookie.now.domain url.now ≡ true) }
     ensures rejected { IfErr result (λ error. by_list (option_copied suffixes.entry) url.now cookie.now ≡ Err error) }
     ensures errors { IfErr result (λ error. error ≡ CookieError.PublicSuffix) }

@@ -17,7 +17,7 @@ abbrev pub Lacks : ℕ → List ℕ → Type 0
 Lacks byte text = list_any (λ b. b == byte) text ≡ false
 
 -- if no byte of a string passes, each of them fails
-none_passes : (p : ℕ → Bool) (text : List ℕ) → list_any p text ≡ false → All (λ b. p b ≡ false) text
+pub none_passes : (p : ℕ → Bool) (text : List ℕ) → list_any p text ≡ false → All (λ b. p b ≡ false) text
 none_passes p text none k d within = false_from_ne_true _ (λ passes. both_ways _ none (list_any_at p text k d within passes))
 
 -- a string without control characters lacks each of them

@@ -1,11 +1,13 @@
-pub mod AbsolutePaths
 pub mod CookieLines
 pub mod FieldsBack
+pub mod HostTexts
+pub mod HostsBack
 pub mod JoinedFields
+pub mod LineEnds
 pub mod LinesBack
 pub mod LinesRead
 pub mod Numbers
 pub mod Seconds
 pub mod SecondsBack
 pub mod Tabs
-pub mod Trimmed
+pub mod WholeLines

@@ -8,8 +8,9 @@ use Rattle.std.proofs.lemmas.List.Splits.{length-slice_split}
 use Rattle.cookie_words.specs.Texts.{pieces}
 use Rattle.cookie_parts.specs.Cookie.{Row}
 use Rattle.cookie_netscape.specs.Files.{rows_in_file, rows_in_lines}
-use Rattle.cookie_netscape.specs.Lines.{line_cookie}
+use Rattle.cookie_netscape.specs.Lines.{content_cookie, line_cookie}
 use Rattle.cookie_netscape.specs.Written.{as_written, header_line, is_representable, line_of, written_text}
+use Rattle.cookie_netscape.specs.declared.writing.SessionExpiry.TheVariants.{Zero}
 use Rattle.cookie_netscape.proofs.CookieLines.{line_back, line_is_not_empty, line_lacks}
 use Rattle.cookie_netscape.proofs.FieldsBack.{next_step}
 use Rattle.cookie_netscape.proofs.JoinedFields.{Lacks, first_piece, one_piece}
@@ -46,9 +47,9 @@ one_line text line = ap lines_of_parts (one_piece 10 text line.has_no_feed) ∙ 
 -- the line of a cookie is not empty, and has no CR and LF
 row_is_line : (row : Row) → is_representable row ≡ true → IsLine (line_of row)
 row_is_line row fits = record {
-  is_not_empty = line_is_not_empty row;
-  has_no_return = line_lacks 13 refl refl row fits;
-  has_no_feed = line_lacks 10 refl refl row fits;
+  is_not_empty = line_is_not_empty Zero row;
+  has_no_return = line_lacks 13 refl refl Zero row fits;
+  has_no_feed = line_lacks 10 refl refl Zero row fits;
 }
 
 -- the first line of a file is not empty, and has no CR and LF
@@ -57,7 +58,7 @@ header_is_line = record { is_not_empty = refl; has_no_return = refl; has_no_feed
 
 -- the first line of a file is skipped
 header_skipped : line_cookie header_line ≡ Some None
-unfolding line_cookie
+unfolding content_cookie
 header_skipped = refl
 
 -- a well-formed line before others adds its cookie, if it has one
@@ -79,7 +80,7 @@ lines_back end last first own (row ∷ rows) line good fit =
     ap rows_in_file (append_assoc first (10 ∷ (line_of row ++ flat_map (λ row. 10 ∷ line_of row) rows)) end)
     ∙ ap rows_in_lines (first_line first rest line)
     ∙ line_in_front first own (lines rest) (as_written row ∷ map as_written rows) good
-    (lines_back end last (line_of row) (Some (as_written row)) rows (row_is_line row parts.0) (line_back row parts.0) parts.1)
+    (lines_back end last (line_of row) (Some (as_written row)) rows (row_is_line row parts.0) (line_back Zero row parts.0) parts.1)
 
 -- a written file reads back
 pub text_back : (rows : List Row) → IsTrue (list_all is_representable rows) → rows_in_file (written_text rows) ≡ Some (map as_written rows)

@@ -1,11 +1,12 @@
 -- The second of an expiry, written and read back.
-use Rattle.std.proofs.Common.{◌≡◌, ℕ, ◌<◌, ◌≤◌, ◌^◌, min, max, get_or, ◌==◌, true, false, ℤ, pos, ◌+ℤ◌, ◌≤ℤ◌, ◌<ℤ◌, List, length, Some, decimal, ◌∙◌, arith, refl}
+use Rattle.std.proofs.Common.{◌≡◌, ℕ, ◌<◌, ◌≤◌, ◌^◌, min, max, get_or, ◌==◌, true, false, ℤ, pos, ◌+ℤ◌, ◌≤ℤ◌, ◌<ℤ◌, List, length, Some, bytes_eq, codes, decimal, ◌∙◌, arith, refl, sym, ap}
 use Rattle.std.specs.Prelude.{int_le}
 use Rattle.std.specs.Char.{is_ascii_control, is_ascii_digit}
 use Rattle.std.specs.Int.{int_min}
 use Rattle.std.specs.List.{list_all}
 use Rattle.std.specs.Str.Parse.{digits_value}
-use Rattle.std.proofs.lemmas.Bool.{and_parts, leb-true, lt-leb, and_right, and_left, or_from, ne_eqb}
+use Rattle.std.proofs.lemmas.Bool.{and_parts, leb-true, lt-leb, and_right, and_left, false_from_ne_true, false≢true, or_from, ne_eqb}
+use Rattle.std.proofs.lemmas.Slice.Eq.{bytes_eq-Decides}
 use Rattle.std.proofs.lemmas.Fmt.{decimal_nonempty, digits_decimal, digits_value-decimal}
 use Rattle.std.proofs.lemmas.Int.{ints}
 use Rattle.std.proofs.lemmas.List.Folds.{list_any_none}
@@ -18,7 +19,9 @@ use Rattle.cookie_words.specs.Moments.{epoch, moment_at, moment_of, nanoseconds}
 use Rattle.cookie_raw.specs.Reading.{of_seconds}
 use Rattle.cookie_parts.specs.Expiry.{Expiry, AtUtc, SessionEnd, latest}
 use Rattle.cookie_netscape.specs.Lines.{expiry_at, expiry_from, seconds_from}
-use Rattle.cookie_netscape.specs.Written.{expiry_second, second_of}
+use Rattle.cookie_netscape.specs.Written.{expiry_field, expiry_second, second_of}
+use Rattle.cookie_netscape.specs.declared.writing.SessionExpiry.{SessionExpiry}
+use Rattle.cookie_netscape.specs.declared.writing.SessionExpiry.TheVariants.{Zero, Empty}
 use Rattle.cookie_netscape.proofs.JoinedFields.{IsField}
 use Rattle.cookie_netscape.proofs.Numbers.{are_digits, no_dot, seconds_without_dot, whole_of_digits}
 use Rattle.cookie_netscape.proofs.Seconds.{no_nanos, same_nanos, second_of_cut}
@@ -42,10 +45,15 @@ seconds_of_digits : (digits : List ℕ) → list_all is_ascii_digit digits ≡ t
     → seconds_from digits ≡ Some (digits_value 10 digits)
 seconds_of_digits digits all some = seconds_without_dot digits (no_dot digits all) ∙ whole_of_digits digits some all
 
+-- digits are not -1
+no_minus : (digits : List ℕ) → list_all is_ascii_digit digits ≡ true → bytes_eq digits (codes "-1") ≡ false
+no_minus digits all =
+    false_from_ne_true _ (λ e. false≢true (sym (ap (list_all is_ascii_digit) ((bytes_eq-Decides digits (codes "-1")).0 e)) ∙ all))
+
 -- digits are read as the expiry at their number of seconds
 expiry_of_digits : (digits : List ℕ) (n : ℕ) → list_all is_ascii_digit digits ≡ true → (length digits == 0) ≡ false
     → digits_value 10 digits ≡ n → expiry_from digits ≡ Some (expiry_at n)
-expiry_of_digits digits n all some value = rw (some, seconds_of_digits digits all some, value) refl
+expiry_of_digits digits n all some value = rw (some, no_minus digits all, seconds_of_digits digits all some, value) refl
 
 -- `digits_value` gives the value of a string of digits
 is_numeral : IsNumeralModel (λ ds. list_all is_ascii_digit ds ≡ true) (digits_value 10)
@@ -57,19 +65,32 @@ second_fits (AtUtc end) = omega arith
 second_fits SessionEnd = omega arith
 
 -- the written second of an expiry has no control character
-pub second_is_field : (expires : Expiry) → IsField (decimal (expiry_second expires))
+second_is_field : (expires : Expiry) → IsField (decimal (expiry_second expires))
 second_is_field expires =
     digits_are_field (decimal (expiry_second expires))
     (digits_decimal is_numeral (expiry_second expires) (second_fits expires))
 
 -- the written second of an expiry reads back
-pub second_back : (expires : Expiry) → expiry_from (decimal (expiry_second expires)) ≡ Some (expiry_at (expiry_second expires))
+second_back : (expires : Expiry) → expiry_from (decimal (expiry_second expires)) ≡ Some (expiry_at (expiry_second expires))
 second_back expires =
     let n = expiry_second expires in
     let fits = second_fits expires in
     let some = decimal_nonempty n fits in
     expiry_of_digits (decimal n) n (digits_decimal is_numeral n fits) (ne_eqb (length (decimal n)) 0 (λ e. omega arith))
     (digits_value-decimal is_numeral n fits)
+
+-- a written expiry has no control character
+pub expiry_is_field : (session : SessionExpiry) (expires : Expiry) → IsField (expiry_field session expires)
+expiry_is_field session (AtUtc end) = second_is_field (AtUtc end)
+expiry_is_field Zero SessionEnd = refl
+expiry_is_field Empty SessionEnd = refl
+
+-- a written expiry reads back
+pub expiry_back : (session : SessionExpiry) (expires : Expiry) → expiry_from (expiry_field session expires) ≡ Some (expiry_at (expiry_second expires))
+unfolding seconds_from
+expiry_back session (AtUtc end) = second_back (AtUtc end)
+expiry_back Zero SessionEnd = refl
+expiry_back Empty SessionEnd = refl
 
 -- more than zero is not at most zero
 more_than_none : (n : ℤ) → pos 0 <ℤ n → int_le n (pos 0) ≡ false

@@ -1,10 +1,12 @@
 -- The cookies of a `cookies.txt` file.
-use Rattle.std.specs.Prelude.{◌≡◌, ◌≢◌, ℕ, ◌+◌, List, [], ◌∷◌, ◌++◌, length, Option, Some, None, IsSome}
+use Rattle.std.specs.Prelude.{◌≡◌, ◌≢◌, ℕ, ◌+◌, ◌==◌, Bool, ◌&&◌, List, [], ◌∷◌, ◌++◌, length, Option, Some, None, IsSome, is_none, is_some, unwrap_or, if◌then◌else◌}
 use Rattle.std.specs.List.{cons_option}
 use Rattle.std.specs.Str.Lines.{lines}
 use Rattle.cookie_words.specs.Steps.{◌>>=◌}
+use Rattle.cookie_words.specs.Texts.{pieces}
 use Rattle.cookie_parts.specs.Cookie.{Row}
-use Rattle.cookie_netscape.specs.Lines.{line_cookie}
+use Rattle.cookie_parts.specs.Hosts.{passes}
+use Rattle.cookie_netscape.specs.Lines.{content, fields_from, line_cookie}
 use Rattle.cookie_netscape.specs.declared.error.NetscapeError.{NetscapeError}
 use Rattle.cookie_netscape.specs.declared.error.NetscapeError.TheVariants.{BadLine, Unrepresentable, Io, NotUtf8, Memory}
 
@@ -19,6 +21,30 @@ rows_in_lines (line ∷ more) = do
 -- the cookies of a file; None if one of its lines is malformed
 abbrev pub rows_in_file : List ℕ → Option (List Row)
 rows_in_file text = rows_in_lines (lines text)
+
+-- the cookie of a line; None if the line is skipped or malformed
+abbrev pub cookie_of_line : List ℕ → Option Row
+cookie_of_line line = unwrap_or (line_cookie line) None
+
+-- the line is that of a session cookie, and its expiry field is empty
+abbrev pub has_empty_expiry : List ℕ → Bool
+has_empty_expiry line =
+    is_some (cookie_of_line line) && passes (λ fields. length fields.expiry == 0) (fields_from (pieces 9 (content line)))
+
+-- the cookies of the lines that are not malformed
+abbrev pub well_formed_rows : List (List ℕ) → List Row
+well_formed_rows [] = []
+well_formed_rows (line ∷ more) = cons_option (cookie_of_line line) (well_formed_rows more)
+
+-- the line is malformed
+abbrev pub is_malformed : List ℕ → Bool
+is_malformed line = is_none (line_cookie line)
+
+-- the numbers of the malformed lines, of which the first line has this number
+abbrev pub malformed_from : ℕ → List (List ℕ) → List ℕ
+malformed_from number [] = []
+malformed_from number (line ∷ more) =
+    if is_malformed line then number ∷ malformed_from (number + 1) more else malformed_from (number + 1) more
 
 -- the line of this number, counted from 1, is the first that is malformed
 abbrev pub IsFirstBad : ℕ → List ℕ → Type 0

@@ -1,8 +1,8 @@
 -- The cookie of a line of a `cookies.txt` file, Netscape's format as curl reads it.
-use Rattle.std.specs.Prelude.{ℕ, min, ◌==◌, Bool, true, false, not, ◌&&◌, ◌||◌, List, [], ◌∷◌, length, map, drop, bytes_eq, codes, nat_eq, Option, Some, None, is_some, option_and_then, option_map, if◌then◌else◌}
-use Rattle.std.specs.Char.{is_ascii_control, is_ascii_digit, to_ascii_lowercase}
-use Rattle.std.specs.List.{after_first, before_first, list_all, list_any, starts_with}
-use Rattle.std.specs.Str.{trim, str_eq_ignore_ascii_case}
+use Rattle.std.specs.Prelude.{ℕ, min, ◌-◌, ◌==◌, Bool, true, false, not, ◌&&◌, ◌||◌, List, [], ◌∷◌, length, map, drop, take, bytes_eq, codes, nat_eq, Option, Some, None, is_some, option_and_then, option_map, if◌then◌else◌}
+use Rattle.std.specs.Char.{is_ascii_control, is_ascii_digit, is_ascii_whitespace, to_ascii_lowercase}
+use Rattle.std.specs.List.{after_first, before_first, ends_with, list_all, list_any, prefix_len, starts_with, suffix_len}
+use Rattle.std.specs.Str.{str_eq_ignore_ascii_case}
 use Rattle.std.specs.Str.Parse.{digits_value}
 use Rattle.cookie_words.specs.Moments.{epoch}
 use Rattle.cookie_words.specs.Steps.{◌>>=◌}
@@ -12,7 +12,8 @@ use Rattle.cookie_raw.specs.Reading.{is_equals, is_semicolon, of_seconds}
 use Rattle.cookie_parts.specs.Cookie.{Row}
 use Rattle.cookie_parts.specs.Domain.{DomainValue, HostOnly, Suffix}
 use Rattle.cookie_parts.specs.Expiry.{Expiry, SessionEnd, expiry_of_max_age}
-use Rattle.cookie_parts.specs.Path.{from_attribute, is_absolute}
+use Rattle.cookie_parts.specs.Path.{from_attribute}
+use Rattle.cookie_netscape.specs.HostFields.{host_from, plain_host}
 
 -- the fields of a line
 pub record Fields : Type 0 where
@@ -79,23 +80,59 @@ expiry_at seconds =
     if seconds == 0 then SessionEnd
     else expiry_of_max_age (of_seconds (min seconds 9_223_372_036_854_775_807)) epoch
 
--- the expiry of a field; an empty one stands for a session cookie
+-- a second after the latest expiry
+abbrev pub never : ℕ
+never = 9_223_372_036_854_775_807
+
+-- the expiry of a field; an empty one stands for a session cookie, and -1 for a cookie that never expires
 abbrev pub expiry_from : List ℕ → Option Expiry
-expiry_from field = if length field == 0 then Some SessionEnd else option_map expiry_at (seconds_from field)
+expiry_from field =
+    if length field == 0 then Some SessionEnd
+    else (if bytes_eq field (codes "-1") then Some (expiry_at never) else option_map expiry_at (seconds_from field))
 
 -- there is a control character, such as HTAB or a line end
 abbrev pub has_control : List ℕ → Bool
 has_control text = list_any is_ascii_control text
 
--- a domain is not empty, and does not begin like a comment or with a dot
-abbrev pub is_domain_field : List ℕ → Bool
-is_domain_field domain =
-    not (length domain == 0) && not (starts_with nat_eq domain (codes "#"))
-    && not (starts_with nat_eq domain (codes ".")) && not (has_control domain)
+-- the byte is `#`, `$`, `.` or a space
+abbrev pub is_no_first : ℕ → Bool
+is_no_first b = (b == 35) || (b == 36) || (b == 46) || (b == 32)
 
--- a cookie-value has no `;`, and no white space at either end
+-- a domain is not empty, and does not begin like a comment, with a dot or with a space
+abbrev pub is_domain_field : List ℕ → Bool
+is_domain_field [] = false
+is_domain_field (b ∷ rest) = not (is_no_first b) && not (has_control (b ∷ rest))
+
+-- the string without one quotation mark at its start
+unfoldable pub after_quote : List ℕ → List ℕ
+after_quote text = if starts_with nat_eq text (codes "\"") then drop 1 text else text
+
+-- the string without one quotation mark at its end
+unfoldable pub before_quote : List ℕ → List ℕ
+before_quote text = if ends_with nat_eq text (codes "\"") then take (length text - 1) text else text
+
+-- `/` for an empty path
+abbrev pub non_empty_path : List ℕ → List ℕ
+non_empty_path path = if length path == 0 then codes "/" else path
+
+-- the path of a field, without the quotation marks around it; `/` if it is empty
+abbrev pub path_from : List ℕ → List ℕ
+path_from field = non_empty_path (before_quote (after_quote field))
+
+-- there is no quotation mark at either end
+abbrev pub is_unquoted : List ℕ → Bool
+is_unquoted text = not (starts_with nat_eq text (codes "\"")) && not (ends_with nat_eq text (codes "\""))
+
+-- a path is not empty, has no quotation mark at either end, and is not TRUE or FALSE, which stand for a missing path
+abbrev pub is_path_field : List ℕ → Bool
+is_path_field path =
+    not (length path == 0) && is_unquoted path && not (is_some (flag_from path)) && not (has_control path)
+
+-- a cookie-value has no `;`, and no space at either end
 abbrev pub is_value_field : List ℕ → Bool
-is_value_field value = not (list_any is_semicolon value) && bytes_eq (trim value) value && not (has_control value)
+is_value_field value =
+    not (list_any is_semicolon value) && not (starts_with nat_eq value (codes " ")) && not (ends_with nat_eq value (codes " "))
+    && not (has_control value)
 
 -- a cookie-name is besides not empty, and has no `=`
 abbrev pub is_name_field : List ℕ → Bool
@@ -103,8 +140,8 @@ is_name_field name = not (length name == 0) && not (list_any is_equals name) && 
 
 -- the strings of a cookie that the format can represent
 unfoldable pub are_fields : List ℕ → List ℕ → List ℕ → List ℕ → Bool
-are_fields domain path name value =
-    is_domain_field domain && is_absolute path && not (has_control path) && is_name_field name && is_value_field value
+are_fields host path name value =
+    is_domain_field host && is_path_field path && is_name_field name && is_value_field value
 
 -- an attribute without a value, if it is set
 abbrev pub attribute_if : Bool → Option Bool
@@ -123,15 +160,15 @@ domain_of has_subdomains domain = if has_subdomains then Suffix domain else Host
 abbrev pub row_of : Bool → Fields → Bool → Bool → Expiry → Row
 row_of is_http_only fields has_subdomains is_secure expires = record {
   raw = raw_of fields.name fields.value is_secure is_http_only;
-  domain = domain_of has_subdomains (map to_ascii_lowercase (without_dot fields.domain));
-  path = from_attribute fields.path;
+  domain = domain_of has_subdomains (map to_ascii_lowercase (host_from (without_dot fields.domain)));
+  path = from_attribute (path_from fields.path);
   expires = expires;
 }
 
 -- the cookie of these fields, if they are fields that the format can represent
 abbrev pub if_are_fields : Fields → Row → Option Row
 if_are_fields fields row =
-    if are_fields (without_dot fields.domain) fields.path fields.name fields.value then Some row else None
+    if are_fields (plain_host (without_dot fields.domain)) (path_from fields.path) fields.name fields.value then Some row else None
 
 -- the cookie of fields
 unfoldable pub row_from : Bool → Fields → Option Row
@@ -149,20 +186,22 @@ with_name fields = if length fields.name == 0 then record fields { name = fields
 abbrev pub cookie_from : Bool → List ℕ → Option Row
 cookie_from is_http_only text = option_and_then (row_from is_http_only) (option_map with_name (fields_from (pieces 9 text)))
 
--- the byte is a space or HTAB
-abbrev pub is_space : ℕ → Bool
-is_space b = (b == 32) || (b == 9)
+-- the line without the white space around it
+abbrev pub content : List ℕ → List ℕ
+content line =
+    let rest = drop (prefix_len is_ascii_whitespace line) line in
+    take (length rest - suffix_len is_ascii_whitespace rest) rest
 
--- the line has spaces and HTABs alone, or nothing
-abbrev pub is_blank : List ℕ → Bool
-is_blank line = list_all is_space line
-
--- the line is blank or a comment
+-- nothing, or a comment, which begins with `#` or, in Python's files, with `$`
 abbrev pub is_skipped : List ℕ → Bool
-is_skipped line = is_blank line || starts_with nat_eq line (codes "#")
+is_skipped text = (length text == 0) || starts_with nat_eq text (codes "#") || starts_with nat_eq text (codes "$")
 
--- the cookie of a line; Some None if the line is blank or a comment, None if it is malformed
-unfoldable pub line_cookie : List ℕ → Option (Option Row)
-line_cookie line =
-    if starts_with nat_eq line (codes "#HttpOnly_") then option_map Some (cookie_from true (drop 10 line))
-    else (if is_skipped line then Some None else option_map Some (cookie_from false line))
+-- the cookie of what a line has; Some None if that is nothing or a comment, None if it is malformed
+unfoldable pub content_cookie : List ℕ → Option (Option Row)
+content_cookie text =
+    if starts_with nat_eq text (codes "#HttpOnly_") then option_map Some (cookie_from true (drop 10 text))
+    else (if is_skipped text then Some None else option_map Some (cookie_from false text))
+
+-- the cookie of a line, with or without its line end; Some None if the line is blank or a comment, None if it is malformed
+abbrev pub line_cookie : List ℕ → Option (Option Row)
+line_cookie line = content_cookie (content line)

@@ -1,5 +1,5 @@
 -- Cookies as lines of a `cookies.txt` file, as curl writes them.
-use Rattle.std.specs.Prelude.{ℕ, max, min, Bool, true, false, ◌&&◌, List, ◌∷◌, ◌++◌, codes, decimal, flat_map, int_div, map, ℤ, pos, negsuc, if◌then◌else◌}
+use Rattle.std.specs.Prelude.{ℕ, max, min, Bool, true, false, ◌&&◌, List, [], ◌∷◌, ◌++◌, codes, decimal, flat_map, int_div, map, ℤ, pos, negsuc, if◌then◌else◌}
 use Rattle.std.specs.Char.{to_ascii_lowercase}
 use Rattle.std.specs.Ordering.{int_cmp, is_le}
 use Rattle.cookie_words.specs.Moments.{Moment, epoch, nanoseconds}
@@ -8,7 +8,10 @@ use Rattle.cookie_parts.specs.Cookie.{Row, is_http_only, is_secure_only}
 use Rattle.cookie_parts.specs.Domain.{DomainValue, Suffix, domain_text}
 use Rattle.cookie_parts.specs.Expiry.{Expiry, AtUtc, SessionEnd}
 use Rattle.cookie_parts.specs.Path.{from_attribute}
+use Rattle.cookie_netscape.specs.HostFields.{is_own_host, written_host}
 use Rattle.cookie_netscape.specs.Lines.{are_fields, domain_of, expiry_at, raw_of}
+use Rattle.cookie_netscape.specs.declared.writing.SessionExpiry.{SessionExpiry}
+use Rattle.cookie_netscape.specs.declared.writing.SessionExpiry.TheVariants.{Zero, Empty}
 
 -- a domain cookie
 abbrev pub has_subdomains : DomainValue → Bool
@@ -23,7 +26,8 @@ is_from_epoch SessionEnd = true
 -- the format can represent the cookie
 abbrev pub is_representable : Row → Bool
 is_representable row =
-    are_fields (domain_text row.domain) row.path.text row.raw.name row.raw.value && is_from_epoch row.expires
+    are_fields (written_host (domain_text row.domain)) row.path.text row.raw.name row.raw.value
+    && is_own_host (domain_text row.domain) && is_from_epoch row.expires
 
 -- the number, or 0 if it is negative
 abbrev pub not_negative : ℤ → ℕ
@@ -44,21 +48,35 @@ expiry_second SessionEnd = 0
 abbrev pub flag_text : Bool → List ℕ
 flag_text is_set = if is_set then codes "TRUE" else codes "FALSE"
 
--- the domain, after a dot for a domain cookie
+-- the domain, after a dot for a domain cookie; an IPv6 address has no brackets
 abbrev pub domain_field : DomainValue → List ℕ
-domain_field domain = if has_subdomains domain then 46 ∷ domain_text domain else domain_text domain
+domain_field domain = if has_subdomains domain then 46 ∷ written_host (domain_text domain) else written_host (domain_text domain)
+
+-- what stands for the expiry of a session cookie
+abbrev pub session_text : SessionExpiry → List ℕ
+session_text Zero = codes "0"
+session_text Empty = []
+
+-- the expiry of a cookie: the second of a persistent one
+abbrev pub expiry_field : SessionExpiry → Expiry → List ℕ
+expiry_field session (AtUtc end) = decimal (expiry_second (AtUtc end))
+expiry_field session SessionEnd = session_text session
 
 -- the line of a cookie, without its line end
-unfoldable pub line_of : Row → List ℕ
-line_of row =
+unfoldable pub line_in : SessionExpiry → Row → List ℕ
+line_in session row =
     flag (codes "#HttpOnly_") (is_http_only row.raw)
     ++ domain_field row.domain
     ++ 9 ∷ flag_text (has_subdomains row.domain)
     ++ 9 ∷ row.path.text
     ++ 9 ∷ flag_text (is_secure_only row.raw)
-    ++ 9 ∷ decimal (expiry_second row.expires)
+    ++ 9 ∷ expiry_field session row.expires
     ++ 9 ∷ row.raw.name
     ++ 9 ∷ row.raw.value
+
+-- the same with 0 for a session cookie
+abbrev pub line_of : Row → List ℕ
+line_of row = line_in Zero row
 
 -- the first line of a file
 abbrev pub header_line : List ℕ

@@ -1,20 +1,23 @@
 //! The cookie of a line.
-ghost use Rattle.std.specs.Prelude.{◌≡◌, IfOk, IfSome, IsTrue, min, option_map, string_bytes};
-ghost use Rattle.cookie_parts.specs.Path.{is_absolute};
+ghost use Rattle.std.specs.Prelude.{◌≡◌, IfOk, min, option_map, string_bytes};
 ghost use Rattle.cookie_parts.specs.Views.{expiry_value};
-ghost use Rattle.cookie_netscape.specs.Lines.{cookie_from, expiry_from, raw_of, seconds_from, whole_from, with_name};
+ghost use Rattle.cookie_netscape.specs.Lines.{cookie_from, expiry_at, expiry_from, raw_of, seconds_from, whole_from, with_name};
 ghost use Rattle.cookie_netscape.specs.Views.{entry_row, fields_view};
 
-use crate::fields::{Fields, are_fields, read_flag, split_fields};
+use crate::fields::{Fields, are_fields, read_flag, read_path, split_fields};
+use crate::host::{Host, read_host};
 use cookie_parts::{Cookie, CookieDomain, CookieExpiration, CookiePath};
 use cookie_raw::{RawCookie, RawCookieBuilder};
 use cookie_words::{epoch, is_digits, without_dot};
 use std::alloc::{AllocError, Global};
 
+/// A second after the latest expiry.
+const NEVER: u64 = 9_223_372_036_854_775_807;
+
 /// The cookie of a line, before its strings are copied.
 #[derive(Clone, Copy)]
 pub(crate) struct Entry<'a> {
-    pub(crate) domain: &'a str,
+    pub(crate) host: Host<'a>,
     pub(crate) has_subdomains: bool,
     pub(crate) path: &'a str,
     pub(crate) is_secure: bool,
@@ -27,21 +30,21 @@ pub(crate) struct Entry<'a> {
 /// Reads the fields of a line, or returns `None` if they are not those of a cookie.
 #[tactic(auto, unfolding(crate::specs::Lines::row_from))]
 pub(crate) fn read_entry(text: &str, is_http_only: bool) -> Option<Entry<'_>>
-    ensures value { option_map entry_row result ≡ cookie_from is_http_only text.now }
-    ensures absolute { IfSome result (λ entry. IsTrue (is_absolute entry.path.now)) }
+    ensures { option_map entry_row result ≡ cookie_from is_http_only text.now }
 {
     let fields = with_name(split_fields(text)?);
     let has_subdomains = read_flag(fields.subdomains)?;
     let is_secure = read_flag(fields.secure)?;
     let expires = read_expiry(fields.expiry)?;
-    let domain = without_dot(fields.domain);
-    if !are_fields(domain, fields.path, fields.name, fields.value) {
+    let host = read_host(without_dot(fields.domain));
+    let path = read_path(fields.path);
+    if !are_fields(host.text, path, fields.name, fields.value) {
         return None;
     }
     Some(Entry {
-        domain,
+        host,
         has_subdomains,
-        path: fields.path,
+        path,
         is_secure,
         is_http_only,
         expires,
@@ -65,13 +68,23 @@ fn with_name(fields: Fields<'_>) -> Fields<'_>
     }
 }
 
-// Reads the second of an expiry, of which 0 and an empty field stand for a session cookie.
+// Reads an expiry. An empty field stands for a session cookie, and -1 for a cookie that never expires.
 fn read_expiry(field: &str) -> Option<CookieExpiration>
     ensures { option_map expiry_value result ≡ expiry_from field.now }
 {
     if field.is_empty() {
         return Some(CookieExpiration::SessionEnd);
     }
+    if field == "-1" {
+        return Some(CookieExpiration::from_secs(NEVER, epoch()));
+    }
+    read_second(field)
+}
+
+// Reads the second of an expiry, of which 0 stands for a session cookie.
+fn read_second(field: &str) -> Option<CookieExpiration>
+    ensures { option_map expiry_value result ≡ option_map expiry_at (seconds_from field.now) }
+{
     match read_seconds(field)? {
         0 => Some(CookieExpiration::SessionEnd),
         seconds => Some(CookieExpiration::from_secs(seconds, epoch())),
@@ -108,13 +121,12 @@ impl<'a> Entry<'a> {
     /// Makes the cookie, with strings of its own. Fails only if out of memory.
     #[inline(always)]
     pub(crate) fn to_cookie(&self, alloc: Global) -> Result<Cookie<'static>, AllocError>
-        requires { IsTrue (is_absolute self.now.path.now) }
         ensures { IfOk result (λ cookie. cookie ≡ entry_row self.now) }
     {
         let name = String::from_str(alloc, self.name)?;
         let value = String::from_str(alloc, self.value)?;
-        let domain = self.domain.to_ascii_lowercase(alloc)?;
-        let path = CookiePath::parse(alloc, self.path)?.unwrap();
+        let domain = self.host.to_ascii_lowercase(alloc)?;
+        let path = CookiePath::of_saved(String::from_str(alloc, self.path)?, true);
         let domain = if self.has_subdomains {
             CookieDomain::Suffix(domain)
         } else {

@@ -1,8 +1,7 @@
 //! The fields of a line.
-ghost use Rattle.std.specs.Prelude.{◌≡◌, ◌∷◌, [], ℕ, List, None, Some, bytes_eq, option_map, MatchOption};
-ghost use Rattle.std.specs.Str.{trim};
+ghost use Rattle.std.specs.Prelude.{◌≡◌, ◌∷◌, [], ℕ, List, None, Some, is_some, option_map, MatchOption};
 ghost use Rattle.cookie_words.specs.Texts.{pieces};
-ghost use Rattle.cookie_netscape.specs.Lines.{are_fields, fields_from, fields_of, flag_from, has_control, is_domain_field, is_name_field, is_value_field, last_fields};
+ghost use Rattle.cookie_netscape.specs.Lines.{after_quote, are_fields, before_quote, fields_from, fields_of, flag_from, has_control, is_domain_field, is_name_field, is_path_field, is_unquoted, is_value_field, last_fields, path_from};
 ghost use Rattle.cookie_netscape.specs.Views.{fields_view};
 
 /// The fields of a line.
@@ -68,7 +67,7 @@ fn split_path(text: &str) -> Option<(&str, &str)>
         ≡ last_fields domain subdomains parts.0.now (pieces 9 parts.1.now)) }
 {
     let (path, rest) = split_field(text)?;
-    if read_flag(path).is_some() {
+    if is_flag(path) {
         Some(("/", text))
     } else {
         Some((path, rest))
@@ -93,27 +92,75 @@ fn split_last(text: &str) -> Option<(&str, &str)>
     Some((name, value))
 }
 
-/// Whether the strings are those of a cookie that the format can represent.
+/// Returns the path of a field: without the quotation marks around it, and `/` if it is empty.
+pub(crate) fn read_path(field: &str) -> &str
+    ensures { result.now ≡ path_from field.now }
+{
+    match before_quote(after_quote(field)) {
+        "" => "/",
+        path => path,
+    }
+}
+
+// The string without one quotation mark at its start.
+#[tactic(auto, unfolding(crate::specs::Lines::after_quote))]
+fn after_quote(text: &str) -> &str
+    ensures { result.now ≡ after_quote text.now }
+{
+    match text.strip_prefix("\"") {
+        Some(rest) => rest,
+        None => text,
+    }
+}
+
+// The string without one quotation mark at its end.
+#[tactic(auto, unfolding(crate::specs::Lines::before_quote))]
+fn before_quote(text: &str) -> &str
+    ensures { result.now ≡ before_quote text.now }
+{
+    match text.strip_suffix("\"") {
+        Some(rest) => rest,
+        None => text,
+    }
+}
+
+/// Returns whether the strings are those of a cookie that the format can represent.
 #[tactic(auto, unfolding(crate::specs::Lines::are_fields))]
 #[inline(always)]
-pub(crate) fn are_fields(domain: &str, path: &str, name: &str, value: &str) -> bool
-    ensures { result ≡ are_fields domain.now path.now name.now value.now }
+pub(crate) fn are_fields(host: &str, path: &str, name: &str, value: &str) -> bool
+    ensures { result ≡ are_fields host.now path.now name.now value.now }
 {
-    is_domain_field(domain)
-        && path.starts_with('/')
-        && !has_control(path)
-        && is_name_field(name)
-        && is_value_field(value)
+    is_domain_field(host) && is_path_field(path) && is_name_field(name) && is_value_field(value)
 }
 
 // Whether a line can begin with the domain.
 fn is_domain_field(domain: &str) -> bool
     ensures { result ≡ is_domain_field domain.now }
 {
-    !domain.is_empty()
-        && !domain.starts_with('#')
-        && !domain.starts_with('.')
-        && !has_control(domain)
+    match domain.as_bytes().first() {
+        Some(b'#' | b'$' | b'.' | b' ') | None => false,
+        Some(_) => !has_control(domain),
+    }
+}
+
+// Whether this is a path that reads back.
+fn is_path_field(path: &str) -> bool
+    ensures { result ≡ is_path_field path.now }
+{
+    !path.is_empty() && is_unquoted(path) && !is_flag(path) && !has_control(path)
+}
+
+// Whether there is no quotation mark at either end.
+fn is_unquoted(text: &str) -> bool
+    ensures { result ≡ is_unquoted text.now }
+{
+    !text.starts_with("\"") && !text.ends_with("\"")
+}
+
+fn is_flag(field: &str) -> bool
+    ensures { result ≡ is_some (flag_from field.now) }
+{
+    read_flag(field).is_some()
 }
 
 // Whether this is the name of a cookie-pair, in one field.
@@ -128,14 +175,10 @@ fn is_name_field(name: &str) -> bool
 fn is_value_field(value: &str) -> bool
     ensures { result ≡ is_value_field value.now }
 {
-    !value.as_bytes().contains(&b';') && is_trimmed(value) && !has_control(value)
-}
-
-// Whether there is no white space at either end.
-fn is_trimmed(text: &str) -> bool
-    ensures { result ≡ bytes_eq (trim text.now) text.now }
-{
-    text.trim().len() == text.len()
+    !value.as_bytes().contains(&b';')
+        && !value.starts_with(" ")
+        && !value.ends_with(" ")
+        && !has_control(value)
 }
 
 // Whether there is a control character, such as HTAB or a line end.

@@ -1,6 +1,7 @@
 //! Laws of the format, stated over definitions alone.
-ghost use Rattle.std.specs.Prelude.{◌≡◌, ◌+◌, ◌++◌, ◌∷◌, ◌≤ℤ◌, [], IsTrue, List, Option, Some, length, map, pos, ℕ};
-ghost use Rattle.std.specs.List.{cons_option, list_all};
+ghost use Rattle.std.specs.Prelude.{◌≡◌, ◌+◌, ◌++◌, ◌∷◌, ◌≤ℤ◌, [], false, IsTrue, List, Option, Some, length, map, pos, ℕ};
+ghost use Rattle.std.specs.Char.{is_ascii_whitespace, is_newline};
+ghost use Rattle.std.specs.List.{cons_option, list_all, list_any};
 ghost use Rattle.std.specs.Str.Lines.{lines};
 ghost use Rattle.jiff_core.specs.declared.civil.datetime.DateTime.{DateTime};
 ghost use Rattle.cookie_words.specs.Moments.{moment_of, nanoseconds};
@@ -8,7 +9,8 @@ ghost use Rattle.cookie_parts.specs.Cookie.{Row};
 ghost use Rattle.cookie_parts.specs.Expiry.{AtUtc, latest};
 ghost use Rattle.cookie_netscape.specs.Files.{FailsAtLine, FailsToRead, rows_in_file, rows_in_lines};
 ghost use Rattle.cookie_netscape.specs.Lines.{expiry_at, line_cookie};
-ghost use Rattle.cookie_netscape.specs.Written.{as_written, expiry_second, is_representable, written_text};
+ghost use Rattle.cookie_netscape.specs.Written.{as_written, expiry_second, is_representable, line_in, written_text};
+ghost use Rattle.cookie_netscape.specs.declared.writing.SessionExpiry.{SessionExpiry};
 ghost use Rattle.cookie_netscape.specs.declared.error.NetscapeError.{NetscapeError};
 
 use cookie_words::moments_round_trip;
@@ -20,6 +22,15 @@ pub fn written_reads_back()
         → rows_in_file (written_text rows) ≡ Some (map as_written rows) }
     ensures line { (rows : List Row) → IsTrue (list_all is_representable rows)
         → rows_in_file (written_text rows ++ 10 ∷ []) ≡ Some (map as_written rows) }
+{}
+
+/// The line that [`push_line`](crate::push_line) writes reads back in the same way. White space behind a line,
+/// such as its line end, changes nothing.
+pub fn line_reads_back()
+    ensures line { (session : SessionExpiry) → (row : Row) → IsTrue (is_representable row)
+        → line_cookie (line_in session row) ≡ Some (Some (as_written row)) }
+    ensures end { (line : List ℕ) → (b : ℕ) → IsTrue (is_ascii_whitespace b) → line_cookie (line ++ b ∷ []) ≡ line_cookie line }
+    ensures one { (session : SessionExpiry) → (row : Row) → IsTrue (is_representable row) → list_any is_newline (line_in session row) ≡ false }
 {}
 
 /// A file may be read line by line with [`read_cookie`](crate::read_cookie), which numbers the

@@ -16,10 +16,11 @@
 mod entry;
 mod error;
 mod fields;
+mod host;
 pub mod laws;
 mod reading;
 mod writing;
 
 pub use error::NetscapeError;
-pub use reading::{from_text, read_cookie};
-pub use writing::{is_representable, new_text, push_cookie};
+pub use reading::{from_text, has_empty_expiry, read_cookie};
+pub use writing::{SessionExpiry, is_representable, new_text, push_cookie, push_line};

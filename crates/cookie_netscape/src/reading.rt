@@ -1,11 +1,14 @@
 //! Reads the cookies of a file.
-ghost use Rattle.std.specs.Prelude.{◌≡◌, IfErr, IfOk, Some, option_map};
-ghost use Rattle.cookie_netscape.specs.Files.{FailsAtLine, FailsToRead, rows_in_file};
-ghost use Rattle.cookie_netscape.specs.Lines.{cookie_from, is_blank, line_cookie};
-ghost use Rattle.cookie_netscape.specs.Views.{HasAbsolutePath, line_view};
+ghost use Rattle.std.specs.Prelude.{◌≡◌, ◌==◌, IfErr, IfOk, Some, is_some, length, option_map};
+ghost use Rattle.cookie_words.specs.Texts.{pieces};
+ghost use Rattle.cookie_parts.specs.Hosts.{passes};
+ghost use Rattle.cookie_netscape.specs.Files.{FailsAtLine, FailsToRead, cookie_of_line, has_empty_expiry, rows_in_file};
+ghost use Rattle.cookie_netscape.specs.Lines.{content, content_cookie, cookie_from, fields_from, line_cookie};
+ghost use Rattle.cookie_netscape.specs.Views.{line_view};
 
 use crate::NetscapeError;
 use crate::entry::{Entry, read_entry};
+use crate::fields::split_fields;
 use cookie_parts::Cookie;
 use std::alloc::Global;
 
@@ -23,21 +26,22 @@ enum Line<'a> {
 
 /// Reads the cookies of a file, in the order of its lines.
 ///
-/// A line ends in LF or CRLF. Blank lines, which have at most spaces and HTABs, are skipped, and so
-/// are lines that begin with `#`, but for those of HttpOnly cookies, which begin with `#HttpOnly_`.
-/// Any other line has seven fields, which HTAB separates:
+/// White space around a line (SP, HTAB and CR, for example) is dropped. Blank lines are skipped, and so are comments,
+/// which begin with `#` or `$`; the lines of HttpOnly cookies begin with `#HttpOnly_`. Any other line has seven fields,
+/// which HTAB separates:
 ///
 /// | field | |
 /// |---|---|
-/// | domain | one dot before it is dropped; the rest is not empty, begins with neither a dot nor `#`, and is read in lower case (ASCII) |
+/// | domain | one dot before it is dropped, and so is a port behind it; an IPv6 address has brackets or none; `.local` is dropped behind `localhost` and behind an IPv6 address in brackets; the rest is not empty, begins with neither a dot, `#` nor `$`, and is read in lower case (ASCII) |
 /// | subdomains | TRUE for a domain cookie, FALSE for a host-only cookie, ignoring case |
-/// | path | begins with `/`; a line may leave this field out if it is `/` |
+/// | path | without the quotation marks around it; a line may leave this field out, or empty, if it is `/` |
 /// | secure | TRUE or FALSE, ignoring case |
-/// | expiry | seconds since 1970-01-01T00:00:00 UTC, with or without a fraction, which is ignored; at most 9999-12-31T23:59:59; 0 or empty for a session cookie |
-/// | name | has no `=` and no `;`, and no white space at either end; if it is empty, the value is the name, as Python writes a cookie that was received without `=` |
-/// | value | has no `;`, and no white space at either end; a line may leave this field out if it is empty |
+/// | expiry | seconds since 1970-01-01T00:00:00 UTC, with or without a fraction, which is ignored; at most 9999-12-31T23:59:59, which -1 stands for; 0 or empty for a session cookie |
+/// | name | has no `=` and no `;`, and no space at either end; if it is empty, the value is the name, as Python writes a cookie that was received without `=` |
+/// | value | has no `;`, and no space at either end; a line may leave this field out if it is empty |
 ///
-/// No field has a control character. A line that a byte order mark begins is malformed.
+/// No field has a control character. A cookie whose path does not begin with `/` matches no URL. A line that a byte
+/// order mark begins is malformed.
 ///
 /// # Errors
 ///
@@ -79,37 +83,62 @@ pub fn read_cookie(
     }
 }
 
-// Reads a line.
-#[tactic(auto, unfolding(crate::specs::Lines::line_cookie))]
-fn read_line(line: &str) -> Line<'_>
-    ensures value { line_view result ≡ line_cookie line.now }
-    ensures absolute { HasAbsolutePath result }
+/// Returns whether the line is that of a session cookie and has nothing for its expiry, as Python writes it.
+pub fn has_empty_expiry(line: &str) -> bool
+    ensures { result ≡ has_empty_expiry line.now }
 {
-    if let Some(fields) = line.strip_prefix(HTTP_ONLY) {
+    is_cookie(line) && is_expiry_empty(content(line))
+}
+
+fn is_cookie(line: &str) -> bool
+    ensures { result ≡ is_some (cookie_of_line line.now) }
+{
+    matches!(read_line(line), Line::Cookie(_))
+}
+
+fn is_expiry_empty(text: &str) -> bool
+    ensures { result ≡ passes (λ fields. length fields.expiry == 0) (fields_from (pieces 9 text.now)) }
+{
+    match split_fields(text) {
+        Some(fields) => fields.expiry.is_empty(),
+        None => false,
+    }
+}
+
+// Reads a line.
+fn read_line(line: &str) -> Line<'_>
+    ensures { line_view result ≡ line_cookie line.now }
+{
+    read_content(content(line))
+}
+
+// What a line has, without the white space around it.
+fn content(line: &str) -> &str
+    ensures { result.now ≡ content line.now }
+{
+    line.trim_ascii()
+}
+
+// Reads what a line has.
+#[tactic(auto, unfolding(crate::specs::Lines::content_cookie))]
+fn read_content(text: &str) -> Line<'_>
+    ensures { line_view result ≡ content_cookie text.now }
+{
+    if let Some(fields) = text.strip_prefix(HTTP_ONLY) {
         return cookie_line(fields, true);
     }
-    if is_blank(line) || line.starts_with('#') {
+    if text.is_empty() || text.starts_with('#') || text.starts_with('$') {
         return Line::Skipped;
     }
-    cookie_line(line, false)
+    cookie_line(text, false)
 }
 
 // The line of a cookie, without `#HttpOnly_`.
 fn cookie_line(fields: &str, is_http_only: bool) -> Line<'_>
-    ensures value { line_view result ≡ option_map Some (cookie_from is_http_only fields.now) }
-    ensures absolute { HasAbsolutePath result }
+    ensures { line_view result ≡ option_map Some (cookie_from is_http_only fields.now) }
 {
     match read_entry(fields, is_http_only) {
         Some(entry) => Line::Cookie(entry),
         None => Line::Malformed,
     }
-}
-
-// Whether the line has spaces and HTABs alone, or is empty.
-fn is_blank(line: &str) -> bool
-    ensures { result ≡ is_blank line.now }
-{
-    line.as_bytes()
-        .iter()
-        .all(|byte| *byte == b' ' || *byte == b'\t')
 }

@@ -2,10 +2,12 @@
 ghost use Rattle.std.specs.Prelude.{◌≡◌, ◌∷◌, ◌++◌, IfOk, OnOk, string_bytes};
 ghost use Rattle.cookie_words.specs.Moments.{moment_of};
 ghost use Rattle.cookie_raw.specs.CookieText.{flag};
+ghost use Rattle.cookie_parts.specs.Expiry.{AtUtc};
 ghost use Rattle.cookie_parts.specs.Views.{domain_value, expiry_value};
-ghost use Rattle.cookie_netscape.specs.Written.{domain_field, expiry_second, flag_text, has_subdomains, header_line, is_from_epoch, is_representable, line_of, second_of};
+ghost use Rattle.cookie_netscape.specs.Written.{domain_field, expiry_field, expiry_second, flag_text, has_subdomains, header_line, is_from_epoch, is_representable, line_in, line_of, second_of};
 
 use crate::fields::are_fields;
+use crate::host::{is_own_host, written_host};
 use cookie_parts::{Cookie, CookieDomain, CookieExpiration};
 use cookie_words::epoch;
 use itoa::Buffer;
@@ -19,12 +21,14 @@ use std::alloc::{AllocError, Global};
 pub fn is_representable(cookie: &Cookie<'_>) -> bool
     ensures { result ≡ is_representable cookie.now }
 {
+    let domain = cookie.domain.as_str();
     are_fields(
-        cookie.domain.as_str(),
+        written_host(domain),
         cookie.path.as_str(),
         cookie.name(),
         cookie.value(),
-    ) && is_from_epoch(cookie.expires)
+    ) && is_own_host(domain)
+        && is_from_epoch(cookie.expires)
 }
 
 // Whether the expiry is not before the epoch.
@@ -44,26 +48,66 @@ pub fn new_text(alloc: Global) -> Result<String, AllocError>
     String::from_str(alloc, "# Netscape HTTP Cookie File")
 }
 
-/// Appends a line end and the line of the cookie. Fails only if out of memory; `text` then has a part
-/// of the line.
-///
-/// If [`is_representable`] returns true for the cookie, the line reads back as
-/// [`written_reads_back`](crate::laws::written_reads_back) states: with the name, the value, Secure,
-/// HttpOnly, the domain in lower case, the path, and the expiry in whole seconds. Otherwise the line
-/// may be malformed, or more than one line. An expiry in the first second of 1970 or before is
-/// written as 1, since 0 stands for a session cookie.
-#[tactic(auto, unfolding(crate::specs::Written::line_of))]
+/// What a line has for the expiry of a session cookie.
+#[derive(Clone, Copy, Debug, PartialEq, Eq)]
+pub enum SessionExpiry {
+    /// 0, as curl and wget write it.
+    Zero,
+    /// Nothing, as Python writes it.
+    Empty,
+}
+
+/// Appends a line end and the line of the cookie, as [`push_line`] writes it with [`SessionExpiry::Zero`].
+/// Fails only if out of memory; `text` then has a part of the line.
 pub fn push_cookie(text: &mut String, cookie: &Cookie<'_>) -> Result<(), AllocError>
     ensures { OnOk result (string_bytes text.new ≡ string_bytes text.old ++ 10 ∷ line_of cookie.now) }
 {
     text.push('\n')?;
+    push_line(text, cookie, SessionExpiry::Zero)
+}
+
+/// Appends the line of the cookie, without a line end. Fails only if out of memory; `text` then has a part
+/// of the line.
+///
+/// If [`is_representable`] returns true for the cookie, the line reads back as
+/// [`line_reads_back`](crate::laws::line_reads_back) states: with the name, the value, Secure,
+/// HttpOnly, the domain in lower case, the path, and the expiry in whole seconds. Otherwise the line
+/// may be malformed, or more than one line. An expiry in the first second of 1970 or before is
+/// written as 1, since 0 stands for a session cookie.
+#[tactic(auto, unfolding(crate::specs::Written::line_in))]
+pub fn push_line(
+    text: &mut String,
+    cookie: &Cookie<'_>,
+    session: SessionExpiry,
+) -> Result<(), AllocError>
+    ensures { OnOk result (string_bytes text.new ≡ string_bytes text.old ++ line_in session cookie.now) }
+{
     push_if(text, "#HttpOnly_", cookie.raw().is_http_only())?;
     push_domain(text, &cookie.domain)?;
     push_field(text, cookie.path.as_str())?;
     push_field(text, flag_text(cookie.raw().is_secure()))?;
-    push_field(text, Buffer::new().format(expiry_second(cookie.expires)))?;
+    push_expiry(text, cookie.expires, session)?;
     push_field(text, cookie.name())?;
     push_field(text, cookie.value())
+}
+
+// Appends HTAB and the expiry.
+#[inline(always)]
+fn push_expiry(
+    text: &mut String,
+    expires: CookieExpiration,
+    session: SessionExpiry,
+) -> Result<(), AllocError>
+    ensures { OnOk result (string_bytes text.new ≡ string_bytes text.old ++ 9 ∷ expiry_field session (expiry_value expires)) }
+{
+    match (expires, session) {
+        (CookieExpiration::SessionEnd, SessionExpiry::Empty) => push_field(text, ""),
+        (CookieExpiration::SessionEnd, SessionExpiry::Zero) => push_field(text, "0"),
+        (CookieExpiration::AtUtc(end), _) => push_field(
+            text,
+            Buffer::new().format(expiry_second(end)),
+        ),
+    }
 }
 
 // Appends the domain, and whether its subdomains receive the cookie.
@@ -74,7 +118,7 @@ fn push_domain(text: &mut String, domain: &CookieDomain) -> Result<(), AllocErro
 {
     let has_subdomains = has_subdomains(domain);
     push_if(text, ".", has_subdomains)?;
-    text.push_str(domain.as_str())?;
+    text.push_str(written_host(domain.as_str()))?;
     push_field(text, flag_text(has_subdomains))
 }
 
@@ -110,14 +154,11 @@ fn flag_text(is_set: bool) -> &'static str
     if is_set { "TRUE" } else { "FALSE" }
 }
 
-// The second in which a cookie expires; 0 for a session cookie.
-fn expiry_second(expires: CookieExpiration) -> u64
-    ensures { result ≡ expiry_second (expiry_value expires) }
+// The second in which a persistent cookie expires.
+fn expiry_second(end: DateTime) -> u64
+    ensures { result ≡ expiry_second (AtUtc (moment_of end)) }
 {
-    match expires {
-        CookieExpiration::AtUtc(end) => second_of(end).max(1),
-        CookieExpiration::SessionEnd => 0,
-    }
+    second_of(end).max(1)
 }
 
 // The second of a time, counted from the epoch; 0 before it.

@@ -79,8 +79,8 @@ impl CookiePath {
         }))
     }
 
-    /// Makes a path from its saved form, even if it does not begin with `/`.
-    pub(crate) fn of_saved(path: String, from_attr: bool) -> CookiePath
+    /// Makes a path from its saved form, even if it does not begin with `/`. Such a path matches no URL.
+    pub fn of_saved(path: String, from_attr: bool) -> CookiePath
         ensures { result ≡ record { text = string_bytes path; is_from_attribute = from_attr } }
     {
         CookiePath { path, from_attr }

@@ -11,7 +11,9 @@ pub mod NumberedLines
 pub mod Pairs
 pub mod ParsedJson
 pub mod ParsedRon
+pub mod RepresentableRows
 pub mod RonBack
 pub mod SavedAlike
 pub mod SavedLines
 pub mod StyledTexts
+pub mod WellFormedLines

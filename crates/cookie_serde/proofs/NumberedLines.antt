@@ -11,7 +11,7 @@ use Rattle.cookie_netscape.specs.Lines.{line_cookie}
 use Rattle.cookie_netscape.specs.declared.error.NetscapeError.{NetscapeError}
 
 -- the line that is visited, between those before and after it
-at_next : (count place : ℕ) (line : List ℕ) (all : List (List ℕ)) → count < length (enumerate_from 0 all)
+pub at_next : (count place : ℕ) (line : List ℕ) (all : List (List ℕ)) → count < length (enumerate_from 0 all)
     → (place, line) ≡ get_or (enumerate_from 0 all) count (place, line)
     → (all ≡ take count all ++ line ∷ drop (suc count) all) × (take (suc count) all ≡ take count all ++ line ∷ [])
     × (place ≡ length (take count all))

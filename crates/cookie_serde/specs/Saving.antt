@@ -1,5 +1,5 @@
 -- Rows saved as lines, by a function that returns a string for a row, or an error.
-use Rattle.std.specs.Prelude.{◌≡◌, ℕ, ◌+◌, Bool, true, ◌&&◌, ◌⊎◌, List, [], ◌∷◌, ◌++◌, flat_map, filter, string_bytes, Option, Some, None, Result, Ok, Err}
+use Rattle.std.specs.Prelude.{◌≡◌, ℕ, ◌+◌, Bool, true, ◌&&◌, ◌⊎◌, List, [], ◌∷◌, ◌++◌, flat_map, filter, string_bytes, Option, Some, None, Result, Ok, Err, if◌then◌else◌}
 use Rattle.std.specs.Io.KnownBytes.{Appends}
 use Rattle.std.specs.List.{AllZip}
 use Rattle.std.specs.declared.alloc.Global.{Global}
@@ -18,6 +18,10 @@ is_saved now row = is_unexpired now row && is_persistent row.expires
 -- the rows that are saved at a time
 abbrev pub saved_rows : Moment → List Row → List Row
 saved_rows now rows = filter (is_saved now) rows
+
+-- all rows, or those that are saved at a time
+abbrev pub selected_rows : Bool → Moment → List Row → List Row
+selected_rows all now rows = if all then rows else saved_rows now rows
 
 -- the row is saved at the time; every row is if there is no time
 abbrev pub is_among : Option Moment → Row → Bool

@@ -4,16 +4,17 @@
 //! A line has no SameSite and no other attribute, no fraction of a second in the expiry, and not
 //! whether a Path attribute set the path: a loaded cookie has a path as if one had. Its domain is in
 //! lower case. [`netscape::laws`](cookie_netscape::laws) states what reads back.
-ghost use Rattle.std.specs.Prelude.{◌≡◌, ◌-◌, ◌^◌, ◌<◌, ◌⊎◌, IsTrue, false, true, None, filter, option_map, IfErr, IfOk, OnOk, string_bytes};
-ghost use Rattle.std.specs.Io.KnownBytes.{IsAtEnd};
+ghost use Rattle.std.specs.Prelude.{◌≡◌, ◌+◌, ◌-◌, ◌^◌, ◌<◌, ◌⊎◌, IsTrue, false, true, None, filter, option_map, IfErr, IfOk, OnErr, OnOk, string_bytes};
+ghost use Rattle.std.specs.Io.KnownBytes.{Appends, IsAtEnd};
 ghost use Rattle.std.specs.List.{list_all};
 ghost use Rattle.cookie_words.specs.Moments.{moment_of};
+ghost use Rattle.cookie_device.specs.Device.{AppendsPrefix};
 ghost use Rattle.cookie_netscape.specs.Files.{FailsToRead};
 ghost use Rattle.cookie_netscape.specs.Written.{is_representable, written_text};
 ghost use Rattle.cookie_laws.specs.Contents.{rows_in_order};
 ghost use Rattle.cookie_serde.specs.Loading.{ReadsEachOnce};
-ghost use Rattle.cookie_serde.specs.NetscapeLists.{BuildsFromNetscape, FailsToLoadNetscape, FailsToSaveNetscape, LoadsNetscape, SerializesToNetscape, WritesNetscape};
-ghost use Rattle.cookie_serde.specs.Saving.{is_among, saved_rows};
+ghost use Rattle.cookie_serde.specs.NetscapeLists.{BuildsFromNetscape, BuildsWellFormed, FailsToLoadNetscape, FailsToLoadWellFormed, FailsToReadFile, FailsToSaveNetscape, HasCookieOrMalformed, IsFile, LoadsNetscape, LoadsWellFormed, SerializesToNetscape, WritesNetscape, unrepresentable_count};
+ghost use Rattle.cookie_serde.specs.Saving.{is_among, line_text, saved_rows, selected_rows};
 
 use crate::saving::is_among;
 use crate::whole_text::{read_bytes, write_text};
@@ -24,6 +25,25 @@ use cookie_netscape::{NetscapeError, is_representable, new_text, push_cookie, re
 use cookie_parts::Error;
 use cookie_rows::{Rows, StoreAlloc};
 use jiff::civil::DateTime;
+use std::alloc::{AllocError, Global};
+
+/// The cookies of the well-formed lines of a `cookies.txt` file, and the numbers of the others.
+#[derive(Drop)]
+pub struct WellFormed {
+    /// The cookies of the well-formed lines.
+    pub store: CookieStore,
+    /// The numbers of the malformed lines, counted from 1, in order.
+    pub malformed: Vec<usize>,
+}
+
+/// The cookies that the format can represent as a `cookies.txt` file, and the number of the others.
+#[derive(Debug, Drop)]
+pub struct Representable {
+    /// The file, without the line feed at its end.
+    pub text: String,
+    /// The number of cookies that are left out.
+    pub left_out: usize,
+}
 
 /// Writes the unexpired persistent cookies as a `cookies.txt` file, in the store's order.
 ///
@@ -64,6 +84,36 @@ pub fn save_incl_expired_and_nonpersistent<W: Sink>(
     ensures stopped { IfErr result (λ error. FailsToSaveNetscape error store.now.rows (W.state writer.old) (W.state writer.new)) }
 {
     save_among(store, writer, None)
+}
+
+/// Writes the cookies that the format can represent as a `cookies.txt` file, in the store's order,
+/// and returns the number of the others.
+///
+/// With `all`, expired cookies and session cookies are saved too; otherwise the unexpired persistent
+/// cookies alone. The first line is that of [`save`].
+///
+/// # Errors
+///
+/// In the order in which they are checked:
+/// - `Memory`: out of memory. Nothing is written.
+/// - `Io`: the writer failed. A beginning of the file may be written.
+pub fn save_representable<W: Sink>(
+    store: &CookieStore,
+    writer: &mut W,
+    all: bool,
+    now: DateTime,
+) -> Result<usize, NetscapeError>
+    requires writable { (W.state writer.old).failed < 2 ^ 64 - 1 }
+    ensures whole { OnOk result (WritesNetscape (filter is_representable (selected_rows all (moment_of now) store.now.rows))
+        (W.state writer.old).contents (W.state writer.new).contents) }
+    ensures left_out { IfOk result (λ left_out. left_out ≡ unrepresentable_count (selected_rows all (moment_of now) store.now.rows)) }
+    ensures count { OnOk result ((W.state writer.new).failed ≡ (W.state writer.old).failed) }
+    ensures stopped { IfErr result (λ error. FailsToSaveNetscape error (filter is_representable (selected_rows all (moment_of now) store.now.rows))
+        (W.state writer.old) (W.state writer.new)) }
+{
+    let file = to_text_representable(store, all, now)?;
+    write_file(writer, &file.text)?;
+    Ok(file.left_out)
 }
 
 /// Loads a store from a `cookies.txt` file, skipping expired cookies.
@@ -119,6 +169,39 @@ pub fn load_all<A: Into<StoreAlloc>, R: Source>(
     Ok(CookieStore::from_rows(alloc.alloc, rows))
 }
 
+/// Loads a store from the well-formed lines of a `cookies.txt` file, and returns the numbers of the
+/// malformed ones.
+///
+/// Expired cookies are skipped unless `include_expired`. The lines and the store are otherwise those
+/// of [`load`].
+///
+/// # Errors
+///
+/// In the order in which they are checked:
+/// - `Io`: the reader failed.
+/// - `NotUtf8`: the bytes are not UTF-8.
+///
+/// `Memory`: out of memory, for the bytes, for a cookie or for the number of a malformed line.
+pub fn load_well_formed<A: Into<StoreAlloc>, R: Source>(
+    alloc: A,
+    reader: &mut R,
+    include_expired: bool,
+    now: DateTime,
+) -> Result<WellFormed, NetscapeError>
+    requires readable { (R.state reader.old).failed < 2 ^ 64 - 1 }
+    ensures built { IfOk result (λ loaded. LoadsWellFormed (R.state reader.old).remaining include_expired (moment_of now)
+        (rows_in_order loaded.store) loaded.malformed.items) }
+    ensures suffixes { IfOk result (λ loaded. loaded.store.suffixes ≡ None) }
+    ensures limit { IfOk result (λ loaded. loaded.store.limit ≡ None) }
+    ensures read { OnOk result (IsAtEnd (R.state reader.new).remaining × ((R.state reader.new).failed ≡ (R.state reader.old).failed)) }
+    ensures failed { IfErr result (λ error. FailsToLoadWellFormed error (R.state reader.old) (R.state reader.new)) }
+    ensures reads { ReadsEachOnce (R.state reader.old) (R.state reader.new) }
+{
+    let alloc = alloc.into();
+    let text = read_file(alloc.alloc, reader)?;
+    Ok(well_formed(alloc, &text, include_expired, now)?)
+}
+
 /// Formats the unexpired persistent cookies as a `cookies.txt` file, in the store's order.
 ///
 /// It is the file that [`save`] writes, without the line feed at its end.
@@ -141,6 +224,31 @@ pub fn to_text_incl_expired_and_nonpersistent(store: &CookieStore) -> Result<Str
     ensures { SerializesToNetscape store.now.rows result }
 {
     text_among(store, &None)
+}
+
+/// Formats the cookies that the format can represent as a `cookies.txt` file, in the store's order,
+/// and counts the others.
+///
+/// With `all`, expired cookies and session cookies are saved too; otherwise the unexpired persistent
+/// cookies alone. It is the file that [`save_representable`] writes, without the line feed at its end.
+///
+/// # Errors
+///
+/// `AllocError`: out of memory.
+pub fn to_text_representable(
+    store: &CookieStore,
+    all: bool,
+    now: DateTime,
+) -> Result<Representable, AllocError>
+    ensures text { IfOk result (λ file. string_bytes file.text
+        ≡ written_text (filter is_representable (selected_rows all (moment_of now) store.now.rows))) }
+    ensures left_out { IfOk result (λ file. file.left_out ≡ unrepresentable_count (selected_rows all (moment_of now) store.now.rows)) }
+{
+    if all {
+        representable_among(store, &None)
+    } else {
+        representable_among(store, &Some(now))
+    }
 }
 
 /// Parses a `cookies.txt` file into a store, skipping expired cookies.
@@ -185,6 +293,30 @@ pub fn from_text_all<A: Into<StoreAlloc>>(
     Ok(CookieStore::from_rows(alloc.alloc, rows))
 }
 
+/// Parses the well-formed lines of a `cookies.txt` file into a store, and returns the numbers of the
+/// malformed ones.
+///
+/// The file is as [`load_well_formed`] reads it, and the store as `load_well_formed` returns it.
+///
+/// # Errors
+///
+/// `AllocError`: out of memory, for a cookie or for the number of a malformed line. A file that has
+/// neither never fails.
+pub fn from_text_well_formed<A: Into<StoreAlloc>>(
+    alloc: A,
+    text: &str,
+    include_expired: bool,
+    now: DateTime,
+) -> Result<WellFormed, AllocError>
+    ensures built { IfOk result (λ loaded. BuildsWellFormed text.now include_expired (moment_of now)
+        (rows_in_order loaded.store) loaded.malformed.items) }
+    ensures suffixes { IfOk result (λ loaded. loaded.store.suffixes ≡ None) }
+    ensures limit { IfOk result (λ loaded. loaded.store.limit ≡ None) }
+    ensures memory { OnErr result (HasCookieOrMalformed text.now) }
+{
+    well_formed(alloc.into(), text, include_expired, now)
+}
+
 // Writes the rows that are saved. Which these are: see [`is_among`].
 fn save_among<W: Sink>(
     store: &CookieStore,
@@ -199,7 +331,18 @@ fn save_among<W: Sink>(
         (filter (is_among (option_map moment_of now)) store.now.rows) (W.state sink.old) (W.state sink.new)) }
 {
     let text = text_among(store, &now)?;
-    match write_text(sink, &text) {
+    write_file(sink, &text)
+}
+
+// Writes the file and a line feed.
+fn write_file<W: Sink>(sink: &mut W, text: &String) -> Result<(), NetscapeError>
+    requires writable { (W.state sink.old).failed < 2 ^ 64 - 1 }
+    ensures whole { OnOk result (Appends (W.state sink.old).contents (W.state sink.new).contents (line_text text.now)) }
+    ensures count { OnOk result ((W.state sink.new).failed ≡ (W.state sink.old).failed) }
+    ensures stopped { IfErr result (λ error. AppendsPrefix (W.state sink.old).contents (W.state sink.new).contents (line_text text.now)
+        × (error ≡ NetscapeError.Io) × ((W.state sink.new).failed ≡ (W.state sink.old).failed + 1)) }
+{
+    match write_text(sink, text) {
         Ok(()) => Ok(()),
         Err(_) => Err(NetscapeError::Io),
     }
@@ -209,14 +352,10 @@ fn save_among<W: Sink>(
 fn text_among(store: &CookieStore, now: &Option<DateTime>) -> Result<String, NetscapeError>
     ensures { SerializesToNetscape (filter (is_among (option_map moment_of now.now)) store.now.rows) result }
 {
-    match written_text(store, now) {
-        Ok(text) => Ok(text),
-        Err(error) => Err(if are_representable(store, now) {
-            error
-        } else {
-            NetscapeError::Unrepresentable
-        }),
+    if !are_representable(store, now) {
+        return Err(NetscapeError::Unrepresentable);
     }
+    Ok(representable_among(store, now)?.text)
 }
 
 // Whether the format can represent all rows that are saved.
@@ -231,24 +370,31 @@ fn are_representable(store: &CookieStore, now: &Option<DateTime>) -> bool
     true
 }
 
-// The lines of the rows that are saved, up to the first that the format cannot represent.
-fn written_text(store: &CookieStore, now: &Option<DateTime>) -> Result<String, NetscapeError>
-    ensures representable { OnOk result (IsTrue (list_all is_representable (filter (is_among (option_map moment_of now.now)) store.now.rows))) }
-    ensures text { IfOk result (λ text. string_bytes text ≡ written_text (filter (is_among (option_map moment_of now.now)) store.now.rows)) }
-    ensures errors { IfErr result (λ error. (error ≡ NetscapeError.Memory)
-        ⊎ ((error ≡ NetscapeError.Unrepresentable)
-        × (list_all is_representable (filter (is_among (option_map moment_of now.now)) store.now.rows) ≡ false))) }
+// The file of the rows that are saved, without those that the format cannot represent, and the
+// number of these.
+fn representable_among(
+    store: &CookieStore,
+    now: &Option<DateTime>,
+) -> Result<Representable, AllocError>
+    ensures text { IfOk result (λ file. string_bytes file.text
+        ≡ written_text (filter is_representable (filter (is_among (option_map moment_of now.now)) store.now.rows))) }
+    ensures left_out { IfOk result (λ file. file.left_out
+        ≡ unrepresentable_count (filter (is_among (option_map moment_of now.now)) store.now.rows)) }
 {
     let mut text = new_text(store.allocator())?;
+    let mut left_out: usize = 0;
     for row in store.iter_any() {
-        if is_among(row, now) {
-            if !is_representable(row) {
-                return Err(NetscapeError::Unrepresentable);
-            }
+        if !is_among(row, now) {
+            continue;
+        }
+        if is_representable(row) {
             push_cookie(&mut text, row)?;
+        } else {
+            // for the checker: no store has as many rows as do not fit
+            left_out = left_out.checked_add(1).ok_or(AllocError)?;
         }
     }
-    Ok(text)
+    Ok(Representable { text, left_out })
 }
 
 // The rows of the file that the source has. Expired cookies are skipped unless `include_expired`.
@@ -264,13 +410,25 @@ fn load_rows<R: Source>(
     ensures failed { IfErr result (λ error. FailsToLoadNetscape error (R.state source.old) (R.state source.new)) }
     ensures reads { ReadsEachOnce (R.state source.old) (R.state source.new) }
 {
-    let bytes = match read_bytes(alloc.alloc, source) {
+    let text = read_file(alloc.alloc, source)?;
+    rows_of_text(alloc, &text, include_expired, now)
+}
+
+// The file that the source has.
+fn read_file<R: Source>(alloc: Global, source: &mut R) -> Result<String, NetscapeError>
+    requires readable { (R.state source.old).failed < 2 ^ 64 - 1 }
+    ensures file { IfOk result (λ text. IsFile (R.state source.old).remaining (string_bytes text)) }
+    ensures read { OnOk result (IsAtEnd (R.state source.new).remaining × ((R.state source.new).failed ≡ (R.state source.old).failed)) }
+    ensures failed { IfErr result (λ error. FailsToReadFile error (R.state source.old) (R.state source.new)) }
+    ensures reads { ReadsEachOnce (R.state source.old) (R.state source.new) }
+{
+    let bytes = match read_bytes(alloc, source) {
         Ok(bytes) => bytes,
         Err(Error::Io) => return Err(NetscapeError::Io),
         Err(_) => return Err(NetscapeError::Memory),
     };
-    match str::from_utf8(&bytes) {
-        Ok(text) => rows_of_text(alloc, text, include_expired, now),
+    match String::from_utf8(bytes) {
+        Ok(text) => Ok(text),
         Err(_) => Err(NetscapeError::NotUtf8),
     }
 }
@@ -294,4 +452,34 @@ fn rows_of_text(
         }
     }
     Ok(rows)
+}
+
+// The store of the well-formed lines of the file that `text` is, and the numbers of the malformed
+// ones. Expired cookies are skipped unless `include_expired`.
+fn well_formed(
+    alloc: StoreAlloc,
+    text: &str,
+    include_expired: bool,
+    now: DateTime,
+) -> Result<WellFormed, AllocError>
+    ensures built { IfOk result (λ loaded. BuildsWellFormed text.now include_expired (moment_of now)
+        (rows_in_order loaded.store) loaded.malformed.items) }
+    ensures suffixes { IfOk result (λ loaded. loaded.store.suffixes ≡ None) }
+    ensures limit { IfOk result (λ loaded. loaded.store.limit ≡ None) }
+    ensures memory { OnErr result (HasCookieOrMalformed text.now) }
+{
+    let mut rows = Rows::new(alloc);
+    let mut malformed = Vec::new(alloc.alloc);
+    for (index, line) in text.lines().enumerate() {
+        match read_cookie(alloc.alloc, line, index + 1) {
+            Ok(Some(cookie)) => rows.take(cookie, include_expired, now)?,
+            Ok(None) => {}
+            Err(NetscapeError::BadLine { line: number }) => malformed.push(number)?,
+            Err(_) => return Err(AllocError),
+        }
+    }
+    Ok(WellFormed {
+        store: CookieStore::from_rows(alloc.alloc, rows),
+        malformed,
+    })
 }

@@ -1,5 +1,5 @@
 -- Stores saved as a list, and loaded from one.
-use Rattle.std.specs.Prelude.{◌≡◌, ℕ, Bool, List, [], ◌∷◌, ◌++◌, map, Option, Some, None, Result, Ok, Err, if◌then◌else◌, ℤ}
+use Rattle.std.specs.Prelude.{◌≡◌, ℕ, Bool, List, [], ◌∷◌, ◌++◌, map, Option, Some, None, Result, Ok, Err, ℤ}
 use Rattle.std.specs.Result.{result_map_both}
 use Rattle.cookie_words.specs.Moments.{Moment}
 use Rattle.cookie_forms.specs.JsonText.{pretty_text}
@@ -14,7 +14,7 @@ use Rattle.cookie_laws.specs.Contents.{Contents, contents_of}
 use Rattle.cookie_laws.specs.Rows.{built}
 use Rattle.cookie_store.specs.JsonLists.{json_cookies}
 use Rattle.cookie_store.specs.RonLists.{RonCookies}
-use Rattle.cookie_store.specs.Saving.{saved_rows}
+use Rattle.cookie_serde.specs.Saving.{selected_rows}
 use Rattle.cookie_store_c.specs.Inputs.{moment_in, text_in}
 use Rattle.cookie_store_c.specs.Calls.{CallOutcome, error_outcome}
 use Rattle.cookie_store_c.specs.Statuses.{error_status}
@@ -22,10 +22,6 @@ use Rattle.cookie_serde.specs.declared.list_format.ListFormat.{ListFormat}
 use Rattle.cookie_serde.specs.declared.list_format.ListFormat.TheVariants.{Json, Ron}
 use Rattle.cookie_store_c.specs.declared.status.Status.{Status}
 use Rattle.cookie_store_c.specs.declared.status.Status.TheVariants.{Done, HasStore}
-
--- all rows, or the persistent ones that have not expired
-abbrev pub selected_rows : Bool → Moment → List Row → List Row
-selected_rows all now rows = if all then rows else saved_rows now rows
 
 -- a string and a line feed, or the status of the error
 abbrev pub as_line : Result (List ℕ) SavedError → Result (List ℕ) Status

@@ -1,9 +1,10 @@
 //! Writes strings into the caller's buffers.
-ghost use Rattle.std.specs.Prelude.{◌≡◌, ℕ, ◌+◌, ◌^◌, ◌≤◌, ◌++◌, length, List};
+ghost use Rattle.std.specs.Prelude.{◌≡◌, ℕ, ◌+◌, ◌^◌, ◌≤◌, ◌++◌, ◌∷◌, [], length, List, IfErr, IfOk, string_bytes};
 ghost use Rattle.std.specs.Option.{MatchOption};
 ghost use Rattle.std.specs.Result.{result_map_both};
 ghost use Rattle.cookie_device.specs.Texts.{joined};
 ghost use Rattle.cookie_store_c.specs.Buffers.{text_outcome, IsFilledTo};
+ghost use Rattle.cookie_store_c.specs.Netscape.{with_numbers};
 
 use crate::status::Status;
 
@@ -70,5 +71,24 @@ pub(crate) fn copy_out(
             *needed = 0;
             status
         }
+    }
+}
+
+/// Copies the first of the numbers to the front of the buffer, as many as fit.
+pub(crate) fn copy_numbers(numbers: &[usize], buffer: &mut [usize])
+    ensures { buffer.new ≡ with_numbers numbers.now buffer.old }
+{
+    let count = numbers.len().min(buffer.len());
+    buffer[..count].copy_from_slice(&numbers[..count]);
+}
+
+/// Returns the string and a line feed, or `NoMemory`.
+pub(crate) fn with_line_feed(mut text: String) -> Result<Vec<u8>, Status>
+    ensures bytes { IfOk result (λ bytes. bytes.items ≡ string_bytes text ++ 10 ∷ []) }
+    ensures memory { IfErr result (λ status. status ≡ Status.NoMemory) }
+{
+    match text.push('\n') {
+        Ok(()) => Ok(text.into_bytes()),
+        Err(_) => Err(Status::NoMemory),
     }
 }

@@ -4,11 +4,12 @@ ghost use Rattle.cookie_words.specs.Moments.{moment_of};
 ghost use Rattle.cookie_laws.specs.Contents.{rows_in_order};
 ghost use Rattle.cookie_serde.specs.ListFormats.{ParsesTo, SerializesTo};
 ghost use Rattle.cookie_serde.specs.Lists.{BuildsFromText, FailsAtText};
+ghost use Rattle.cookie_serde.specs.Saving.{selected_rows};
 ghost use Rattle.cookie_store_c.specs.Buffers.{WritesText};
 ghost use Rattle.cookie_store_c.specs.Calls.{error_outcome};
-ghost use Rattle.cookie_store_c.specs.Lists.{selected_rows, saved_as, saved_list_in, to_load, LoadsAt, LoadsText};
+ghost use Rattle.cookie_store_c.specs.Lists.{saved_as, saved_list_in, to_load, LoadsAt, LoadsText};
 
-use crate::buffer::copy_out;
+use crate::buffer::{copy_out, with_line_feed};
 use crate::calls::hash_key;
 use crate::inputs::{moment_in, text_in};
 use crate::status::Status;
@@ -47,13 +48,9 @@ fn line_of(
     ensures errors { IfErr result (λ status. (saved_as form (selected_rows all (moment_of now) store.now.rows) ≡ Err status)
         ⊎ ((status ≡ Status.NoMemory) × IsOk (saved_as form (selected_rows all (moment_of now) store.now.rows)))) }
 {
-    let mut text = match list_of(form, store, now, all) {
-        Ok(text) => text,
-        Err(error) => return Err(Status::of_error(error)),
-    };
-    match text.push('\n') {
-        Ok(()) => Ok(text.into_bytes()),
-        Err(_) => Err(Status::NoMemory),
+    match list_of(form, store, now, all) {
+        Ok(text) => with_line_feed(text),
+        Err(error) => Err(Status::of_error(error)),
     }
 }
 

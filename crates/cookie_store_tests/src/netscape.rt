@@ -10,8 +10,10 @@ use cookie_store::device::{Counted, Sink, Source};
 use cookie_store::netscape::NetscapeError;
 use cookie_store::saved::SavedError;
 use cookie_store::serde::netscape;
+use cookie_store::serde::netscape::WellFormed;
 use cookie_store::{CookieStore, Error};
-use std::alloc::Global;
+use jiff::civil::DateTime;
+use std::alloc::{AllocError, Global};
 use std::process::Abort;
 
 // What `forms::RECEIVED` is saved as.
@@ -55,7 +57,7 @@ pub fn load_file<'a>(alloc: Global, which: &Which, fake: Fake<&'a [u8]>) -> Load
 // first line of the file that is written.
 type Read = (&'static str, Result<&'static str, usize>);
 
-static READ: [Read; 38] = [
+static READ: [Read; 42] = [
     ("", Ok("")),
     ("\n \t\r\n# a\n#\ta\n#HttpOnly\n", Ok("")),
     // Host-only and domain cookies, with and without a dot.
@@ -128,26 +130,49 @@ static READ: [Read; 38] = [
         "a.com\tFALSE\t/\tFALSE\t0\t\u{e9} #\t=\"\u{1f36a}\"\n",
         Ok("\na.com\tFALSE\t/\tFALSE\t0\t\u{e9} #\t=\"\u{1f36a}\""),
     ),
+    // What other programs write: white space around a line, `$`, IPv6 addresses, ports, `.local`, paths,
+    // -1 and Unicode white space.
+    (
+        " # a\n$a\n \ta.com\tFALSE\t/\tFALSE\t0\ta\t1 \t\r\r\n",
+        Ok("\na.com\tFALSE\t/\tFALSE\t0\ta\t1"),
+    ),
+    (
+        "::1\tFALSE\t/\tFALSE\t0\ta\t1\n[::1]\tFALSE\t/\tFALSE\t0\ta\t2\n[::1].local\tFALSE\t/\tFALSE\t0\ta\t3\n",
+        Ok("\n::1\tFALSE\t/\tFALSE\t0\ta\t3"),
+    ),
+    (
+        "localhost:80\tFALSE\t/\tFALSE\t0\ta\t1\nlocalhost.local\tFALSE\t/\tFALSE\t0\ta\t2\na.local\tFALSE\t/\tFALSE\t0\ta\t3\n",
+        Ok("\nlocalhost\tFALSE\t/\tFALSE\t0\ta\t2\na.local\tFALSE\t/\tFALSE\t0\ta\t3"),
+    ),
+    (
+        "a.com\tFALSE\t\tFALSE\t0\ta\t1\na.com\tFALSE\t\"/p\"\tFALSE\t0\ta\t2\na.com\tFALSE\tp\tFALSE\t0\ta\t3\n",
+        Ok(
+            "\na.com\tFALSE\t/\tFALSE\t0\ta\t1\na.com\tFALSE\t/p\tFALSE\t0\ta\t2\na.com\tFALSE\tp\tFALSE\t0\ta\t3",
+        ),
+    ),
+    (
+        "a.com\tFALSE\t/\tFALSE\t-1\ta\t\u{a0}1\u{a0}\n",
+        Ok("\na.com\tFALSE\t/\tFALSE\t253402300799\ta\t\u{a0}1\u{a0}"),
+    ),
     // Malformed lines: fields, domains, flags, paths, expiries, names and values.
     ("a.com\n", Err(1)),
     ("\n# a\na.com\tFALSE\t/\tFALSE\t0\n", Err(3)),
-    ("a.com\tFALSE\t/\tFALSE\t0\ta\t1\t\n", Err(1)),
+    ("a.com\tFALSE\t/\tFALSE\t0\ta\t1\t2\n", Err(1)),
     ("\tFALSE\t/\tFALSE\t0\ta\t1\n", Err(1)),
     ("..a.com\tFALSE\t/\tFALSE\t0\ta\t1\n", Err(1)),
     ("#HttpOnly_#a.com\tFALSE\t/\tFALSE\t0\ta\t1\n", Err(1)),
     ("a.com\tNO\t/\tFALSE\t0\ta\t1\n", Err(1)),
     ("a.com\tFALSE\t/\t\t0\ta\t1\n", Err(1)),
-    ("a.com\tFALSE\tp\tFALSE\t0\ta\t1\n", Err(1)),
-    ("a.com\tFALSE\t/\tFALSE\t-1\ta\t1\n", Err(1)),
+    ("a.com\tFALSE\t\"\"p\tFALSE\t0\ta\t1\n", Err(1)),
+    ("a.com\tFALSE\t/\tFALSE\t-2\ta\t1\n", Err(1)),
     ("a.com\tFALSE\t/\tFALSE\t.5\ta\t1\n", Err(1)),
     ("a.com\tFALSE\t/\tFALSE\t1.5s\ta\t1\n", Err(1)),
     ("a.com\tFALSE\t/\tFALSE\t0\t\t\n", Err(1)),
     ("\u{feff}# a\n", Err(1)),
-    (" # a\n", Err(1)),
-    ("a.com\tFALSE\t/\tFALSE\t0\ta\t1\r", Err(1)),
+    ("Set-Cookie: a=1\n", Err(1)),
     ("a.com\tFALSE\t/\tFALSE\t0\ta=\t1\n", Err(1)),
     ("a.com\tFALSE\t/\tFALSE\t0\ta\t1;\n", Err(1)),
-    ("a.com\tFALSE\t/\tFALSE\t0\ta\t1 \n", Err(1)),
+    ("a.com\tFALSE\t/\tFALSE\t0\ta\t 1\n", Err(1)),
     ("a.com\tFALSE\t/\tFALSE\t0\ta\t1\r1\n", Err(1)),
 ];
 
@@ -206,7 +231,7 @@ static WRITTEN: [Written; 9] = [
     (&[], Ok("")),
     (
         &[("https://[::1]/", "a=\"1\"; Secure; HttpOnly; SameSite=None")],
-        Ok("\n#HttpOnly_[::1]\tFALSE\t/\tTRUE\t0\ta\t\"1\""),
+        Ok("\n#HttpOnly_::1\tFALSE\t/\tTRUE\t0\ta\t\"1\""),
     ),
     (
         &[(
@@ -284,8 +309,116 @@ fn a_time_selects_cookies(rt: HostRuntime) {
     has_lines(&rt, &saved, lasting, true, "saved");
 }
 
+// A file, what the cookies of its well-formed lines are written as that the format can represent,
+// and the numbers of the malformed lines.
+type Salvaged = (&'static str, &'static str, &'static [usize]);
+
+static SALVAGED: [Salvaged; 3] = [
+    ("# a\n", "", &[]),
+    (
+        "a.com\n#\na.com\tFALSE\t/\tFALSE\t0\ta\t1\n\u{feff}\n",
+        "\na.com\tFALSE\t/\tFALSE\t0\ta\t1",
+        &[1, 4],
+    ),
+    (
+        "a.com\tFALSE\t/\tFALSE\t1\ta\t1\n\n \ta\n",
+        "\na.com\tFALSE\t/\tFALSE\t1\ta\t1",
+        &[3],
+    ),
+];
+
+// Checks the store and the numbers of the lines.
+fn has_salvaged(rt: &impl Abort, loaded: &WellFormed, salvaged: &Salvaged) {
+    let text = netscape::to_text_incl_expired_and_nonpersistent(&loaded.store);
+    has_lines(rt, &text, salvaged.1, true, salvaged.0);
+    is_equal(rt, &loaded.malformed.as_slice(), &salvaged.2, &salvaged.0);
+}
+
+// Loads the well-formed lines, or checks that memory ran out.
+fn is_salvaged(rt: &impl Abort, alloc: Global, salvaged: &Salvaged, ample: bool) {
+    start(alloc);
+    let outcome = netscape::from_text_well_formed(alloc, salvaged.0, true, new_year());
+    end(alloc);
+    match outcome {
+        Ok(loaded) => has_salvaged(rt, &loaded, salvaged),
+        Err(AllocError) => is_equal(rt, &ample, &false, &salvaged.0),
+    }
+}
+
+#[test]
+fn malformed_lines_are_left_out(rt: HostRuntime) {
+    for salvaged in &SALVAGED {
+        is_salvaged(&rt, rt.alloc(), salvaged, true);
+    }
+}
+
+// Loads and saves by a reader and a writer.
+fn load_and_save(
+    alloc: Global,
+    file: &str,
+    now: DateTime,
+) -> Result<(usize, Vec<u8>), NetscapeError> {
+    let mut reader = Counted::new(Fake::new(file.as_bytes(), 7, 0));
+    let loaded = netscape::load_well_formed(alloc, &mut reader, false, now)?;
+    let mut writer = Counted::new(Fake::new(Vec::new(alloc), 7, 0));
+    netscape::save_representable(&loaded.store, &mut writer, true, now)?;
+    Ok((loaded.malformed.len(), writer.into_inner().inner))
+}
+
+#[test]
+fn a_file_is_salvaged(rt: HostRuntime) {
+    let file = "a.com\na.com\tFALSE\t/\tFALSE\t1\ta\t1\na.com\tFALSE\t/\tFALSE\t0\tb\t1\n";
+    let outcome = load_and_save(rt.alloc(), file, new_year()).expect(&rt, "a file");
+    let wanted = "# Netscape HTTP Cookie File\na.com\tFALSE\t/\tFALSE\t0\tb\t1\n";
+    is_equal(&rt, &outcome.0, &1, &file);
+    is_equal(&rt, &outcome.1.as_slice(), &wanted.as_bytes(), &file);
+}
+
+// Cookies, and what those are written as that the format can represent, after the first line.
+static REPRESENTABLE: [(&[UrlAndValue], &str, usize); 2] = [
+    (&[], "", 0),
+    (
+        &[
+            ("http://a.com/", "a=1\t2"),
+            ("http://a.com/", "b=1"),
+            ("http://a.com/", "c=1; Path=/\u{7f}"),
+        ],
+        "\na.com\tFALSE\t/\tFALSE\t0\tb\t1",
+        2,
+    ),
+];
+
+// Saves what the format can represent, or checks that memory ran out.
+fn is_represented(
+    rt: &impl Abort,
+    alloc: Global,
+    row: &(&'static [UrlAndValue], &'static str, usize),
+    ample: bool,
+) {
+    let store = store_of(rt, alloc, row.0);
+    start(alloc);
+    let outcome = netscape::to_text_representable(&store, true, new_year());
+    end(alloc);
+    match outcome {
+        Ok(file) => {
+            is_equal(rt, &file.left_out, &row.2, &row.0);
+            has_lines(rt, &Ok(file.text), row.1, true, row.1);
+        }
+        Err(AllocError) => is_equal(rt, &ample, &false, &row.0),
+    }
+}
+
+#[test]
+fn other_cookies_are_left_out(rt: HostRuntime) {
+    for row in &REPRESENTABLE {
+        is_represented(&rt, rt.alloc(), row, true);
+    }
+}
+
 mod allocations {
-    use super::{READ, WRITTEN, is_read, is_written};
+    use super::{
+        READ, REPRESENTABLE, SALVAGED, WRITTEN, is_read, is_represented, is_salvaged, is_written,
+    };
 
     #[test]
     fn from_text(rt: HostRuntime) {
@@ -298,6 +431,20 @@ mod allocations {
     fn to_text(rt: HostRuntime) {
         for written in &WRITTEN {
             is_written(&rt, rt.alloc(), written, false);
+        }
+    }
+
+    #[test]
+    fn from_text_well_formed(rt: HostRuntime) {
+        for salvaged in &SALVAGED {
+            is_salvaged(&rt, rt.alloc(), salvaged, false);
+        }
+    }
+
+    #[test]
+    fn to_text_representable(rt: HostRuntime) {
+        for row in &REPRESENTABLE {
+            is_represented(&rt, rt.alloc(), row, false);
         }
     }
 }

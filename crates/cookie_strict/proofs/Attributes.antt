@@ -1,5 +1,5 @@
 -- The pieces of a header value, and the header value that is joined from them.
-use Rattle.std.proofs.Common.{◌≡◌, ◌<◌, ℕ, ◌+◌, true, false, List, [], ◌∷◌, ◌++◌, length, drop, refl, sym, ap, ◌∙◌, inl, inr, arith, lit<, suc, take}
+use Rattle.std.proofs.Common.{◌≡◌, ◌<◌, ℕ, ◌+◌, true, false, List, [], ◌∷◌, ◌++◌, length, drop, refl, sym, ap, ◌∙◌, inl, inr, arith, lit<, suc, take, take_all}
 use Rattle.std.specs.List.{after_first, list_any, onto_first, position_or_len}
 use Rattle.std.specs.Str.{trim, trim_start, trim_end, chars}
 use Rattle.std.specs.Str.Iter.{split_text, split_has_more, split_pattern, split_steps}
@@ -13,7 +13,7 @@ use Rattle.std.proofs.lemmas.List.{drop_all}
 use Rattle.std.proofs.lemmas.List.Splits.{slice_split-cons_yes, slice_split-cons_no, slice_split_first, slice_split_none}
 use Rattle.std.proofs.lemmas.List.Sums.{fails_before_first}
 use Rattle.cookie_words.specs.Texts.{pieces}
-use Rattle.cookie_raw.specs.Reading.{attributes, is_equals, is_semicolon, pair_of, value_of}
+use Rattle.cookie_raw.specs.Reading.{attributes, is_equals, is_semicolon, name_of, pair_of, value_of}
 use Rattle.cookie_strict.specs.HeaderValue.{is_long, joined_attributes, short_attributes, without_long_attributes}
 
 -- trimming an empty string gives an empty string
@@ -26,6 +26,11 @@ pub no_value : (attribute : List ℕ) → position_or_len is_equals attribute �
 no_value attribute none =
     ap (λ n. trim (drop (n + 1) attribute)) none
     ∙ ap trim (drop_all (length attribute + 1) attribute (omega arith)) ∙ trim-nil
+
+-- and its name is all of it, trimmed
+pub whole_name : (attribute : List ℕ) → position_or_len is_equals attribute ≡ length attribute → name_of attribute ≡ trim attribute
+whole_name attribute none =
+    ap (λ n. trim (take n attribute)) none ∙ ap trim (take_all (length attribute) attribute (omega arith))
 
 -- the attributes of a header value with a `;`
 pub attributes-after_first : (text : List ℕ) → position_or_len is_semicolon text < length text
@@ -65,7 +70,7 @@ taken : (n b : ℕ) (bs : List ℕ) → take (1 + n) (b ∷ bs) ≡ b ∷ take n
 taken n b bs = let one_more : 1 + n ≡ suc n = omega arith in ap (λ k. take k (b ∷ bs)) one_more
 
 -- the first piece is the name-value pair
-first_piece : (text : List ℕ) → pieces 59 text ≡ pair_of text ∷ attributes text
+pub first_piece : (text : List ℕ) → pieces 59 text ≡ pair_of text ∷ attributes text
 first_piece [] = refl
 first_piece (b ∷ bs) = elim (cases_Bool (is_semicolon b)) [
   | inl e ↦ rw (slice_split-cons_yes is_semicolon b bs e, e) refl

@@ -5,4 +5,5 @@ pub mod HostCookies
 pub mod Letters
 pub mod Responses
 pub mod SecureRows
+pub mod ShortAttributes
 pub mod SiteCookies

@@ -1,13 +1,15 @@
 -- What the draft checks of a Set-Cookie header value before it is parsed, draft-ietf-httpbis-rfc6265bis 5.6.
-use Rattle.std.specs.Prelude.{ℕ, ◌+◌, ◌==◌, Bool, not, ◌&&◌, ◌||◌, nat_lt, List, ◌∷◌, ◌++◌, filter, flat_map, length, Option, Some, None, Result, Ok, Err, if◌then◌else◌}
+use Rattle.std.specs.Prelude.{ℕ, ◌+◌, ◌==◌, Bool, not, ◌&&◌, ◌||◌, nat_lt, List, ◌∷◌, ◌++◌, filter, flat_map, length, Option, Some, None, is_none, is_some, Result, Ok, Err, if◌then◌else◌}
 use Rattle.std.specs.List.{list_any}
 use Rattle.std.specs.Result.{result_map_both}
 use Rattle.url.specs.Parts.{Parts}
 use Rattle.cookie_words.specs.Moments.{Moment}
 use Rattle.cookie_raw.specs.Raw.{Raw}
-use Rattle.cookie_raw.specs.Reading.{attributes, pair_of, reading, value_of}
+use Rattle.cookie_raw.specs.Reading.{accepted_value, attributes, domain_from, http_only_from, pair_of, reading, value_of}
 use Rattle.cookie_parts.specs.Cookie.{Row, cookie_from_header}
-use Rattle.cookie_parts.specs.declared.cookie_error.CookieError.TheVariants.{Parse}
+use Rattle.cookie_parts.specs.Hosts.{host_of, is_http_scheme}
+use Rattle.cookie_parts.specs.declared.cookie_error.CookieError.{CookieError}
+use Rattle.cookie_parts.specs.declared.cookie_error.CookieError.TheVariants.{NonHttpScheme, NonRelativeScheme, Parse}
 use Rattle.cookie_strict.specs.declared.error.StrictError.{StrictError}
 use Rattle.cookie_strict.specs.declared.error.StrictError.TheVariants.{ControlCharacter, TooLong, Cookie}
 
@@ -30,6 +32,20 @@ is_long attribute = nat_lt 1024 (length (value_of attribute))
 -- 5.6: the attributes whose value is at most that long; the others are ignored
 abbrev pub short_attributes : List (List ℕ) → List (List ℕ)
 short_attributes attributes = filter (λ attribute. not (is_long attribute)) attributes
+
+-- the attribute is not ignored, is of this kind, and its value is accepted
+abbrev pub is_short : {T : Type 0} → (List ℕ → List ℕ → Option T) → List ℕ → Bool
+is_short from attribute = not (is_long attribute) && is_some (accepted_value from attribute)
+
+-- one of the attributes is
+abbrev pub has_short : {T : Type 0} → (List ℕ → List ℕ → Option T) → List (List ℕ) → Bool
+has_short from attributes = list_any (is_short from) attributes
+
+-- the error that the attributes show: HttpOnly, and the scheme of the URL is not HTTP; no Domain, and the URL has no host
+abbrev pub attribute_error : List (List ℕ) → Parts → Option CookieError
+attribute_error attributes url =
+    if has_short http_only_from attributes && not (is_http_scheme url) then Some NonHttpScheme
+    else (if not (has_short domain_from attributes) && is_none (host_of url) then Some NonRelativeScheme else None)
 
 -- each attribute after a `;`
 abbrev pub joined_attributes : List (List ℕ) → List ℕ

@@ -56,6 +56,10 @@ breaks_host_prefix cookie =
     has_prefix (codes "__Host-") cookie.raw.name
     && not (is_secure_only cookie.raw && (is_host_only cookie.domain && has_root_path cookie))
 
+-- 5.7: the name begins with `__Secure-` or `__Host-`, and the cookie lacks what that prefix demands
+abbrev pub breaks_prefix : Row → Bool
+breaks_prefix cookie = breaks_secure_prefix cookie || breaks_host_prefix cookie
+
 -- 5.7, "leave secure cookies alone": neither the cookie nor the URL is secure, and the cookie overlays a stored one
 abbrev pub overlays_secure : Row → Parts → Moment → List Row → Bool
 overlays_secure cookie url now rows =
@@ -73,7 +77,7 @@ abbrev pub broken_rule : Row → Parts → Moment → Contents → Option Strict
 broken_rule cookie url now store =
     if needs_secure_url cookie url then Some InsecureUrl
     else (if needs_secure_flag cookie then Some InsecureSameSiteNone
-    else (if breaks_secure_prefix cookie || breaks_host_prefix cookie then Some Prefix
+    else (if breaks_prefix cookie then Some Prefix
     else (if overlays_secure cookie url now store.rows then Some SecureStored
     else (if evicts_secure cookie now store then Some SecureLimit else None))))
 

@@ -1,7 +1,7 @@
 //! What is checked of a Set-Cookie header value before it is parsed.
 ghost use Rattle.std.specs.Prelude.{◌≡◌, ◌++◌, IfOk, OnOk, string_bytes};
 ghost use Rattle.cookie_words.specs.Texts.{pieces};
-ghost use Rattle.cookie_raw.specs.Reading.{attributes};
+ghost use Rattle.cookie_raw.specs.Reading.{attributes, name_of, value_of};
 ghost use Rattle.std.specs.List.{list_any};
 ghost use Rattle.cookie_strict.specs.HeaderValue.{has_control, header_error, is_control, is_long, is_too_long, joined_attributes, pair_error, short_attributes, without_long_attributes};
 
@@ -80,13 +80,30 @@ fn is_any_long(attributes: &str) -> bool
     attributes.split(';').any(is_long)
 }
 
-// Whether the value of the attribute is longer than 1,024 bytes.
-fn is_long(attribute: &str) -> bool
+/// Returns whether the value of the attribute is longer than 1,024 bytes.
+pub(crate) fn is_long(attribute: &str) -> bool
     ensures { result ≡ is_long attribute.now }
 {
+    value_of(attribute).len() > LONGEST_VALUE
+}
+
+/// Returns the name of the attribute: what precedes the first `=`, or all, trimmed.
+pub(crate) fn name_of(attribute: &str) -> &str
+    ensures { result.now ≡ name_of attribute.now }
+{
     match attribute.split_once('=') {
-        Some((_, value)) => value.trim().len() > LONGEST_VALUE,
-        None => false,
+        Some((name, _)) => name.trim(),
+        None => attribute.trim(),
+    }
+}
+
+/// Returns the value of the attribute: what follows the first `=`, trimmed, or nothing.
+pub(crate) fn value_of(attribute: &str) -> &str
+    ensures { result.now ≡ value_of attribute.now }
+{
+    match attribute.split_once('=') {
+        Some((_, value)) => value.trim(),
+        None => "",
     }
 }
 

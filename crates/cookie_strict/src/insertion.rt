@@ -17,6 +17,7 @@ ghost use Rattle.cookie_strict.specs.declared.error.StrictError.TheVariants as s
 
 use crate::header_value::{has_long_attribute, header_error, pair_error, without_long_attributes};
 use crate::rules::{broken_rule, index_secure, limited_expiry};
+use crate::short_attributes::early_error;
 use crate::site::is_above_site;
 use crate::{StrictError, StrictResult};
 use cookie_core::{CookieStore, InsertResult};
@@ -41,15 +42,18 @@ use url::Url;
 /// - `Cookie`: those of [`Cookie::parse`].
 /// - Those of [`insert`].
 ///
-/// `Cookie(Memory)`: out of memory. Never in place of the first three, nor of `NonHttpScheme`, or of
-/// `NonRelativeScheme` without a Domain attribute, if no attribute is too long.
+/// `Cookie(Memory)`: out of memory. Never in place of the first three, nor of the `NonHttpScheme` of
+/// [`Cookie::parse`], nor of `NonRelativeScheme` without a Domain attribute.
+#[tactic(auto, using(crate::proofs::Attributes::none_long))]
 pub fn parse(store: &mut CookieStore, text: &str, url: &Url, now: DateTime) -> StrictResult
     ensures reply { IsStrictReply result (strict_call (Set text.now url.now (moment_of now)) store.old) store.old }
     ensures store { OnOk result (store.new
         ≡ store_after_call (strict_call (Set text.now url.now (moment_of now)) store.old) store.old) }
     ensures unchanged { OnErr result (store.new ≡ store.old) }
     ensures early { (error : StrictError) → header_error text.now ≡ Some error → result ≡ Err error }
-    ensures early_cookie { header_error text.now ≡ None → list_any is_long (attributes text.now) ≡ false
+    ensures early_cookie { header_error text.now ≡ None → (error : CookieError)
+        → early (reading (without_long_attributes text.now)) url.now ≡ Some error → result ≡ Err (strict_error.Cookie error) }
+    ensures early_short { header_error text.now ≡ None → list_any is_long (attributes text.now) ≡ false
         → (error : CookieError) → early (reading text.now) url.now ≡ Some error → result ≡ Err (strict_error.Cookie error) }
     ensures memory { result ≡ Err (strict_error.Cookie Memory) → header_error text.now ≡ None }
 {
@@ -62,8 +66,8 @@ pub fn parse(store: &mut CookieStore, text: &str, url: &Url, now: DateTime) -> S
 
 // The cookie of the header value, without the attributes whose value is too long.
 fn owned_cookie(alloc: Global, text: &str, url: &Url, now: DateTime) -> CookieResult<'static>
-    ensures early { list_any is_long (attributes text.now) ≡ false
-        → (error : CookieError) → early (reading text.now) url.now ≡ Some error → result ≡ Err error }
+    ensures early { (error : CookieError) → early (reading (without_long_attributes text.now)) url.now ≡ Some error
+        → result ≡ Err error }
     ensures value { ReturnsOrMemory (λ cookie. cookie) result (cookie_from_header (without_long_attributes text.now) url.now (moment_of now)) }
 {
     if !has_long_attribute(text) {
@@ -71,7 +75,7 @@ fn owned_cookie(alloc: Global, text: &str, url: &Url, now: DateTime) -> CookieRe
     }
     match without_long_attributes(alloc, text) {
         Ok(short) => parsed(alloc, short.as_str(), url, now),
-        Err(_) => Err(CookieError::Memory),
+        Err(_) => Err(early_error(text, url).unwrap_or(CookieError::Memory)),
     }
 }
 

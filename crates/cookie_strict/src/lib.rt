@@ -12,10 +12,12 @@ pub mod laws;
 mod requests;
 mod response;
 mod rules;
+mod short_attributes;
 mod site;
 
 pub use error::{StrictError, StrictResult};
 pub use insertion::{insert, parse};
 pub use requests::{Context, cookies_for};
 pub use response::store_response_cookies;
+pub use rules::breaks_prefix;
 pub use site::{Site, is_same_site, site_of};

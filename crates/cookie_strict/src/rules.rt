@@ -4,7 +4,7 @@ ghost use Rattle.cookie_words.specs.Moments.{moment_of};
 ghost use Rattle.cookie_parts.specs.Views.{domain_value, expiry_value};
 ghost use Rattle.cookie_laws.specs.Rows.{key_of, row_of};
 ghost use Rattle.cookie_strict.specs.Lifetime.{limited_expiry};
-ghost use Rattle.cookie_strict.specs.StrictRules.{breaks_host_prefix, breaks_secure_prefix, broken_rule, evicts_secure, has_prefix, has_root_path, is_host_only, needs_secure_flag, needs_secure_url, overlays_secure, IsRuleError};
+ghost use Rattle.cookie_strict.specs.StrictRules.{breaks_host_prefix, breaks_prefix, breaks_secure_prefix, broken_rule, evicts_secure, has_prefix, has_root_path, is_host_only, needs_secure_flag, needs_secure_url, overlays_secure, IsRuleError};
 
 use crate::StrictError;
 use cookie_core::CookieStore;
@@ -48,7 +48,7 @@ pub(crate) fn broken_rule(
     if needs_secure_flag(cookie) {
         return Some(StrictError::InsecureSameSiteNone);
     }
-    if breaks_secure_prefix(cookie) || breaks_host_prefix(cookie) {
+    if breaks_prefix(cookie) {
         return Some(StrictError::Prefix);
     }
     if overlays_secure(store, cookie, url, now) {
@@ -74,8 +74,19 @@ fn needs_secure_flag(cookie: &Cookie<'static>) -> bool
     matches!(cookie.raw().same_site(), Some(SameSite::None)) && !cookie.raw().is_secure()
 }
 
+/// Returns whether the name begins with `__Secure-` or `__Host-`, ignoring case, and the cookie lacks
+/// what that prefix demands.
+///
+/// `__Secure-` demands Secure; `__Host-` demands Secure, a host-only cookie and a Path attribute `/`.
+/// [`insert`](crate::insert) rejects such a cookie with `Prefix`.
+pub fn breaks_prefix(cookie: &Cookie<'_>) -> bool
+    ensures { result ≡ breaks_prefix cookie.now }
+{
+    breaks_secure_prefix(cookie) || breaks_host_prefix(cookie)
+}
+
 // Whether the name begins with `__Secure-`, and the cookie is not Secure.
-fn breaks_secure_prefix(cookie: &Cookie<'static>) -> bool
+fn breaks_secure_prefix(cookie: &Cookie<'_>) -> bool
     ensures { result ≡ breaks_secure_prefix cookie.now }
 {
     has_prefix(b"__Secure-", cookie.name().as_bytes()) && !cookie.raw().is_secure()
@@ -83,7 +94,7 @@ fn breaks_secure_prefix(cookie: &Cookie<'static>) -> bool
 
 // Whether the name begins with `__Host-`, and the cookie is not Secure, is not host-only, or has no
 // Path attribute `/`.
-fn breaks_host_prefix(cookie: &Cookie<'static>) -> bool
+fn breaks_host_prefix(cookie: &Cookie<'_>) -> bool
     ensures { result ≡ breaks_host_prefix cookie.now }
 {
     has_prefix(b"__Host-", cookie.name().as_bytes())
@@ -105,7 +116,7 @@ fn is_host_only(domain: &CookieDomain) -> bool
 }
 
 // Whether the cookie has a Path attribute `/`.
-fn has_root_path(cookie: &Cookie<'static>) -> bool
+fn has_root_path(cookie: &Cookie<'_>) -> bool
     ensures { result ≡ has_root_path cookie.now }
 {
     cookie.path.is_from_path_attr() && cookie.path.as_str() == "/"

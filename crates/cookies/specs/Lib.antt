@@ -1,4 +1,5 @@
 pub mod Cells
+pub mod Edits
 pub mod Escapes
 pub mod FileNames
 pub mod Formats

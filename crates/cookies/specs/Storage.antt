@@ -1,5 +1,5 @@
 -- Cookies as the contents of a file.
-use Rattle.std.specs.Prelude.{ℕ, true, List, Option, Some}
+use Rattle.std.specs.Prelude.{◌≡◌, ℕ, true, List, [], Option, Some}
 use Rattle.cookie_words.specs.Moments.{Moment}
 use Rattle.cookie_parts.specs.Cookie.{Row}
 use Rattle.cookie_store.specs.Rows.{RowsInOrder}
@@ -7,7 +7,7 @@ use Rattle.cookie_store.specs.JsonLists.{JsonListParsesTo, SerializesToJsonList}
 use Rattle.cookie_store.specs.JsonLines.{SerializesToJson}
 use Rattle.cookie_store.specs.Lists.{BuildsFromList, WritesList}
 use Rattle.cookie_store.specs.Migration.{Migrates}
-use Rattle.cookie_store.specs.NetscapeLists.{LoadsNetscape, WritesNetscape}
+use Rattle.cookie_store.specs.NetscapeLists.{LoadsNetscape, LoadsWellFormed, WritesNetscape}
 use Rattle.cookie_store.specs.RonLists.{RonListParsesTo, SerializesToRonList}
 use Rattle.cookie_store.specs.Saving.{WritesRows}
 use Rattle.cookies.specs.declared.format.Format.{Format}
@@ -19,6 +19,13 @@ Holds Json contents now kept = BuildsFromList JsonListParsesTo (Some contents) t
 Holds Jsonl contents now kept = Migrates (Some contents) kept
 Holds Ron contents now kept = BuildsFromList RonListParsesTo (Some contents) true now kept
 Holds Txt contents now kept = LoadsNetscape (Some contents) true now kept
+
+-- the rows that the contents of a file hold, without the malformed lines of a `cookies.txt`, whose numbers these are
+abbrev pub HoldsWellFormed : Format → List ℕ → Moment → RowsInOrder → List ℕ → Type 0
+HoldsWellFormed Json contents now kept malformed = Holds Json contents now kept × (malformed ≡ [])
+HoldsWellFormed Jsonl contents now kept malformed = Holds Jsonl contents now kept × (malformed ≡ [])
+HoldsWellFormed Ron contents now kept malformed = Holds Ron contents now kept × (malformed ≡ [])
+HoldsWellFormed Txt contents now kept malformed = LoadsWellFormed (Some contents) true now kept malformed
 
 -- the rows were written, and nothing else
 abbrev pub WritesAs : Format → List Row → Option (List ℕ) → Option (List ℕ) → Type 0

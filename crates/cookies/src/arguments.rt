@@ -65,6 +65,7 @@ fn show<'a>(matches: &ArgMatches<'a>) -> Result<Command<'a>, Usage<'a>> {
     Ok(Command::Show {
         file: cookie_file(matches, "FILE", "format", "--format")?,
         is_json: matches.get_flag("json"),
+        skips_malformed: matches.get_flag("skip-malformed"),
     })
 }
 
@@ -76,6 +77,7 @@ fn header<'a>(alloc: Global, matches: &ArgMatches<'a>) -> Result<Command<'a>, Fa
         file,
         suffixes: suffixes(matches, file)?,
         context: context(matches),
+        skips_malformed: matches.get_flag("skip-malformed"),
     })
 }
 
@@ -117,6 +119,8 @@ fn convert<'a>(matches: &ArgMatches<'a>) -> Result<Command<'a>, Usage<'a>> {
     Ok(Command::Convert {
         input: cookie_file(matches, "IN", "from", "--from")?,
         output: cookie_file(matches, "OUT", "to", "--to")?,
+        skips_malformed: matches.get_flag("skip-malformed"),
+        skips_unrepresentable: matches.get_flag("skip-unrepresentable"),
     })
 }
 

@@ -36,6 +36,7 @@ fn show<'a>(alloc: Global) -> Result<Command<'a>, AllocError> {
         .about("Prints a table of the cookies")
         .arg(word(alloc, "FILE", "The file of the cookies"))?
         .arg(flag(alloc, "json", "Prints a JSON list instead"))?
+        .arg(skip_malformed(alloc))?
         .arg(format(alloc, "format", "The format of FILE"))?
         .arg(now(alloc))
 }
@@ -54,6 +55,7 @@ fn header<'a>(alloc: Global) -> Result<Command<'a>, AllocError> {
         .arg(flag(alloc, "cross-site", "The request comes from another site").requires_arg(
             "strict",
         )?)?
+        .arg(skip_malformed(alloc))?
         .arg(format(alloc, "format", "The format of FILE"))?
         .arg(now(alloc))
 }
@@ -110,6 +112,12 @@ fn convert<'a>(alloc: Global) -> Result<Command<'a>, AllocError> {
         .about("Reads the cookies of a file, and writes them to another")
         .arg(word(alloc, "IN", "The file to read"))?
         .arg(word(alloc, "OUT", "The file to write"))?
+        .arg(skip_malformed(alloc))?
+        .arg(flag(
+            alloc,
+            "skip-unrepresentable",
+            "Leaves out cookies that a cookies.txt cannot represent",
+        ))?
         .arg(format(alloc, "from", "The format of IN"))?
         .arg(format(alloc, "to", "The format of OUT"))?
         .arg(now(alloc))
@@ -143,6 +151,14 @@ fn suffixes<'a>(alloc: Global, help: &'a str) -> Arg<'a> {
 
 fn only_listed<'a>(alloc: Global) -> Result<Arg<'a>, AllocError> {
     flag(alloc, "only-listed", "Does not add the rule * to LIST").requires_arg("suffixes")
+}
+
+fn skip_malformed<'a>(alloc: Global) -> Arg<'a> {
+    flag(
+        alloc,
+        "skip-malformed",
+        "Leaves out malformed lines of a cookies.txt",
+    )
 }
 
 fn now<'a>(alloc: Global) -> Arg<'a> {

@@ -1,7 +1,7 @@
 //! Why a command fails.
 ghost use Rattle.std.specs.Prelude.{◌≡◌, IfOk, string_bytes};
-ghost use Rattle.std.specs.Char.{is_control};
 ghost use Rattle.std.specs.Str.{NoCharPasses};
+ghost use Rattle.cookies.specs.Escapes.{is_escaped};
 ghost use Rattle.cookies.specs.Statuses.{status_of};
 
 use crate::escape::escaped;
@@ -111,6 +111,12 @@ impl From<NetscapeError> for FileError {
     }
 }
 
+impl From<AllocError> for FileError {
+    fn from(_error: AllocError) -> FileError {
+        FileError::Cookies(Error::Memory)
+    }
+}
+
 impl From<SuffixesError> for FileError {
     fn from(error: SuffixesError) -> FileError {
         FileError::Suffixes(error)
@@ -165,9 +171,10 @@ impl<'a> Failure<'a> {
         }
     }
 
-    /// Returns the line for standard error, without its line feed. It has no control character.
+    /// Returns the line for standard error, without its line feed. It has no control or format
+    /// character.
     pub fn message(&self, alloc: Global) -> Result<String, AllocError>
-        ensures { IfOk result (λ line. NoCharPasses is_control (string_bytes line)) }
+        ensures { IfOk result (λ line. NoCharPasses is_escaped (string_bytes line)) }
     {
         escaped(alloc, self.to_string(alloc)?.as_str())
     }

@@ -4,11 +4,15 @@ ghost use Rattle.cookies.specs.FileNames.{input_name, output_name};
 
 use std::fs::{self, File, OpenOptions};
 use std::io::{self, Read, Write};
-use std::os::unix::fs::OpenOptionsExt;
+use std::os::unix::fs::{OpenOptionsExt, PermissionsExt};
+use std::path::{Path, PathBuf};
 use std::process;
 
-/// The most files that killed programs may leave beside a file before it cannot be replaced.
+/// The most files that killed programs may leave in a folder before a file in it cannot be replaced.
 const LEFTOVERS: usize = 100;
+
+/// The permission bits by which the owner reads and writes.
+const OWNER_BITS: u32 = 0o600;
 
 /// Returns the name of what is read.
 pub fn input_name(name: &str) -> &str
@@ -40,52 +44,82 @@ pub fn read(rt: &HostRuntime, name: &str) -> io::Result<Vec<u8>> {
     Ok(contents)
 }
 
-/// Replaces a file, or writes to standard output.
+/// Replaces a file, or writes to an open descriptor such as standard output.
 ///
-/// A regular file is replaced at once or, on an error, left as it was; its mode becomes 0600. A
-/// symbolic link stays, and the file that it names is replaced. A device or a pipe is written.
+/// A regular file is replaced at once or, on an error, left as it was; of its mode the owner's read
+/// and write bits are kept, and a new file has both. A symbolic link stays, and the file that it
+/// names is replaced. A mount point is written in place. A device or a pipe is written.
 pub fn write(rt: &HostRuntime, name: &str, contents: &[u8]) -> io::Result<()> {
-    if is_standard_output(name) {
-        return print(rt, contents);
+    match descriptor(name) {
+        Some("1") => return write_all(io::writer(rt), contents),
+        Some("2") => return write_all(rt.stderr(), contents),
+        Some(_) => return append(rt, name, contents),
+        None => {}
     }
     let is_link = fs::read_link(rt, name).is_ok();
     match fs::metadata(rt, name) {
         Ok(metadata) if !metadata.is_file() => fs::write(rt, name, contents),
-        Ok(_) if is_link => replace(rt, fs::canonicalize(rt, name)?.as_str(), contents),
-        Err(error) if is_link => Err(error),
-        _ => replace(rt, name, contents),
+        Ok(metadata) => {
+            let mode = metadata.permissions().mode() & OWNER_BITS;
+            if is_link {
+                return replace(rt, fs::canonicalize(rt, name)?.as_str(), mode, contents);
+            }
+            replace(rt, name, mode, contents)
+        }
+        Err(error) if is_link || error.kind() != io::ErrorKind::NotFound => Err(error),
+        Err(_) => replace(rt, name, OWNER_BITS, contents),
     }
 }
 
-// Whether this is a name of standard output, which may be a file that others write too.
-fn is_standard_output(name: &str) -> bool {
-    matches!(name, "-" | "/dev/stdout" | "/dev/fd/1" | "/proc/self/fd/1")
+// Returns the number of the open descriptor that a name stands for. The file behind it may be one
+// that others write too, so it can't be replaced.
+fn descriptor(name: &str) -> Option<&str> {
+    match name {
+        "-" | "/dev/stdout" => Some("1"),
+        "/dev/stderr" => Some("2"),
+        _ => match name.strip_prefix("/dev/fd/") {
+            Some(number) => Some(number),
+            None => name.strip_prefix("/proc/self/fd/"),
+        },
+    }
 }
 
-/// Writes to standard output.
-pub fn print(rt: &HostRuntime, contents: &[u8]) -> io::Result<()> {
-    let mut out = io::writer(rt);
+fn write_all<W: Write + Drop>(mut out: W, contents: &[u8]) -> io::Result<()> {
     out.write_all(contents)?;
     out.flush()
 }
 
-// Writes a new file in the same folder, and renames it.
-fn replace(rt: &HostRuntime, name: &str, contents: &[u8]) -> io::Result<()> {
-    let (temporary, file) = create_beside(rt, name)?;
-    let replaced = fill_and_rename(rt, file, contents, temporary.as_str(), name);
-    if replaced.is_err() {
-        let _ = fs::remove_file(rt, temporary.as_str());
-    }
-    replaced
+// Writes to the end of a file.
+fn append(rt: &HostRuntime, name: &str, contents: &[u8]) -> io::Result<()> {
+    write_all(OpenOptions::new().append(true).open(rt, name)?, contents)
 }
 
-// Creates a file that only its owner can read. Returns its name too.
-fn create_beside(rt: &HostRuntime, name: &str) -> io::Result<(String, File)> {
+// Writes a new file in the same folder, and renames it. A mount point is written in place instead.
+fn replace(rt: &HostRuntime, name: &str, mode: u32, contents: &[u8]) -> io::Result<()> {
+    let (temporary, file) = create_beside(rt, name, mode)?;
+    let temporary = temporary.as_str();
+    if let Err(error) = fill(file, contents) {
+        let _ = fs::remove_file(rt, temporary);
+        return Err(error);
+    }
+    match fs::rename(rt, temporary, name) {
+        Err(error) if is_of_mount_point(&error) => { write_in_place(rt, temporary, name, contents) }
+        Err(error) => {
+            let _ = fs::remove_file(rt, temporary);
+            Err(error)
+        }
+        Ok(()) => Ok(()),
+    }
+}
+
+// Creates a file in the folder of another. Returns its name too.
+fn create_beside(rt: &HostRuntime, name: &str, mode: u32) -> io::Result<(PathBuf, File)> {
     let mut options = OpenOptions::new();
-    options.write(true).create_new(true).mode(0o600);
+    options.write(true).create_new(true).mode(mode);
     let id = process::id(rt.process());
     for number in 0..LEFTOVERS {
-        let temporary = format!(in rt.alloc(); "{name}.{id}.{number}.tmp")?;
+        let short = format!(in rt.alloc(); ".cookies-{id}-{number}.tmp")?;
+        let temporary = Path::new(name).with_file_name(rt.alloc(), short.as_str())?;
         match options.open(rt, temporary.as_str()) {
             Err(error) if error.kind() == io::ErrorKind::AlreadyExists => {}
             opened => return Ok((temporary, opened?)),
@@ -94,15 +128,36 @@ fn create_beside(rt: &HostRuntime, name: &str) -> io::Result<(String, File)> {
     Err(io::Error::from(io::ErrorKind::AlreadyExists))
 }
 
-// Writes to a new file, waits until the disk has it, and renames it.
-fn fill_and_rename(
-    rt: &HostRuntime,
-    mut file: File,
-    contents: &[u8],
-    from: &str,
-    to: &str,
-) -> io::Result<()> {
+// Writes to a file, and waits until the disk has it.
+fn fill(mut file: File, contents: &[u8]) -> io::Result<()> {
     file.write_all(contents)?;
-    file.sync_all()?;
-    fs::rename(rt, from, to)
+    file.sync_all()
+}
+
+// Whether a rename failed because the file is a mount point, such as a file mounted in a container.
+fn is_of_mount_point(error: &io::Error) -> bool {
+    matches!(
+        error.kind(),
+        io::ErrorKind::ResourceBusy | io::ErrorKind::CrossesDevices
+    )
+}
+
+// Writes a file in place, and removes `temporary`, which has the same contents. If the file is
+// written only in part, `temporary` stays.
+fn write_in_place(
+    rt: &HostRuntime,
+    temporary: &str,
+    name: &str,
+    contents: &[u8],
+) -> io::Result<()> {
+    match OpenOptions::new().write(true).truncate(true).open(rt, name) {
+        Ok(file) => {
+            fill(file, contents)?;
+            fs::remove_file(rt, temporary)
+        }
+        Err(error) => {
+            let _ = fs::remove_file(rt, temporary);
+            Err(error)
+        }
+    }
 }

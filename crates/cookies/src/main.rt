@@ -6,10 +6,12 @@
 
 mod arguments;
 mod command_line;
+mod edit;
 mod error;
 mod escape;
 mod files;
 mod format;
+mod note;
 mod options;
 mod purge;
 mod request;

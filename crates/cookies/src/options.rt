@@ -39,6 +39,8 @@ pub enum Command<'a> {
     Show {
         file: CookieFile<'a>,
         is_json: bool,
+        /// Whether malformed lines are left out.
+        skips_malformed: bool,
     },
     /// Prints the value of the Cookie header of a request.
     Header {
@@ -47,6 +49,8 @@ pub enum Command<'a> {
         suffixes: Option<SuffixFile<'a>>,
         /// Where the request comes from, if the rules of browsers hold.
         context: Option<Context>,
+        /// Whether malformed lines are left out.
+        skips_malformed: bool,
     },
     /// Inserts the cookie of a `Set-Cookie` header value received from the URL.
     Set {
@@ -71,6 +75,10 @@ pub enum Command<'a> {
     Convert {
         input: CookieFile<'a>,
         output: CookieFile<'a>,
+        /// Whether malformed lines are left out.
+        skips_malformed: bool,
+        /// Whether cookies that the format of the output cannot represent are left out.
+        skips_unrepresentable: bool,
     },
 }
 

@@ -1,12 +1,16 @@
 //! Runs a command.
 use crate::arguments::parse;
+use crate::edit::{after_removal, after_set, set_cookie};
 use crate::error::{Failure, FileError};
 use crate::files;
 use crate::format::Format;
+use crate::note::Note;
 use crate::options::{Command, CookieFile, Key, Request, SuffixFile};
 use crate::purge::{Purge, purged};
 use crate::request::{has_control, is_for_suffix, request_cookies};
-use crate::storage::{read_cookies, written_cookies};
+use crate::storage::{
+    read_cookies, read_well_formed, representable_cookies, same_site_count, written_cookies,
+};
 use crate::table::table;
 use cookie_inputs::parse_suffixes;
 use cookie_store::psl::List;
@@ -51,13 +55,18 @@ impl<'r> Runner<'r> {
     fn run<'a>(&self, command: Command<'a>) -> Result<(), Failure<'a>> {
         match command {
             Command::Print { text } => self.write("-", text.as_bytes()),
-            Command::Show { file, is_json } => self.show(file, is_json),
+            Command::Show {
+                file,
+                is_json,
+                skips_malformed,
+            } => self.show(file, is_json, skips_malformed),
             Command::Header {
                 url,
                 file,
                 suffixes,
                 context,
-            } => self.header(&url, file, suffixes, context),
+                skips_malformed,
+            } => self.header(&url, file, suffixes, context, skips_malformed),
             Command::Set {
                 url,
                 value,
@@ -67,12 +76,22 @@ impl<'r> Runner<'r> {
             } => self.set(&url, value, file, suffixes, is_strict),
             Command::Remove { file, key } => self.remove(file, key),
             Command::Purge { file, purge } => self.purge(file, purge),
-            Command::Convert { input, output } => self.save(output, &self.load(input)?),
+            Command::Convert {
+                input,
+                output,
+                skips_malformed,
+                skips_unrepresentable,
+            } => self.convert(input, output, skips_malformed, skips_unrepresentable),
         }
     }
 
-    fn show<'a>(&self, file: CookieFile<'a>, is_json: bool) -> Result<(), Failure<'a>> {
-        let store = self.load(file)?;
+    fn show<'a>(
+        &self,
+        file: CookieFile<'a>,
+        is_json: bool,
+        skips_malformed: bool,
+    ) -> Result<(), Failure<'a>> {
+        let store = self.load(file, skips_malformed)?;
         if is_json {
             let list = written_cookies(Format::Json, &store);
             let list = list.map_err(|error| Failure::input(file.name, error))?;
@@ -89,12 +108,16 @@ impl<'r> Runner<'r> {
         file: CookieFile<'a>,
         suffixes: Option<SuffixFile<'a>>,
         context: Option<Context>,
+        skips_malformed: bool,
     ) -> Result<(), Failure<'a>> {
         let list = self.list(suffixes)?;
-        let store = self.load(file)?;
+        let store = self.load(file, skips_malformed)?;
         let mut cookies = request_cookies(&store, url, context, self.now)?;
         if let Some(list) = &list {
             cookies.retain(|cookie| !is_for_suffix(cookie, list));
+        }
+        if context.is_some() {
+            cookies.retain(|cookie| !strict::breaks_prefix(cookie));
         }
         if cookies.is_empty() {
             return Ok(());
@@ -116,7 +139,8 @@ impl<'r> Runner<'r> {
         is_strict: bool,
     ) -> Result<(), Failure<'a>> {
         let list = self.list(suffixes)?;
-        let store = self.load_or_new(file)?;
+        let (before, old) = self.load_or_new(file)?;
+        let store = before.clone()?;
         let mut store = match list {
             Some(list) => store.with_suffix_list(list),
             None => store,
@@ -126,65 +150,124 @@ impl<'r> Runner<'r> {
         } else {
             store.parse(value, url, self.now)?;
         }
-        self.save(file, &store)
+        match set_cookie(&before, &store) {
+            Some(cookie) => self.replace(
+                file,
+                after_set(file.format, old.as_slice(), &store, cookie),
+            ),
+            None => Ok(()),
+        }
     }
 
     fn remove<'a>(&self, file: CookieFile<'a>, key: Key<'a>) -> Result<(), Failure<'a>> {
-        let mut store = self.load(file)?;
+        let old = self.read(file)?;
+        let mut store = self.well_formed(file, old.as_slice())?;
         match store.remove(key.domain, key.path, key.name) {
-            Some(_) => self.save(file, &store),
+            Some(_) => self.replace(file, after_removal(file.format, old.as_slice(), &store)),
             None => Err(Failure::input(file.name, FileError::NoCookie)),
         }
     }
 
     fn purge<'a>(&self, file: CookieFile<'a>, purge: Purge<'a>) -> Result<(), Failure<'a>> {
-        let store = self.load(file)?;
+        let old = self.read(file)?;
+        let store = self.well_formed(file, old.as_slice())?;
         match purged(self.alloc, &store, purge, self.now) {
-            Ok(store) => self.save(file, &store),
+            Ok(store) => self.replace(file, after_removal(file.format, old.as_slice(), &store)),
             Err(error) => Err(Failure::input(file.name, FileError::Cookies(error))),
         }
     }
 
-    // Reads the cookies of a file.
-    fn load<'a>(&self, file: CookieFile<'a>) -> Result<CookieStore, Failure<'a>> {
-        self.parse(file, files::read(self.rt, file.name))
-    }
-
-    // Reads the cookies of a file; none if it does not exist.
-    fn load_or_new<'a>(&self, file: CookieFile<'a>) -> Result<CookieStore, Failure<'a>> {
-        match files::read(self.rt, file.name) {
-            Err(error) if error.kind() == io::ErrorKind::NotFound => {
-                let StoreAlloc { alloc, hash_key } = self.alloc;
-                Ok(CookieStore::with_hash_key(alloc, hash_key))
-            }
-            contents => self.parse(file, contents),
+    fn convert<'a>(
+        &self,
+        input: CookieFile<'a>,
+        output: CookieFile<'a>,
+        skips_malformed: bool,
+        skips_unrepresentable: bool,
+    ) -> Result<(), Failure<'a>> {
+        let store = self.load(input, skips_malformed)?;
+        if !matches!(output.format, Format::Txt) {
+            return self.replace(output, written_cookies(output.format, &store));
         }
+        if !skips_unrepresentable {
+            self.replace(output, written_cookies(Format::Txt, &store))?;
+        } else {
+            let file = representable_cookies(&store, self.now);
+            let file = file.map_err(|error| Failure::output(output.name, error))?;
+            self.write(output.name, file.text.as_bytes())?;
+            self.say(output.name, Note::LeftOut(file.left_out))?;
+        }
+        self.say(output.name, Note::WithoutSameSite(same_site_count(&store)))
     }
 
-    // Parses the contents of a file, if they could be read.
-    fn parse<'a>(
+    // Reads the cookies of a file. Malformed lines are an error, or are left out and named.
+    fn load<'a>(
         &self,
         file: CookieFile<'a>,
-        contents: io::Result<Vec<u8>>,
+        skips_malformed: bool,
     ) -> Result<CookieStore, Failure<'a>> {
-        match contents {
-            Ok(contents) => read_cookies(
-                self.alloc,
-                file.format,
-                contents.as_slice(),
-                self.now,
-            ).map_err(|error| Failure::input(file.name, error)),
+        let contents = self.read(file)?;
+        if skips_malformed {
+            return self.well_formed(file, contents.as_slice());
+        }
+        let store = read_cookies(self.alloc, file.format, contents.as_slice(), self.now);
+        store.map_err(|error| Failure::input(file.name, error))
+    }
+
+    // Reads the cookies of the well-formed lines of a file, and names the others.
+    fn well_formed<'a>(
+        &self,
+        file: CookieFile<'a>,
+        contents: &[u8],
+    ) -> Result<CookieStore, Failure<'a>> {
+        let loaded = read_well_formed(self.alloc, file.format, contents, self.now);
+        let loaded = loaded.map_err(|error| Failure::input(file.name, error))?;
+        for line in loaded.malformed.iter() {
+            self.say(file.name, Note::Malformed(*line))?;
+        }
+        Ok(loaded.store)
+    }
+
+    // Says something of a file on standard error, unless the count is 0.
+    fn say<'a>(&self, name: &'a str, note: Note) -> Result<(), Failure<'a>> {
+        if note.is_empty() {
+            return Ok(());
+        }
+        let message = note.message(self.alloc.alloc, name)?;
+        // What cannot be printed has nowhere to go.
+        let _ = eprintln!(self.rt; "{message}");
+        Ok(())
+    }
+
+    // Reads a file.
+    fn read<'a>(&self, file: CookieFile<'a>) -> Result<Vec<u8>, Failure<'a>> {
+        match files::read(self.rt, file.name) {
+            Ok(contents) => Ok(contents),
             Err(error) => Err(Failure::input(file.name, FileError::System(error))),
         }
     }
 
-    // Replaces a file by these cookies.
-    fn save<'a>(&self, file: CookieFile<'a>, store: &CookieStore) -> Result<(), Failure<'a>> {
-        let contents = match written_cookies(file.format, store) {
-            Ok(contents) => contents,
-            Err(error) => return Err(Failure::output(file.name, error)),
-        };
-        self.write(file.name, contents.as_slice())
+    // Reads the cookies of a file and what it holds: none and nothing if it does not exist.
+    fn load_or_new<'a>(&self, file: CookieFile<'a>) -> Result<(CookieStore, Vec<u8>), Failure<'a>> {
+        match files::read(self.rt, file.name) {
+            Ok(old) => Ok((self.well_formed(file, old.as_slice())?, old)),
+            Err(error) if error.kind() == io::ErrorKind::NotFound => {
+                let StoreAlloc { alloc, hash_key } = self.alloc;
+                Ok((CookieStore::with_hash_key(alloc, hash_key), Vec::new(alloc)))
+            }
+            Err(error) => Err(Failure::input(file.name, FileError::System(error))),
+        }
+    }
+
+    // Replaces a file by these contents.
+    fn replace<'a>(
+        &self,
+        file: CookieFile<'a>,
+        contents: Result<Vec<u8>, FileError>,
+    ) -> Result<(), Failure<'a>> {
+        match contents {
+            Ok(contents) => self.write(file.name, contents.as_slice()),
+            Err(error) => Err(Failure::output(file.name, error)),
+        }
     }
 
     // Replaces a file, or writes to standard output.

@@ -1,13 +1,16 @@
 //! Cookies as the contents of a file.
-ghost use Rattle.std.specs.Prelude.{◌-◌, ◌^◌, ◌<◌, [], IfOk, OnOk, Some};
+ghost use Rattle.std.specs.Prelude.{◌≡◌, ◌-◌, ◌^◌, ◌<◌, [], IfOk, OnOk, Some, filter, string_bytes};
 ghost use Rattle.cookie_words.specs.Moments.{moment_of};
+ghost use Rattle.cookie_netscape.specs.Written.{is_representable};
 ghost use Rattle.cookie_store.specs.Contents.{rows_in_order};
-ghost use Rattle.cookies.specs.Storage.{Holds, WritesAs};
+ghost use Rattle.cookie_store.specs.NetscapeLists.{file_text, unrepresentable_count};
+ghost use Rattle.cookies.specs.Storage.{Holds, HoldsWellFormed, WritesAs};
 
 use crate::error::FileError;
 use crate::format::Format;
 use cookie_store::device::{Counted, Sink};
 use cookie_store::netscape::NetscapeError;
+use cookie_store::serde::netscape::{Representable, WellFormed};
 use cookie_store::serde::{json, migrate_lines, netscape, ron};
 use cookie_store::{Bulk, CookieStore, Error, StoreAlloc};
 use jiff::civil::DateTime;
@@ -30,6 +33,25 @@ pub fn read_cookies(
     }
 }
 
+/// Reads the cookies in `contents`, without the malformed lines of a `cookies.txt`.
+pub fn read_well_formed(
+    alloc: StoreAlloc,
+    format: Format,
+    contents: &[u8],
+    now: DateTime,
+) -> Result<WellFormed, FileError>
+    ensures { IfOk result (λ loaded. HoldsWellFormed format contents.now (moment_of now) (rows_in_order loaded.store) loaded.malformed.items) }
+{
+    if !matches!(format, Format::Txt) {
+        return Ok(WellFormed {
+            store: read_cookies(alloc, format, contents, now)?,
+            malformed: Vec::new(alloc.alloc),
+        });
+    }
+    let mut source = Counted::new(contents);
+    Ok(netscape::load_well_formed(alloc, &mut source, true, now)?)
+}
+
 /// Returns the contents of a file with all cookies, expired ones and session cookies included.
 pub fn written_cookies(format: Format, store: &CookieStore) -> Result<Vec<u8>, FileError>
     ensures { IfOk result (λ contents. WritesAs format store.now.rows (Some []) (Some contents.items)) }
@@ -44,6 +66,28 @@ pub fn written_cookies(format: Format, store: &CookieStore) -> Result<Vec<u8>, F
         }
         Err(error) => Err(error),
     }
+}
+
+/// Returns a `cookies.txt` file with all cookies that it can represent, expired ones and session cookies
+/// included.
+pub fn representable_cookies(store: &CookieStore, now: DateTime) -> Result<Representable, FileError>
+    ensures text { IfOk result (λ file. string_bytes file.text ≡ file_text (filter is_representable store.now.rows)) }
+    ensures count { IfOk result (λ file. file.left_out ≡ unrepresentable_count store.now.rows) }
+{
+    let mut file = netscape::to_text_representable(store, true, now)?;
+    file.text.push('\n')?;
+    Ok(file)
+}
+
+/// Returns how many cookies have a SameSite attribute.
+pub fn same_site_count(store: &CookieStore) -> usize {
+    let mut count: usize = 0;
+    for cookie in store.iter_any() {
+        if cookie.raw().same_site().is_some() {
+            count = count.saturating_add(1);
+        }
+    }
+    count
 }
 
 // Writes all cookies, expired ones and session cookies included.

@@ -1,10 +1,10 @@
 //! The table of `cookies show`.
 ghost use Rattle.std.specs.Prelude.{◌≡◌, map, IfOk, OnOk, string_bytes};
-ghost use Rattle.std.specs.Char.{is_control};
 ghost use Rattle.std.specs.Str.{NoCharPasses};
 ghost use Rattle.cookie_words.specs.Moments.{moment_of};
 ghost use Rattle.cookie_parts.specs.Views.{domain_value, expiry_value};
 ghost use Rattle.cookies.specs.Cells.{cells_of, domain_cell, expiry_cell, flags_cell, same_site_flag, value_cell, with_flag};
+ghost use Rattle.cookies.specs.Escapes.{is_escaped};
 
 use crate::escape::{escaped, push_escaped};
 use cookie_store::raw::SameSite;
@@ -72,7 +72,7 @@ fn row(alloc: Global, cookie: &Cookie<'_>, now: DateTime) -> Result<Row, Error>
 // Returns a domain, after a dot if it is that of a domain cookie.
 fn domain_cell(alloc: Global, domain: &CookieDomain) -> Result<String, AllocError>
     ensures value { IfOk result (λ cell. string_bytes cell ≡ domain_cell (domain_value domain.now)) }
-    ensures safe { IfOk result (λ cell. NoCharPasses is_control (string_bytes cell)) }
+    ensures safe { IfOk result (λ cell. NoCharPasses is_escaped (string_bytes cell)) }
 {
     let text = escaped(alloc, domain.as_str())?;
     match domain {
@@ -84,7 +84,7 @@ fn domain_cell(alloc: Global, domain: &CookieDomain) -> Result<String, AllocErro
 // Returns a value. One of more than `SHOWN_CHARS` characters is cut and ends in `…`.
 fn value_cell(alloc: Global, value: &str) -> Result<String, AllocError>
     ensures value { IfOk result (λ cell. string_bytes cell ≡ value_cell value.now) }
-    ensures safe { IfOk result (λ cell. NoCharPasses is_control (string_bytes cell)) }
+    ensures safe { IfOk result (λ cell. NoCharPasses is_escaped (string_bytes cell)) }
 {
     let mut cell = String::new(alloc);
     let mut count = 0;

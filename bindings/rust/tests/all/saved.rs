@@ -135,6 +135,42 @@ fn what_a_format_cannot_represent_is_not_saved() {
     );
 }
 
+#[test]
+fn malformed_lines_are_left_out() {
+    let line = |name: &str| format!("a.example\tFALSE\t/\tFALSE\t0\t{name}\t1\n");
+    let file = format!("# comment\na=1\n{}\na.example\n{}", line("b"), line("c"));
+    let table = [
+        (file.as_str(), "bc", vec![2, 5]),
+        ("", "", vec![]),
+        ("a=1", "", vec![1]),
+    ];
+    for (file, expected, malformed) in table {
+        let (mut store, lines) =
+            CookieStore::load_netscape_well_formed(file, at(NOW), true).unwrap();
+        assert_eq!(
+            (names(&mut store).as_str(), lines),
+            (expected, malformed),
+            "{file}"
+        );
+    }
+    let error = CookieStore::load_netscape_well_formed("", at(FIRST - 1), true).unwrap_err();
+    assert_eq!(error, Error::BadTime);
+}
+
+#[test]
+fn unrepresentable_cookies_are_left_out() {
+    let mut store = filled(&["a=x\ty; Path=/", "b=2; Path=/", "c=3; Path=/; Max-Age=60"]);
+    for (all, expected, left_out) in [(true, "bc", 1), (false, "c", 0)] {
+        let (file, count) = store.save_netscape_representable(at(NOW), all).unwrap();
+        let mut copy = CookieStore::load_netscape(&file, at(NOW), true).unwrap();
+        assert_eq!((names(&mut copy).as_str(), count), (expected, left_out));
+    }
+    let error = store
+        .save_netscape_representable(at(FIRST - 1), true)
+        .unwrap_err();
+    assert_eq!(error, Error::BadTime);
+}
+
 /// An expiry of a list may have a fraction, and is rounded down.
 #[test]
 fn expiries_before_1970_are_loaded() {

@@ -1,5 +1,5 @@
 use Rattle.cookie_words.specs.Moments.{moment_of}
-use Rattle.cookie_store_c.specs.Lists.{selected_rows}
+use Rattle.cookie_serde.specs.Saving.{selected_rows}
 use Rattle.cookie_store_c.proofs.Saving.{no_list}
 use Rattle.cookie_store_c.proofs.list_calls.line_of.Goals as goal
 

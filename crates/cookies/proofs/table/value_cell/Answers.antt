@@ -1,10 +1,11 @@
-use Rattle.std.proofs.Common.{length, map-id, refl, string_bytes, subst, sym, ◌∙◌, ◌<◌, arith}
-use Rattle.std.specs.Char.{encode_utf8, is_control}
+use Rattle.std.proofs.Common.{length, map-id, string_bytes, subst, sym, ◌∙◌, ◌<◌, arith}
+use Rattle.std.specs.Char.{encode_utf8}
 use Rattle.std.specs.Str.{chars}
 use Rattle.std.proofs.lemmas.Iterator.{YieldsList-from_chars}
 use Rattle.std.proofs.lemmas.Iterator.Consumers.{YieldsList-end, YieldsList-so_far, YieldsList-turn}
 use Rattle.std.proofs.lemmas.Str.{NoCharPasses-append}
-use Rattle.cookies.proofs.SafeTexts.{IsSafe, one_char, safe_chars}
+use Rattle.cookies.specs.Escapes.{is_escaped}
+use Rattle.cookies.proofs.SafeTexts.{IsSafe, ellipsis, one_char, safe_chars}
 use Rattle.cookies.proofs.ShownValues.{cut_value, whole_value}
 use Rattle.cookies.proofs.table.value_cell.Goals as goal
 
@@ -22,7 +23,7 @@ pub returns-then-count-eq-SHOWN_CHARS-clause-safe : goal.returns-then-count-eq-S
 returns-then-count-eq-SHOWN_CHARS-clause-safe c =
     let l = c.loop-c in
     subst IsSafe (sym c.in_ok-push.ensures.bytes)
-    (NoCharPasses-append is_control (string_bytes l.cell) (encode_utf8 8230) (subst IsSafe (sym l.invariant.shown) (safe_chars l.yielded)) (one_char 8230 refl))
+    (NoCharPasses-append is_escaped (string_bytes l.cell) (encode_utf8 8230) (subst IsSafe (sym l.invariant.shown) (safe_chars l.yielded)) (one_char 8230 ellipsis))
 
 pub returns-clause-value : goal.returns-clause-value
 returns-clause-value c =
