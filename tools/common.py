@@ -40,6 +40,16 @@ def write(path, text):
         file.write(text)
 
 
+def anchors(text):
+    """The anchors that Markdown gives the headings of a document, in their order."""
+    known = {}
+    for heading in re.findall(r'^#+ (.*)', re.sub(r'^ *```.*?^ *```$', '', text, flags=re.M | re.S), re.M):
+        heading = re.sub(r'\[([^\]]*)\]\([^)]*\)', r'\1', heading)
+        name = re.sub(r'[^\w -]', '', heading.lower()).replace(' ', '-')
+        known[name] = known.get(name, -1) + 1
+        yield f'{name}-{known[name]}' if known[name] else name
+
+
 def crates():
     """The names in crates.txt, lowest first."""
     return re.findall(r'^(\w+)', read(f'{ROOT}/crates.txt'), re.M)

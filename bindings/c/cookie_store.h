@@ -106,7 +106,7 @@
  * ABI
  *
  *   The soname libcookie_store.so.0 and the symbol version COOKIE_STORE_0 promise: functions and
- *   statuses are only added; no function, status number or struct member changes, and the two
+ *   statuses are only added; no function, number of an enum or struct member changes, and the two
  *   structs keep their size. Treat a status that you do not know by its range, see Errors.
  *   COOKIE_STORE_INIT is zero bytes. An enum must be 32 bits wide. */
 #ifndef COOKIE_STORE_H
@@ -421,8 +421,17 @@ enum cookie_store_status cookie_store_remove_expired(cookie_store *store, int64_
 
 /* Returns the number of stored cookies. Expired ones count until they are removed.
  *
- * Returns 0 if the handle is empty, and SIZE_MAX if there are more cookies than that. */
+ * Returns 0 if the handle is empty. */
 size_t cookie_store_count(cookie_store *store);
+
+/* The SameSite attribute of a cookie, draft-ietf-httpbis-rfc6265bis 5.6.7. */
+enum cookie_store_same_site {
+    /* No SameSite attribute, or one with another value than those below. */
+    COOKIE_STORE_SAME_SITE_ABSENT = 0,
+    COOKIE_STORE_SAME_SITE_STRICT = 1,
+    COOKIE_STORE_SAME_SITE_LAX = 2,
+    COOKIE_STORE_SAME_SITE_NONE = 3
+};
 
 /* A stored cookie. Its domain, path, name and value are in a separate buffer, one after the other
  * in this order. */
@@ -443,6 +452,7 @@ typedef struct cookie_store_row {
     bool has_path;
     bool secure;
     bool http_only;
+    enum cookie_store_same_site same_site;
 } cookie_store_row;
 
 /* Writes all cookies, expired ones included, in the order of the store.
@@ -453,8 +463,8 @@ typedef struct cookie_store_row {
  * both numbers are 0.
  *
  * Errors, in the order in which they are checked: NO_STORE, NO_ROOM.
- * May return NO_MEMORY instead of NO_ROOM or OK, but only if one of the two lengths is 2^64 or
- * more. */
+ * May return NO_MEMORY instead of NO_ROOM or OK, but only if the strings together have 2^64 bytes
+ * or more. */
 enum cookie_store_status cookie_store_rows(cookie_store *store, cookie_store_row *rows, size_t rows_len, char *strings,
                                            size_t strings_len, size_t *rows_needed, size_t *strings_needed);
 

@@ -343,6 +343,27 @@ static void test_rows(void) {
     cookie_store_free(&store);
 }
 
+/* Each value of the SameSite attribute, ignoring case, none, and another, which counts as none. */
+static void test_same_site(void) {
+    static const struct {
+        const char *value;
+        enum cookie_store_same_site wanted;
+    } VALUES[] = {{"a=1; SameSite=Strict", COOKIE_STORE_SAME_SITE_STRICT}, {"a=1; SameSite=Lax", COOKIE_STORE_SAME_SITE_LAX},
+                  {"a=1; samesite=NONE", COOKIE_STORE_SAME_SITE_NONE},     {"a=1", COOKIE_STORE_SAME_SITE_ABSENT},
+                  {"a=1; SameSite=other", COOKIE_STORE_SAME_SITE_ABSENT}};
+    cookie_store store = COOKIE_STORE_INIT;
+    cookie_store_row row;
+    char strings[16];
+    size_t rows_needed = UNSET, strings_needed = UNSET;
+    cookie_store_new(&store, "", 0);
+    for (size_t at = 0; at < sizeof VALUES / sizeof *VALUES; at++) {
+        set(&store, PAGE, VALUES[at].value, NOW);
+        equal("a row", cookie_store_rows(&store, &row, 1, strings, sizeof strings, &rows_needed, &strings_needed), COOKIE_STORE_OK);
+        equal(VALUES[at].value, row.same_site, VALUES[at].wanted);
+    }
+    cookie_store_free(&store);
+}
+
 /* Buffers that are one byte too short for a header, and just long enough. */
 static void test_room(void) {
     cookie_store store = COOKIE_STORE_INIT;
@@ -404,7 +425,7 @@ static void test_layout(void) {
     equal("size of a store", (long)sizeof(cookie_store), 16);
     equal("strict", (long)offsetof(cookie_store, strict), 1);
     equal("at", (long)offsetof(cookie_store, at), 8);
-    equal("size of a row", (long)sizeof(cookie_store_row), 48);
+    equal("size of a row", (long)sizeof(cookie_store_row), 56);
     equal("value_len", (long)offsetof(cookie_store_row, value_len), 24);
     equal("expires", (long)offsetof(cookie_store_row, expires), 32);
     equal("persistent", (long)offsetof(cookie_store_row, persistent), 40);
@@ -412,7 +433,9 @@ static void test_layout(void) {
     equal("has_path", (long)offsetof(cookie_store_row, has_path), 42);
     equal("secure", (long)offsetof(cookie_store_row, secure), 43);
     equal("http_only", (long)offsetof(cookie_store_row, http_only), 44);
+    equal("same_site", (long)offsetof(cookie_store_row, same_site), 48);
     equal("size of a status", (long)sizeof(enum cookie_store_status), 4);
+    equal("size of a SameSite attribute", (long)sizeof(enum cookie_store_same_site), 4);
 }
 
 #if defined(__GLIBC__) && (__GLIBC__ > 2 || __GLIBC_MINOR__ >= 33)
@@ -470,6 +493,7 @@ int main(void) {
     test_remove_expired();
     test_limit_and_key();
     test_rows();
+    test_same_site();
     test_room();
     test_no_store();
     return report("test_cookie_store");

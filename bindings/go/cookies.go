@@ -4,6 +4,7 @@ package cookiestore
 import "C"
 
 import (
+	"net/http"
 	"time"
 	"unsafe"
 )
@@ -19,6 +20,14 @@ type Cookie struct {
 	HostOnly bool // sent to Domain alone, and not to the hosts below it
 	Secure   bool
 	HttpOnly bool
+	SameSite http.SameSite // 0 without a SameSite attribute
+}
+
+// sameSites are the values of a SameSite attribute, by their numbers in cookie_store.h.
+var sameSites = [...]http.SameSite{
+	C.COOKIE_STORE_SAME_SITE_STRICT: http.SameSiteStrictMode,
+	C.COOKIE_STORE_SAME_SITE_LAX:    http.SameSiteLaxMode,
+	C.COOKIE_STORE_SAME_SITE_NONE:   http.SameSiteNoneMode,
 }
 
 // Len returns the number of stored cookies, expired ones included, and 0 after Close.
@@ -42,6 +51,7 @@ func (j *Jar) All() []Cookie {
 			HostOnly: bool(row.host_only),
 			Secure:   bool(row.secure),
 			HttpOnly: bool(row.http_only),
+			SameSite: sameSites[row.same_site],
 		})
 	}
 	return cookies

@@ -32,10 +32,10 @@ func TestSaveAndLoad(t *testing.T) {
 	setAll(t, jar, "https://example.com/foo/bar", "a=1; Secure; HttpOnly"+expires2099,
 		`b="x, y"; Domain=example.com; Path=/`+expires2099, "session=2")
 	persistent := []Cookie{
-		{"example.com", "/foo", "a", "1", endOf2099, true, true, true},
-		{"example.com", "/", "b", `"x, y"`, endOf2099, false, false, false},
+		{"example.com", "/foo", "a", "1", endOf2099, true, true, true, 0},
+		{"example.com", "/", "b", `"x, y"`, endOf2099, false, false, false, 0},
 	}
-	all := append([]Cookie{{"example.com", "/foo", "session", "2", time.Time{}, true, false, false}}, persistent...)
+	all := append([]Cookie{{"example.com", "/foo", "session", "2", time.Time{}, true, false, false, 0}}, persistent...)
 	for name, format := range map[string]Format{"JSON": JSON, "RON": RON, "Netscape": Netscape} {
 		for _, row := range []struct {
 			call    string
@@ -60,7 +60,7 @@ func TestSaveAndLoad(t *testing.T) {
 
 // Files of other programs: curl's, and Rust's crate cookie_store's.
 func TestLoad(t *testing.T) {
-	want := []Cookie{{"example.com", "/foo", "a", "1", endOf2099, false, true, true}}
+	want := []Cookie{{"example.com", "/foo", "a", "1", endOf2099, false, true, true, 0}}
 	for _, row := range []struct {
 		format Format
 		list   string

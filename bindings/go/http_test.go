@@ -49,7 +49,7 @@ func TestSetCookies(t *testing.T) {
 		"an invalid Raw": {&http.Cookie{Name: "a", Value: "2", Raw: "b"}, []Cookie{session}},
 		"all fields": {
 			&http.Cookie{Name: "a", Value: "2", Path: "/", Domain: ".example.com", MaxAge: 60, Secure: true, HttpOnly: true},
-			[]Cookie{{"example.com", "/", "a", "2", start.Add(time.Minute), false, true, true}},
+			[]Cookie{{"example.com", "/", "a", "2", start.Add(time.Minute), false, true, true, 0}},
 		},
 		"Expires":           {&http.Cookie{Name: "a", Value: "1", Expires: endOf2099}, []Cookie{persistent}},
 		"an invalid name":   {&http.Cookie{Name: "a b", Value: "2"}, nil},

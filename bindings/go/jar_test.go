@@ -273,11 +273,11 @@ func TestSystemPublicSuffixList(t *testing.T) {
 func TestCookies(t *testing.T) {
 	jar := newJar(t, nil)
 	setAll(t, jar, "https://example.com/foo/bar",
-		"a=1; Max-Age=60; Secure", "b=2; Domain=example.com; Path=/; HttpOnly", "c=; Max-Age=61")
+		"a=1; Max-Age=60; Secure", "b=2; Domain=example.com; Path=/; HttpOnly; SameSite=Lax", "c=; Max-Age=61")
 	want := []Cookie{
-		{"example.com", "/foo", "a", "1", start.Add(time.Minute), true, true, false},
-		{"example.com", "/foo", "c", "", start.Add(61 * time.Second), true, false, false},
-		{"example.com", "/", "b", "2", time.Time{}, false, false, true},
+		{"example.com", "/foo", "a", "1", start.Add(time.Minute), true, true, false, 0},
+		{"example.com", "/foo", "c", "", start.Add(61 * time.Second), true, false, false, 0},
+		{"example.com", "/", "b", "2", time.Time{}, false, false, true, http.SameSiteLaxMode},
 	}
 	expectAll(t, "set", jar, want)
 	if jar.Len() != 3 {
@@ -300,6 +300,22 @@ func TestCookies(t *testing.T) {
 	expectHeader(t, jar, "http://example.com/foo/", "")
 	if err := jar.Clear(); err != nil || jar.Len() != 0 || jar.All() != nil {
 		t.Errorf("Clear: %v, and %d cookies", err, jar.Len())
+	}
+}
+
+func TestSameSite(t *testing.T) {
+	for value, want := range map[string]http.SameSite{
+		"a=1":                  0,
+		"a=1; SameSite=Strict": http.SameSiteStrictMode,
+		"a=1; samesite=LAX":    http.SameSiteLaxMode,
+		"a=1; SameSite=None":   http.SameSiteNoneMode,
+		"a=1; SameSite=other":  0,
+	} {
+		jar := newJar(t, nil)
+		setAll(t, jar, "https://example.com/", value)
+		if got := jar.All()[0].SameSite; got != want {
+			t.Errorf("%s: SameSite is %d, want %d", value, got, want)
+		}
 	}
 }
 

@@ -44,7 +44,7 @@ def main():
     functions = declarations(header)
     names = sorted(re.search(r'\w+(?=\()', function)[0] for function in functions)
     texts = dict(re.findall(r'case COOKIE_STORE_(\w+): return "(.*)";', header))
-    numbers = re.findall(r'COOKIE_STORE_(\w+) = (\d+)', header)
+    numbers = re.findall(r'COOKIE_STORE_(\w+) = (\d+)', re.search(r'enum cookie_store_status \{(.*?)\}', header, re.S)[1])
     statuses = [f'{int(number):2}  {name:23}  {texts.get(name)}' for name, number in numbers]
     version = '.'.join(re.findall(r'#define COOKIE_STORE_VERSION_\w+ (\d+)', header))
     tags = [line[4:-3] for line in section(page, 'DESCRIPTION') if re.fullmatch(r'\.BR cookie_store_\w+ \(\)', line)]

@@ -27,7 +27,7 @@ class Module:
     def __init__(self, crates, crate, names):
         self.crates, self.crate, self.names = crates, crate, names
         path = f'crates/{crate}/src/{"/".join(names) or "lib"}.rt'
-        self.items = source.read(os.path.join(crates.root, path), path)
+        self.items, self.doc = source.read(os.path.join(crates.root, path), path)
         self.modules = {item.name: crates.module(crate, (*names, item.name)) for item in self.items if item.kind == 'mod'}
         self.uses = [use for item in self.items if item.kind == 'use' for use in item.items]
 
@@ -70,6 +70,7 @@ class Crates:
 
     def __init__(self, root):
         self.root, self.modules, self.foreign = root, {}, []
+        self.module_paths = {}  # of the public modules, in the order in which they are found
 
     def module(self, crate, names):
         if (crate, names) not in self.modules:
@@ -80,13 +81,17 @@ class Crates:
         """The root module of a crate, or None if it is none of the repository's."""
         return self.module(crate, ()) if os.path.exists(f'{self.root}/crates/{crate}/src/lib.rt') else None
 
+    def impls(self, item):
+        """Pairs of a module and an impl of a type in it, those in the file of the type first."""
+        found = [(module, each) for module in self.modules.values() for each in module.items
+                 if each.kind == 'impl' and each.name == item.name and module.find(each.name) is item]
+        return sorted(found, key=lambda pair: pair[1].file != item.file)
+
     def methods(self, item):
         """The public methods of a type or a trait."""
         if item.kind == 'trait':
             return [each for each in item.items if each.kind == 'fn']
-        crate = item.file.split('/')[1]
-        impls = [each for (owner, _), module in self.modules.items() if owner == crate
-                 for each in module.items if each.kind == 'impl' and each.name == item.name]
+        impls = [each for _, each in self.impls(item) if not each.head]
         return [each for one in impls for each in one.items if each.is_public and each.kind in ('fn', 'const')]
 
     def surface(self, crate):
@@ -96,6 +101,7 @@ class Crates:
         return list(found.values())
 
     def visit(self, module, prefix, found, above):
+        self.module_paths.setdefault(module, []).append(prefix.removesuffix('::'))
         for name, target in module.publics():
             path = prefix + name
             if isinstance(target, Module):

@@ -40,7 +40,7 @@ class JarCookie(http.cookiejar.Cookie):
 
     def __init__(self, row: Cookie) -> None:  # pylint: disable=super-init-not-called
         # What is the same for all cookies is in the class: iteration is twice as fast as with the constructor of Cookie.
-        domain, path, name, value, expires, host_only, has_path, secure, http_only = row
+        domain, path, name, value, expires, host_only, has_path, secure, http_only, same_site = row
         if not (domain.isascii() and path.isascii() and name.isascii() and value.isascii()):
             domain, path, name, value = to_wire(domain), to_wire(path), to_wire(name), to_wire(value)
         self.store_domain = domain
@@ -51,6 +51,8 @@ class JarCookie(http.cookiejar.Cookie):
         self.path, self.path_specified, self.name, self.value = path, has_path, name, value
         self.secure, self.expires, self.discard = secure, expires, expires is None
         self._rest: Dict[str, Any] = {'HttpOnly': None} if http_only else {}
+        if same_site is not None:
+            self._rest['SameSite'] = same_site
 
 
 def unexpired(store: CookieStore) -> List[Cookie]:
@@ -136,7 +138,7 @@ def insert(store: CookieStore, cookie: http.cookiejar.Cookie) -> Status:
 def header_values(rows: List[Cookie], now: int) -> Iterator[Tuple[str, str]]:
     """Yield for each cookie of a cookies.txt file a host and a Set-Cookie header value, if they can express it."""
     hosts = {domain for domain in {row.domain for row in rows} if _PLAIN_HOST.fullmatch(domain)}
-    for domain, path, name, value, expires, host_only, _, secure, http_only in rows:
+    for domain, path, name, value, expires, host_only, _, secure, http_only, _ in rows:
         if domain in hosts and ';' not in path:
             yield domain, (f'{name}={value}; Path={path}{"" if host_only else "; Domain=" + domain}'
                            f'{"" if expires is None else f"; Max-Age={expires - now}"}'

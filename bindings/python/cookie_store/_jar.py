@@ -30,7 +30,7 @@ class StoreJar(MappingJar):
     Iteration and len() leave out expired cookies; they stay in the store until
     clear_expired_cookies(). Cookies look as in http.cookiejar: the domain of a domain cookie has a
     leading dot, '.local' is appended to a host without a dot, and each character of a string is one
-    byte of the header.
+    byte of the header. HttpOnly and SameSite are nonstandard attributes.
 
     The jar has the methods of requests.cookies.RequestsCookieJar, such as get(), set() and
     get_dict(). As the cookies of a requests.Session it stores what responses set, but requests

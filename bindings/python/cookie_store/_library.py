@@ -18,11 +18,14 @@ class Row(ctypes.Structure):
     _fields_ = [('domain_len', ctypes.c_size_t), ('path_len', ctypes.c_size_t), ('name_len', ctypes.c_size_t),
                 ('value_len', ctypes.c_size_t), ('expires', ctypes.c_int64), ('persistent', ctypes.c_bool),
                 ('host_only', ctypes.c_bool), ('has_path', ctypes.c_bool), ('secure', ctypes.c_bool),
-                ('http_only', ctypes.c_bool)]
+                ('http_only', ctypes.c_bool), ('same_site', ctypes.c_int)]
 
 
 #: The same layout as Row: reading it in one go is faster than by its fields.
-ROW = struct.Struct('@4Nq5?3x')
+ROW = struct.Struct('@4Nq5?i4x')
+
+#: The values of a SameSite attribute, by their numbers in enum cookie_store_same_site of cookie_store.h.
+SAME_SITES = (None, 'Strict', 'Lax', 'None')
 
 _AT = ctypes.POINTER(Store)
 _TEXT = [ctypes.c_char_p, ctypes.c_size_t]

@@ -11,7 +11,7 @@ import weakref
 from typing import Any, Callable, Dict, Iterable, Iterator, List, NamedTuple, Optional, Tuple, Type, Union
 
 from ._files import Path
-from ._library import LIBRARY, ROW, Row, Store
+from ._library import LIBRARY, ROW, SAME_SITES, Row, Store
 from ._status import BadLine, BadRule, CookieStoreError, Status, check, is_reply
 
 Text = Union[str, bytes]
@@ -38,19 +38,21 @@ class Cookie(NamedTuple):
     has_path: bool
     secure: bool
     http_only: bool
+    #: 'Strict', 'Lax' or 'None', or None without a SameSite attribute.
+    same_site: Optional[str]
 
 
 def _cookies_of(rows: bytes, strings: bytes) -> List[Cookie]:
     """Return the cookies of the rows and strings that the library writes."""
     # Lengths are in bytes, and so are those of a string in Latin-1.
     text, cookies, at = strings.decode('latin-1'), [], 0
-    for domain, path, name, value, expires, persistent, host_only, has_path, secure, http_only in ROW.iter_unpack(rows):
+    for domain, path, name, value, expires, persistent, host_only, has_path, secure, http_only, same_site in ROW.iter_unpack(rows):
         path_at = at + domain
         name_at = path_at + path
         value_at = name_at + name
         end = value_at + value
         fields = (text[at:path_at], text[path_at:name_at], text[name_at:value_at], text[value_at:end],
-                  expires if persistent else None, host_only, has_path, secure, http_only)
+                  expires if persistent else None, host_only, has_path, secure, http_only, SAME_SITES[same_site])
         cookies.append(tuple.__new__(Cookie, fields))  # Cookie._make() takes longer
         at = end
     return cookies if strings.isascii() else [_decoded(cookie) for cookie in cookies]

@@ -100,7 +100,7 @@ class StoreCookieJar(AbstractCookieJar):
             morsel = _morsel(row.name, row.value)
             if morsel is not None:
                 expires = '' if row.expires is None else email.utils.formatdate(row.expires, usegmt=True)
-                words: Dict[str, Any] = {'secure': row.secure, 'httponly': row.http_only}
+                words: Dict[str, Any] = {'secure': row.secure, 'httponly': row.http_only, 'samesite': row.same_site or ''}
                 morsel.update({'domain': row.domain, 'path': row.path, 'expires': expires, **words})
                 yield row, morsel
 

@@ -211,12 +211,13 @@ class AiohttpTests(ServerTests):
     def test_jar(self):
         async def work(jar, _):
             url = yarl.URL('https://a.example/d/page')
-            texts = ['a=1; Domain=a.example; Path=/', 'a="2 3"', 'b=gr\u00fcn; HttpOnly; Max-Age=60', 'c=\udcff', 'd[]=5']
+            texts = ['a=1; Domain=a.example; Path=/', 'a="2 3"', 'b=gr\u00fcn; HttpOnly; SameSite=Lax; Max-Age=60', 'c=\udcff', 'd[]=5']
             jar.update_cookies_from_headers(texts, url)
             attributes = 'domain', 'path', 'httponly', 'expires'
             morsels = [(morsel.key, morsel.value, *(bool(morsel[name]) for name in attributes)) for morsel in jar]
             self.assertEqual(sorted(morsels), [('a', '"2 3"', True, True, False, False), ('a', '1', True, True, False, False),
                                                ('b', 'gr\u00fcn', True, True, True, True)])
+            self.assertEqual(sorted(morsel['samesite'] for morsel in jar), ['', '', 'Lax'])
             sent = {name: morsel.coded_value for name, morsel in jar.filter_cookies(url).items()}
             self.assertEqual(sent, {'a': '"2 3"', 'b': 'gr\u00fcn'})
             with self.assertRaises(ValueError):

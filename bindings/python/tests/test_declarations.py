@@ -5,7 +5,7 @@ import re
 import unittest
 
 from cookie_store import Status
-from cookie_store._library import ROW, SIGNATURES, Row, Store
+from cookie_store._library import ROW, SAME_SITES, SIGNATURES, Row, Store
 from cookie_store._status import TEXTS
 
 REPOSITORY = pathlib.Path(__file__).resolve().parents[3]
@@ -19,7 +19,8 @@ class DeclarationTests(unittest.TestCase):
     TYPES = {'cookie_store *': ctypes.POINTER(Store), 'cookie_store_row *': ctypes.POINTER(Row),
              'const char *': ctypes.c_char_p, 'char *': ctypes.POINTER(ctypes.c_char), 'size_t': ctypes.c_size_t,
              'size_t *': ctypes.POINTER(ctypes.c_size_t), 'int64_t': ctypes.c_int64, 'bool': ctypes.c_bool,
-             'void *': ctypes.c_void_p, 'void': None, 'enum cookie_store_status': ctypes.c_int}
+             'void *': ctypes.c_void_p, 'void': None, 'enum cookie_store_status': ctypes.c_int,
+             'enum cookie_store_same_site': ctypes.c_int}
 
     def setUp(self):
         self.text = re.sub(r'/\*.*?\*/', '', HEADER.read_text(), flags=re.S)
@@ -29,9 +30,17 @@ class DeclarationTests(unittest.TestCase):
         kind, star, name = re.fullmatch(r'\s*([\w ]+?)\s*(\*?)(\w+)\s*', text).groups()
         return name, self.TYPES[f'{kind} {star}'.strip()]
 
+    def enum(self, name):
+        """Return the numbers of an enum by their names."""
+        body = re.search(r'enum %s \{(.*?)\};' % name, self.text, re.S).group(1)
+        return {constant: int(number) for constant, number in re.findall(r'COOKIE_STORE_(\w+) = (\d+)', body)}
+
     def test_statuses(self):
-        declared = {name: int(number) for name, number in re.findall(r'COOKIE_STORE_(\w+) = (\d+)', self.text)}
-        self.assertEqual(declared, {status.name: status.value for status in Status})
+        self.assertEqual(self.enum('cookie_store_status'), {status.name: status.value for status in Status})
+
+    def test_same_sites(self):
+        names = {f'SAME_SITE_{name or "absent"}'.upper(): number for number, name in enumerate(SAME_SITES)}
+        self.assertEqual(self.enum('cookie_store_same_site'), names)
 
     def test_texts(self):
         texts = dict(re.findall(r'case COOKIE_STORE_(\w+): return "(.*)";', self.text))
@@ -41,12 +50,12 @@ class DeclarationTests(unittest.TestCase):
         for name, own in [('cookie_store', Store), ('cookie_store_row', Row)]:
             body = re.search(r'typedef struct %s \{(.*?)\}' % name, self.text, re.S).group(1)
             self.assertEqual([self.declaration(line) for line in body.split(';')[:-1]], own._fields_, name)
-        self.assertEqual((ctypes.sizeof(Store), ctypes.sizeof(Row)), (16, 48))
+        self.assertEqual((ctypes.sizeof(Store), ctypes.sizeof(Row)), (16, 56))
 
     def test_layout(self):
         """ROW reads the fields of Row."""
         for flag in range(5):
-            fields = (1, 2**32, 3, 2**63, -5, *(at == flag for at in range(5)))
+            fields = (1, 2**32, 3, 2**63, -5, *(at == flag for at in range(5)), flag)
             self.assertEqual(list(ROW.iter_unpack(bytes(Row(*fields)))), [fields])
 
     def test_signatures(self):
@@ -77,6 +86,11 @@ class DeclarationTests(unittest.TestCase):
         numbers = {re.sub(r'(?<=[a-z])(?=[A-Z])', '_', name).upper(): int(number) for name, number in declared}
         numbers['OK'] = numbers.pop('DONE')
         self.assertEqual(numbers, {status.name: status.value for status in Status})
+
+    def test_proved_same_sites(self):
+        declared = re.findall(r'Some\(SameSite::(\w+)\) => (\d+),', (PROVED / 'cookie_row.rt').read_text())
+        self.assertEqual([(name, int(number)) for name, number in declared],
+                         [(name, number) for number, name in enumerate(SAME_SITES) if name])
 
     def test_proved_structs(self):
         body = re.search(r'pub struct CookieRow \{(.*?)\}', (PROVED / 'cookie_row.rt').read_text(), re.S).group(1)

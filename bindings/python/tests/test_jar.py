@@ -72,7 +72,7 @@ class JarTests(unittest.TestCase):
             self.assertEqual(jar.store.header(PAGE, same_site=False, lax_by_default=False), wanted, same_site)
 
     def test_shown(self):
-        jar = jar_of('a=1', 'b=2; Domain=a.example; Path=/; Secure; HttpOnly; Max-Age=3600', 'c=3; Max-Age=0')
+        jar = jar_of('a=1', 'b=2; Domain=a.example; Path=/; Secure; HttpOnly; SameSite=Lax; Max-Age=3600', 'c=3; Max-Age=0')
         first, second = jar
         self.assertEqual((first.domain, first.domain_specified, first.path, first.path_specified, first.expires, first.discard),
                          ('a.example', False, '/d', False, None, True))
@@ -81,6 +81,7 @@ class JarTests(unittest.TestCase):
         self.assertEqual((first.secure, second.secure), (False, True))
         self.assertLess(abs(second.expires - time.time() - 3600), SECONDS)
         self.assertEqual((first.has_nonstandard_attr('HttpOnly'), second.has_nonstandard_attr('HttpOnly')), (False, True))
+        self.assertEqual([cookie.get_nonstandard_attr('SameSite') for cookie in jar], [None, 'Lax'])
         self.assertEqual((len(jar), bool(jar), bool(StoreJar())), (2, True, False))
         self.assertEqual(str(jar), '<StoreJar[<Cookie a=1 for a.example/d>, <Cookie b=2 for .a.example/>]>')
         self.assertIn("name='a'", repr(jar))
@@ -133,7 +134,7 @@ class JarTests(unittest.TestCase):
 
     def test_set_again(self):
         """Setting the cookies of a jar in another one gives the same jar."""
-        jar = jar_of('a=1', 'b=2; Domain=a.example; Path=/; Secure; HttpOnly; Max-Age=3600', 'c=3; Path=/d.e')
+        jar = jar_of('a=1', 'b=2; Domain=a.example; Path=/; Secure; HttpOnly; SameSite=Lax; Max-Age=3600', 'c=3; Path=/d.e')
         jar.extract_cookies(Response('d=4'), urllib.request.Request('http://web/'))
         other = StoreJar()
         for cookie in jar:

@@ -308,18 +308,23 @@ class StoreTests(unittest.TestCase):
         self.assertFalse(finalizer.alive)
 
     def test_rows(self):
-        store = filled('a=1', 'g=gr\u00fcn; Domain=.A.example; Path=/; Max-Age=60; Secure; HttpOnly',
+        store = filled('a=1', 'g=gr\u00fcn; Domain=.A.example; Path=/; Max-Age=60; Secure; HttpOnly; SameSite=Lax',
                        'b=; Expires=Thu, 01 Jan 2026 00:00:05 GMT')
         self.assertEqual(list(store), [
-            Cookie('a.example', '/d', 'a', '1', None, True, False, False, False),
-            Cookie('a.example', '/d', 'b', '', NOW + 5, True, False, False, False),
-            Cookie('a.example', '/', 'g', 'gr\u00fcn', NOW + 60, False, True, True, True),
+            Cookie('a.example', '/d', 'a', '1', None, True, False, False, False, None),
+            Cookie('a.example', '/d', 'b', '', NOW + 5, True, False, False, False, None),
+            Cookie('a.example', '/', 'g', 'gr\u00fcn', NOW + 60, False, True, True, True, 'Lax'),
         ])
         self.assertEqual(store.header('https://a.example/d/page', NOW + 4), 'a=1; b=; g=gr\u00fcn')
         self.assertEqual(store.header('https://a.example/d/page', NOW + 5), 'a=1; g=gr\u00fcn')
         self.assertEqual(store.header('https://b.a.example/', NOW), 'g=gr\u00fcn')
         self.assertEqual(store.header('http://b.a.example/', NOW), '')
         self.assertEqual(CookieStore().cookies(), [])
+
+    def test_same_site(self):
+        for attribute, wanted in [('', None), ('; SameSite=Strict', 'Strict'), ('; samesite=LAX', 'Lax'), ('; SameSite=None', 'None'),
+                                  ('; SameSite=other', None)]:
+            self.assertEqual([row.same_site for row in filled(f'a=1{attribute}')], [wanted], attribute)
 
     def test_cookies_after_changes(self):
         """cookies() keeps its list until the store changes."""

@@ -37,15 +37,11 @@ pub(crate) fn grow<T: Clone + Default>(buffer: &mut Vec<T>, len: usize) -> Resul
     Ok(())
 }
 
-/// Returns the first `len` bytes of `texts`, and removes them from it.
-pub(crate) fn take(texts: &mut &str, len: usize) -> Result<String, Error> {
-    let (text, rest) = match (texts.get(..len), texts.get(len..)) {
-        (Some(text), Some(rest)) => (text, rest),
-        _ => return Err(Error::Unexpected(sys::COOKIE_STORE_NOT_UTF8)),
-    };
-    let mut owned = String::new();
-    owned.try_reserve_exact(len).map_err(|_| Error::NoMemory)?;
-    owned.push_str(text);
-    *texts = rest;
-    Ok(owned)
+/// Returns a copy of the string.
+pub(crate) fn owned(text: &str) -> Result<String, Error> {
+    let mut copy = String::new();
+    copy.try_reserve_exact(text.len())
+        .map_err(|_| Error::NoMemory)?;
+    copy.push_str(text);
+    Ok(copy)
 }

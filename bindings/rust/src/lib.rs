@@ -39,13 +39,15 @@
 
 mod buffer;
 mod cookie;
+mod cookies;
 mod error;
 mod saved;
 mod store;
 pub mod sys;
 mod time;
 
-pub use cookie::Cookie;
+pub use cookie::{Cookie, SameSite};
+pub use cookies::Iter;
 pub use error::Error;
 pub use store::{CookieStore, CrossSite, StoreAction, SYSTEM_SUFFIX_FILE};
 

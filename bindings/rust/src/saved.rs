@@ -39,13 +39,13 @@ impl CookieStore {
     /// # Errors
     ///
     /// [`Error::BadTime`], [`Error::BadExpiry`], [`Error::NoMemory`].
-    pub fn save_json(&mut self, now: SystemTime, all: bool) -> Result<String, Error> {
+    pub fn save_json(&self, now: SystemTime, all: bool) -> Result<String, Error> {
         self.save(sys::cookie_store_save_json, now, all)
     }
 
     /// Returns the cookies as a list in RON. All else is as in
     /// [`save_json`](CookieStore::save_json).
-    pub fn save_ron(&mut self, now: SystemTime, all: bool) -> Result<String, Error> {
+    pub fn save_ron(&self, now: SystemTime, all: bool) -> Result<String, Error> {
         self.save(sys::cookie_store_save_ron, now, all)
     }
 
@@ -56,7 +56,7 @@ impl CookieStore {
     /// # Errors
     ///
     /// [`Error::BadTime`], [`Error::Unrepresentable`], [`Error::NoMemory`].
-    pub fn save_netscape(&mut self, now: SystemTime, all: bool) -> Result<String, Error> {
+    pub fn save_netscape(&self, now: SystemTime, all: bool) -> Result<String, Error> {
         self.save(sys::cookie_store_save_netscape, now, all)
     }
 
@@ -67,13 +67,13 @@ impl CookieStore {
     ///
     /// [`Error::BadTime`], [`Error::NoMemory`].
     pub fn save_netscape_representable(
-        &mut self,
+        &self,
         now: SystemTime,
         all: bool,
     ) -> Result<(String, usize), Error> {
         let mut left_out = 0;
         let text = string(self.list_len(), |out, len, needed| {
-            let (store, now) = (&mut self.0, seconds(now));
+            let (store, now) = (self.handle(), seconds(now));
             // SAFETY: see `CookieStore`.
             unsafe {
                 sys::cookie_store_save_netscape_representable(
@@ -90,15 +90,15 @@ impl CookieStore {
         Ok((text, left_out))
     }
 
-    fn save(&mut self, save: Save, now: SystemTime, all: bool) -> Result<String, Error> {
+    fn save(&self, save: Save, now: SystemTime, all: bool) -> Result<String, Error> {
         string(self.list_len(), |out, len, needed| {
             // SAFETY: see `CookieStore`. `save` is one of the three functions above.
-            unsafe { save(&mut self.0, seconds(now), all, out, len, needed) }
+            unsafe { save(self.handle(), seconds(now), all, out, len, needed) }
         })
     }
 
     /// Returns a length that is enough for most lists. A longer one is written twice.
-    fn list_len(&mut self) -> usize {
+    fn list_len(&self) -> usize {
         self.len().saturating_mul(COOKIE).max(COOKIE)
     }
 

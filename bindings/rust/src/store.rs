@@ -1,16 +1,18 @@
+use std::cell::UnsafeCell;
 use std::collections::hash_map::RandomState;
 use std::fmt;
 use std::hash::{BuildHasher, Hasher};
 use std::num::NonZeroUsize;
+use std::panic::RefUnwindSafe;
 use std::path::Path;
 use std::time::SystemTime;
 use std::{fs, io, ptr};
 
-use crate::buffer::{grow, string, take, HEADER};
+use crate::buffer::{string, HEADER};
 use crate::error::check;
-use crate::sys::{self, cookie_store_row, cookie_store_status};
-use crate::time::{seconds, time_at};
-use crate::{Cookie, Error};
+use crate::sys::{self, cookie_store_status};
+use crate::time::seconds;
+use crate::Error;
 
 /// The public suffix list that Debian's package `publicsuffix` installs, for
 /// [`CookieStore::use_suffix_file`].
@@ -40,26 +42,36 @@ pub struct CrossSite {
 
 /// A cookie store after RFC 6265.
 ///
-/// All methods take `&mut self`, also those that only read: the library lets one thread at a time
-/// use a store. To share one between threads, put it into a [`Mutex`](std::sync::Mutex).
+/// The library lets one thread at a time use a store, also to read it: a store is [`Send`] and not
+/// [`Sync`]. To share one between threads, put it into a [`Mutex`](std::sync::Mutex).
+///
+/// ```compile_fail,E0277
+/// fn assert_sync<T: Sync>() {}
+/// assert_sync::<pulleymaroon::CookieStore>();
+/// ```
 ///
 /// The time of a call is its argument `now`, usually [`SystemTime::now`]. It must be in the years
 /// -9999 to 9999. A cookie has expired if its expiry time is `now` or earlier.
 ///
 /// A method that returns an error leaves the store unchanged.
 //
-// SAFETY of the calls below: the handle is initialized, empty or with a store; `&mut self` keeps
-// other calls away; pointers come from references and slices, so they are not NULL, aligned and
-// valid for their lengths; and what a call writes to is borrowed mutably, so it overlaps nothing.
-pub struct CookieStore(pub(crate) sys::cookie_store);
+// SAFETY of the calls below: the handle is initialized, empty or with a store; no other call uses it
+// meanwhile, since a store is not `Sync` and no call calls back; pointers come from references and
+// slices, so they are not NULL, aligned and valid for their lengths; and what a call writes to is
+// borrowed mutably, or is the handle, to which there is no reference, so it overlaps nothing. Calls
+// that only read the store write to its handle too.
+pub struct CookieStore(UnsafeCell<sys::cookie_store>);
 
 // SAFETY: a store may be used by any thread, one at a time.
 unsafe impl Send for CookieStore {}
 
+// No call panics while it uses the handle.
+impl RefUnwindSafe for CookieStore {}
+
 impl Drop for CookieStore {
     fn drop(&mut self) {
         // SAFETY: see `CookieStore`. The handle is not used again.
-        unsafe { sys::cookie_store_free(&mut self.0) }
+        unsafe { sys::cookie_store_free(self.handle()) }
     }
 }
 
@@ -142,7 +154,7 @@ impl CookieStore {
         // SAFETY: see `CookieStore`.
         let status = unsafe {
             sys::cookie_store_use_suffixes(
-                &mut self.0,
+                self.handle(),
                 list.as_ptr().cast(),
                 list.len(),
                 only_listed,
@@ -160,7 +172,7 @@ impl CookieStore {
     pub fn set_domain_limit(&mut self, limit: NonZeroUsize) {
         // The errors are that the handle is empty, and that the limit is 0.
         // SAFETY: see `CookieStore`.
-        unsafe { sys::cookie_store_set_domain_limit(&mut self.0, limit.get()) };
+        unsafe { sys::cookie_store_set_domain_limit(self.handle(), limit.get()) };
     }
 
     /// Sets whether the store is strict. A store that was just created or loaded is not.
@@ -173,7 +185,7 @@ impl CookieStore {
     pub fn set_strict(&mut self, strict: bool) {
         // The only error is that the handle is empty.
         // SAFETY: see `CookieStore`.
-        unsafe { sys::cookie_store_set_strict(&mut self.0, strict) };
+        unsafe { sys::cookie_store_set_strict(self.handle(), strict) };
     }
 
     /// Parses a `Set-Cookie` header value received from `url` at `now`, and inserts the cookie,
@@ -195,7 +207,7 @@ impl CookieStore {
         // SAFETY: see `CookieStore`.
         let status = unsafe {
             sys::cookie_store_set(
-                &mut self.0,
+                self.handle(),
                 url.as_ptr().cast(),
                 url.len(),
                 set_cookie.as_ptr().cast(),
@@ -225,12 +237,12 @@ impl CookieStore {
     /// # Errors
     ///
     /// [`Error::BadTime`], [`Error::BadUrl`], [`Error::NoMemory`].
-    pub fn cookie_header(&mut self, url: &str, now: SystemTime) -> Result<Option<String>, Error> {
+    pub fn cookie_header(&self, url: &str, now: SystemTime) -> Result<Option<String>, Error> {
         let header = string(HEADER, |out, len, needed| {
             // SAFETY: see `CookieStore`.
             unsafe {
                 sys::cookie_store_get(
-                    &mut self.0,
+                    self.handle(),
                     url.as_ptr().cast(),
                     url.len(),
                     seconds(now),
@@ -255,7 +267,7 @@ impl CookieStore {
     ///
     /// Those of [`cookie_header`](CookieStore::cookie_header).
     pub fn cross_site_cookie_header(
-        &mut self,
+        &self,
         url: &str,
         now: SystemTime,
         context: CrossSite,
@@ -264,7 +276,7 @@ impl CookieStore {
             // SAFETY: see `CookieStore`.
             unsafe {
                 sys::cookie_store_get_cross_site(
-                    &mut self.0,
+                    self.handle(),
                     url.as_ptr().cast(),
                     url.len(),
                     seconds(now),
@@ -285,7 +297,7 @@ impl CookieStore {
         // SAFETY: see `CookieStore`.
         let status = unsafe {
             sys::cookie_store_remove(
-                &mut self.0,
+                self.handle(),
                 domain.as_ptr().cast(),
                 domain.len(),
                 path.as_ptr().cast(),
@@ -302,7 +314,7 @@ impl CookieStore {
     pub fn clear(&mut self) {
         // The only error is that the handle is empty.
         // SAFETY: see `CookieStore`.
-        unsafe { sys::cookie_store_clear(&mut self.0) };
+        unsafe { sys::cookie_store_clear(self.handle()) };
     }
 
     /// Removes the cookies that have expired at `now`, and returns their number.
@@ -316,85 +328,38 @@ impl CookieStore {
         let mut removed = 0;
         // SAFETY: see `CookieStore`.
         let status =
-            unsafe { sys::cookie_store_remove_expired(&mut self.0, seconds(now), &mut removed) };
+            unsafe { sys::cookie_store_remove_expired(self.handle(), seconds(now), &mut removed) };
         check(status, 0)?;
         Ok(removed)
     }
 
     /// Returns the number of stored cookies. Expired ones count until they are removed.
-    pub fn len(&mut self) -> usize {
+    pub fn len(&self) -> usize {
         // SAFETY: see `CookieStore`.
-        unsafe { sys::cookie_store_count(&mut self.0) }
+        unsafe { sys::cookie_store_count(self.handle()) }
     }
 
     /// Returns whether there are no stored cookies.
-    pub fn is_empty(&mut self) -> bool {
+    pub fn is_empty(&self) -> bool {
         self.len() == 0
     }
 
-    /// Returns all cookies, expired ones included, in the order of the store.
-    ///
-    /// # Errors
-    ///
-    /// [`Error::NoMemory`].
-    pub fn cookies(&mut self) -> Result<Vec<Cookie>, Error> {
-        let (rows, strings) = self.rows()?;
-        let mut cookies = Vec::new();
-        cookies
-            .try_reserve_exact(rows.len())
-            .map_err(|_| Error::NoMemory)?;
-        let mut rest = strings.as_str();
-        for row in rows {
-            cookies.push(Cookie {
-                domain: take(&mut rest, row.domain_len)?,
-                path: take(&mut rest, row.path_len)?,
-                name: take(&mut rest, row.name_len)?,
-                value: take(&mut rest, row.value_len)?,
-                expires: row.persistent.then(|| time_at(row.expires)),
-                host_only: row.host_only,
-                has_path: row.has_path,
-                secure: row.secure,
-                http_only: row.http_only,
-            });
-        }
-        Ok(cookies)
-    }
-
-    /// Returns the rows of all cookies, and their strings one after the other.
-    fn rows(&mut self) -> Result<(Vec<cookie_store_row>, String), Error> {
-        let mut rows = Vec::new();
-        let mut rows_needed = 0;
-        let strings = string(0, |out, len, needed| {
-            if grow(&mut rows, rows_needed).is_err() {
-                return sys::COOKIE_STORE_NO_MEMORY;
-            }
-            // SAFETY: see `CookieStore`.
-            unsafe {
-                sys::cookie_store_rows(
-                    &mut self.0,
-                    rows.as_mut_ptr(),
-                    rows.len(),
-                    out,
-                    len,
-                    &mut rows_needed,
-                    needed,
-                )
-            }
-        })?;
-        Ok((rows, strings))
+    /// Returns the handle of the store, for a call.
+    pub(crate) fn handle(&self) -> *mut sys::cookie_store {
+        self.0.get()
     }
 
     /// Returns the store that `create(handle, key, bad_line)` creates in an empty handle.
     pub(crate) fn create(
         create: impl FnOnce(&mut sys::cookie_store, &[u8], &mut usize) -> cookie_store_status,
     ) -> Result<CookieStore, Error> {
-        let mut store = CookieStore(sys::cookie_store {
+        let mut store = CookieStore(UnsafeCell::new(sys::cookie_store {
             live: false,
             strict: false,
             at: ptr::null_mut(),
-        });
+        }));
         let mut line = 0;
-        check(create(&mut store.0, &random_key(), &mut line), line)?;
+        check(create(store.0.get_mut(), &random_key(), &mut line), line)?;
         Ok(store)
     }
 }

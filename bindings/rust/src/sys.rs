@@ -44,6 +44,13 @@ pub const COOKIE_STORE_PREFIX: cookie_store_status = 44;
 pub const COOKIE_STORE_SECURE_STORED: cookie_store_status = 45;
 pub const COOKIE_STORE_SECURE_LIMIT: cookie_store_status = 46;
 
+pub type cookie_store_same_site = c_uint;
+
+pub const COOKIE_STORE_SAME_SITE_ABSENT: cookie_store_same_site = 0;
+pub const COOKIE_STORE_SAME_SITE_STRICT: cookie_store_same_site = 1;
+pub const COOKIE_STORE_SAME_SITE_LAX: cookie_store_same_site = 2;
+pub const COOKIE_STORE_SAME_SITE_NONE: cookie_store_same_site = 3;
+
 #[repr(C)]
 #[derive(Debug)]
 pub struct cookie_store {
@@ -65,6 +72,7 @@ pub struct cookie_store_row {
     pub has_path: bool,
     pub secure: bool,
     pub http_only: bool,
+    pub same_site: cookie_store_same_site,
 }
 
 extern "C" {

@@ -2,7 +2,7 @@
 use Rattle.std.proofs.Common.{◌≡◌, ◌≢◌, arith, refl, Option, Result, Ok, Err, Some, None}
 use Rattle.url.specs.Parts.{Parts}
 use Rattle.cookie_raw.specs.Raw.{Raw}
-use Rattle.cookie_raw.specs.declared.parse.RawCookieParseError.{RawCookieParseError}
+use Rattle.cookie_raw.specs.declared.error.RawCookieParseError.{RawCookieParseError}
 use Rattle.cookie_parts.specs.Cookie.{early}
 use Rattle.cookie_parts.specs.declared.cookie_error.CookieError.{CookieError}
 use Rattle.cookie_parts.specs.declared.cookie_error.CookieError.TheVariants.{Memory}

@@ -13,18 +13,18 @@ ghost use Rattle.cookie_lookup.specs.SearchView.{domains_found, paths_found};
 ghost use Rattle.cookie_lookup.specs.Candidates.{most_domains, most_paths};
 ghost use Rattle.cookie_rows.specs.Building.{Builds, FailsFirst, ReachesNewRow};
 ghost use Rattle.cookie_laws.specs.Given.{given};
-ghost use Rattle.cookie_laws.specs.Rows.{are_rows, if_unexpired, key_at, unexpired_rows, row_of};
+ghost use Rattle.cookie_laws.specs.Rows.{are_rows, if_unexpired, key_at, row_of};
 ghost use Rattle.cookie_core.specs.SecureIndexes.{Indexes};
 ghost use Rattle.cookie_laws.specs.Runs.{step, Clear, Insert, IsReply, Remove, Removed, Set, Stored, UnlessMemory};
 
-use crate::insertion::{accept, owned_cookie, owned_raw_cookie};
+use crate::insertion::{accept, owned_raw_cookie};
 use crate::secure::{SecureIndex, with_cookie};
 use cookie_laws::kept_by_calls;
 use cookie_lookup::Lookups;
 use cookie_parts::{Cookie, CookieError, CookieResult, Error, StoreAction};
 use cookie_psl::List;
 use cookie_raw::RawCookie;
-use cookie_rows::{EvictionOrder, HashKey, IterAny, IterUnexpired, Rows, StoreAlloc};
+use cookie_rows::{EvictionOrder, HashKey, Rows, StoreAlloc};
 use jiff::civil::DateTime;
 use std::alloc::{AllocError, Global};
 use std::marker::Model;
@@ -110,31 +110,6 @@ impl CookieStore {
         }
     }
 
-    /// Sets the public suffix list for later insertions. Cookies already stored are kept.
-    pub fn with_suffix_list(self, suffixes: List) -> CookieStore
-        ensures { result ≡ record self { suffixes = Some suffixes } }
-    {
-        CookieStore {
-            suffixes: Some(suffixes),
-            ..self
-        }
-    }
-
-    /// Limits each domain to `n` cookies, RFC 6265 6.1.
-    ///
-    /// Before a cookie is inserted into a domain that has `n` or more, cookies of that domain are
-    /// evicted until `n - 1` are left: first those that have expired, then the others, both in
-    /// creation order. Until then, cookies already stored are kept.
-    pub fn with_domain_limit(self, n: usize) -> CookieStore
-        requires { 1 ≤ n }
-        ensures { result ≡ record self { limit = Some n } }
-    {
-        CookieStore {
-            limit: Some(n),
-            ..self
-        }
-    }
-
     /// Builds a store from the cookies of an iterator, without a public suffix list or a limit.
     ///
     /// A cookie replaces an earlier one with the same domain, path and name. Expired cookies are
@@ -189,7 +164,7 @@ impl CookieStore {
         ensures early { (error : CookieError) → early (reading text.now) url.now ≡ Some error → result ≡ Err error }
         ensures memory { result ≡ Err Memory → early (reading text.now) url.now ≡ None }
     {
-        let created = owned_cookie(self.alloc, text, url, now);
+        let created = Cookie::parse_owned(self.alloc, text, url, now);
         self.insert_created(created, url, now)
     }
 
@@ -307,20 +282,6 @@ impl CookieStore {
         self.get(domain, path, name, now).is_some()
     }
 
-    /// Returns an iterator over all stored cookies, expired or not, in the store's order.
-    pub fn iter_any(&self) -> IterAny<'_>
-        ensures { result ≡ self.now.rows }
-    {
-        self.rows.iter()
-    }
-
-    /// Returns an iterator over the cookies that have not expired at `now`, in the store's order.
-    pub fn iter_unexpired(&self, now: DateTime) -> IterUnexpired<'_>
-        ensures { result ≡ unexpired_rows (moment_of now) self.now.rows }
-    {
-        self.rows.iter_unexpired(now)
-    }
-
     /// Removes and returns the cookie with this domain, path and name, expired or not.
     ///
     /// The others keep their order.
@@ -344,22 +305,6 @@ impl CookieStore {
         ensures removed { result + length self.new.rows ≡ length self.old.rows }
     {
         self.rows.remove_expired(now)
-    }
-
-    /// Makes the store's maps hash by `hash_key`, also those of a store that was built or loaded.
-    ///
-    /// The cookies are copied once. The key changes no result.
-    ///
-    /// # Errors
-    ///
-    /// `AllocError`: out of memory. The store keeps its key and its cookies. An empty store never
-    /// fails.
-    pub fn set_hash_key(&mut self, hash_key: HashKey) -> Result<(), AllocError>
-        ensures store { self.new ≡ self.old }
-        ensures memory { OnErr result (self.old.rows ≢ []) }
-    {
-        self.secure = None;
-        self.rows.set_hash_key(self.alloc, hash_key)
     }
 
     /// Removes all cookies. The public suffix list and the limit are kept.
@@ -439,20 +384,6 @@ impl CookieStore {
             limit: None,
             secure: None,
         }
-    }
-
-    /// Returns the public suffix list, if there is one.
-    pub fn suffix_list(&self) -> Option<&List>
-        ensures { option_copied result ≡ self.now.suffixes }
-    {
-        self.suffixes.as_ref()
-    }
-
-    /// Returns how many cookies a domain may have, if that is limited.
-    pub fn domain_limit(&self) -> Option<usize>
-        ensures { result ≡ self.now.limit }
-    {
-        self.limit
     }
 
     /// Returns the allocator of the store.

@@ -2,8 +2,7 @@
 ghost use Rattle.std.specs.Prelude.{◌≡◌, ◌≢◌, ℕ, true, if◌then◌else◌, Option, Err, Ok, Some, IfErr, IfOk, IfSome, IsTrue, OnErr, OnOk};
 ghost use Rattle.std.specs.Option.{option_copied};
 ghost use Rattle.cookie_words.specs.Moments.{moment_of};
-ghost use Rattle.cookie_raw.specs.Reading.{reading};
-ghost use Rattle.cookie_parts.specs.Cookie.{cookie_from_header, cookie_of, early, early_error};
+ghost use Rattle.cookie_parts.specs.Cookie.{cookie_of, early_error};
 ghost use Rattle.cookie_parts.specs.Domain.{domain_text, host_is_identical, text_if_any, HostOnly};
 ghost use Rattle.cookie_parts.specs.Outcomes.{ReturnsOrMemory};
 ghost use Rattle.cookie_parts.specs.Views.{domain_value};
@@ -78,32 +77,6 @@ impl CookieStore {
     }
 }
 
-fn owned(alloc: Global, cookie: Cookie<'_>) -> CookieResult<'static>
-    ensures { ReturnsOrMemory (λ cookie. cookie) result (Ok cookie.entry) }
-{
-    match cookie.into_owned(alloc) {
-        Ok(cookie) => Ok(cookie),
-        Err(_) => Err(CookieError::Memory),
-    }
-}
-
-/// Parses a `Set-Cookie` header value into a cookie that borrows nothing.
-pub(crate) fn owned_cookie(
-    alloc: Global,
-    text: &str,
-    url: &Url,
-    now: DateTime,
-) -> CookieResult<'static>
-    ensures value { ReturnsOrMemory (λ cookie. cookie) result (cookie_from_header text.now url.now (moment_of now)) }
-    ensures early { (error : CookieError) → early (reading text.now) url.now ≡ Some error → result ≡ Err error }
-{
-    // A `?` would move the cookie once more.
-    match Cookie::parse(alloc, text, url, now) {
-        Ok(cookie) => owned(alloc, cookie),
-        Err(error) => Err(error),
-    }
-}
-
 /// Makes the cookie of a raw cookie, borrowing nothing.
 pub(crate) fn owned_raw_cookie(
     alloc: Global,
@@ -114,7 +87,10 @@ pub(crate) fn owned_raw_cookie(
     ensures value { ReturnsOrMemory (λ cookie. cookie) result (cookie_of raw.now url.now (moment_of now)) }
     ensures early { (error : CookieError) → early_error raw.now url.now ≡ Some error → result ≡ Err error }
 {
-    owned(alloc, Cookie::try_from_raw_cookie(alloc, raw, url, now)?)
+    match Cookie::try_from_raw_cookie(alloc, raw, url, now)?.into_owned(alloc) {
+        Ok(cookie) => Ok(cookie),
+        Err(_) => Err(CookieError::Memory),
+    }
 }
 
 // The domain as a host-only domain.

@@ -5,9 +5,11 @@
 
 mod as_store;
 mod call;
+mod configuration;
 mod cookie_store;
 mod header;
 mod insertion;
+mod iteration;
 mod requests;
 mod response;
 mod secure;

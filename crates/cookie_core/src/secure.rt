@@ -109,7 +109,7 @@ pub(crate) fn with_cookie(
 fn is_new_key(rows: &Rows, cookie: &Cookie<'static>) -> bool
     ensures { result ≡ (is_secure_only cookie.now.raw && not (is_secure_stored (key_of cookie.now) rows.now.rows)) }
 {
-    cookie.raw().is_secure() && !is_secure_stored(rows, cookie)
+    cookie.is_secure() && !is_secure_stored(rows, cookie)
 }
 
 // Whether the row of the cookie's key is Secure.
@@ -117,7 +117,7 @@ fn is_secure_stored(rows: &Rows, cookie: &Cookie<'static>) -> bool
     ensures { result ≡ is_secure_stored (key_of cookie.now) rows.now.rows }
 {
     match rows.row_of(cookie) {
-        Some(row) => row.raw().is_secure(),
+        Some(row) => row.is_secure(),
         None => false,
     }
 }
@@ -140,7 +140,7 @@ fn secure_keys(alloc: Global, rows: &Rows) -> Result<SecureKeys, AllocError>
     let hash_key = rows.hash_key();
     let mut keys = SecureKeys::new(StoreAlloc { alloc, hash_key });
     for row in rows.iter() {
-        if row.raw().is_secure() {
+        if row.is_secure() {
             keys.add(row)?;
         }
     }
@@ -183,7 +183,7 @@ fn is_overlaid(cookie: &Cookie<'static>, now: DateTime, row: &Cookie<'static>) -
     ensures { result ≡ is_overlaid cookie.now (moment_of now) row.now }
 {
     !row.is_expired(now)
-        && row.raw().is_secure()
+        && row.is_secure()
         && row.name() == cookie.name()
         && are_related(row.domain.as_str(), cookie.domain.as_str())
         && cookie_path::covers(

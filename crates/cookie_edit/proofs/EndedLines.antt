@@ -1,14 +1,14 @@
 -- The lines of a file with their line ends.
 use Rattle.std.proofs.Common.{◌≡◌, ◌≢◌, ℕ, suc, ◌<◌, ◌⊎◌, get_or, length, arith, unwrap_or, append_assoc, Bool, true, false, not, if◌then◌else◌, List, [], ◌∷◌, ◌++◌, filter, refl, sym, ap, subst, ◌∙◌, inl, inr, ⊎_elim, append-nil, Option, Some, None}
 use Rattle.std.specs.Prelude.{⊤}
-use Rattle.std.specs.List.{concat, cons_option, onto_first}
+use Rattle.std.specs.Char.{is_newline}
+use Rattle.std.specs.List.{concat, cons_option, list_any, onto_first}
 use Rattle.std.proofs.lemmas.Bool.{cases_Bool, cond-false, cond-true, ne_eqb, not_from_false, not_from_true}
 use Rattle.cookie_parts.specs.Cookie.{Row}
 use Rattle.cookie_parts.specs.Hosts.{passes}
 use Rattle.cookie_netscape.specs.Files.{cookie_of_line, well_formed_rows}
-use Rattle.cookie_netscape.specs.Lines.{content_cookie, line_cookie}
-use Rattle.std.specs.List.{list_any}
-use Rattle.cookie_edit.specs.Edits.{ended_lines, is_feed, is_named, other_lines, put_line_in, with_line}
+use Rattle.cookie_netscape.specs.Lines.{content_cookie, fields_cookie, line_cookie}
+use Rattle.cookie_edit.specs.Edits.{ended_lines, is_named, other_lines, put_line_in, with_line}
 
 -- the first line with one byte more joins to the same bytes
 first_longer : (b : ℕ) (lines : List (List ℕ)) → concat (onto_first b lines) ≡ b ∷ concat lines
@@ -21,19 +21,19 @@ joined [] = refl
 joined (b ∷ rest) =
     ⊎_elim (λ feed. ap concat (cond-true _ _ _ feed) ∙ ap (λ more. b ∷ more) (joined rest))
     (λ other. ap concat (cond-false _ _ _ other) ∙ first_longer b (ended_lines rest) ∙ ap (λ more. b ∷ more) (joined rest))
-    (cases_Bool (is_feed b))
+    (cases_Bool (is_newline b))
 
 -- the line ends in LF, and has no other
 abbrev pub IsEnded : List ℕ → Type 0
 IsEnded [] = ⊥
-IsEnded (b ∷ []) = is_feed b ≡ true
-IsEnded (b ∷ c ∷ line) = (is_feed b ≡ false) × IsEnded (c ∷ line)
+IsEnded (b ∷ []) = is_newline b ≡ true
+IsEnded (b ∷ c ∷ line) = (is_newline b ≡ false) × IsEnded (c ∷ line)
 
 -- the line has bytes, and no LF
 abbrev pub IsPlain : List ℕ → Type 0
 IsPlain [] = ⊥
-IsPlain (b ∷ []) = is_feed b ≡ false
-IsPlain (b ∷ c ∷ line) = (is_feed b ≡ false) × IsPlain (c ∷ line)
+IsPlain (b ∷ []) = is_newline b ≡ false
+IsPlain (b ∷ c ∷ line) = (is_newline b ≡ false) × IsPlain (c ∷ line)
 
 -- each of the lines ends in LF, but for the last one, which may have none
 abbrev pub AreEnded : List (List ℕ) → Type 0
@@ -62,15 +62,15 @@ lines_back (line ∷ more) ended =
     ended.0
 
 -- a byte before a line that is no LF
-ended_longer : (b : ℕ) (line : List ℕ) → is_feed b ≡ false → IsEnded line → IsEnded (b ∷ line)
+pub ended_longer : (b : ℕ) (line : List ℕ) → is_newline b ≡ false → IsEnded line → IsEnded (b ∷ line)
 ended_longer b [] other ended = absurd ended
 ended_longer b (c ∷ line) other ended = (other, ended)
 
-plain_longer : (b : ℕ) (line : List ℕ) → is_feed b ≡ false → IsPlain line → IsPlain (b ∷ line)
+plain_longer : (b : ℕ) (line : List ℕ) → is_newline b ≡ false → IsPlain line → IsPlain (b ∷ line)
 plain_longer b [] other plain = absurd plain
 plain_longer b (c ∷ line) other plain = (other, plain)
 
-first_ended : (b : ℕ) (lines : List (List ℕ)) → is_feed b ≡ false → AreEnded lines → AreEnded (onto_first b lines)
+first_ended : (b : ℕ) (lines : List (List ℕ)) → is_newline b ≡ false → AreEnded lines → AreEnded (onto_first b lines)
 first_ended b [] other ended = (inr (other, refl), tt)
 first_ended b (line ∷ more) other ended =
     (⊎_elim (λ first. inl (ended_longer b line other first)) (λ last. inr (plain_longer b line other last.0, last.1)) ended.0, ended.1)
@@ -81,7 +81,7 @@ lines_are_ended [] = tt
 lines_are_ended (b ∷ rest) =
     ⊎_elim (λ feed. subst AreEnded (sym (cond-true _ _ _ feed)) (inl feed, lines_are_ended rest))
     (λ other. subst AreEnded (sym (cond-false _ _ _ other)) (first_ended b (ended_lines rest) other (lines_are_ended rest)))
-    (cases_Bool (is_feed b))
+    (cases_Bool (is_newline b))
 
 -- some of the lines end so too
 pub some_are_ended : (keeps : List ℕ → Bool) (lines : List (List ℕ)) → AreEnded lines → AreEnded (filter keeps lines)
@@ -125,7 +125,7 @@ later_has_none : (b : ℕ) (text : List ℕ) → HasNoFeed (b ∷ text) → HasN
 later_has_none b text none i within = none (suc i) (omega (arith, within))
 
 -- the first byte is no LF
-first_is_none : (b : ℕ) (text : List ℕ) → HasNoFeed (b ∷ text) → is_feed b ≡ false
+first_is_none : (b : ℕ) (text : List ℕ) → HasNoFeed (b ∷ text) → is_newline b ≡ false
 first_is_none b text none = ne_eqb b 10 (none 0 (omega arith))
 
 -- what precedes LF is the first line
@@ -248,8 +248,8 @@ next_replaced ends names new_line missing edited line after rest total new is no
     ∙ so_far
 
 -- an empty line has no cookie
-empty_line : cookie_of_line [] ≡ None
-unfolding content_cookie
+pub empty_line : cookie_of_line [] ≡ None
+unfolding content_cookie fields_cookie
 empty_line = refl
 
 -- a last line with the new one

@@ -1,1 +1,3 @@
 pub mod EndedLines
+pub mod ReadAlike
+pub mod SetLines

@@ -1,23 +1,20 @@
 -- Edits of a `cookies.txt` file. A line has its line end here; the last one may have none.
-use Rattle.std.specs.Prelude.{ℕ, ◌==◌, Bool, false, not, ◌&&◌, ◌||◌, List, [], ◌∷◌, ◌++◌, codes, filter, length, nat_eq, is_some, Option, Some, None, if◌then◌else◌}
+use Rattle.std.specs.Prelude.{ℕ, ◌==◌, Bool, not, ◌||◌, List, [], ◌∷◌, ◌++◌, codes, filter, length, nat_eq, is_some, if◌then◌else◌}
+use Rattle.std.specs.Char.{is_newline}
 use Rattle.std.specs.List.{before_first, concat, ends_with, list_any, onto_first}
 use Rattle.cookie_words.specs.Texts.{pieces}
 use Rattle.cookie_parts.specs.Cookie.{Row}
 use Rattle.cookie_parts.specs.Hosts.{passes}
 use Rattle.cookie_netscape.specs.Files.{cookie_of_line, has_empty_expiry}
-use Rattle.cookie_netscape.specs.Written.{line_in}
+use Rattle.cookie_netscape.specs.Written.{as_written, line_in}
 use Rattle.cookie_netscape.specs.declared.writing.SessionExpiry.{SessionExpiry}
 use Rattle.cookie_netscape.specs.declared.writing.SessionExpiry.TheVariants.{Zero, Empty}
 use Rattle.cookie_laws.specs.Rows.{has_key, key_of, row_of}
 
--- the byte is LF
-abbrev pub is_feed : ℕ → Bool
-is_feed b = b == 10
-
 -- the lines of a file, each with its line end
 abbrev pub ended_lines : List ℕ → List (List ℕ)
 ended_lines [] = []
-ended_lines (b ∷ rest) = if is_feed b then (b ∷ []) ∷ ended_lines rest else onto_first b (ended_lines rest)
+ended_lines (b ∷ rest) = if is_newline b then (b ∷ []) ∷ ended_lines rest else onto_first b (ended_lines rest)
 
 -- the line is that of a cookie that passes the test
 abbrev pub is_named : (Row → Bool) → List ℕ → Bool
@@ -37,7 +34,7 @@ retained_text rows text = concat (other_lines (is_gone rows) (ended_lines text))
 
 -- the line end of a file: CRLF if its first line has it, else LF
 abbrev pub line_end : List ℕ → List ℕ
-line_end text = if ends_with nat_eq (before_first is_feed text) (codes "\r") then 13 ∷ 10 ∷ [] else 10 ∷ []
+line_end text = if ends_with nat_eq (before_first is_newline text) (codes "\r") then 13 ∷ 10 ∷ [] else 10 ∷ []
 
 -- what a session cookie has for its expiry in a file
 abbrev pub session_expiry : List ℕ → SessionExpiry
@@ -51,17 +48,32 @@ new_line text cookie = line_in (session_expiry text) cookie ++ line_end text
 abbrev pub missing_end : List ℕ → List ℕ
 missing_end text = if (length text == 0) || ends_with nat_eq text (codes "\n") then [] else line_end text
 
--- the lines with a new one in place of the first that is named, and without the others that are
+-- a line of the file is that of a cookie that passes the test
+abbrev pub has_named_line : (Row → Bool) → List ℕ → Bool
+has_named_line names text = list_any (is_named names) (ended_lines text)
+
+-- the lines with a new line in place of the first one that is named, and without the others that are
 abbrev pub with_line : (Row → Bool) → List ℕ → List (List ℕ) → List (List ℕ)
 with_line names new [] = []
 with_line names new (line ∷ more) =
     if is_named names line then new ∷ other_lines names more else line ∷ with_line names new more
 
--- the same of a file; after its last line, which ends so, if no line is named
+-- the file with a new line in place of the lines that are named, or after its last line if none is; `missing` is the line end that
+-- the last line lacks
 abbrev pub put_line_in : (Row → Bool) → List ℕ → List ℕ → List ℕ → List ℕ
 put_line_in names new missing text =
-    if list_any (is_named names) (ended_lines text) then concat (with_line names new (ended_lines text)) else text ++ missing ++ new
+    if has_named_line names text then concat (with_line names new (ended_lines text)) else text ++ missing ++ new
 
 -- the file with the line of the cookie in place of the lines that it has, or else after the last line
 abbrev pub put_text : List ℕ → Row → List ℕ
 put_text text cookie = put_line_in (has_key (key_of cookie)) (new_line text cookie) (missing_end text) text
+
+-- the rows with a new row in place of the first one that passes the test, and without the others that do; at the end if none does
+abbrev pub with_row : (Row → Bool) → Row → List Row → List Row
+with_row names new [] = new ∷ []
+with_row names new (row ∷ more) =
+    if names row then new ∷ filter (λ other. not (names other)) more else row ∷ with_row names new more
+
+-- the row has the key of the cookie, or the key that the cookie's line says, with the domain in lower case
+abbrev pub is_set_by : Row → Row → Bool
+is_set_by cookie row = has_key (key_of cookie) row || has_key (key_of (as_written cookie)) row

@@ -1,13 +1,14 @@
 //! Writing the line of a cookie.
-ghost use Rattle.std.specs.Prelude.{◌≡◌, ◌++◌, IfErr, IfOk, OnOk, IsTrue, false, nat_eq, string_bytes, ◌⊎◌};
-ghost use Rattle.std.specs.List.{before_first, concat, ends_with, list_any};
+ghost use Rattle.std.specs.Prelude.{◌≡◌, IfErr, IfOk, OnOk, IsTrue, false, nat_eq, string_bytes, ◌⊎◌};
+ghost use Rattle.std.specs.Char.{is_newline};
+ghost use Rattle.std.specs.List.{before_first, ends_with, list_any};
 ghost use Rattle.cookie_words.specs.Texts.{pieces};
 ghost use Rattle.cookie_netscape.specs.Files.{has_empty_expiry};
 ghost use Rattle.cookie_netscape.specs.Written.{is_representable};
 ghost use Rattle.cookie_laws.specs.Rows.{has_key, key_of};
-ghost use Rattle.cookie_edit.specs.Edits.{ended_lines, is_feed, is_named, line_end, missing_end, new_line, other_lines, put_text, session_expiry};
+ghost use Rattle.cookie_edit.specs.Edits.{line_end, missing_end, new_line, put_text, session_expiry};
 
-use crate::lines::cookie_of_line;
+use crate::lines::{NamesCookies, is_named, push_others};
 use cookie_netscape::laws::line_reads_back;
 use cookie_netscape::{
     NetscapeError, SessionExpiry, has_empty_expiry, is_representable, push_line,
@@ -49,7 +50,7 @@ fn edited(alloc: Global, text: &str, cookie: &Cookie<'_>) -> Result<String, Allo
     let mut edited = String::new(alloc);
     let mut rest = text;
     while let Some((old, after)) = rest.split_once('\n') {
-        if is_line_of(alloc, old, cookie)? {
+        if is_named(alloc, old, cookie)? {
             edited.push_str(line.as_str())?;
             push_others(&mut edited, after, cookie)?;
             return Ok(edited);
@@ -58,7 +59,7 @@ fn edited(alloc: Global, text: &str, cookie: &Cookie<'_>) -> Result<String, Allo
         edited.push('\n')?;
         rest = after;
     }
-    if !is_line_of(alloc, rest, cookie)? {
+    if !is_named(alloc, rest, cookie)? {
         edited.push_str(rest)?;
         edited.push_str(missing_end(text))?;
     }
@@ -66,26 +67,15 @@ fn edited(alloc: Global, text: &str, cookie: &Cookie<'_>) -> Result<String, Allo
     Ok(edited)
 }
 
-// Appends the lines but for those of the cookie.
-fn push_others(edited: &mut String, lines: &str, cookie: &Cookie<'_>) -> Result<(), AllocError>
-    ensures { OnOk result (string_bytes edited.new ≡ string_bytes edited.old
-        ++ concat (other_lines (has_key (key_of cookie.now)) (ended_lines lines.now))) }
-{
-    // for the checker: a line end changes no cookie
-    line_reads_back();
-    let alloc = *edited.allocator();
-    let mut rest = lines;
-    while let Some((line, after)) = rest.split_once('\n') {
-        if !is_line_of(alloc, line, cookie)? {
-            edited.push_str(line)?;
-            edited.push('\n')?;
-        }
-        rest = after;
+// The cookies with the domain, path and name of this one.
+impl<'a> NamesCookies for Cookie<'a> {
+    ghost names = { λ cookie. has_key (key_of cookie) };
+
+    fn names_cookie(&self, cookie: &Cookie<'_>) -> bool {
+        self.domain.as_str() == cookie.domain.as_str()
+            && self.path.as_str() == cookie.path.as_str()
+            && self.name() == cookie.name()
     }
-    if !is_line_of(alloc, rest, cookie)? {
-        edited.push_str(rest)?;
-    }
-    Ok(())
 }
 
 // The line of the cookie, with its line end.
@@ -96,20 +86,6 @@ fn new_line(alloc: Global, text: &str, cookie: &Cookie<'_>) -> Result<String, Al
     push_line(&mut line, cookie, session_expiry(text))?;
     line.push_str(line_end(text))?;
     Ok(line)
-}
-
-// Whether the line is that of a cookie with the domain, path and name of this one.
-fn is_line_of(alloc: Global, line: &str, cookie: &Cookie<'_>) -> Result<bool, AllocError>
-    ensures { IfOk result (λ named. named ≡ is_named (has_key (key_of cookie.now)) line.now) }
-{
-    match cookie_of_line(alloc, line)? {
-        Some(old) => Ok(
-            cookie.domain.as_str() == old.domain.as_str()
-                && cookie.path.as_str() == old.path.as_str()
-                && cookie.name() == old.name(),
-        ),
-        None => Ok(false),
-    }
 }
 
 // What a session cookie has for its expiry in the file.
@@ -148,7 +124,7 @@ fn line_end(text: &str) -> &'static str
 }
 
 fn first_line(text: &str) -> &str
-    ensures { result.now ≡ before_first is_feed text.now }
+    ensures { result.now ≡ before_first is_newline text.now }
 {
     match text.split_once('\n') {
         Some((first, _)) => first,

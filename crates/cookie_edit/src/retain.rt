@@ -1,10 +1,10 @@
 //! Removing the lines of cookies.
 ghost use Rattle.std.specs.Prelude.{◌≡◌, IfOk, string_bytes};
-ghost use Rattle.cookie_edit.specs.Edits.{is_gone, is_named, retained_text};
+ghost use Rattle.cookie_edit.specs.Edits.{is_gone, retained_text};
 
-use crate::lines::cookie_of_line;
+use crate::lines::{NamesCookies, push_others};
 use cookie_core::CookieStore;
-use cookie_netscape::laws::line_reads_back;
+use cookie_parts::Cookie;
 use std::alloc::{AllocError, Global};
 
 /// Returns a `cookies.txt` file without the lines of the cookies that the store does not have,
@@ -15,33 +15,16 @@ use std::alloc::{AllocError, Global};
 pub fn retain_lines(alloc: Global, text: &str, store: &CookieStore) -> Result<String, AllocError>
     ensures { IfOk result (λ edited. string_bytes edited ≡ retained_text store.now.rows text.now) }
 {
-    // for the checker: a line end changes no cookie
-    line_reads_back();
     let mut edited = String::new(alloc);
-    let mut rest = text;
-    while let Some((line, after)) = rest.split_once('\n') {
-        if !is_gone(alloc, line, store)? {
-            edited.push_str(line)?;
-            edited.push('\n')?;
-        }
-        rest = after;
-    }
-    if !is_gone(alloc, rest, store)? {
-        edited.push_str(rest)?;
-    }
+    push_others(&mut edited, text, store)?;
     Ok(edited)
 }
 
-// Whether the line is that of a cookie that the store does not have.
-fn is_gone(alloc: Global, line: &str, store: &CookieStore) -> Result<bool, AllocError>
-    ensures { IfOk result (λ gone. gone ≡ is_named (is_gone store.now.rows) line.now) }
-{
-    match cookie_of_line(alloc, line)? {
-        Some(cookie) => Ok(!store.contains_any(
-            cookie.domain.as_str(),
-            cookie.path.as_str(),
-            cookie.name(),
-        )),
-        None => Ok(false),
+// The cookies that the store does not have.
+impl NamesCookies for CookieStore {
+    ghost names = { λ store. is_gone store.rows };
+
+    fn names_cookie(&self, cookie: &Cookie<'_>) -> bool {
+        !self.contains_any(cookie.domain.as_str(), cookie.path.as_str(), cookie.name())
     }
 }

@@ -29,10 +29,10 @@ impl fmt::Display for SavedError {
 
     fn fmt<W: fmt::Write>(&self, f: &mut fmt::Formatter<W>) -> fmt::Result {
         f.write_str(match self {
-            SavedError::Json => "a text is not JSON",
-            SavedError::Shape => "a value has not the shape of a saved cookie",
-            SavedError::Ron => "a text is not a list in RON",
-            SavedError::Moment => "a text is no moment, or a moment is before the year 0",
+            SavedError::Json => "the input is not JSON",
+            SavedError::Shape => "a value is not a saved cookie",
+            SavedError::Ron => "the input is not a list in RON",
+            SavedError::Moment => "an expiry is not a valid time, or is before the year 0",
             SavedError::Memory => "out of memory",
         })
     }

@@ -60,8 +60,8 @@ impl<'a> RowFilter<'a> {
     {
         self.is_for(&cookie.domain)
             && !cookie.is_expired(self.time)
-            && (!cookie.raw().is_secure() || is_secure(self.url))
-            && (!cookie.raw().is_http_only() || is_http_scheme(self.url))
+            && (!cookie.is_secure() || is_secure(self.url))
+            && (!cookie.is_http_only() || is_http_scheme(self.url))
     }
 
     // Whether a domain of this kind matches the host.

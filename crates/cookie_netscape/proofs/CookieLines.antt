@@ -9,10 +9,11 @@ use Rattle.cookie_raw.specs.CookieText.{flag}
 use Rattle.cookie_parts.specs.Cookie.{Row, is_http_only, is_secure_only}
 use Rattle.cookie_parts.specs.Domain.{DomainValue, HostOnly, Suffix, NotPresent, Empty as EmptyDomain, domain_text}
 use Rattle.cookie_netscape.specs.HostFields.{written_host}
-use Rattle.cookie_netscape.specs.Lines.{content, content_cookie, cookie_from, is_domain_field, is_skipped, line_cookie}
+use Rattle.cookie_netscape.specs.Lines.{content, content_cookie, cookie_from, fields_cookie, is_domain_field, is_skipped, line_cookie}
 use Rattle.cookie_netscape.specs.Written.{as_written, domain_field, expiry_field, flag_text, has_subdomains, is_representable, line_in}
 use Rattle.cookie_netscape.specs.declared.writing.SessionExpiry.{SessionExpiry}
 use Rattle.cookie_netscape.proofs.FieldsBack.{cookie_back, fields_read, first_byte, first_is_field, fits_line, last_fields_read, middle_are_fields, middle_fields}
+use Rattle.cookie_netscape.proofs.HeaderLines.{by_fields}
 use Rattle.cookie_netscape.proofs.JoinedFields.{IsField, Lacks, field_lacks, joined_lacks}
 use Rattle.cookie_netscape.proofs.WholeLines.{IsNoSpace, empty_value, last_byte, last_is_no_space, last_of_second, no_space, some_value}
 
@@ -62,8 +63,8 @@ no_prefix b rest hash = and_left _ _ (differs b 35 hash)
 -- a cookie's fields read back, with `#HttpOnly_` before those of an HttpOnly cookie
 prefixed_line : (is_http_only : Bool) (domain more : List ℕ) (row : Row) → BeginsLine domain
     → cookie_from is_http_only (domain ++ more) ≡ Some row
-    → content_cookie (flag (codes "#HttpOnly_") is_http_only ++ (domain ++ more)) ≡ Some (Some row)
-unfolding content_cookie
+    → fields_cookie (flag (codes "#HttpOnly_") is_http_only ++ (domain ++ more)) ≡ Some (Some row)
+unfolding fields_cookie
 prefixed_line true domain more row begins cookie = ap (option_map Some) cookie
 prefixed_line false domain more row begins cookie =
     let same : domain ++ more ≡ begins.first ∷ (begins.rest ++ more) = ap (λ text. text ++ more) begins.text_is in
@@ -146,9 +147,9 @@ pub line_back : (session : SessionExpiry) (row : Row) → is_representable row �
     → line_cookie (line_in session row) ≡ Some (Some (as_written row))
 line_back session row fits =
     ap content_cookie (content_of_line session row fits)
-    ∙ prefixed_line (is_http_only row.raw) (domain_field row.domain)
+    ∙ by_fields _ (Some (as_written row)) (prefixed_line (is_http_only row.raw) (domain_field row.domain)
     (9 ∷ join_with_byte 9 (middle_fields session row (last_fields_read row.raw.name row.raw.value)))
-    (as_written row) (domain_begins row.domain (fits_line row fits).host_is_field) (cookie_back session row fits)
+    (as_written row) (domain_begins row.domain (fits_line row fits).host_is_field) (cookie_back session row fits))
 
 -- `#HttpOnly_` has no control character
 prefix_is_field : (is_http_only : Bool) → IsField (flag (codes "#HttpOnly_") is_http_only)

@@ -1,5 +1,6 @@
 pub mod CookieLines
 pub mod FieldsBack
+pub mod HeaderLines
 pub mod HostTexts
 pub mod HostsBack
 pub mod JoinedFields

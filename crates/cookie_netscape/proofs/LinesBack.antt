@@ -8,7 +8,7 @@ use Rattle.std.proofs.lemmas.List.Splits.{length-slice_split}
 use Rattle.cookie_words.specs.Texts.{pieces}
 use Rattle.cookie_parts.specs.Cookie.{Row}
 use Rattle.cookie_netscape.specs.Files.{rows_in_file, rows_in_lines}
-use Rattle.cookie_netscape.specs.Lines.{content_cookie, line_cookie}
+use Rattle.cookie_netscape.specs.Lines.{content_cookie, fields_cookie, line_cookie}
 use Rattle.cookie_netscape.specs.Written.{as_written, header_line, is_representable, line_of, written_text}
 use Rattle.cookie_netscape.specs.declared.writing.SessionExpiry.TheVariants.{Zero}
 use Rattle.cookie_netscape.proofs.CookieLines.{line_back, line_is_not_empty, line_lacks}
@@ -58,7 +58,7 @@ header_is_line = record { is_not_empty = refl; has_no_return = refl; has_no_feed
 
 -- the first line of a file is skipped
 header_skipped : line_cookie header_line ≡ Some None
-unfolding content_cookie
+unfolding content_cookie fields_cookie
 header_skipped = refl
 
 -- a well-formed line before others adds its cookie, if it has one

@@ -6,7 +6,7 @@ use Rattle.cookie_words.specs.Steps.{◌>>=◌}
 use Rattle.cookie_words.specs.Texts.{pieces}
 use Rattle.cookie_parts.specs.Cookie.{Row}
 use Rattle.cookie_parts.specs.Hosts.{passes}
-use Rattle.cookie_netscape.specs.Lines.{content, fields_from, line_cookie}
+use Rattle.cookie_netscape.specs.Lines.{content, fields_cookie, fields_from, line_cookie}
 use Rattle.cookie_netscape.specs.declared.error.NetscapeError.{NetscapeError}
 use Rattle.cookie_netscape.specs.declared.error.NetscapeError.TheVariants.{BadLine, Unrepresentable, Io, NotUtf8, Memory}
 
@@ -26,10 +26,13 @@ rows_in_file text = rows_in_lines (lines text)
 abbrev pub cookie_of_line : List ℕ → Option Row
 cookie_of_line line = unwrap_or (line_cookie line) None
 
--- the line is that of a session cookie, and its expiry field is empty
+-- the line has the fields of a cookie
+abbrev pub has_fields : List ℕ → Bool
+has_fields line = is_some (unwrap_or (fields_cookie (content line)) None)
+
+-- the line has the fields of a session cookie, and its expiry field is empty
 abbrev pub has_empty_expiry : List ℕ → Bool
-has_empty_expiry line =
-    is_some (cookie_of_line line) && passes (λ fields. length fields.expiry == 0) (fields_from (pieces 9 (content line)))
+has_empty_expiry line = has_fields line && passes (λ fields. length fields.expiry == 0) (fields_from (pieces 9 (content line)))
 
 -- the cookies of the lines that are not malformed
 abbrev pub well_formed_rows : List (List ℕ) → List Row

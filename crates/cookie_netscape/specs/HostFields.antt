@@ -25,7 +25,7 @@ without_port host = if is_port (after_first is_colon host) then before_first is_
 abbrev pub gets_local : List ℕ → Bool
 gets_local host = str_eq_ignore_ascii_case host (codes "localhost") || starts_with nat_eq host (codes "[")
 
--- the string without an end of so many bytes
+-- the string without its last n bytes
 abbrev pub cut_by : ℕ → List ℕ → List ℕ
 cut_by n text = take (length text - n) text
 

@@ -1,19 +1,21 @@
 -- The cookie of a line of a `cookies.txt` file, Netscape's format as curl reads it.
-use Rattle.std.specs.Prelude.{ℕ, min, ◌-◌, ◌==◌, Bool, true, false, not, ◌&&◌, ◌||◌, List, [], ◌∷◌, length, map, drop, take, bytes_eq, codes, nat_eq, Option, Some, None, is_some, option_and_then, option_map, if◌then◌else◌}
+use Rattle.std.specs.Prelude.{ℕ, min, ◌-◌, ◌==◌, Bool, true, false, not, ◌&&◌, ◌||◌, List, [], ◌∷◌, length, map, drop, take, bytes_eq, codes, nat_eq, Option, Some, None, is_none, is_some, option_and_then, option_map, unwrap_or, if◌then◌else◌}
 use Rattle.std.specs.Char.{is_ascii_control, is_ascii_digit, is_ascii_whitespace, to_ascii_lowercase}
 use Rattle.std.specs.List.{after_first, before_first, ends_with, list_all, list_any, prefix_len, starts_with, suffix_len}
+use Rattle.std.specs.Option.{option_or}
+use Rattle.std.specs.Result.{result_ok}
 use Rattle.std.specs.Str.{str_eq_ignore_ascii_case}
 use Rattle.std.specs.Str.Parse.{digits_value}
 use Rattle.cookie_words.specs.Moments.{epoch}
 use Rattle.cookie_words.specs.Steps.{◌>>=◌}
 use Rattle.cookie_words.specs.Texts.{pieces, without_dot}
-use Rattle.cookie_raw.specs.Raw.{Raw, pair}
-use Rattle.cookie_raw.specs.Reading.{is_equals, is_semicolon, of_seconds}
-use Rattle.cookie_parts.specs.Cookie.{Row}
+use Rattle.cookie_raw.specs.Raw.{ExpiresValue, Raw, pair}
+use Rattle.cookie_raw.specs.Reading.{is_equals, is_semicolon, of_seconds, reading}
+use Rattle.cookie_parts.specs.Cookie.{Row, is_http_only, is_secure_only}
 use Rattle.cookie_parts.specs.Domain.{DomainValue, HostOnly, Suffix}
-use Rattle.cookie_parts.specs.Expiry.{Expiry, SessionEnd, expiry_of_max_age}
-use Rattle.cookie_parts.specs.Path.{from_attribute}
-use Rattle.cookie_netscape.specs.HostFields.{host_from, plain_host}
+use Rattle.cookie_parts.specs.Expiry.{Expiry, SessionEnd, expiry_of_expires, expiry_of_max_age}
+use Rattle.cookie_parts.specs.Path.{from_attribute, is_absolute}
+use Rattle.cookie_netscape.specs.HostFields.{host_from, is_colon, plain_host}
 
 -- the fields of a line
 pub record Fields : Type 0 where
@@ -196,11 +198,56 @@ content line =
 abbrev pub is_skipped : List ℕ → Bool
 is_skipped text = (length text == 0) || starts_with nat_eq text (codes "#") || starts_with nat_eq text (codes "$")
 
--- the cookie of what a line has; Some None if that is nothing or a comment, None if it is malformed
-unfoldable pub content_cookie : List ℕ → Option (Option Row)
-content_cookie text =
+-- the cookie of what a line has by its fields; Some None if that is nothing or a comment, None if these are no fields of a cookie
+unfoldable pub fields_cookie : List ℕ → Option (Option Row)
+fields_cookie text =
     if starts_with nat_eq text (codes "#HttpOnly_") then option_map Some (cookie_from true (drop 10 text))
     else (if is_skipped text then Some None else option_map Some (cookie_from false text))
+
+-- the header value behind `Set-Cookie:`, ignoring case
+unfoldable pub header_value : List ℕ → Option (List ℕ)
+header_value text =
+    if list_any is_colon text && str_eq_ignore_ascii_case (before_first is_colon text) (codes "Set-Cookie")
+    then Some (after_first is_colon text) else None
+
+-- the path of a Path attribute, without the quotation marks around it; `/` if it is missing or does not begin with `/`
+unfoldable pub header_path : Option (List ℕ) → List ℕ
+header_path attribute =
+    let path = path_from (unwrap_or attribute []) in
+    if is_absolute path then path else codes "/"
+
+-- the expiry of an Expires attribute; without one, a session cookie
+abbrev pub header_expiry : Option ExpiresValue → Expiry
+header_expiry attribute = unwrap_or (option_map expiry_of_expires attribute) SessionEnd
+
+-- the domain cookie of a header with this Domain attribute
+abbrev pub header_row : Raw → List ℕ → Row
+header_row raw domain = record {
+  raw = raw_of raw.name raw.value (is_secure_only raw) (is_http_only raw);
+  domain = Suffix (map to_ascii_lowercase (host_from domain));
+  path = from_attribute (header_path raw.path);
+  expires = header_expiry raw.expires;
+}
+
+-- the same, if its strings are those of a cookie that the format can represent
+abbrev pub if_header_fields : Raw → List ℕ → Option Row
+if_header_fields raw domain =
+    if are_fields (plain_host domain) (header_path raw.path) raw.name raw.value then Some (header_row raw domain) else None
+
+-- the cookie of a header that has a Domain attribute, and no Max-Age, since a file does not say from when that counts
+abbrev pub row_of_header : Raw → Option Row
+row_of_header raw = if is_none raw.max_age then option_and_then (if_header_fields raw) raw.domain else None
+
+-- the cookie of what begins with `Set-Cookie:`, a header
+unfoldable pub header_cookie : List ℕ → Option Row
+header_cookie text = do
+  value ← header_value text
+  raw ← result_ok (reading value)
+  row_of_header raw
+
+-- the cookie of what a line has, by its fields or else as a header; Some None if that is nothing or a comment, None if it is malformed
+unfoldable pub content_cookie : List ℕ → Option (Option Row)
+content_cookie text = option_or (fields_cookie text) (option_map Some (header_cookie text))
 
 -- the cookie of a line, with or without its line end; Some None if the line is blank or a comment, None if it is malformed
 abbrev pub line_cookie : List ℕ → Option (Option Row)

@@ -10,7 +10,7 @@ use Rattle.cookie_netscape.specs.declared.entry.Entry.{Entry}
 use Rattle.cookie_netscape.specs.declared.fields.Fields.{Fields}
 use Rattle.cookie_netscape.specs.declared.host.Host.{Host}
 use Rattle.cookie_netscape.specs.declared.reading.Line.{Line}
-use Rattle.cookie_netscape.specs.declared.reading.Line.TheVariants.{Cookie, Skipped, Malformed}
+use Rattle.cookie_netscape.specs.declared.reading.Line.TheVariants.{Cookie, Skipped, Other}
 
 -- the fields of a line as contracts see them
 abbrev pub fields_view : Fields → Line.Fields
@@ -37,8 +37,8 @@ entry_row entry = record {
   expires = expiry_value entry.expires;
 }
 
--- a line: the cookie of its entry, Some None if it is blank or a comment, None if it is malformed
+-- a line: the cookie of its entry, Some None if it is blank or a comment, None if it has no fields of a cookie
 abbrev pub line_view : Line → Option (Option Row)
 line_view (Cookie entry) = Some (Some (entry_row entry))
 line_view Skipped = Some None
-line_view Malformed = None
+line_view Other = None

@@ -16,6 +16,7 @@
 mod entry;
 mod error;
 mod fields;
+mod header;
 mod host;
 pub mod laws;
 mod reading;

@@ -1,38 +1,40 @@
 //! Reads the cookies of a file.
-ghost use Rattle.std.specs.Prelude.{◌≡◌, ◌==◌, IfErr, IfOk, Some, is_some, length, option_map};
+ghost use Rattle.std.specs.Prelude.{◌≡◌, ◌==◌, IfErr, IfOk, Some, length, option_map};
 ghost use Rattle.cookie_words.specs.Texts.{pieces};
 ghost use Rattle.cookie_parts.specs.Hosts.{passes};
-ghost use Rattle.cookie_netscape.specs.Files.{FailsAtLine, FailsToRead, cookie_of_line, has_empty_expiry, rows_in_file};
-ghost use Rattle.cookie_netscape.specs.Lines.{content, content_cookie, cookie_from, fields_from, line_cookie};
+ghost use Rattle.cookie_netscape.specs.Files.{FailsAtLine, FailsToRead, has_empty_expiry, has_fields, rows_in_file};
+ghost use Rattle.cookie_netscape.specs.Lines.{content, cookie_from, fields_cookie, fields_from, line_cookie};
 ghost use Rattle.cookie_netscape.specs.Views.{line_view};
 
 use crate::NetscapeError;
 use crate::entry::{Entry, read_entry};
 use crate::fields::split_fields;
+use crate::header::read_header;
 use cookie_parts::Cookie;
 use std::alloc::Global;
 
 /// What begins the line of an HttpOnly cookie.
 const HTTP_ONLY: &str = "#HttpOnly_";
 
-/// A line of a file.
+/// A line of a file, by its fields.
 #[derive(Clone, Copy)]
 enum Line<'a> {
     Cookie(Entry<'a>),
     // A blank line or a comment.
     Skipped,
-    Malformed,
+    // A header, or malformed.
+    Other,
 }
 
 /// Reads the cookies of a file, in the order of its lines.
 ///
 /// White space around a line (SP, HTAB and CR, for example) is dropped. Blank lines are skipped, and so are comments,
-/// which begin with `#` or `$`; the lines of HttpOnly cookies begin with `#HttpOnly_`. Any other line has seven fields,
-/// which HTAB separates:
+/// which begin with `#` or `$`; the lines of HttpOnly cookies begin with `#HttpOnly_`. Any other line is a header, or has
+/// seven fields, which HTAB separates:
 ///
 /// | field | |
 /// |---|---|
-/// | domain | one dot before it is dropped, and so is a port behind it; an IPv6 address has brackets or none; `.local` is dropped behind `localhost` and behind an IPv6 address in brackets; the rest is not empty, begins with neither a dot, `#` nor `$`, and is read in lower case (ASCII) |
+/// | domain | one dot before it is dropped, and so is a port behind it; an IPv6 address has brackets or none; `.local` is dropped behind `localhost` and behind an IPv6 address in brackets; the rest is not empty, begins with neither a dot, a space, `#` nor `$`, and is read in lower case (ASCII); otherwise it is not tested |
 /// | subdomains | TRUE for a domain cookie, FALSE for a host-only cookie, ignoring case |
 /// | path | without the quotation marks around it; a line may leave this field out, or empty, if it is `/` |
 /// | secure | TRUE or FALSE, ignoring case |
@@ -42,6 +44,10 @@ enum Line<'a> {
 ///
 /// No field has a control character. A cookie whose path does not begin with `/` matches no URL. A line that a byte
 /// order mark begins is malformed.
+///
+/// A line without such fields that begins with `Set-Cookie:`, ignoring case, is read as a header, as libcurl reads it:
+/// a domain cookie of its Domain attribute, with the path `/` if it has none that begins with `/`. It is malformed
+/// without Domain, since it names no host, and with Max-Age, since a file does not say from when that counts.
 ///
 /// # Errors
 ///
@@ -67,6 +73,7 @@ pub fn from_text(alloc: Global, text: &str) -> Result<Vec<Cookie<'static>>, Nets
 ///
 /// - `BadLine`: the line is malformed; the error has `number`.
 /// - `Memory`: out of memory for the cookie.
+#[tactic(auto, unfolding(crate::specs::Lines::content_cookie))]
 #[inline(always)]
 pub fn read_cookie(
     alloc: Global,
@@ -79,7 +86,10 @@ pub fn read_cookie(
     match read_line(line) {
         Line::Cookie(entry) => Ok(Some(entry.to_cookie(alloc)?)),
         Line::Skipped => Ok(None),
-        Line::Malformed => Err(NetscapeError::BadLine { line: number }),
+        Line::Other => match read_header(alloc, content(line))? {
+            Some(cookie) => Ok(Some(cookie)),
+            None => Err(NetscapeError::BadLine { line: number }),
+        },
     }
 }
 
@@ -87,11 +97,12 @@ pub fn read_cookie(
 pub fn has_empty_expiry(line: &str) -> bool
     ensures { result ≡ has_empty_expiry line.now }
 {
-    is_cookie(line) && is_expiry_empty(content(line))
+    has_fields(line) && is_expiry_empty(content(line))
 }
 
-fn is_cookie(line: &str) -> bool
-    ensures { result ≡ is_some (cookie_of_line line.now) }
+// Whether the line has the fields of a cookie.
+fn has_fields(line: &str) -> bool
+    ensures { result ≡ has_fields line.now }
 {
     matches!(read_line(line), Line::Cookie(_))
 }
@@ -105,9 +116,9 @@ fn is_expiry_empty(text: &str) -> bool
     }
 }
 
-// Reads a line.
+// Reads a line by its fields.
 fn read_line(line: &str) -> Line<'_>
-    ensures { line_view result ≡ line_cookie line.now }
+    ensures { line_view result ≡ fields_cookie (content line.now) }
 {
     read_content(content(line))
 }
@@ -119,10 +130,10 @@ fn content(line: &str) -> &str
     line.trim_ascii()
 }
 
-// Reads what a line has.
-#[tactic(auto, unfolding(crate::specs::Lines::content_cookie))]
+// Reads what a line has by its fields.
+#[tactic(auto, unfolding(crate::specs::Lines::fields_cookie))]
 fn read_content(text: &str) -> Line<'_>
-    ensures { line_view result ≡ content_cookie text.now }
+    ensures { line_view result ≡ fields_cookie text.now }
 {
     if let Some(fields) = text.strip_prefix(HTTP_ONLY) {
         return cookie_line(fields, true);
@@ -139,6 +150,6 @@ fn cookie_line(fields: &str, is_http_only: bool) -> Line<'_>
 {
     match read_entry(fields, is_http_only) {
         Some(entry) => Line::Cookie(entry),
-        None => Line::Malformed,
+        None => Line::Other,
     }
 }

@@ -82,10 +82,10 @@ pub fn push_line(
 ) -> Result<(), AllocError>
     ensures { OnOk result (string_bytes text.new ≡ string_bytes text.old ++ line_in session cookie.now) }
 {
-    push_if(text, "#HttpOnly_", cookie.raw().is_http_only())?;
+    push_if(text, "#HttpOnly_", cookie.is_http_only())?;
     push_domain(text, &cookie.domain)?;
     push_field(text, cookie.path.as_str())?;
-    push_field(text, flag_text(cookie.raw().is_secure()))?;
+    push_field(text, flag_text(cookie.is_secure()))?;
     push_expiry(text, cookie.expires, session)?;
     push_field(text, cookie.name())?;
     push_field(text, cookie.value())

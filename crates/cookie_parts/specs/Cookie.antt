@@ -8,7 +8,7 @@ use Rattle.cookie_words.specs.Texts.{without_dot}
 use Rattle.cookie_raw.specs.Raw.{Raw, ExpiresValue, At, pair}
 use Rattle.cookie_raw.specs.SameParts.{same_parts, same_parts_equiv}
 use Rattle.cookie_raw.specs.Reading.{reading}
-use Rattle.cookie_raw.specs.declared.parse.RawCookieParseError.{RawCookieParseError}
+use Rattle.cookie_raw.specs.declared.error.RawCookieParseError.{RawCookieParseError}
 use Rattle.cookie_parts.specs.Domain.{DomainValue, domain_matches, domain_from_attribute, same_domain_value, same_domain_value_equiv}
 use Rattle.cookie_parts.specs.Domain as Domain
 use Rattle.cookie_parts.specs.Expiry.{Expiry, AtUtc, SessionEnd, expiry_of, has_passed, same_expiry, same_expiry_equiv}

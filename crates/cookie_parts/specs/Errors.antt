@@ -30,7 +30,7 @@ store_error_text ErrorCase.Io = codes "a read or a write failed"
 store_error_text (ErrorCase.Saved fault) = saved_error_text fault
 store_error_text (ErrorCase.Other text) = string_bytes text
 store_error_text ErrorCase.Memory = codes "out of memory"
-store_error_text ErrorCase.NotUtf8 = codes "a text is not UTF-8"
+store_error_text ErrorCase.NotUtf8 = codes "the input is not UTF-8"
 
 -- the same if printed with a width or other options, which have no effect; not specified for `Idna`
 abbrev pub styled_error_text : Error → Option (List ℕ)

@@ -3,7 +3,7 @@ ghost use Rattle.std.specs.Prelude.{◌≡◌, ◌&&◌, false, is_none, true, E
 ghost use Rattle.std.specs.Option.{option_or};
 ghost use Rattle.cookie_words.specs.Moments.{moment_of};
 ghost use Rattle.cookie_raw.specs.Reading.{reading};
-ghost use Rattle.cookie_parts.specs.Cookie.{cookie_from_header, cookie_matches, cookie_of, domain_for, early, early_error, expired_row, is_expired, is_out_of_reach, is_persistent, to_raw, domain_attribute, expires_attribute, path_attribute, Row};
+ghost use Rattle.cookie_parts.specs.Cookie.{cookie_from_header, cookie_matches, cookie_of, domain_for, early, early_error, expired_row, is_expired, is_http_only, is_out_of_reach, is_persistent, is_secure_only, to_raw, domain_attribute, expires_attribute, path_attribute, Row};
 ghost use Rattle.cookie_parts.specs.Domain.{domain_from_attribute};
 ghost use Rattle.cookie_parts.specs.Expiry.{expiry_of};
 ghost use Rattle.cookie_parts.specs.Hosts.{host_of};
@@ -13,7 +13,7 @@ ghost use Rattle.cookie_parts.specs.Views.{domain_value, expiry_value};
 
 use crate::utils::{is_http_scheme, is_secure};
 use crate::{CookieDomain, CookieError, CookieExpiration, CookiePath, Error};
-use cookie_raw::{Expiration, RawCookie, RawCookieBuilder};
+use cookie_raw::{Expiration, RawCookie, RawCookieBuilder, SameSite};
 use cookie_words::epoch;
 use jiff::civil::DateTime;
 use std::alloc::{AllocError, Global};
@@ -72,9 +72,9 @@ impl<'a> Cookie<'a> {
     /// In the order in which they are checked:
     /// - `Parse`: `text` has no name-value pair, or the name is empty.
     /// - `NonHttpScheme`: the cookie is HttpOnly and `url`'s scheme does not begin with `http`.
+    /// - `NonRelativeScheme`: there is no Domain attribute, or an empty one, and `url` has no host.
     /// - `Parse`: the Domain attribute is not a valid domain name.
     /// - `DomainMismatch`: the Domain attribute does not domain-match the host of `url`.
-    /// - `NonRelativeScheme`: there is no Domain attribute, or an empty one, and `url` has no host.
     /// - `Memory`: out of memory. Never returned in place of the first `Parse`, `NonHttpScheme`, or
     ///   `NonRelativeScheme` without a Domain attribute.
     pub fn parse(alloc: Global, text: &'a str, url: &Url, now: DateTime) -> CookieResult<'a>
@@ -87,15 +87,39 @@ impl<'a> Cookie<'a> {
         }
     }
 
+    /// Parses as [`parse`](Self::parse) does, and returns a cookie that borrows nothing.
+    ///
+    /// # Errors
+    ///
+    /// Those of [`parse`](Self::parse). `Memory` also if the strings of the cookie cannot be copied.
+    pub fn parse_owned(
+        alloc: Global,
+        header_value: &str,
+        url: &Url,
+        now: DateTime,
+    ) -> CookieResult<'static>
+        ensures value { ReturnsOrMemory (λ cookie. cookie) result (cookie_from_header header_value.now url.now (moment_of now)) }
+        ensures early { (error : CookieError) → early (reading header_value.now) url.now ≡ Some error → result ≡ Err error }
+    {
+        // A `?` would move the cookie once more.
+        match Cookie::parse(alloc, header_value, url, now) {
+            Ok(cookie) => match cookie.into_owned(alloc) {
+                Ok(owned) => Ok(owned),
+                Err(_) => Err(CookieError::Memory),
+            },
+            Err(error) => Err(error),
+        }
+    }
+
     /// Makes a cookie from a raw cookie received from `url` at `now`, RFC 6265 5.3.
     ///
     /// # Errors
     ///
     /// In the order in which they are checked:
     /// - `NonHttpScheme`: the cookie is HttpOnly and `url`'s scheme does not begin with `http`.
+    /// - `NonRelativeScheme`: there is no Domain attribute, or an empty one, and `url` has no host.
     /// - `Parse`: the Domain attribute is not a valid domain name.
     /// - `DomainMismatch`: the Domain attribute does not domain-match the host of `url`.
-    /// - `NonRelativeScheme`: there is no Domain attribute, or an empty one, and `url` has no host.
     /// - `Memory`: out of memory. Never returned in place of `NonHttpScheme`, or of
     ///   `NonRelativeScheme` without a Domain attribute.
     #[tactic(auto, unfolding(crate::specs::Cookie::cookie_of))]
@@ -161,6 +185,27 @@ impl<'a> Cookie<'a> {
         ensures { result.now ≡ self.now.raw.value }
     {
         self.raw.value()
+    }
+
+    /// Returns whether the cookie is Secure, the secure-only-flag of RFC 6265 5.3.
+    pub fn is_secure(&self) -> bool
+        ensures { result ≡ is_secure_only self.now.raw }
+    {
+        self.raw.is_secure()
+    }
+
+    /// Returns whether the cookie is HttpOnly, the http-only-flag of RFC 6265 5.3.
+    pub fn is_http_only(&self) -> bool
+        ensures { result ≡ is_http_only self.now.raw }
+    {
+        self.raw.is_http_only()
+    }
+
+    /// Returns the SameSite attribute.
+    pub fn same_site(&self) -> Option<SameSite>
+        ensures { result ≡ self.now.raw.same_site }
+    {
+        self.raw.same_site()
     }
 
     /// Returns whether the cookie matches `url`, RFC 6265 5.4: domain, path, Secure and HttpOnly.

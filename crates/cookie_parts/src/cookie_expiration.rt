@@ -15,6 +15,8 @@ use jiff::SignedDuration;
 use jiff::civil::{DateTime, date};
 
 /// When a cookie expires, RFC 6265 5.3 step 3.
+///
+/// Expiries are equal if they are in the same second.
 #[derive(Clone, Copy, Debug)]
 pub enum CookieExpiration {
     /// A persistent cookie: it expires at this time, in UTC.

@@ -68,7 +68,7 @@ impl fmt::Display for Error {
             Error::Saved(fault) => fault.fmt(f),
             Error::Other(text) => f.write_str(text.as_str()),
             Error::Memory => f.write_str("out of memory"),
-            Error::NotUtf8 => f.write_str("a text is not UTF-8"),
+            Error::NotUtf8 => f.write_str("the input is not UTF-8"),
         }
     }
 }
@@ -142,5 +142,5 @@ impl<T: Drop> From<AllocFailed<T>> for Error {
     }
 }
 
-/// The result of such a call.
+/// The result of saving, loading or building a store, or of parsing a domain.
 pub type StoreResult<T> = Result<T, Error>;

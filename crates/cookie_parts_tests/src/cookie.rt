@@ -1,8 +1,8 @@
 //! Cookies of header values, and what they return.
-use crate::checks::{holds, is_equal, is_text};
+use crate::checks::{holds, is_equal, is_text, owned};
 use crate::parts::{Hosts, cookie_from, is_for, moment};
 use cookie_parts::{Cookie, CookieError};
-use cookie_raw::RawCookie;
+use cookie_raw::{RawCookie, SameSite};
 use jiff::civil::DateTime;
 use std::alloc::Global;
 use std::process::Abort;
@@ -283,6 +283,51 @@ fn is_same(rt: &impl Abort, alloc: Global, parsed: &Cookie<'_>, text: &str) {
 fn is_owned(rt: &impl Abort, alloc: Global, text: &str) {
     let owned = cookie(rt, alloc, text).into_owned(alloc);
     is_same(rt, alloc, &owned.expect(rt, "memory"), text);
+}
+
+// Whether a cookie is Secure, whether it is HttpOnly, and its SameSite attribute.
+type Attributes = (bool, bool, Option<SameSite>);
+
+// A header value, and the attributes of its cookie, or the error.
+const ATTRIBUTES: &[(&str, Result<Attributes, CookieError>)] = &[
+    (TEXT, Ok((true, true, None))),
+    ("a=1", Ok((false, false, None))),
+    (
+        "a=1; Secure; SameSite=None",
+        Ok((true, false, Some(SameSite::None))),
+    ),
+    (
+        "a=1; HttpOnly; SameSite=lax",
+        Ok((false, true, Some(SameSite::Lax))),
+    ),
+    ("a", Err(CookieError::Parse)),
+    ("a=1; Domain=b.com", Err(CookieError::DomainMismatch)),
+];
+
+// The attributes of the cookie of a header value, which is dropped before.
+fn attributes(
+    rt: &impl Abort,
+    alloc: Global,
+    text: &str,
+    now: DateTime,
+) -> Result<Attributes, CookieError> {
+    let url = Url::parse(alloc, "http://a.com/").expect(rt, "a URL");
+    let header_value = owned(rt, alloc, text);
+    let cookie = Cookie::parse_owned(alloc, header_value.as_str(), &url, now)?;
+    drop(header_value);
+    Ok((
+        cookie.is_secure(),
+        cookie.is_http_only(),
+        cookie.same_site(),
+    ))
+}
+
+#[test]
+fn owned_cookies_have_their_attributes(rt: HostRuntime) {
+    for row in ATTRIBUTES {
+        let result = attributes(&rt, rt.alloc(), row.0, DateTime::MIN);
+        is_equal(&rt, result, row.1, row);
+    }
 }
 
 // The cookie of a raw cookie received from http://a.com/ at `NOW`.

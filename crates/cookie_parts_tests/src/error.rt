@@ -57,15 +57,12 @@ fn cookie_errors_have_texts(rt: HostRuntime) {
 
 // The errors of saved cookies, and their messages.
 const SAVED: &[(SavedError, &str)] = &[
-    (SavedError::Json, "a text is not JSON"),
-    (
-        SavedError::Shape,
-        "a value has not the shape of a saved cookie",
-    ),
-    (SavedError::Ron, "a text is not a list in RON"),
+    (SavedError::Json, "the input is not JSON"),
+    (SavedError::Shape, "a value is not a saved cookie"),
+    (SavedError::Ron, "the input is not a list in RON"),
     (
         SavedError::Moment,
-        "a text is no moment, or a moment is before the year 0",
+        "an expiry is not a valid time, or is before the year 0",
     ),
     (SavedError::Memory, "out of memory"),
 ];
@@ -104,7 +101,7 @@ fn errors_have_texts(rt: HostRuntime) {
     let other = other(&rt, rt.alloc(), "no such row");
     has_message(&rt, rt.alloc(), other, "no such row");
     has_message(&rt, rt.alloc(), Error::Memory, "out of memory");
-    has_message(&rt, rt.alloc(), Error::NotUtf8, "a text is not UTF-8");
+    has_message(&rt, rt.alloc(), Error::NotUtf8, "the input is not UTF-8");
     let fault = IdnaErrors::from(idna::Errors::Invalid);
     is_written_at_any_width(&rt, rt.alloc(), &fault, "invalid domain name");
     has_message(&rt, rt.alloc(), Error::Idna(fault), "invalid domain name")

@@ -51,14 +51,14 @@ pub(crate) fn moment_of(rt: &impl Abort, fields: Option<Fields>) -> Option<DateT
         return None;
     };
     let moment = DateTime::new(year, month, day, hour, minute, second, nanoseconds).expect(
-        rt, "a moment",
+        rt, "a time",
     );
     Some(moment)
 }
 
 // Parses a time such as `2026-01-01T00:00:00`.
 pub(crate) fn moment(rt: &impl Abort, text: &str) -> DateTime {
-    text.parse::<DateTime>().expect(rt, "a moment")
+    text.parse::<DateTime>().expect(rt, "a time")
 }
 
 // The expiry at this time; `None` is a session cookie.

@@ -333,7 +333,7 @@ fn whole_cookie(rt: &impl Abort, alloc: Global) -> RawCookie<'static> {
 }
 
 fn expiring_at_the_end_of(rt: &impl Abort, alloc: Global, year: i16) -> RawCookie<'static> {
-    let end = DateTime::new(year, 12, 31, 0, 0, 0, 0).expect(rt, "a moment");
+    let end = DateTime::new(year, 12, 31, 0, 0, 0, 0).expect(rt, "a time");
     let builder = builder(rt, alloc, "a", "1");
     builder.expires(Expiration::DateTime(end)).build()
 }

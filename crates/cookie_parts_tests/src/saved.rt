@@ -60,7 +60,7 @@ const TEXTS: &[(Fields, Result<&str, SavedError>)] = &[
 ];
 
 fn is_written_as(rt: &impl Abort, alloc: Global, row: &(Fields, Result<&str, SavedError>)) {
-    let moment = moment_of(rt, Some(row.0)).expect(rt, "a moment");
+    let moment = moment_of(rt, Some(row.0)).expect(rt, "a time");
     is_text(rt, &moment_text(alloc, moment), row.1, row);
 }
 

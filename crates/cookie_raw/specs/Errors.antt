@@ -1,7 +1,7 @@
 -- The descriptions of errors.
 use Rattle.std.specs.Prelude.{ℕ, List, codes}
-use Rattle.cookie_raw.specs.declared.parse.RawCookieParseError.{RawCookieParseError}
-use Rattle.cookie_raw.specs.declared.parse.RawCookieParseError.TheVariants.{MissingPair, EmptyName}
+use Rattle.cookie_raw.specs.declared.error.RawCookieParseError.{RawCookieParseError}
+use Rattle.cookie_raw.specs.declared.error.RawCookieParseError.TheVariants.{MissingPair, EmptyName}
 
 -- the description of a parse error
 abbrev pub parse_error_text : RawCookieParseError → List ℕ

@@ -7,8 +7,8 @@ use Rattle.std.specs.Str.Parse.{digits_value}
 use Rattle.cookie_words.specs.Texts.{pieces, without_dot}
 use Rattle.cookie_raw.specs.CookieDate.{cookie_date}
 use Rattle.cookie_raw.specs.Raw.{Raw, ExpiresValue, At}
-use Rattle.cookie_raw.specs.declared.parse.RawCookieParseError.{RawCookieParseError}
-use Rattle.cookie_raw.specs.declared.parse.RawCookieParseError.TheVariants.{MissingPair, EmptyName}
+use Rattle.cookie_raw.specs.declared.error.RawCookieParseError.{RawCookieParseError}
+use Rattle.cookie_raw.specs.declared.error.RawCookieParseError.TheVariants.{MissingPair, EmptyName}
 use Rattle.cookie_raw.specs.declared.same_site.SameSite.{SameSite}
 use Rattle.cookie_raw.specs.declared.same_site.SameSite.TheVariants as same_site
 

@@ -1,29 +1,10 @@
-//! Cloning and comparing raw cookies.
+//! Comparing raw cookies.
 ghost use Rattle.std.specs.Prelude.{◌≡◌, option_map};
 ghost use Rattle.std.specs.Option.{option_eq};
 ghost use Rattle.cookie_raw.specs.SameParts.{same_attributes, same_expires, same_texts};
 ghost use Rattle.cookie_raw.specs.Views.{expires_value};
 
 use crate::{Expiration, RawCookie};
-use std::alloc::AllocError;
-
-impl<'a> Clone for RawCookie<'a> {
-    ghost is_clone = { λ cookie copy. copy ≡ cookie };
-
-    fn clone(&self) -> Result<RawCookie<'a>, AllocError> {
-        Ok(RawCookie {
-            name: self.name.clone()?,
-            value: self.value.clone()?,
-            domain: self.domain.clone()?,
-            path: self.path.clone()?,
-            secure: self.secure,
-            http_only: self.http_only,
-            same_site: self.same_site,
-            max_age: self.max_age,
-            expires: self.expires,
-        })
-    }
-}
 
 impl<'a> PartialEq for RawCookie<'a> {
     ghost use Rattle.cookie_raw.specs.SameParts.{same_parts, same_parts_per};

@@ -3,12 +3,12 @@
 
 mod attributes;
 mod builder;
-mod copies;
 mod date;
+mod equality;
+mod error;
 mod expiration;
 pub mod laws;
 mod max_age;
-mod parse;
 mod plain;
 mod printing;
 mod raw_cookie;
@@ -16,7 +16,7 @@ mod same_site;
 
 pub use builder::RawCookieBuilder;
 pub use date::read_date;
+pub use error::RawCookieParseError;
 pub use expiration::Expiration;
-pub use parse::RawCookieParseError;
 pub use raw_cookie::RawCookie;
 pub use same_site::SameSite;

@@ -52,6 +52,24 @@ impl<'a> Model for RawCookie<'a> {
     } };
 }
 
+impl<'a> Clone for RawCookie<'a> {
+    ghost is_clone = { λ cookie copy. copy ≡ cookie };
+
+    fn clone(&self) -> Result<RawCookie<'a>, AllocError> {
+        Ok(RawCookie {
+            name: self.name.clone()?,
+            value: self.value.clone()?,
+            domain: self.domain.clone()?,
+            path: self.path.clone()?,
+            secure: self.secure,
+            http_only: self.http_only,
+            same_site: self.same_site,
+            max_age: self.max_age,
+            expires: self.expires,
+        })
+    }
+}
+
 // Splits a header value at its first `;`.
 fn pair_and_rest(text: &str) -> (&str, Option<&str>)
     ensures pair { result.0.now ≡ pair_of text.now }

@@ -26,7 +26,7 @@ impl EvictionOrder {
         }
         match self {
             EvictionOrder::ExpiredFirst => 1,
-            EvictionOrder::SecureLast => { if cookie.raw().is_secure() { 2 } else { 1 } }
+            EvictionOrder::SecureLast => { if cookie.is_secure() { 2 } else { 1 } }
         }
     }
 }

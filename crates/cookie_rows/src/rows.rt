@@ -407,6 +407,15 @@ impl Rows {
         count_rows(self.groups.values().as_slice())
     }
 
+    /// Returns how many rows have not expired at `now`. Allocates nothing.
+    pub fn len_unexpired(&self, now: DateTime) -> usize
+        ensures { result ≡ length (unexpired_rows (moment_of now) self.now.rows) }
+    {
+        // for the checker: as in `len`, the count fits
+        let _created = self.created;
+        self.iter_unexpired(now).count()
+    }
+
     /// Returns the key by which the maps hash.
     pub fn hash_key(&self) -> HashKey {
         *self.groups.hasher()

@@ -45,7 +45,7 @@ fn count_in(rows: &[BoxedCookie], now: DateTime) -> usize
     let mut count: usize = 0;
     for row in rows {
         let cookie = row.cookie();
-        if !cookie.is_expired(now) && cookie.raw().is_secure() {
+        if !cookie.is_expired(now) && cookie.is_secure() {
             count += 1;
         }
     }

@@ -58,16 +58,15 @@ impl Jar {
         requires { IfSome limit (λ limit. 1 ≤ limit) }
         ensures { result ≡ start (empty list limit) }
     {
-        let store = CookieStore::with_hash_key(alloc.alloc, alloc.hash_key);
-        let store = match list {
-            Some(list) => store.with_suffix_list(list),
-            None => store,
-        };
+        let mut store = CookieStore::with_hash_key(alloc.alloc, alloc.hash_key);
+        if let Some(list) = list {
+            store.set_suffix_list(list);
+        }
+        if let Some(limit) = limit {
+            store.set_domain_limit(limit);
+        }
         Jar {
-            store: match limit {
-                Some(limit) => store.with_domain_limit(limit),
-                None => store,
-            },
+            store,
             moment: epoch(),
         }
     }

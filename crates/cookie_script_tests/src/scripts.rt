@@ -177,7 +177,7 @@ const BAD_LINES: [(&str, &[u8]); 19] = [
     ("a host without its closing bracket", b"get http://[\n"),
     ("a URL that a space cuts", b"get http://a b/\n"),
     ("now alone", b"now\n"),
-    ("a word after the moment", b"now 2026-01-01T00:00:00Z x\n"),
+    ("a word after the time", b"now 2026-01-01T00:00:00Z x\n"),
     ("a capital letter", b"Get http://a.com/\n"),
     ("a space after list", b"list \n"),
     ("a word after list", b"list a.com\n"),

@@ -14,6 +14,7 @@ pub use Rattle.cookie_rows.specs.Requests
 pub use Rattle.cookie_core.specs.CallViews
 pub use Rattle.cookie_core.specs.Overlaid
 pub use Rattle.cookie_core.specs.Responses
+pub use Rattle.cookie_edit.specs.Edits
 pub use Rattle.cookie_serde.specs.Cuts
 pub use Rattle.cookie_serde.specs.JsonLines
 pub use Rattle.cookie_serde.specs.JsonLists

@@ -12,6 +12,7 @@ pub mod device;
 pub mod saved;
 
 pub use cookie_core::{AsStore, Call, CookieStore, InsertResult, Reply, Stopped, cookie_string};
+pub use cookie_edit as edit;
 pub use cookie_inputs as inputs;
 pub use cookie_laws as laws;
 pub use cookie_lookup as lookup;

@@ -1,5 +1,5 @@
 -- What each call returns, and the store after it.
-use Rattle.std.specs.Prelude.{◌≡◌, ◌==◌, if◌then◌else◌, ◌⊎◌, ℕ, ◌^◌, ◌-◌, min, Bool, true, false, List, [], length, Option, Some, None, Result, Ok, Err}
+use Rattle.std.specs.Prelude.{◌≡◌, ◌==◌, if◌then◌else◌, ◌⊎◌, ℕ, Bool, true, false, List, [], length, Option, Some, None, Result, Ok, Err}
 use Rattle.std.specs.Result.{result_map_both}
 use Rattle.cookie_words.specs.Moments.{Moment}
 use Rattle.cookie_psl.specs.Rules.{RuleList, SameRules}
@@ -128,7 +128,3 @@ in_store created (Some store) = created store.rows
 abbrev pub rows_count : Option Contents → ℕ
 rows_count None = 0
 rows_count (Some store) = length store.rows
-
--- the number of rows, at most 2^64 - 1
-abbrev pub count_of : Option Contents → ℕ
-count_of store = min (rows_count store) (2 ^ 64 - 1)

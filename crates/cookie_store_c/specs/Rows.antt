@@ -2,6 +2,8 @@
 use Rattle.std.specs.Prelude.{◌≡◌, ◌⊎◌, ℕ, ◌^◌, ◌≤◌, Bool, true, false, ◌&&◌, List, ◌++◌, flat_map, length, map, nat_le, Option, Some, None, if◌then◌else◌, ℤ, pos}
 use Rattle.std.specs.Int.{int_div_euclid}
 use Rattle.cookie_words.specs.Moments.{nanoseconds}
+use Rattle.cookie_raw.specs.declared.same_site.SameSite.{SameSite}
+use Rattle.cookie_raw.specs.declared.same_site.SameSite.TheVariants as same_site
 use Rattle.cookie_parts.specs.Cookie.{Row, is_http_only, is_persistent, is_secure_only}
 use Rattle.cookie_parts.specs.Domain.{DomainValue, HostOnly, domain_text}
 use Rattle.cookie_parts.specs.Expiry.{Expiry, AtUtc, SessionEnd}
@@ -25,6 +27,13 @@ is_host_only other = false
 abbrev pub flag : Bool → ℕ
 flag set = if set then 1 else 0
 
+-- the number of a SameSite attribute; 0 without one
+abbrev pub same_site_code : Option SameSite → ℕ
+same_site_code None = 0
+same_site_code (Some same_site.Strict) = 1
+same_site_code (Some same_site.Lax) = 2
+same_site_code (Some same_site.None) = 3
+
 -- a row without its strings
 abbrev pub cookie_row : Row → CookieRow
 cookie_row row = record {
@@ -38,6 +47,7 @@ cookie_row row = record {
   has_path = flag (row.path.is_from_attribute);
   secure = flag (is_secure_only row.raw);
   http_only = flag (is_http_only row.raw);
+  same_site = same_site_code row.raw.same_site;
 }
 
 -- the strings of a row
@@ -72,11 +82,11 @@ rows_outcome all rows strings =
     }
     else lengths_outcome all rows strings
 
--- the number of rows or the length of all strings is 2^64 or more
+-- the strings of the rows together have 2^64 bytes or more
 abbrev pub IsTooLong : List Row → Type 0
-IsTooLong rows = (2 ^ 64 ≤ length rows) ⊎ (2 ^ 64 ≤ length (flat_map row_strings rows))
+IsTooLong rows = 2 ^ 64 ≤ length (flat_map row_strings rows)
 
--- the rows of a store are written if they fit; `NoMemory` if a length is too great, `NoStore` without a store
+-- the rows of a store are written if they fit; `NoMemory` if the strings are too long, `NoStore` without a store
 abbrev pub ReportsRows : Option Contents → List CookieRow → List ℕ → BufferOutcome → Type 0
 ReportsRows None rows strings reported = reported ≡ nothing_written NoStore rows strings
 ReportsRows (Some store) rows strings reported =

@@ -12,8 +12,8 @@ use cookie_inputs::{SuffixesError, parse_suffixes};
 use cookie_store::{CookieStore, HashKey, strict};
 use std::alloc::Global;
 use std::hash::RandomState;
+use std::io;
 use std::random::RandomSource;
-use std::{io, mem};
 
 /// Parses the `Set-Cookie` header value `value` received from `url` and inserts the cookie, under
 /// the rules of browsers if `is_strict` is true.
@@ -63,9 +63,7 @@ pub(crate) fn use_suffixes(
     };
     match parse_suffixes(alloc, text, only_listed) {
         Ok(list) => {
-            // `with_suffix_list` takes the store by value.
-            let begun = mem::replace(store, CookieStore::new(alloc));
-            *store = begun.with_suffix_list(list);
+            store.set_suffix_list(list);
             Status::Done
         }
         Err(error) => suffixes_error_status(error, bad_line),
@@ -137,15 +135,13 @@ pub(crate) fn remove_expired(store: &mut CookieStore, now: i64, removed: &mut us
 }
 
 /// Limits each domain to `limit` cookies, or returns `BadLimit` if `limit` is 0.
-pub(crate) fn set_domain_limit(alloc: Global, store: &mut CookieStore, limit: usize) -> Status
+pub(crate) fn set_domain_limit(store: &mut CookieStore, limit: usize) -> Status
     ensures { record { status = result; store = Some store.new } ≡ limit_outcome limit (Some store.old) }
 {
     if limit == 0 {
         return Status::BadLimit;
     }
-    // `with_domain_limit` takes the store by value.
-    let begun = mem::replace(store, CookieStore::new(alloc));
-    *store = begun.with_domain_limit(limit);
+    store.set_domain_limit(limit);
     Status::Done
 }
 

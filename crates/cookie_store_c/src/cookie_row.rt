@@ -5,11 +5,12 @@ ghost use Rattle.std.specs.Int.{int_div_euclid};
 ghost use Rattle.cookie_words.specs.Moments.{moment_of, nanoseconds};
 ghost use Rattle.cookie_parts.specs.Views.{expiry_value};
 ghost use Rattle.cookie_store_c.specs.Buffers.{at_front};
-ghost use Rattle.cookie_store_c.specs.Rows.{expiry_second, nothing_written, row_strings, cookie_row, rows_outcome, IsTooLong};
+ghost use Rattle.cookie_store_c.specs.Rows.{expiry_second, nothing_written, row_strings, same_site_code, cookie_row, rows_outcome, IsTooLong};
 ghost use Rattle.cookie_store_c.specs.declared.status.Status.TheVariants.{NoMemory};
 
 use crate::buffer::{put_all, with_lengths};
 use crate::status::Status;
+use cookie_store::raw::SameSite;
 use cookie_store::{Cookie, CookieDomain, CookieExpiration, CookieStore, IterAny};
 use cookie_words::epoch;
 use jiff::civil::DateTime;
@@ -32,6 +33,8 @@ pub struct CookieRow {
     pub has_path: u8,
     pub secure: u8,
     pub http_only: u8,
+    /// The number of the SameSite attribute in `cookie_store.h`; 0 without one.
+    pub same_site: u32,
 }
 
 /// Writes all rows into `rows`, and their strings, one after the other, into `strings`.
@@ -49,10 +52,10 @@ pub(crate) fn write_rows(
         ≡ nothing_written NoMemory rows.old strings.old)) }
 {
     (*rows_needed, *strings_needed) = (0, 0);
-    let (Some(count), Some(length)) = (rows_len(store.iter_any()), strings_len(store.iter_any()))
-    else {
+    let Some(length) = strings_len(store.iter_any()) else {
         return Status::NoMemory;
     };
+    let count = store.len();
     (*rows_needed, *strings_needed) = (count, length);
     if rows.len() < count || strings.len() < length {
         return Status::NoRoom;
@@ -60,17 +63,6 @@ pub(crate) fn write_rows(
     put_rows(store.iter_any(), rows);
     put_strings(store.iter_any(), strings);
     Status::Done
-}
-
-/// Returns the number of rows, or `None` on overflow.
-pub(crate) fn rows_len(all: IterAny<'_>) -> Option<usize>
-    ensures { MatchOption result (2 ^ 64 ≤ length all.entry) (λ n. n ≡ length all.entry) }
-{
-    let mut count: usize = 0;
-    for _row in all {
-        count = count.checked_add(1)?;
-    }
-    Some(count)
 }
 
 // Returns the total length of the strings of all rows, or `None` on overflow.
@@ -136,8 +128,21 @@ fn reported(row: &Cookie<'static>) -> CookieRow
         persistent: u8::from(row.is_persistent()),
         host_only: u8::from(matches!(row.domain, CookieDomain::HostOnly(_))),
         has_path: u8::from(row.path.is_from_path_attr()),
-        secure: u8::from(row.raw().is_secure()),
-        http_only: u8::from(row.raw().is_http_only()),
+        secure: u8::from(row.is_secure()),
+        http_only: u8::from(row.is_http_only()),
+        same_site: same_site_code(row.same_site()),
+    }
+}
+
+// Returns the number of a SameSite attribute in `cookie_store.h`.
+fn same_site_code(same_site: Option<SameSite>) -> u32
+    ensures { result ≡ same_site_code same_site }
+{
+    match same_site {
+        None => 0,
+        Some(SameSite::Strict) => 1,
+        Some(SameSite::Lax) => 2,
+        Some(SameSite::None) => 3,
     }
 }
 

@@ -3,7 +3,7 @@ ghost use Rattle.std.specs.Prelude.{◌≡◌, ◌⊎◌, ◌+◌, false, Ok, So
 ghost use Rattle.cookie_laws.specs.Runs.{Clear};
 ghost use Rattle.cookie_store_c.specs.Inputs.{text_and_time, moment_in, remove_call, set_call, text_in};
 ghost use Rattle.cookie_store_c.specs.Buffers.{WritesText, WritesSomeText};
-ghost use Rattle.cookie_store_c.specs.Calls.{count_of, expired_outcome, flag_after_new, flag_after_set, in_store, insertion_outcome_in, unchanged_outcome, limit_outcome, new_outcome, rows_count, call_outcome, HasOutcome, UsesSuffixes, RunsOut};
+ghost use Rattle.cookie_store_c.specs.Calls.{expired_outcome, flag_after_new, flag_after_set, in_store, insertion_outcome_in, unchanged_outcome, limit_outcome, new_outcome, rows_count, call_outcome, HasOutcome, UsesSuffixes, RunsOut};
 ghost use Rattle.cookie_store_c.specs.Headers.{cross_site, IsHeaderIn};
 ghost use Rattle.cookie_store_c.specs.Rows.{ReportsRows};
 ghost use Rattle.cookie_store_c.specs.Statuses.{IsCodeOf};
@@ -88,7 +88,7 @@ pub extern "C" fn cookie_store_set_domain_limit(
     let Some(mut store) = handle.take(alloc) else {
         return Status::NoStore.code();
     };
-    let status = calls::set_domain_limit(alloc, &mut store, limit);
+    let status = calls::set_domain_limit(&mut store, limit);
     handle.put(alloc, store);
     status.code()
 }
@@ -359,18 +359,17 @@ pub extern "C" fn cookie_store_remove_expired(
     status.code()
 }
 
-/// Returns the number of cookies, expired ones included: 0 if there is no store, and at most
-/// `usize::MAX`.
+/// Returns the number of cookies, expired ones included: 0 if there is no store.
 #[unsafe(no_mangle)]
 pub extern "C" fn cookie_store_count(alloc: Global, handle: &mut StoreHandle) -> usize
-    ensures count { result ≡ count_of handle.old.store_ptr.store }
+    ensures count { result ≡ rows_count handle.old.store_ptr.store }
     ensures store { handle.new.store_ptr.store ≡ handle.old.store_ptr.store }
     ensures strict { handle.new.is_strict ≡ handle.old.is_strict }
 {
     let Some(store) = handle.take(alloc) else {
         return 0;
     };
-    let count = cookie_row::rows_len(store.iter_any()).unwrap_or(usize::MAX);
+    let count = store.len();
     handle.put(alloc, store);
     count
 }
@@ -384,7 +383,7 @@ pub extern "C" fn cookie_store_count(alloc: Global, handle: &mut StoreHandle) ->
 ///
 /// In the order in which they are checked; `rows` and `strings` are unchanged:
 /// - `NoStore`: the handle has no store.
-/// - `NoMemory`: one of the two lengths is 2^64 or more.
+/// - `NoMemory`: the strings together have 2^64 bytes or more.
 /// - `NoRoom`: `rows` or `strings` is too short.
 #[unsafe(no_mangle)]
 pub extern "C" fn cookie_store_rows(

@@ -14,8 +14,7 @@ pub type Item = Result<Cookie<'static>, Error>;
 
 pub fn cookie(rt: &impl Abort, alloc: Global, came: &(&str, &str)) -> Cookie<'static> {
     let url = url(rt, alloc, came.0);
-    let cookie = Cookie::parse(alloc, came.1, &url, new_year()).expect(rt, "a cookie");
-    cookie.into_owned(alloc).expect(rt, "memory")
+    Cookie::parse_owned(alloc, came.1, &url, new_year()).expect(rt, "a cookie")
 }
 
 pub fn items(rt: &impl Abort, alloc: Global, came: &[UrlAndValue]) -> Vec<Item> {

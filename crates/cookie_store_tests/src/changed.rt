@@ -83,25 +83,20 @@ static RUNS: [Run; 6] = [
     (&THREE, &[Change::Key], &KEYED),
 ];
 
-fn keyed(rt: &impl Abort, mut store: CookieStore, key: HashKey) -> CookieStore {
-    store.set_hash_key(key).expect(rt, "memory");
-    store
-}
-
-fn exchanged(
+fn change_store(
     rt: &impl Abort,
     alloc: Global,
-    store: CookieStore,
+    store: &mut CookieStore,
     change: Change,
     key: HashKey,
-) -> CookieStore {
+) {
     match change {
-        Change::One => store.with_domain_limit(1),
-        Change::Three => store.with_domain_limit(3),
-        Change::List(text) => store.with_suffix_list(list(rt, alloc, text)),
-        Change::NoRule => store.with_suffix_list(List::new(alloc)),
-        Change::Copy => store.clone().expect(rt, "memory"),
-        Change::Key => keyed(rt, store, key),
+        Change::One => store.set_domain_limit(1),
+        Change::Three => store.set_domain_limit(3),
+        Change::List(text) => store.set_suffix_list(list(rt, alloc, text)),
+        Change::NoRule => store.set_suffix_list(List::new(alloc)),
+        Change::Copy => *store = store.clone().expect(rt, "memory"),
+        Change::Key => store.set_hash_key(key).expect(rt, "memory"),
     }
 }
 
@@ -110,7 +105,7 @@ fn has_its_rows(rt: &impl Abort, alloc: Global, run: &Run, key: HashKey) {
     let mut store = CookieStore::new_with_public_suffix(alloc, None);
     take_all(rt, alloc, &mut store, before, new_year());
     for change in changes {
-        store = exchanged(rt, alloc, store, *change, key);
+        change_store(rt, alloc, &mut store, *change, key);
     }
     take_all(rt, alloc, &mut store, after, new_year());
 }

@@ -29,7 +29,7 @@ fn reply_to_text(alloc: Global, store: &mut CookieStore, text: &str, url: &Url) 
     reply
 }
 
-fn reply_to_raw(
+pub fn reply_to_raw(
     rt: &impl Abort,
     alloc: Global,
     store: &mut CookieStore,
@@ -44,17 +44,16 @@ fn reply_to_raw(
 }
 
 // If the value cannot be parsed, that error is returned before `insert`.
-fn reply_to_cookie(
+pub fn reply_to_cookie(
     rt: &impl Abort,
     alloc: Global,
     store: &mut CookieStore,
     text: &str,
     url: &Url,
 ) -> InsertResult {
-    let cookie = Cookie::parse(alloc, text, url, new_year())?;
-    let owned = cookie.into_owned(alloc).expect(rt, "memory");
+    let cookie = Cookie::parse_owned(alloc, text, url, new_year())?;
     start(alloc);
-    let reply = store.insert(owned, url, new_year());
+    let reply = store.insert(cookie, url, new_year());
     end(alloc);
     reply
 }

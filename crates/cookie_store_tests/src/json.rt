@@ -48,7 +48,7 @@ pub fn fault_of(outcome: &Result<CookieStore, Error>) -> &'static str {
         Err(Error::Saved(SavedError::Json)) => "no JSON",
         Err(Error::Saved(SavedError::Shape)) => "another shape",
         Err(Error::Saved(SavedError::Ron)) => "no RON",
-        Err(Error::Saved(SavedError::Moment)) => "no moment",
+        Err(Error::Saved(SavedError::Moment)) => "no time",
         Err(Error::Cookie(CookieError::Parse)) => "no cookie",
         Err(Error::NotUtf8) => "no UTF-8",
         Err(_) => "another fault",
@@ -111,7 +111,7 @@ pub const REJECTED: [(&[u8], &str); 14] = [
     ),
     (
         br#"{"domain":"Empty","expires":{"AtUtc":"2100-02-29T00:00:00Z"},"path":["/",true],"raw_cookie":"a=1"}"#,
-        "no moment",
+        "no time",
     ),
     (
         br#"{"domain":"Empty","expires":"SessionEnd","path":["/",true],"raw_cookie":"nopair"}"#,

@@ -12,7 +12,11 @@ mod changed;
 #[cfg(test)]
 mod checks;
 #[cfg(test)]
+mod counted;
+#[cfg(test)]
 mod devices;
+#[cfg(test)]
+mod edits;
 #[cfg(test)]
 mod expired;
 #[cfg(test)]
@@ -26,6 +30,8 @@ mod insertion;
 #[cfg(test)]
 mod json;
 #[cfg(test)]
+mod large;
+#[cfg(test)]
 mod list_texts;
 #[cfg(test)]
 mod lists;
@@ -35,8 +41,6 @@ mod loaded;
 mod lookups;
 #[cfg(test)]
 mod malformed;
-#[cfg(test)]
-mod many;
 #[cfg(test)]
 mod matching;
 #[cfg(test)]

@@ -10,7 +10,7 @@ use cookie_store::{CookieStore, Error, serde};
 use std::alloc::Global;
 use std::process::Abort;
 
-fn text_of(form: Form, store: &CookieStore, which: &Which) -> Result<String, Error> {
+pub fn text_of(form: Form, store: &CookieStore, which: &Which) -> Result<String, Error> {
     match (form, which) {
         (Form::Json, Which::All) => serde::json::to_text_incl_expired_and_nonpersistent(store),
         (Form::Json, Which::At(now)) => serde::json::to_text(store, *now),
@@ -19,7 +19,12 @@ fn text_of(form: Form, store: &CookieStore, which: &Which) -> Result<String, Err
     }
 }
 
-fn store_in(form: Form, alloc: Global, text: &str, which: &Which) -> Result<CookieStore, Error> {
+pub fn store_in(
+    form: Form,
+    alloc: Global,
+    text: &str,
+    which: &Which,
+) -> Result<CookieStore, Error> {
     match (form, which) {
         (Form::Json, Which::All) => serde::json::from_text_all(alloc, text, new_year()),
         (Form::Json, Which::At(now)) => serde::json::from_text(alloc, text, *now),
@@ -38,7 +43,7 @@ static LISTS: [Listed; 4] = [
     (Form::Ron, false, ron::LASTING),
 ];
 
-fn which_of(all: bool) -> Which {
+pub fn which_of(all: bool) -> Which {
     if all {
         Which::All
     } else {

@@ -193,7 +193,7 @@ pub const REJECTED: [(&[u8], &str); 21] = [
     (br#"[{"raw_cookie":"a=1"}]"#, "another shape"),
     (
         br#"[{"domain":"Empty","expires":{"AtUtc":"2100-02-29T00:00:00Z"},"path":["/",true],"raw_cookie":"a=1"}]"#,
-        "no moment",
+        "no time",
     ),
     (
         br#"[{"domain":"Empty","expires":{"AtUtc":"2100-02-29T00:00:00Z"},"path":["/",true],"raw_cookie":"a=1"},
@@ -203,7 +203,7 @@ pub const REJECTED: [(&[u8], &str); 21] = [
     (
         br#"[{"domain":"Empty","expires":"SessionEnd","path":["/",true],"raw_cookie":"nopair"},
             {"domain":"Empty","expires":{"AtUtc":"2100-13-01T00:00:00Z"},"path":["/",true],"raw_cookie":"a=1"}]"#,
-        "no moment",
+        "no time",
     ),
     (
         br#"[{"domain":"Empty","expires":"SessionEnd","path":["/",true],"raw_cookie":"a=1"},

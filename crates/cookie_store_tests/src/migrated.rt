@@ -39,29 +39,26 @@ const CASES: [(&[u8], &str); 11] = [
         "a=1",
     ),
     (LINES, "a=2; b=3"),
-    (b"{", "line 1: a text is not JSON"),
+    (b"{", "line 1: the input is not JSON"),
     (
         br#"{"raw_cookie":"a=1","path":["/",false],"domain":{"HostOnly":"a.com"},"expires":"SessionEnd"}
 {
 "#,
-        "line 2: a text is not JSON",
+        "line 2: the input is not JSON",
     ),
     (
         br#"{"raw_cookie":"a=1","path":["/",false],"domain":{"HostOnly":"a.com"},"expires":"SessionEnd"}
 
 {"raw_cookie":"a=1","path":["/",false],"domain":{"HostOnly":"a.com"},"expires":"SessionEnd"}
 "#,
-        "line 2: a text is not JSON",
+        "line 2: the input is not JSON",
     ),
-    (
-        b"[]\n{\n",
-        "line 1: a value has not the shape of a saved cookie",
-    ),
+    (b"[]\n{\n", "line 1: a value is not a saved cookie"),
     (
         br#"{"raw_cookie":"a=1","path":["/",false],"domain":"Empty","expires":"SessionEnd"}
 {"raw_cookie":"b=1","path":["/",false],"domain":"Empty","expires":"SessionEnd"}
 {"raw_cookie":"c=1","path":["/",false],"domain":"Empty","expires":{"AtUtc":"2100-02-29T00:00:00Z"}}"#,
-        "line 3: a text is no moment, or a moment is before the year 0",
+        "line 3: an expiry is not a valid time, or is before the year 0",
     ),
     (
         br#"{"raw_cookie":"nopair","path":["/",false],"domain":"Empty","expires":"SessionEnd"}"#,
@@ -69,9 +66,9 @@ const CASES: [(&[u8], &str); 11] = [
     ),
     (
         br#"{"raw_cookie":"a=1","path":["/",false],"domain":"Empty","expires":{"AtUtc":"-001-01-01T00:00:00Z"}}"#,
-        "line 1: a text is no moment, or a moment is before the year 0",
+        "line 1: an expiry is not a valid time, or is before the year 0",
     ),
-    (b"\xff\n", "line 1: a text is not UTF-8"),
+    (b"\xff\n", "line 1: the input is not UTF-8"),
 ];
 
 // An expired cookie that replaces another, and a line that ends with a carriage return and a line

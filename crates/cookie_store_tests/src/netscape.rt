@@ -57,7 +57,7 @@ pub fn load_file<'a>(alloc: Global, which: &Which, fake: Fake<&'a [u8]>) -> Load
 // first line of the file that is written.
 type Read = (&'static str, Result<&'static str, usize>);
 
-static READ: [Read; 42] = [
+static READ: [Read; 48] = [
     ("", Ok("")),
     ("\n \t\r\n# a\n#\ta\n#HttpOnly\n", Ok("")),
     // Host-only and domain cookies, with and without a dot.
@@ -154,6 +154,23 @@ static READ: [Read; 42] = [
         "a.com\tFALSE\t/\tFALSE\t-1\ta\t\u{a0}1\u{a0}\n",
         Ok("\na.com\tFALSE\t/\tFALSE\t253402300799\ta\t\u{a0}1\u{a0}"),
     ),
+    // Headers: Domain with and without a dot, the other attributes, paths, and what has fields.
+    (
+        "Set-Cookie: a=1; Domain=a.com\nset-cookie:b=2;\tdomain=.B.Com\n",
+        Ok("\n.a.com\tTRUE\t/\tFALSE\t0\ta\t1\n.b.com\tTRUE\t/\tFALSE\t0\tb\t2"),
+    ),
+    (
+        " SET-COOKIE: a=1; Domain=::1; Path=/p; Secure; HttpOnly; SameSite=Lax; Expires=Fri, 31 Dec 9999 23:59:59 GMT\r\n",
+        Ok("\n#HttpOnly_.::1\tTRUE\t/p\tTRUE\t253402300799\ta\t1"),
+    ),
+    (
+        "Set-Cookie: a=1; Domain=a.com; Path=p\nSet-Cookie: b=1; Domain=a.com; Path=\"/p\"\n",
+        Ok("\n.a.com\tTRUE\t/\tFALSE\t0\ta\t1\n.a.com\tTRUE\t/p\tFALSE\t0\tb\t1"),
+    ),
+    (
+        "Set-Cookie: a=1; Domain=a.com\tTRUE\t/\tFALSE\t0\ta\t1\n",
+        Ok("\n.set-cookie: a=1; domain=a.com\tTRUE\t/\tFALSE\t0\ta\t1"),
+    ),
     // Malformed lines: fields, domains, flags, paths, expiries, names and values.
     ("a.com\n", Err(1)),
     ("\n# a\na.com\tFALSE\t/\tFALSE\t0\n", Err(3)),
@@ -170,6 +187,8 @@ static READ: [Read; 42] = [
     ("a.com\tFALSE\t/\tFALSE\t0\t\t\n", Err(1)),
     ("\u{feff}# a\n", Err(1)),
     ("Set-Cookie: a=1\n", Err(1)),
+    ("Set-Cookie: a=1; Domain=a.com; Max-Age=60\n", Err(1)),
+    ("Set-Cookie: a=1\t2; Domain=a.com\n", Err(1)),
     ("a.com\tFALSE\t/\tFALSE\t0\ta=\t1\n", Err(1)),
     ("a.com\tFALSE\t/\tFALSE\t0\ta\t1;\n", Err(1)),
     ("a.com\tFALSE\t/\tFALSE\t0\ta\t 1\n", Err(1)),

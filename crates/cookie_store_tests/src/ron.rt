@@ -65,7 +65,7 @@ pub const REJECTED: [(&[u8], &str); 31] = [
     ),
     (
         br#"[(raw_cookie: "a=1", path: ("/", true), domain: Empty, expires: AtUtc("2100-02-29T00:00:00Z"))]"#,
-        "no moment",
+        "no time",
     ),
     (
         br#"[(raw_cookie: "a=1", path: ("/", true), domain: Empty, expires: AtUtc("2100-02-29T00:00:00Z")), ()]"#,
@@ -74,7 +74,7 @@ pub const REJECTED: [(&[u8], &str); 31] = [
     (
         br#"[(raw_cookie: "nopair", path: ("/", true), domain: Empty, expires: SessionEnd),
             (raw_cookie: "a=1", path: ("/", true), domain: Empty, expires: AtUtc("2100-13-01T00:00:00Z"))]"#,
-        "no moment",
+        "no time",
     ),
     (
         br#"[(raw_cookie: "nopair", path: ("/", true), domain: Empty, expires: SessionEnd)]"#,

@@ -333,7 +333,7 @@ fn long_cookies_are_rejected_and_long_attributes_ignored(rt: HostRuntime) {
         is_equal(&rt, &result, &wanted, row);
         if let Some(cookie) = store.iter_any().next() {
             is_equal(&rt, &cookie.path.as_str().len(), &length, row);
-            is_equal(&rt, &cookie.raw().is_secure(), &(path > 0), row);
+            is_equal(&rt, &cookie.is_secure(), &(path > 0), row);
         }
     }
 }

@@ -10,8 +10,8 @@ use Rattle.cookie_words.specs.Moments.{Moment}
 use Rattle.cookie_words.specs.Texts.{pieces, without_dot}
 use Rattle.cookie_raw.specs.Raw.{Raw}
 use Rattle.cookie_raw.specs.Reading.{accepted_value, attribute_is_named, attributes, domain_from, has_equals, http_only_from, is_semicolon, last, last_accepted, name_of, pair_of, reading, value_of}
-use Rattle.cookie_raw.specs.declared.parse.RawCookieParseError.{RawCookieParseError}
-use Rattle.cookie_raw.specs.declared.parse.RawCookieParseError.TheVariants.{MissingPair, EmptyName}
+use Rattle.cookie_raw.specs.declared.error.RawCookieParseError.{RawCookieParseError}
+use Rattle.cookie_raw.specs.declared.error.RawCookieParseError.TheVariants.{MissingPair, EmptyName}
 use Rattle.cookie_raw.proofs.JoinedPieces.{Attribute, IsPiece, IsWellPrinted, attributes_of_joined, joined, pair_of_joined, present}
 use Rattle.cookie_parts.specs.Cookie.{Row, and_then, cookie_from_header, cookie_of, domain_for, early, early_error, host_only_domain, is_http_only, is_out_of_reach}
 use Rattle.cookie_parts.specs.Domain.{DomainValue, domain_from_attribute}

@@ -71,32 +71,11 @@ fn owned_cookie(alloc: Global, text: &str, url: &Url, now: DateTime) -> CookieRe
     ensures value { ReturnsOrMemory (λ cookie. cookie) result (cookie_from_header (without_long_attributes text.now) url.now (moment_of now)) }
 {
     if !has_long_attribute(text) {
-        return parsed(alloc, text, url, now);
+        return Cookie::parse_owned(alloc, text, url, now);
     }
     match without_long_attributes(alloc, text) {
-        Ok(short) => parsed(alloc, short.as_str(), url, now),
+        Ok(short) => Cookie::parse_owned(alloc, short.as_str(), url, now),
         Err(_) => Err(early_error(text, url).unwrap_or(CookieError::Memory)),
-    }
-}
-
-// The cookie of a header value.
-fn parsed(alloc: Global, text: &str, url: &Url, now: DateTime) -> CookieResult<'static>
-    ensures early { (error : CookieError) → early (reading text.now) url.now ≡ Some error → result ≡ Err error }
-    ensures value { ReturnsOrMemory (λ cookie. cookie) result (cookie_from_header text.now url.now (moment_of now)) }
-{
-    match Cookie::parse(alloc, text, url, now) {
-        Ok(cookie) => owned(alloc, cookie),
-        Err(error) => Err(error),
-    }
-}
-
-// The cookie, borrowing nothing.
-fn owned(alloc: Global, cookie: Cookie<'_>) -> CookieResult<'static>
-    ensures { ReturnsOrMemory (λ cookie. cookie) result (Ok cookie.entry) }
-{
-    match cookie.into_owned(alloc) {
-        Ok(cookie) => Ok(cookie),
-        Err(_) => Err(CookieError::Memory),
     }
 }
 

@@ -44,7 +44,7 @@ pub fn cookies_for<'s>(
 fn is_sent(context: Context, cookie: &Cookie<'static>) -> bool
     ensures { result ≡ is_sent context cookie.now }
 {
-    context.is_same_site || is_sent_cross_site(context, cookie.raw().same_site())
+    context.is_same_site || is_sent_cross_site(context, cookie.same_site())
 }
 
 // Whether a cross-site request receives a cookie with this SameSite attribute.

@@ -64,14 +64,14 @@ pub(crate) fn broken_rule(
 fn needs_secure_url(cookie: &Cookie<'static>, url: &Url) -> bool
     ensures { result ≡ needs_secure_url cookie.now url.now }
 {
-    cookie.raw().is_secure() && !is_secure(url)
+    cookie.is_secure() && !is_secure(url)
 }
 
 // Whether the cookie has SameSite=None and is not Secure.
 fn needs_secure_flag(cookie: &Cookie<'static>) -> bool
     ensures { result ≡ needs_secure_flag cookie.now }
 {
-    matches!(cookie.raw().same_site(), Some(SameSite::None)) && !cookie.raw().is_secure()
+    matches!(cookie.same_site(), Some(SameSite::None)) && !cookie.is_secure()
 }
 
 /// Returns whether the name begins with `__Secure-` or `__Host-`, ignoring case, and the cookie lacks
@@ -89,7 +89,7 @@ pub fn breaks_prefix(cookie: &Cookie<'_>) -> bool
 fn breaks_secure_prefix(cookie: &Cookie<'_>) -> bool
     ensures { result ≡ breaks_secure_prefix cookie.now }
 {
-    has_prefix(b"__Secure-", cookie.name().as_bytes()) && !cookie.raw().is_secure()
+    has_prefix(b"__Secure-", cookie.name().as_bytes()) && !cookie.is_secure()
 }
 
 // Whether the name begins with `__Host-`, and the cookie is not Secure, is not host-only, or has no
@@ -98,7 +98,7 @@ fn breaks_host_prefix(cookie: &Cookie<'_>) -> bool
     ensures { result ≡ breaks_host_prefix cookie.now }
 {
     has_prefix(b"__Host-", cookie.name().as_bytes())
-        && !(cookie.raw().is_secure() && is_host_only(&cookie.domain) && has_root_path(cookie))
+        && !(cookie.is_secure() && is_host_only(&cookie.domain) && has_root_path(cookie))
 }
 
 // Whether the name begins with the prefix, ignoring ASCII case.
@@ -126,7 +126,7 @@ fn has_root_path(cookie: &Cookie<'_>) -> bool
 pub(crate) fn index_secure(store: &mut CookieStore, cookie: &Cookie<'static>, url: &Url)
     ensures { store.new ≡ store.old }
 {
-    if !cookie.raw().is_secure() && !is_secure(url) {
+    if !cookie.is_secure() && !is_secure(url) {
         store.index_secure();
     }
 }
@@ -135,14 +135,14 @@ pub(crate) fn index_secure(store: &mut CookieStore, cookie: &Cookie<'static>, ur
 fn overlays_secure(store: &CookieStore, cookie: &Cookie<'static>, url: &Url, now: DateTime) -> bool
     ensures { result ≡ overlays_secure cookie.now url.now (moment_of now) store.now.rows }
 {
-    !cookie.raw().is_secure() && !is_secure(url) && store.overlays_secure(cookie, now)
+    !cookie.is_secure() && !is_secure(url) && store.overlays_secure(cookie, now)
 }
 
 // Whether the cookie is not Secure, and a Secure cookie would be evicted for it.
 fn evicts_secure(store: &CookieStore, cookie: &Cookie<'static>, now: DateTime) -> bool
     ensures { result ≡ evicts_secure cookie.now (moment_of now) store.now }
 {
-    !cookie.raw().is_secure() && store.is_full_of_secure(cookie, now) && !is_stored(store, cookie)
+    !cookie.is_secure() && store.is_full_of_secure(cookie, now) && !is_stored(store, cookie)
 }
 
 // Whether a cookie with the same domain, path and name is stored, expired or not.

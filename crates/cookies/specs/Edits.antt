@@ -1,8 +1,10 @@
 -- Files after an edit.
-use Rattle.std.specs.Prelude.{◌≡◌, ℕ, ◌==◌, List, [], length, Some, if◌then◌else◌}
-use Rattle.cookie_parts.specs.Cookie.{Row}
-use Rattle.cookie_edit.specs.Edits.{put_text, retained_text}
+use Rattle.std.specs.Prelude.{◌≡◌, ℕ, ◌==◌, Bool, not, List, [], find, length, Option, Some, if◌then◌else◌}
+use Rattle.cookie_parts.specs.Cookie.{Row, same_cookie}
+use Rattle.cookie_parts.specs.Hosts.{passes}
+use Rattle.cookie_store.specs.Edits.{put_text, retained_text}
 use Rattle.cookie_store.specs.NetscapeLists.{file_text}
+use Rattle.cookie_store.specs.Rows.{key_of, row_of}
 use Rattle.cookies.specs.Storage.{WritesAs}
 use Rattle.cookies.specs.declared.format.Format.{Format}
 use Rattle.cookies.specs.declared.format.Format.TheVariants.{Json, Jsonl, Ron, Txt}
@@ -24,3 +26,11 @@ AfterSet Txt contents rows cookie new = new ≡ put_text (begun_file contents) c
 AfterSet Json contents rows cookie new = WritesAs Json rows (Some []) (Some new)
 AfterSet Jsonl contents rows cookie new = WritesAs Jsonl rows (Some []) (Some new)
 AfterSet Ron contents rows cookie new = WritesAs Ron rows (Some []) (Some new)
+
+-- the row of this one's key is the same cookie
+abbrev pub has_row : List Row → Row → Bool
+has_row rows row = passes (λ stored. same_cookie stored row) (row_of (key_of row) rows)
+
+-- the first row after an edit that was not there before, or was another cookie
+abbrev pub new_row : List Row → List Row → Option Row
+new_row before after = find (λ row. not (has_row before row)) after

@@ -1,5 +1,5 @@
 -- Cookies as the contents of a file.
-use Rattle.std.specs.Prelude.{◌≡◌, ℕ, true, List, [], Option, Some}
+use Rattle.std.specs.Prelude.{◌≡◌, ℕ, true, List, [], filter, is_some, length, Option, Some}
 use Rattle.cookie_words.specs.Moments.{Moment}
 use Rattle.cookie_parts.specs.Cookie.{Row}
 use Rattle.cookie_store.specs.Rows.{RowsInOrder}
@@ -33,3 +33,7 @@ WritesAs Json rows old new = WritesList SerializesToJsonList rows old new
 WritesAs Jsonl rows old new = WritesRows SerializesToJson rows old new
 WritesAs Ron rows old new = WritesList SerializesToRonList rows old new
 WritesAs Txt rows old new = WritesNetscape rows old new
+
+-- how many of the rows have a SameSite attribute
+abbrev pub same_site_count : List Row → ℕ
+same_site_count rows = length (filter (λ row. is_some row.raw.same_site) rows)

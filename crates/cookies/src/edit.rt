@@ -1,12 +1,13 @@
 //! Files after an edit. Of a `cookies.txt`, only the lines of the edited cookies change.
 ghost use Rattle.std.specs.Prelude.{◌≡◌, [], IfOk, string_bytes};
+ghost use Rattle.std.specs.Option.{option_copied};
 ghost use Rattle.cookie_store.specs.NetscapeLists.{file_text};
-ghost use Rattle.cookies.specs.Edits.{AfterRemoval, AfterSet};
+ghost use Rattle.cookies.specs.Edits.{AfterRemoval, AfterSet, has_row, new_row};
 
 use crate::error::FileError;
 use crate::format::Format;
 use crate::storage::written_cookies;
-use cookie_edit::{put_line, retain_lines};
+use cookie_store::edit::{put_line, retain_lines};
 use cookie_store::netscape::new_text;
 use cookie_store::{Cookie, CookieStore};
 use std::alloc::{AllocError, Global};
@@ -47,8 +48,10 @@ pub fn after_set(
     Ok(edited.into_bytes())
 }
 
-/// Returns the cookie that `after` has and `before` does not have so, if there is one.
-pub fn set_cookie<'s>(before: &CookieStore, after: &'s CookieStore) -> Option<&'s Cookie<'static>> {
+/// Returns the first cookie of `after` that `before` does not have so, if there is one.
+pub fn set_cookie<'s>(before: &CookieStore, after: &'s CookieStore) -> Option<&'s Cookie<'static>>
+    ensures { option_copied result ≡ new_row before.now.rows after.now.rows }
+{
     for cookie in after.iter_any() {
         if !has(before, cookie) {
             return Some(cookie);
@@ -58,7 +61,9 @@ pub fn set_cookie<'s>(before: &CookieStore, after: &'s CookieStore) -> Option<&'
 }
 
 // Whether the store has this cookie.
-fn has(store: &CookieStore, cookie: &Cookie<'static>) -> bool {
+fn has(store: &CookieStore, cookie: &Cookie<'static>) -> bool
+    ensures { result ≡ has_row store.now.rows cookie.now }
+{
     match store.get_any(cookie.domain.as_str(), cookie.path.as_str(), cookie.name()) {
         Some(stored) => stored == cookie,
         None => false,

@@ -140,11 +140,10 @@ impl<'r> Runner<'r> {
     ) -> Result<(), Failure<'a>> {
         let list = self.list(suffixes)?;
         let (before, old) = self.load_or_new(file)?;
-        let store = before.clone()?;
-        let mut store = match list {
-            Some(list) => store.with_suffix_list(list),
-            None => store,
-        };
+        let mut store = before.clone()?;
+        if let Some(list) = list {
+            store.set_suffix_list(list);
+        }
         if is_strict {
             strict::parse(&mut store, value, url, self.now)?;
         } else {

@@ -1,10 +1,10 @@
 //! Cookies as the contents of a file.
-ghost use Rattle.std.specs.Prelude.{◌≡◌, ◌-◌, ◌^◌, ◌<◌, [], IfOk, OnOk, Some, filter, string_bytes};
+ghost use Rattle.std.specs.Prelude.{◌≡◌, ◌-◌, ◌^◌, ◌<◌, [], IfOk, OnOk, Some, filter, min, string_bytes};
 ghost use Rattle.cookie_words.specs.Moments.{moment_of};
 ghost use Rattle.cookie_netscape.specs.Written.{is_representable};
 ghost use Rattle.cookie_store.specs.Contents.{rows_in_order};
 ghost use Rattle.cookie_store.specs.NetscapeLists.{file_text, unrepresentable_count};
-ghost use Rattle.cookies.specs.Storage.{Holds, HoldsWellFormed, WritesAs};
+ghost use Rattle.cookies.specs.Storage.{Holds, HoldsWellFormed, WritesAs, same_site_count};
 
 use crate::error::FileError;
 use crate::format::Format;
@@ -79,11 +79,13 @@ pub fn representable_cookies(store: &CookieStore, now: DateTime) -> Result<Repre
     Ok(file)
 }
 
-/// Returns how many cookies have a SameSite attribute.
-pub fn same_site_count(store: &CookieStore) -> usize {
+/// Returns how many cookies have a SameSite attribute, at most `usize::MAX`.
+pub fn same_site_count(store: &CookieStore) -> usize
+    ensures { result ≡ min (same_site_count store.now.rows) (2 ^ 64 - 1) }
+{
     let mut count: usize = 0;
     for cookie in store.iter_any() {
-        if cookie.raw().same_site().is_some() {
+        if cookie.same_site().is_some() {
             count = count.saturating_add(1);
         }
     }

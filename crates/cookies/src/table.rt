@@ -48,7 +48,7 @@ fn rows(store: &CookieStore, now: DateTime) -> Result<Vec<Row>, Error>
     ensures { IfOk result (λ rows. map (map string_bytes) rows.items ≡ map (cells_of (moment_of now)) store.now.rows) }
 {
     let alloc = store.allocator();
-    let mut rows = Vec::new(alloc);
+    let mut rows = Vec::with_capacity(alloc, store.len())?;
     for cookie in store.iter_any() {
         rows.push(row(alloc, cookie, now)?)?;
     }

@@ -58,6 +58,7 @@ fn declaration(c: &str) -> String {
         "cookie_store *" => "*mut cookie_store",
         "cookie_store_row *" => "*mut cookie_store_row",
         "enum cookie_store_status" => "cookie_store_status",
+        "enum cookie_store_same_site" => "cookie_store_same_site",
         unknown => panic!("the type {unknown}"),
     };
     format!("{}: {rust}", &c[begin..])
@@ -74,12 +75,15 @@ fn signature(c: &str) -> String {
 }
 
 #[test]
-fn statuses_agree() {
+fn enums_agree() {
     let header = header();
-    let expected: BTreeSet<_> = between(&header, "enum cookie_store_status {", '}')
-        .split(',')
-        .map(|status| status.trim().replace(" =", ": cookie_store_status ="))
-        .collect();
+    let mut expected = BTreeSet::new();
+    for name in ["cookie_store_status", "cookie_store_same_site"] {
+        let constants = between(&header, &format!("enum {name} {{"), '}').split(',');
+        expected.extend(
+            constants.map(|constant| constant.trim().replace(" =", &format!(": {name} ="))),
+        );
+    }
     assert_eq!(each(&source(), "pub const "), expected);
 }
 
@@ -102,7 +106,7 @@ fn structs_agree() {
     }
     assert_eq!(source.matches("#[repr(C)]").count(), 2);
     assert_eq!(mem::size_of::<sys::cookie_store>(), 16);
-    assert_eq!(mem::size_of::<sys::cookie_store_row>(), 48);
+    assert_eq!(mem::size_of::<sys::cookie_store_row>(), 56);
 }
 
 #[test]

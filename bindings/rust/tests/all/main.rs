@@ -4,6 +4,7 @@ use std::time::{Duration, SystemTime, UNIX_EPOCH};
 
 use pulleymaroon::CookieStore;
 
+mod cookies;
 mod header;
 mod saved;
 mod store;
@@ -35,13 +36,13 @@ fn filled(set_cookies: &[&str]) -> CookieStore {
 }
 
 /// Returns the names of the stored cookies, one after the other.
-fn names(store: &mut CookieStore) -> String {
+fn names(store: &CookieStore) -> String {
     let cookies = store.cookies().unwrap();
     cookies.iter().map(|cookie| cookie.name.as_str()).collect()
 }
 
 /// Asserts the Cookie header of a request for `url`; an empty one stands for none.
-fn assert_header(store: &mut CookieStore, url: &str, now: i64, expected: &str) {
+fn assert_header(store: &CookieStore, url: &str, now: i64, expected: &str) {
     let header = store.cookie_header(url, at(now)).unwrap();
     let expected = Some(expected).filter(|header| !header.is_empty());
     assert_eq!(header.as_deref(), expected, "{url} at {now}");

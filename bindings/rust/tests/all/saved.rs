@@ -6,7 +6,7 @@ use crate::{at, filled, names, FIRST, NOW, PAGE};
 
 struct Format {
     name: &'static str,
-    save: fn(&mut CookieStore, SystemTime, bool) -> Result<String, Error>,
+    save: fn(&CookieStore, SystemTime, bool) -> Result<String, Error>,
     load: fn(&str, SystemTime, bool) -> Result<CookieStore, Error>,
 }
 
@@ -48,16 +48,16 @@ fn what_is_saved_is_loaded() {
     ];
     for Format { name, save, load } in FORMATS {
         for (saved, save_all, loaded, load_all, expected) in table {
-            let list = save(&mut store, at(saved), save_all).unwrap();
-            let mut copy = load(&list, at(loaded), load_all).unwrap();
+            let list = save(&store, at(saved), save_all).unwrap();
+            let copy = load(&list, at(loaded), load_all).unwrap();
             assert_eq!(
-                names(&mut copy),
+                names(&copy),
                 expected,
                 "{name}: {saved} {save_all} {loaded} {load_all}"
             );
         }
-        let list = save(&mut store, at(NOW), true).unwrap();
-        let mut copy = load(&list, at(NOW), true).unwrap();
+        let list = save(&store, at(NOW), true).unwrap();
+        let copy = load(&list, at(NOW), true).unwrap();
         assert_eq!(copy.cookies(), store.cookies(), "{name}");
     }
 }
@@ -65,10 +65,10 @@ fn what_is_saved_is_loaded() {
 /// A list that is longer than the first buffer.
 #[test]
 fn long_lists_are_whole() {
-    let mut store = filled(&[&format!("a={}; Path=/", "v".repeat(5000))]);
+    let store = filled(&[&format!("a={}; Path=/", "v".repeat(5000))]);
     for Format { name, save, load } in FORMATS {
-        let list = save(&mut store, at(NOW), true).unwrap();
-        let mut copy = load(&list, at(NOW), true).unwrap();
+        let list = save(&store, at(NOW), true).unwrap();
+        let copy = load(&list, at(NOW), true).unwrap();
         assert_eq!(copy.cookies(), store.cookies(), "{name}");
     }
 }
@@ -115,7 +115,7 @@ fn bad_lists_are_not_loaded() {
         assert_eq!(error, expected, "{}: {list}", format.name);
     }
     assert_eq!(
-        names(&mut CookieStore::load_netscape(line, at(NOW), true).unwrap()),
+        names(&CookieStore::load_netscape(line, at(NOW), true).unwrap()),
         "a"
     );
 }
@@ -124,7 +124,7 @@ fn bad_lists_are_not_loaded() {
 fn what_a_format_cannot_represent_is_not_saved() {
     let mut store = CookieStore::new().unwrap();
     store.parse("a=1; Max-Age=1", PAGE, at(FIRST)).unwrap();
-    let errors = FORMATS.map(|format| (format.save)(&mut store, at(NOW), true));
+    let errors = FORMATS.map(|format| (format.save)(&store, at(NOW), true));
     assert_eq!(
         errors,
         [
@@ -145,10 +145,9 @@ fn malformed_lines_are_left_out() {
         ("a=1", "", vec![1]),
     ];
     for (file, expected, malformed) in table {
-        let (mut store, lines) =
-            CookieStore::load_netscape_well_formed(file, at(NOW), true).unwrap();
+        let (store, lines) = CookieStore::load_netscape_well_formed(file, at(NOW), true).unwrap();
         assert_eq!(
-            (names(&mut store).as_str(), lines),
+            (names(&store).as_str(), lines),
             (expected, malformed),
             "{file}"
         );
@@ -159,11 +158,11 @@ fn malformed_lines_are_left_out() {
 
 #[test]
 fn unrepresentable_cookies_are_left_out() {
-    let mut store = filled(&["a=x\ty; Path=/", "b=2; Path=/", "c=3; Path=/; Max-Age=60"]);
+    let store = filled(&["a=x\ty; Path=/", "b=2; Path=/", "c=3; Path=/; Max-Age=60"]);
     for (all, expected, left_out) in [(true, "bc", 1), (false, "c", 0)] {
         let (file, count) = store.save_netscape_representable(at(NOW), all).unwrap();
-        let mut copy = CookieStore::load_netscape(&file, at(NOW), true).unwrap();
-        assert_eq!((names(&mut copy).as_str(), count), (expected, left_out));
+        let copy = CookieStore::load_netscape(&file, at(NOW), true).unwrap();
+        assert_eq!((names(&copy).as_str(), count), (expected, left_out));
     }
     let error = store
         .save_netscape_representable(at(FIRST - 1), true)

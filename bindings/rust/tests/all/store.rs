@@ -70,7 +70,7 @@ fn cookies_are_parsed() {
     let mut store = CookieStore::new().unwrap();
     store.use_suffixes("// a comment\nexample\n").unwrap();
     assert_rows(&mut store, &ROWS);
-    assert_header(&mut store, PAGE, NOW, "h=1; __Host-p=1");
+    assert_header(&store, PAGE, NOW, "h=1; __Host-p=1");
 }
 
 #[test]
@@ -141,7 +141,7 @@ fn times_are_checked() {
             "{now}"
         );
     }
-    assert_eq!(names(&mut store), "a");
+    assert_eq!(names(&store), "a");
 }
 
 #[test]
@@ -149,8 +149,8 @@ fn cookies_expire_before_1970_too() {
     let mut store = CookieStore::new().unwrap();
     assert_eq!(store.parse("a=1; Max-Age=10", PAGE, at(-60)), INSERTED);
     assert_eq!(store.cookies().unwrap()[0].expires, Some(at(-50)));
-    assert_header(&mut store, PAGE, -51, "a=1");
-    assert_header(&mut store, PAGE, -50, "");
+    assert_header(&store, PAGE, -51, "a=1");
+    assert_header(&store, PAGE, -50, "");
 }
 
 fn fields(cookie: &Cookie) -> (&str, &str, &str, &str, Option<i64>, [bool; 4]) {
@@ -210,15 +210,15 @@ fn cookies_have_all_fields() {
         ),
     ];
     assert_eq!(cookies.iter().map(fields).collect::<Vec<_>>(), expected);
-    assert_header(&mut store, SECURE_PAGE, NOW + 4, "a=1; b=; g=gr\u{fc}n");
-    assert_header(&mut store, SECURE_PAGE, NOW + 5, "a=1; g=gr\u{fc}n");
-    assert_header(&mut store, "https://b.a.example/", NOW, "g=gr\u{fc}n");
-    assert_header(&mut store, "http://b.a.example/", NOW, "");
+    assert_header(&store, SECURE_PAGE, NOW + 4, "a=1; b=; g=gr\u{fc}n");
+    assert_header(&store, SECURE_PAGE, NOW + 5, "a=1; g=gr\u{fc}n");
+    assert_header(&store, "https://b.a.example/", NOW, "g=gr\u{fc}n");
+    assert_header(&store, "http://b.a.example/", NOW, "");
 }
 
 #[test]
 fn cross_site_requests_have_fewer_cookies() {
-    let mut store = filled(&[
+    let store = filled(&[
         "n=1; SameSite=None; Path=/d",
         "u=1; Path=/d",
         "l=1; SameSite=Lax",
@@ -261,7 +261,7 @@ fn a_limit_evicts_the_first() {
     for set_cookie in ["a=1", "b=2", "a=3", "c=4"] {
         store.parse(set_cookie, PAGE, at(NOW)).unwrap();
     }
-    assert_header(&mut store, PAGE, NOW, "b=2; c=4");
+    assert_header(&store, PAGE, NOW, "b=2; c=4");
 }
 
 #[test]
@@ -391,7 +391,7 @@ fn ambiguous_urls_are_not_valid() {
         "http://a.example:80/d/",
         "http://A.EXAMPLE/d/",
     ] {
-        assert_header(&mut store, url, NOW, "a=1");
+        assert_header(&store, url, NOW, "a=1");
     }
 }
 
@@ -405,7 +405,7 @@ fn cookies_are_removed() {
     ]);
     assert_eq!(store.remove_expired(at(NOW + 59)), Ok(0));
     assert_eq!(store.remove_expired(at(NOW + 60)), Ok(2));
-    assert_eq!(names(&mut store), "sc");
+    assert_eq!(names(&store), "sc");
     assert!(!store.remove("a.example", "/d", ""));
     assert!(store.remove("a.example", "/d", "s"));
     assert!(!store.remove("a.example", "/d", "s"));
@@ -428,7 +428,7 @@ fn long_results_are_whole() {
     for pair in &pairs {
         store.parse(pair, PAGE, at(NOW)).unwrap();
     }
-    assert_header(&mut store, PAGE, NOW, &pairs.join("; "));
+    assert_header(&store, PAGE, NOW, &pairs.join("; "));
     let cookies = store.cookies().unwrap();
     let stored: Vec<_> = cookies
         .iter()

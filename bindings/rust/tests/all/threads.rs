@@ -8,13 +8,13 @@ use crate::{assert_header, at, filled, NOW, PAGE};
 #[test]
 fn a_store_moves_to_another_thread() {
     let mut store = filled(&["a=1"]);
-    let mut store = thread::spawn(move || {
+    let store = thread::spawn(move || {
         store.parse("b=2", PAGE, at(NOW)).unwrap();
         store
     })
     .join()
     .unwrap();
-    assert_header(&mut store, PAGE, NOW, "a=1; b=2");
+    assert_header(&store, PAGE, NOW, "a=1; b=2");
 }
 
 #[test]
@@ -34,14 +34,14 @@ fn threads_share_a_store() {
             });
         }
     });
-    let mut store = store.into_inner().unwrap();
+    let store = store.into_inner().unwrap();
     assert_eq!(store.len(), THREADS * ROUNDS);
     for thread in 0..THREADS {
         let pairs: Vec<_> = (0..ROUNDS)
             .map(|round| format!("c{round}={thread}"))
             .collect();
         assert_header(
-            &mut store,
+            &store,
             &format!("http://h{thread}.example/"),
             NOW,
             &pairs.join("; "),

@@ -1,4 +1,4 @@
-use Rattle.std.proofs.Common.{[], ◌∷◌, ◌++◌, string_bytes, ap, sym, ◌∙◌, append-nil, lit<, refl, rules}
+use Rattle.std.proofs.Common.{[], ◌∷◌, ◌++◌, string_bytes, ap, sym, ◌∙◌, lit<, refl, rules}
 use Rattle.std.specs.Char.{encode_utf8}
 use Rattle.std.proofs.lemmas.Bool.{cond-false, cond-true}
 use Rattle.std.proofs.lemmas.Str.Pattern.{split_parts}
@@ -14,7 +14,7 @@ returns-then-branch c =
     let names = has_key (key_of c.args.cookie.now) in
     next_replaced (λ line. c.line_reads_back.ensures.end line 10 refl) names (new_line c.args.text.now c.args.cookie.now)
     (missing_end c.args.text.now) (string_bytes c.loop-old.edited) c.in-Some.old.now c.in-Some.after.now c.loop-old.rest.now _ _ parts.0 parts.1
-    (sym c.in_ok-is_line_of.ensures ∙ c.if-branch.true) c.loop-old.invariant.text
+    (sym c.in_ok-is_named.ensures ∙ c.if-branch.true) c.loop-old.invariant.text
     (c.in_ok-push_others.ensures
     ∙ ap (λ text. text ++ kept_text names c.in-Some.after.now) (c.in_ok-push_str.ensures.bytes
     ∙ ap (λ line. string_bytes c.loop-old.edited ++ line) (c.as_str.ensures.value ∙ c.in_ok-line.ensures)))
@@ -27,7 +27,7 @@ loop-old-preserved c =
       utf8 = search rules;
       text = next_before (λ line. c.line_reads_back.ensures.end line 10 refl) (has_key (key_of c.args.cookie.now))
           (new_line c.args.text.now c.args.cookie.now) (missing_end c.args.text.now) (string_bytes c.loop-old.edited) c.in-Some.old.now
-          c.in-Some.after.now c.loop-old.rest.now _ _ parts.0 parts.1 (sym c.in_ok-is_line_of.ensures ∙ c.if-branch.false) c.loop-old.invariant.text
+          c.in-Some.after.now c.loop-old.rest.now _ _ parts.0 parts.1 (sym c.in_ok-is_named.ensures ∙ c.if-branch.false) c.loop-old.invariant.text
           (c.in_ok-push.ensures.bytes ∙ ap (λ text. text ++ 10 ∷ []) c.in_ok-push_str-2.ensures.bytes);
     }
 
@@ -46,9 +46,9 @@ returns c =
           ∙ ap (λ text. string_bytes w.push_str-then-not-branch.new.self ++ text) w.missing_end.ensures
           ∙ ap (λ text. text ++ missing) w.in_ok-push_str-3.ensures.bytes)
           ∙ grouped (string_bytes c.loop-old.edited) c.loop-old.rest.now missing line
-          ∙ ap (λ text. string_bytes c.loop-old.edited ++ text) (sym (last ∙ cond-false _ _ _ (sym c.in_ok-is_line_of-2.ensures ∙ w.if-not-branch.true)))
+          ∙ ap (λ text. string_bytes c.loop-old.edited ++ text) (sym (last ∙ cond-false _ _ _ (sym c.in_ok-is_named-2.ensures ∙ w.if-not-branch.true)))
           ∙ c.loop-old.invariant.text
       | else-not-branch w ↦ pushed ∙ ap (λ edited. string_bytes edited ++ line) w.edited-is
-          ∙ ap (λ text. string_bytes c.loop-old.edited ++ text) (sym (last ∙ cond-true _ _ _ (sym c.in_ok-is_line_of-2.ensures ∙ w.if-not-branch.false)))
+          ∙ ap (λ text. string_bytes c.loop-old.edited ++ text) (sym (last ∙ cond-true _ _ _ (sym c.in_ok-is_named-2.ensures ∙ w.if-not-branch.false)))
           ∙ c.loop-old.invariant.text
     ]

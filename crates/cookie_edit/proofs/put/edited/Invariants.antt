@@ -1,5 +1,5 @@
 -- What was appended and the rest with the new line are the file with it.
-use Rattle.std.proofs.Common.{◌≡◌, ℕ, ◌++◌, length, string_bytes, IsUtf8}
+use Rattle.std.proofs.Common.{◌≡◌, ◌++◌, length, string_bytes, IsUtf8}
 use Rattle.cookie_laws.specs.Rows.{has_key, key_of}
 use Rattle.cookie_edit.specs.Edits.{missing_end, new_line, put_line_in, put_text}
 use Rattle.cookie_edit.proofs.put.edited.Given as goal

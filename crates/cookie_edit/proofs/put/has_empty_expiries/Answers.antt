@@ -1,4 +1,4 @@
-use Rattle.std.proofs.Common.{◌≡◌, refl, rules, tests, lit<}
+use Rattle.std.proofs.Common.{refl, rules, tests, lit<}
 use Rattle.std.proofs.lemmas.Iterator.Search.{any_from_yields_List}
 use Rattle.std.proofs.lemmas.Iterator.Consumers.{YieldsList-at}
 use Rattle.std.proofs.lemmas.Iterator.Splits.{YieldsList-from_str_split}

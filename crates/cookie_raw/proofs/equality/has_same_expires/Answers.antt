@@ -8,7 +8,7 @@ use Rattle.cookie_raw.specs.Views.{expires_value}
 use Rattle.cookie_raw.specs.contracts.expiration.ExpirationPartialEq.TheImpl.{eq-value}
 use Rattle.cookie_raw.specs.declared.expiration.Expiration.{Expiration}
 use Rattle.cookie_raw.specs.declared.expiration.Expiration.TheVariants.{DateTime, Session}
-use Rattle.cookie_raw.proofs.copies.has_same_expires.Goals as goal
+use Rattle.cookie_raw.proofs.equality.has_same_expires.Goals as goal
 
 same_end : (a b : Option Expiration) → option_eq eq-value.it a b ≡ option_eq same_expires (option_map expires_value a) (option_map expires_value b)
 unfolding civil_nanos nanoseconds

@@ -11,14 +11,14 @@ use Rattle.cookie_strict.proofs.insertion.owned_cookie.Goals as goal
 pub returns-then-not-has_long_attribute-clause-early : goal.returns-then-not-has_long_attribute-clause-early
 returns-then-not-has_long_attribute-clause-early c error is =
     let same = none_long c.args.text.now (sym c.if-not-has_long_attribute.ensures) in
-    c.parsed.ensures.early error (ap (λ text. early (reading text) c.args.url.now) (sym same) ∙ is)
+    c.parse_owned.ensures.early error (ap (λ text. early (reading text) c.args.url.now) (sym same) ∙ is)
 
 pub returns-then-not-has_long_attribute-clause-value : goal.returns-then-not-has_long_attribute-clause-value
 returns-then-not-has_long_attribute-clause-value c =
     let text = c.args.text.now in
     let same = none_long text (sym c.if-not-has_long_attribute.ensures) in
-    subst (λ bytes. ReturnsOrMemory (λ cookie. cookie) c.parsed.result (cookie_from_header bytes c.args.url.now (moment_of c.args.now)))
-    (sym same) c.parsed.ensures.value
+    subst (λ bytes. ReturnsOrMemory (λ cookie. cookie) c.parse_owned.result (cookie_from_header bytes c.args.url.now (moment_of c.args.now)))
+    (sym same) c.parse_owned.ensures.value
 
 pub returns-in-Err-clause-value : goal.returns-in-Err-clause-value
 returns-in-Err-clause-value c =
