@@ -8,8 +8,8 @@ import re
 import time
 from typing import Any, Dict, Iterator, List, Optional, Tuple
 
-from ._messages import log_not_stored
-from ._status import CookieStoreError, NoDomain, Status
+from ._messages import log_not_saved, log_not_stored
+from ._status import CookieStoreError, NoDomain, Status, text_of
 from ._store import Cookie, CookieStore, Text
 from ._urls import is_plain_host
 
@@ -17,7 +17,8 @@ from ._urls import is_plain_host
 _PLAIN_PATH = re.compile(r"/[-a-zA-Z0-9_~!$&'()*+,;=:@/]*")
 # A domain that is the same as the host of a URL.
 _PLAIN_HOST = re.compile(r'[-a-zA-Z0-9_.\u0080-\U0010ffff]+|\[[0-9a-fA-F:.]+\]')
-_CONTROL = re.compile(r'[\x00-\x1f\x7f]')
+# The longest Path attribute, in bytes, that a strict store does not ignore.
+_LONGEST_PATH = 1024
 
 
 def from_wire(text: str) -> Text:
@@ -26,6 +27,12 @@ def from_wire(text: str) -> Text:
         return text.encode('latin-1')
     except UnicodeEncodeError:
         return text
+
+
+def _decoded(text: str) -> str:
+    """Return what a string of http.client stands for."""
+    encoded = from_wire(text)
+    return encoded if isinstance(encoded, str) else encoded.decode('utf-8', 'replace')
 
 
 def to_wire(text: str) -> str:
@@ -96,14 +103,24 @@ def _host(cookie: http.cookiejar.Cookie) -> str:
     return domain[:-len('.local')] if is_bare else domain
 
 
-def set_cookie_text(cookie: http.cookiejar.Cookie, has_path: bool, now: int) -> str:
+def _is_path_attribute(path: str, is_strict: bool) -> bool:
+    """Return whether a cookie that is received with this Path attribute has this path.
+
+    With any other the store would send the cookie to more pages.
+    """
+    return (path.startswith('/') and ';' not in path and path == path.strip()
+            and not (is_strict and len(path.encode('utf-8', 'surrogatepass')) > _LONGEST_PATH))
+
+
+def set_cookie_text(cookie: http.cookiejar.Cookie, has_path: bool, now: int, is_strict: bool) -> str:
     """Return a Set-Cookie header value for this cookie, with or without its path.
 
     Raises CookieStoreError with status PARSE if no header value can express the cookie.
     """
     domain = _host(cookie) if cookie.domain_specified or cookie.domain.startswith('.') else ''
     path = cookie.path if has_path else ''
-    if '=' in cookie.name or ';' in f'{cookie.name}{cookie.value}{domain}{path}':
+    is_same_path = not path or _is_path_attribute(_decoded(path), is_strict)
+    if not is_same_path or '=' in cookie.name or ';' in f'{cookie.name}{cookie.value}{domain}':
         raise CookieStoreError(Status.PARSE)
     words = [f'{cookie.name}={"" if cookie.value is None else cookie.value}']
     if domain:
@@ -131,15 +148,15 @@ def insert(store: CookieStore, cookie: http.cookiejar.Cookie) -> Status:
         raise CookieStoreError(Status.BAD_URL)
     has_path = cookie.path_specified or not _PLAIN_PATH.fullmatch(cookie.path)
     path = '/' if has_path or cookie.path == '/' else cookie.path + '/'
-    text = set_cookie_text(cookie, has_path, now)
+    text = set_cookie_text(cookie, has_path, now, store.strict)
     return store.set(from_wire(f'https://{host}{path}'), from_wire(text), now)
 
 
-def header_values(rows: List[Cookie], now: int) -> Iterator[Tuple[str, str]]:
-    """Yield for each cookie of a cookies.txt file a host and a Set-Cookie header value, if they can express it."""
+def header_values(rows: List[Cookie], now: int, is_strict: bool) -> Iterator[Tuple[str, str]]:
+    """Yield a host and a Set-Cookie header value for each cookie of a cookies.txt file, without those that none can express."""
     hosts = {domain for domain in {row.domain for row in rows} if _PLAIN_HOST.fullmatch(domain)}
     for domain, path, name, value, expires, host_only, _, secure, http_only, _ in rows:
-        if domain in hosts and ';' not in path:
+        if domain in hosts and _is_path_attribute(path, is_strict) and name == name.strip() and value == value.strip():
             yield domain, (f'{name}={value}; Path={path}{"" if host_only else "; Domain=" + domain}'
                            f'{"" if expires is None else f"; Max-Age={expires - now}"}'
                            f'{"; Secure" if secure else ""}{"; HttpOnly" if http_only else ""}')
@@ -147,7 +164,15 @@ def header_values(rows: List[Cookie], now: int) -> Iterator[Tuple[str, str]]:
             log_not_stored(domain, name, 'no header value can express it')
 
 
-def is_line(row: Cookie) -> bool:
-    """Return whether a cookie that the store received can be a line of a cookies.txt file."""
-    return (not any(_CONTROL.search(text) for text in row[:4]) and row.path.startswith('/')
-            and not row.domain.startswith('.') and (row.expires is None or row.expires >= 0))
+def _key(row: Cookie) -> Tuple[str, str, str]:
+    """Return what is unique to a cookie of a cookies.txt file, in which domains are in lower case."""
+    return row.domain.lower(), row.path, row.name
+
+
+def log_left_out(rows: List[Cookie], text: str) -> None:
+    """Log those of the cookies that the store left out of a cookies.txt file."""
+    with CookieStore.load_netscape(text, all=True) as saved:
+        keys = {_key(row) for row in saved.cookies()}
+    for row in rows:
+        if _key(row) not in keys:
+            log_not_saved(row.domain, row.name, text_of(Status.UNREPRESENTABLE))

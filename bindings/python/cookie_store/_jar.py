@@ -8,10 +8,10 @@ import time
 import urllib.request
 from typing import Any, Dict, Iterator, List, Optional
 
-from ._cookies import JarCookie, from_wire, header_values, insert, is_line, set_cookie_text, to_wire, unexpired
+from ._cookies import JarCookie, from_wire, header_values, insert, log_left_out, set_cookie_text, to_wire, unexpired
 from ._files import Path, replace_file
 from ._mapping import MappingJar
-from ._messages import header_for, insert_header, log_not_saved, log_not_stored, name_of, receive
+from ._messages import header_for, insert_header, log_not_stored, name_of, receive
 from ._status import CookieStoreError, Status, text_of
 from ._store import Cookie, CookieStore
 from ._urls import target_of
@@ -112,7 +112,7 @@ class StoreJar(MappingJar):
         """Set a cookie, without a request. A cookie that has expired expires the stored one.
 
         Raises NoDomain, a ValueError, if it has no domain, and CookieStoreError with the reason if the
-        store rejects it: PARSE if no header can express it.
+        store rejects it: PARSE if no header can express it, as a path that does not begin with `/`.
         """
         status = insert(self.store, cookie)
         if status not in (Status.INSERTED, Status.UPDATED, Status.EXPIRED_EXISTING, Status.EXPIRED):
@@ -121,7 +121,7 @@ class StoreJar(MappingJar):
     def set_cookie_if_ok(self, cookie: http.cookiejar.Cookie, request: urllib.request.Request) -> None:
         """Set a cookie that has not expired, if a response to request may set it."""
         target, now = target_of(request), self._set_policy_time()
-        text = set_cookie_text(cookie, True, now)
+        text = set_cookie_text(cookie, True, now, self.store.strict)
         if not any(made.domain == cookie.domain for made in self._cookies_made([text], request, now)):
             log_not_stored(target.host, cookie.name, 'a response from the host may not set it')
         elif self._has_policy and not self._policy.set_ok(cookie, request):
@@ -174,6 +174,11 @@ class StoreJar(MappingJar):
         them. A cookie that the store rejects is left out, and a domain cookie of a public suffix on its
         list becomes host-only. The other cookies of the jar stay.
 
+        A cookie that no Set-Cookie header can express is left out too. Its path does not begin with `/`,
+        as MozillaCookieJar writes it after Path=foo, and never sends it; or it has a `;`, or, in a strict
+        store, more than 1,024 bytes; or the path, name or value has white space at an end, such as a
+        no-break space. CookieStore.load_netscape() keeps it. What is left out is logged.
+
         A first line such as MozillaCookieJar demands need not be there, and an expiry of 0 is that of a
         session cookie. Raises http.cookiejar.LoadError, an OSError, if the file is not UTF-8 or has a
         malformed line.
@@ -189,7 +194,7 @@ class StoreJar(MappingJar):
             raise http.cookiejar.LoadError(f'{name}: {error}') from error
         with loaded:
             rows, now = [row for row in loaded.cookies() if ignore_discard or row.expires is not None], int(time.time())
-        for host, header_value, status in self.store._set_all(header_values(rows, now), now):
+        for host, header_value, status in self.store._set_all(header_values(rows, now, self.store.strict), now):
             log_not_stored(host, name_of(header_value), text_of(status))
 
     def _filename(self, filename: Optional[Path]) -> str:
@@ -203,28 +208,26 @@ class StoreJar(MappingJar):
 
         Without filename the file is that of the attribute filename. Session cookies are left out unless
         ignore_discard is true, and expired ones unless ignore_expires is true. Cookies that the format
-        cannot represent are left out: see CookieStore.save_netscape(). The expiry of a session cookie is
-        written as 0, as curl does, and MozillaCookieJar reads that as expired.
+        cannot represent are left out and logged: see CookieStore.save_netscape(). The expiry of a session
+        cookie is written as 0, as curl does, and MozillaCookieJar reads that as expired.
 
         The file is written as replace_file() does.
         """
         replace_file(self._filename(filename), self._netscape(ignore_discard, ignore_expires))
 
     def _netscape(self, ignore_discard: bool, ignore_expires: bool) -> str:
-        is_all = ignore_discard and (ignore_expires or len(self) == len(self.store))
-        if is_all or not (ignore_discard or ignore_expires):
-            text, left_out = self.store.save_netscape_representable(all=is_all)
-            if not left_out:
-                return text
-        with CookieStore.load_ron(self.store.save_ron(all=True), all=ignore_expires) as saved:
-            for row in saved.cookies():
-                is_left_out = row.expires is None and not ignore_discard
-                if not is_left_out and not is_line(row):
-                    log_not_saved(row.domain, row.name, text_of(Status.UNREPRESENTABLE))
-                    is_left_out = True
-                if is_left_out:
-                    saved.remove(row.domain, row.path, row.name)
-            return saved.save_netscape_representable(all=True)[0]
+        now = int(time.time())
+
+        def is_chosen(expires: Optional[int]) -> bool:
+            return ignore_discard if expires is None else ignore_expires or expires > now
+
+        text, left_out = self.store.save_netscape_representable(now, all=ignore_discard or ignore_expires)
+        if left_out:
+            log_left_out([row for row in self.store.cookies() if is_chosen(row.expires)], text)
+        if ignore_discard == ignore_expires:
+            return text
+        first, *lines, last = text.split('\n')
+        return '\n'.join([first, *(line for line in lines if is_chosen(int(line.split('\t')[4]) or None)), last])
 
     def copy(self) -> StoreJar:
         """Return a copy of the jar, over a copy of its store, with the same policy."""

@@ -37,17 +37,40 @@ TEXTS = [
     'u=%2F; Path=/d', 'v=1|2; Path=/d', 'w=x y z; Path=/d',
 ]
 
-# Lines of a loaded file, and the names and domains of the cookies that a jar then has.
+# The arguments ignore_discard and ignore_expires.
+FLAGS = [(False, False), (True, False), (False, True), (True, True)]
+
+# Lines of a file, and the cookies that a jar has of them.
 LOADED = [
-    ('', 'a shop.a.example, b a.example'),
-    ('a b.example\tFALSE\t/\tFALSE\t0\tc\t3\n', 'a shop.a.example, b a.example'),
-    ('a.example/x\tFALSE\t/\tFALSE\t0\tc\t3\n', 'a shop.a.example, b a.example'),
-    ('u@a.example\tFALSE\t/\tFALSE\t0\tc\t3\n', 'a shop.a.example, b a.example'),
-    ('a.example:8\tFALSE\t/\tFALSE\t0\tc\t3\n', 'a shop.a.example, b a.example, c a.example'),
-    ('a.example\tFALSE\t/;x\tFALSE\t0\tc\t3\n', 'a shop.a.example, b a.example'),
-    ('[::1]\tFALSE\t/\tFALSE\t0\tc\t3\n', 'a shop.a.example, b a.example, c [::1]'),
-    ('127.0.0.1\tFALSE\t/\tFALSE\t0\tc\t3\n', 'a shop.a.example, b a.example, c 127.0.0.1'),
-    ('shop.a.example\tFALSE\t/d\tFALSE\t1\ta\t3\n', 'a shop.a.example, b a.example'),
+    ('', ''),
+    ('a b.example\tFALSE\t/\tFALSE\t0\tc\t3\n', ''),
+    ('a.example/x\tFALSE\t/\tFALSE\t0\tc\t3\n', ''),
+    ('u@a.example\tFALSE\t/\tFALSE\t0\tc\t3\n', ''),
+    ('$a.example\tFALSE\t/\tFALSE\t0\tc\t3\n', ''),
+    ('a.example:8\tFALSE\t/\tFALSE\t0\tc\t3\n', 'c a.example/'),
+    ('[::1]\tFALSE\t/\tFALSE\t0\tc\t3\n', 'c [::1]/'),
+    ('::1\tFALSE\t/\tFALSE\t0\tc\t3\n', 'c [::1]/'),
+    ('0:0:0:0:0:0:0:1\tFALSE\t/\tFALSE\t0\tc\t3\n', 'c [::1]/'),
+    ('[::1].local\tFALSE\t/\tFALSE\t0\tc\t3\n', 'c [::1]/'),
+    ('[::1]:8\tFALSE\t/\tFALSE\t0\tc\t3\n', ''),
+    ('localhost.local\tFALSE\t/\tFALSE\t0\tc\t3\n', 'c localhost/'),
+    ('vm.local\tFALSE\t/\tFALSE\t0\tc\t3\n', 'c vm.local/'),
+    ('127.0.0.1\tFALSE\t/\tFALSE\t0\tc\t3\n', 'c 127.0.0.1/'),
+    ('a.example\tFALSE\t"/d"\tFALSE\t0\tc\t3\n', 'c a.example/d'),
+    ('a.example\tFALSE\t\tFALSE\t0\tc\t3\n', 'c a.example/'),
+    ('a.example\tFALSE\tfoo\tFALSE\t0\tc\t3\n', ''),
+    ('a.example\tFALSE\t /\tFALSE\t0\tc\t3\n', ''),
+    ('a.example\tFALSE\t/d \tFALSE\t0\tc\t3\n', ''),
+    ('a.example\tFALSE\t/d\u00a0\tFALSE\t0\tc\t3\n', ''),
+    ('a.example\tFALSE\t/;x\tFALSE\t0\tc\t3\n', ''),
+    ('a.example\tFALSE\t/\tFALSE\t0\t\u00a0c\t3\n', ''),
+    ('a.example\tFALSE\t/\tFALSE\t0\tc\u2003\t3\n', ''),
+    ('a.example\tFALSE\t/\tFALSE\t0\tc\t\u30003\n', ''),
+    ('a.example\tFALSE\t/\tFALSE\t0\tc\t3\u00a0\n', ''),
+    ('a.example\tFALSE\t/\tFALSE\t0\tc\u00a0c\t3\u00a03\n', 'c\u00a0c a.example/'),
+    ('shop.a.example\tFALSE\t/d\tFALSE\t1\ta\t3\n', ''),
+    ('Set-Cookie: c=3; Domain=a.example; Path=/d\n', 'c a.example/d'),
+    ('Set-Cookie: c=3; Domain=a.example; Path=d\n', 'c a.example/'),
 ]
 
 FILE = ('# Netscape HTTP Cookie File\n'
@@ -141,9 +164,8 @@ class FileTests(unittest.TestCase):
 
     def test_jar(self):
         """ignore_discard and ignore_expires select the cookies as MozillaCookieJar does."""
-        rows = [((False, False), 'b'), ((True, False), 'ab'), ((False, True), 'bc'), ((True, True), 'abc')]
         expired = f'{HOST}\tFALSE\t/d\tFALSE\t1\tc\t3\n'
-        for words, wanted in rows:
+        for words, wanted in zip(FLAGS, ['b', 'ab', 'bc', 'abc']):
             jar = StoreJar(CookieStore.load_netscape(FILE + expired, all=True))
             jar.save(self.path, *words)
             saved = CookieStore.load_netscape(self.read(), all=True)
@@ -159,16 +181,31 @@ class FileTests(unittest.TestCase):
             self.assertEqual(list(jar), [])
             self.write(FILE + lines)
             jar.load(self.path, ignore_discard=True, ignore_expires=True)
-            self.assertEqual(', '.join(f'{row.name} {row.domain}' for row in jar.store), wanted, lines)
+            names = [f'{row.name} {row.domain}{row.path}' for row in jar.store]
+            self.assertEqual(names, ['a shop.a.example/d', 'b a.example/', *filter(None, [wanted])], lines)
 
     def test_cookies_that_are_no_line_are_left_out(self):
         jar = StoreJar()
-        for text in ('a=1\t2', 'b=2', 'c=3; Path=/\x7f'):
-            jar.store.set(f'http://{HOST}/', text)
-        jar.store.set('http://.a.example/', 'd=4')
+        for text in ('a=1\t2', 'b=2', 'c=3; Path=/\x7f', 'f=6; Path=/"q"'):
+            jar.store.set(f'http://{HOST}/', text + '; Max-Age=3600')
+        jar.store.set('http://.a.example/', 'd=4; Max-Age=3600')
         jar.store.set(f'http://{HOST}/', 'e=5; Max-Age=60', -100)
-        jar.save(self.path, ignore_discard=True, ignore_expires=True)
-        self.assertEqual([row.name for row in CookieStore.load_netscape(self.read(), all=True)], ['b'])
+        jar.store.set('http://localhost.local/', 'g=7; Max-Age=3600')
+        for words in FLAGS:
+            jar.save(self.path, *words)
+            self.assertEqual([row.name for row in CookieStore.load_netscape(self.read(), all=True)], ['b'], words)
+
+    def test_lines_are_those_of_the_store(self):
+        """Also if some are left out: SameSite=None does not make a cookie Secure, and no line is divided."""
+        jar = StoreJar()
+        for text, now in [('a=1; SameSite=None', None), ('b=2\u2028\x85\u00a02; SameSite=None; Max-Age=3600', None),
+                          ('c=3; SameSite=None; Max-Age=3600', NOW - 3600), ('d=4; Secure', None)]:
+            jar.store.set(f'https://{HOST}/', text, now)
+        first, *lines, last = jar.store.save_netscape(all=True).split('\n')
+        for words, names in zip(FLAGS, ['b', 'abd', 'bc', 'abcd']):
+            jar.save(self.path, *words)
+            wanted = [line for line, name in zip(lines, 'abcd') if name in names]
+            self.assertEqual(self.read().split('\n'), [first, *wanted, last], words)
 
     def test_domain_of_a_list_that_is_no_field_is_left_out(self):
         """A domain of a list may begin with `#`, as a comment does, and no host does."""

@@ -1,4 +1,5 @@
 """Tests of StoreJar as a http.cookiejar.CookieJar."""
+import contextlib
 import copy
 import http.cookiejar
 import time
@@ -37,6 +38,8 @@ TAKEN = [
     (python_cookie('a.example', '/d', path_specified=False), 'http://a.example/d/x', 'a=1', 'http://a.example/dx'),
     (python_cookie('a.example', '/d;x', path_specified=False), 'http://a.example/d;x/y', 'a=1', 'http://a.example/d'),
     (python_cookie('a.example', '/d e', path_specified=False), 'http://a.example/', None, 'http://a.example/d'),
+    (python_cookie('a.example', ''), 'http://a.example/', 'a=1', 'http://b.example/'),
+    (python_cookie('a.example', '/\xc3\xa0'), 'http://a.example/', None, 'http://a.example/\xc3'),
     (python_cookie('a.example', secure=True, rest={'HttpOnly': None}), 'https://a.example/', 'a=1', 'http://a.example/'),
     (python_cookie('a.example', value=None), 'http://a.example/', 'a=', 'http://b.example/'),
     (python_cookie('a.example', expires=4102444800), 'http://a.example/', 'a=1', 'http://b.example/'),
@@ -52,6 +55,8 @@ NOT_TAKEN = [
     (python_cookie('a.example', name='a=b'), Status.PARSE),
     (python_cookie('a.example', value='1; Domain=example'), Status.PARSE),
     (python_cookie('a.example', path='/;'), Status.PARSE),
+    *((python_cookie('a.example', path, path_specified=specified), Status.PARSE)
+      for path in ('foo', ' /d', '/d ', '/d\xc2\xa0', '/d\u2003') for specified in (True, False)),
 ]
 
 
@@ -63,6 +68,14 @@ class JarTests(unittest.TestCase):
         self.assertEqual(jar.make_cookies(Response('s=1; Secure'), request), [])
         jar.extract_cookies(Response('s=1; Secure', 'a=1'), request)
         self.assertEqual([cookie.name for cookie in jar], ['a'])
+
+    def test_strict_and_a_long_path(self):
+        """A strict store ignores a Path attribute that is longer than 1,024 bytes: the cookie would be sent everywhere."""
+        for is_strict, length, is_set in [(True, 1024, True), (True, 1025, False), (False, 1025, True)]:
+            jar, path = StoreJar(CookieStore(strict=is_strict)), '/' + (length - 1) * 'x'
+            with contextlib.nullcontext() if is_set else self.assertRaises(CookieStoreError):
+                jar.set_cookie(python_cookie('a.example', path))
+            self.assertEqual([row.path for row in jar.store], [path] * is_set, (is_strict, length))
 
     def test_same_site(self):
         """A cookie that is set keeps its SameSite attribute."""

@@ -48,7 +48,18 @@ def new_jar_of_aiohttp():
     return asyncio.run(run())
 
 
+# The domain, path, name and value of lines of which a strict store gets no Set-Cookie header.
+INEXPRESSIBLE = [('a b', '/', 'a', 'VALUE'), ('a.example', '/;x', 'a', 'VALUE'), ('a.example', 'foo', 'a', 'VALUE'),
+                 ('a.example', '/ ', 'a', 'VALUE'), ('a.example', '/', '\u00a0a', 'VALUE'), ('a.example', '/', 'a', 'VALUE\u2003'),
+                 ('a.example', '/' + 1024 * 'x', 'a', 'VALUE')]
+
+
 class LoggingTests(unittest.TestCase):
+
+    def setUp(self):
+        folder = tempfile.TemporaryDirectory()
+        self.addCleanup(folder.cleanup)
+        self.path = pathlib.Path(folder.name, 'cookies.txt')
 
     @contextlib.contextmanager
     def logs(self, *wanted):
@@ -141,22 +152,29 @@ class LoggingTests(unittest.TestCase):
                            "cookie 'b' is not sent to host 'a.example': it is not of the store"):
                 client.get('http://a.example/', headers={'Cookie': 'a=VALUE; b=VALUE'})
 
-    def test_files(self):
-        jar = StoreJar(CookieStore(strict=True))
+    def test_loaded_files(self):
         lines = ['a.example\tFALSE\t/\tFALSE\t0\ta\tVALUE', 'a.example\tFALSE\t/\tFALSE\t0\t__Secure-b\tVALUE',
-                 'a b\tFALSE\t/\tFALSE\t0\tc\tVALUE', 'a.example\tFALSE\t/;x\tFALSE\t0\td\tVALUE',
-                 '1.2.3.300\tFALSE\t/\tFALSE\t0\te\tVALUE']
-        with tempfile.TemporaryDirectory() as folder:
-            path = pathlib.Path(folder, 'cookies.txt')
-            path.write_text('\n'.join(lines) + '\n')
-            with self.logs("cookie '__Secure-b' of host 'a.example' is not stored: lacks what the prefix of its name demands",
-                           "cookie 'c' of host 'a b' is not stored: no header value can express it",
-                           "cookie 'd' of host 'a.example' is not stored: no header value can express it",
-                           "cookie 'e' of host '1.2.3.300' is not stored: not a valid URL"):
-                jar.load(path, ignore_discard=True)
-            jar.store.set('http://a.example/', 'f=VALUE\t2')
-            with self.logs("cookie 'f' of host 'a.example' is not saved: the format cannot represent a cookie"):
-                jar.save(path, ignore_discard=True)
+                 '1.2.3.300\tFALSE\t/\tFALSE\t0\tc\tVALUE',
+                 *(f'{domain}\tFALSE\t{path}\tFALSE\t0\t{name}\t{value}' for domain, path, name, value in INEXPRESSIBLE)]
+        self.path.write_text('\n'.join(lines) + '\n', encoding='utf-8')
+        with self.logs("cookie '__Secure-b' of host 'a.example' is not stored: lacks what the prefix of its name demands",
+                       "cookie 'c' of host '1.2.3.300' is not stored: not a valid URL",
+                       *(f'cookie {name!r} of host {domain!r} is not stored: no header value can express it'
+                         for domain, _, name, _ in INEXPRESSIBLE)):
+            StoreJar(CookieStore(strict=True)).load(self.path, ignore_discard=True)
+
+    def test_saved_files(self):
+        """What the flags leave out is not logged."""
+        texts = [('http://a.example/', 'a=VALUE'), ('http://a.example/', 'b=VALUE\t2'), ('http://localhost.local/', 'c=VALUE'),
+                 ('http://a.example/', 'd=VALUE; Path=/"q"; Max-Age=60'), ('http://a.example/', 'e=VALUE; Max-Age=60')]
+        jar, names = StoreJar(), {'b': 'a.example', 'c': 'localhost.local', 'd': 'a.example', 'f': 'a.example'}
+        for url, text in texts:
+            jar.store.set(url, text)
+        jar.store.set('http://a.example/', 'f=VALUE\t2; Max-Age=60', 1)
+        for words, wanted in [((False, False), 'd'), ((True, False), 'bcd'), ((False, True), 'df'), ((True, True), 'bcdf')]:
+            with self.subTest(words), self.logs(*(f'cookie {name!r} of host {names[name]!r} is not saved: the format '
+                                                  'cannot represent a cookie' for name in wanted)):
+                jar.save(self.path, *words)
 
 
 if __name__ == '__main__':
