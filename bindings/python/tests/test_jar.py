@@ -2,6 +2,7 @@
 import contextlib
 import copy
 import http.cookiejar
+import itertools
 import time
 import unittest
 import urllib.request
@@ -71,10 +72,12 @@ class JarTests(unittest.TestCase):
 
     def test_strict_and_a_long_path(self):
         """A strict store ignores a Path attribute that is longer than 1,024 bytes: the cookie would be sent everywhere."""
-        for is_strict, length, is_set in [(True, 1024, True), (True, 1025, False), (False, 1025, True)]:
+        calls = [StoreJar.set_cookie, lambda jar, cookie: jar.set_cookie_if_ok(cookie, urllib.request.Request(PAGE))]
+        rows = [(True, 1024, True), (True, 1025, False), (False, 1025, True)]
+        for (is_strict, length, is_set), call in itertools.product(rows, calls):
             jar, path = StoreJar(CookieStore(strict=is_strict)), '/' + (length - 1) * 'x'
             with contextlib.nullcontext() if is_set else self.assertRaises(CookieStoreError):
-                jar.set_cookie(python_cookie('a.example', path))
+                call(jar, python_cookie('a.example', path))
             self.assertEqual([row.path for row in jar.store], [path] * is_set, (is_strict, length))
 
     def test_same_site(self):

@@ -176,6 +176,14 @@ class LoggingTests(unittest.TestCase):
                                                   'cannot represent a cookie' for name in wanted)):
                 jar.save(self.path, *words)
 
+    def test_saved_domains_of_a_list(self):
+        """A domain of a list may be in upper case, and a line is read in lower case."""
+        jar = StoreJar(CookieStore.load_json(json.dumps([
+            {'raw_cookie': text, 'path': ['/', False], 'domain': {'HostOnly': 'A.example'}, 'expires': 'SessionEnd'}
+            for text in ('a=VALUE', 'b=VALUE\t2')])))
+        with self.logs("cookie 'b' of host 'A.example' is not saved: the format cannot represent a cookie"):
+            jar.save(self.path, ignore_discard=True)
+
 
 if __name__ == '__main__':
     unittest.main()
