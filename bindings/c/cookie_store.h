@@ -5,26 +5,28 @@
  *
  *     cookie_store store = COOKIE_STORE_INIT;
  *     char key[16], header[4096];
- *     size_t needed;
+ *     size_t needed, left_out;
  *     enum cookie_store_status status;
  *     if (getentropy(key, sizeof key)) abort();
  *     if (cookie_store_new(&store, key, sizeof key) != COOKIE_STORE_OK) abort();
  *
  *     // A response from `url` had the header `Set-Cookie: value`.
- *     status = cookie_store_set(&store, url, strlen(url), value, strlen(value), time(NULL));
+ *     status = cookie_store_parse(&store, url, strlen(url), value, strlen(value), time(NULL));
  *     if (status >= 10) printf("not stored: %s\n", cookie_store_status_text(status));
  *
  *     // The Cookie header of a request for `url`.
- *     status = cookie_store_get(&store, url, strlen(url), time(NULL), header, sizeof header,
- *                               &needed);
+ *     status = cookie_store_header(&store, url, strlen(url), time(NULL), header, sizeof header,
+ *                                  &needed);
  *     if (status == COOKIE_STORE_OK && needed > 0) printf("Cookie: %.*s\n", (int)needed, header);
  *
- *     // Save the cookies: first ask for the length, then write.
- *     status = cookie_store_save_json(&store, time(NULL), false, header, 0, &needed);
+ *     // Save the persistent cookies: first ask for the length, then write.
+ *     status = cookie_store_save(&store, COOKIE_STORE_JSON, COOKIE_STORE_PERSISTENT, time(NULL),
+ *                                header, 0, &needed, &left_out);
  *     if (status == COOKIE_STORE_NO_ROOM) {
  *         char *list = malloc(needed);
  *         if (!list) abort();
- *         status = cookie_store_save_json(&store, time(NULL), false, list, needed, &needed);
+ *         status = cookie_store_save(&store, COOKIE_STORE_JSON, COOKIE_STORE_PERSISTENT,
+ *                                    time(NULL), list, needed, &needed, &left_out);
  *         if (status == COOKIE_STORE_OK) fwrite(list, 1, needed, file);
  *         free(list);
  *     }
@@ -34,10 +36,10 @@
  *
  *   A `cookie_store` is a handle: two words that the caller allocates, and that either hold a store
  *   or are empty. A handle starts empty, as COOKIE_STORE_INIT or as all zero bytes.
- *   cookie_store_new and the functions whose names begin with cookie_store_load create a store in an
- *   empty handle. cookie_store_free frees the store and leaves the handle empty, so that it can be
- *   used again. A handle may be moved with memcpy if the old one is not used again; otherwise it
- *   must not be copied. Its members are private.
+ *   cookie_store_new and cookie_store_load create a store in an empty handle. cookie_store_free
+ *   frees the store and leaves the handle empty, so that it can be used again. A handle may be moved
+ *   with memcpy if the old one is not used again; otherwise it must not be copied. Its members are
+ *   private.
  *
  * Ownership
  *
@@ -87,9 +89,9 @@
  *
  *   A status below 10 is success, from 10 to 19 and from 40 on the cookie is rejected, and from 20
  *   to 39 the call failed. Statuses are named in these comments without their prefix
- *   COOKIE_STORE_. A call that fails leaves the store unchanged and writes nothing to a buffer.
- *   Each function lists its errors in the order in which they are checked: the first that applies
- *   is returned.
+ *   COOKIE_STORE_. A call that fails leaves the store unchanged and writes nothing to a buffer, but
+ *   for the number of a line with BAD_LINE. Each function lists its errors in the order in which
+ *   they are checked: the first that applies is returned.
  *
  *   Every call that may allocate memory can return NO_MEMORY. If a function says `May return
  *   NO_MEMORY instead of X`, then errors before X are reported even if no memory is left, and X and
@@ -99,15 +101,15 @@
  * Threads
  *
  *   A store may be used by one thread at a time, also by calls that only read it, such as
- *   cookie_store_get and cookie_store_count. Moving it to another thread needs synchronization,
+ *   cookie_store_header and cookie_store_count. Moving it to another thread needs synchronization,
  *   such as a lock or a join. Different stores may be used at the same time. No function may be
  *   called from a signal handler, or in the forked child of a program that has threads.
  *
  * ABI
  *
  *   The soname libcookie_store.so.0 and the symbol version COOKIE_STORE_0 promise: functions and
- *   statuses are only added; no function, number of an enum or struct member changes, and the two
- *   structs keep their size. Treat a status that you do not know by its range, see Errors.
+ *   numbers of enums are only added; no function, number of an enum or struct member changes, and
+ *   the two structs keep their size. Treat a status that you do not know by its range, see Errors.
  *   COOKIE_STORE_INIT is zero bytes. An enum must be 32 bits wide. */
 #ifndef COOKIE_STORE_H
 #define COOKIE_STORE_H
@@ -179,6 +181,9 @@ enum cookie_store_status {
     COOKIE_STORE_NOT_FOUND = 27,
     /* The limit is 0. */
     COOKIE_STORE_BAD_LIMIT = 28,
+    /* The number of a format, or of which cookies are saved or loaded, is not in its enum; or a
+     * flag is unknown. */
+    COOKIE_STORE_BAD_OPTION = 29,
 
     /* A line of the public suffix list is not a rule. Its number is reported. */
     COOKIE_STORE_BAD_RULE = 30,
@@ -190,8 +195,8 @@ enum cookie_store_status {
     /* Of a list to load: an expiry is not a valid date and time. Of cookies to save: one expires
      * before the year 0, which a list cannot represent. */
     COOKIE_STORE_BAD_EXPIRY = 34,
-    /* A line of a cookies.txt file to load is neither a cookie nor a comment nor blank. Its number is
-     * reported. */
+    /* A line of a cookies.txt file to load is malformed: it is neither a cookie nor skipped. Its
+     * number is reported. */
     COOKIE_STORE_BAD_LINE = 35,
     /* Of cookies to save as cookies.txt: the format cannot represent one. */
     COOKIE_STORE_UNREPRESENTABLE = 36,
@@ -245,6 +250,7 @@ static inline const char *cookie_store_status_text(enum cookie_store_status stat
     case COOKIE_STORE_NO_ROOM: return "the buffer is too short";
     case COOKIE_STORE_NOT_FOUND: return "no such cookie";
     case COOKIE_STORE_BAD_LIMIT: return "the limit is 0";
+    case COOKIE_STORE_BAD_OPTION: return "an unknown option";
     case COOKIE_STORE_BAD_RULE: return "a line of the list is not a rule";
     case COOKIE_STORE_BAD_JSON: return "not JSON";
     case COOKIE_STORE_BAD_SHAPE: return "JSON, but not a list of cookies";
@@ -308,7 +314,7 @@ void cookie_store_free(cookie_store *store);
  *
  * Errors, in the order in which they are checked: NO_STORE, NOT_UTF8, BAD_RULE, NO_RULES.
  * May return NO_MEMORY instead of BAD_RULE, NO_RULES or OK. */
-enum cookie_store_status cookie_store_use_suffixes(cookie_store *store, const char *list, size_t list_len, bool only_listed,
+enum cookie_store_status cookie_store_set_suffix_list(cookie_store *store, const char *list, size_t list_len, bool only_listed,
                                                    size_t *bad_line);
 
 /* Limits each domain to `limit` cookies, RFC 6265 6.1.
@@ -321,9 +327,14 @@ enum cookie_store_status cookie_store_use_suffixes(cookie_store *store, const ch
  * Errors, in the order in which they are checked: NO_STORE, BAD_LIMIT. */
 enum cookie_store_status cookie_store_set_domain_limit(cookie_store *store, size_t limit);
 
+/* Returns the limit that cookie_store_set_domain_limit set.
+ *
+ * Returns 0 if there is none, or if the handle is empty. */
+size_t cookie_store_domain_limit(cookie_store *store);
+
 /* Sets whether the store is strict. A store that was just created or loaded is not.
  *
- * Into a strict store, cookie_store_set inserts by rules that the revision of RFC 6265,
+ * Into a strict store, cookie_store_parse inserts by rules that the revision of RFC 6265,
  * draft-ietf-httpbis-rfc6265bis, adds and browsers follow: the statuses 40 to 46 list what is
  * rejected, attributes whose value is longer than 1,024 bytes are ignored, and a cookie expires at
  * most 400 days after it was received. With a public suffix list, a cookie is also rejected with
@@ -331,11 +342,16 @@ enum cookie_store_status cookie_store_set_domain_limit(cookie_store *store, size
  * bucket.s3.amazonaws.com. docs/STRICT.md also lists the rules that are left out.
  *
  * Stored cookies stay. For a cookie that is not Secure, received from a URL that is not secure,
- * cookie_store_set takes time in proportion to the number of Secure cookies of its name. The first
+ * cookie_store_parse takes time in proportion to the number of Secure cookies of its name. The first
  * such call also reads all stored cookies, and so does one after about as many new Secure cookies.
  *
  * Errors: NO_STORE. */
 enum cookie_store_status cookie_store_set_strict(cookie_store *store, bool strict);
+
+/* Returns whether the store is strict.
+ *
+ * Returns false if the handle is empty. */
+bool cookie_store_is_strict(cookie_store *store);
 
 /* Changes the hash key of the store to `key`, as in cookie_store_new. The cookies are copied once.
  *
@@ -349,8 +365,8 @@ enum cookie_store_status cookie_store_set_hash_key(cookie_store *store, const ch
  * success the status is INSERTED, UPDATED or EXPIRED_EXISTING.
  *
  * Errors, in the order in which they are checked: NO_STORE, NOT_UTF8, BAD_TIME, BAD_URL, PARSE
- * (not a cookie), NON_HTTP_SCHEME (the cookie is HttpOnly), PARSE (the Domain attribute is not a
- * domain name), NON_RELATIVE_SCHEME, DOMAIN_MISMATCH, PUBLIC_SUFFIX, NON_HTTP_SCHEME (the stored
+ * (not a cookie), NON_HTTP_SCHEME (the cookie is HttpOnly), NON_RELATIVE_SCHEME, PARSE (the Domain
+ * attribute is not a domain name), DOMAIN_MISMATCH, PUBLIC_SUFFIX, NON_HTTP_SCHEME (the stored
  * cookie is HttpOnly), EXPIRED.
  * May return NO_MEMORY instead of BAD_URL, any error after it, or success.
  *
@@ -358,7 +374,7 @@ enum cookie_store_status cookie_store_set_hash_key(cookie_store *store, const ch
  * TOO_LONG, those above from NON_HTTP_SCHEME (the cookie is HttpOnly) on, INSECURE_URL,
  * INSECURE_SAME_SITE_NONE, PREFIX, SECURE_STORED, SECURE_LIMIT. PUBLIC_SUFFIX then also stands for a
  * domain above the site of the host. */
-enum cookie_store_status cookie_store_set(cookie_store *store, const char *url, size_t url_len, const char *value,
+enum cookie_store_status cookie_store_parse(cookie_store *store, const char *url, size_t url_len, const char *value,
                                           size_t value_len, int64_t now);
 
 /* Writes the value of the Cookie header of a request for `url` at `now`, RFC 6265 5.4.
@@ -379,23 +395,36 @@ enum cookie_store_status cookie_store_set(cookie_store *store, const char *url, 
  *
  * Errors, in the order in which they are checked: NO_STORE, NOT_UTF8, BAD_TIME, BAD_URL, NO_ROOM.
  * May return NO_MEMORY instead of BAD_URL, NO_ROOM or OK. */
-enum cookie_store_status cookie_store_get(cookie_store *store, const char *url, size_t url_len, int64_t now, char *out,
+enum cookie_store_status cookie_store_header(cookie_store *store, const char *url, size_t url_len, int64_t now, char *out,
                                           size_t out_len, size_t *needed);
+
+/* Flags of a cross-site request, to be combined with `|`. */
+enum cookie_store_cross_site {
+    /* No flag: the request is not a top-level navigation, such as one for an image, or its method is
+     * not safe. */
+    COOKIE_STORE_CROSS_SITE = 0,
+    /* A top-level navigation with a safe method, such as a link that is followed. */
+    COOKIE_STORE_TOP_LEVEL = 1,
+    /* A cookie without a SameSite attribute is treated as SameSite=None, and not as SameSite=Lax. */
+    COOKIE_STORE_NONE_BY_DEFAULT = 2
+};
 
 /* Writes the value of the Cookie header of a cross-site request for `url` at `now`,
  * draft-ietf-httpbis-rfc6265bis 5.8.3: one from a page of another site, or from a page that is in a
- * frame of one. For a same-site request, or one that comes from no page, call cookie_store_get.
+ * frame of one. For a same-site request, or one that comes from no page, call cookie_store_header.
  *
- * The value is that of cookie_store_get without the cookies that the request must not have: those
- * with SameSite=Strict, and those with SameSite=Lax unless `top_level` is true. `top_level` is
- * whether the request is a top-level navigation with a safe method, such as a link that is
- * followed. A cookie without a SameSite attribute is treated as SameSite=Lax if `lax_by_default` is
- * true, as in the draft, and otherwise as SameSite=None.
+ * The value is that of cookie_store_header without the cookies that the request must not have: those
+ * with SameSite=Strict, and those with SameSite=Lax unless `request` has COOKIE_STORE_TOP_LEVEL. A
+ * cookie without a SameSite attribute is treated as SameSite=Lax, as in the draft, unless `request` has
+ * COOKIE_STORE_NONE_BY_DEFAULT.
  *
- * Works on any store, strict or not. Errors as cookie_store_get. */
-enum cookie_store_status cookie_store_get_cross_site(cookie_store *store, const char *url, size_t url_len, int64_t now,
-                                                     bool top_level, bool lax_by_default, char *out, size_t out_len,
-                                                     size_t *needed);
+ * Works on any store, strict or not.
+ *
+ * Errors, in the order in which they are checked: NO_STORE, BAD_OPTION, NOT_UTF8, BAD_TIME, BAD_URL,
+ * NO_ROOM.
+ * May return NO_MEMORY instead of BAD_URL, NO_ROOM or OK. */
+enum cookie_store_status cookie_store_header_cross_site(cookie_store *store, const char *url, size_t url_len, int64_t now,
+                                                        uint32_t request, char *out, size_t out_len, size_t *needed);
 
 /* Removes the cookie with this domain, path and name, expired or not.
  *
@@ -413,7 +442,7 @@ enum cookie_store_status cookie_store_clear(cookie_store *store);
 /* Removes the cookies that have expired at `now` and frees their memory. The others keep their
  * order.
  *
- * For `now` and later times cookie_store_get returns the same cookies as before: it never returns
+ * For `now` and later times cookie_store_header returns the same cookies as before: it never returns
  * an expired one. `*removed` is set to the number of cookies removed, and to 0 on an error.
  *
  * Errors, in the order in which they are checked: NO_STORE, BAD_TIME. */
@@ -468,94 +497,86 @@ typedef struct cookie_store_row {
 enum cookie_store_status cookie_store_rows(cookie_store *store, cookie_store_row *rows, size_t rows_len, char *strings,
                                            size_t strings_len, size_t *rows_needed, size_t *strings_needed);
 
-/* Writes the cookies as a list in JSON or RON, in UTF-8, followed by a line feed.
+/* The formats of saved cookies, all in UTF-8. */
+enum cookie_store_format {
+    /* A list in JSON. */
+    COOKIE_STORE_JSON = 0,
+    /* A list in RON. */
+    COOKIE_STORE_RON = 1,
+    /* A cookies.txt file, the format of Netscape that curl, wget and Python's MozillaCookieJar read. */
+    COOKIE_STORE_NETSCAPE = 2,
+    /* The same, but what is saved leaves out cookies that the file cannot represent, and what is
+     * loaded leaves out malformed lines. */
+    COOKIE_STORE_NETSCAPE_LENIENT = 3
+};
+
+/* Which cookies are saved or loaded. */
+enum cookie_store_which {
+    /* All cookies. */
+    COOKIE_STORE_ALL = 0,
+    /* Those that have not expired, session cookies included. */
+    COOKIE_STORE_UNEXPIRED = 1,
+    /* Those that have not expired, without session cookies. */
+    COOKIE_STORE_PERSISTENT = 2
+};
+
+/* Writes cookies in a format, in the order of the store. The last byte is a line feed.
  *
- * If `all` is true, all cookies are written; otherwise the persistent ones that have not expired at
- * `now`. `now` is checked in both cases.
+ * Which cookies have expired is decided at `now`, which is checked for COOKIE_STORE_ALL too.
+ * `*left_out` is set to the number of cookies that COOKIE_STORE_NETSCAPE_LENIENT leaves out, also on
+ * NO_ROOM, and to 0 in all other cases.
  *
- * A cookie that was received with SameSite=None and without Secure is Secure in the store that is
- * loaded from the list: its entry has a Set-Cookie header value, which has Secure with SameSite=None.
+ * In JSON and RON, a cookie that was received with SameSite=None and without Secure is Secure in the
+ * store that is loaded from the list: its entry has a Set-Cookie header value, which has Secure with
+ * SameSite=None. If a cookie expires before the year 0, the error is BAD_EXPIRY.
  *
- * Errors, in the order in which they are checked: NO_STORE, BAD_TIME, BAD_EXPIRY, NO_ROOM.
+ * A cookies.txt file begins with the line `# Netscape HTTP Cookie File`. Each cookie has a line of
+ * seven fields, separated by HTAB: its domain, with a leading dot for a domain cookie; TRUE for a
+ * domain cookie, else FALSE; its path; TRUE if it is Secure, else FALSE; its expiry in whole seconds,
+ * or 0 for a session cookie; its name; its value. The line of an HttpOnly cookie begins with
+ * `#HttpOnly_`. SameSite is not written. An expiry of 0 (EXPIRED_EXISTING) is written as 1.
+ * MozillaCookieJar reads session cookies, whose expiry is written as 0, as expired.
+ *
+ * If the line of a cookie would not read back, the error is UNREPRESENTABLE:
+ * - the cookie has a control character, or expires before 1970;
+ * - its domain is empty, begins with a dot, a space, `#` or `$`, or reads as another one, as
+ *   `localhost.local` does;
+ * - its path is empty, TRUE or FALSE, or has a quotation mark at an end;
+ * - it is a cookie of a loaded list, and its name or value is not one that a header value can have.
+ *
+ * Errors, in the order in which they are checked: NO_STORE, BAD_OPTION, BAD_TIME, BAD_EXPIRY,
+ * UNREPRESENTABLE, NO_ROOM.
  * May return NO_MEMORY instead of NO_ROOM or OK. */
-enum cookie_store_status cookie_store_save_json(cookie_store *store, int64_t now, bool all, char *out, size_t out_len, size_t *needed);
-enum cookie_store_status cookie_store_save_ron(cookie_store *store, int64_t now, bool all, char *out, size_t out_len, size_t *needed);
+enum cookie_store_status cookie_store_save(cookie_store *store, enum cookie_store_format format, enum cookie_store_which which, int64_t now,
+                                           char *out, size_t out_len, size_t *needed, size_t *left_out);
 
-/* Creates a store, in an empty handle, with the cookies of a list in JSON or RON, as
- * cookie_store_save_json and cookie_store_save_ron write it.
+/* Creates a store, in an empty handle, with cookies in a format, as cookie_store_save writes it.
  *
- * If `all` is true, all cookies of the list are inserted; otherwise those that have not expired at
- * `now`, session cookies included. `now` is checked in both cases. A cookie replaces an earlier one
- * of the list with the same domain, path and name. `key` is the hash key, as in cookie_store_new.
- * The store has no public suffix list and no limit, is not strict, and the domains of the cookies
- * are not checked. On an error the handle is unchanged.
+ * Which cookies have expired is decided at `now`, which is checked for COOKIE_STORE_ALL too. A cookie
+ * replaces an earlier one with the same domain, path and name. `key` is the hash key, as in
+ * cookie_store_new. The store has no public suffix list and no limit, is not strict, and the domains
+ * of the cookies are not checked. On an error the handle is unchanged.
  *
- * Errors, in the order in which they are checked: HAS_STORE, BAD_TIME, NOT_UTF8, then for JSON
- * BAD_JSON, BAD_SHAPE, BAD_EXPIRY, PARSE, and for RON BAD_RON, BAD_EXPIRY, PARSE.
- * May return NO_MEMORY instead of BAD_JSON, BAD_RON, any error after them, or OK. */
-enum cookie_store_status cookie_store_load_json(cookie_store *store, const char *key, size_t key_len, const char *list, size_t list_len,
-                                                int64_t now, bool all);
-enum cookie_store_status cookie_store_load_ron(cookie_store *store, const char *key, size_t key_len, const char *list, size_t list_len,
-                                               int64_t now, bool all);
-
-/* Writes the cookies as a cookies.txt file, the format of Netscape that curl, wget and Python's
- * MozillaCookieJar read, in UTF-8.
+ * A cookies.txt file is read as curl, wget and Python write it; docs/USING.md has a table. Lines end
+ * in LF or CRLF. Blank lines are skipped, and so are those that begin with `$`, or with `#` but not
+ * with `#HttpOnly_`. TRUE and FALSE ignore case. The domain may have a dot before it or a port behind
+ * it, and may be an IPv6 address without brackets. The path may be missing, which is `/`, and so may
+ * an empty value. The expiry may be empty for a session cookie, or -1 for a cookie that never expires;
+ * a fraction of it is ignored. A line that begins with `Set-Cookie:` is a header, which must have
+ * Domain and no Max-Age. Any other line is malformed. Each cookie of a file has `has_path`.
  *
- * The first line is `# Netscape HTTP Cookie File`. Each cookie has a line of seven fields, separated
- * by HTAB: its domain, with a leading dot for a domain cookie; TRUE for a domain cookie, else FALSE;
- * its path; TRUE if it is Secure, else FALSE; its expiry in whole seconds, or 0 for a session cookie;
- * its name; its value. The line of an HttpOnly cookie begins with `#HttpOnly_`. SameSite is not
- * written. An expiry of 0 (EXPIRED_EXISTING) is written as 1. MozillaCookieJar reads session cookies,
- * whose expiry is written as 0, as expired.
+ * `*malformed` is set to the number of malformed lines that COOKIE_STORE_NETSCAPE_LENIENT leaves out,
+ * to 1 on BAD_LINE, for the first malformed line, and to 0 in all other cases. The numbers of these
+ * lines, counted from 1, are written to the start of `lines`, in order, at most `lines_len` of them.
+ * To load without the numbers, pass a `lines_len` of 0 and any pointer that is not NULL.
  *
- * Which cookies are written: see `all` in cookie_store_save_json. Nothing is written if the format
- * cannot represent one of them: it has a control character, it expires before 1970, or its domain is
- * empty or begins with a dot or `#`. Neither can it represent a cookie of a list in JSON or RON whose
- * path does not begin with `/`, or whose name or value a header value cannot have.
- *
- * Errors, in the order in which they are checked: NO_STORE, BAD_TIME, UNREPRESENTABLE, NO_ROOM.
- * May return NO_MEMORY instead of NO_ROOM or OK. */
-enum cookie_store_status cookie_store_save_netscape(cookie_store *store, int64_t now, bool all, char *out, size_t out_len,
-                                                    size_t *needed);
-
-/* Writes the cookies as cookie_store_save_netscape does, but leaves out those that the format cannot
- * represent.
- *
- * `*left_out` is set to how many are left out, also on NO_ROOM, and to 0 on any other error.
- *
- * Errors, in the order in which they are checked: NO_STORE, BAD_TIME, NO_ROOM.
- * May return NO_MEMORY instead of NO_ROOM or OK. */
-enum cookie_store_status cookie_store_save_netscape_representable(cookie_store *store, int64_t now, bool all, char *out, size_t out_len,
-                                                                  size_t *needed, size_t *left_out);
-
-/* Creates a store, in an empty handle, with the cookies of a cookies.txt file, in UTF-8.
- *
- * Lines end in LF or CRLF. They have the fields that cookie_store_save_netscape writes, or as other
- * programs write them: TRUE and FALSE ignoring case; with or without a dot before the domain; without
- * the path, which is then `/`; with an empty expiry for a session cookie; without an empty value. A
- * fraction of the expiry is ignored. Blank lines are skipped, and so are lines that begin with `#` but
- * not with `#HttpOnly_`. If any other line is not a cookie, nothing is loaded.
- *
- * `*bad_line` is set to the number of the first malformed line, counted from 1, on BAD_LINE, and to
- * 0 otherwise. Each cookie has `has_path`. All else is as in cookie_store_load_json.
- *
- * Errors, in the order in which they are checked: HAS_STORE, BAD_TIME, NOT_UTF8, BAD_LINE.
- * May return NO_MEMORY instead of BAD_LINE or OK. */
-enum cookie_store_status cookie_store_load_netscape(cookie_store *store, const char *key, size_t key_len, const char *list,
-                                                    size_t list_len, int64_t now, bool all, size_t *bad_line);
-
-/* Creates a store as cookie_store_load_netscape does, but leaves out the malformed lines.
- *
- * `*malformed` is set to how many lines are malformed, and the numbers of the first `lines_len` of
- * them, counted from 1, are written to the start of `lines`, in order. To load without the numbers,
- * pass a `lines_len` of 0 and any pointer that is not NULL. On an error `lines` is unchanged and
- * `*malformed` is 0.
- *
- * Errors, in the order in which they are checked: HAS_STORE, BAD_TIME, NOT_UTF8.
- * May return NO_MEMORY instead of OK. */
-enum cookie_store_status cookie_store_load_netscape_well_formed(cookie_store *store, const char *key, size_t key_len, const char *list,
-                                                                size_t list_len, int64_t now, bool all, size_t *lines, size_t lines_len,
-                                                                size_t *malformed);
+ * Errors, in the order in which they are checked: HAS_STORE, BAD_OPTION, BAD_TIME, NOT_UTF8, then for
+ * JSON BAD_JSON, BAD_SHAPE, BAD_EXPIRY, PARSE, for RON BAD_RON, BAD_EXPIRY, PARSE, and for
+ * COOKIE_STORE_NETSCAPE BAD_LINE.
+ * May return NO_MEMORY instead of BAD_JSON, BAD_RON, BAD_LINE, any error after them, or OK. */
+enum cookie_store_status cookie_store_load(cookie_store *store, const char *key, size_t key_len, enum cookie_store_format format,
+                                           enum cookie_store_which which, const char *list, size_t list_len, int64_t now, size_t *lines,
+                                           size_t lines_len, size_t *malformed);
 
 #ifdef __cplusplus
 }

@@ -76,11 +76,13 @@ static void write_file(const char *path, const char *content, size_t length) {
 /* Creates the store, with the cookies of the file if there is one. */
 static void load(cookie_store *store, const char *path) {
     char key[16];
-    size_t length = 0;
+    size_t length = 0, line, malformed;
     if (getentropy(key, sizeof key) != 0) err(1, "getentropy");
     char *list = read_file(path, &length);
     if (list)
-        check(cookie_store_load_json(store, key, sizeof key, list, length, time(NULL), false), path);
+        check(cookie_store_load(store, key, sizeof key, COOKIE_STORE_JSON, COOKIE_STORE_UNEXPIRED, list, length, time(NULL), &line, 1,
+                                &malformed),
+              path);
     else
         check(cookie_store_new(store, key, sizeof key), "cookie_store_new");
     free(list);
@@ -88,13 +90,13 @@ static void load(cookie_store *store, const char *path) {
 
 /* Saves the persistent cookies. */
 static void save(cookie_store *store, const char *path) {
-    size_t room, needed = 4096;
+    size_t room, left_out, needed = 4096;
     char *list = NULL;
     enum cookie_store_status status;
     do {
         room = needed;
         list = checked(realloc(list, room));
-        status = cookie_store_save_json(store, time(NULL), false, list, room, &needed);
+        status = cookie_store_save(store, COOKIE_STORE_JSON, COOKIE_STORE_PERSISTENT, time(NULL), list, room, &needed, &left_out);
     } while (status == COOKIE_STORE_NO_ROOM);
     check(status, path);
     write_file(path, list, needed);
@@ -136,7 +138,7 @@ static size_t take_header(char *line, size_t size, size_t count, void *data) {
     while (end > begin && (line[end - 1] == '\r' || line[end - 1] == '\n')) end--;
     enum cookie_store_status status = COOKIE_STORE_CONTROL_CHARACTER;
     if (!has_control(line + begin, end - begin))
-        status = cookie_store_set(response->store, response->url, strlen(response->url), line + begin, end - begin, time(NULL));
+        status = cookie_store_parse(response->store, response->url, strlen(response->url), line + begin, end - begin, time(NULL));
     if (status >= 10) warnx("%s: cookie not stored: %s", response->url, cookie_store_status_text(status));
     return size * count;
 }
@@ -149,7 +151,7 @@ static char *header_for(cookie_store *store, const char *url) {
     do {
         room = needed;
         header = checked(realloc(header, room + 1));
-        status = cookie_store_get(store, url, strlen(url), time(NULL), header, room, &needed);
+        status = cookie_store_header(store, url, strlen(url), time(NULL), header, room, &needed);
     } while (status == COOKIE_STORE_NO_ROOM);
     header[needed] = 0;
     if (status == COOKIE_STORE_OK && has_control(header, needed)) status = COOKIE_STORE_CONTROL_CHARACTER;

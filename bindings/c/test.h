@@ -36,15 +36,15 @@ static inline void same_text(const char *name, const char *got, size_t length, c
 
 static const char *const PAGE = "http://a.example/d/page";
 
-static inline enum cookie_store_status set(cookie_store *store, const char *url, const char *text, int64_t now) {
-    return cookie_store_set(store, TEXT(url), TEXT(text), now);
+static inline enum cookie_store_status parse(cookie_store *store, const char *url, const char *text, int64_t now) {
+    return cookie_store_parse(store, TEXT(url), TEXT(text), now);
 }
 
 static inline void gives(const char *name, cookie_store *store, const char *url, int64_t now, const char *wanted) {
     char out[256];
     size_t needed = UNSET;
     memset(out, '-', sizeof out);
-    equal(name, cookie_store_get(store, TEXT(url), now, out, sizeof out, &needed), COOKIE_STORE_OK);
+    equal(name, cookie_store_header(store, TEXT(url), now, out, sizeof out, &needed), COOKIE_STORE_OK);
     same_text(name, out, needed, wanted);
     equal("no zero is written", out[needed], '-');
 }

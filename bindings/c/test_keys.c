@@ -10,7 +10,7 @@
 #include <string.h>
 #include <time.h>
 
-enum { MOST = 4000, BYTES = 16, ROUNDS = 5, NOW = 1700000000 };
+enum { MOST = 4000, BYTES = 16, ROUNDS = 5, NOW = 1700000000, FORMATS = COOKIE_STORE_NETSCAPE_LENIENT + 1 };
 
 /* The factor by which the key of zeros must take longer. A key that is not used gives 1, one that is
    at least 2. */
@@ -20,22 +20,22 @@ static const char other[] = "0123456789abcdef";
 static char urls[MOST][40], values[MOST][40];
 static int count;
 
-/* The cookies in each form in which a store is loaded. */
+/* The cookies as saved in each format, by its number. */
 static struct {
     char *list;
     size_t len;
-} json, ron, netscape;
+} saved[FORMATS];
 
-static void set(cookie_store *store, int number) {
-    for (int at = 0; at < number; at++) cookie_store_set(store, urls[at], strlen(urls[at]), values[at], strlen(values[at]), NOW);
+static void parse(cookie_store *store, int number) {
+    for (int at = 0; at < number; at++) cookie_store_parse(store, urls[at], strlen(urls[at]), values[at], strlen(values[at]), NOW);
 }
 
 /* Adds a cookie with another path, so that the store has a table of paths above those of names. */
 static void begin(cookie_store *store, const char *key) {
     static const char value[] = "a=1; Path=/other";
     cookie_store_new(store, key, BYTES);
-    cookie_store_set(store, urls[0], strlen(urls[0]), value, sizeof value - 1, NOW);
-    set(store, count);
+    cookie_store_parse(store, urls[0], strlen(urls[0]), value, sizeof value - 1, NOW);
+    parse(store, count);
 }
 
 /* Under a limit each insertion looks at all cookies of the host, whatever the key is. To replace a
@@ -43,37 +43,37 @@ static void begin(cookie_store *store, const char *key) {
 static void begin_with_limit(cookie_store *store, const char *key) {
     cookie_store_new(store, key, BYTES);
     cookie_store_set_domain_limit(store, (size_t)count);
-    for (int round = 0; round < 4; round++) set(store, count);
+    for (int round = 0; round < 4; round++) parse(store, count);
 }
 
-static void load_json(cookie_store *store, const char *key) {
-    cookie_store_load_json(store, key, BYTES, json.list, json.len, NOW, true);
+static void load(cookie_store *store, const char *key, enum cookie_store_format format) {
+    size_t line, malformed;
+    cookie_store_load(store, key, BYTES, format, COOKIE_STORE_ALL, saved[format].list, saved[format].len, NOW, &line, 1, &malformed);
 }
 
-static void load_ron(cookie_store *store, const char *key) {
-    cookie_store_load_ron(store, key, BYTES, ron.list, ron.len, NOW, true);
-}
+static void load_json(cookie_store *store, const char *key) { load(store, key, COOKIE_STORE_JSON); }
 
-static void load_netscape(cookie_store *store, const char *key) {
-    size_t bad_line;
-    cookie_store_load_netscape(store, key, BYTES, netscape.list, netscape.len, NOW, true, &bad_line);
-}
+static void load_ron(cookie_store *store, const char *key) { load(store, key, COOKIE_STORE_RON); }
+
+static void load_netscape(cookie_store *store, const char *key) { load(store, key, COOKIE_STORE_NETSCAPE); }
+
+static void load_lenient(cookie_store *store, const char *key) { load(store, key, COOKIE_STORE_NETSCAPE_LENIENT); }
 
 /* Enough cookies for a hash table at the level at which they collide: a path has up to 32 in a list. */
 enum { TABLE = 33 };
 
 static void change_key(cookie_store *store, const char *key) {
     cookie_store_new(store, other, BYTES);
-    set(store, TABLE);
+    parse(store, TABLE);
     cookie_store_set_hash_key(store, key, BYTES);
-    set(store, count);
+    parse(store, count);
 }
 
 static void clear(cookie_store *store, const char *key) {
     cookie_store_new(store, key, BYTES);
-    set(store, TABLE);
+    parse(store, TABLE);
     cookie_store_clear(store);
-    set(store, count);
+    parse(store, count);
 }
 
 /* Returns the seconds that it takes to create a store of all cookies, or -1 if any is missing. */
@@ -101,33 +101,33 @@ static void measure(void (*make)(cookie_store *, const char *), double least[BYT
     }
 }
 
-/* Returns the list that `call` saves, or NULL if it fails. */
-static char *saved(enum cookie_store_status (*call)(cookie_store *, int64_t, bool, char *, size_t, size_t *), size_t *len) {
+/* Saves the cookies in a format, and returns whether that succeeds. */
+static bool save(enum cookie_store_format format) {
     cookie_store store = COOKIE_STORE_INIT;
+    enum cookie_store_status status = COOKIE_STORE_NO_MEMORY;
+    size_t len, left_out;
     begin(&store, other);
-    call(&store, NOW, true, values[0], 0, len);
-    char *list = malloc(*len);
-    if (list && call(&store, NOW, true, list, *len, len) != COOKIE_STORE_OK) {
-        free(list);
-        list = NULL;
-    }
+    cookie_store_save(&store, format, COOKIE_STORE_ALL, NOW, values[0], 0, &len, &left_out);
+    char *list = malloc(len);
+    if (list) status = cookie_store_save(&store, format, COOKIE_STORE_ALL, NOW, list, len, &len, &left_out);
     cookie_store_free(&store);
-    return list;
+    saved[format].list = list;
+    saved[format].len = len;
+    return status == COOKIE_STORE_OK && left_out == 0;
 }
 
 int main(int argc, char **argv) {
     static const struct {
         const char *name;
         void (*make)(cookie_store *, const char *);
-    } calls[] = {{"new", begin}, {"new, with a limit", begin_with_limit}, {"load_json", load_json}, {"load_ron", load_ron},
-                 {"load_netscape", load_netscape}, {"set_hash_key", change_key}, {"clear", clear}};
+    } calls[] = {{"new", begin}, {"new, with a limit", begin_with_limit}, {"load JSON", load_json}, {"load RON", load_ron},
+                 {"load cookies.txt", load_netscape}, {"load cookies.txt, lenient", load_lenient}, {"set_hash_key", change_key},
+                 {"clear", clear}};
     int passed = 0, failed = 0;
     while (count < MOST && scanf("%39s %39[^\n]", urls[count], values[count]) == 2) count++;
     if (argc != 2 || count == 0) return 2;
-    json.list = saved(cookie_store_save_json, &json.len);
-    ron.list = saved(cookie_store_save_ron, &ron.len);
-    netscape.list = saved(cookie_store_save_netscape, &netscape.len);
-    if (!json.list || !ron.list || !netscape.list) return 2;
+    for (int format = 0; format < FORMATS; format++)
+        if (!save((enum cookie_store_format)format)) return 2;
     for (size_t call = 0; call < sizeof calls / sizeof *calls; call++) {
         double least[BYTES + 1];
         measure(calls[call].make, least);
@@ -140,9 +140,7 @@ int main(int argc, char **argv) {
             *(is_well ? &passed : &failed) += 1;
         }
     }
-    free(json.list);
-    free(ron.list);
-    free(netscape.list);
+    for (int format = 0; format < FORMATS; format++) free(saved[format].list);
     printf("test_keys, %s: %d passed, %d failed\n", argv[1], passed, failed);
     return failed > 0;
 }

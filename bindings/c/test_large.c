@@ -1,17 +1,19 @@
 /* Calls each function of cookie_store.h once with large input and compares what it returns and writes: a value of 4 KB, a URL
-   of 3 KB, a header of 100 KB, 60 cookies for a request, 6,000 cookies, lists of 400 KB and more, a file of 2 MB with 5,000
-   lines. Failures are reported on standard error. The last line is 'test_large: N passed, M failed'. */
+   of 3 KB, a header of 100 KB, the longest values of a strict store, 60 cookies for a request, 6,000 cookies, lists of 400 KB
+   and more, a file of 2 MB with 5,000 lines. Failures are reported on standard error. The last line is 'test_large: N passed, M
+   failed'. */
 #include "test.h"
 #include <stdarg.h>
 
 enum {
-    VALUE = 4096, URL = 3072, HEADER = 100 << 10, REQUEST = 60, HOSTS = 100, STORED = HOSTS * REQUEST, RULES = 30000, LINES = 5000,
-    LINE_VALUE = 400, EACH_MALFORMED = 10, KEY = 1 << 20, ROOM = 4 << 20
+    VALUE = 4096, PAIR = 4096, ATTRIBUTE = 1024, URL = 3072, HEADER = 100 << 10, REQUEST = 60, HOSTS = 100,
+    STORED = HOSTS * REQUEST, RULES = 30000, LINES = 5000, LINE_VALUE = 400, EACH_MALFORMED = 10, KEY = 1 << 20, ROOM = 4 << 20
 };
 
 static char out[ROOM], wanted[ROOM], input[ROOM];
 static size_t wanted_len, input_len;
 static cookie_store_row rows[STORED];
+static size_t saved_len, left_out, lines[LINES], malformed; /* what a save or a load reported */
 
 /* Compares two long strings, and prints neither. */
 static void same_long(const char *name, size_t length) {
@@ -41,7 +43,7 @@ static void begin(cookie_store *store) {
 
 /* Sets a cookie whose header value is the input. */
 static void set_input(const char *name, cookie_store *store, const char *url, size_t url_len, enum cookie_store_status status) {
-    equal(name, cookie_store_set(store, url, url_len, input, input_len, NOW), status);
+    equal(name, cookie_store_parse(store, url, url_len, input, input_len, NOW), status);
 }
 
 /* Host h has the cookies n0 to n59; the ones with odd numbers expire after a second. */
@@ -51,7 +53,7 @@ static void fill_store(cookie_store *store) {
             char url[64], text[64];
             snprintf(url, sizeof url, "http://h%d.example/", host);
             snprintf(text, sizeof text, "n%d=%d-%d%s", number, host, number, number % 2 ? "; Max-Age=1" : "");
-            equal("set one of 6,000", set(store, url, text, NOW), COOKIE_STORE_INSERTED);
+            equal("parse one of 6,000", parse(store, url, text, NOW), COOKIE_STORE_INSERTED);
         }
     }
 }
@@ -65,7 +67,7 @@ static void has_hosts(const char *name, cookie_store *store, int step, int64_t n
         wanted_len = 0;
         for (int number = 0; number < REQUEST; number += step)
             append(wanted, &wanted_len, "%sn%d=%d-%d", number ? "; " : "", number, host, number);
-        equal(name, cookie_store_get(store, TEXT(url), now, out, sizeof out, &needed), COOKIE_STORE_OK);
+        equal(name, cookie_store_header(store, TEXT(url), now, out, sizeof out, &needed), COOKIE_STORE_OK);
         same_long(name, needed);
     }
 }
@@ -82,22 +84,51 @@ static void test_long_strings(void) {
     begin(&store);
     append(input, &input_len, "a=");
     fill(input, &input_len, 'v', VALUE);
-    set_input("set 4 KB", &store, url, URL, COOKIE_STORE_INSERTED);
+    set_input("parse 4 KB", &store, url, URL, COOKIE_STORE_INSERTED);
     input_len = 0;
     append(input, &input_len, "b=");
     fill(input, &input_len, 'w', HEADER);
     append(input, &input_len, "; HttpOnly");
-    set_input("set 100 KB", &store, url, URL, COOKIE_STORE_INSERTED);
+    set_input("parse 100 KB", &store, url, URL, COOKIE_STORE_INSERTED);
     append(wanted, &wanted_len, "a=");
     fill(wanted, &wanted_len, 'v', VALUE);
     append(wanted, &wanted_len, "; b=");
     fill(wanted, &wanted_len, 'w', HEADER);
-    equal("get 100 KB", cookie_store_get(&store, url, URL, NOW, out, sizeof out, &needed), COOKIE_STORE_OK);
+    equal("header of 100 KB", cookie_store_header(&store, url, URL, NOW, out, sizeof out, &needed), COOKIE_STORE_OK);
     same_long("a header of 100 KB", needed);
-    equal("get, strict", cookie_store_set_strict(&store, true), COOKIE_STORE_OK);
-    set_input("set 100 KB, strict", &store, url, URL, COOKIE_STORE_TOO_LONG);
     cookie_store_free(&store);
     equal("free", (long)cookie_store_count(&store), 0);
+}
+
+/* In a strict store a name and a value of at most 4,096 bytes are accepted, and an attribute of more than 1,024 is ignored. */
+static void test_strict(void) {
+    static const struct {
+        const char *name, *pair;
+        size_t length;
+        enum cookie_store_status status;
+    } VALUES[] = {{"100 KB", "a=", HEADER, COOKIE_STORE_TOO_LONG},
+                  {"4,097 bytes", "a=", PAIR, COOKIE_STORE_TOO_LONG},
+                  {"4,096 bytes", "a=", PAIR - 1, COOKIE_STORE_INSERTED},
+                  {"a path of 1,024 bytes", "b=2; Path=/", ATTRIBUTE - 1, COOKIE_STORE_INSERTED},
+                  {"a path of 1,025 bytes", "c=3; Path=/", ATTRIBUTE, COOKIE_STORE_INSERTED},
+                  {"another host of 1,025 bytes", "d=4; Domain=b", ATTRIBUTE, COOKIE_STORE_INSERTED}};
+    cookie_store store = COOKIE_STORE_INIT;
+    size_t needed = UNSET;
+    begin(&store);
+    equal("set_strict", cookie_store_set_strict(&store, true), COOKIE_STORE_OK);
+    equal("is_strict", cookie_store_is_strict(&store), true);
+    for (size_t at = 0; at < sizeof VALUES / sizeof *VALUES; at++) {
+        input_len = 0;
+        append(input, &input_len, "%s", VALUES[at].pair);
+        fill(input, &input_len, 'v', VALUES[at].length);
+        set_input(VALUES[at].name, &store, TEXT(PAGE), VALUES[at].status);
+    }
+    append(wanted, &wanted_len, "a=");
+    fill(wanted, &wanted_len, 'v', PAIR - 1);
+    append(wanted, &wanted_len, "; c=3; d=4");
+    equal("header, strict", cookie_store_header(&store, TEXT(PAGE), NOW, out, sizeof out, &needed), COOKIE_STORE_OK);
+    same_long("without b", needed);
+    cookie_store_free(&store);
 }
 
 /* 60 cookies for a request, every third of which a cross-site request must not have. */
@@ -110,12 +141,13 @@ static void test_request(void) {
         append(input, &input_len, "n%d=", number);
         fill(input, &input_len, 'v', VALUE / 2);
         append(input, &input_len, number % 3 ? "; SameSite=None; Secure" : "; SameSite=Strict");
-        set_input("set one of 60", &store, TEXT("https://a.example/"), COOKIE_STORE_INSERTED);
+        set_input("parse one of 60", &store, TEXT("https://a.example/"), COOKIE_STORE_INSERTED);
         if (number % 3 == 0) continue;
         append(wanted, &wanted_len, "%sn%d=", wanted_len ? "; " : "", number);
         fill(wanted, &wanted_len, 'v', VALUE / 2);
     }
-    equal("get_cross_site", cookie_store_get_cross_site(&store, TEXT("https://a.example/"), NOW, true, true, out, sizeof out, &needed),
+    equal("header_cross_site",
+          cookie_store_header_cross_site(&store, TEXT("https://a.example/"), NOW, COOKIE_STORE_TOP_LEVEL, out, sizeof out, &needed),
           COOKIE_STORE_OK);
     same_long("40 of 60 cookies", needed);
     cookie_store_free(&store);
@@ -172,13 +204,14 @@ static void test_limit(void) {
     size_t needed = UNSET;
     begin(&store);
     equal("set_domain_limit", cookie_store_set_domain_limit(&store, REQUEST), COOKIE_STORE_OK);
+    equal("domain_limit", (long)cookie_store_domain_limit(&store), REQUEST);
     for (int number = 0; number < STORED; number++) {
         char text[32];
         snprintf(text, sizeof text, "n%d=1", number);
-        equal("set over the limit", set(&store, PAGE, text, NOW), COOKIE_STORE_INSERTED);
+        equal("parse over the limit", parse(&store, PAGE, text, NOW), COOKIE_STORE_INSERTED);
         if (number >= STORED - REQUEST) append(wanted, &wanted_len, "%s%s", wanted_len ? "; " : "", text);
     }
-    equal("get the last", cookie_store_get(&store, TEXT(PAGE), NOW, out, sizeof out, &needed), COOKIE_STORE_OK);
+    equal("header of the last", cookie_store_header(&store, TEXT(PAGE), NOW, out, sizeof out, &needed), COOKIE_STORE_OK);
     same_long("the last 60", needed);
     cookie_store_free(&store);
 }
@@ -189,65 +222,76 @@ static void test_suffixes(void) {
     size_t line = UNSET;
     begin(&store);
     for (int number = 0; number < RULES; number++) append(input, &input_len, "s%d.example\n", number);
-    equal("use_suffixes", cookie_store_use_suffixes(&store, input, input_len, true, &line), COOKIE_STORE_OK);
+    equal("set_suffix_list", cookie_store_set_suffix_list(&store, input, input_len, true, &line), COOKIE_STORE_OK);
     equal("no malformed line", (long)line, 0);
     for (int number = 0; number <= RULES; number += RULES / HOSTS) {
         char url[64], text[64];
         snprintf(url, sizeof url, "http://a.s%d.example/", number);
         snprintf(text, sizeof text, "a=1; Domain=s%d.example", number);
-        equal("a rule", set(&store, url, text, NOW), number < RULES ? COOKIE_STORE_PUBLIC_SUFFIX : COOKIE_STORE_INSERTED);
+        equal("a rule", parse(&store, url, text, NOW), number < RULES ? COOKIE_STORE_PUBLIC_SUFFIX : COOKIE_STORE_INSERTED);
     }
     append(input, &input_len, "a/b\n");
-    equal("a malformed rule", cookie_store_use_suffixes(&store, input, input_len, true, &line), COOKIE_STORE_BAD_RULE);
+    equal("a malformed rule", cookie_store_set_suffix_list(&store, input, input_len, true, &line), COOKIE_STORE_BAD_RULE);
     equal("its line", (long)line, RULES + 1);
     cookie_store_free(&store);
 }
 
-/* The entry of a session cookie in each format, as it is saved. */
+/* The entry of a cookie in each format, as it is saved. One with an odd number expires after a second. */
 static void add_json(int host, int number) {
     append(input, &input_len,
-           "  {\n    \"domain\": {\n      \"HostOnly\": \"h%d.example\"\n    },\n    \"expires\": \"SessionEnd\",\n    \"path\": [\n"
+           "  {\n    \"domain\": {\n      \"HostOnly\": \"h%d.example\"\n    },\n    \"expires\": %s,\n    \"path\": [\n"
            "      \"/\",\n      false\n    ],\n    \"raw_cookie\": \"n%d=%d-%d\"\n  }",
-           host, number, host, number);
+           host, number % 2 ? "{\n      \"AtUtc\": \"2026-01-01T00:00:01Z\"\n    }" : "\"SessionEnd\"", number, host, number);
 }
 
 static void add_ron(int host, int number) {
     append(input, &input_len,
            "    (\n        raw_cookie: \"n%d=%d-%d\",\n        path: (\"/\", false),\n        domain: HostOnly(\"h%d.example\"),\n"
-           "        expires: SessionEnd,\n    )",
-           number, host, number, host);
+           "        expires: %s,\n    )",
+           number, host, number, host, number % 2 ? "AtUtc(\"2026-01-01T00:00:01Z\")" : "SessionEnd");
 }
 
 /* The two formats of a list. */
 static const struct {
     const char *name;
-    enum cookie_store_status (*save)(cookie_store *, int64_t, bool, char *, size_t, size_t *);
-    enum cookie_store_status (*load)(cookie_store *, const char *, size_t, const char *, size_t, int64_t, bool);
+    enum cookie_store_format format;
     void (*add)(int host, int number);
     const char *end;
 } LISTS[] = {
-    {"JSON", cookie_store_save_json, cookie_store_load_json, add_json, "\n]\n"},
-    {"RON", cookie_store_save_ron, cookie_store_load_ron, add_ron, ",\n]\n"},
+    {"JSON", COOKIE_STORE_JSON, add_json, "\n]\n"},
+    {"RON", COOKIE_STORE_RON, add_ron, ",\n]\n"},
 };
 
-/* A list of 3,000 session cookies is loaded, found and saved as it was. */
+static enum cookie_store_status load_input(cookie_store *store, enum cookie_store_format format, enum cookie_store_which which) {
+    malformed = UNSET;
+    return cookie_store_load(store, "", 0, format, which, input, input_len, NOW + 1, lines, LINES, &malformed);
+}
+
+static enum cookie_store_status save_all(cookie_store *store, enum cookie_store_format format) {
+    saved_len = left_out = UNSET;
+    return cookie_store_save(store, format, COOKIE_STORE_ALL, NOW + 1, out, sizeof out, &saved_len, &left_out);
+}
+
+/* A list of 6,000 cookies is loaded, found and saved as it was; then those of it that have not expired are. */
 static void test_lists(void) {
     for (size_t at = 0; at < sizeof LISTS / sizeof *LISTS; at++) {
         cookie_store store = COOKIE_STORE_INIT;
-        size_t needed = UNSET;
         input_len = 0;
-        for (int row = 0; row < STORED / 2; row++) {
-            int host = row / (REQUEST / 2), number = row % (REQUEST / 2) * 2;
+        for (int row = 0; row < STORED; row++) {
             append(input, &input_len, row ? ",\n" : "[\n");
-            LISTS[at].add(host, number);
+            LISTS[at].add(row / REQUEST, row % REQUEST);
         }
         append(input, &input_len, "%s", LISTS[at].end);
-        equal("a list of 400 KB", input_len >= 400 << 10, true);
-        equal(LISTS[at].name, LISTS[at].load(&store, "", 0, input, input_len, NOW, false), COOKIE_STORE_OK);
-        has_hosts("a loaded list", &store, 2, NOW);
-        equal(LISTS[at].name, LISTS[at].save(&store, NOW, true, out, sizeof out, &needed), COOKIE_STORE_OK);
+        equal("a list of 800 KB", input_len >= 800 << 10, true);
+        equal(LISTS[at].name, load_input(&store, LISTS[at].format, COOKIE_STORE_ALL), COOKIE_STORE_OK);
+        has_hosts("a loaded list", &store, 1, NOW);
+        equal(LISTS[at].name, save_all(&store, LISTS[at].format), COOKIE_STORE_OK);
         memcpy(wanted, input, wanted_len = input_len);
-        same_long("a saved list", needed);
+        same_long("a saved list", saved_len);
+        cookie_store_free(&store);
+        equal(LISTS[at].name, load_input(&store, LISTS[at].format, COOKIE_STORE_UNEXPIRED), COOKIE_STORE_OK);
+        equal("3,000 cookies", (long)cookie_store_count(&store), STORED / 2);
+        has_hosts("those that have not expired", &store, 2, NOW);
         cookie_store_free(&store);
     }
 }
@@ -266,24 +310,22 @@ static void add_line(int number) {
 /* A cookies.txt file of 2 MB with 5,000 lines is loaded and saved. */
 static void test_netscape(void) {
     cookie_store store = COOKIE_STORE_INIT;
-    size_t line = UNSET, needed = UNSET;
     wanted_len = input_len = 0;
     append(wanted, &wanted_len, "# Netscape HTTP Cookie File\n");
     for (int number = 0; number < LINES; number++) add_line(number);
     equal("a file of 2 MB", input_len >= 2 << 20, true);
-    equal("load_netscape", cookie_store_load_netscape(&store, "", 0, input, input_len, NOW, true, &line), COOKIE_STORE_OK);
-    equal("no malformed line", (long)line, 0);
+    equal("load a file", load_input(&store, COOKIE_STORE_NETSCAPE, COOKIE_STORE_ALL), COOKIE_STORE_OK);
+    equal("no malformed line", (long)malformed, 0);
     equal("5,000 cookies", (long)cookie_store_count(&store), LINES);
-    equal("save_netscape", cookie_store_save_netscape(&store, NOW, true, out, sizeof out, &needed), COOKIE_STORE_OK);
-    same_long("a saved file", needed);
+    equal("save a file", save_all(&store, COOKIE_STORE_NETSCAPE), COOKIE_STORE_OK);
+    same_long("a saved file", saved_len);
     cookie_store_free(&store);
 }
 
 /* The same with 500 malformed lines, and then with 500 cookies that the format cannot represent. */
 static void test_malformed(void) {
-    static size_t lines[LINES];
     cookie_store store = COOKIE_STORE_INIT;
-    size_t malformed = UNSET, needed = UNSET, left_out = UNSET, count = LINES / EACH_MALFORMED;
+    size_t count = LINES / EACH_MALFORMED;
     wanted_len = input_len = 0;
     append(wanted, &wanted_len, "# Netscape HTTP Cookie File\n");
     for (int number = 0; number < LINES; number++) {
@@ -292,24 +334,23 @@ static void test_malformed(void) {
         else
             add_line(number);
     }
-    equal("load_netscape_well_formed",
-          cookie_store_load_netscape_well_formed(&store, "", 0, input, input_len, NOW, true, lines, LINES, &malformed), COOKIE_STORE_OK);
+    equal("load the well-formed lines", load_input(&store, COOKIE_STORE_NETSCAPE_LENIENT, COOKIE_STORE_UNEXPIRED), COOKIE_STORE_OK);
     equal("500 malformed lines", (long)malformed, (long)count);
     for (size_t at = 0; at < LINES; at++) equal("their numbers", (long)lines[at], at < count ? (long)(at * EACH_MALFORMED + 1) : 0);
     for (int number = 0; number < LINES; number += EACH_MALFORMED) {
         char text[32];
         snprintf(text, sizeof text, "t%d=x\ty", number);
-        equal("set a TAB", set(&store, PAGE, text, NOW), COOKIE_STORE_INSERTED);
+        equal("parse a TAB", parse(&store, PAGE, text, NOW), COOKIE_STORE_INSERTED);
     }
-    equal("save_netscape_representable", cookie_store_save_netscape_representable(&store, NOW, true, out, sizeof out, &needed, &left_out),
-          COOKIE_STORE_OK);
+    equal("save what is representable", save_all(&store, COOKIE_STORE_NETSCAPE_LENIENT), COOKIE_STORE_OK);
     equal("500 are left out", (long)left_out, (long)count);
-    same_long("the other 4,500", needed);
+    same_long("the other 4,500", saved_len);
     cookie_store_free(&store);
 }
 
 int main(void) {
     test_long_strings();
+    test_strict();
     test_request();
     test_stored();
     test_limit();

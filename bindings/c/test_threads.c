@@ -44,7 +44,7 @@ static bool has_cookies(struct worker *worker, int count) {
     for (int at = 0; at < count; at++)
         length += (size_t)snprintf(wanted + length, sizeof wanted - length, "%sc%d=v", at == 0 ? "" : "; ", at);
     enum cookie_store_status status =
-        cookie_store_get(worker->store, worker->url, strlen(worker->url), NOW, header, sizeof header, &needed);
+        cookie_store_header(worker->store, worker->url, strlen(worker->url), NOW, header, sizeof header, &needed);
     return status == COOKIE_STORE_OK && needed == length && memcmp(header, wanted, length) == 0;
 }
 
@@ -55,7 +55,7 @@ static void *work(void *data) {
         snprintf(value, sizeof value, "c%d=v", at);
         lock(worker);
         enum cookie_store_status status =
-            cookie_store_set(worker->store, worker->url, strlen(worker->url), value, strlen(value), NOW);
+            cookie_store_parse(worker->store, worker->url, strlen(worker->url), value, strlen(value), NOW);
         worker->errors += status != COOKIE_STORE_INSERTED;
         unlock(worker);
         lock(worker);

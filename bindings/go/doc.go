@@ -17,9 +17,9 @@
 //   - It reads double quotes around a value as no part of it. Before Go 1.23 they are not sent back.
 //   - It sends a value that has a space or a comma in double quotes.
 //   - It leaves out, with a message to the log, what a value may not have: bytes other than printable ASCII, semicolons,
-//     backslashes and double quotes. Such values can come from Jar.Set and Load. Those with a control character other than
+//     backslashes and double quotes. Such values can come from Jar.Parse and Load. Those with a control character other than
 //     HTAB the jar leaves out itself, with their cookies.
 //
-// To send the exact header, leave Client.Jar nil, set the header Cookie to the result of Jar.Header, and call Jar.Set with each
+// To send the exact header, leave Client.Jar nil, set the header Cookie to the result of Jar.Header, and call Jar.Parse with each
 // Set-Cookie header of the response.
 package cookiestore

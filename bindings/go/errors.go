@@ -58,6 +58,8 @@ const (
 	ErrNotFound Status = C.COOKIE_STORE_NOT_FOUND
 	// The domain limit is negative.
 	ErrBadLimit Status = C.COOKIE_STORE_BAD_LIMIT
+	// A Format or a Which is none of the constants.
+	ErrBadOption Status = C.COOKIE_STORE_BAD_OPTION
 	// A line of the public suffix list is not a rule.
 	ErrBadRule Status = C.COOKIE_STORE_BAD_RULE
 	// The public suffix list has no rules.

@@ -54,14 +54,14 @@ func ExampleNew() {
 	defer jar.Close()
 }
 
-func ExampleJar_Set() {
+func ExampleJar_Parse() {
 	jar, err := cookiestore.New(&cookiestore.Options{PublicSuffixList: []byte("uk\nco.uk\n")})
 	if err != nil {
 		log.Fatal(err)
 	}
 	defer jar.Close()
 	page := &url.URL{Scheme: "https", Host: "shop.co.uk", Path: "/"}
-	err = jar.Set(page, "a=1; Domain=co.uk")
+	err = jar.Parse(page, "a=1; Domain=co.uk")
 	fmt.Println(err)
 	fmt.Println(errors.Is(err, cookiestore.ErrPublicSuffix))
 	// Output:
@@ -77,7 +77,7 @@ func ExampleJar_Header() {
 	defer jar.Close()
 	page := &url.URL{Scheme: "http", Host: "example.com", Path: "/foo/bar"}
 	for _, value := range []string{"root=1; Path=/", `quoted="x, y"`} {
-		if err := jar.Set(page, value); err != nil {
+		if err := jar.Parse(page, value); err != nil {
 			log.Fatal(err)
 		}
 	}
@@ -96,16 +96,16 @@ func ExampleLoad() {
 	}
 	defer jar.Close()
 	page := &url.URL{Scheme: "https", Host: "example.com", Path: "/"}
-	if err := jar.Set(page, "token=2; Secure; Expires=Thu, 31 Dec 2099 23:59:59 GMT"); err != nil {
+	if err := jar.Parse(page, "token=2; Secure; Expires=Thu, 31 Dec 2099 23:59:59 GMT"); err != nil {
 		log.Fatal(err)
 	}
 	var file bytes.Buffer
-	if err := jar.Save(&file, cookiestore.Netscape); err != nil {
+	if err := jar.Save(&file, cookiestore.Netscape, cookiestore.PersistentCookies); err != nil {
 		log.Fatal(err)
 	}
 	fmt.Print(file.String())
 
-	loaded, err := cookiestore.Load(&file, cookiestore.Netscape, nil)
+	loaded, err := cookiestore.Load(&file, cookiestore.Netscape, cookiestore.UnexpiredCookies, nil)
 	if err != nil {
 		log.Fatal(err)
 	}

@@ -5,62 +5,46 @@ import "C"
 
 import (
 	"bytes"
-	"fmt"
 	"io"
+	"math"
 )
 
 // Format is a format of saved cookies.
 type Format int
 
 const (
-	JSON     Format = iota // a list in JSON
-	RON                    // the same list in RON, Rusty Object Notation
-	Netscape               // a cookies.txt file, as curl and wget read and write it; it has no SameSite
+	JSON     Format = C.COOKIE_STORE_JSON     // a list in JSON
+	RON      Format = C.COOKIE_STORE_RON      // the same list in RON, Rusty Object Notation
+	Netscape Format = C.COOKIE_STORE_NETSCAPE // a cookies.txt file, as curl and wget read and write it; it has no SameSite
 )
 
-// Save writes the persistent cookies that have not expired. In JSON and RON a cookie that was received with SameSite=None and
-// without Secure is Secure after Load.
+// Which is a choice of the cookies to save or to load.
+type Which int
+
+const (
+	AllCookies        Which = C.COOKIE_STORE_ALL        // all cookies
+	UnexpiredCookies  Which = C.COOKIE_STORE_UNEXPIRED  // those that have not expired, session cookies included
+	PersistentCookies Which = C.COOKIE_STORE_PERSISTENT // the persistent ones of these
+)
+
+// Save writes cookies. In JSON and RON a cookie that was received with SameSite=None and without Secure is Secure after Load.
 //
-// Errors: ErrUnrepresentable (Netscape), ErrBadExpiry (JSON and RON), and those of w.
-func (j *Jar) Save(w io.Writer, format Format) error { return j.save(w, format, false) }
-
-// SaveAll writes all cookies, session cookies and expired ones included. Errors as Save.
-func (j *Jar) SaveAll(w io.Writer, format Format) error { return j.save(w, format, true) }
-
-func (j *Jar) save(w io.Writer, format Format, all bool) error {
-	list, err := j.list(format, C.bool(all))
-	if err != nil {
-		return err
-	}
-	_, err = w.Write(list)
+// Errors: ErrBadOption, ErrBadExpiry (JSON and RON), ErrUnrepresentable (Netscape), and those of w.
+func (j *Jar) Save(w io.Writer, format Format, which Which) error {
+	_, err := j.save(w, number(format, Netscape), number(which, PersistentCookies))
 	return err
 }
 
-func (j *Jar) list(format Format, all C.bool) ([]byte, error) {
-	if format < JSON || format > Netscape {
-		return nil, unknown(format)
-	}
-	j.mu.Lock()
-	defer j.mu.Unlock()
-	now := j.seconds()
-	return grow(func(out *C.char, room C.size_t, needed *C.size_t) C.enum_cookie_store_status {
-		switch format {
-		case JSON:
-			return C.cookie_store_save_json(&j.store, now, all, out, room, needed)
-		case RON:
-			return C.cookie_store_save_ron(&j.store, now, all, out, room, needed)
-		default:
-			return C.cookie_store_save_netscape(&j.store, now, all, out, room, needed)
-		}
-	})
+// SaveLenient writes cookies as a cookies.txt file, without those that the format cannot represent, and returns how many are left
+// out.
+//
+// Errors: ErrBadOption, and those of w.
+func (j *Jar) SaveLenient(w io.Writer, which Which) (leftOut int, err error) {
+	return j.save(w, C.COOKIE_STORE_NETSCAPE_LENIENT, number(which, PersistentCookies))
 }
 
-// SaveRepresentable writes the persistent cookies that have not expired as a cookies.txt file, without those that the format
-// cannot represent, and returns how many are left out.
-//
-// Errors: those of w.
-func (j *Jar) SaveRepresentable(w io.Writer) (leftOut int, err error) {
-	list, leftOut, err := j.representable()
+func (j *Jar) save(w io.Writer, format, which C.uint32_t) (leftOut int, err error) {
+	list, leftOut, err := j.list(format, which)
 	if err != nil {
 		return 0, err
 	}
@@ -68,57 +52,45 @@ func (j *Jar) SaveRepresentable(w io.Writer) (leftOut int, err error) {
 	return leftOut, err
 }
 
-func (j *Jar) representable() ([]byte, int, error) {
+func (j *Jar) list(format, which C.uint32_t) ([]byte, int, error) {
 	j.mu.Lock()
 	defer j.mu.Unlock()
-	now, count := j.seconds(), C.size_t(0)
+	now, leftOut := j.seconds(), C.size_t(0)
 	list, err := grow(func(out *C.char, room C.size_t, needed *C.size_t) C.enum_cookie_store_status {
-		return C.cookie_store_save_netscape_representable(&j.store, now, false, out, room, needed, &count)
+		return C.cookie_store_save(&j.store, C.enum_cookie_store_format(format), C.enum_cookie_store_which(which), now,
+			out, room, needed, &leftOut)
 	})
-	return list, int(count), err
+	return list, int(leftOut), err
 }
 
-// Load returns a jar with the cookies of r that have not expired, session cookies included. Nil options are those of a zero
-// Options. No option applies to the loaded cookies: their domains are not checked.
+// Load returns a jar with cookies of r. Nil options are those of a zero Options. No option applies to the loaded cookies: their
+// domains are not checked.
 //
-// Errors: ErrNotUTF8; of JSON ErrBadJSON, ErrBadShape, ErrBadExpiry and ErrParse; of RON ErrBadRON, ErrBadExpiry and
-// ErrParse; of Netscape ErrBadLine with its line; those of r and of New.
-func Load(r io.Reader, format Format, options *Options) (*Jar, error) {
-	read, err := io.ReadAll(r)
-	if err != nil {
-		return nil, err
-	}
-	list := string(read)
-	return create(options, func(jar *Jar, key string) error {
-		var line C.size_t
-		store, text, now := &jar.store, chars(list), jar.seconds()
-		switch format {
-		case JSON:
-			return errorOf(C.cookie_store_load_json(store, chars(key), size(key), text, size(list), now, false), 0)
-		case RON:
-			return errorOf(C.cookie_store_load_ron(store, chars(key), size(key), text, size(list), now, false), 0)
-		case Netscape:
-			status := C.cookie_store_load_netscape(store, chars(key), size(key), text, size(list), now, false, &line)
-			return errorOf(status, line)
-		default:
-			return unknown(format)
-		}
-	})
+// Errors: ErrBadOption; ErrNotUTF8; of JSON ErrBadJSON, ErrBadShape, ErrBadExpiry and ErrParse; of RON ErrBadRON, ErrBadExpiry
+// and ErrParse; of Netscape ErrBadLine with its line; those of r and of New.
+func Load(r io.Reader, format Format, which Which, options *Options) (*Jar, error) {
+	jar, _, err := load(r, number(format, Netscape), number(which, PersistentCookies), options)
+	return jar, err
 }
 
-// LoadWellFormed returns a jar with the cookies of a cookies.txt file, as Load does, without the malformed lines, and the numbers
-// of these, counted from 1.
+// LoadLenient returns a jar with cookies of a cookies.txt file, as Load does, without the malformed lines, and the numbers of
+// these, counted from 1.
 //
-// Errors: ErrNotUTF8, those of r and of New.
-func LoadWellFormed(r io.Reader, options *Options) (jar *Jar, malformed []int, err error) {
+// Errors: ErrBadOption, ErrNotUTF8, those of r and of New.
+func LoadLenient(r io.Reader, which Which, options *Options) (jar *Jar, malformed []int, err error) {
+	return load(r, C.COOKIE_STORE_NETSCAPE_LENIENT, number(which, PersistentCookies), options)
+}
+
+func load(r io.Reader, format, which C.uint32_t, options *Options) (jar *Jar, malformed []int, err error) {
 	read, err := io.ReadAll(r)
 	if err != nil {
 		return nil, nil, err
 	}
 	list, lines, count := string(read), make([]C.size_t, bytes.Count(read, []byte("\n"))+1), C.size_t(0)
 	jar, err = create(options, func(jar *Jar, key string) error {
-		return errorOf(C.cookie_store_load_netscape_well_formed(&jar.store, chars(key), size(key), chars(list), size(list),
-			jar.seconds(), false, &lines[0], C.size_t(len(lines)), &count), 0)
+		status := C.cookie_store_load(&jar.store, chars(key), size(key), C.enum_cookie_store_format(format),
+			C.enum_cookie_store_which(which), chars(list), size(list), jar.seconds(), &lines[0], C.size_t(len(lines)), &count)
+		return errorOf(status, lines[0])
 	})
 	if err != nil {
 		return nil, nil, err
@@ -129,4 +101,10 @@ func LoadWellFormed(r io.Reader, options *Options) (jar *Jar, malformed []int, e
 	return jar, malformed, nil
 }
 
-func unknown(format Format) error { return fmt.Errorf("cookiestore: unknown format %d", int(format)) }
+// number returns the number of an option in cookie_store.h, or, if the option is none of 0 to last, one that the library rejects.
+func number[Option Format | Which](option, last Option) C.uint32_t {
+	if option < 0 || option > last {
+		return math.MaxUint32
+	}
+	return C.uint32_t(option)
+}

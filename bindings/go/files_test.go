@@ -2,6 +2,7 @@ package cookiestore
 
 import (
 	"errors"
+	"fmt"
 	"io"
 	"reflect"
 	"strings"
@@ -14,10 +15,10 @@ var endOf2099 = time.Date(2099, 12, 31, 23, 59, 59, 0, time.UTC)
 
 const expires2099 = "; Expires=Thu, 31 Dec 2099 23:59:59 GMT"
 
-// load returns the loaded jar, which is closed after the test.
-func load(t *testing.T, list string, format Format) *Jar {
+// loadedJar returns a jar with all cookies of the list, and which is closed after the test.
+func loadedJar(t *testing.T, list string, format Format) *Jar {
 	t.Helper()
-	jar, err := Load(strings.NewReader(list), format, nil)
+	jar, err := Load(strings.NewReader(list), format, AllCookies, nil)
 	if err != nil {
 		t.Fatalf("Load(%q): %v", list, err)
 	}
@@ -25,35 +26,40 @@ func load(t *testing.T, list string, format Format) *Jar {
 	return jar
 }
 
+// An expired cookie, a session cookie, and two persistent ones.
 func TestSaveAndLoad(t *testing.T) {
 	jar := newJar(t, nil)
-	setAll(t, jar, "https://example.com/foo/bar", "expired=0; Max-Age=1")
+	parseAll(t, jar, "https://example.com/foo/bar", "expired=0; Max-Age=1")
 	setClock(jar, time.Now())
-	setAll(t, jar, "https://example.com/foo/bar", "a=1; Secure; HttpOnly"+expires2099,
-		`b="x, y"; Domain=example.com; Path=/`+expires2099, "session=2")
-	persistent := []Cookie{
+	parseAll(t, jar, "https://example.com/foo/bar", "session=2", "a=1; Secure; HttpOnly"+expires2099,
+		`b="x, y"; Domain=example.com; Path=/`+expires2099)
+	all := []Cookie{
+		{"example.com", "/foo", "expired", "0", start.Add(time.Second), true, false, false, 0},
+		{"example.com", "/foo", "session", "2", time.Time{}, true, false, false, 0},
 		{"example.com", "/foo", "a", "1", endOf2099, true, true, true, 0},
 		{"example.com", "/", "b", `"x, y"`, endOf2099, false, false, false, 0},
 	}
-	all := append([]Cookie{{"example.com", "/foo", "session", "2", time.Time{}, true, false, false, 0}}, persistent...)
 	for name, format := range map[string]Format{"JSON": JSON, "RON": RON, "Netscape": Netscape} {
 		for _, row := range []struct {
-			call    string
-			save    func(io.Writer, Format) error
-			want    []Cookie
-			expired bool
+			saved, loaded Which
+			want          []Cookie
 		}{
-			{"Save", jar.Save, persistent, false},
-			{"SaveAll", jar.SaveAll, all, true},
+			{AllCookies, AllCookies, all},
+			{UnexpiredCookies, AllCookies, all[1:]},
+			{PersistentCookies, AllCookies, all[2:]},
+			{AllCookies, UnexpiredCookies, all[1:]},
+			{AllCookies, PersistentCookies, all[2:]},
 		} {
 			var list strings.Builder
-			if err := row.save(&list, format); err != nil {
-				t.Fatalf("%s, %s: %v", row.call, name, err)
+			if err := jar.Save(&list, format, row.saved); err != nil {
+				t.Fatalf("%s: Save(%d): %v", name, row.saved, err)
 			}
-			expectAll(t, row.call+", "+name, load(t, list.String(), format), row.want)
-			if strings.Contains(list.String(), "expired") != row.expired {
-				t.Errorf("%s, %s: %s", row.call, name, list.String())
+			loaded, err := Load(strings.NewReader(list.String()), format, row.loaded, nil)
+			if err != nil {
+				t.Fatalf("%s: Load(%q, %d): %v", name, list.String(), row.loaded, err)
 			}
+			expectAll(t, fmt.Sprintf("%s, saved %d, loaded %d", name, row.saved, row.loaded), loaded, row.want)
+			loaded.Close()
 		}
 	}
 }
@@ -69,7 +75,7 @@ func TestLoad(t *testing.T) {
 		{JSON, `[{"raw_cookie": "a=1; Path=/foo; Secure; HttpOnly", "path": ["/foo", true],
 			"domain": {"Suffix": "example.com"}, "expires": {"AtUtc": "2099-12-31T23:59:59Z"}}]`},
 	} {
-		jar := load(t, row.list, row.format)
+		jar := loadedJar(t, row.list, row.format)
 		expectAll(t, row.list, jar, want)
 		expectHeader(t, jar, "https://deep.example.com/foo/", "a=1")
 	}
@@ -90,89 +96,127 @@ func TestLoadErrors(t *testing.T) {
 		{RON, "[", Error{ErrBadRON, 0}},
 		{Netscape, "# comment\nexample.com\n", Error{ErrBadLine, 2}},
 	} {
-		_, err := Load(strings.NewReader(row.list), row.format, nil)
+		_, err := Load(strings.NewReader(row.list), row.format, AllCookies, nil)
 		var typed *Error
 		if !errors.As(err, &typed) || *typed != row.want {
 			t.Errorf("Load(%q): %v, want %v", row.list, err, &row.want)
 		}
 	}
-	_, err := Load(strings.NewReader("[]"), JSON, &Options{DomainLimit: -1})
+	_, err := Load(strings.NewReader("[]"), JSON, AllCookies, &Options{DomainLimit: -1})
 	expectStatus(t, "Load with a negative limit", err, ErrBadLimit)
-	if _, err := Load(strings.NewReader("[]"), Format(9), nil); err == nil {
-		t.Error("Load in an unknown format: no error")
-	}
-	if _, err := Load(iotest.ErrReader(io.ErrClosedPipe), JSON, nil); err != io.ErrClosedPipe {
+	if _, err := Load(iotest.ErrReader(io.ErrClosedPipe), JSON, AllCookies, nil); err != io.ErrClosedPipe {
 		t.Errorf("Load from a closed pipe: %v", err)
 	}
 }
 
-func TestLoadWellFormed(t *testing.T) {
+// loadable returns a cookie of example.com and its line of a cookies.txt file.
+func loadable(name, value string, expires time.Time) (Cookie, string) {
+	seconds := int64(0)
+	if !expires.IsZero() {
+		seconds = expires.Unix()
+	}
+	return Cookie{"example.com", "/", name, value, expires, true, false, false, 0},
+		fmt.Sprintf("example.com\tFALSE\t/\tFALSE\t%d\t%s\t%s\n", seconds, name, value)
+}
+
+func TestLoadLenient(t *testing.T) {
+	session, sessionLine := loadable("session", "1", time.Time{})
+	expired, expiredLine := loadable("expired", "2", start)
+	lasting, lastingLine := loadable("lasting", "3", endOf2099)
+	file := "# comment\nexample.com\n" + sessionLine + "b=2\n" + expiredLine + lastingLine
 	for _, row := range []struct {
 		file      string
-		want      string
+		which     Which
+		want      []Cookie
 		malformed []int
 	}{
-		{"# comment\nexample.com\n" + line("a", "1") + "b=2\n" + line("c", "3"), "a=1; c=3", []int{2, 4}},
-		{line("a", "1"), "a=1", nil},
-		{"", "", nil},
-		{"b=2", "", []int{1}},
+		{file, AllCookies, []Cookie{session, expired, lasting}, []int{2, 4}},
+		{file, UnexpiredCookies, []Cookie{session, lasting}, []int{2, 4}},
+		{file, PersistentCookies, []Cookie{lasting}, []int{2, 4}},
+		{sessionLine, UnexpiredCookies, []Cookie{session}, nil},
+		{"", AllCookies, nil, nil},
+		{"b=2", AllCookies, nil, []int{1}},
 	} {
-		jar, malformed, err := LoadWellFormed(strings.NewReader(row.file), &Options{DomainLimit: 2})
+		jar, malformed, err := LoadLenient(strings.NewReader(row.file), row.which, &Options{DomainLimit: 2})
 		if err != nil || !reflect.DeepEqual(malformed, row.malformed) {
-			t.Fatalf("LoadWellFormed(%q): %v, %v, want %v", row.file, malformed, err, row.malformed)
+			t.Fatalf("LoadLenient(%q, %d): %v, %v, want %v", row.file, row.which, malformed, err, row.malformed)
 		}
-		expectHeader(t, jar, "http://example.com/", row.want)
+		expectAll(t, fmt.Sprintf("LoadLenient(%q, %d)", row.file, row.which), jar, row.want)
 		jar.Close()
 	}
-	_, _, err := LoadWellFormed(strings.NewReader("\xff"), nil)
-	expectStatus(t, "LoadWellFormed", err, ErrNotUTF8)
-	_, _, err = LoadWellFormed(strings.NewReader("b=2"), &Options{DomainLimit: -1})
-	expectStatus(t, "LoadWellFormed with a negative limit", err, ErrBadLimit)
-	if _, _, err := LoadWellFormed(iotest.ErrReader(io.ErrClosedPipe), nil); err != io.ErrClosedPipe {
-		t.Errorf("LoadWellFormed from a closed pipe: %v", err)
+	_, _, err := LoadLenient(strings.NewReader("\xff"), AllCookies, nil)
+	expectStatus(t, "LoadLenient", err, ErrNotUTF8)
+	_, _, err = LoadLenient(strings.NewReader("b=2"), AllCookies, &Options{DomainLimit: -1})
+	expectStatus(t, "LoadLenient with a negative limit", err, ErrBadLimit)
+	if _, _, err := LoadLenient(iotest.ErrReader(io.ErrClosedPipe), AllCookies, nil); err != io.ErrClosedPipe {
+		t.Errorf("LoadLenient from a closed pipe: %v", err)
 	}
 }
 
-// line returns the line of a session cookie of example.com.
-func line(name, value string) string {
-	return "example.com\tFALSE\t/\tFALSE\t0\t" + name + "\t" + value + "\n"
-}
-
-func TestSaveRepresentable(t *testing.T) {
+// A jar of which a cookies.txt file can represent all cookies but one, which has a TAB in its value.
+func TestSaveLenient(t *testing.T) {
 	jar := newJar(t, nil)
-	setAll(t, jar, "http://example.com/", "a=x\ty"+expires2099, "b=2"+expires2099, "session=3")
-	var file strings.Builder
-	leftOut, err := jar.SaveRepresentable(&file)
-	want := "# Netscape HTTP Cookie File\nexample.com\tFALSE\t/\tFALSE\t4102444799\tb\t2\n"
-	if leftOut != 1 || err != nil || file.String() != want {
-		t.Errorf("SaveRepresentable: %d, %v, %q, want 1 and %q", leftOut, err, file.String(), want)
+	parseAll(t, jar, "http://example.com/", "expired=0; Max-Age=1")
+	setClock(jar, time.Now())
+	parseAll(t, jar, "http://example.com/", "session=1", "tab=x\ty", "other=2", "lasting=3"+expires2099)
+	all := []Cookie{
+		{"example.com", "/", "expired", "0", start.Add(time.Second), true, false, false, 0},
+		{"example.com", "/", "session", "1", time.Time{}, true, false, false, 0},
+		{"example.com", "/", "other", "2", time.Time{}, true, false, false, 0},
+		{"example.com", "/", "lasting", "3", endOf2099, true, false, false, 0},
 	}
-	if err := jar.Remove("example.com", "/", "a"); err != nil {
-		t.Fatal(err)
-	}
-	if leftOut, err := jar.SaveRepresentable(io.Discard); leftOut != 0 || err != nil {
-		t.Errorf("SaveRepresentable of what is representable: %d, %v", leftOut, err)
+	for _, row := range []struct {
+		which   Which
+		want    []Cookie
+		leftOut int
+	}{
+		{AllCookies, all, 1},
+		{UnexpiredCookies, all[1:], 1},
+		{PersistentCookies, all[3:], 0},
+	} {
+		var file strings.Builder
+		leftOut, err := jar.SaveLenient(&file, row.which)
+		if err != nil || leftOut != row.leftOut {
+			t.Errorf("SaveLenient(%d): %d, %v, want %d", row.which, leftOut, err, row.leftOut)
+		}
+		expectAll(t, fmt.Sprintf("SaveLenient(%d)", row.which), loadedJar(t, file.String(), Netscape), row.want)
 	}
 	reader, writer := io.Pipe()
 	reader.Close()
-	if _, err := jar.SaveRepresentable(writer); err != io.ErrClosedPipe {
-		t.Errorf("SaveRepresentable to a closed pipe: %v", err)
+	if _, err := jar.SaveLenient(writer, AllCookies); err != io.ErrClosedPipe {
+		t.Errorf("SaveLenient to a closed pipe: %v", err)
 	}
 	jar.Close()
-	_, err = jar.SaveRepresentable(io.Discard)
-	expectStatus(t, "SaveRepresentable of a closed jar", err, ErrClosed)
+	_, err := jar.SaveLenient(io.Discard, AllCookies)
+	expectStatus(t, "SaveLenient of a closed jar", err, ErrClosed)
 }
 
 func TestSaveErrors(t *testing.T) {
 	jar := newJar(t, nil)
-	setAll(t, jar, "http://example.com/", "a=\x01"+expires2099)
-	expectStatus(t, "Save", jar.Save(io.Discard, Netscape), ErrUnrepresentable)
-	if err := jar.Save(io.Discard, Format(9)); err == nil {
-		t.Error("Save in an unknown format: no error")
-	}
+	parseAll(t, jar, "http://example.com/", "a=\x01"+expires2099)
+	expectStatus(t, "Save", jar.Save(io.Discard, Netscape, PersistentCookies), ErrUnrepresentable)
 	reader, writer := io.Pipe()
 	reader.Close()
-	if err := jar.Save(writer, JSON); err != io.ErrClosedPipe {
+	if err := jar.Save(writer, JSON, AllCookies); err != io.ErrClosedPipe {
 		t.Errorf("Save to a closed pipe: %v", err)
+	}
+}
+
+// Numbers of no constant: 3 is another format in cookie_store.h, and the last two are 0 in their low 32 bits.
+func TestBadOptions(t *testing.T) {
+	jar := newJar(t, nil)
+	for _, number := range []int{-1, 3, 1 << 32, -1 << 32} {
+		format, which := Format(number), Which(number)
+		_, loadFormat := Load(strings.NewReader("[]"), format, AllCookies, nil)
+		_, loadWhich := Load(strings.NewReader("[]"), JSON, which, nil)
+		_, _, loadLenient := LoadLenient(strings.NewReader(""), which, nil)
+		_, saveLenient := jar.SaveLenient(io.Discard, which)
+		for call, err := range map[string]error{
+			"Load, format": loadFormat, "Load, which": loadWhich, "LoadLenient": loadLenient,
+			"Save, format": jar.Save(io.Discard, format, AllCookies), "Save, which": jar.Save(io.Discard, JSON, which),
+			"SaveLenient": saveLenient,
+		} {
+			expectStatus(t, fmt.Sprintf("%s %d", call, number), err, ErrBadOption)
+		}
 	}
 }

@@ -9,26 +9,26 @@ import (
 
 var _ http.CookieJar = (*Jar)(nil)
 
-// SetCookies inserts the cookies of a response from u. It drops those for which Set would return an error, all of them after
+// SetCookies inserts the cookies of a response from u. It drops those for which Parse would return an error, all of them after
 // Close, and passes each to Options.OnDropped.
 //
 // A cookie of a response is inserted by its Set-Cookie header as received (Raw): RFC 6265 reads more dates than net/http. A
 // cookie that was made by hand, or whose fields were changed, is inserted by the header that its method String returns.
 func (j *Jar) SetCookies(u *url.URL, cookies []*http.Cookie) {
-	for i, err := range j.setAll(address(u), cookies) {
+	for i, err := range j.parseAll(address(u), cookies) {
 		if err != nil {
 			j.dropped(u, cookies[i].Name, err)
 		}
 	}
 }
 
-// setAll inserts cookies and returns the error of each.
-func (j *Jar) setAll(url string, cookies []*http.Cookie) []error {
+// parseAll inserts cookies and returns the error of each.
+func (j *Jar) parseAll(url string, cookies []*http.Cookie) []error {
 	j.mu.Lock()
 	defer j.mu.Unlock()
 	errs := make([]error, len(cookies))
 	for i, cookie := range cookies {
-		errs[i] = j.set(url, setCookie(cookie))
+		errs[i] = j.parse(url, setCookie(cookie))
 	}
 	return errs
 }

@@ -65,7 +65,7 @@ func TestSetCookies(t *testing.T) {
 // The values of Cookies are those that net/http reads and writes.
 func TestCookiesOfRequest(t *testing.T) {
 	jar, page := newJar(t, nil), parseURL(t, "http://example.com/foo/bar")
-	setAll(t, jar, page.String(), "a=1; Path=/", `b="x, y"`, `c="z"`, "d=e=f", "g=", `h=é\`)
+	parseAll(t, jar, page.String(), "a=1; Path=/", `b="x, y"`, `c="z"`, "d=e=f", "g=", `h=é\`)
 	want := [][2]string{{"b", "x, y"}, {"c", "z"}, {"d", "e=f"}, {"g", ""}, {"h", `é\`}, {"a", "1"}}
 	got := jar.Cookies(page)
 	if len(got) != len(want) {
@@ -207,7 +207,7 @@ func TestHostIsThatOfTheConnection(t *testing.T) {
 		jar := newJar(t, nil)
 		u := parseURL(t, target)
 		got := ""
-		if err := jar.Set(u, "a=1"); err == nil {
+		if err := jar.Parse(u, "a=1"); err == nil {
 			got = strings.Trim(jar.All()[0].Domain, "[]")
 		} else {
 			expectStatus(t, target, err, ErrBadURL)
@@ -260,7 +260,7 @@ func TestRedirectToAmbiguousURL(t *testing.T) {
 		{"http://localhost:80@" + host + steal, true},
 	} {
 		jar := newJar(t, nil)
-		setAll(t, jar, "http://localhost/", "secret=1; Path=/")
+		parseAll(t, jar, "http://localhost/", "secret=1; Path=/")
 		location = row.location
 		response, err := (&http.Client{Jar: jar}).Get(server.URL + "/redirect")
 		if err == nil {
@@ -292,7 +292,7 @@ func TestControlCharactersAreNotSent(t *testing.T) {
 			"expires": "SessionEnd"}`, raw))
 	}
 	var dropped []string
-	jar, err := Load(strings.NewReader("["+strings.Join(list, ",")+"]"), JSON, &Options{
+	jar, err := Load(strings.NewReader("["+strings.Join(list, ",")+"]"), JSON, UnexpiredCookies, &Options{
 		OnDropped: func(host, name string, err error) {
 			if !errors.Is(err, ErrControlCharacter) || "http://"+host != server.URL {
 				t.Errorf("%s: %v", host, err)
@@ -347,11 +347,11 @@ func TestControlCharactersAreNotSent(t *testing.T) {
 // A WebSocket handshake is a request by HTTP.
 func TestWebSocket(t *testing.T) {
 	jar := newJar(t, &Options{Strict: true})
-	setAll(t, jar, "https://example.com/", "secure=1; Secure; HttpOnly")
-	setAll(t, jar, "http://example.com/", "plain=2; HttpOnly")
-	setAll(t, jar, "wss://example.com/", "__Host-b=3; Secure; HttpOnly; Path=/")
-	setAll(t, jar, "ws://example.com/", "a=4; HttpOnly")
-	expectStatus(t, "ws", jar.Set(parseURL(t, "ws://example.com/"), "b=5; Secure"), ErrInsecureURL)
+	parseAll(t, jar, "https://example.com/", "secure=1; Secure; HttpOnly")
+	parseAll(t, jar, "http://example.com/", "plain=2; HttpOnly")
+	parseAll(t, jar, "wss://example.com/", "__Host-b=3; Secure; HttpOnly; Path=/")
+	parseAll(t, jar, "ws://example.com/", "a=4; HttpOnly")
+	expectStatus(t, "ws", jar.Parse(parseURL(t, "ws://example.com/"), "b=5; Secure"), ErrInsecureURL)
 	const plain, all = "plain=2; a=4", "secure=1; plain=2; __Host-b=3; a=4"
 	for to, want := range map[string]string{"ws": plain, "http": plain, "wss": all, "https": all, "WSS": all, "ftp": "", "wsss": ""} {
 		got, err := jar.Header(&url.URL{Scheme: to, Host: "example.com"})

@@ -51,7 +51,7 @@ type Options struct {
 	// public suffix list, the Domain of a cookie may not be above the site of the host that sets it.
 	Strict bool
 
-	// OnDropped, if it is not nil, is called for each cookie that SetCookies does not store, with the error that Set would
+	// OnDropped, if it is not nil, is called for each cookie that SetCookies does not store, with the error that Parse would
 	// have returned, and for each stored cookie that Cookies and Header leave out, with ErrControlCharacter. If Cookies
 	// returns nil because of an error, it is called with that error and an empty name.
 	//
@@ -104,7 +104,7 @@ func (j *Jar) configure(options *Options) error {
 	j.onDropped = options.OnDropped
 	if options.PublicSuffixList != nil {
 		list, line := string(options.PublicSuffixList), C.size_t(0)
-		status := C.cookie_store_use_suffixes(&j.store, chars(list), size(list), C.bool(options.OnlyListed), &line)
+		status := C.cookie_store_set_suffix_list(&j.store, chars(list), size(list), C.bool(options.OnlyListed), &line)
 		if err := errorOf(status, line); err != nil {
 			return err
 		}
@@ -128,24 +128,24 @@ func (j *Jar) Close() error {
 	return nil
 }
 
-// Set parses a Set-Cookie header value received from u and inserts the cookie, RFC 6265 5.3. The status of the error is the
+// Parse parses a Set-Cookie header value received from u and inserts the cookie, RFC 6265 5.3. The status of the error is the
 // reason if the cookie was rejected (see Status.IsRejection), or else ErrBadURL or ErrNotUTF8.
-func (j *Jar) Set(u *url.URL, setCookie string) error {
+func (j *Jar) Parse(u *url.URL, setCookie string) error {
 	j.mu.Lock()
 	defer j.mu.Unlock()
-	return j.set(address(u), setCookie)
+	return j.parse(address(u), setCookie)
 }
 
-// set is Set while the lock is held.
-func (j *Jar) set(url, setCookie string) error {
-	return errorOf(C.cookie_store_set(&j.store, chars(url), size(url), chars(setCookie), size(setCookie), j.seconds()), 0)
+// parse is Parse while the lock is held.
+func (j *Jar) parse(url, setCookie string) error {
+	return errorOf(C.cookie_store_parse(&j.store, chars(url), size(url), chars(setCookie), size(setCookie), j.seconds()), 0)
 }
 
 // Header returns the value of the Cookie header of a request for u, RFC 6265 5.4, or "" if none is to be sent. Names and values
 // are as received. Longer paths come first, and cookies with paths of equal length in creation order.
 //
 // Cookies whose name or value has a control character other than HTAB are left out: such a header could end early and begin
-// another one. They can come from Load, and from Set with another string than a header that net/http received.
+// another one. They can come from Load, and from Parse with another string than a header that net/http received.
 //
 // Errors: ErrBadURL, ErrNotUTF8 (the URL).
 func (j *Jar) Header(u *url.URL) (string, error) {
@@ -155,7 +155,7 @@ func (j *Jar) Header(u *url.URL) (string, error) {
 
 // pairs returns the pairs name=value of the Cookie header of a request for u.
 func (j *Jar) pairs(u *url.URL) ([]string, error) {
-	header, err := j.get(address(u))
+	header, err := j.header(address(u))
 	if err != nil || header == "" {
 		return nil, err
 	}
@@ -173,12 +173,12 @@ func (j *Jar) pairs(u *url.URL) ([]string, error) {
 
 func isControl(r rune) bool { return r < ' ' && r != '\t' || r == 0x7f }
 
-func (j *Jar) get(url string) (string, error) {
+func (j *Jar) header(url string) (string, error) {
 	j.mu.Lock()
 	defer j.mu.Unlock()
 	now := j.seconds()
 	header, err := grow(func(out *C.char, room C.size_t, needed *C.size_t) C.enum_cookie_store_status {
-		return C.cookie_store_get(&j.store, chars(url), size(url), now, out, room, needed)
+		return C.cookie_store_header(&j.store, chars(url), size(url), now, out, room, needed)
 	})
 	return string(header), err
 }

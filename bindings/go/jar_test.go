@@ -40,12 +40,12 @@ func parseURL(t *testing.T, text string) *url.URL {
 	return u
 }
 
-// setAll sets cookies that must not be rejected.
-func setAll(t *testing.T, jar *Jar, from string, values ...string) {
+// parseAll inserts cookies that must not be rejected.
+func parseAll(t *testing.T, jar *Jar, from string, values ...string) {
 	t.Helper()
 	for _, value := range values {
-		if err := jar.Set(parseURL(t, from), value); err != nil {
-			t.Fatalf("%s: Set(%q): %v", from, value, err)
+		if err := jar.Parse(parseURL(t, from), value); err != nil {
+			t.Fatalf("%s: Parse(%q): %v", from, value, err)
 		}
 	}
 }
@@ -84,12 +84,12 @@ func TestHeader(t *testing.T) {
 		{"http://example.com/", long, "http://example.com/", long},
 	} {
 		jar := newJar(t, nil)
-		setAll(t, jar, row.from, row.value)
+		parseAll(t, jar, row.from, row.value)
 		expectHeader(t, jar, row.to, row.want)
 	}
 }
 
-func TestSetErrors(t *testing.T) {
+func TestParseErrors(t *testing.T) {
 	list, strict := &Options{PublicSuffixList: []byte("uk\nco.uk\n")}, &Options{Strict: true}
 	full := &Options{Strict: true, DomainLimit: 1}
 	sites := &Options{Strict: true, PublicSuffixList: []byte("com\ns3.example.com\n")}
@@ -119,9 +119,9 @@ func TestSetErrors(t *testing.T) {
 		{nil, "http://example.com/", "a=\xff", ErrNotUTF8},
 	} {
 		jar := newJar(t, row.options)
-		setAll(t, jar, "https://example.com/", "stored=1; Secure")
-		err := jar.Set(parseURL(t, row.from), row.value)
-		name := fmt.Sprintf("%s: Set(%.40q)", row.from, row.value)
+		parseAll(t, jar, "https://example.com/", "stored=1; Secure")
+		err := jar.Parse(parseURL(t, row.from), row.value)
+		name := fmt.Sprintf("%s: Parse(%.40q)", row.from, row.value)
 		expectStatus(t, name, err, row.want)
 		if failed := row.want == ErrBadURL || row.want == ErrNotUTF8; row.want.IsRejection() == failed {
 			t.Errorf("%s: IsRejection is %v", name, !failed)
@@ -135,7 +135,7 @@ func TestSetErrors(t *testing.T) {
 // A request goes to u.Host, whatever the other fields name.
 func TestHostDecides(t *testing.T) {
 	jar := newJar(t, nil)
-	setAll(t, jar, "http://example.com/", "a=1")
+	parseAll(t, jar, "http://example.com/", "a=1")
 	for _, row := range []struct {
 		u    *url.URL
 		want string
@@ -215,14 +215,14 @@ func TestHashKey(t *testing.T) {
 
 func TestOptions(t *testing.T) {
 	jar := newJar(t, &Options{PublicSuffixList: []byte("uk\nco.uk\n"), DomainLimit: 2})
-	setAll(t, jar, "http://co.uk/", "own=1; Domain=co.uk")
+	parseAll(t, jar, "http://co.uk/", "own=1; Domain=co.uk")
 	expectHeader(t, jar, "http://co.uk/", "own=1")
 	expectHeader(t, jar, "http://shop.co.uk/", "")
-	setAll(t, jar, "http://shop.co.uk/", "a=1", "b=2; Domain=shop.co.uk", "c=3")
+	parseAll(t, jar, "http://shop.co.uk/", "a=1", "b=2; Domain=shop.co.uk", "c=3")
 	expectHeader(t, jar, "http://shop.co.uk/", "b=2; c=3")
 
 	jar = newJar(t, &Options{Strict: true})
-	setAll(t, jar, "https://example.com/", "a=1; Max-Age=99999999")
+	parseAll(t, jar, "https://example.com/", "a=1; Max-Age=99999999")
 	if got, want := jar.All()[0].Expires, start.AddDate(0, 0, 400); !got.Equal(want) {
 		t.Errorf("a strict jar's cookie expires at %v, want %v", got, want)
 	}
@@ -242,7 +242,7 @@ func TestPublicSuffixLists(t *testing.T) {
 		jar := newJar(t, &row.options)
 		var got []string
 		for _, domain := range []string{"shop.co.uk", "co.uk", "shop.np", "np"} {
-			err := jar.Set(parseURL(t, "http://deep."+domain+"/"), "a=1; Domain="+domain)
+			err := jar.Parse(parseURL(t, "http://deep."+domain+"/"), "a=1; Domain="+domain)
 			if err == nil {
 				got = append(got, domain)
 			} else {
@@ -264,22 +264,22 @@ func TestSystemPublicSuffixList(t *testing.T) {
 		t.Fatal(err)
 	}
 	jar := newJar(t, &Options{PublicSuffixList: list})
-	setAll(t, jar, "http://www.shop.co.uk/", "a=1; Domain=shop.co.uk")
+	parseAll(t, jar, "http://www.shop.co.uk/", "a=1; Domain=shop.co.uk")
 	for from, value := range map[string]string{"http://shop.co.uk/": "a=1; Domain=co.uk", "http://shop.np/": "a=1; Domain=np"} {
-		expectStatus(t, value, jar.Set(parseURL(t, from), value), ErrPublicSuffix)
+		expectStatus(t, value, jar.Parse(parseURL(t, from), value), ErrPublicSuffix)
 	}
 }
 
 func TestCookies(t *testing.T) {
 	jar := newJar(t, nil)
-	setAll(t, jar, "https://example.com/foo/bar",
+	parseAll(t, jar, "https://example.com/foo/bar",
 		"a=1; Max-Age=60; Secure", "b=2; Domain=example.com; Path=/; HttpOnly; SameSite=Lax", "c=; Max-Age=61")
 	want := []Cookie{
 		{"example.com", "/foo", "a", "1", start.Add(time.Minute), true, true, false, 0},
 		{"example.com", "/foo", "c", "", start.Add(61 * time.Second), true, false, false, 0},
 		{"example.com", "/", "b", "2", time.Time{}, false, false, true, http.SameSiteLaxMode},
 	}
-	expectAll(t, "set", jar, want)
+	expectAll(t, "after Parse", jar, want)
 	if jar.Len() != 3 {
 		t.Errorf("Len() = %d, want 3", jar.Len())
 	}
@@ -296,7 +296,7 @@ func TestCookies(t *testing.T) {
 		t.Errorf("Remove: %v", err)
 	}
 	expectAll(t, "after Remove", jar, want[1:2])
-	setAll(t, jar, "http://example.com/foo/", "c=; Max-Age=0") // expires the stored one
+	parseAll(t, jar, "http://example.com/foo/", "c=; Max-Age=0") // expires the stored one
 	expectHeader(t, jar, "http://example.com/foo/", "")
 	if err := jar.Clear(); err != nil || jar.Len() != 0 || jar.All() != nil {
 		t.Errorf("Clear: %v, and %d cookies", err, jar.Len())
@@ -312,7 +312,7 @@ func TestSameSite(t *testing.T) {
 		"a=1; SameSite=other":  0,
 	} {
 		jar := newJar(t, nil)
-		setAll(t, jar, "https://example.com/", value)
+		parseAll(t, jar, "https://example.com/", value)
 		if got := jar.All()[0].SameSite; got != want {
 			t.Errorf("%s: SameSite is %d, want %d", value, got, want)
 		}
@@ -336,7 +336,7 @@ func expectAll(t *testing.T, when string, jar *Jar, want []Cookie) {
 
 func TestClosed(t *testing.T) {
 	closed, u := newJar(t, nil), parseURL(t, "http://example.com/")
-	setAll(t, closed, u.String(), "a=1")
+	parseAll(t, closed, u.String(), "a=1")
 	for _, jar := range []*Jar{closed, new(Jar)} {
 		for i := 0; i < 2; i++ {
 			if err := jar.Close(); err != nil {
@@ -346,8 +346,8 @@ func TestClosed(t *testing.T) {
 		_, headerErr := jar.Header(u)
 		_, expiredErr := jar.RemoveExpired()
 		for name, err := range map[string]error{
-			"Set": jar.Set(u, "a=1"), "Header": headerErr, "Clear": jar.Clear(), "Remove": jar.Remove("", "", ""),
-			"RemoveExpired": expiredErr, "Save": jar.Save(new(strings.Builder), JSON),
+			"Parse": jar.Parse(u, "a=1"), "Header": headerErr, "Clear": jar.Clear(), "Remove": jar.Remove("", "", ""),
+			"RemoveExpired": expiredErr, "Save": jar.Save(new(strings.Builder), JSON, AllCookies),
 		} {
 			expectStatus(t, name, err, ErrClosed)
 		}
@@ -367,7 +367,7 @@ func TestGoroutines(t *testing.T) {
 		go func(page *url.URL) {
 			defer all.Done()
 			for i := 0; i < each; i++ {
-				if err := jar.Set(page, fmt.Sprintf("c%d=%d", i, i)); err != nil {
+				if err := jar.Parse(page, fmt.Sprintf("c%d=%d", i, i)); err != nil {
 					t.Error(err)
 				}
 				if got := len(jar.Cookies(page)); got != i+1 {

@@ -19,7 +19,7 @@ func TestForgottenJarsAreFreed(t *testing.T) {
 		if err != nil {
 			t.Fatal(err)
 		}
-		if err := jar.Set(page, value); err != nil {
+		if err := jar.Parse(page, value); err != nil {
 			t.Fatal(err)
 		}
 		if i%10 == 9 {

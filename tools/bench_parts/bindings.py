@@ -79,13 +79,13 @@ def measure_store(module):
     urls = [f'http://h{number}.example/a/b' for number in range(HOSTS)]
     many, one = module.CookieStore(), module.CookieStore()
     for url in urls:
-        one.set(url, 'c0=value0; Path=/', NOW)
-    took = {'set': measure(lambda pair: many.set(*pair, NOW), [(url, header) for url in urls for header in HEADERS])}
+        one.parse(url, 'c0=value0; Path=/', NOW)
+    took = {'set': measure(lambda pair: many.parse(*pair, NOW), [(url, header) for url in urls for header in HEADERS])}
     took['get_one'] = measure(lambda url: one.header(url, NOW), urls)
     took['get_many'] = measure(lambda url: many.header(url, NOW), urls)
     took['count'] = measure(lambda _: len(many), urls)
     took['iterate'] = measure(lambda _: names(many), urls[:5])
-    took['iterate_changed'] = measure(lambda url: many.set(url, HEADERS[0], NOW) and names(many), urls[:5])
+    took['iterate_changed'] = measure(lambda url: many.parse(url, HEADERS[0], NOW) and names(many), urls[:5])
     return took
 
 
@@ -118,12 +118,13 @@ def measure_files(module, path, each):
                         for number in range(LINES))
     with open(path, encoding='utf-8') as file:
         text = file.read()
-    store, own, jar = module.CookieStore.load_netscape(text, NOW), module.StoreJar(), http.cookiejar.MozillaCookieJar()
+    netscape = module.Format.NETSCAPE
+    store, own, jar = module.CookieStore.loads(text, netscape, now=NOW), module.StoreJar(), http.cookiejar.MozillaCookieJar()
     own.load(path)
     jar.load(path)
-    calls = {'load': (lambda: module.CookieStore.load_netscape(text, NOW), lambda: loaded(module.StoreJar(), path),
+    calls = {'load': (lambda: module.CookieStore.loads(text, netscape, now=NOW), lambda: loaded(module.StoreJar(), path),
                       lambda: loaded(http.cookiejar.MozillaCookieJar(), path)),
-             'save': (lambda: store.save_netscape(NOW), lambda: own.save(f'{path}.own'), lambda: jar.save(path))}
+             'save': (lambda: store.dumps(netscape, now=NOW), lambda: own.save(f'{path}.own'), lambda: jar.save(path))}
     return {name: [measure_once(call) / LINES for call in row] for name, row in calls.items()}
 
 

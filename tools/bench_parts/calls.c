@@ -12,14 +12,14 @@ static unsigned long faults;
 
 static void set(unsigned at) {
     const char *url = urls[at / EACH % HOSTS], *header = headers[at % EACH];
-    faults += cookie_store_set(&many, url, strlen(url), header, strlen(header), NOW) > COOKIE_STORE_UPDATED;
+    faults += cookie_store_parse(&many, url, strlen(url), header, strlen(header), NOW) > COOKIE_STORE_UPDATED;
 }
 
 static void get(cookie_store *store, unsigned at) {
     char out[1024];
     size_t needed;
     const char *url = urls[at % HOSTS];
-    faults += cookie_store_get(store, url, strlen(url), NOW, out, sizeof out, &needed) != COOKIE_STORE_OK || needed == 0;
+    faults += cookie_store_header(store, url, strlen(url), NOW, out, sizeof out, &needed) != COOKIE_STORE_OK || needed == 0;
 }
 
 static void get_one(unsigned at) { get(&one, at); }
@@ -46,7 +46,7 @@ int main(void) {
     cookie_store_new(&one, "", 0);
     for (int at = 0; at < HOSTS; at++) {
         snprintf(urls[at], sizeof urls[at], "http://h%d.example/a/b", at);
-        cookie_store_set(&one, urls[at], strlen(urls[at]), "c0=value0; Path=/", 17, NOW);
+        cookie_store_parse(&one, urls[at], strlen(urls[at]), "c0=value0; Path=/", 17, NOW);
     }
     for (int at = 0; at < EACH; at++) snprintf(headers[at], sizeof headers[at], "c%d=value%d; Path=/; Max-Age=86400", at, at);
     measure("set", set);

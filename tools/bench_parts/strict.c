@@ -12,7 +12,7 @@ int main(void) {
     while (fgets(line, sizeof line, stdin)) {
         char *url = line + 4, *space = strchr(url, ' ');
         if (strncmp(line, "set ", 4) != 0 || space == NULL) continue;
-        cookie_store_set(&store, url, (size_t)(space - url), space + 1, strcspn(space + 1, "\n"), NOW);
+        cookie_store_parse(&store, url, (size_t)(space - url), space + 1, strcspn(space + 1, "\n"), NOW);
     }
     printf("%lu cookies\n", (unsigned long)cookie_store_count(&store));
     cookie_store_free(&store);

@@ -144,6 +144,7 @@ for compiler in "${compilers[@]:1}"; do
 done
 for kind in shared static; do
     test_program test_cookie_store "$kind"
+    test_program test_strict "$kind"
     test_program test_lists "$kind"
     test_program test_large "$kind"
 done

@@ -26,7 +26,7 @@ def printed(lines):
 
 def declarations(text):
     """The functions of C that a text without comments declares, each on one line, sorted."""
-    types = r'enum \w+|void|size_t|const char \*'
+    types = r'enum \w+|void|size_t|bool|const char \*'
     found = re.findall(rf'^(?:static inline )?((?:{types})\s*\bcookie_store_\w+\([^()]*\))', text, re.M)
     return sorted(re.sub(r'\s+', ' ', each).replace('* ', '*') for each in found)
 

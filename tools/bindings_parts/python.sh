@@ -36,7 +36,7 @@ installs_into() {
         alone env PYTHONPATH="$1" python3 -c "
 from cookie_store import CookieStore
 store = CookieStore()
-store.set('http://example.com/', 'a=1')
+store.parse('http://example.com/', 'a=1')
 print(store.header('http://example.com/'))" | grep -Fx 'a=1'
 }
 

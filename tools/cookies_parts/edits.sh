@@ -28,8 +28,8 @@ edits "# mine\r\n\n${twice}broken line\r\n\$python\n # curl\n$again$last" purge 
 edits "${python}a.example\tFALSE\t/\tFALSE\t\ttwice\t1\r\n$middle$last" set "$now" http://a.example/ 'twice=1' edited.txt
 edits "$python$twice$middle$again$last\r\nc.example\tFALSE\t/\tFALSE\t\tnew\t1\r\n" set "$now" http://c.example/ 'new=1' edited.txt
 edits "$python$twice$middle$again::1\tFALSE\t/q\tFALSE\t\tz\t2\r\n" set "$now" 'http://[::1]/q/' 'z=2; Path=/q' edited.txt
-fails 1 'odd.txt: line 5 is not a cookie' show odd.txt
-fails 1 'odd.txt: line 5 is not a cookie' convert odd.txt odd.json
+fails 1 'odd.txt: line 5 is not a cookie; --skip-malformed leaves it out' show odd.txt
+fails 1 'odd.txt: line 5 is not a cookie; --skip-malformed leaves it out' convert odd.txt odd.json
 for words in 'show odd.txt' 'header http://b.example/ odd.txt' 'convert odd.txt odd.json'; do
     # shellcheck disable=SC2086
     runs "${words%% *}" "$now" --skip-malformed ${words#* }
@@ -41,6 +41,37 @@ has lines.txt 'a.example|FALSE|/|FALSE|0|a|1' '.a.example|TRUE|/|FALSE|0|b|1'
 : > empty.txt
 prints '' set "$now" http://a.example/ a=1 empty.txt
 has empty.txt "$first" 'a.example|FALSE|/|FALSE|0|a|1'
+
+# A domain may be spelled as a line spells it. `DOMAIN NAME..`: the cookies of the domain.
+hosts=('::1|FALSE|/|FALSE|0|a|1' '[::1].local|FALSE|/|FALSE|0|b|1' 'c.example:8080|FALSE|/|FALSE|0|c|1' 'localhost.local|FALSE|/|FALSE|0|d|1'
+    'UP.example|FALSE|/|FALSE|0|e|1' '.UP.example|TRUE|/f|FALSE|0|f|1')
+for row in '::1 a b' '[::1] a b' '[::1].local a b' '::1.local' 'c.example:8080 c' 'c.example:443 c' 'C.EXAMPLE c' 'localhost.local d' 'LocalHost d' \
+    '.localhost d' 'UP.example e f' 'up.example e f' '.UP.example e f' '..up.example' 'example' 'c.example.local'; do
+    read -r domain names <<< "$row"
+    lines "$first" "${hosts[@]}" > hosts.txt
+    prints '' purge --domain "$domain" hosts.txt
+    lines "$first" "${hosts[@]}" | awk -F '\t' -v names=" $names " '!NF || NF < 7 || !index(names, " " $6 " ")' > wanted.txt
+    cmp -s wanted.txt hosts.txt && pass || fail "purge --domain $domain: FAILED" hosts.txt
+    for name in $names; do
+        lines "$first" "${hosts[@]}" > hosts.txt
+        prints '' remove hosts.txt "$domain" "$([ "$name" = f ] && echo /f || echo /)" "$name"
+        awk -F '\t' -v name="$name" 'NF < 7 || $6 != name' <(lines "$first" "${hosts[@]}") | cmp -s - hosts.txt && pass || fail "remove hosts.txt $domain $name: FAILED" hosts.txt
+    done
+    [ -n "$names" ] || fails 1 'hosts.txt: no such cookie' remove hosts.txt "$domain" / a
+done
+
+# A domain that a cookie has is that one, as lists may have any.
+for domain in localhost localhost.local up.example UP.example '[::1]'; do
+    printf '{"raw_cookie":"x=1","path":["/",true],"domain":{"HostOnly":"%s"},"expires":"SessionEnd"}\n' "$domain"
+done > domains.jsonl
+for row in 'localhost localhost' 'localhost.local localhost.local' 'UP.example UP.example' 'Up.Example up.example' '::1 [::1]' 'localhost:80 localhost'; do
+    for words in "purge --domain ${row% *} left.jsonl" "remove left.jsonl ${row% *} / x"; do
+        cp domains.jsonl left.jsonl
+        # shellcheck disable=SC2086
+        prints '' $words
+        [ "$(sed -E 's/.*"HostOnly":"([^"]*)".*/\1/' left.jsonl | sort)" = "$(sed -E 's/.*"HostOnly":"([^"]*)".*/\1/' domains.jsonl | grep -vxF -e "${row#* }" | sort)" ] && pass || fail "$words: FAILED" left.jsonl
+    done
+done
 
 # A directory of odd files: a new cookie comes last, behind the line end that the last line lacks, and removing it leaves the rest.
 mkdir odd

@@ -68,7 +68,7 @@ static bool store_host(const char *url, char *host) {
     static char strings[2 * ROOM];
     cookie_store_row row;
     size_t rows, length;
-    enum cookie_store_status status = cookie_store_set(&store, url, strlen(url), "a=1", 3, 0);
+    enum cookie_store_status status = cookie_store_parse(&store, url, strlen(url), "a=1", 3, 0);
     if (status >= 10) {
         if (status == COOKIE_STORE_NO_MEMORY) errx(1, "%s", cookie_store_status_text(status));
         return false;

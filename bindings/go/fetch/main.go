@@ -55,7 +55,7 @@ func load(name string) (*cookiestore.Jar, error) {
 		return nil, err
 	}
 	defer file.Close()
-	return cookiestore.Load(file, cookiestore.JSON, nil)
+	return cookiestore.Load(file, cookiestore.JSON, cookiestore.UnexpiredCookies, nil)
 }
 
 func get(client *http.Client, url string) error {
@@ -80,7 +80,7 @@ func save(jar *cookiestore.Jar, name string) error {
 	}
 	defer os.Remove(file.Name()) // fails once it is renamed
 	defer file.Close()
-	if err := jar.Save(file, cookiestore.JSON); err != nil {
+	if err := jar.Save(file, cookiestore.JSON, cookiestore.PersistentCookies); err != nil {
 		return err
 	}
 	if err := file.Sync(); err != nil {

@@ -3,7 +3,7 @@
     import cookie_store
 
     with cookie_store.CookieStore() as store:
-        store.set('http://example.com/foo/bar', 'cookie1=value1')
+        store.parse('http://example.com/foo/bar', 'cookie1=value1')
         print(store.header('http://example.com/foo/x'))
 
 Class CookieStore is the store of cookie_store.h. Class StoreJar is a http.cookiejar.CookieJar over
@@ -31,9 +31,10 @@ the system finds it.
 from __future__ import annotations
 
 from ._files import replace_file
+from ._formats import Format, Which
 from ._jar import StoreJar
 from ._status import BadLine, BadRule, CookieStoreError, NoDomain, NoMemory, Status
 from ._store import Cookie, CookieStore
 
-__all__ = ['BadLine', 'BadRule', 'Cookie', 'CookieStore', 'CookieStoreError', 'NoDomain', 'NoMemory', 'Status', 'StoreJar',
-           'replace_file']
+__all__ = ['BadLine', 'BadRule', 'Cookie', 'CookieStore', 'CookieStoreError', 'Format', 'NoDomain', 'NoMemory', 'Status',
+           'StoreJar', 'Which', 'replace_file']

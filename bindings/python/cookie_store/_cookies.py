@@ -8,6 +8,7 @@ import re
 import time
 from typing import Any, Dict, Iterator, List, Optional, Tuple
 
+from ._formats import Format, Which
 from ._messages import log_not_saved, log_not_stored
 from ._status import CookieStoreError, NoDomain, Status, text_of
 from ._store import Cookie, CookieStore, Text
@@ -149,7 +150,7 @@ def insert(store: CookieStore, cookie: http.cookiejar.Cookie) -> Status:
     has_path = cookie.path_specified or not _PLAIN_PATH.fullmatch(cookie.path)
     path = '/' if has_path or cookie.path == '/' else cookie.path + '/'
     text = set_cookie_text(cookie, has_path, now, store.strict)
-    return store.set(from_wire(f'https://{host}{path}'), from_wire(text), now)
+    return store.parse(from_wire(f'https://{host}{path}'), from_wire(text), now)
 
 
 def header_values(rows: List[Cookie], now: int, is_strict: bool) -> Iterator[Tuple[str, str]]:
@@ -171,7 +172,7 @@ def _key(row: Cookie) -> Tuple[str, str, str]:
 
 def log_left_out(rows: List[Cookie], text: str) -> None:
     """Log those of the cookies that the store left out of a cookies.txt file."""
-    with CookieStore.load_netscape(text, all=True) as saved:
+    with CookieStore.loads(text, Format.NETSCAPE, Which.ALL) as saved:
         keys = {_key(row) for row in saved.cookies()}
     for row in rows:
         if _key(row) not in keys:

@@ -10,11 +10,17 @@ from typing import Any, Dict, Iterator, List, Optional
 
 from ._cookies import JarCookie, from_wire, header_values, insert, log_left_out, set_cookie_text, to_wire, unexpired
 from ._files import Path, replace_file
+from ._formats import Format, Which
 from ._mapping import MappingJar
 from ._messages import header_for, insert_header, log_not_stored, name_of, receive
 from ._status import CookieStoreError, Status, text_of
 from ._store import Cookie, CookieStore
 from ._urls import target_of
+
+
+def _which_unexpired(ignore_discard: bool) -> Which:
+    """Return which of the cookies that have not expired are loaded or saved."""
+    return Which.UNEXPIRED if ignore_discard else Which.PERSISTENT
 
 
 class StoreJar(MappingJar):
@@ -177,24 +183,24 @@ class StoreJar(MappingJar):
         A cookie that no Set-Cookie header can express is left out too. Its path does not begin with `/`,
         as MozillaCookieJar writes it after Path=foo, and never sends it; or it has a `;`, or, in a strict
         store, more than 1,024 bytes; or the path, name or value has white space at an end, such as a
-        no-break space. CookieStore.load_netscape() keeps it. What is left out is logged.
+        no-break space. CookieStore.loads() keeps it. What is left out is logged.
 
         A first line such as MozillaCookieJar demands need not be there, and an expiry of 0 is that of a
         session cookie. Raises http.cookiejar.LoadError, an OSError, if the file is not UTF-8 or has a
         malformed line.
         """
-        name = self._filename(filename)
+        name, now = self._filename(filename), int(time.time())
         with open(name, 'rb') as file:
             text = file.read()
         try:
-            loaded = CookieStore.load_netscape(text)
+            loaded = CookieStore.loads(text, Format.NETSCAPE, _which_unexpired(ignore_discard), now)
         except CookieStoreError as error:
             if error.status not in (Status.BAD_LINE, Status.NOT_UTF8):
                 raise
             raise http.cookiejar.LoadError(f'{name}: {error}') from error
         with loaded:
-            rows, now = [row for row in loaded.cookies() if ignore_discard or row.expires is not None], int(time.time())
-        for host, header_value, status in self.store._set_all(header_values(rows, now, self.store.strict), now):
+            rows = loaded.cookies()
+        for host, header_value, status in self.store._parse_all(header_values(rows, now, self.store.strict), now):
             log_not_stored(host, name_of(header_value), text_of(status))
 
     def _filename(self, filename: Optional[Path]) -> str:
@@ -208,7 +214,7 @@ class StoreJar(MappingJar):
 
         Without filename the file is that of the attribute filename. Session cookies are left out unless
         ignore_discard is true, and expired ones unless ignore_expires is true. Cookies that the format
-        cannot represent are left out and logged: see CookieStore.save_netscape(). The expiry of a session
+        cannot represent are left out and logged: see CookieStore.dumps(). The expiry of a session
         cookie is written as 0, as curl does, and MozillaCookieJar reads that as expired.
 
         The file is written as replace_file() does.
@@ -221,10 +227,11 @@ class StoreJar(MappingJar):
         def is_chosen(expires: Optional[int]) -> bool:
             return ignore_discard if expires is None else ignore_expires or expires > now
 
-        text, left_out = self.store.save_netscape_representable(now, all=ignore_discard or ignore_expires)
+        which = Which.ALL if ignore_expires else _which_unexpired(ignore_discard)
+        text, left_out = self.store.dumps_lenient(which, now)
         if left_out:
             log_left_out([row for row in self.store.cookies() if is_chosen(row.expires)], text)
-        if ignore_discard == ignore_expires:
+        if ignore_discard or not ignore_expires:
             return text
         first, *lines, last = text.split('\n')
         return '\n'.join([first, *(line for line in lines if is_chosen(int(line.split('\t')[4]) or None)), last])

@@ -18,46 +18,45 @@ class Row(ctypes.Structure):
     _fields_ = [('domain_len', ctypes.c_size_t), ('path_len', ctypes.c_size_t), ('name_len', ctypes.c_size_t),
                 ('value_len', ctypes.c_size_t), ('expires', ctypes.c_int64), ('persistent', ctypes.c_bool),
                 ('host_only', ctypes.c_bool), ('has_path', ctypes.c_bool), ('secure', ctypes.c_bool),
-                ('http_only', ctypes.c_bool), ('same_site', ctypes.c_int)]
+                ('http_only', ctypes.c_bool), ('same_site', ctypes.c_uint32)]
 
 
 #: The same layout as Row: reading it in one go is faster than by its fields.
-ROW = struct.Struct('@4Nq5?i4x')
+ROW = struct.Struct('@4Nq5?I4x')
 
 #: The values of a SameSite attribute, by their numbers in enum cookie_store_same_site of cookie_store.h.
 SAME_SITES = (None, 'Strict', 'Lax', 'None')
 
+#: The flags of enum cookie_store_cross_site of cookie_store.h.
+TOP_LEVEL, NONE_BY_DEFAULT = 1, 2
+
 _AT = ctypes.POINTER(Store)
+# A status, another number of an enum, or flags.
+_NUMBER = ctypes.c_uint32
 _TEXT = [ctypes.c_char_p, ctypes.c_size_t]
 _OUT = [ctypes.POINTER(ctypes.c_char), ctypes.c_size_t]
 _LENGTH = ctypes.POINTER(ctypes.c_size_t)
-_SAVE: Tuple[Any, List[Any]] = (ctypes.c_int, [_AT, ctypes.c_int64, ctypes.c_bool, *_OUT, _LENGTH])
-_LOAD: Tuple[Any, List[Any]] = (ctypes.c_int, [_AT, *_TEXT, *_TEXT, ctypes.c_int64, ctypes.c_bool])
 
 #: Result and argument types of each function in cookie_store.h.
 SIGNATURES: Dict[str, Tuple[Any, List[Any]]] = {
-    'cookie_store_new': (ctypes.c_int, [_AT, *_TEXT]),
+    'cookie_store_new': (_NUMBER, [_AT, *_TEXT]),
     'cookie_store_free': (None, [_AT]),
-    'cookie_store_use_suffixes': (ctypes.c_int, [_AT, *_TEXT, ctypes.c_bool, _LENGTH]),
-    'cookie_store_set_domain_limit': (ctypes.c_int, [_AT, ctypes.c_size_t]),
-    'cookie_store_set_hash_key': (ctypes.c_int, [_AT, *_TEXT]),
-    'cookie_store_set_strict': (ctypes.c_int, [_AT, ctypes.c_bool]),
-    'cookie_store_set': (ctypes.c_int, [_AT, *_TEXT, *_TEXT, ctypes.c_int64]),
-    'cookie_store_get': (ctypes.c_int, [_AT, *_TEXT, ctypes.c_int64, *_OUT, _LENGTH]),
-    'cookie_store_get_cross_site': (ctypes.c_int, [_AT, *_TEXT, ctypes.c_int64, ctypes.c_bool, ctypes.c_bool, *_OUT, _LENGTH]),
-    'cookie_store_remove': (ctypes.c_int, [_AT, *_TEXT, *_TEXT, *_TEXT]),
-    'cookie_store_clear': (ctypes.c_int, [_AT]),
-    'cookie_store_remove_expired': (ctypes.c_int, [_AT, ctypes.c_int64, _LENGTH]),
+    'cookie_store_set_suffix_list': (_NUMBER, [_AT, *_TEXT, ctypes.c_bool, _LENGTH]),
+    'cookie_store_set_domain_limit': (_NUMBER, [_AT, ctypes.c_size_t]),
+    'cookie_store_domain_limit': (ctypes.c_size_t, [_AT]),
+    'cookie_store_set_strict': (_NUMBER, [_AT, ctypes.c_bool]),
+    'cookie_store_is_strict': (ctypes.c_bool, [_AT]),
+    'cookie_store_set_hash_key': (_NUMBER, [_AT, *_TEXT]),
+    'cookie_store_parse': (_NUMBER, [_AT, *_TEXT, *_TEXT, ctypes.c_int64]),
+    'cookie_store_header': (_NUMBER, [_AT, *_TEXT, ctypes.c_int64, *_OUT, _LENGTH]),
+    'cookie_store_header_cross_site': (_NUMBER, [_AT, *_TEXT, ctypes.c_int64, _NUMBER, *_OUT, _LENGTH]),
+    'cookie_store_remove': (_NUMBER, [_AT, *_TEXT, *_TEXT, *_TEXT]),
+    'cookie_store_clear': (_NUMBER, [_AT]),
+    'cookie_store_remove_expired': (_NUMBER, [_AT, ctypes.c_int64, _LENGTH]),
     'cookie_store_count': (ctypes.c_size_t, [_AT]),
-    'cookie_store_rows': (ctypes.c_int, [_AT, ctypes.POINTER(Row), ctypes.c_size_t, *_OUT, _LENGTH, _LENGTH]),
-    'cookie_store_save_json': _SAVE,
-    'cookie_store_save_ron': _SAVE,
-    'cookie_store_load_json': _LOAD,
-    'cookie_store_load_ron': _LOAD,
-    'cookie_store_save_netscape': _SAVE,
-    'cookie_store_save_netscape_representable': (_SAVE[0], [*_SAVE[1], _LENGTH]),
-    'cookie_store_load_netscape': (_LOAD[0], [*_LOAD[1], _LENGTH]),
-    'cookie_store_load_netscape_well_formed': (_LOAD[0], [*_LOAD[1], _LENGTH, ctypes.c_size_t, _LENGTH]),
+    'cookie_store_rows': (_NUMBER, [_AT, ctypes.POINTER(Row), ctypes.c_size_t, *_OUT, _LENGTH, _LENGTH]),
+    'cookie_store_save': (_NUMBER, [_AT, _NUMBER, _NUMBER, ctypes.c_int64, *_OUT, _LENGTH, _LENGTH]),
+    'cookie_store_load': (_NUMBER, [_AT, *_TEXT, _NUMBER, _NUMBER, *_TEXT, ctypes.c_int64, _LENGTH, ctypes.c_size_t, _LENGTH]),
 }
 
 

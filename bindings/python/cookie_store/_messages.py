@@ -68,7 +68,7 @@ def _without_controls(header: str, host: str) -> str:
 def insert_header(store: CookieStore, target: Target, header_value: Text, now: Optional[int] = None) -> Status:
     """Insert the cookie of a Set-Cookie header, and return the status, also if the header or the host is not valid."""
     try:
-        return store.set(target.url, header_value, now)
+        return store.parse(target.url, header_value, now)
     except CookieStoreError as error:
         if error.status not in _NOT_VALID:
             raise

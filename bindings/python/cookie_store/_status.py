@@ -36,6 +36,7 @@ class Status(enum.IntEnum):
     NOT_UTF8 -- not UTF-8
     BAD_TIME -- a time that is not in the years -9999 to 9999
     BAD_LIMIT -- a limit below 1
+    BAD_OPTION -- a number that is not one of Format or Which
     BAD_RULE -- a line of a public suffix list is not a rule
     NO_RULES -- a public suffix list has no rules
     BAD_JSON, BAD_SHAPE -- not JSON; JSON, but not a list of cookies
@@ -70,6 +71,7 @@ class Status(enum.IntEnum):
     NO_ROOM = 26
     NOT_FOUND = 27
     BAD_LIMIT = 28
+    BAD_OPTION = 29
     BAD_RULE = 30
     BAD_JSON = 31
     BAD_SHAPE = 32
@@ -123,6 +125,7 @@ TEXTS = {
     Status.NO_ROOM: 'the buffer is too short',
     Status.NOT_FOUND: 'no such cookie',
     Status.BAD_LIMIT: 'the limit is 0',
+    Status.BAD_OPTION: 'an unknown option',
     Status.BAD_RULE: 'a line of the list is not a rule',
     Status.BAD_JSON: 'not JSON',
     Status.BAD_SHAPE: 'JSON, but not a list of cookies',

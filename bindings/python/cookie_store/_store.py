@@ -11,7 +11,8 @@ import weakref
 from typing import Any, Callable, Dict, Iterable, Iterator, List, NamedTuple, Optional, Tuple, Type, Union
 
 from ._files import Path
-from ._library import LIBRARY, ROW, SAME_SITES, Row, Store
+from ._formats import NETSCAPE_LENIENT, Format, Which, option_of
+from ._library import LIBRARY, NONE_BY_DEFAULT, ROW, SAME_SITES, TOP_LEVEL, Row, Store
 from ._status import BadLine, BadRule, CookieStoreError, Status, check, is_reply
 
 Text = Union[str, bytes]
@@ -116,8 +117,6 @@ class CookieStore:
         self._at = ctypes.byref(self._store)
         self._lock = threading.Lock()
         self._suffixes: Optional[_Suffixes] = None
-        self._limit: Optional[int] = None
-        self._strict = False
         self._buffer = ctypes.create_string_buffer(4096)
         self._cookies: Optional[List[Cookie]] = None  # what cookies() returns, until the store changes
         check(LIBRARY.cookie_store_new(self._at, *_random_key()))
@@ -141,27 +140,26 @@ class CookieStore:
     def __exit__(self, *_: object) -> None:
         self.close()
 
-    def use_suffixes(self, suffixes: Optional[Text] = None, *, path: Optional[Path] = None, only_listed: bool = False) -> None:
+    def set_suffix_list(self, suffixes: Optional[Text] = None, *, path: Optional[Path] = None, only_listed: bool = False) -> None:
         """Set the public suffix list: domains such as co.uk, for all of which no server may set a cookie.
 
-            store.use_suffixes()                 # that of the system: Debian's package publicsuffix
-            store.use_suffixes(path='list.dat')  # a file
-            store.use_suffixes('com\nco.uk\n')   # a string
+            store.set_suffix_list()                 # that of the system: Debian's package publicsuffix
+            store.set_suffix_list(path='list.dat')  # a file
+            store.set_suffix_list('com\nco.uk\n')   # a string
 
         The list is in the format of publicsuffix.org. A domain that no rule matches is a public
         suffix if it has one label, as by the rule *, which is added to the list unless only_listed is
         true. Stored cookies stay.
 
-        Raises BadRule with the number of the first line that cannot be a rule, NO_RULES for a list
-        without rules, TypeError if both suffixes and path are passed, and OSError if the file cannot
-        be read.
+        Raises TypeError if both suffixes and path are passed, OSError if the file cannot be read, BadRule
+        with the number of the first line that cannot be a rule, and NO_RULES for a list without rules.
         """
         if suffixes is not None and path is not None:
-            raise TypeError('use_suffixes() takes suffixes or path, not both')
+            raise TypeError('set_suffix_list() takes suffixes or path, not both')
         rules, line = _suffix_list(path) if suffixes is None else _bytes(suffixes), ctypes.c_size_t()
         only_listed = bool(only_listed)
         with self._lock:
-            number = LIBRARY.cookie_store_use_suffixes(self._at, rules, len(rules), only_listed, line)
+            number = LIBRARY.cookie_store_set_suffix_list(self._at, rules, len(rules), only_listed, line)
             if number == Status.BAD_RULE:
                 raise BadRule(line.value)
             check(number)
@@ -182,15 +180,21 @@ class CookieStore:
         limit = min(limit, 2**64 - 1)
         with self._lock:
             check(LIBRARY.cookie_store_set_domain_limit(self._at, limit))
-            self._limit = limit
+
+    @property
+    def domain_limit(self) -> Optional[int]:
+        """How many cookies a domain may have, or None without a limit and after close()."""
+        with self._lock:
+            return int(LIBRARY.cookie_store_domain_limit(self._at)) or None
 
     @property
     def strict(self) -> bool:
-        """Whether the store is strict. See set_strict()."""
-        return self._strict
+        """Whether the store is strict, see set_strict(). False after close()."""
+        with self._lock:
+            return bool(LIBRARY.cookie_store_is_strict(self._at))
 
     def set_strict(self, strict: bool) -> None:
-        """Set whether set() inserts by the rules that the revision of RFC 6265 adds.
+        """Set whether parse() inserts by the rules that the revision of RFC 6265 adds.
 
         Browsers follow them. A strict store rejects more cookies, as class Status lists, ignores
         attributes whose value is longer than 1,024 bytes, and lets a cookie expire at most 400 days
@@ -201,10 +205,9 @@ class CookieStore:
         strict = bool(strict)
         with self._lock:
             check(LIBRARY.cookie_store_set_strict(self._at, strict))
-            self._strict = strict
 
-    def set(self, url: Text, value: Text, now: Optional[int] = None) -> Status:
-        """Insert the cookie of a Set-Cookie header value received from url.
+    def parse(self, url: Text, value: Text, now: Optional[int] = None) -> Status:
+        """Parse a Set-Cookie header value received from url and insert the cookie.
 
         Return INSERTED, UPDATED or EXPIRED_EXISTING, or the reason why the cookie was rejected,
         such as DOMAIN_MISMATCH. Raises BAD_URL.
@@ -212,14 +215,14 @@ class CookieStore:
         page, cookie, seconds = _bytes(url), _bytes(value), _seconds(now)
         with self._lock:
             self._cookies = None
-            number = LIBRARY.cookie_store_set(self._at, page, len(page), cookie, len(cookie), seconds)
+            number = LIBRARY.cookie_store_parse(self._at, page, len(page), cookie, len(cookie), seconds)
         if not is_reply(number):
             check(number)
         return Status(number)
 
-    def _set_all(self, pairs: Iterable[Tuple[str, str]], now: int) -> List[Tuple[str, str, Status]]:
+    def _parse_all(self, pairs: Iterable[Tuple[str, str]], now: int) -> List[Tuple[str, str, Status]]:
         """Insert the cookies of pairs of a host and a header value. Return those that are rejected, with the reasons."""
-        insert, rejected = LIBRARY.cookie_store_set, []
+        insert, rejected = LIBRARY.cookie_store_parse, []
         with self._lock:
             self._cookies = None
             for host, value in pairs:
@@ -249,14 +252,15 @@ class CookieStore:
         Raises BAD_URL.
         """
         page, seconds, needed = _bytes(url), _seconds(now), ctypes.c_size_t()
-        call, context = LIBRARY.cookie_store_get, []
+        call, request = LIBRARY.cookie_store_header, []
         if not same_site:
-            call, context = LIBRARY.cookie_store_get_cross_site, [bool(top_level), bool(lax_by_default)]
+            flags = (TOP_LEVEL if top_level else 0) | (0 if lax_by_default else NONE_BY_DEFAULT)
+            call, request = LIBRARY.cookie_store_header_cross_site, [flags]
         with self._lock:
-            number = call(self._at, page, len(page), seconds, *context, self._buffer, len(self._buffer), needed)
+            number = call(self._at, page, len(page), seconds, *request, self._buffer, len(self._buffer), needed)
             if number == Status.NO_ROOM:
                 self._buffer = ctypes.create_string_buffer(needed.value)
-                number = call(self._at, page, len(page), seconds, *context, self._buffer, len(self._buffer), needed)
+                number = call(self._at, page, len(page), seconds, *request, self._buffer, len(self._buffer), needed)
             check(number)
             return ctypes.string_at(self._buffer, needed.value).decode('utf-8')
 
@@ -331,131 +335,104 @@ class CookieStore:
         check(LIBRARY.cookie_store_rows(self._at, rows, count, strings, length, ctypes.c_size_t(), ctypes.c_size_t()))
         return ctypes.string_at(rows, count * ROW.size), ctypes.string_at(strings, length)
 
-    def save_json(self, now: Optional[int] = None, all: bool = False) -> str:
-        """Return the cookies as a list in JSON, followed by a line feed.
+    def dumps(self, format: Format = Format.JSON, which: Which = Which.PERSISTENT, now: Optional[int] = None) -> str:
+        """Return the cookies in a format, in the order of the store, followed by a line feed.
 
-        If all is true the list has every cookie; otherwise it has the persistent ones that have not
-        expired. Raises BAD_EXPIRY if one of them expires before the year 0.
+            store.dumps()                                  # the persistent cookies, in JSON
+            store.dumps(which=Which.UNEXPIRED)             # session cookies too, such as most logins
+            store.dumps(Format.NETSCAPE, Which.UNEXPIRED)  # the same, as a cookies.txt file
 
-        A cookie that was received with SameSite=None and without Secure is Secure in the store that
-        is loaded from the list.
+        Which cookies have expired is decided at now. In JSON and RON, a cookie that was received with
+        SameSite=None and without Secure is Secure in the store that is loaded from the list. A cookies.txt
+        file has no SameSite.
+
+        Raises, in the order in which they are checked:
+        BAD_OPTION -- format or which is not valid
+        NO_STORE, BAD_TIME -- as any method
+        BAD_EXPIRY -- a cookie to save in JSON or RON expires before the year 0
+        UNREPRESENTABLE -- a cookies.txt file cannot represent a cookie to save: it has a control
+            character, it expires before 1970, its domain is empty, begins with a dot, a space, `#` or `$`,
+            or reads as another, as `localhost.local` does, its path is empty, TRUE or FALSE, or has a
+            quotation mark at an end, or, in a loaded store, its name or value is not one that a header
+            value has
         """
-        return self._save(LIBRARY.cookie_store_save_json, now, all)
+        return self._save(option_of(Format, format), which, now)[0]
 
-    def save_ron(self, now: Optional[int] = None, all: bool = False) -> str:
-        """Return the cookies as a list in RON. All else is as in save_json()."""
-        return self._save(LIBRARY.cookie_store_save_ron, now, all)
+    def dumps_lenient(self, which: Which = Which.PERSISTENT, now: Optional[int] = None) -> Tuple[str, int]:
+        """Return a cookies.txt file without the cookies that it cannot represent, and the number of these.
 
-    def save_netscape(self, now: Optional[int] = None, all: bool = False) -> str:
-        """Return the cookies as a cookies.txt file, which curl and MozillaCookieJar read.
-
-        Arguments are those of save_json(). SameSite is not saved. Raises UNREPRESENTABLE if the format
-        cannot represent a cookie to be saved: it has a control character, it expires before 1970, its
-        domain is empty or begins with a dot, or, in a loaded store, its path does not begin with `/`, or
-        its name or value is not one that a header value has.
+        All else is as in dumps() with Format.NETSCAPE. Raises BAD_OPTION.
         """
-        return self._save(LIBRARY.cookie_store_save_netscape, now, all, copies=1, others=40)
+        return self._save(NETSCAPE_LENIENT, which, now)
 
-    def save_netscape_representable(self, now: Optional[int] = None, all: bool = False) -> Tuple[str, int]:
-        """Return the cookies as save_netscape() does, without those that the format cannot represent.
-
-        The second item is the number of those that are left out.
-        """
-        left_out = ctypes.c_size_t()
-
-        def call(*arguments: Any) -> int:
-            return int(LIBRARY.cookie_store_save_netscape_representable(*arguments, left_out))
-
-        return self._save(call, now, all, copies=1, others=40), left_out.value
-
-    def _save(self, call: Callable[..., int], now: Optional[int], all: bool, *, copies: int = 2, others: int = 512) -> str:
-        """Return what a call writes. A cookie takes at most `copies` copies of its strings and `others` other bytes.
-
-        A cookie with many escaped characters may take more: then the list is written twice.
-        """
-        seconds, needed = _seconds(now), ctypes.c_size_t()
+    def _save(self, format: int, which: Which, now: Optional[int]) -> Tuple[str, int]:
+        """Return the cookies in a format, and the number of those that NETSCAPE_LENIENT leaves out."""
+        which, seconds = option_of(Which, which), _seconds(now)
+        needed, left_out = ctypes.c_size_t(), ctypes.c_size_t()
+        # A cookie takes at most this many copies of its strings and this many other bytes. With many escaped characters it may
+        # take more: then the cookies are written twice.
+        copies, others = (2, 512) if format in (Format.JSON, Format.RON) else (1, 40)
         with self._lock:
             count, length = self._sizes()
             room = 4096 + copies * length + others * count
             while True:
                 out = ctypes.create_string_buffer(room)
-                number = call(self._at, seconds, all, out, room, needed)
+                number = LIBRARY.cookie_store_save(self._at, format, which, seconds, out, room, needed, left_out)
                 if number != Status.NO_ROOM:
                     break
                 room = needed.value
         check(number)
-        return str(memoryview(out)[:needed.value], 'utf-8')
+        return str(memoryview(out)[:needed.value], 'utf-8'), left_out.value
 
     @classmethod
-    def load_json(cls, text: Text, now: Optional[int] = None, all: bool = False, *, strict: bool = False) -> CookieStore:
-        """Return a new store with the cookies of a list in JSON, as save_json() writes it.
+    def loads(cls, text: Text, format: Format = Format.JSON, which: Which = Which.UNEXPIRED, now: Optional[int] = None, *,
+              strict: bool = False) -> CookieStore:
+        """Return a new store with cookies in a format, as dumps() writes it.
 
-        If all is true it has every cookie of the list; otherwise it has the session cookies and the
-        persistent ones that have not expired. It has no public suffix list and no limit. If strict
-        is true, it follows the rules of set_strict() from then on.
+        Which cookies have expired is decided at now. The store has no public suffix list and no limit. If
+        strict is true, it follows the rules of set_strict() from then on. In a cookies.txt file, has_path
+        is true for all cookies.
 
-        Raises BAD_JSON, BAD_SHAPE, BAD_EXPIRY, or PARSE if the string of a cookie is not one.
+        Raises, in the order in which they are checked:
+        BAD_OPTION -- format or which is not valid
+        BAD_TIME, NOT_UTF8 -- as any method
+        BAD_JSON, BAD_SHAPE, BAD_RON -- text is not a list of cookies in this format
+        BAD_EXPIRY -- an expiry of a list is not a date and time
+        PARSE -- the string of a cookie of a list is not a cookie
+        BAD_LINE -- a line of a cookies.txt file is malformed: BadLine, with the number of the first one
         """
-        return cls._load(LIBRARY.cookie_store_load_json, text, now, all, strict)
+        return cls._load(text, option_of(Format, format), which, now, strict)[0]
 
     @classmethod
-    def load_ron(cls, text: Text, now: Optional[int] = None, all: bool = False, *, strict: bool = False) -> CookieStore:
-        """Return a new store with the cookies of a list in RON, as save_ron() writes it.
+    def loads_lenient(cls, text: Text, which: Which = Which.UNEXPIRED, now: Optional[int] = None, *,
+                      strict: bool = False) -> Tuple[CookieStore, List[int]]:
+        """Return a new store with cookies of a cookies.txt file, and the numbers of its malformed lines, from 1.
 
-        See load_json(). Raises BAD_RON, BAD_EXPIRY or PARSE.
+        These lines are left out. All else is as in loads() with Format.NETSCAPE. Raises BAD_OPTION.
         """
-        return cls._load(LIBRARY.cookie_store_load_ron, text, now, all, strict)
+        return cls._load(text, NETSCAPE_LENIENT, which, now, strict)
 
     @classmethod
-    def load_netscape(cls, text: Text, now: Optional[int] = None, all: bool = False, *, strict: bool = False) -> CookieStore:
-        """Return a new store with the cookies of a cookies.txt file, as curl and MozillaCookieJar write it.
-
-        See load_json(). has_path is true for all of them. Raises BadLine with the number of the first
-        malformed line.
-        """
-        line = ctypes.c_size_t()
-
-        def call(*arguments: Any) -> int:
-            return int(LIBRARY.cookie_store_load_netscape(*arguments, line))
-
-        try:
-            return cls._load(call, text, now, all, strict)
-        except CookieStoreError as error:
-            if error.status != Status.BAD_LINE:
-                raise
-        raise BadLine(line.value)
-
-    @classmethod
-    def load_netscape_well_formed(cls, text: Text, now: Optional[int] = None, all: bool = False, *,
-                                  strict: bool = False) -> Tuple[CookieStore, List[int]]:
-        """Return a new store as load_netscape() does, without the cookies of malformed lines.
-
-        The second item has the numbers of these lines, counted from 1.
-        """
-        saved = _bytes(text)
-        room = saved.count(b'\n') + 1
+    def _load(cls, text: Text, format: int, which: Which, now: Optional[int], strict: bool) -> Tuple[CookieStore, List[int]]:
+        """Return a new store with cookies in a format, and the numbers of the lines that NETSCAPE_LENIENT leaves out."""
+        saved, which, seconds, store = _bytes(text), option_of(Which, which), _seconds(now), cls()
+        room = saved.count(b'\n') + 1 if format == NETSCAPE_LENIENT else 1
         lines, malformed = (ctypes.c_size_t * room)(), ctypes.c_size_t()
-
-        def call(*arguments: Any) -> int:
-            return int(LIBRARY.cookie_store_load_netscape_well_formed(*arguments, lines, room, malformed))
-
-        store = cls._load(call, saved, now, all, strict)
-        return store, lines[:malformed.value]
-
-    @classmethod
-    def _load(cls, call: Callable[..., int], text: Text, now: Optional[int], all: bool, strict: bool) -> CookieStore:
-        saved, seconds, store = _bytes(text), _seconds(now), cls()
         LIBRARY.cookie_store_free(store._at)
-        check(call(store._at, *_random_key(), saved, len(saved), seconds, all))
+        number = LIBRARY.cookie_store_load(store._at, *_random_key(), format, which, saved, len(saved), seconds, lines, room,
+                                           malformed)
+        if number == Status.BAD_LINE:
+            raise BadLine(lines[0])
+        check(number)
         if strict:
             store.set_strict(True)
-        return store
+        return store, lines[:malformed.value]
 
     def copy(self) -> CookieStore:
         """Return a copy of the store: its cookies, public suffix list and limit, and whether it is strict.
 
-        The cookies are passed through save_ron() and load_ron(), and so count as created in the
-        order of the store. A cookie that was received with SameSite=None and without Secure is Secure
+        The cookies are passed through dumps() and loads() in RON, and so count as created in the order
+        of the store. A cookie that was received with SameSite=None and without Secure is Secure
         in the copy. Raises BAD_EXPIRY if a cookie expires before the year 0.
 
         copy.copy(), copy.deepcopy() and pickle copy a store in the same way.
@@ -469,15 +446,15 @@ class CookieStore:
         return _restore, self._state()
 
     def _state(self) -> _State:
-        return type(self), self.save_ron(all=True), self._strict, self._suffixes, self._limit
+        return type(self), self.dumps(Format.RON, Which.ALL), self.strict, self._suffixes, self.domain_limit
 
 
 def _restore(cls: Type[CookieStore], text: str, strict: bool, suffixes: Optional[_Suffixes],
              limit: Optional[int]) -> CookieStore:
-    store = cls.load_ron(text, all=True, strict=strict)
+    store = cls.loads(text, Format.RON, Which.ALL, strict=strict)
     if suffixes is not None:
         rules, only_listed = suffixes
-        store.use_suffixes(rules, only_listed=only_listed)
+        store.set_suffix_list(rules, only_listed=only_listed)
     if limit is not None:
         store.set_domain_limit(limit)
     return store

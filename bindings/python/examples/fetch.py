@@ -15,7 +15,7 @@ def load(path):
     """Return a store with the cookies of a file, if there is one."""
     try:
         with open(path, encoding='utf-8') as file:
-            return CookieStore.load_json(file.read())
+            return CookieStore.loads(file.read())
     except FileNotFoundError:
         return CookieStore()
 
@@ -39,7 +39,7 @@ def main():
         try:
             fetch(store, urls)
         finally:
-            replace_file(path, store.save_json())
+            replace_file(path, store.dumps())
     except (OSError, CookieStoreError) as error:  # of the network or the file, or of its content
         sys.exit(f'fetch.py: {error}')
 

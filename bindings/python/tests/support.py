@@ -71,6 +71,11 @@ def sent(jar, url):
     return request.get_header('Cookie')
 
 
+def names(store):
+    """Return the names of the cookies of a store, each a letter, as one string."""
+    return ''.join(row.name for row in store)
+
+
 def keys(jar):
     return [(cookie.domain, cookie.path, cookie.name) for cookie in jar]
 

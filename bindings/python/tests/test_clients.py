@@ -97,7 +97,7 @@ class RequestsTests(ServerTests):
         self.assert_followed(self.session.cookies)
         self.assertIs(self.session.cookies.store, store)
         self.server.visits.clear()
-        store.set(self.url('localhost', '/'), 's=1; Secure')
+        store.parse(self.url('localhost', '/'), 's=1; Secure')
         self.session.get(self.url('localhost', '/own/x'), timeout=SECONDS)
         self.assertEqual(self.server.visits, [('localhost', '/own/x', 'c=3; s=1')])
 
@@ -140,7 +140,7 @@ class HttpxTests(ServerTests):
             client.get(self.begin)
             self.assert_followed(StoreJar(store))
             self.server.visits.clear()
-            store.set(self.url('localhost', '/'), 's=1; Secure')
+            store.parse(self.url('localhost', '/'), 's=1; Secure')
             client.get(self.url('localhost', '/own/x'), headers={'Cookie': 'own=1'})
             store.clear()
             client.get(self.url('localhost', '/none'), headers={'Cookie': 'own=1'})
@@ -200,7 +200,7 @@ class AiohttpTests(ServerTests):
     def test_own_cookies(self):
         """Cookies and a header of a single request are sent with those of the store, and not stored."""
         async def work(jar, session):
-            jar.store.set(self.begin, 'a=1; Path=/')
+            jar.store.parse(self.begin, 'a=1; Path=/')
             await (await session.get(self.url('localhost', '/first'), cookies={'mine': '2'})).read()
             await (await session.get(self.url('localhost', '/second'), headers={'Cookie': 'own=3'})).read()
             await (await session.get(self.url('localhost', '/third'))).read()

@@ -4,8 +4,9 @@ import pathlib
 import re
 import unittest
 
-from cookie_store import Status
-from cookie_store._library import ROW, SAME_SITES, SIGNATURES, Row, Store
+from cookie_store import Format, Status, Which
+from cookie_store._formats import NETSCAPE_LENIENT
+from cookie_store._library import NONE_BY_DEFAULT, ROW, SAME_SITES, SIGNATURES, TOP_LEVEL, Row, Store
 from cookie_store._status import TEXTS
 
 REPOSITORY = pathlib.Path(__file__).resolve().parents[3]
@@ -19,8 +20,8 @@ class DeclarationTests(unittest.TestCase):
     TYPES = {'cookie_store *': ctypes.POINTER(Store), 'cookie_store_row *': ctypes.POINTER(Row),
              'const char *': ctypes.c_char_p, 'char *': ctypes.POINTER(ctypes.c_char), 'size_t': ctypes.c_size_t,
              'size_t *': ctypes.POINTER(ctypes.c_size_t), 'int64_t': ctypes.c_int64, 'bool': ctypes.c_bool,
-             'void *': ctypes.c_void_p, 'void': None, 'enum cookie_store_status': ctypes.c_int,
-             'enum cookie_store_same_site': ctypes.c_int}
+             'void *': ctypes.c_void_p, 'void': None, 'uint32_t': ctypes.c_uint32,
+             **{f'enum cookie_store_{name}': ctypes.c_uint32 for name in ('status', 'same_site', 'format', 'which')}}
 
     def setUp(self):
         self.text = re.sub(r'/\*.*?\*/', '', HEADER.read_text(), flags=re.S)
@@ -42,6 +43,12 @@ class DeclarationTests(unittest.TestCase):
         names = {f'SAME_SITE_{name or "absent"}'.upper(): number for number, name in enumerate(SAME_SITES)}
         self.assertEqual(self.enum('cookie_store_same_site'), names)
 
+    def test_options(self):
+        self.assertEqual(self.enum('cookie_store_format'), {**Format.__members__, 'NETSCAPE_LENIENT': NETSCAPE_LENIENT})
+        self.assertEqual(self.enum('cookie_store_which'), {**Which.__members__})
+        flags = {'CROSS_SITE': 0, 'TOP_LEVEL': TOP_LEVEL, 'NONE_BY_DEFAULT': NONE_BY_DEFAULT}
+        self.assertEqual(self.enum('cookie_store_cross_site'), flags)
+
     def test_texts(self):
         texts = dict(re.findall(r'case COOKIE_STORE_(\w+): return "(.*)";', self.text))
         self.assertEqual(texts, {status.name: text for status, text in TEXTS.items()})
@@ -59,7 +66,7 @@ class DeclarationTests(unittest.TestCase):
             self.assertEqual(list(ROW.iter_unpack(bytes(Row(*fields)))), [fields])
 
     def test_signatures(self):
-        calls = re.findall(r'^(enum cookie_store_status|void|size_t) (cookie_store_\w+)\((.*?)\);', self.text, re.M | re.S)
+        calls = re.findall(r'^(enum cookie_store_status|void|size_t|bool) (cookie_store_\w+)\((.*?)\);', self.text, re.M | re.S)
         declared = {name: (self.TYPES[result], [self.declaration(word)[1] for word in arguments.split(',')])
                     for result, name, arguments in calls}
         self.assertEqual({name: declared[name] for name in SIGNATURES}, SIGNATURES)
@@ -69,13 +76,13 @@ class DeclarationTests(unittest.TestCase):
             '&mut [u8]': ['char *', 'size_t'], '&mut [CookieRow]': ['cookie_store_row *', 'size_t'],
             '&mut [usize]': ['size_t *', 'size_t'],
             '&mut usize': ['size_t *'], 'usize': ['size_t'], 'i64': ['int64_t'],
-            'bool': ['bool'], 'u8': ['bool'], 'u32': ['enum cookie_store_status'], '': ['void']}
+            'bool': ['bool'], 'u8': ['bool'], 'u32': ['uint32_t'], '': ['void']}
 
     def in_c(self, words):
         return [self.TYPES[kind] for word in words for kind in self.IN_C[word.strip()]]
 
     def test_proved_signatures(self):
-        text = ''.join((PROVED / name).read_text() for name in ('exports.rt', 'list_exports.rt'))
+        text = ''.join((PROVED / name).read_text() for name in ('exports.rt', 'saved_exports.rt'))
         exports = re.findall(r'#\[unsafe\(no_mangle\)\]\npub extern "C" fn (\w+)\((.*?)\)(?: -> (\w+))?\n', text, re.S)
         proved = {name: (self.in_c([result])[0], self.in_c(re.findall(r'\w+: ([^,]+)', arguments)))
                   for name, arguments, result in exports}

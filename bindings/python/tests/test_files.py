@@ -19,7 +19,9 @@ import unittest
 import urllib.request
 from unittest import mock
 
-from cookie_store import BadLine, CookieStore, CookieStoreError, Status, StoreJar
+from support import names
+
+from cookie_store import BadLine, CookieStore, CookieStoreError, Format, Status, StoreJar, Which
 
 HOST, PATH = 'shop.a.example', '/d/page'
 NOW = 1767225600  # 2026-01-01T00:00:00
@@ -76,6 +78,21 @@ LOADED = [
 FILE = ('# Netscape HTTP Cookie File\n'
         'shop.a.example\tFALSE\t/d\tFALSE\t0\ta\t1\n'
         '#HttpOnly_.a.example\tTRUE\t/\tTRUE\t4121282317\tb\t2\n')
+LAST = 4121282317  # when its cookie `b` expires; `a` is a session cookie
+
+# Which cookies are saved at a time, of FILE and of two that no line can represent, the session cookie `c` and `d`, which expires
+# at NOW + 60; and how many are left out.
+UNREPRESENTABLE = [
+    (Which.ALL, NOW, 'ab', 2), (Which.ALL, LAST, 'ab', 2),
+    (Which.UNEXPIRED, NOW, 'ab', 2), (Which.UNEXPIRED, NOW + 60, 'ab', 1), (Which.UNEXPIRED, LAST, 'a', 1),
+    (Which.PERSISTENT, NOW, 'b', 1), (Which.PERSISTENT, NOW + 60, 'b', 0), (Which.PERSISTENT, LAST, '', 0),
+]
+
+# Which cookies of FILE are loaded at a time.
+MALFORMED = [
+    (Which.ALL, NOW, 'ab'), (Which.ALL, LAST, 'ab'), (Which.UNEXPIRED, NOW, 'ab'), (Which.UNEXPIRED, LAST, 'a'),
+    (Which.PERSISTENT, NOW, 'b'), (Which.PERSISTENT, LAST, ''),
+]
 
 
 class Response:
@@ -128,33 +145,39 @@ class FileTests(unittest.TestCase):
             return file.read()
 
     def test_store(self):
-        store = CookieStore.load_netscape(FILE, NOW)
+        store = CookieStore.loads(FILE, Format.NETSCAPE, now=NOW)
         self.assertEqual([(row.name, row.host_only, row.has_path, row.expires) for row in store],
-                         [('a', True, True, None), ('b', False, True, 4121282317)])
-        self.assertEqual(store.save_netscape(NOW, all=True), FILE)
-        self.assertEqual(store.save_netscape(4121282317), '# Netscape HTTP Cookie File\n')
-        store.set(f'http://{HOST}/', 'c=3\t4', NOW)
+                         [('a', True, True, None), ('b', False, True, LAST)])
+        self.assertEqual(store.dumps(Format.NETSCAPE, Which.ALL, NOW), FILE)
+        self.assertEqual(store.dumps(Format.NETSCAPE, now=LAST), '# Netscape HTTP Cookie File\n')
+        store.parse(f'http://{HOST}/', 'c=3\t4', NOW)
         with self.assertRaises(CookieStoreError) as raised:
-            store.save_netscape(all=True)
+            store.dumps(Format.NETSCAPE, Which.ALL)
         self.assertEqual(raised.exception.status, Status.UNREPRESENTABLE)
-        self.assertEqual(store.save_netscape_representable(NOW, all=True), (FILE, 1))
-        self.assertEqual(store.save_netscape_representable(4121282317), ('# Netscape HTTP Cookie File\n', 0))
 
-    def test_well_formed_lines(self):
+    def test_lenient_dumps(self):
+        store = CookieStore.loads(FILE, Format.NETSCAPE, now=NOW)
+        for text in ('c=3\t4', 'd=5\t6; Max-Age=60'):
+            store.parse(f'http://{HOST}/', text, NOW)
+        for which, now, *wanted in UNREPRESENTABLE:
+            text, left_out = store.dumps_lenient(which, now)
+            self.assertEqual([names(CookieStore.loads(text, Format.NETSCAPE, Which.ALL)), left_out], wanted, (which, now))
+        self.assertEqual(store.dumps_lenient(Which.UNEXPIRED, NOW), (FILE, 2))
+
+    def test_lenient_loads(self):
         first, *others = FILE.splitlines(keepends=True)
         file = first + 'a\tb\n' + others[0] + 'c=3\n' + others[1]
-        store, malformed = CookieStore.load_netscape_well_formed(file, NOW)
-        self.assertEqual((store.save_netscape(NOW, all=True), store.strict, malformed), (FILE, False, [2, 4]))
-        store, malformed = CookieStore.load_netscape_well_formed('x', strict=True)
-        self.assertEqual((len(store), store.strict, malformed), (0, True, [1]))
-        store, malformed = CookieStore.load_netscape_well_formed(FILE, 4121282317)
-        self.assertEqual(([row.name for row in store], malformed), (['a'], []))
-        store, malformed = CookieStore.load_netscape_well_formed(file.encode(), 4121282317, all=True)
-        self.assertEqual(([row.name for row in store], malformed), (['a', 'b'], [2, 4]))
+        for text in (file, file.encode()):
+            for which, now, wanted in MALFORMED:
+                store, malformed = CookieStore.loads_lenient(text, which, now)
+                self.assertEqual((names(store), store.strict, malformed), (wanted, False, [2, 4]), (which, now))
+        for text, wanted in [('', []), ('x', [1]), ('x\n', [1]), ('x\nx\r\nx', [1, 2, 3]), (FILE, [])]:
+            store, malformed = CookieStore.loads_lenient(text, Which.PERSISTENT, LAST, strict=True)
+            self.assertEqual((len(store), store.strict, malformed), (0, True, wanted), text)
 
     def test_malformed_line(self):
         with self.assertRaises(BadLine) as raised:
-            CookieStore.load_netscape(FILE + 'a\tb\n')
+            CookieStore.loads(FILE + 'a\tb\n', Format.NETSCAPE)
         self.assertEqual((raised.exception.line, str(raised.exception)), (4, 'a line of the file is not a cookie (line 4)'))
         self.write(FILE + 'a\tb\n')
         jar = StoreJar()
@@ -166,14 +189,23 @@ class FileTests(unittest.TestCase):
         """ignore_discard and ignore_expires select the cookies as MozillaCookieJar does."""
         expired = f'{HOST}\tFALSE\t/d\tFALSE\t1\tc\t3\n'
         for words, wanted in zip(FLAGS, ['b', 'ab', 'bc', 'abc']):
-            jar = StoreJar(CookieStore.load_netscape(FILE + expired, all=True))
+            jar = StoreJar(CookieStore.loads(FILE + expired, Format.NETSCAPE, Which.ALL))
             jar.save(self.path, *words)
-            saved = CookieStore.load_netscape(self.read(), all=True)
+            saved = CookieStore.loads(self.read(), Format.NETSCAPE, Which.ALL)
             self.assertEqual(''.join(sorted(row.name for row in saved)), wanted, words)
             self.write(FILE + expired)
             jar = StoreJar()
             jar.load(self.path, *words)
             self.assertEqual(''.join(sorted(row.name for row in jar.store)), wanted.replace('c', ''), words)
+
+    def test_line_that_is_left_out_replaces_none(self):
+        """What ignore_discard leaves out leaves an earlier line as it is, as in MozillaCookieJar."""
+        line = f'{HOST}\tFALSE\t/d\tFALSE\t%s\ta\t%s\n'
+        self.write('# Netscape HTTP Cookie File\n' + line % (LAST, 'persistent') + line % ('', 'session') + line % (1, 'expired'))
+        for ignore_discard, wanted in [(False, 'persistent'), (True, 'session')]:
+            for jar in (StoreJar(), http.cookiejar.MozillaCookieJar()):
+                jar.load(self.path, ignore_discard)
+                self.assertEqual([cookie.value for cookie in jar], [wanted], (type(jar), ignore_discard))
 
     def test_loaded_cookies(self):
         for lines, wanted in LOADED:
@@ -187,21 +219,21 @@ class FileTests(unittest.TestCase):
     def test_cookies_that_are_no_line_are_left_out(self):
         jar = StoreJar()
         for text in ('a=1\t2', 'b=2', 'c=3; Path=/\x7f', 'f=6; Path=/"q"'):
-            jar.store.set(f'http://{HOST}/', text + '; Max-Age=3600')
-        jar.store.set('http://.a.example/', 'd=4; Max-Age=3600')
-        jar.store.set(f'http://{HOST}/', 'e=5; Max-Age=60', -100)
-        jar.store.set('http://localhost.local/', 'g=7; Max-Age=3600')
+            jar.store.parse(f'http://{HOST}/', text + '; Max-Age=3600')
+        jar.store.parse('http://.a.example/', 'd=4; Max-Age=3600')
+        jar.store.parse(f'http://{HOST}/', 'e=5; Max-Age=60', -100)
+        jar.store.parse('http://localhost.local/', 'g=7; Max-Age=3600')
         for words in FLAGS:
             jar.save(self.path, *words)
-            self.assertEqual([row.name for row in CookieStore.load_netscape(self.read(), all=True)], ['b'], words)
+            self.assertEqual([row.name for row in CookieStore.loads(self.read(), Format.NETSCAPE, Which.ALL)], ['b'], words)
 
     def test_lines_are_those_of_the_store(self):
         """Also if some are left out: SameSite=None does not make a cookie Secure, and no line is divided."""
         jar = StoreJar()
         for text, now in [('a=1; SameSite=None', None), ('b=2\u2028\x85\u00a02; SameSite=None; Max-Age=3600', None),
                           ('c=3; SameSite=None; Max-Age=3600', NOW - 3600), ('d=4; Secure', None)]:
-            jar.store.set(f'https://{HOST}/', text, now)
-        first, *lines, last = jar.store.save_netscape(all=True).split('\n')
+            jar.store.parse(f'https://{HOST}/', text, now)
+        first, *lines, last = jar.store.dumps(Format.NETSCAPE, Which.ALL).split('\n')
         for words, names in zip(FLAGS, ['b', 'abd', 'bc', 'abcd']):
             jar.save(self.path, *words)
             wanted = [line for line, name in zip(lines, 'abcd') if name in names]
@@ -211,12 +243,12 @@ class FileTests(unittest.TestCase):
         """A domain of a list may begin with `#`, as a comment does, and no host does."""
         list_ = ('[{"raw_cookie":"f=6","path":["/",true],"domain":{"HostOnly":"#a.example"},"expires":"SessionEnd"},'
                  '{"raw_cookie":"g=7","path":["/",true],"domain":{"HostOnly":"a.example"},"expires":"SessionEnd"}]')
-        jar = StoreJar(CookieStore.load_json(list_))
+        jar = StoreJar(CookieStore.loads(list_))
         jar.save(self.path, ignore_discard=True)
-        self.assertEqual([row.name for row in CookieStore.load_netscape(self.read(), all=True)], ['g'])
+        self.assertEqual([row.name for row in CookieStore.loads(self.read(), Format.NETSCAPE, Which.ALL)], ['g'])
 
     def test_file_names(self):
-        jar = StoreJar(CookieStore.load_netscape(FILE, NOW))
+        jar = StoreJar(CookieStore.loads(FILE, Format.NETSCAPE, now=NOW))
         with self.assertRaises(ValueError):
             jar.save()
         with self.assertRaises(ValueError):
@@ -246,14 +278,14 @@ class FileTests(unittest.TestCase):
 
     def test_cookie_of_a_public_suffix_becomes_host_only(self):
         jar = StoreJar()
-        jar.store.use_suffixes('example\na.example\n')
+        jar.store.set_suffix_list('example\na.example\n')
         self.write(FILE)
         jar.load(self.path, ignore_discard=True)
         self.assertEqual([(row.name, row.host_only) for row in jar.store], [('a', True), ('b', True)])
 
     def test_file_is_replaced_whole(self):
         self.write('old')
-        jar = StoreJar(CookieStore.load_netscape(FILE, NOW))
+        jar = StoreJar(CookieStore.loads(FILE, Format.NETSCAPE, now=NOW))
         for name in ('os.fsync', 'os.replace'):
             with mock.patch(name, side_effect=OSError(name)), self.assertRaises(OSError):
                 jar.save(self.path)
@@ -267,10 +299,10 @@ class FileTests(unittest.TestCase):
         request = urllib.request.Request(f'https://{HOST}{PATH}')
         for text in [*TEXTS, 's=1; Path=/d; Secure']:
             theirs.extract_cookies(Response(text), request)
-            ours.set(request.full_url, text)
+            ours.parse(request.full_url, text)
         # A cookie without `=`, which RFC 6265 rejects, has no value there.
         theirs.extract_cookies(Response('x; Path=/d'), request)
-        ours.set(request.full_url, 'x=; Path=/d')
+        ours.parse(request.full_url, 'x=; Path=/d')
         theirs.save(self.path, ignore_discard=True)
         jar = StoreJar()
         jar.load(self.path, ignore_discard=True)
@@ -298,7 +330,7 @@ class FileTests(unittest.TestCase):
         command = [curl, '-sS', '--noproxy', '*', '--resolve', f'{HOST}:{port}:127.0.0.1', f'http://{HOST}:{port}{PATH}']
         subprocess.run([*command, '-c', self.path], check=True, timeout=SECONDS)
         for text in TEXTS:
-            ours.set(f'http://{HOST}{PATH}', text)
+            ours.parse(f'http://{HOST}{PATH}', text)
         jar = StoreJar()
         jar.load(self.path, ignore_discard=True)
         self.assertEqual(rows_of(jar.store), rows_of(ours))

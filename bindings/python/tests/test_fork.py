@@ -25,7 +25,7 @@ def use_and_exit(store):
     """End this process, with status 0 if the store inserts a cookie, sends it and lists all cookies."""
     status = 1
     try:
-        store.set(PAGE, 'child=1', NOW)
+        store.parse(PAGE, 'child=1', NOW)
         status = int(store.header(PAGE, NOW) != 'child=1' or len(store.cookies()) != len(store))
     finally:
         os._exit(status)
@@ -40,7 +40,7 @@ class ForkTests(unittest.TestCase):
         def work(number):
             at = 0
             while not stop.is_set():
-                store.set(f'http://h{number}.example/', f'c{at % 100}=1', NOW)
+                store.parse(f'http://h{number}.example/', f'c{at % 100}=1', NOW)
                 CookieStore()
                 at += 1
 

@@ -41,11 +41,11 @@ class HeaderTests(unittest.TestCase):
         """A cookie with a control character is left out, and the others are sent."""
         for client, fetch in CLIENTS:
             for bad in BAD:
-                store = CookieStore.load_json(list_of('first=1', bad, 'last=2'))
+                store = CookieStore.loads(list_of('first=1', bad, 'last=2'))
                 self.assertEqual(len(store), 3, bad)
                 fetch(store, self.page)
                 self.assert_received('first=1; last=2', (client, bad))
-            fetch(CookieStore.load_json(list_of(BAD[0])), self.page)
+            fetch(CookieStore.loads(list_of(BAD[0])), self.page)
             self.assert_received(None, client)
 
     @unittest.skipIf(requests is None, 'requests is not installed')
@@ -59,7 +59,7 @@ class HeaderTests(unittest.TestCase):
 
     def test_tab(self):
         for client, fetch in CLIENTS:
-            fetch(CookieStore.load_json(list_of('a=1\t2')), self.page)
+            fetch(CookieStore.loads(list_of('a=1\t2')), self.page)
             self.assert_received('a=1\t2', client)
 
 

@@ -95,7 +95,7 @@ class RedirectTests(unittest.TestCase):
         for client, fetch in CLIENTS:
             for redirect in REDIRECTS:
                 store = CookieStore()
-                store.set('http://localhost/', 'secret=1')
+                store.parse('http://localhost/', 'secret=1')
                 try:
                     fetch(store, self.begin(redirect))
                 except Exception as error:  # pylint: disable=broad-except
@@ -107,12 +107,12 @@ class RedirectTests(unittest.TestCase):
     def test_fetch(self):
         for redirect in REDIRECTS[:2]:
             store = CookieStore()
-            store.set('http://localhost/', 'secret=1; Max-Age=3600')
+            store.parse('http://localhost/', 'secret=1; Max-Age=3600')
             with tempfile.TemporaryDirectory() as folder:
                 path = pathlib.Path(folder, 'cookies')
-                path.write_text(store.save_json())
+                path.write_text(store.dumps())
                 run_fetch(path, self.begin(redirect))
-                saved = CookieStore.load_json(path.read_text())
+                saved = CookieStore.loads(path.read_text())
             self.assert_nothing_is_stolen(saved, redirect)
 
 

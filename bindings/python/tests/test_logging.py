@@ -72,7 +72,7 @@ class LoggingTests(unittest.TestCase):
     def test_rejected(self):
         for text, wanted in REJECTED:
             jar = StoreJar(CookieStore(strict=True))
-            jar.store.use_suffixes('example\n')
+            jar.store.set_suffix_list('example\n')
             with self.logs(f'cookie {wanted}'):
                 jar.extract_cookies(Response(text), urllib.request.Request('http://a.example/?VALUE'))
 
@@ -128,7 +128,7 @@ class LoggingTests(unittest.TestCase):
             jar.set_cookie_if_ok(python_cookie('a.example', value='VALUE'), request)
 
     def test_not_sent(self):
-        jar = StoreJar(CookieStore.load_json(json.dumps([
+        jar = StoreJar(CookieStore.loads(json.dumps([
             {'raw_cookie': text, 'path': ['/', False], 'domain': {'HostOnly': 'a.example'}, 'expires': 'SessionEnd'}
             for text in ('a=VALUE\n', 'b=VALUE', 'c=\x00VALUE')])))
         with self.logs("cookie 'c' is not sent to host 'a.example': a control character"):
@@ -169,8 +169,9 @@ class LoggingTests(unittest.TestCase):
                  ('http://a.example/', 'd=VALUE; Path=/"q"; Max-Age=60'), ('http://a.example/', 'e=VALUE; Max-Age=60')]
         jar, names = StoreJar(), {'b': 'a.example', 'c': 'localhost.local', 'd': 'a.example', 'f': 'a.example'}
         for url, text in texts:
-            jar.store.set(url, text)
-        jar.store.set('http://a.example/', 'f=VALUE\t2; Max-Age=60', 1)
+            jar.store.parse(url, text)
+        for text in ('f=VALUE\t2; Max-Age=60', 'g=VALUE; Max-Age=60'):
+            jar.store.parse('http://a.example/', text, 1)
         for words, wanted in [((False, False), 'd'), ((True, False), 'bcd'), ((False, True), 'df'), ((True, True), 'bcdf')]:
             with self.subTest(words), self.logs(*(f'cookie {name!r} of host {names[name]!r} is not saved: the format '
                                                   'cannot represent a cookie' for name in wanted)):
@@ -178,7 +179,7 @@ class LoggingTests(unittest.TestCase):
 
     def test_saved_domains_of_a_list(self):
         """A domain of a list may be in upper case, and a line is read in lower case."""
-        jar = StoreJar(CookieStore.load_json(json.dumps([
+        jar = StoreJar(CookieStore.loads(json.dumps([
             {'raw_cookie': text, 'path': ['/', False], 'domain': {'HostOnly': 'A.example'}, 'expires': 'SessionEnd'}
             for text in ('a=VALUE', 'b=VALUE\t2')])))
         with self.logs("cookie 'b' of host 'A.example' is not saved: the format cannot represent a cookie"):

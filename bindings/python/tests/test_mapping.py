@@ -117,8 +117,8 @@ class MappingTests(unittest.TestCase):
     def test_domains(self):
         """A domain cookie is found with and without the leading dot, and a host without a dot with and without .local."""
         jar = StoreJar()
-        jar.store.set(f'http://{A}/', 'a=1; Domain=a.example')
-        jar.store.set('http://localhost/', 'b=2')
+        jar.store.parse(f'http://{A}/', 'a=1; Domain=a.example')
+        jar.store.parse('http://localhost/', 'b=2')
         rows = [('a', A, '1'), ('a', '.' + A, '1'), ('a', B, None), ('b', 'localhost', '2'), ('b', 'localhost.local', '2'),
                 ('b', '.localhost', None)]
         for name, domain, wanted in rows:
@@ -134,14 +134,14 @@ class CopyTests(unittest.TestCase):
 
     def test_store(self):
         store = CookieStore(strict=True)
-        store.use_suffixes('example\n')
+        store.set_suffix_list('example\n')
         store.set_domain_limit(2)
         for text in ('a=1', 'b=gr\u00fcn; Max-Age=60'):
-            store.set(f'https://{A}/', text)
+            store.parse(f'https://{A}/', text)
         for name, make in self.WAYS:
             other = make(store)
-            self.assertEqual(other.cookies(), store.cookies(), name)
-            statuses = [other.set(f'http://{A}/', text).name for text in ('c=3; Secure', 'c=3; Domain=example', 'c=3')]
+            self.assertEqual((other.cookies(), other.strict, other.domain_limit), (store.cookies(), True, 2), name)
+            statuses = [other.parse(f'http://{A}/', text).name for text in ('c=3; Secure', 'c=3; Domain=example', 'c=3')]
             self.assertEqual(statuses, ['INSECURE_URL', 'PUBLIC_SUFFIX', 'INSERTED'], name)
             self.assertEqual((other.header(f'https://{A}/'), len(store)), ('b=gr\u00fcn; c=3', 2), name)
 

@@ -168,7 +168,7 @@ class SessionTests(unittest.TestCase):
         """Return a session with a store that has these cookies of a.example."""
         session, store = self.session(kind), CookieStore()
         for text in texts:
-            store.set('http://a.example/', text)
+            store.parse('http://a.example/', text)
         use_store(session, store)
         return session
 
@@ -311,7 +311,7 @@ class SessionTests(unittest.TestCase):
     def test_a_jar_of_another_store(self):
         """The other store decides too: its host-only cookie goes to its host alone."""
         session, other = self.with_store('a=1'), StoreJar()
-        other.store.set('http://a.example/', 'other=1')
+        other.store.parse('http://a.example/', 'other=1')
         for host in ('a.example', 'b.a.example'):
             session.get(self.url(host, '/x'), cookies=other, timeout=SECONDS)
         self.assertEqual(self.visits(), [('a.example', '/x', 'a=1; other=1'), ('b.a.example', '/x', None)])

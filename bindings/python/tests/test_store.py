@@ -8,9 +8,9 @@ import time
 import unittest
 from unittest import mock
 
-from support import NOW, PAGE, SECONDS, in_threads
+from support import NOW, PAGE, SECONDS, in_threads, names
 
-from cookie_store import BadRule, Cookie, CookieStore, CookieStoreError, Status
+from cookie_store import BadRule, Cookie, CookieStore, CookieStoreError, Format, Status, Which
 from cookie_store._library import LIBRARY
 from cookie_store._store import SYSTEM_SUFFIXES
 
@@ -82,19 +82,27 @@ CROSS_SITE = [
     ({'same_site': True}, 'nuls'),
 ]
 
+# Which cookies are saved or loaded at a time: of `a`, which expires at NOW + 60, the session cookie `b`, and `c`, which expires
+# at NOW + 90.
+SELECTIONS = [
+    (Which.ALL, NOW, 'abc'), (Which.ALL, NOW + 60, 'abc'), (Which.ALL, NOW + 90, 'abc'),
+    (Which.UNEXPIRED, NOW, 'abc'), (Which.UNEXPIRED, NOW + 60, 'bc'), (Which.UNEXPIRED, NOW + 90, 'b'),
+    (Which.PERSISTENT, NOW, 'ac'), (Which.PERSISTENT, NOW + 60, 'c'), (Which.PERSISTENT, NOW + 90, ''),
+]
+
 JSON = '[{"raw_cookie":"%s","path":["/",false],"domain":{"HostOnly":"a.example"},"expires":%s}]'
 RON = '[(raw_cookie: "%s", path: ("/", false), domain: HostOnly("a.example"), expires: %s)]'
 
 # Calls with invalid arguments, and the status that they raise.
 RAISES = [
-    ('set, no URL', lambda store: store.set('no url', 'a=1'), Status.BAD_URL),
-    ('set, an empty URL', lambda store: store.set('', 'a=1'), Status.BAD_URL),
-    ('set, URL not UTF-8', lambda store: store.set(b'\xff', 'a=1'), Status.NOT_UTF8),
-    ('set, text not UTF-8', lambda store: store.set(PAGE, b'a=\xff'), Status.NOT_UTF8),
-    ('set, a lone surrogate', lambda store: store.set(PAGE, 'a=\udcff'), Status.NOT_UTF8),
-    ('set, before the years', lambda store: store.set(PAGE, 'a=1', FIRST - 1), Status.BAD_TIME),
-    ('set, after the years', lambda store: store.set(PAGE, 'a=1', LAST + 1), Status.BAD_TIME),
-    ('set, a time of more than 64 bits', lambda store: store.set(PAGE, 'a=1', 2**64), Status.BAD_TIME),
+    ('parse, no URL', lambda store: store.parse('no url', 'a=1'), Status.BAD_URL),
+    ('parse, an empty URL', lambda store: store.parse('', 'a=1'), Status.BAD_URL),
+    ('parse, URL not UTF-8', lambda store: store.parse(b'\xff', 'a=1'), Status.NOT_UTF8),
+    ('parse, text not UTF-8', lambda store: store.parse(PAGE, b'a=\xff'), Status.NOT_UTF8),
+    ('parse, a lone surrogate', lambda store: store.parse(PAGE, 'a=\udcff'), Status.NOT_UTF8),
+    ('parse, before the years', lambda store: store.parse(PAGE, 'a=1', FIRST - 1), Status.BAD_TIME),
+    ('parse, after the years', lambda store: store.parse(PAGE, 'a=1', LAST + 1), Status.BAD_TIME),
+    ('parse, a time of more than 64 bits', lambda store: store.parse(PAGE, 'a=1', 2**64), Status.BAD_TIME),
     ('header, no URL', lambda store: store.header('no url'), Status.BAD_URL),
     ('header, not UTF-8', lambda store: store.header(b'\xff'), Status.NOT_UTF8),
     ('header, after the years', lambda store: store.header(PAGE, LAST + 1), Status.BAD_TIME),
@@ -103,35 +111,48 @@ RAISES = [
     ('remove, name not UTF-8', lambda store: store.remove('a.example', '/', b'\xff'), Status.NOT_UTF8),
     ('remove_expired, before the years', lambda store: store.remove_expired(FIRST - 1), Status.BAD_TIME),
     ('remove_expired, after the years', lambda store: store.remove_expired(LAST + 1), Status.BAD_TIME),
-    ('suffixes, not UTF-8', lambda store: store.use_suffixes(b'\xff'), Status.NOT_UTF8),
-    ('suffixes, no rule', lambda store: store.use_suffixes('example\na..b\n'), Status.BAD_RULE),
-    ('save cookies.txt, after the years', lambda store: store.save_netscape(LAST + 1), Status.BAD_TIME),
-    ('load cookies.txt, not UTF-8', lambda store: CookieStore.load_netscape(b'\xff'), Status.NOT_UTF8),
-    ('load cookies.txt, after the years', lambda store: CookieStore.load_netscape('', LAST + 1), Status.BAD_TIME),
-    ('save representable, after the years', lambda store: store.save_netscape_representable(LAST + 1), Status.BAD_TIME),
-    ('load well-formed, not UTF-8', lambda store: CookieStore.load_netscape_well_formed(b'\xff'), Status.NOT_UTF8),
-    ('load well-formed, after the years', lambda store: CookieStore.load_netscape_well_formed('', LAST + 1), Status.BAD_TIME),
-    ('load cookies.txt with no cookie', lambda store: CookieStore.load_netscape('\na=1\n'), Status.BAD_LINE),
-    ('save JSON, after the years', lambda store: store.save_json(LAST + 1), Status.BAD_TIME),
-    ('save RON, after the years', lambda store: store.save_ron(LAST + 1), Status.BAD_TIME),
-    ('load JSON, not UTF-8', lambda store: CookieStore.load_json(b'\xff'), Status.NOT_UTF8),
-    ('load JSON, after the years', lambda store: CookieStore.load_json('[]', LAST + 1), Status.BAD_TIME),
-    ('load no JSON', lambda store: CookieStore.load_json('['), Status.BAD_JSON),
-    ('load JSON that is no list', lambda store: CookieStore.load_json('{}'), Status.BAD_SHAPE),
-    ('load JSON with a bad expiry', lambda store: CookieStore.load_json(JSON % ('a=1', '{"AtUtc":"soon"}')), Status.BAD_EXPIRY),
-    ('load JSON with no cookie', lambda store: CookieStore.load_json(JSON % ('a', '"SessionEnd"')), Status.PARSE),
-    ('load RON, not UTF-8', lambda store: CookieStore.load_ron(b'\xff'), Status.NOT_UTF8),
-    ('load RON, after the years', lambda store: CookieStore.load_ron('[]', LAST + 1), Status.BAD_TIME),
-    ('load no RON', lambda store: CookieStore.load_ron('{}'), Status.BAD_RON),
-    ('load RON with a bad expiry', lambda store: CookieStore.load_ron(RON % ('a=1', 'AtUtc("soon")')), Status.BAD_EXPIRY),
-    ('load RON with no cookie', lambda store: CookieStore.load_ron(RON % ('a', 'SessionEnd')), Status.PARSE),
+    ('suffix list, not UTF-8', lambda store: store.set_suffix_list(b'\xff'), Status.NOT_UTF8),
+    ('suffix list, no rule', lambda store: store.set_suffix_list('example\na..b\n'), Status.BAD_RULE),
+    ('dumps, a format below those', lambda store: store.dumps(-1), Status.BAD_OPTION),
+    ('dumps, a format above those', lambda store: store.dumps(3), Status.BAD_OPTION),
+    ('dumps, a format of more than 32 bits', lambda store: store.dumps(2**32), Status.BAD_OPTION),
+    ('dumps, a time as format', lambda store: store.dumps(NOW), Status.BAD_OPTION),
+    ('dumps, which below those', lambda store: store.dumps(which=-1), Status.BAD_OPTION),
+    ('dumps, which above those', lambda store: store.dumps(which=3), Status.BAD_OPTION),
+    ('dumps, which of more than 32 bits', lambda store: store.dumps(which=2**32), Status.BAD_OPTION),
+    ('dumps, no option before no time', lambda store: store.dumps(Format.RON, 3, 2**64), Status.BAD_OPTION),
+    ('dumps_lenient, which above those', lambda store: store.dumps_lenient(3), Status.BAD_OPTION),
+    ('dumps_lenient, after the years', lambda store: store.dumps_lenient(now=LAST + 1), Status.BAD_TIME),
+    ('loads, a format above those', lambda store: CookieStore.loads('', 3), Status.BAD_OPTION),
+    ('loads, which above those', lambda store: CookieStore.loads('[]', which=3), Status.BAD_OPTION),
+    ('loads, no option before no time', lambda store: CookieStore.loads('[]', 3, now=2**64), Status.BAD_OPTION),
+    ('loads, no time before not UTF-8', lambda store: CookieStore.loads(b'\xff', now=LAST + 1), Status.BAD_TIME),
+    ('loads_lenient, which above those', lambda store: CookieStore.loads_lenient('', 3), Status.BAD_OPTION),
+    ('loads_lenient, not UTF-8', lambda store: CookieStore.loads_lenient(b'\xff'), Status.NOT_UTF8),
+    ('loads_lenient, after the years', lambda store: CookieStore.loads_lenient('', now=LAST + 1), Status.BAD_TIME),
+    *((f'dumps, {form.name} {which.name}, after the years',
+       lambda store, form=form, which=which: store.dumps(form, which, LAST + 1), Status.BAD_TIME)
+      for form in Format for which in Which),
+    *((f'loads, {form.name}, not UTF-8', lambda store, form=form: CookieStore.loads(b'\xff', form), Status.NOT_UTF8)
+      for form in Format),
+    *((f'loads, {form.name} {which.name}, after the years',
+       lambda store, form=form, which=which: CookieStore.loads('[]', form, which, LAST + 1), Status.BAD_TIME)
+      for form in Format for which in Which),
+    ('load no JSON', lambda store: CookieStore.loads('['), Status.BAD_JSON),
+    ('load JSON that is no list', lambda store: CookieStore.loads('{}'), Status.BAD_SHAPE),
+    ('load JSON with a bad expiry', lambda store: CookieStore.loads(JSON % ('a=1', '{"AtUtc":"soon"}')), Status.BAD_EXPIRY),
+    ('load JSON with no cookie', lambda store: CookieStore.loads(JSON % ('a', '"SessionEnd"')), Status.PARSE),
+    ('load no RON', lambda store: CookieStore.loads('{}', Format.RON), Status.BAD_RON),
+    ('load RON with a bad expiry', lambda store: CookieStore.loads(RON % ('a=1', 'AtUtc("soon")'), Format.RON), Status.BAD_EXPIRY),
+    ('load RON with no cookie', lambda store: CookieStore.loads(RON % ('a', 'SessionEnd'), Format.RON), Status.PARSE),
+    ('load cookies.txt with no cookie', lambda store: CookieStore.loads('\na=1\n', Format.NETSCAPE), Status.BAD_LINE),
 ]
 
 # Calls that raise NO_STORE after close().
 CLOSED = [
-    ('set', lambda store: store.set(PAGE, 'a=1')),
+    ('parse', lambda store: store.parse(PAGE, 'a=1')),
     ('header', lambda store: store.header(PAGE)),
-    ('use_suffixes', lambda store: store.use_suffixes('com')),
+    ('set_suffix_list', lambda store: store.set_suffix_list('com')),
     ('header, cross-site', lambda store: store.header(PAGE, same_site=False)),
     ('set_domain_limit', lambda store: store.set_domain_limit(1)),
     ('set_strict', lambda store: store.set_strict(True)),
@@ -139,10 +160,8 @@ CLOSED = [
     ('clear', lambda store: store.clear()),
     ('remove_expired', lambda store: store.remove_expired()),
     ('cookies', lambda store: store.cookies()),
-    ('save_json', lambda store: store.save_json()),
-    ('save_ron', lambda store: store.save_ron()),
-    ('save_netscape', lambda store: store.save_netscape()),
-    ('save_netscape_representable', lambda store: store.save_netscape_representable()),
+    *((f'dumps, {form.name}', lambda store, form=form: store.dumps(form)) for form in Format),
+    ('dumps_lenient', lambda store: store.dumps_lenient()),
     ('copy', lambda store: store.copy()),
 ]
 
@@ -151,7 +170,7 @@ def filled(*texts, url=PAGE, now=NOW):
     """Return a store with these cookies."""
     store = CookieStore()
     for text in texts:
-        store.set(url, text, now)
+        store.parse(url, text, now)
     return store
 
 
@@ -164,11 +183,11 @@ class StoreTests(unittest.TestCase):
         self.assertEqual(raised.exception.status, status, name)
         self.assertEqual(pickle.loads(pickle.dumps(raised.exception)).status, status, name)
 
-    def test_set(self):
+    def test_parse(self):
         with CookieStore() as store:
-            store.use_suffixes('// a comment\nexample\n')
+            store.set_suffix_list('// a comment\nexample\n')
             for url, text, wanted in SETS:
-                self.assertIs(store.set(url, text, NOW), wanted, f'{url} {text}')
+                self.assertIs(store.parse(url, text, NOW), wanted, f'{url} {text}')
             self.assertEqual(store.header(PAGE, NOW), 'h=1')
 
     def test_raises(self):
@@ -180,39 +199,39 @@ class StoreTests(unittest.TestCase):
     def test_strict(self):
         with CookieStore(strict=True) as store:
             for url, text, wanted in STRICT_SETS:
-                self.assertIs(store.set(url, text, NOW), wanted, f'{url} {text[:20]}')
-            self.assertIs(store.copy().set(PAGE, 's=2', NOW), Status.SECURE_STORED)
+                self.assertIs(store.parse(url, text, NOW), wanted, f'{url} {text[:20]}')
+            self.assertIs(store.copy().parse(PAGE, 's=2', NOW), Status.SECURE_STORED)
             self.assertTrue(store.strict and store.copy().strict)
-            self.assertIs(CookieStore.load_json('[]', strict=True).set(PAGE, 's=1; Secure', NOW), Status.INSECURE_URL)
+            self.assertIs(CookieStore.loads('[]', strict=True).parse(PAGE, 's=1; Secure', NOW), Status.INSECURE_URL)
             store.set_strict(False)
-            self.assertIs(store.set(PAGE, 's=2', NOW), Status.UPDATED)
-        self.assertIs(CookieStore().set(PAGE, 's=1; Secure', NOW), Status.INSERTED)
+            self.assertIs(store.parse(PAGE, 's=2', NOW), Status.UPDATED)
+        self.assertIs(CookieStore().parse(PAGE, 's=1; Secure', NOW), Status.INSERTED)
 
     def test_cross_site(self):
         store = filled('n=1; SameSite=None; Path=/d', 'u=1; Path=/d', 'l=1; SameSite=Lax', 's=1; SameSite=Strict')
         for words, wanted in CROSS_SITE:
             header = store.header(PAGE, NOW, **{'same_site': False, **words})
             self.assertEqual(header, '; '.join(f'{name}=1' for name in wanted), words)
-        store.set(PAGE, 'n=' + 'v' * 5000 + '; SameSite=None', NOW)
+        store.parse(PAGE, 'n=' + 'v' * 5000 + '; SameSite=None', NOW)
         self.assertEqual(store.header(PAGE, NOW, same_site=False), 'n=' + 'v' * 5000)
 
     def test_types(self):
         with CookieStore() as store:
-            for name, call in [('float', lambda: store.set(PAGE, 'a=1', 1.5)), ('None', lambda: store.set(PAGE, None)),
+            for name, call in [('float', lambda: store.parse(PAGE, 'a=1', 1.5)), ('None', lambda: store.parse(PAGE, None)),
                                ('number', lambda: store.header(1))]:
                 with self.subTest(name), self.assertRaises((TypeError, AttributeError)):
                     call()
 
     def assert_suffixes(self, store, *wanted):
         """Check the statuses of cookies for co.uk, unlisted and example."""
-        names = [store.set(f'http://a.{domain}/', f'a=1; Domain={domain}', NOW).name
+        names = [store.parse(f'http://a.{domain}/', f'a=1; Domain={domain}', NOW).name
                  for domain in ('co.uk', 'unlisted', 'example')]
         self.assertEqual(names, list(wanted))
 
     def test_suffixes(self):
         for words, *wanted in LISTS:
             store = CookieStore()
-            self.assertIsNone(store.use_suffixes(**words))
+            self.assertIsNone(store.set_suffix_list(**words))
             copied = store.copy()
             for one in (store, copied, pickle.loads(pickle.dumps(copied))):
                 with self.subTest(words):
@@ -222,15 +241,15 @@ class StoreTests(unittest.TestCase):
         """What is no list raises, and the list before stays."""
         for text, status, line in NO_LISTS:
             store = CookieStore()
-            store.use_suffixes('co.uk\n', only_listed=True)
+            store.set_suffix_list('co.uk\n', only_listed=True)
             with self.subTest(text), self.assertRaises(CookieStoreError) as raised:
-                store.use_suffixes(text)
+                store.set_suffix_list(text)
             self.assertEqual((raised.exception.status, getattr(raised.exception, 'line', None)), (status, line), text)
             self.assert_suffixes(store, 'PUBLIC_SUFFIX', 'INSERTED', 'INSERTED')
 
     def test_bad_rule(self):
         with CookieStore() as store, self.assertRaises(BadRule) as raised:
-            store.use_suffixes('example\na..b\n')
+            store.set_suffix_list('example\na..b\n')
         self.assertEqual((raised.exception.line, str(raised.exception)), (2, 'a line of the list is not a rule (line 2)'))
 
     def test_suffixes_of_a_file(self):
@@ -239,15 +258,16 @@ class StoreTests(unittest.TestCase):
             path.write_bytes(b'// gr\xc3\xbcn\nco.uk\n')
             for name in (path, str(path), os.fsencode(path)):
                 store = CookieStore()
-                store.use_suffixes(path=name, only_listed=True)
+                store.set_suffix_list(path=name, only_listed=True)
                 self.assert_suffixes(store, 'PUBLIC_SUFFIX', 'INSERTED', 'INSERTED')
             path.write_bytes(b'com\n<p>')
             with self.assertRaises(BadRule):
-                store.use_suffixes(path=path)
-            for call, kind in [(lambda: store.use_suffixes(path=path.with_name('none')), FileNotFoundError),
-                               (lambda: store.use_suffixes('com', path=path), TypeError),
-                               (lambda: store.use_suffixes('', path=path), TypeError),
-                               (lambda: store.use_suffixes(path), TypeError), (lambda: store.use_suffixes(['com']), TypeError)]:
+                store.set_suffix_list(path=path)
+            for call, kind in [(lambda: store.set_suffix_list(path=path.with_name('none')), FileNotFoundError),
+                               (lambda: store.set_suffix_list('com', path=path), TypeError),
+                               (lambda: store.set_suffix_list('', path=path), TypeError),
+                               (lambda: store.set_suffix_list(path), TypeError),
+                               (lambda: store.set_suffix_list(['com']), TypeError)]:
                 with self.assertRaises(kind):
                     call()
             self.assert_suffixes(store, 'PUBLIC_SUFFIX', 'UPDATED', 'UPDATED')
@@ -255,15 +275,15 @@ class StoreTests(unittest.TestCase):
     @unittest.skipUnless(os.path.exists(SYSTEM_SUFFIXES), 'publicsuffix is not installed')
     def test_suffixes_of_the_system(self):
         store = CookieStore()
-        store.use_suffixes()
+        store.set_suffix_list()
         self.assert_suffixes(store, 'PUBLIC_SUFFIX', 'PUBLIC_SUFFIX', 'PUBLIC_SUFFIX')
-        store.use_suffixes(only_listed=True)
+        store.set_suffix_list(only_listed=True)
         self.assert_suffixes(store, 'PUBLIC_SUFFIX', 'INSERTED', 'INSERTED')
 
     def test_no_suffixes_of_the_system(self):
         with mock.patch('cookie_store._store.SYSTEM_SUFFIXES', '/none/list.dat'):
             with self.assertRaisesRegex(FileNotFoundError, 'publicsuffix.*/none/list.dat'):
-                CookieStore().use_suffixes()
+                CookieStore().set_suffix_list()
 
     def test_hash_keys(self):
         """New and loaded stores hash by random keys."""
@@ -271,32 +291,34 @@ class StoreTests(unittest.TestCase):
             CookieStore()
         urandom.assert_called_once_with(16)
         with mock.patch('os.urandom', side_effect=os.urandom) as urandom:
-            CookieStore.load_json('[]')
+            CookieStore.loads('[]')
         urandom.assert_called_with(16)
 
     def test_newer_statuses(self):
         """A status that only a newer library has means what its range means."""
         for number, is_error in [(4, False), (19, False), (38, True), (47, False)]:
-            with self.subTest(number), mock.patch.object(LIBRARY, 'cookie_store_set', lambda *_: number), CookieStore() as store:
+            with self.subTest(number), mock.patch.object(LIBRARY, 'cookie_store_parse', lambda *_: number), CookieStore() as store:
                 if is_error:
                     with self.assertRaises(CookieStoreError) as raised:
-                        store.set(PAGE, 'a=1')
+                        store.parse(PAGE, 'a=1')
                     self.assertEqual((raised.exception.status, str(raised.exception)), (number, 'unknown status'))
                 else:
-                    self.assertEqual(store.set(PAGE, 'a=1').name, f'UNKNOWN_{number}')
+                    self.assertEqual(store.parse(PAGE, 'a=1').name, f'UNKNOWN_{number}')
 
     def test_no_memory(self):
-        no_memory = mock.patch.object(LIBRARY, 'cookie_store_set', lambda *_: Status.NO_MEMORY)
+        no_memory = mock.patch.object(LIBRARY, 'cookie_store_parse', lambda *_: Status.NO_MEMORY)
         with CookieStore() as store, no_memory, self.assertRaises(MemoryError) as raised:
-            store.set(PAGE, 'a=1')
+            store.parse(PAGE, 'a=1')
         self.assertIs(raised.exception.status, Status.NO_MEMORY)
 
     def test_closed(self):
         store = filled('a=1')
+        store.set_strict(True)
+        store.set_domain_limit(2)
         self.assertEqual(len(store.cookies()), 1)
         store.close()
         store.close()
-        self.assertEqual(len(store), 0)
+        self.assertEqual((len(store), store.strict, store.domain_limit), (0, False, None))
         for name, call in CLOSED:
             self.assert_raises(name, Status.NO_STORE, call, store)
 
@@ -328,8 +350,8 @@ class StoreTests(unittest.TestCase):
 
     def test_cookies_after_changes(self):
         """cookies() keeps its list until the store changes."""
-        rows = [('set', lambda store: store.set(PAGE, 'c=3', NOW), 'a1 b2 c3'),
-                ('update', lambda store: store.set(PAGE, 'b=4', NOW), 'a1 b4'),
+        rows = [('parse', lambda store: store.parse(PAGE, 'c=3', NOW), 'a1 b2 c3'),
+                ('update', lambda store: store.parse(PAGE, 'b=4', NOW), 'a1 b4'),
                 ('remove', lambda store: store.remove('a.example', '/d', 'a'), 'b2'),
                 ('remove_expired', lambda store: store.remove_expired(NOW + 60), 'b2'),
                 ('clear', lambda store: store.clear(), ''),
@@ -349,13 +371,17 @@ class StoreTests(unittest.TestCase):
         store = CookieStore()
         for limit in (0, -1):
             self.assert_raises(f'limit {limit}', Status.BAD_LIMIT, store.set_domain_limit, limit)
+        self.assertIsNone(store.domain_limit)
         store.set_domain_limit(2**70)
+        self.assertEqual(store.domain_limit, 2**64 - 1)
         store.set_domain_limit(2)
+        self.assertEqual((store.domain_limit, store.copy().domain_limit), (2, 2))
+        self.assertIsNone(CookieStore.loads(store.dumps()).domain_limit)
         for text in ('a=1', 'b=2', 'a=3', 'c=4'):
-            store.set(PAGE, text, NOW)
+            store.parse(PAGE, text, NOW)
         self.assertEqual(store.header(PAGE, NOW), 'b=2; c=4')
         other = store.copy()
-        other.set(PAGE, 'd=5', NOW)
+        other.parse(PAGE, 'd=5', NOW)
         self.assertEqual((other.header(PAGE, NOW), store.header(PAGE, NOW)), ('c=4; d=5', 'b=2; c=4'))
 
     def test_remove(self):
@@ -371,8 +397,8 @@ class StoreTests(unittest.TestCase):
         rows = [(NOW - 1, 1, 'ascb'), (NOW + 59, 0, 'ascb'), (NOW + 60, 2, 'sc'), (NOW + 60, 0, 'sc'), (LAST, 1, 's')]
         for now, removed, left in rows:
             self.assertEqual(store.count_unexpired(now), len(left), now)
-            self.assertEqual((store.remove_expired(now), ''.join(row.name for row in store)), (removed, left), now)
-        store.set(PAGE, 'e=7; Max-Age=1', int(time.time()) - 1)
+            self.assertEqual((store.remove_expired(now), names(store)), (removed, left), now)
+        store.parse(PAGE, 'e=7; Max-Age=1', int(time.time()) - 1)
         self.assertEqual((store.remove_expired(), store.header(PAGE)), (1, 's=2'))
 
     def test_long(self):
@@ -381,53 +407,74 @@ class StoreTests(unittest.TestCase):
         wanted = '; '.join(f'c{number}={"v" * 200}' for number in range(100))
         self.assertEqual(store.header(PAGE, NOW), wanted)
         self.assertEqual('; '.join(f'{row.name}={row.value}' for row in store), wanted)
-        self.assertEqual(CookieStore.load_json(store.save_json(NOW, all=True), NOW).header(PAGE, NOW), wanted)
+        self.assertEqual(CookieStore.loads(store.dumps(which=Which.ALL, now=NOW), now=NOW).header(PAGE, NOW), wanted)
 
     def test_many_cookies_are_saved_by_one_call(self):
-        store, calls = CookieStore(), []
+        store = CookieStore()
         for number in range(1000):
-            store.set(PAGE, f'name{number}=value of the cookie {number}; Path=/a/{number}', NOW)
+            store.parse(PAGE, f'name{number}=value of the cookie {number}; Path=/a/{number}', NOW)
+        for form in Format:
+            with mock.patch.object(LIBRARY, 'cookie_store_save', side_effect=LIBRARY.cookie_store_save) as save:
+                self.assertEqual(len(CookieStore.loads(store.dumps(form, Which.ALL, NOW), form)), 1000, form)
+            save.assert_called_once()
 
-        def save(*arguments):
-            calls.append(arguments)
-            return LIBRARY.cookie_store_save_json(*arguments)
+    def test_escaped_characters(self):
+        """A list that is longer than expected is written twice."""
+        store = filled('a=' + '\x01' * 4000)
+        with mock.patch.object(LIBRARY, 'cookie_store_save', side_effect=LIBRARY.cookie_store_save) as save:
+            self.assertEqual(CookieStore.loads(store.dumps(which=Which.ALL, now=NOW), now=NOW).cookies(), store.cookies())
+        self.assertEqual(save.call_count, 2)
 
-        self.assertEqual(store._save(save, NOW, True), store.save_json(NOW, all=True))
-        self.assertEqual(len(calls), 1)
-
-    def test_lists(self):
+    def test_selections(self):
         store = filled('a=1; Max-Age=60', 'b=2', 'c=3; Max-Age=90')
-        forms = [('JSON', CookieStore.save_json, CookieStore.load_json), ('RON', CookieStore.save_ron, CookieStore.load_ron)]
-        saved = [('all', {'all': True}, 'abc'), ('those that stay', {}, 'ac'), ('later', {'now': NOW + 60}, 'c')]
-        loaded = [('all', {'all': True}, 'abc'), ('those that stand', {}, 'abc'), ('later', {'now': NOW + 60}, 'bc')]
-        for form, save, load in forms:
-            for name, words, wanted in saved:
-                text = save(store, **{'now': NOW, **words})
-                self.assertEqual(''.join(row.name for row in load(text, NOW, all=True)), wanted, f'{form}, saved: {name}')
-                self.assertTrue(text.endswith('\n'), form)
-            text = save(store, NOW, all=True)
-            for name, words, wanted in loaded:
-                names = ''.join(row.name for row in load(text, **{'now': NOW, **words}))
-                self.assertEqual(names, wanted, f'{form}, loaded: {name}')
-            self.assertEqual(load(text, NOW).cookies(), store.cookies(), form)
+        for form in Format:
+            whole = store.dumps(form, Which.ALL, NOW)
+            self.assertTrue(whole.endswith('\n'), form)
+            for which, now, wanted in SELECTIONS:
+                text = store.dumps(form, which, now)
+                self.assertEqual(names(CookieStore.loads(text, form, Which.ALL, now)), wanted, (form, which, now))
+                self.assertEqual(store.dumps(int(form), int(which), now), text, (form, which, now))
+                self.assertEqual(names(CookieStore.loads(whole, form, which, now)), wanted, (form, which, now))
+        for form in (Format.JSON, Format.RON):
+            self.assertEqual(CookieStore.loads(store.dumps(form, Which.ALL, NOW), form, now=NOW).cookies(), store.cookies(), form)
+
+    def test_lenient_selections(self):
+        store = filled('a=1; Max-Age=60', 'b=2', 'c=3; Max-Age=90')
+        whole = store.dumps(Format.NETSCAPE, Which.ALL, NOW)
+        for which, now, wanted in SELECTIONS:
+            text, left_out = store.dumps_lenient(which, now)
+            self.assertEqual((names(CookieStore.loads(text, Format.NETSCAPE, Which.ALL)), left_out), (wanted, 0), (which, now))
+            loaded, malformed = CookieStore.loads_lenient(whole, which, now)
+            self.assertEqual((names(loaded), malformed), (wanted, []), (which, now))
+
+    def test_default_selections(self):
+        """Persistent cookies are saved, and session cookies are loaded too. The format is JSON."""
+        store = filled('a=1; Max-Age=60', 'b=2', 'c=3; Max-Age=90')
+        self.assertEqual(store.dumps(now=NOW), store.dumps(Format.JSON, Which.PERSISTENT, NOW))
+        self.assertEqual(store.dumps_lenient(now=NOW), store.dumps_lenient(Which.PERSISTENT, NOW))
+        text, lines = store.dumps(which=Which.ALL, now=NOW), store.dumps(Format.NETSCAPE, Which.ALL, NOW)
+        self.assertEqual(names(CookieStore.loads(text, now=NOW + 60)), 'bc')
+        self.assertEqual(names(CookieStore.loads_lenient(lines, now=NOW + 60)[0]), 'bc')
+
+    def test_expiry_of_a_list(self):
         early = filled('a=1; Max-Age=1', now=FIRST)
-        for form, save, _ in forms:
-            self.assert_raises(form, Status.BAD_EXPIRY, lambda: save(early, NOW, all=True))
+        for form in (Format.JSON, Format.RON):
+            self.assert_raises(form.name, Status.BAD_EXPIRY, early.dumps, form, Which.ALL, NOW)
 
     def test_clock(self):
         """Calls without `now` use the current time."""
         store = CookieStore()
-        self.assertIs(store.set(PAGE, 'a=1; Max-Age=3600'), Status.INSERTED)
+        self.assertIs(store.parse(PAGE, 'a=1; Max-Age=3600'), Status.INSERTED)
         self.assertEqual(store.header(PAGE), 'a=1')
         self.assertLess(abs(store.cookies()[0].expires - time.time() - 3600), SECONDS)
-        self.assertEqual(len(CookieStore.load_ron(store.save_ron())), 1)
+        self.assertEqual(len(CookieStore.loads(store.dumps())), 1)
 
     def test_copy(self):
         store = filled('a=1; Max-Age=1', 'b=2')
-        store.use_suffixes('example\n')
+        store.set_suffix_list('example\n')
         other = store.copy()
         self.assertEqual(other.cookies(), store.cookies())
-        self.assertIs(other.set(PAGE, 'c=3; Domain=example'), Status.PUBLIC_SUFFIX)
+        self.assertIs(other.parse(PAGE, 'c=3; Domain=example'), Status.PUBLIC_SUFFIX)
         other.clear()
         self.assertEqual(len(store), 2)
 
@@ -436,7 +483,7 @@ class StoreTests(unittest.TestCase):
 
         def work(number):
             for at in range(rounds):
-                store.set(f'http://h{number}.example/', f'c{at}={number}', NOW)
+                store.parse(f'http://h{number}.example/', f'c{at}={number}', NOW)
                 self.assertIn(f'c{at}={number}', store.header(f'http://h{number}.example/', NOW))
                 if at % 50 == 0:
                     self.assertGreater(len(store.cookies()), 0)

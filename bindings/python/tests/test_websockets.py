@@ -43,7 +43,7 @@ def store_of_hosts():
     store = CookieStore()
     for host in ('a.example', 'localhost'):
         for text in COOKIES:
-            store.set(f'https://{host}/', text)
+            store.parse(f'https://{host}/', text)
     return store
 
 

@@ -26,7 +26,7 @@
 //! use std::time::SystemTime;
 //!
 //! let mut store = CookieStore::new()?;
-//! store.use_suffixes("com\nco.uk\n")?;
+//! store.set_suffix_list("com\nco.uk\n")?;
 //! let error = store
 //!     .parse("id=7; Domain=co.uk", "https://example.co.uk/", SystemTime::now())
 //!     .unwrap_err();
@@ -49,6 +49,7 @@ mod time;
 pub use cookie::{Cookie, SameSite};
 pub use cookies::Iter;
 pub use error::Error;
+pub use saved::{Format, Which};
 pub use store::{CookieStore, CrossSite, StoreAction, SYSTEM_SUFFIX_FILE};
 
 #[cfg(doctest)]

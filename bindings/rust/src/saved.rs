@@ -1,85 +1,117 @@
-use std::os::raw::c_char;
 use std::time::SystemTime;
 
 use crate::buffer::{grow, string};
-use crate::sys::{self, cookie_store_status};
+use crate::error::check;
+use crate::sys::{self, cookie_store_format, cookie_store_which};
 use crate::time::seconds;
 use crate::{CookieStore, Error};
 
 /// A length that is enough for most cookies in a list.
 const COOKIE: usize = 512;
 
-type Save = unsafe extern "C" fn(
-    *mut sys::cookie_store,
-    i64,
-    bool,
-    *mut c_char,
-    usize,
-    *mut usize,
-) -> cookie_store_status;
+/// The format of saved cookies.
+#[derive(Clone, Copy, Debug, PartialEq, Eq)]
+#[non_exhaustive]
+pub enum Format {
+    /// A list in JSON.
+    Json,
+    /// A list in RON.
+    Ron,
+    /// A `cookies.txt` file, the format of Netscape that curl, wget and Python's `MozillaCookieJar`
+    /// read. It has no SameSite.
+    Netscape,
+}
 
-type Load = unsafe extern "C" fn(
-    *mut sys::cookie_store,
-    *const c_char,
-    usize,
-    *const c_char,
-    usize,
-    i64,
-    bool,
-) -> cookie_store_status;
+impl Format {
+    fn number(self) -> cookie_store_format {
+        match self {
+            Format::Json => sys::COOKIE_STORE_JSON,
+            Format::Ron => sys::COOKIE_STORE_RON,
+            Format::Netscape => sys::COOKIE_STORE_NETSCAPE,
+        }
+    }
+}
+
+/// Which cookies are saved or loaded.
+#[derive(Clone, Copy, Debug, PartialEq, Eq)]
+#[non_exhaustive]
+pub enum Which {
+    /// The persistent cookies that have not expired.
+    Persistent,
+    /// The cookies that have not expired, session cookies included.
+    Unexpired,
+    /// All cookies.
+    All,
+}
+
+impl Which {
+    fn number(self) -> cookie_store_which {
+        match self {
+            Which::Persistent => sys::COOKIE_STORE_PERSISTENT,
+            Which::Unexpired => sys::COOKIE_STORE_UNEXPIRED,
+            Which::All => sys::COOKIE_STORE_ALL,
+        }
+    }
+}
 
 /// Saving and loading.
 impl CookieStore {
-    /// Returns the cookies as a list in JSON, followed by a line feed: all of them if `all`,
-    /// otherwise the persistent ones that have not expired at `now`.
+    /// Returns cookies in a format, followed by a line feed. Which of them have expired is decided at
+    /// `now`.
     ///
-    /// A cookie that was received with SameSite=None and without Secure is Secure in the store that is
-    /// loaded from the list.
+    /// In JSON and RON, a cookie that was received with SameSite=None and without Secure is Secure in
+    /// the store that is loaded from the list.
     ///
-    /// # Errors
+    /// ```
+    /// use pulleymaroon::{CookieStore, Format, Which};
+    /// use std::time::SystemTime;
     ///
-    /// [`Error::BadTime`], [`Error::BadExpiry`], [`Error::NoMemory`].
-    pub fn save_json(&self, now: SystemTime, all: bool) -> Result<String, Error> {
-        self.save(sys::cookie_store_save_json, now, all)
-    }
-
-    /// Returns the cookies as a list in RON. All else is as in
-    /// [`save_json`](CookieStore::save_json).
-    pub fn save_ron(&self, now: SystemTime, all: bool) -> Result<String, Error> {
-        self.save(sys::cookie_store_save_ron, now, all)
-    }
-
-    /// Returns the cookies as a `cookies.txt` file, the format of Netscape that curl, wget and
-    /// Python's `MozillaCookieJar` read. It has no SameSite. All else is as in
-    /// [`save_json`](CookieStore::save_json).
+    /// let mut store = CookieStore::new()?;
+    /// let now = SystemTime::now();
+    /// store.parse("session=1", "https://example.com/", now)?;
+    /// store.parse("lasting=2; Max-Age=60", "https://example.com/", now)?;
+    ///
+    /// let list = store.to_text(Format::Json, Which::Persistent, now)?;
+    /// let store = CookieStore::from_text(&list, Format::Json, Which::Unexpired, now)?;
+    /// assert_eq!(store.cookie_header("https://example.com/", now)?.as_deref(), Some("lasting=2"));
+    /// # Ok::<(), pulleymaroon::Error>(())
+    /// ```
     ///
     /// # Errors
     ///
-    /// [`Error::BadTime`], [`Error::Unrepresentable`], [`Error::NoMemory`].
-    pub fn save_netscape(&self, now: SystemTime, all: bool) -> Result<String, Error> {
-        self.save(sys::cookie_store_save_netscape, now, all)
+    /// [`Error::BadTime`], [`Error::BadExpiry`] (JSON and RON), [`Error::Unrepresentable`]
+    /// (`cookies.txt`), [`Error::NoMemory`].
+    pub fn to_text(&self, format: Format, which: Which, now: SystemTime) -> Result<String, Error> {
+        let (text, _) = self.save(format.number(), which, now)?;
+        Ok(text)
     }
 
-    /// Returns the cookies as [`save_netscape`](CookieStore::save_netscape) does, without those that
-    /// the format cannot represent, and the number of these.
+    /// Returns cookies as a `cookies.txt` file, as [`to_text`](CookieStore::to_text) does, without
+    /// those that the format cannot represent, and the number of these.
     ///
     /// # Errors
     ///
     /// [`Error::BadTime`], [`Error::NoMemory`].
-    pub fn save_netscape_representable(
+    pub fn to_text_lenient(&self, which: Which, now: SystemTime) -> Result<(String, usize), Error> {
+        self.save(sys::COOKIE_STORE_NETSCAPE_LENIENT, which, now)
+    }
+
+    /// Returns cookies in a format, and the number of those that are left out.
+    fn save(
         &self,
+        format: cookie_store_format,
+        which: Which,
         now: SystemTime,
-        all: bool,
     ) -> Result<(String, usize), Error> {
         let mut left_out = 0;
         let text = string(self.list_len(), |out, len, needed| {
-            let (store, now) = (self.handle(), seconds(now));
             // SAFETY: see `CookieStore`.
             unsafe {
-                sys::cookie_store_save_netscape_representable(
-                    store,
-                    now,
-                    all,
+                sys::cookie_store_save(
+                    self.handle(),
+                    format,
+                    which.number(),
+                    seconds(now),
                     out,
                     len,
                     needed,
@@ -90,114 +122,80 @@ impl CookieStore {
         Ok((text, left_out))
     }
 
-    fn save(&self, save: Save, now: SystemTime, all: bool) -> Result<String, Error> {
-        string(self.list_len(), |out, len, needed| {
-            // SAFETY: see `CookieStore`. `save` is one of the three functions above.
-            unsafe { save(self.handle(), seconds(now), all, out, len, needed) }
-        })
-    }
-
     /// Returns a length that is enough for most lists. A longer one is written twice.
     fn list_len(&self) -> usize {
         self.len().saturating_mul(COOKIE).max(COOKIE)
     }
 
-    /// Creates a store with the cookies of a list in JSON: all of them if `all`, otherwise those
-    /// that have not expired at `now`, session cookies included.
+    /// Creates a store with cookies in a format. Which of them have expired is decided at `now`.
     ///
     /// The store has no public suffix list and no limit, and is not strict. The domains of the
-    /// cookies are not checked. A cookie replaces an earlier one of the list with the same domain,
+    /// cookies are not checked. A cookie replaces an earlier one of the text with the same domain,
     /// path and name.
     ///
     /// # Errors
     ///
-    /// [`Error::BadTime`], [`Error::BadJson`], [`Error::BadShape`], [`Error::BadExpiry`],
-    /// [`Error::Parse`], [`Error::NoMemory`].
-    pub fn load_json(list: &str, now: SystemTime, all: bool) -> Result<CookieStore, Error> {
-        CookieStore::load(sys::cookie_store_load_json, list, now, all)
+    /// [`Error::BadTime`]; of JSON [`Error::BadJson`], [`Error::BadShape`], [`Error::BadExpiry`] and
+    /// [`Error::Parse`]; of RON [`Error::BadRon`], [`Error::BadExpiry`] and [`Error::Parse`]; of a
+    /// `cookies.txt` file [`Error::BadLine`]; [`Error::NoMemory`].
+    pub fn from_text(
+        text: &str,
+        format: Format,
+        which: Which,
+        now: SystemTime,
+    ) -> Result<CookieStore, Error> {
+        let (store, _) = CookieStore::load(text, format.number(), which, now, &mut [0])?;
+        Ok(store)
     }
 
-    /// Creates a store with the cookies of a list in RON. All else is as in
-    /// [`load_json`](CookieStore::load_json).
-    ///
-    /// # Errors
-    ///
-    /// [`Error::BadTime`], [`Error::BadRon`], [`Error::BadExpiry`], [`Error::Parse`],
-    /// [`Error::NoMemory`].
-    pub fn load_ron(list: &str, now: SystemTime, all: bool) -> Result<CookieStore, Error> {
-        CookieStore::load(sys::cookie_store_load_ron, list, now, all)
-    }
-
-    fn load(load: Load, list: &str, now: SystemTime, all: bool) -> Result<CookieStore, Error> {
-        CookieStore::create(|store, key, _| {
-            let (key, key_len) = (key.as_ptr().cast(), key.len());
-            let (list, list_len) = (list.as_ptr().cast(), list.len());
-            // SAFETY: see `CookieStore`. `load` is one of the two functions above.
-            unsafe { load(store, key, key_len, list, list_len, seconds(now), all) }
-        })
-    }
-
-    /// Creates a store with the cookies of a `cookies.txt` file. All else is as in
-    /// [`load_json`](CookieStore::load_json).
-    ///
-    /// # Errors
-    ///
-    /// [`Error::BadTime`], [`Error::BadLine`], [`Error::NoMemory`].
-    pub fn load_netscape(list: &str, now: SystemTime, all: bool) -> Result<CookieStore, Error> {
-        CookieStore::create(|store, key, line| {
-            let (key, key_len) = (key.as_ptr().cast(), key.len());
-            let (list, list_len) = (list.as_ptr().cast(), list.len());
-            // SAFETY: see `CookieStore`.
-            unsafe {
-                sys::cookie_store_load_netscape(
-                    store,
-                    key,
-                    key_len,
-                    list,
-                    list_len,
-                    seconds(now),
-                    all,
-                    line,
-                )
-            }
-        })
-    }
-
-    /// Creates a store as [`load_netscape`](CookieStore::load_netscape) does, without the malformed
-    /// lines, and returns the numbers of these, counted from 1.
+    /// Creates a store with cookies of a `cookies.txt` file, as [`from_text`](CookieStore::from_text)
+    /// does, without the malformed lines, and returns the numbers of these, counted from 1.
     ///
     /// # Errors
     ///
     /// [`Error::BadTime`], [`Error::NoMemory`].
-    pub fn load_netscape_well_formed(
-        list: &str,
+    pub fn from_text_lenient(
+        text: &str,
+        which: Which,
         now: SystemTime,
-        all: bool,
     ) -> Result<(CookieStore, Vec<usize>), Error> {
         let mut lines = Vec::new();
-        grow(&mut lines, list.matches('\n').count() + 1)?;
-        let mut malformed = 0;
-        let store = CookieStore::create(|store, key, _| {
-            let (key, key_len) = (key.as_ptr().cast(), key.len());
-            let (list, list_len) = (list.as_ptr().cast(), list.len());
-            let (lines, lines_len) = (lines.as_mut_ptr(), lines.len());
-            // SAFETY: see `CookieStore`.
-            unsafe {
-                sys::cookie_store_load_netscape_well_formed(
-                    store,
-                    key,
-                    key_len,
-                    list,
-                    list_len,
-                    seconds(now),
-                    all,
-                    lines,
-                    lines_len,
-                    &mut malformed,
-                )
-            }
-        })?;
+        grow(&mut lines, text.matches('\n').count() + 1)?;
+        let format = sys::COOKIE_STORE_NETSCAPE_LENIENT;
+        let (store, malformed) = CookieStore::load(text, format, which, now, &mut lines)?;
         lines.truncate(malformed);
         Ok((store, lines))
+    }
+
+    /// Creates a store and returns the number of malformed lines. Their numbers are written to
+    /// `lines`, which must not be empty.
+    fn load(
+        text: &str,
+        format: cookie_store_format,
+        which: Which,
+        now: SystemTime,
+        lines: &mut [usize],
+    ) -> Result<(CookieStore, usize), Error> {
+        let mut malformed = 0;
+        let store = CookieStore::create(|store, key| {
+            // SAFETY: see `CookieStore`.
+            let status = unsafe {
+                sys::cookie_store_load(
+                    store,
+                    key.as_ptr().cast(),
+                    key.len(),
+                    format,
+                    which.number(),
+                    text.as_ptr().cast(),
+                    text.len(),
+                    seconds(now),
+                    lines.as_mut_ptr(),
+                    lines.len(),
+                    &mut malformed,
+                )
+            };
+            check(status, lines[0])
+        })?;
+        Ok((store, malformed))
     }
 }

@@ -10,12 +10,12 @@ use std::{fs, io, ptr};
 
 use crate::buffer::{string, HEADER};
 use crate::error::check;
-use crate::sys::{self, cookie_store_status};
+use crate::sys::{self, cookie_store_cross_site};
 use crate::time::seconds;
 use crate::Error;
 
 /// The public suffix list that Debian's package `publicsuffix` installs, for
-/// [`CookieStore::use_suffix_file`].
+/// [`CookieStore::set_suffix_file`].
 pub const SYSTEM_SUFFIX_FILE: &str = "/usr/share/publicsuffix/public_suffix_list.dat";
 
 /// What [`CookieStore::parse`] did.
@@ -38,6 +38,19 @@ pub struct CrossSite {
     /// A cookie without a SameSite attribute is treated as SameSite=Lax, as in the draft. Otherwise
     /// it is treated as SameSite=None.
     pub lax_by_default: bool,
+}
+
+impl CrossSite {
+    fn flags(self) -> cookie_store_cross_site {
+        let mut flags = sys::COOKIE_STORE_CROSS_SITE;
+        if self.top_level {
+            flags |= sys::COOKIE_STORE_TOP_LEVEL;
+        }
+        if !self.lax_by_default {
+            flags |= sys::COOKIE_STORE_NONE_BY_DEFAULT;
+        }
+        flags
+    }
 }
 
 /// A cookie store after RFC 6265.
@@ -91,9 +104,10 @@ impl CookieStore {
     ///
     /// [`Error::NoMemory`].
     pub fn new() -> Result<CookieStore, Error> {
-        CookieStore::create(|store, key, _| {
+        CookieStore::create(|store, key| {
             // SAFETY: see `CookieStore`.
-            unsafe { sys::cookie_store_new(store, key.as_ptr().cast(), key.len()) }
+            let status = unsafe { sys::cookie_store_new(store, key.as_ptr().cast(), key.len()) };
+            check(status, 0)
         })
     }
 
@@ -104,7 +118,7 @@ impl CookieStore {
     /// From now on a cookie whose Domain attribute is a public suffix is rejected, unless it comes
     /// from that very host; then it is stored as a host-only cookie. Stored cookies stay.
     ///
-    /// `list` is the content of a file, and [`use_suffix_file`](CookieStore::use_suffix_file) takes its
+    /// `list` is the content of a file, and [`set_suffix_file`](CookieStore::set_suffix_file) takes its
     /// path. A line has one rule, such as `co.uk`, `*.ck` or `!www.ck`, and what follows white space is
     /// ignored. Lines without a rule and lines that begin with `//` are skipped. A line is malformed if
     /// its rule has an empty label or one of the characters `/ < { " : @ =`, so that a path with a slash,
@@ -113,29 +127,29 @@ impl CookieStore {
     /// # Errors
     ///
     /// [`Error::BadRule`], [`Error::NoRules`], [`Error::NoMemory`].
-    pub fn use_suffixes(&mut self, list: &str) -> Result<(), Error> {
+    pub fn set_suffix_list(&mut self, list: &str) -> Result<(), Error> {
         self.set_suffixes(list, false)
     }
 
-    /// Sets the public suffix list as [`use_suffixes`](CookieStore::use_suffixes) does, but does not
-    /// add the rule `*`: a domain that no rule of the list matches is not a public suffix.
+    /// Sets the public suffix list as [`set_suffix_list`](CookieStore::set_suffix_list) does, but does
+    /// not add the rule `*`: a domain that no rule of the list matches is not a public suffix.
     ///
     /// # Errors
     ///
-    /// Those of [`use_suffixes`](CookieStore::use_suffixes).
-    pub fn use_only_listed_suffixes(&mut self, list: &str) -> Result<(), Error> {
+    /// Those of [`set_suffix_list`](CookieStore::set_suffix_list).
+    pub fn set_only_listed_suffixes(&mut self, list: &str) -> Result<(), Error> {
         self.set_suffixes(list, true)
     }
 
     /// Sets the public suffix list to the content of a file, as
-    /// [`use_suffixes`](CookieStore::use_suffixes) does. [`SYSTEM_SUFFIX_FILE`] is the one of the
+    /// [`set_suffix_list`](CookieStore::set_suffix_list) does. [`SYSTEM_SUFFIX_FILE`] is the one of the
     /// machine.
     ///
     /// ```no_run
     /// use pulleymaroon::{CookieStore, SYSTEM_SUFFIX_FILE};
     ///
     /// let mut store = CookieStore::new()?;
-    /// store.use_suffix_file(SYSTEM_SUFFIX_FILE)?;
+    /// store.set_suffix_file(SYSTEM_SUFFIX_FILE)?;
     /// # Ok::<(), Box<dyn std::error::Error>>(())
     /// ```
     ///
@@ -143,17 +157,17 @@ impl CookieStore {
     ///
     /// Those of reading the file. If its content is not a list, the kind is
     /// [`InvalidData`](io::ErrorKind::InvalidData), and [`get_ref`](io::Error::get_ref) is the
-    /// [`Error`]: [`Error::NotUtf8`] or one of [`use_suffixes`](CookieStore::use_suffixes).
-    pub fn use_suffix_file(&mut self, path: impl AsRef<Path>) -> io::Result<()> {
+    /// [`Error`]: [`Error::NotUtf8`] or one of [`set_suffix_list`](CookieStore::set_suffix_list).
+    pub fn set_suffix_file(&mut self, path: impl AsRef<Path>) -> io::Result<()> {
         let list = String::from_utf8(fs::read(path)?).map_err(|_| Error::NotUtf8)?;
-        Ok(self.use_suffixes(&list)?)
+        Ok(self.set_suffix_list(&list)?)
     }
 
     fn set_suffixes(&mut self, list: &str, only_listed: bool) -> Result<(), Error> {
         let mut line = 0;
         // SAFETY: see `CookieStore`.
         let status = unsafe {
-            sys::cookie_store_use_suffixes(
+            sys::cookie_store_set_suffix_list(
                 self.handle(),
                 list.as_ptr().cast(),
                 list.len(),
@@ -175,6 +189,12 @@ impl CookieStore {
         unsafe { sys::cookie_store_set_domain_limit(self.handle(), limit.get()) };
     }
 
+    /// Returns the limit of cookies of each domain, or `None` if there is none.
+    pub fn domain_limit(&self) -> Option<NonZeroUsize> {
+        // SAFETY: see `CookieStore`.
+        NonZeroUsize::new(unsafe { sys::cookie_store_domain_limit(self.handle()) })
+    }
+
     /// Sets whether the store is strict. A store that was just created or loaded is not.
     ///
     /// A strict store follows the rules that the revision of RFC 6265, draft-ietf-httpbis-rfc6265bis,
@@ -186,6 +206,12 @@ impl CookieStore {
         // The only error is that the handle is empty.
         // SAFETY: see `CookieStore`.
         unsafe { sys::cookie_store_set_strict(self.handle(), strict) };
+    }
+
+    /// Returns whether the store is strict.
+    pub fn is_strict(&self) -> bool {
+        // SAFETY: see `CookieStore`.
+        unsafe { sys::cookie_store_is_strict(self.handle()) }
     }
 
     /// Parses a `Set-Cookie` header value received from `url` at `now`, and inserts the cookie,
@@ -206,7 +232,7 @@ impl CookieStore {
     ) -> Result<StoreAction, Error> {
         // SAFETY: see `CookieStore`.
         let status = unsafe {
-            sys::cookie_store_set(
+            sys::cookie_store_parse(
                 self.handle(),
                 url.as_ptr().cast(),
                 url.len(),
@@ -241,7 +267,7 @@ impl CookieStore {
         let header = string(HEADER, |out, len, needed| {
             // SAFETY: see `CookieStore`.
             unsafe {
-                sys::cookie_store_get(
+                sys::cookie_store_header(
                     self.handle(),
                     url.as_ptr().cast(),
                     url.len(),
@@ -275,13 +301,12 @@ impl CookieStore {
         let header = string(HEADER, |out, len, needed| {
             // SAFETY: see `CookieStore`.
             unsafe {
-                sys::cookie_store_get_cross_site(
+                sys::cookie_store_header_cross_site(
                     self.handle(),
                     url.as_ptr().cast(),
                     url.len(),
                     seconds(now),
-                    context.top_level,
-                    context.lax_by_default,
+                    context.flags(),
                     out,
                     len,
                     needed,
@@ -349,17 +374,16 @@ impl CookieStore {
         self.0.get()
     }
 
-    /// Returns the store that `create(handle, key, bad_line)` creates in an empty handle.
+    /// Returns the store that `create(handle, key)` creates in an empty handle.
     pub(crate) fn create(
-        create: impl FnOnce(&mut sys::cookie_store, &[u8], &mut usize) -> cookie_store_status,
+        create: impl FnOnce(&mut sys::cookie_store, &[u8]) -> Result<(), Error>,
     ) -> Result<CookieStore, Error> {
         let mut store = CookieStore(UnsafeCell::new(sys::cookie_store {
             live: false,
             strict: false,
             at: ptr::null_mut(),
         }));
-        let mut line = 0;
-        check(create(store.0.get_mut(), &random_key(), &mut line), line)?;
+        create(store.0.get_mut(), &random_key())?;
         Ok(store)
     }
 }

@@ -28,6 +28,7 @@ pub const COOKIE_STORE_HAS_STORE: cookie_store_status = 25;
 pub const COOKIE_STORE_NO_ROOM: cookie_store_status = 26;
 pub const COOKIE_STORE_NOT_FOUND: cookie_store_status = 27;
 pub const COOKIE_STORE_BAD_LIMIT: cookie_store_status = 28;
+pub const COOKIE_STORE_BAD_OPTION: cookie_store_status = 29;
 pub const COOKIE_STORE_BAD_RULE: cookie_store_status = 30;
 pub const COOKIE_STORE_BAD_JSON: cookie_store_status = 31;
 pub const COOKIE_STORE_BAD_SHAPE: cookie_store_status = 32;
@@ -44,12 +45,31 @@ pub const COOKIE_STORE_PREFIX: cookie_store_status = 44;
 pub const COOKIE_STORE_SECURE_STORED: cookie_store_status = 45;
 pub const COOKIE_STORE_SECURE_LIMIT: cookie_store_status = 46;
 
+pub type cookie_store_cross_site = c_uint;
+
+pub const COOKIE_STORE_CROSS_SITE: cookie_store_cross_site = 0;
+pub const COOKIE_STORE_TOP_LEVEL: cookie_store_cross_site = 1;
+pub const COOKIE_STORE_NONE_BY_DEFAULT: cookie_store_cross_site = 2;
+
 pub type cookie_store_same_site = c_uint;
 
 pub const COOKIE_STORE_SAME_SITE_ABSENT: cookie_store_same_site = 0;
 pub const COOKIE_STORE_SAME_SITE_STRICT: cookie_store_same_site = 1;
 pub const COOKIE_STORE_SAME_SITE_LAX: cookie_store_same_site = 2;
 pub const COOKIE_STORE_SAME_SITE_NONE: cookie_store_same_site = 3;
+
+pub type cookie_store_format = c_uint;
+
+pub const COOKIE_STORE_JSON: cookie_store_format = 0;
+pub const COOKIE_STORE_RON: cookie_store_format = 1;
+pub const COOKIE_STORE_NETSCAPE: cookie_store_format = 2;
+pub const COOKIE_STORE_NETSCAPE_LENIENT: cookie_store_format = 3;
+
+pub type cookie_store_which = c_uint;
+
+pub const COOKIE_STORE_ALL: cookie_store_which = 0;
+pub const COOKIE_STORE_UNEXPIRED: cookie_store_which = 1;
+pub const COOKIE_STORE_PERSISTENT: cookie_store_which = 2;
 
 #[repr(C)]
 #[derive(Debug)]
@@ -82,7 +102,7 @@ extern "C" {
         key_len: usize,
     ) -> cookie_store_status;
     pub fn cookie_store_free(store: *mut cookie_store);
-    pub fn cookie_store_use_suffixes(
+    pub fn cookie_store_set_suffix_list(
         store: *mut cookie_store,
         list: *const c_char,
         list_len: usize,
@@ -93,13 +113,15 @@ extern "C" {
         store: *mut cookie_store,
         limit: usize,
     ) -> cookie_store_status;
+    pub fn cookie_store_domain_limit(store: *mut cookie_store) -> usize;
     pub fn cookie_store_set_strict(store: *mut cookie_store, strict: bool) -> cookie_store_status;
+    pub fn cookie_store_is_strict(store: *mut cookie_store) -> bool;
     pub fn cookie_store_set_hash_key(
         store: *mut cookie_store,
         key: *const c_char,
         key_len: usize,
     ) -> cookie_store_status;
-    pub fn cookie_store_set(
+    pub fn cookie_store_parse(
         store: *mut cookie_store,
         url: *const c_char,
         url_len: usize,
@@ -107,7 +129,7 @@ extern "C" {
         value_len: usize,
         now: i64,
     ) -> cookie_store_status;
-    pub fn cookie_store_get(
+    pub fn cookie_store_header(
         store: *mut cookie_store,
         url: *const c_char,
         url_len: usize,
@@ -116,13 +138,12 @@ extern "C" {
         out_len: usize,
         needed: *mut usize,
     ) -> cookie_store_status;
-    pub fn cookie_store_get_cross_site(
+    pub fn cookie_store_header_cross_site(
         store: *mut cookie_store,
         url: *const c_char,
         url_len: usize,
         now: i64,
-        top_level: bool,
-        lax_by_default: bool,
+        request: u32,
         out: *mut c_char,
         out_len: usize,
         needed: *mut usize,
@@ -152,75 +173,25 @@ extern "C" {
         rows_needed: *mut usize,
         strings_needed: *mut usize,
     ) -> cookie_store_status;
-    pub fn cookie_store_save_json(
+    pub fn cookie_store_save(
         store: *mut cookie_store,
+        format: cookie_store_format,
+        which: cookie_store_which,
         now: i64,
-        all: bool,
-        out: *mut c_char,
-        out_len: usize,
-        needed: *mut usize,
-    ) -> cookie_store_status;
-    pub fn cookie_store_save_ron(
-        store: *mut cookie_store,
-        now: i64,
-        all: bool,
-        out: *mut c_char,
-        out_len: usize,
-        needed: *mut usize,
-    ) -> cookie_store_status;
-    pub fn cookie_store_load_json(
-        store: *mut cookie_store,
-        key: *const c_char,
-        key_len: usize,
-        list: *const c_char,
-        list_len: usize,
-        now: i64,
-        all: bool,
-    ) -> cookie_store_status;
-    pub fn cookie_store_load_ron(
-        store: *mut cookie_store,
-        key: *const c_char,
-        key_len: usize,
-        list: *const c_char,
-        list_len: usize,
-        now: i64,
-        all: bool,
-    ) -> cookie_store_status;
-    pub fn cookie_store_save_netscape(
-        store: *mut cookie_store,
-        now: i64,
-        all: bool,
-        out: *mut c_char,
-        out_len: usize,
-        needed: *mut usize,
-    ) -> cookie_store_status;
-    pub fn cookie_store_save_netscape_representable(
-        store: *mut cookie_store,
-        now: i64,
-        all: bool,
         out: *mut c_char,
         out_len: usize,
         needed: *mut usize,
         left_out: *mut usize,
     ) -> cookie_store_status;
-    pub fn cookie_store_load_netscape(
+    pub fn cookie_store_load(
         store: *mut cookie_store,
         key: *const c_char,
         key_len: usize,
+        format: cookie_store_format,
+        which: cookie_store_which,
         list: *const c_char,
         list_len: usize,
         now: i64,
-        all: bool,
-        bad_line: *mut usize,
-    ) -> cookie_store_status;
-    pub fn cookie_store_load_netscape_well_formed(
-        store: *mut cookie_store,
-        key: *const c_char,
-        key_len: usize,
-        list: *const c_char,
-        list_len: usize,
-        now: i64,
-        all: bool,
         lines: *mut usize,
         lines_len: usize,
         malformed: *mut usize,

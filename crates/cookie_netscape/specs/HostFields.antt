@@ -1,9 +1,10 @@
 -- The host that the domain field of a line names. curl writes an IPv6 address without brackets, wget writes the port behind a host, and
 -- Python writes `.local` behind `localhost` and behind an IPv6 address.
-use Rattle.std.specs.Prelude.{ℕ, ◌-◌, ◌==◌, Bool, false, not, ◌&&◌, ◌||◌, List, [], ◌∷◌, ◌++◌, bytes_eq, codes, length, nat_eq, take, if◌then◌else◌}
-use Rattle.std.specs.Char.{is_ascii_digit}
+use Rattle.std.specs.Prelude.{ℕ, ◌-◌, ◌==◌, Bool, false, not, ◌&&◌, ◌||◌, List, [], ◌∷◌, ◌++◌, bytes_eq, codes, length, map, nat_eq, take, if◌then◌else◌}
+use Rattle.std.specs.Char.{is_ascii_digit, to_ascii_lowercase}
 use Rattle.std.specs.List.{after_first, before_first, ends_with, list_all, list_any, starts_with}
 use Rattle.std.specs.Str.{str_eq_ignore_ascii_case}
+use Rattle.cookie_words.specs.Texts.{without_dot}
 
 -- the byte is a colon
 abbrev pub is_colon : ℕ → Bool
@@ -45,6 +46,10 @@ bracketed host = if is_bare_address host then 91 ∷ host ++ 93 ∷ [] else host
 -- the host of a field
 abbrev pub host_from : List ℕ → List ℕ
 host_from field = bracketed (plain_host field)
+
+-- the domain of a field: one dot before it is dropped, and it is read in lower case
+abbrev pub domain_from : List ℕ → List ℕ
+domain_from field = map to_ascii_lowercase (host_from (without_dot field))
 
 -- a host as curl writes it: an IPv6 address without its brackets
 unfoldable pub written_host : List ℕ → List ℕ

@@ -15,7 +15,7 @@ use Rattle.cookie_parts.specs.Cookie.{Row, is_http_only, is_secure_only}
 use Rattle.cookie_parts.specs.Domain.{DomainValue, HostOnly, Suffix}
 use Rattle.cookie_parts.specs.Expiry.{Expiry, SessionEnd, expiry_of_expires, expiry_of_max_age}
 use Rattle.cookie_parts.specs.Path.{from_attribute, is_absolute}
-use Rattle.cookie_netscape.specs.HostFields.{host_from, is_colon, plain_host}
+use Rattle.cookie_netscape.specs.HostFields.{domain_from, host_from, is_colon, plain_host}
 
 -- the fields of a line
 pub record Fields : Type 0 where
@@ -158,11 +158,11 @@ raw_of name value is_secure is_http_only =
 abbrev pub domain_of : Bool → List ℕ → DomainValue
 domain_of has_subdomains domain = if has_subdomains then Suffix domain else HostOnly domain
 
--- the cookie of fields whose flags and expiry are these; one dot before the domain is dropped, and it is read in lower case
+-- the cookie of fields whose flags and expiry are these
 abbrev pub row_of : Bool → Fields → Bool → Bool → Expiry → Row
 row_of is_http_only fields has_subdomains is_secure expires = record {
   raw = raw_of fields.name fields.value is_secure is_http_only;
-  domain = domain_of has_subdomains (map to_ascii_lowercase (host_from (without_dot fields.domain)));
+  domain = domain_of has_subdomains (domain_from fields.domain);
   path = from_attribute (path_from fields.path);
   expires = expires;
 }

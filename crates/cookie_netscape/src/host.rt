@@ -1,10 +1,10 @@
 //! The host that the domain field of a line names.
 ghost use Rattle.std.specs.Prelude.{◌≡◌, ◌≢◌, ◌∷◌, ◌++◌, [], ℕ, List, IfOk, MatchOption, map, string_bytes};
 ghost use Rattle.std.specs.Char.{to_ascii_lowercase};
-ghost use Rattle.cookie_netscape.specs.HostFields.{gets_local, host_from, is_bare_address, is_own_host, is_port, plain_host, without_local, without_port, written_host};
+ghost use Rattle.cookie_netscape.specs.HostFields.{domain_from, gets_local, host_from, is_bare_address, is_own_host, is_port, plain_host, without_local, without_port, written_host};
 ghost use Rattle.cookie_netscape.specs.Views.{host_view};
 
-use cookie_words::is_digits;
+use cookie_words::{is_digits, without_dot};
 use std::alloc::{AllocError, Global};
 
 /// A host.
@@ -13,6 +13,16 @@ pub(crate) struct Host<'a> {
     /// Without its brackets if it has them.
     pub(crate) text: &'a str,
     pub(crate) has_brackets: bool,
+}
+
+/// Returns the domain that the domain field of a line names, in lower case (ASCII), an IPv6 address
+/// with brackets. [`from_text`](crate::from_text) says what is dropped of a field.
+///
+/// The field is not tested: a line with it may be malformed.
+pub fn read_domain(alloc: Global, field: &str) -> Result<String, AllocError>
+    ensures { IfOk result (λ domain. string_bytes domain ≡ domain_from field.now) }
+{
+    read_host(without_dot(field)).to_ascii_lowercase(alloc)
 }
 
 /// Reads the host of a domain field, which has no dot before it.

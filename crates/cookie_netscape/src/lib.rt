@@ -23,5 +23,6 @@ mod reading;
 mod writing;
 
 pub use error::NetscapeError;
+pub use host::read_domain;
 pub use reading::{from_text, has_empty_expiry, read_cookie};
 pub use writing::{SessionExpiry, is_representable, new_text, push_cookie, push_line};

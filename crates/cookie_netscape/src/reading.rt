@@ -42,12 +42,13 @@ enum Line<'a> {
 /// | name | has no `=` and no `;`, and no space at either end; if it is empty, the value is the name, as Python writes a cookie that was received without `=` |
 /// | value | has no `;`, and no space at either end; a line may leave this field out if it is empty |
 ///
-/// No field has a control character. A cookie whose path does not begin with `/` matches no URL. A line that a byte
-/// order mark begins is malformed.
+/// No field has a control character. A cookie whose path does not begin with `/` matches no URL. A byte order mark is
+/// not dropped: a comment behind it is malformed, and a domain begins with it.
 ///
-/// A line without such fields that begins with `Set-Cookie:`, ignoring case, is read as a header, as libcurl reads it:
-/// a domain cookie of its Domain attribute, with the path `/` if it has none that begins with `/`. It is malformed
-/// without Domain, since it names no host, and with Max-Age, since a file does not say from when that counts.
+/// A line without such fields that begins with `Set-Cookie:`, ignoring case, is read as a header: a domain cookie of
+/// its Domain attribute, with the path `/` if it has none that begins with `/`. A port behind the domain is dropped,
+/// which libcurl keeps. It is malformed without Domain, since it names no host, and with Max-Age, since a file does
+/// not say from when that counts.
 ///
 /// # Errors
 ///

@@ -21,6 +21,8 @@ mod error;
 #[cfg(test)]
 mod expiry;
 #[cfg(test)]
+mod large;
+#[cfg(test)]
 mod parts;
 #[cfg(test)]
 mod path;

@@ -1,3 +1,4 @@
+pub mod BuiltAll
 pub mod CutRows
 pub mod LinesBack
 pub mod ListedRows
@@ -16,4 +17,5 @@ pub mod RonBack
 pub mod SavedAlike
 pub mod SavedLines
 pub mod StyledTexts
+pub mod TakenCookies
 pub mod WellFormedLines

@@ -16,6 +16,7 @@ use Rattle.cookie_parts.specs.declared.cookie_error.CookieError.{CookieError}
 use Rattle.cookie_parts.specs.declared.error.Error.{Error}
 use Rattle.cookie_parts.specs.declared.error.Error.TheVariants.{Io}
 use Rattle.cookie_laws.specs.Rows.{RowsInOrder}
+use Rattle.cookie_serde.specs.declared.which.Which.{Which}
 use Rattle.cookie_serde.specs.SavedForms.{cookies_of_saved}
 use Rattle.cookie_serde.specs.Lists.{BuildsFromList, BuildsFromText, FailsAtText, FailsToLoadList, FailsToSaveList, IsAll, ParsesToCookies, ParsesToVec, RejectsText, WritesList}
 use Rattle.cookie_serde.specs.Saving.{line_text}
@@ -59,10 +60,10 @@ module _ (Parses : List ℕ → Result (Vec Row Global) Error → Type 0) where
 
 module _ (Parses : List ℕ → Result (List Row) Error → Type 0) (old : SourceState) (text : List ℕ) (all : IsAll old.remaining text) (valid : IsTrue (is_utf8 text)) where
   -- rows built from all bytes of the source, as a string
-  pub list_built : (include_expired : Bool) (now : Moment) (answer : Result RowsInOrder Error)
-      → IfOk answer (BuildsFromText Parses text include_expired now) → IfOk answer (BuildsFromList Parses old.remaining include_expired now)
-  list_built include_expired now (Ok kept) (cookies, parsed, is) = (text, cookies, all, (valid, parsed), is)
-  list_built include_expired now (Err error) built = tt
+  pub list_built : (which : Which) (answer : Result RowsInOrder Error)
+      → IfOk answer (BuildsFromText Parses text which) → IfOk answer (BuildsFromList Parses old.remaining which)
+  list_built which (Ok kept) (cookies, parsed, is) = (text, cookies, all, (valid, parsed), is)
+  list_built which (Err error) built = tt
 
   -- or the error of that string, once all was read
   pub list_rejected : {T : Type 0} (answer : Result T Error) (new : SourceState) → IsAtEnd new.remaining → new.failed ≡ old.failed

@@ -5,10 +5,10 @@ use Rattle.std.specs.Borrow.{Bor}
 use Rattle.std.specs.Fn.{FnReturnsAt, Shared}
 use Rattle.cookie_device.specs.Device.{SourceState}
 use Rattle.cookie_device.specs.declared.lines.FillError.TheVariants as Fill
-use Rattle.cookie_words.specs.Moments.{Moment}
 use Rattle.cookie_parts.specs.Cookie.{Row}
 use Rattle.cookie_parts.specs.declared.error.Error.{Error}
 use Rattle.cookie_laws.specs.Rows.{RowsInOrder}
+use Rattle.cookie_serde.specs.declared.which.Which.{Which}
 use Rattle.cookie_serde.specs.LoadError.{IsReachedAt, StopsLoading}
 use Rattle.cookie_serde.specs.Loading.{AreCookies, BuildsFrom, EndsWithinLine, FailsAtLine, ParsesToCookie, RejectsLine, StopsWithinLine}
 use Rattle.cookie_serde.specs.declared.loading.LoadError.{LoadError}
@@ -43,9 +43,9 @@ module _ {Parses Other : List ℕ → Result Row Error → Type 0}
   stops_within_alike old new text (given, left, split, known, ends, brought) =
       (given, left, split, known, ends_within_alike given ends, brought)
 
-  pub builds_alike : (known : Option (List ℕ)) (include_expired : Bool) (now : Moment) (loaded : RowsInOrder)
-      → BuildsFrom Parses known include_expired now loaded → BuildsFrom Other known include_expired now loaded
-  builds_alike known include_expired now loaded (texts, cookies, created, are_built, known_lines) =
+  pub builds_alike : (known : Option (List ℕ)) (which : Which) (loaded : RowsInOrder)
+      → BuildsFrom Parses known which loaded → BuildsFrom Other known which loaded
+  builds_alike known which loaded (texts, cookies, created, are_built, known_lines) =
       (texts, cookies, cookies_alike texts cookies created, are_built, known_lines)
 
   pub stops_alike : (fault : LoadError) (old new : SourceState)
@@ -63,12 +63,12 @@ pub loaded_alike : {F : Type 0} (g : Shared F (Bor (List ℕ) × Unit {0}) (Resu
     (Other : List ℕ → Result Row Error → Type 0)
     → ((line : List ℕ) (answer : Result Row Error) → FnReturnsAt g f line answer → Other line answer)
     → (result : Result RowsInOrder LoadError) (old new : SourceState)
-    → (include_expired : Bool) (now : Moment)
+    → (which : Which)
     → IfErr result (λ fault. StopsLoading (FnReturnsAt g f) fault old new)
-    → IfOk result (λ loaded. BuildsFrom (FnReturnsAt g f) old.remaining include_expired now loaded)
+    → IfOk result (λ loaded. BuildsFrom (FnReturnsAt g f) old.remaining which loaded)
     → IfErr result (λ fault. StopsLoading Other fault old new)
-    × IfOk result (λ loaded. BuildsFrom Other old.remaining include_expired now loaded)
-loaded_alike g f Other implies (Ok loaded) old new include_expired now stops built =
-    (tt, builds_alike implies old.remaining include_expired now loaded built)
-loaded_alike g f Other implies (Err fault) old new include_expired now stops built =
+    × IfOk result (λ loaded. BuildsFrom Other old.remaining which loaded)
+loaded_alike g f Other implies (Ok loaded) old new which stops built =
+    (tt, builds_alike implies old.remaining which loaded built)
+loaded_alike g f Other implies (Err fault) old new which stops built =
     (stops_alike implies fault old new stops, tt)

@@ -6,17 +6,20 @@ use Rattle.std.specs.Io.{StartsWith}
 use Rattle.std.specs.Io.KnownBytes.{IsAtEnd, Keeps, prepend_known}
 use Rattle.cookie_device.specs.Device.{SourceState}
 use Rattle.cookie_device.specs.Lines.{EndsLine, IsLastLine}
-use Rattle.cookie_words.specs.Moments.{Moment}
 use Rattle.cookie_parts.specs.Cookie.{Row}
 use Rattle.cookie_parts.specs.declared.error.Error.{Error}
+use Rattle.cookie_serde.specs.Selections.{built_from}
+use Rattle.cookie_serde.specs.declared.which.Which.{Which}
+use Rattle.cookie_serde.specs.declared.which.Which.TheVariants.{Persistent, Unexpired, All}
 use Rattle.cookie_serde.specs.LoadError.{number_behind}
 use Rattle.cookie_serde.specs.Loading.{AreCookies, ParsesToCookie, RejectsLine, StopsWithinLine, InsertsLine}
-use Rattle.cookie_laws.specs.Rows.{RowsInOrder, built}
+use Rattle.cookie_laws.specs.Rows.{RowsInOrder}
 
 -- no rows are built from no cookies
-pub built_none : (include_expired : Bool) (now : Moment) → record { rows = []; created = [] } ≡ built include_expired now []
-built_none true now = refl
-built_none false now = refl
+pub built_none : (which : Which) → record { rows = []; created = [] } ≡ built_from which []
+built_none (Persistent now) = refl
+built_none (Unexpired now) = refl
+built_none All = refl
 
 -- passing bytes moves them from the buffer to those already passed
 passed_over : (front at_hand behind more : List ℕ) (count : ℕ) → behind ≡ drop count at_hand
@@ -44,10 +47,10 @@ module _ (Parses : List ℕ → Result Row Error → Type 0) where
   refused line (Err error) valid answers = inr (valid, answers)
 
   -- each line that is loaded adds one cookie
-  pub taken_built : (line : List ℕ) (include_expired : Bool) (now : Moment) (old new : RowsInOrder) (cookies : List Row)
-      → InsertsLine Parses line include_expired now old new → old ≡ built include_expired now cookies
-      → (cookie : Row) × ParsesToCookie Parses line cookie × (new ≡ built include_expired now (cookies ++ cookie ∷ []))
-  taken_built line include_expired now old new cookies (cookie, parses_it, taken) are_built = (
+  pub taken_built : (line : List ℕ) (which : Which) (old new : RowsInOrder) (cookies : List Row)
+      → InsertsLine Parses line which old new → old ≡ built_from which cookies
+      → (cookie : Row) × ParsesToCookie Parses line cookie × (new ≡ built_from which (cookies ++ cookie ∷ []))
+  taken_built line which old new cookies (cookie, parses_it, taken) are_built = (
     cookie,
     parses_it,
     taken cookies are_built,

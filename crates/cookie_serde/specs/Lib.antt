@@ -1,4 +1,6 @@
 pub mod Cuts
+pub mod FormatErrors
+pub mod Formats
 pub mod JsonLines
 pub mod JsonLists
 pub mod ListFormats
@@ -10,3 +12,4 @@ pub mod NetscapeLists
 pub mod RonLists
 pub mod SavedForms
 pub mod Saving
+pub mod Selections

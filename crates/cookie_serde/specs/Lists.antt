@@ -7,13 +7,14 @@ use Rattle.std.specs.Str.{is_utf8}
 use Rattle.std.specs.declared.alloc.Global.{Global}
 use Rattle.std.specs.declared.string.String.{String}
 use Rattle.std.specs.declared.vec.Vec.{Vec}
-use Rattle.cookie_words.specs.Moments.{Moment}
 use Rattle.cookie_device.specs.Device.{AppendsPrefix, SinkState, SourceState}
 use Rattle.cookie_parts.specs.Cookie.{Row}
 use Rattle.cookie_parts.specs.declared.error.Error.{Error}
 use Rattle.cookie_parts.specs.declared.error.Error.TheVariants.{Io, Memory, NotUtf8}
-use Rattle.cookie_laws.specs.Rows.{RowsInOrder, built}
+use Rattle.cookie_laws.specs.Rows.{RowsInOrder}
 use Rattle.cookie_serde.specs.Saving.{line_text}
+use Rattle.cookie_serde.specs.Selections.{built_from}
+use Rattle.cookie_serde.specs.declared.which.Which.{Which}
 
 module _ (Serializes : List Row → Result (String Global) Error → Type 0) where
   -- a string for the rows and a line feed were written
@@ -47,14 +48,14 @@ module _ (Parses : List ℕ → Result (List Row) Error → Type 0) where
   RejectsText error text = ((is_utf8 text ≡ false) × (error ≡ NotUtf8)) ⊎ (IsTrue (is_utf8 text) × Parses text (Err error))
 
   -- the rows built from the cookies of all bytes of the source
-  abbrev pub BuildsFromList : Option (List ℕ) → Bool → Moment → RowsInOrder → Type 0
-  BuildsFromList known include_expired now kept =
+  abbrev pub BuildsFromList : Option (List ℕ) → Which → RowsInOrder → Type 0
+  BuildsFromList known which kept =
       (text : List ℕ) × (cookies : List Row) × IsAll known text × ParsesToCookies text cookies
-      × (kept ≡ built include_expired now cookies)
+      × (kept ≡ built_from which cookies)
 
   -- the rows built from the cookies that the function may return for the string
-  abbrev pub BuildsFromText : List ℕ → Bool → Moment → RowsInOrder → Type 0
-  BuildsFromText text include_expired now kept = (cookies : List Row) × Parses text (Ok cookies) × (kept ≡ built include_expired now cookies)
+  abbrev pub BuildsFromText : List ℕ → Which → RowsInOrder → Type 0
+  BuildsFromText text which kept = (cookies : List Row) × Parses text (Ok cookies) × (kept ≡ built_from which cookies)
 
   -- the function returns the error, or it ran out of memory for the cookies
   abbrev pub FailsAtText : Error → List ℕ → Type 0

@@ -4,13 +4,13 @@ use Rattle.std.specs.Prelude.{◌≡◌, ◌==◌, ℕ, ◌+◌, ◌≤◌, leng
 use Rattle.std.specs.List.{AllZip}
 use Rattle.std.specs.Str.{is_utf8}
 use Rattle.std.specs.Str.Lines.{lines}
-use Rattle.cookie_words.specs.Moments.{Moment}
 use Rattle.cookie_device.specs.Device.{SourceState}
 use Rattle.cookie_parts.specs.Cookie.{Row}
 use Rattle.cookie_parts.specs.declared.error.Error.{Error}
 use Rattle.cookie_parts.specs.declared.error.Error.TheVariants.{Io, Memory, NotUtf8}
-use Rattle.cookie_laws.specs.Rows.{RowsInOrder, built}
-use Rattle.cookie_rows.specs.Building.{TakesCookie}
+use Rattle.cookie_laws.specs.Rows.{RowsInOrder}
+use Rattle.cookie_serde.specs.Selections.{TakesCookie, built_from}
+use Rattle.cookie_serde.specs.declared.which.Which.{Which}
 
 module _ (Parses : List ℕ → Result Row Error → Type 0) where
   -- the line is UTF-8, and the function may return this cookie for it
@@ -53,15 +53,15 @@ module _ (Parses : List ℕ → Result Row Error → Type 0) where
       × (old.reads_left ≤ new.reads_left + length given)
 
   -- a cookie that the function may return for the line was added to the rows
-  abbrev pub InsertsLine : List ℕ → Bool → Moment → RowsInOrder → RowsInOrder → Type 0
-  InsertsLine line include_expired now old new =
-      (cookie : Row) × ParsesToCookie line cookie × TakesCookie include_expired now cookie old new
+  abbrev pub InsertsLine : List ℕ → Which → RowsInOrder → RowsInOrder → Type 0
+  InsertsLine line which old new =
+      (cookie : Row) × ParsesToCookie line cookie × TakesCookie which cookie old new
 
   -- the rows built from the cookies of the lines of the source, if its bytes are known
-  abbrev pub BuildsFrom : Option (List ℕ) → Bool → Moment → RowsInOrder → Type 0
-  BuildsFrom known include_expired now kept =
+  abbrev pub BuildsFrom : Option (List ℕ) → Which → RowsInOrder → Type 0
+  BuildsFrom known which kept =
       (texts : List (List ℕ)) × (cookies : List Row) × AreCookies texts cookies
-      × (kept ≡ built include_expired now cookies) × IfSome known (λ text. texts ≡ lines text)
+      × (kept ≡ built_from which cookies) × IfSome known (λ text. texts ≡ lines text)
 
   -- loading fails at a line; or within a line: a read failed, which added one to the failures, or it ran out of memory
   abbrev pub FailsToLoad : Error → SourceState → SourceState → Type 0

@@ -1,7 +1,6 @@
 -- Loading all lines of JSON, or failing at the first that is not a saved cookie. `known` are the bytes of the source, as in Loading.
-use Rattle.std.specs.Prelude.{◌≡◌, ℕ, ◌+◌, ◌++◌, true, false, List, map, Option, Some, option_map, Result, IfSome, codes, decimal}
+use Rattle.std.specs.Prelude.{◌≡◌, ℕ, ◌+◌, ◌++◌, false, List, map, Option, Some, option_map, Result, IfSome, codes, decimal}
 use Rattle.std.specs.List.{list_any}
-use Rattle.cookie_words.specs.Moments.{epoch}
 use Rattle.cookie_forms.specs.ToJson.{is_early}
 use Rattle.cookie_parts.specs.Cookie.{Row}
 use Rattle.cookie_parts.specs.SavedConversion.{saved_of}
@@ -17,6 +16,7 @@ use Rattle.cookie_device.specs.declared.lines.FillError.TheVariants as Fill
 use Rattle.cookie_serde.specs.declared.loading.LoadError.{LoadError}
 use Rattle.cookie_serde.specs.declared.loading.LoadError.TheVariants as Load
 use Rattle.cookie_serde.specs.declared.migration.MigrateError.{MigrateError}
+use Rattle.cookie_serde.specs.declared.which.Which.TheVariants.{All}
 use Rattle.cookie_serde.specs.declared.migration.MigrateError.TheVariants.{Line, Io, Memory}
 
 -- the error of a migration: out of memory at a line is not an error of the line
@@ -43,7 +43,7 @@ styled_migrate_error_text other = Some (migrate_error_text other)
 
 -- the rows built from the cookies of all lines of the source, expired ones included
 abbrev pub Migrates : Option (List ℕ) → RowsInOrder → Type 0
-Migrates known kept = BuildsFrom JsonParsesTo known true epoch kept
+Migrates known kept = BuildsFrom JsonParsesTo known All kept
 
 -- no row expires before the year 0
 abbrev pub HaveSavedForms : List Row → Type 0

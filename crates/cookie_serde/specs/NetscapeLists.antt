@@ -6,15 +6,16 @@ use Rattle.std.specs.Str.{is_utf8}
 use Rattle.std.specs.Str.Lines.{lines}
 use Rattle.std.specs.declared.alloc.Global.{Global}
 use Rattle.std.specs.declared.string.String.{String}
-use Rattle.cookie_words.specs.Moments.{Moment}
 use Rattle.cookie_device.specs.Device.{AppendsPrefix, SinkState, SourceState}
 use Rattle.cookie_parts.specs.Cookie.{Row}
 use Rattle.cookie_netscape.specs.Files.{FailsToRead, malformed_from, rows_in_file, well_formed_rows}
 use Rattle.cookie_netscape.specs.Written.{is_representable, written_text}
 use Rattle.cookie_netscape.specs.declared.error.NetscapeError.{NetscapeError}
 use Rattle.cookie_netscape.specs.declared.error.NetscapeError.TheVariants.{BadLine, Unrepresentable, Io, NotUtf8, Memory}
-use Rattle.cookie_laws.specs.Rows.{RowsInOrder, built}
+use Rattle.cookie_laws.specs.Rows.{RowsInOrder}
 use Rattle.cookie_serde.specs.Lists.{IsAll, StopsWithin}
+use Rattle.cookie_serde.specs.Selections.{built_from}
+use Rattle.cookie_serde.specs.declared.which.Which.{Which}
 
 -- the result of writing rows: `Unrepresentable` if the format cannot represent one of them, else the file without its last line end, or
 -- `Memory`
@@ -47,14 +48,14 @@ FailsToSaveNetscape error rows old new =
     × (error ≡ Io) × (new.failed ≡ old.failed + 1))
 
 -- the rows built from the cookies of a string
-abbrev pub BuildsFromNetscape : List ℕ → Bool → Moment → RowsInOrder → Type 0
-BuildsFromNetscape text include_expired now kept =
-    (rows : List Row) × (rows_in_file text ≡ Some rows) × (kept ≡ built include_expired now rows)
+abbrev pub BuildsFromNetscape : List ℕ → Which → RowsInOrder → Type 0
+BuildsFromNetscape text which kept =
+    (rows : List Row) × (rows_in_file text ≡ Some rows) × (kept ≡ built_from which rows)
 
 -- the rows built from the cookies of the lines that are not malformed, and the numbers of the others
-abbrev pub BuildsWellFormed : List ℕ → Bool → Moment → RowsInOrder → List ℕ → Type 0
-BuildsWellFormed text include_expired now kept malformed =
-    (kept ≡ built include_expired now (well_formed_rows (lines text))) × (malformed ≡ malformed_from 1 (lines text))
+abbrev pub BuildsWellFormed : List ℕ → Which → RowsInOrder → List ℕ → Type 0
+BuildsWellFormed text which kept malformed =
+    (kept ≡ built_from which (well_formed_rows (lines text))) × (malformed ≡ malformed_from 1 (lines text))
 
 -- a line is a cookie or malformed
 abbrev pub HasCookieOrMalformed : List ℕ → Type 0
@@ -69,14 +70,14 @@ abbrev pub IsFile : Option (List ℕ) → List ℕ → Type 0
 IsFile known text = IsAll known text × IsTrue (is_utf8 text)
 
 -- the rows built from the cookies of the file
-abbrev pub LoadsNetscape : Option (List ℕ) → Bool → Moment → RowsInOrder → Type 0
-LoadsNetscape known include_expired now kept =
-    (text : List ℕ) × IsFile known text × BuildsFromNetscape text include_expired now kept
+abbrev pub LoadsNetscape : Option (List ℕ) → Which → RowsInOrder → Type 0
+LoadsNetscape known which kept =
+    (text : List ℕ) × IsFile known text × BuildsFromNetscape text which kept
 
 -- the rows built from the cookies of the lines of the file that are not malformed, and the numbers of the others
-abbrev pub LoadsWellFormed : Option (List ℕ) → Bool → Moment → RowsInOrder → List ℕ → Type 0
-LoadsWellFormed known include_expired now kept malformed =
-    (text : List ℕ) × IsFile known text × BuildsWellFormed text include_expired now kept malformed
+abbrev pub LoadsWellFormed : Option (List ℕ) → Which → RowsInOrder → List ℕ → Type 0
+LoadsWellFormed known which kept malformed =
+    (text : List ℕ) × IsFile known text × BuildsWellFormed text which kept malformed
 
 -- all bytes were read and they are not UTF-8; or reading stopped: a read failed, which added one to the failures, or it ran out of memory
 abbrev pub FailsToReadFile : NetscapeError → SourceState → SourceState → Type 0

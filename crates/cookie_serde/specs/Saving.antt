@@ -19,15 +19,6 @@ is_saved now row = is_unexpired now row && is_persistent row.expires
 abbrev pub saved_rows : Moment → List Row → List Row
 saved_rows now rows = filter (is_saved now) rows
 
--- all rows, or those that are saved at a time
-abbrev pub selected_rows : Bool → Moment → List Row → List Row
-selected_rows all now rows = if all then rows else saved_rows now rows
-
--- the row is saved at the time; every row is if there is no time
-abbrev pub is_among : Option Moment → Row → Bool
-is_among None = λ row. true
-is_among (Some now) = is_saved now
-
 -- a string and a line feed
 abbrev pub line_text : String Global → List ℕ
 line_text text = string_bytes text ++ 10 ∷ []

@@ -1,6 +1,6 @@
 //! Calls of a store that take many cookies: those of a response, and those saved or loaded as
 //! lines.
-ghost use Rattle.std.specs.Prelude.{◌≡◌, ◌-◌, ◌^◌, ◌<◌, false, true, None, IfErr, IfOk, OnErr, OnOk};
+ghost use Rattle.std.specs.Prelude.{◌≡◌, ◌-◌, ◌^◌, ◌<◌, None, IfErr, IfOk, OnErr, OnOk};
 ghost use Rattle.std.specs.Fn.{FnReturnsAt};
 ghost use Rattle.std.specs.Io.KnownBytes.{IsAtEnd};
 ghost use Rattle.std.specs.Iterator.{IsFinite};
@@ -14,6 +14,7 @@ ghost use Rattle.cookie_serde.specs.Saving.{saved_rows, FailsToSave, WritesRows}
 use crate::json_lines::{load_json_rows, save_json_rows};
 use crate::loading::load_rows;
 use crate::saving::save_rows;
+use crate::which::Which;
 use cookie_core::{AsStore, CookieStore, insert_each};
 use cookie_device::{Sink, Source};
 use cookie_parts::{Cookie, Error, StoreResult};
@@ -52,7 +53,12 @@ pub trait Bulk: AsStore {
             (saved_rows (moment_of now) (Self.contents self.now).rows)
             (W.state writer.old) (W.state writer.new)) }
     {
-        save_rows(self.as_store(), writer, cookie_to_string, Some(now))
+        save_rows(
+            self.as_store(),
+            writer,
+            cookie_to_string,
+            Which::Persistent(now),
+        )
     }
 
     /// Writes all cookies as lines, expired cookies and session cookies included, in the store's
@@ -71,7 +77,7 @@ pub trait Bulk: AsStore {
         ensures stopped { IfErr result (λ error. FailsToSave (FnReturnsAt F.Fn cookie_to_string) error (Self.contents self.now).rows
             (W.state writer.old) (W.state writer.new)) }
     {
-        save_rows(self.as_store(), writer, cookie_to_string, None)
+        save_rows(self.as_store(), writer, cookie_to_string, Which::All)
     }
 
     /// Writes the unexpired persistent cookies as lines of JSON, in the store's order.
@@ -95,7 +101,7 @@ pub trait Bulk: AsStore {
             (saved_rows (moment_of now) (Self.contents self.now).rows)
             (W.state writer.old) (W.state writer.new)) }
     {
-        save_json_rows(self.as_store(), writer, Some(now))
+        save_json_rows(self.as_store(), writer, Which::Persistent(now))
     }
 
     /// Writes all cookies as lines of JSON, expired cookies and session cookies included.
@@ -112,7 +118,7 @@ pub trait Bulk: AsStore {
         ensures stopped { IfErr result (λ error. FailsToSave SerializesToJson error (Self.contents self.now).rows
             (W.state writer.old) (W.state writer.new)) }
     {
-        save_json_rows(self.as_store(), writer, None)
+        save_json_rows(self.as_store(), writer, Which::All)
     }
 
     /// Loads a store from lines, skipping expired cookies.
@@ -139,7 +145,7 @@ pub trait Bulk: AsStore {
         requires callable { F.IsAlwaysCallable cookie_from_str }
         requires readable { (R.state reader.old).failed < 2 ^ 64 - 1 }
         ensures built { IfOk result (λ store. BuildsFrom (FnReturnsAt F.Fn cookie_from_str) (R.state reader.old).remaining
-            false (moment_of now) (rows_in_order (Self.contents store))) }
+            (Which.Unexpired now) (rows_in_order (Self.contents store))) }
         ensures suffixes { IfOk result (λ store. (Self.contents store).suffixes ≡ None) }
         ensures limit { IfOk result (λ store. (Self.contents store).limit ≡ None) }
         ensures read { OnOk result (IsAtEnd (R.state reader.new).remaining × ((R.state reader.new).failed ≡ (R.state reader.old).failed)) }
@@ -148,13 +154,13 @@ pub trait Bulk: AsStore {
         ensures reads { ReadsEachOnce (R.state reader.old) (R.state reader.new) }
     {
         let alloc = alloc.into();
-        let rows = load_rows(alloc, reader, cookie_from_str, false, now)?;
+        let rows = load_rows(alloc, reader, cookie_from_str, Which::Unexpired(now))?;
         Ok(Self::of_store(CookieStore::from_rows(alloc.alloc, rows)))
     }
 
-    /// Loads a store from lines, expired cookies included.
+    /// Loads a store from lines, expired cookies included; `now` is not used.
     ///
-    /// Otherwise as [`load`](Self::load). `now` is not used.
+    /// Otherwise as [`load`](Self::load).
     final fn load_all<A: Into<StoreAlloc>, R: Source, F: Fn(&str) -> Result<Cookie<'_>, Error>>(
         alloc: A,
         reader: &mut R,
@@ -164,7 +170,7 @@ pub trait Bulk: AsStore {
         requires callable { F.IsAlwaysCallable cookie_from_str }
         requires readable { (R.state reader.old).failed < 2 ^ 64 - 1 }
         ensures built { IfOk result (λ store. BuildsFrom (FnReturnsAt F.Fn cookie_from_str) (R.state reader.old).remaining
-            true (moment_of now) (rows_in_order (Self.contents store))) }
+            Which.All (rows_in_order (Self.contents store))) }
         ensures suffixes { IfOk result (λ store. (Self.contents store).suffixes ≡ None) }
         ensures limit { IfOk result (λ store. (Self.contents store).limit ≡ None) }
         ensures read { OnOk result (IsAtEnd (R.state reader.new).remaining × ((R.state reader.new).failed ≡ (R.state reader.old).failed)) }
@@ -173,7 +179,7 @@ pub trait Bulk: AsStore {
         ensures reads { ReadsEachOnce (R.state reader.old) (R.state reader.new) }
     {
         let alloc = alloc.into();
-        let rows = load_rows(alloc, reader, cookie_from_str, true, now)?;
+        let rows = load_rows(alloc, reader, cookie_from_str, Which::All)?;
         Ok(Self::of_store(CookieStore::from_rows(alloc.alloc, rows)))
     }
 
@@ -201,7 +207,7 @@ pub trait Bulk: AsStore {
         now: DateTime,
     ) -> StoreResult<Self>
         requires readable { (R.state reader.old).failed < 2 ^ 64 - 1 }
-        ensures built { IfOk result (λ store. BuildsFrom JsonParsesTo (R.state reader.old).remaining false (moment_of now) (rows_in_order (Self.contents store))) }
+        ensures built { IfOk result (λ store. BuildsFrom JsonParsesTo (R.state reader.old).remaining (Which.Unexpired now) (rows_in_order (Self.contents store))) }
         ensures suffixes { IfOk result (λ store. (Self.contents store).suffixes ≡ None) }
         ensures limit { IfOk result (λ store. (Self.contents store).limit ≡ None) }
         ensures read { OnOk result (IsAtEnd (R.state reader.new).remaining × ((R.state reader.new).failed ≡ (R.state reader.old).failed)) }
@@ -210,13 +216,13 @@ pub trait Bulk: AsStore {
         ensures reads { ReadsEachOnce (R.state reader.old) (R.state reader.new) }
     {
         let alloc = alloc.into();
-        let rows = load_json_rows(alloc, reader, false, now)?;
+        let rows = load_json_rows(alloc, reader, Which::Unexpired(now))?;
         Ok(Self::of_store(CookieStore::from_rows(alloc.alloc, rows)))
     }
 
-    /// Loads a store from lines of JSON, expired cookies included.
+    /// Loads a store from lines of JSON, expired cookies included; `now` is not used.
     ///
-    /// Otherwise as [`load_json`](Self::load_json). `now` is not used.
+    /// Otherwise as [`load_json`](Self::load_json).
     #[deprecated(note = "use `serde::json`")]
     final fn load_json_all<A: Into<StoreAlloc>, R: Source>(
         alloc: A,
@@ -224,7 +230,7 @@ pub trait Bulk: AsStore {
         now: DateTime,
     ) -> StoreResult<Self>
         requires readable { (R.state reader.old).failed < 2 ^ 64 - 1 }
-        ensures built { IfOk result (λ store. BuildsFrom JsonParsesTo (R.state reader.old).remaining true (moment_of now) (rows_in_order (Self.contents store))) }
+        ensures built { IfOk result (λ store. BuildsFrom JsonParsesTo (R.state reader.old).remaining Which.All (rows_in_order (Self.contents store))) }
         ensures suffixes { IfOk result (λ store. (Self.contents store).suffixes ≡ None) }
         ensures limit { IfOk result (λ store. (Self.contents store).limit ≡ None) }
         ensures read { OnOk result (IsAtEnd (R.state reader.new).remaining × ((R.state reader.new).failed ≡ (R.state reader.old).failed)) }
@@ -233,7 +239,7 @@ pub trait Bulk: AsStore {
         ensures reads { ReadsEachOnce (R.state reader.old) (R.state reader.new) }
     {
         let alloc = alloc.into();
-        let rows = load_json_rows(alloc, reader, true, now)?;
+        let rows = load_json_rows(alloc, reader, Which::All)?;
         Ok(Self::of_store(CookieStore::from_rows(alloc.alloc, rows)))
     }
 

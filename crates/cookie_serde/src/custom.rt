@@ -1,14 +1,15 @@
 //! Saving and loading a store as one list, by functions of your own.
-ghost use Rattle.std.specs.Prelude.{◌≡◌, ◌≢◌, ◌-◌, ◌^◌, ◌<◌, [], false, filter, option_map, true, None, IfErr, IfOk, OnErr, OnOk};
+ghost use Rattle.std.specs.Prelude.{◌≡◌, ◌≢◌, ◌-◌, ◌^◌, ◌<◌, [], None, IfErr, IfOk, OnErr, OnOk};
 ghost use Rattle.std.specs.Fn.{FnReturnsAt};
 ghost use Rattle.std.specs.Io.KnownBytes.{IsAtEnd};
 ghost use Rattle.cookie_words.specs.Moments.{moment_of};
 ghost use Rattle.cookie_laws.specs.Contents.{rows_in_order};
 ghost use Rattle.cookie_serde.specs.Lists.{BuildsFromList, FailsToLoadList, FailsToSaveList, ParsesToCookies, ParsesToVec, RejectsText, SerializesCopies, WritesList};
 ghost use Rattle.cookie_serde.specs.Loading.{ReadsEachOnce};
-ghost use Rattle.cookie_serde.specs.Saving.{is_among, saved_rows};
+ghost use Rattle.cookie_serde.specs.Saving.{saved_rows};
+ghost use Rattle.cookie_serde.specs.Selections.{selected};
 
-use crate::saving::is_among;
+use crate::which::Which;
 use crate::whole_text::{read_bytes, rows_of, write_text};
 use cookie_core::{AsStore, CookieStore};
 use cookie_device::{Sink, Source};
@@ -43,7 +44,12 @@ pub fn save<S: AsStore, W: Sink, F: Fn(&Vec<Cookie<'_>>) -> Result<String, Error
         (saved_rows (moment_of now) (S.contents store.now).rows)
         (W.state writer.old) (W.state writer.new)) }
 {
-    save_copies(store.as_store(), writer, cookies_to_string, Some(now))
+    save_copies(
+        store.as_store(),
+        writer,
+        cookies_to_string,
+        Which::Persistent(now),
+    )
 }
 
 /// Writes all cookies as one list, expired cookies and session cookies included, and a line feed.
@@ -63,7 +69,7 @@ pub fn save_incl_expired_and_nonpersistent<
         (S.contents store.now).rows
         (W.state writer.old) (W.state writer.new)) }
 {
-    save_copies(store.as_store(), writer, cookies_to_string, None)
+    save_copies(store.as_store(), writer, cookies_to_string, Which::All)
 }
 
 /// Loads a store from one list, skipping expired cookies.
@@ -89,7 +95,7 @@ pub fn load<
     requires callable { F.IsAlwaysCallable cookies_from_str }
     requires readable { (R.state reader.old).failed < 2 ^ 64 - 1 }
     ensures built { IfOk result (λ store. BuildsFromList (ParsesToVec (FnReturnsAt F.Fn cookies_from_str)) (R.state reader.old).remaining
-        false (moment_of now) (rows_in_order (S.contents store))) }
+        (Which.Unexpired now) (rows_in_order (S.contents store))) }
     ensures suffixes { IfOk result (λ store. (S.contents store).suffixes ≡ None) }
     ensures limit { IfOk result (λ store. (S.contents store).limit ≡ None) }
     ensures read { OnOk result (IsAtEnd (R.state reader.new).remaining × ((R.state reader.new).failed ≡ (R.state reader.old).failed)) }
@@ -98,13 +104,13 @@ pub fn load<
     ensures reads { ReadsEachOnce (R.state reader.old) (R.state reader.new) }
 {
     let alloc = alloc.into();
-    let rows = load_list(alloc, reader, cookies_from_str, false, now)?;
+    let rows = load_list(alloc, reader, cookies_from_str, Which::Unexpired(now))?;
     Ok(S::of_store(CookieStore::from_rows(alloc.alloc, rows)))
 }
 
-/// Loads a store from one list, expired cookies included.
+/// Loads a store from one list, expired cookies included; `now` is not used.
 ///
-/// Otherwise as [`load`]. `now` is not used.
+/// Otherwise as [`load`].
 pub fn load_all<
     S: AsStore,
     A: Into<StoreAlloc>,
@@ -114,7 +120,7 @@ pub fn load_all<
     requires callable { F.IsAlwaysCallable cookies_from_str }
     requires readable { (R.state reader.old).failed < 2 ^ 64 - 1 }
     ensures built { IfOk result (λ store. BuildsFromList (ParsesToVec (FnReturnsAt F.Fn cookies_from_str)) (R.state reader.old).remaining
-        true (moment_of now) (rows_in_order (S.contents store))) }
+        Which.All (rows_in_order (S.contents store))) }
     ensures suffixes { IfOk result (λ store. (S.contents store).suffixes ≡ None) }
     ensures limit { IfOk result (λ store. (S.contents store).limit ≡ None) }
     ensures read { OnOk result (IsAtEnd (R.state reader.new).remaining × ((R.state reader.new).failed ≡ (R.state reader.old).failed)) }
@@ -123,62 +129,57 @@ pub fn load_all<
     ensures reads { ReadsEachOnce (R.state reader.old) (R.state reader.new) }
 {
     let alloc = alloc.into();
-    let rows = load_list(alloc, reader, cookies_from_str, true, now)?;
+    let rows = load_list(alloc, reader, cookies_from_str, Which::All)?;
     Ok(S::of_store(CookieStore::from_rows(alloc.alloc, rows)))
 }
 
-// Passes copies of the saved rows to `text_of`, and writes its string and a line feed. Which rows
-// are saved: see [`is_among`].
+// Passes copies of the rows that are saved to `text_of`, and writes its string and a line feed.
 fn save_copies<W: Sink, F: Fn(&Vec<Cookie<'_>>) -> Result<String, Error>>(
     store: &CookieStore,
     sink: &mut W,
     text_of: F,
-    now: Option<DateTime>,
+    which: Which,
 ) -> Result<(), Error>
     requires callable { F.IsAlwaysCallable text_of }
     requires writable { (W.state sink.old).failed < 2 ^ 64 - 1 }
     ensures whole { OnOk result (WritesList (SerializesCopies (FnReturnsAt F.Fn text_of))
-        (filter (is_among (option_map moment_of now)) store.now.rows) (W.state sink.old).contents (W.state sink.new).contents) }
+        (selected which store.now.rows) (W.state sink.old).contents (W.state sink.new).contents) }
     ensures count { OnOk result ((W.state sink.new).failed ≡ (W.state sink.old).failed) }
     ensures stopped { IfErr result (λ error. FailsToSaveList (SerializesCopies (FnReturnsAt F.Fn text_of)) error
-        (filter (is_among (option_map moment_of now)) store.now.rows)
+        (selected which store.now.rows)
         (W.state sink.old) (W.state sink.new)) }
 {
-    let copies = copies_of(store, &now)?;
+    let copies = copies_of(store, which)?;
     let text = text_of(&copies)?;
     write_text(sink, &text)
 }
 
 // Copies of the rows that are saved.
-fn copies_of(
-    store: &CookieStore,
-    now: &Option<DateTime>,
-) -> Result<Vec<Cookie<'static>>, AllocError>
-    ensures copies { IfOk result (λ copies. copies.items ≡ filter (is_among (option_map moment_of now.now)) store.now.rows) }
-    ensures memory { OnErr result (filter (is_among (option_map moment_of now.now)) store.now.rows ≢ []) }
+fn copies_of(store: &CookieStore, which: Which) -> Result<Vec<Cookie<'static>>, AllocError>
+    ensures copies { IfOk result (λ copies. copies.items ≡ selected which store.now.rows) }
+    ensures memory { OnErr result (selected which store.now.rows ≢ []) }
 {
     let mut copies = Vec::new(store.allocator());
     for row in store.iter_any() {
-        if is_among(row, now) {
+        if which.selects(row) {
             copies.push(row.clone()?)?;
         }
     }
     Ok(copies)
 }
 
-// The rows of the cookies that `cookies_of` returns for all bytes of the source. Expired cookies
-// are skipped unless `include_expired`.
+// The rows of those of the cookies that are loaded, which `cookies_of` returns for all bytes of the
+// source.
 fn load_list<R: Source, F: Fn(&str) -> Result<Vec<Cookie<'_>>, Error>>(
     alloc: StoreAlloc,
     source: &mut R,
     cookies_of: F,
-    include_expired: bool,
-    now: DateTime,
+    which: Which,
 ) -> Result<Rows, Error>
     requires callable { F.IsAlwaysCallable cookies_of }
     requires readable { (R.state source.old).failed < 2 ^ 64 - 1 }
     ensures built { IfOk result (λ rows. BuildsFromList (ParsesToVec (FnReturnsAt F.Fn cookies_of)) (R.state source.old).remaining
-        include_expired (moment_of now) rows) }
+        which rows) }
     ensures read { OnOk result (IsAtEnd (R.state source.new).remaining × ((R.state source.new).failed ≡ (R.state source.old).failed)) }
     ensures failed { IfErr result (λ error. FailsToLoadList (ParsesToVec (FnReturnsAt F.Fn cookies_of)) error
         (R.state source.old) (R.state source.new)) }
@@ -186,7 +187,7 @@ fn load_list<R: Source, F: Fn(&str) -> Result<Vec<Cookie<'_>>, Error>>(
 {
     let bytes = read_bytes(alloc.alloc, source)?;
     let cookies = parse_list(&bytes, &cookies_of)?;
-    rows_of(alloc, cookies, include_expired, now)
+    rows_of(alloc, cookies, which)
 }
 
 // The cookies that `cookies_of` returns for the bytes, or `NotUtf8`.

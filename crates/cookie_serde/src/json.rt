@@ -1,5 +1,5 @@
 //! Saving and loading a store as one list in JSON.
-ghost use Rattle.std.specs.Prelude.{◌≡◌, ◌-◌, ◌^◌, ◌<◌, false, true, None, IfErr, IfOk, OnOk};
+ghost use Rattle.std.specs.Prelude.{◌≡◌, ◌-◌, ◌^◌, ◌<◌, None, IfErr, IfOk, OnOk};
 ghost use Rattle.std.specs.Io.KnownBytes.{IsAtEnd};
 ghost use Rattle.cookie_words.specs.Moments.{moment_of};
 ghost use Rattle.cookie_serde.specs.JsonLists.{JsonListParsesTo, SerializesToJsonList};
@@ -8,7 +8,8 @@ ghost use Rattle.cookie_serde.specs.Lists.{BuildsFromList, BuildsFromText, Fails
 ghost use Rattle.cookie_serde.specs.Loading.{ReadsEachOnce};
 ghost use Rattle.cookie_serde.specs.Saving.{saved_rows};
 
-use crate::list_format::{ListFormat, load_as, parse_as, save_as, text_as};
+use crate::list_format::{ListFormat, list_rows, list_text, load_list_rows, save_list};
+use crate::which::Which;
 use cookie_core::CookieStore;
 use cookie_device::{Sink, Source};
 use cookie_parts::StoreResult;
@@ -33,7 +34,7 @@ pub fn save<W: Sink>(store: &CookieStore, writer: &mut W, now: DateTime) -> Stor
     ensures stopped { IfErr result (λ error. FailsToSaveList SerializesToJsonList error (saved_rows (moment_of now) store.now.rows)
         (W.state writer.old) (W.state writer.new)) }
 {
-    save_as(ListFormat::Json, store, writer, Some(now))
+    save_list(ListFormat::Json, store, writer, Which::Persistent(now))
 }
 
 /// Writes all cookies as a JSON array and a line feed, expired cookies and session cookies
@@ -50,7 +51,7 @@ pub fn save_incl_expired_and_nonpersistent<W: Sink>(
     ensures stopped { IfErr result (λ error. FailsToSaveList SerializesToJsonList error store.now.rows
         (W.state writer.old) (W.state writer.new)) }
 {
-    save_as(ListFormat::Json, store, writer, None)
+    save_list(ListFormat::Json, store, writer, Which::All)
 }
 
 /// Loads a store from a JSON array, skipping expired cookies.
@@ -76,7 +77,7 @@ pub fn load<A: Into<StoreAlloc>, R: Source>(
     now: DateTime,
 ) -> StoreResult<CookieStore>
     requires readable { (R.state reader.old).failed < 2 ^ 64 - 1 }
-    ensures built { IfOk result (λ store. BuildsFromList JsonListParsesTo (R.state reader.old).remaining false (moment_of now) (rows_in_order store)) }
+    ensures built { IfOk result (λ store. BuildsFromList JsonListParsesTo (R.state reader.old).remaining (Which.Unexpired now) (rows_in_order store)) }
     ensures suffixes { IfOk result (λ store. store.suffixes ≡ None) }
     ensures limit { IfOk result (λ store. store.limit ≡ None) }
     ensures read { OnOk result (IsAtEnd (R.state reader.new).remaining × ((R.state reader.new).failed ≡ (R.state reader.old).failed)) }
@@ -85,20 +86,20 @@ pub fn load<A: Into<StoreAlloc>, R: Source>(
     ensures reads { ReadsEachOnce (R.state reader.old) (R.state reader.new) }
 {
     let alloc = alloc.into();
-    let rows = load_as(ListFormat::Json, alloc, reader, false, now)?;
+    let rows = load_list_rows(ListFormat::Json, alloc, reader, Which::Unexpired(now))?;
     Ok(CookieStore::from_rows(alloc.alloc, rows))
 }
 
-/// Loads a store from a JSON array, expired cookies included.
+/// Loads a store from a JSON array, expired cookies included; `now` is not used.
 ///
-/// Otherwise as [`load`]. `now` is not used.
+/// Otherwise as [`load`].
 pub fn load_all<A: Into<StoreAlloc>, R: Source>(
     alloc: A,
     reader: &mut R,
     now: DateTime,
 ) -> StoreResult<CookieStore>
     requires readable { (R.state reader.old).failed < 2 ^ 64 - 1 }
-    ensures built { IfOk result (λ store. BuildsFromList JsonListParsesTo (R.state reader.old).remaining true (moment_of now) (rows_in_order store)) }
+    ensures built { IfOk result (λ store. BuildsFromList JsonListParsesTo (R.state reader.old).remaining Which.All (rows_in_order store)) }
     ensures suffixes { IfOk result (λ store. store.suffixes ≡ None) }
     ensures limit { IfOk result (λ store. store.limit ≡ None) }
     ensures read { OnOk result (IsAtEnd (R.state reader.new).remaining × ((R.state reader.new).failed ≡ (R.state reader.old).failed)) }
@@ -107,7 +108,7 @@ pub fn load_all<A: Into<StoreAlloc>, R: Source>(
     ensures reads { ReadsEachOnce (R.state reader.old) (R.state reader.new) }
 {
     let alloc = alloc.into();
-    let rows = load_as(ListFormat::Json, alloc, reader, true, now)?;
+    let rows = load_list_rows(ListFormat::Json, alloc, reader, Which::All)?;
     Ok(CookieStore::from_rows(alloc.alloc, rows))
 }
 
@@ -123,7 +124,7 @@ pub fn load_all<A: Into<StoreAlloc>, R: Source>(
 pub fn to_text(store: &CookieStore, now: DateTime) -> StoreResult<String>
     ensures { SerializesToJsonList (saved_rows (moment_of now) store.now.rows) result }
 {
-    text_as(ListFormat::Json, store, &Some(now))
+    list_text(ListFormat::Json, store, Which::Persistent(now))
 }
 
 /// Formats all cookies as a JSON array, expired cookies and session cookies included.
@@ -132,7 +133,7 @@ pub fn to_text(store: &CookieStore, now: DateTime) -> StoreResult<String>
 pub fn to_text_incl_expired_and_nonpersistent(store: &CookieStore) -> StoreResult<String>
     ensures { SerializesToJsonList store.now.rows result }
 {
-    text_as(ListFormat::Json, store, &None)
+    list_text(ListFormat::Json, store, Which::All)
 }
 
 /// Parses a JSON array into a store, skipping expired cookies.
@@ -153,30 +154,30 @@ pub fn from_text<A: Into<StoreAlloc>>(
     text: &str,
     now: DateTime,
 ) -> StoreResult<CookieStore>
-    ensures built { IfOk result (λ store. BuildsFromText JsonListParsesTo text.now false (moment_of now) (rows_in_order store)) }
+    ensures built { IfOk result (λ store. BuildsFromText JsonListParsesTo text.now (Which.Unexpired now) (rows_in_order store)) }
     ensures suffixes { IfOk result (λ store. store.suffixes ≡ None) }
     ensures limit { IfOk result (λ store. store.limit ≡ None) }
     ensures failed { IfErr result (λ error. FailsAtText JsonListParsesTo error text.now) }
 {
     let alloc = alloc.into();
-    let rows = parse_as(ListFormat::Json, alloc, text, false, now)?;
+    let rows = list_rows(ListFormat::Json, alloc, text, Which::Unexpired(now))?;
     Ok(CookieStore::from_rows(alloc.alloc, rows))
 }
 
-/// Parses a JSON array into a store, expired cookies included.
+/// Parses a JSON array into a store, expired cookies included; `now` is not used.
 ///
-/// Otherwise as [`from_text`]. `now` is not used.
+/// Otherwise as [`from_text`].
 pub fn from_text_all<A: Into<StoreAlloc>>(
     alloc: A,
     text: &str,
     now: DateTime,
 ) -> StoreResult<CookieStore>
-    ensures built { IfOk result (λ store. BuildsFromText JsonListParsesTo text.now true (moment_of now) (rows_in_order store)) }
+    ensures built { IfOk result (λ store. BuildsFromText JsonListParsesTo text.now Which.All (rows_in_order store)) }
     ensures suffixes { IfOk result (λ store. store.suffixes ≡ None) }
     ensures limit { IfOk result (λ store. store.limit ≡ None) }
     ensures failed { IfErr result (λ error. FailsAtText JsonListParsesTo error text.now) }
 {
     let alloc = alloc.into();
-    let rows = parse_as(ListFormat::Json, alloc, text, true, now)?;
+    let rows = list_rows(ListFormat::Json, alloc, text, Which::All)?;
     Ok(CookieStore::from_rows(alloc.alloc, rows))
 }

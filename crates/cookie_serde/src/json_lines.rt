@@ -1,44 +1,43 @@
 //! Saving and loading rows as lines of JSON.
-ghost use Rattle.std.specs.Prelude.{◌≡◌, ◌-◌, ◌^◌, ◌<◌, filter, option_map, IfErr, IfOk, OnOk};
+ghost use Rattle.std.specs.Prelude.{◌≡◌, ◌-◌, ◌^◌, ◌<◌, IfErr, IfOk, OnOk};
 ghost use Rattle.std.specs.Io.KnownBytes.{IsAtEnd};
-ghost use Rattle.cookie_words.specs.Moments.{moment_of};
 ghost use Rattle.cookie_forms.specs.ToJson.{is_early};
 ghost use Rattle.cookie_parts.specs.SavedConversion.{saved_of};
 ghost use Rattle.cookie_serde.specs.JsonLines.{JsonParsesTo, SerializesToJson};
 ghost use Rattle.cookie_serde.specs.LoadError.{StopsLoading};
 ghost use Rattle.cookie_serde.specs.Loading.{BuildsFrom, FailsToLoad, ReadsEachOnce};
-ghost use Rattle.cookie_serde.specs.Saving.{is_among, FailsToSave, WritesRows};
+ghost use Rattle.cookie_serde.specs.Saving.{FailsToSave, WritesRows};
+ghost use Rattle.cookie_serde.specs.Selections.{selected};
 
 use crate::loading::{LoadError, numbered_rows};
 use crate::saving::save_rows;
+use crate::which::Which;
 use cookie_core::CookieStore;
 use cookie_device::{Sink, Source};
 use cookie_forms::{SavedError, format_saved, from_text};
 use cookie_parts::{Cookie, CookieExpiration, Error};
 use cookie_rows::{Rows, StoreAlloc};
-use jiff::civil::DateTime;
 use std::alloc::Global;
 
-/// Writes the saved form of each row that is saved as a line of JSON. Which rows are saved: see
-/// `is_among`.
+/// Writes the saved form of each row that is saved as a line of JSON.
 pub(crate) fn save_json_rows<W: Sink>(
     store: &CookieStore,
     sink: &mut W,
-    now: Option<DateTime>,
+    which: Which,
 ) -> Result<(), Error>
     requires writable { (W.state sink.old).failed < 2 ^ 64 - 1 }
-    ensures whole { OnOk result (WritesRows SerializesToJson (filter (is_among (option_map moment_of now)) store.now.rows)
+    ensures whole { OnOk result (WritesRows SerializesToJson (selected which store.now.rows)
         (W.state sink.old).contents (W.state sink.new).contents) }
     ensures count { OnOk result ((W.state sink.new).failed ≡ (W.state sink.old).failed) }
     ensures stopped { IfErr result (λ error. FailsToSave SerializesToJson error
-        (filter (is_among (option_map moment_of now)) store.now.rows)
+        (selected which store.now.rows)
         (W.state sink.old) (W.state sink.new)) }
 {
     let alloc = store.allocator();
     let text_of = |cookie: &Cookie<'_>| -> Result<String, Error>
         ensures { SerializesToJson cookie.now result }
     { json_line(alloc, cookie) };
-    save_rows(store, sink, text_of, now)
+    save_rows(store, sink, text_of, which)
 }
 
 // The saved form of the cookie as JSON without spaces. `Saved(Moment)` if it expires before the
@@ -62,33 +61,31 @@ pub(crate) fn expires_early(cookie: &Cookie<'_>) -> bool
     }
 }
 
-/// The rows of the source's lines, each the saved form of a cookie as JSON. Expired cookies are
-/// skipped unless `include_expired`.
+/// The rows of those of the cookies that are loaded, of which each line of the source is the saved
+/// form as JSON.
 pub(crate) fn load_json_rows<R: Source>(
     alloc: StoreAlloc,
     source: &mut R,
-    include_expired: bool,
-    now: DateTime,
+    which: Which,
 ) -> Result<Rows, Error>
     requires readable { (R.state source.old).failed < 2 ^ 64 - 1 }
-    ensures built { IfOk result (λ rows. BuildsFrom JsonParsesTo (R.state source.old).remaining include_expired (moment_of now) rows) }
+    ensures built { IfOk result (λ rows. BuildsFrom JsonParsesTo (R.state source.old).remaining which rows) }
     ensures read { OnOk result (IsAtEnd (R.state source.new).remaining × ((R.state source.new).failed ≡ (R.state source.old).failed)) }
     ensures failed { IfErr result (λ error. FailsToLoad JsonParsesTo error
         (R.state source.old) (R.state source.new)) }
     ensures reads { ReadsEachOnce (R.state source.old) (R.state source.new) }
 {
-    Ok(numbered_json_rows(alloc, source, include_expired, now)?)
+    Ok(numbered_json_rows(alloc, source, which)?)
 }
 
 /// As [`load_json_rows`], with the number of the line in the error.
 pub(crate) fn numbered_json_rows<R: Source>(
     alloc: StoreAlloc,
     source: &mut R,
-    include_expired: bool,
-    now: DateTime,
+    which: Which,
 ) -> Result<Rows, LoadError>
     requires readable { (R.state source.old).failed < 2 ^ 64 - 1 }
-    ensures built { IfOk result (λ rows. BuildsFrom JsonParsesTo (R.state source.old).remaining include_expired (moment_of now) rows) }
+    ensures built { IfOk result (λ rows. BuildsFrom JsonParsesTo (R.state source.old).remaining which rows) }
     ensures read { OnOk result (IsAtEnd (R.state source.new).remaining × ((R.state source.new).failed ≡ (R.state source.old).failed)) }
     ensures failed { IfErr result (λ fault. StopsLoading JsonParsesTo fault
         (R.state source.old) (R.state source.new)) }
@@ -100,8 +97,7 @@ pub(crate) fn numbered_json_rows<R: Source>(
         |line: &str| -> Result<Cookie<'_>, Error>
             ensures { JsonParsesTo line.now result }
         { cookie_of_json_line(alloc.alloc, line) },
-        include_expired,
-        now,
+        which,
     )
 }
 

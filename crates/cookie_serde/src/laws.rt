@@ -6,7 +6,6 @@ ghost use Rattle.std.specs.Prelude.{◌≡◌, ℕ, [], true, List, Ok, Some};
 ghost use Rattle.std.specs.Str.Lines.{lines};
 ghost use Rattle.std.specs.declared.alloc.Global.{Global};
 ghost use Rattle.std.specs.declared.string.String.{String};
-ghost use Rattle.cookie_words.specs.Moments.{Moment};
 ghost use Rattle.cookie_parts.specs.Cookie.{Row};
 ghost use Rattle.cookie_laws.specs.Rows.{are_rows, RowsInOrder};
 ghost use Rattle.cookie_serde.specs.Cuts.{cut_rows, ReadsBack};
@@ -16,6 +15,7 @@ ghost use Rattle.cookie_serde.specs.Lists.{BuildsFromList, WritesList};
 ghost use Rattle.cookie_serde.specs.Loading.{BuildsFrom};
 ghost use Rattle.cookie_serde.specs.RonLists.{RonListParsesTo, RonCookies, SerializesToRonList};
 ghost use Rattle.cookie_serde.specs.Saving.{line_text, lines_text, AreTexts, WritesRows};
+ghost use Rattle.cookie_serde.specs.declared.which.Which.TheVariants as Which;
 
 use cookie_forms::laws::{
     compact_texts_are_lines, expiries_are_moments, line_feeds_are_blank, list_reads_back,
@@ -45,8 +45,8 @@ pub fn list_comes_back()
 /// The list is saved to an empty sink, and loaded with expired cookies included. The rows are as in
 /// [`list_comes_back`].
 pub fn list_loads_again()
-    ensures { (rows : List Row) (loaded : RowsInOrder) (written : List ℕ) (now : Moment) → are_rows rows ≡ true → All ReadsBack rows
-        → WritesList SerializesToJsonList rows (Some []) (Some written) → BuildsFromList JsonListParsesTo (Some written) true now loaded
+    ensures { (rows : List Row) (loaded : RowsInOrder) (written : List ℕ) → are_rows rows ≡ true → All ReadsBack rows
+        → WritesList SerializesToJsonList rows (Some []) (Some written) → BuildsFromList JsonListParsesTo (Some written) Which.All loaded
         → loaded.rows ≡ cut_rows rows }
 {
     list_comes_back();
@@ -71,8 +71,8 @@ pub fn ron_list_comes_back()
 /// The list is saved to an empty sink, and loaded with expired cookies included. The rows are as in
 /// [`list_comes_back`].
 pub fn ron_list_loads_again()
-    ensures { (rows : List Row) (loaded : RowsInOrder) (written : List ℕ) (now : Moment) → are_rows rows ≡ true → All ReadsBack rows
-        → WritesList SerializesToRonList rows (Some []) (Some written) → BuildsFromList RonListParsesTo (Some written) true now loaded
+    ensures { (rows : List Row) (loaded : RowsInOrder) (written : List ℕ) → are_rows rows ≡ true → All ReadsBack rows
+        → WritesList SerializesToRonList rows (Some []) (Some written) → BuildsFromList RonListParsesTo (Some written) Which.All loaded
         → loaded.rows ≡ cut_rows rows }
 {
     ron_list_comes_back();
@@ -100,8 +100,8 @@ pub fn lines_come_back()
 /// The lines are saved to an empty sink, and loaded with expired cookies included. The rows are as
 /// in [`list_comes_back`].
 pub fn lines_load_again()
-    ensures { (rows : List Row) (loaded : RowsInOrder) (written : List ℕ) (now : Moment) → are_rows rows ≡ true → All ReadsBack rows
-        → WritesRows SerializesToJson rows (Some []) (Some written) → BuildsFrom JsonParsesTo (Some written) true now loaded
+    ensures { (rows : List Row) (loaded : RowsInOrder) (written : List ℕ) → are_rows rows ≡ true → All ReadsBack rows
+        → WritesRows SerializesToJson rows (Some []) (Some written) → BuildsFrom JsonParsesTo (Some written) Which.All loaded
         → loaded.rows ≡ cut_rows rows }
 {
     lines_come_back();

@@ -1,9 +1,8 @@
 //! Saving and loading rows as one list, in JSON or RON.
-ghost use Rattle.std.specs.Prelude.{◌≡◌, ◌≢◌, ◌⊎◌, ◌-◌, ◌^◌, ◌<◌, [], map, filter, option_map, Err, IfErr, IfOk, Ok, OnErr, OnOk};
+ghost use Rattle.std.specs.Prelude.{◌≡◌, ◌≢◌, ◌⊎◌, ◌-◌, ◌^◌, ◌<◌, [], map, Err, IfErr, IfOk, Ok, OnErr, OnOk};
 ghost use Rattle.std.specs.Io.KnownBytes.{IsAtEnd};
 ghost use Rattle.std.specs.List.{list_any};
 ghost use Rattle.std.specs.Result.{result_map_both};
-ghost use Rattle.cookie_words.specs.Moments.{moment_of};
 ghost use Rattle.cookie_forms.specs.Saved.{saved_view};
 ghost use Rattle.cookie_forms.specs.ToJson.{is_early};
 ghost use Rattle.cookie_parts.specs.SavedConversion.{saved_of};
@@ -13,10 +12,10 @@ ghost use Rattle.cookie_serde.specs.Lists.{BuildsFromList, BuildsFromText, Fails
 ghost use Rattle.cookie_serde.specs.Loading.{ReadsEachOnce};
 ghost use Rattle.cookie_serde.specs.RonLists.{RonListParsesTo};
 ghost use Rattle.cookie_serde.specs.SavedForms.{cookies_of_saved};
-ghost use Rattle.cookie_serde.specs.Saving.{is_among};
+ghost use Rattle.cookie_serde.specs.Selections.{selected};
 
 use crate::json_lines::expires_early;
-use crate::saving::is_among;
+use crate::which::Which;
 use crate::whole_text::{read_bytes, rows_of, write_text};
 use cookie_core::CookieStore;
 use cookie_device::{Sink, Source};
@@ -24,63 +23,61 @@ use cookie_forms::{Saved, SavedError, format_list, list_from_text};
 use cookie_parts::{Cookie, Error};
 use cookie_ron::{from_ron, print_list};
 use cookie_rows::{Rows, StoreAlloc};
-use jiff::civil::DateTime;
 use std::alloc::{AllocError, Global};
 
 /// The format of a list of saved cookies.
 #[derive(Clone, Copy)]
-pub enum ListFormat {
+pub(crate) enum ListFormat {
     /// A JSON array, with a line for each item and member.
     Json,
     /// A list in RON.
     Ron,
 }
 
-/// Writes the list of the rows that are saved, and a line feed. Which rows are saved: see
-/// [`is_among`].
-pub(crate) fn save_as<W: Sink>(
-    form: ListFormat,
+/// Writes the list of the rows that are saved, and a line feed.
+pub(crate) fn save_list<W: Sink>(
+    format: ListFormat,
     store: &CookieStore,
     sink: &mut W,
-    now: Option<DateTime>,
+    which: Which,
 ) -> Result<(), Error>
     requires writable { (W.state sink.old).failed < 2 ^ 64 - 1 }
-    ensures whole { OnOk result (WritesList (SerializesTo form) (filter (is_among (option_map moment_of now)) store.now.rows)
+    ensures whole { OnOk result (WritesList (SerializesTo format) (selected which store.now.rows)
         (W.state sink.old).contents (W.state sink.new).contents) }
     ensures count { OnOk result ((W.state sink.new).failed ≡ (W.state sink.old).failed) }
-    ensures stopped { IfErr result (λ error. FailsToSaveList (SerializesTo form) error
-        (filter (is_among (option_map moment_of now)) store.now.rows)
+    ensures stopped { IfErr result (λ error. FailsToSaveList (SerializesTo format) error
+        (selected which store.now.rows)
         (W.state sink.old) (W.state sink.new)) }
 {
-    let text = text_as(form, store, &now)?;
+    let text = list_text(format, store, which)?;
     write_text(sink, &text)
 }
 
 /// The list of the rows that are saved. `Saved(Moment)` if one expires before the year 0, checked
 /// before anything is allocated.
-pub(crate) fn text_as(
-    form: ListFormat,
+pub(crate) fn list_text(
+    format: ListFormat,
     store: &CookieStore,
-    now: &Option<DateTime>,
+    which: Which,
 ) -> Result<String, Error>
-    ensures { SerializesTo form (filter (is_among (option_map moment_of now.now)) store.now.rows) result }
+    ensures { SerializesTo format (selected which store.now.rows) result }
 {
-    if any_early(store, now) {
+    if any_early(store, which) {
         return Err(Error::Saved(SavedError::Moment));
     }
-    let list = saved_list(store, now)?;
-    match form {
+    let list = saved_list(store, which)?;
+    match format {
         ListFormat::Json => Ok(format_list(store.allocator(), &list)?),
         ListFormat::Ron => Ok(print_list(store.allocator(), &list)?),
     }
 }
 
 // Whether one of the rows that are saved expires before the year 0.
-fn any_early(store: &CookieStore, now: &Option<DateTime>) -> bool
-    ensures { result ≡ list_any is_early (map saved_of (filter (is_among (option_map moment_of now.now)) store.now.rows)) }
+fn any_early(store: &CookieStore, which: Which) -> bool
+    ensures { result ≡ list_any is_early (map saved_of (selected which store.now.rows)) }
 {
     for row in store.iter_any() {
-        if is_among(row, now) && expires_early(row) {
+        if which.selects(row) && expires_early(row) {
             return true;
         }
     }
@@ -88,67 +85,65 @@ fn any_early(store: &CookieStore, now: &Option<DateTime>) -> bool
 }
 
 // The saved forms of the rows that are saved.
-fn saved_list(store: &CookieStore, now: &Option<DateTime>) -> Result<Vec<Saved>, AllocError>
+fn saved_list(store: &CookieStore, which: Which) -> Result<Vec<Saved>, AllocError>
     ensures saved { IfOk result (λ list. map saved_view list.items
-        ≡ map saved_of (filter (is_among (option_map moment_of now.now)) store.now.rows)) }
-    ensures memory { OnErr result (filter (is_among (option_map moment_of now.now)) store.now.rows ≢ []) }
+        ≡ map saved_of (selected which store.now.rows)) }
+    ensures memory { OnErr result (selected which store.now.rows ≢ []) }
 {
     let alloc = store.allocator();
     let mut list = Vec::new(alloc);
     for row in store.iter_any() {
-        if is_among(row, now) {
+        if which.selects(row) {
             list.push(row.to_saved(alloc)?)?;
         }
     }
     Ok(list)
 }
 
-/// The rows of the list that the source has. Expired cookies are skipped unless `include_expired`.
-pub(crate) fn load_as<R: Source>(
-    form: ListFormat,
+/// The rows of those of the cookies that are loaded, of the list that the source has.
+pub(crate) fn load_list_rows<R: Source>(
+    format: ListFormat,
     alloc: StoreAlloc,
     source: &mut R,
-    include_expired: bool,
-    now: DateTime,
+    which: Which,
 ) -> Result<Rows, Error>
     requires readable { (R.state source.old).failed < 2 ^ 64 - 1 }
-    ensures built { IfOk result (λ rows. BuildsFromList (ParsesTo form) (R.state source.old).remaining include_expired (moment_of now) rows) }
+    ensures built { IfOk result (λ rows. BuildsFromList (ParsesTo format) (R.state source.old).remaining which rows) }
     ensures read { OnOk result (IsAtEnd (R.state source.new).remaining × ((R.state source.new).failed ≡ (R.state source.old).failed)) }
-    ensures failed { IfErr result (λ error. FailsToLoadList (ParsesTo form) error
+    ensures failed { IfErr result (λ error. FailsToLoadList (ParsesTo format) error
         (R.state source.old) (R.state source.new)) }
     ensures reads { ReadsEachOnce (R.state source.old) (R.state source.new) }
 {
     let bytes = read_bytes(alloc.alloc, source)?;
     match str::from_utf8(&bytes) {
-        Ok(text) => parse_as(form, alloc, text, include_expired, now),
+        Ok(text) => list_rows(format, alloc, text, which),
         Err(_) => Err(Error::NotUtf8),
     }
 }
 
-/// The rows of the list that `text` is. Expired cookies are skipped unless `include_expired`.
-pub(crate) fn parse_as(
-    form: ListFormat,
+/// The rows of those of the cookies that are loaded, of the list that `text` is.
+pub(crate) fn list_rows(
+    format: ListFormat,
     alloc: StoreAlloc,
     text: &str,
-    include_expired: bool,
-    now: DateTime,
+    which: Which,
 ) -> Result<Rows, Error>
-    ensures built { IfOk result (λ rows. BuildsFromText (ParsesTo form) text.now include_expired (moment_of now) rows) }
-    ensures failed { IfErr result (λ error. FailsAtText (ParsesTo form) error text.now) }
+    ensures built { IfOk result (λ rows. BuildsFromText (ParsesTo format) text.now which rows) }
+    ensures failed { IfErr result (λ error. FailsAtText (ParsesTo format) error text.now) }
 {
-    let cookies = cookies_of_text(form, alloc.alloc, text)?;
-    rows_of(alloc, cookies, include_expired, now)
+    let cookies = cookies_of_text(format, alloc.alloc, text)?;
+    rows_of(alloc, cookies, which)
 }
 
 // The cookies of a list in this format.
 fn cookies_of_text(
-    form: ListFormat,
+    format: ListFormat,
     alloc: Global,
     text: &str,
 ) -> Result<Vec<Cookie<'static>>, Error>
-    ensures { ParsesTo form text.now (result_map_both (λ cookies. cookies.items) (λ error. error) result) }
+    ensures { ParsesTo format text.now (result_map_both (λ cookies. cookies.items) (λ error. error) result) }
 {
-    match form {
+    match format {
         ListFormat::Json => cookies_of_json(alloc, text),
         ListFormat::Ron => cookies_of_ron(alloc, text),
     }

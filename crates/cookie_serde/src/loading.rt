@@ -2,14 +2,13 @@
 ghost use Rattle.std.specs.Prelude.{◌≡◌, ◌-◌, ◌^◌, ◌<◌, IfErr, IfOk, OnErr, OnOk};
 ghost use Rattle.std.specs.Fn.{FnReturnsAt};
 ghost use Rattle.std.specs.Io.KnownBytes.{IsAtEnd};
-ghost use Rattle.cookie_words.specs.Moments.{moment_of};
 ghost use Rattle.cookie_serde.specs.LoadError.{StopsLoading};
 ghost use Rattle.cookie_serde.specs.Loading.{BuildsFrom, FailsAtLine, FailsToLoad, ParsesToCookie, ReadsEachOnce, RejectsLine, InsertsLine};
 
+use crate::which::{Which, take};
 use cookie_device::{FillError, LineBuffer, Source};
 use cookie_parts::{Cookie, Error};
 use cookie_rows::{Rows, StoreAlloc};
-use jiff::civil::DateTime;
 use std::alloc::Global;
 
 /// Why loading rows from lines failed.
@@ -46,25 +45,23 @@ impl From<LoadError> for Error {
     }
 }
 
-/// The rows of the cookies that `cookie_of` returns for the source's lines. Expired cookies are
-/// skipped unless `include_expired`.
+/// The rows of those of the cookies that are loaded, which `cookie_of` returns for the source's lines.
 pub(crate) fn load_rows<R: Source, F: Fn(&str) -> Result<Cookie<'_>, Error>>(
     alloc: StoreAlloc,
     source: &mut R,
     cookie_of: F,
-    include_expired: bool,
-    now: DateTime,
+    which: Which,
 ) -> Result<Rows, Error>
     requires callable { F.IsAlwaysCallable cookie_of }
     requires readable { (R.state source.old).failed < 2 ^ 64 - 1 }
     ensures built { IfOk result (λ rows. BuildsFrom (FnReturnsAt F.Fn cookie_of) (R.state source.old).remaining
-        include_expired (moment_of now) rows) }
+        which rows) }
     ensures read { OnOk result (IsAtEnd (R.state source.new).remaining × ((R.state source.new).failed ≡ (R.state source.old).failed)) }
     ensures failed { IfErr result (λ error. FailsToLoad (FnReturnsAt F.Fn cookie_of) error
         (R.state source.old) (R.state source.new)) }
     ensures reads { ReadsEachOnce (R.state source.old) (R.state source.new) }
 {
-    Ok(numbered_rows(alloc, source, cookie_of, include_expired, now)?)
+    Ok(numbered_rows(alloc, source, cookie_of, which)?)
 }
 
 /// As [`load_rows`], with the number of the line in the error.
@@ -72,13 +69,12 @@ pub(crate) fn numbered_rows<R: Source, F: Fn(&str) -> Result<Cookie<'_>, Error>>
     alloc: StoreAlloc,
     source: &mut R,
     cookie_of: F,
-    include_expired: bool,
-    now: DateTime,
+    which: Which,
 ) -> Result<Rows, LoadError>
     requires callable { F.IsAlwaysCallable cookie_of }
     requires readable { (R.state source.old).failed < 2 ^ 64 - 1 }
     ensures built { IfOk result (λ rows. BuildsFrom (FnReturnsAt F.Fn cookie_of) (R.state source.old).remaining
-        include_expired (moment_of now) rows) }
+        which rows) }
     ensures read { OnOk result (IsAtEnd (R.state source.new).remaining × ((R.state source.new).failed ≡ (R.state source.old).failed)) }
     ensures failed { IfErr result (λ fault. StopsLoading (FnReturnsAt F.Fn cookie_of) fault
         (R.state source.old) (R.state source.new)) }
@@ -91,15 +87,7 @@ pub(crate) fn numbered_rows<R: Source, F: Fn(&str) -> Result<Cookie<'_>, Error>>
     'lines: loop {
         if let Some(end) = input.line_end() {
             let line = input.line(end);
-            insert_numbered(
-                &mut rows,
-                alloc.alloc,
-                line,
-                number,
-                &cookie_of,
-                include_expired,
-                now,
-            )?;
+            insert_numbered(&mut rows, alloc.alloc, line, number, &cookie_of, which)?;
             input.pass(end + 1);
             number = number.saturating_add(1);
         } else if !input.fill(source)? {
@@ -108,15 +96,7 @@ pub(crate) fn numbered_rows<R: Source, F: Fn(&str) -> Result<Cookie<'_>, Error>>
     }
     let line = input.rest();
     if !line.is_empty() {
-        insert_numbered(
-            &mut rows,
-            alloc.alloc,
-            line,
-            number,
-            &cookie_of,
-            include_expired,
-            now,
-        )?;
+        insert_numbered(&mut rows, alloc.alloc, line, number, &cookie_of, which)?;
     }
     Ok(rows)
 }
@@ -128,33 +108,31 @@ fn insert_numbered<F: Fn(&str) -> Result<Cookie<'_>, Error>>(
     line: &[u8],
     number: u64,
     cookie_of: &F,
-    include_expired: bool,
-    now: DateTime,
+    which: Which,
 ) -> Result<(), LoadError>
     requires callable { F.IsAlwaysCallable cookie_of.now }
-    ensures taken { OnOk result (InsertsLine (FnReturnsAt F.Fn cookie_of.now) line.now include_expired (moment_of now)
+    ensures taken { OnOk result (InsertsLine (FnReturnsAt F.Fn cookie_of.now) line.now which
         rows.old rows.new) }
     ensures failed { IfErr result (λ fault. (error : Error) × (fault ≡ LoadError.Line number error)
         × FailsAtLine (FnReturnsAt F.Fn cookie_of.now) error line.now) }
 {
-    match insert_line(rows, alloc, line, cookie_of, include_expired, now) {
+    match insert_line(rows, alloc, line, cookie_of, which) {
         Ok(()) => Ok(()),
         Err(error) => Err(LoadError::Line(number, error)),
     }
 }
 
-// Inserts the cookie that `cookie_of` returns for the line. If it has expired, it is skipped unless
-// `include_expired`. On any error the rows are unchanged.
+// Inserts the cookie that `cookie_of` returns for the line, if it is one of those that are loaded. On
+// any error the rows are unchanged.
 fn insert_line<F: Fn(&str) -> Result<Cookie<'_>, Error>>(
     rows: &mut Rows,
     alloc: Global,
     line: &[u8],
     cookie_of: &F,
-    include_expired: bool,
-    now: DateTime,
+    which: Which,
 ) -> Result<(), Error>
     requires callable { F.IsAlwaysCallable cookie_of.now }
-    ensures taken { OnOk result (InsertsLine (FnReturnsAt F.Fn cookie_of.now) line.now include_expired (moment_of now)
+    ensures taken { OnOk result (InsertsLine (FnReturnsAt F.Fn cookie_of.now) line.now which
         rows.old rows.new) }
     ensures failed { IfErr result (λ error. FailsAtLine (FnReturnsAt F.Fn cookie_of.now) error line.now) }
     ensures unchanged { OnErr result (rows.new ≡ rows.old) }
@@ -163,7 +141,7 @@ fn insert_line<F: Fn(&str) -> Result<Cookie<'_>, Error>>(
     let Ok(cookie) = cookie.into_owned(alloc) else {
         return Err(Error::Memory);
     };
-    match rows.take(cookie, include_expired, now) {
+    match take(rows, cookie, &which) {
         Ok(()) => Ok(()),
         Err(_) => Err(Error::Memory),
     }

@@ -9,11 +9,11 @@ ghost use Rattle.cookie_serde.specs.Migration.{line_number_text, FailsToMigrate,
 
 use crate::json_lines::numbered_json_rows;
 use crate::loading::LoadError;
+use crate::which::Which;
 use cookie_core::CookieStore;
 use cookie_device::{FillError, Source};
 use cookie_parts::Error;
 use cookie_rows::StoreAlloc;
-use cookie_words::epoch;
 use itoa::Buffer;
 use std::fmt;
 
@@ -109,8 +109,7 @@ pub fn migrate_lines<A: Into<StoreAlloc>, R: Source>(
         (R.state reader.old) (R.state reader.new)) }
     ensures reads { ReadsEachOnce (R.state reader.old) (R.state reader.new) }
 {
-    // All cookies are loaded, so this time is not used.
     let alloc = alloc.into();
-    let rows = numbered_json_rows(alloc, reader, true, epoch())?;
+    let rows = numbered_json_rows(alloc, reader, Which::All)?;
     Ok(CookieStore::from_rows(alloc.alloc, rows))
 }

@@ -4,7 +4,7 @@
 //! A line has no SameSite and no other attribute, no fraction of a second in the expiry, and not
 //! whether a Path attribute set the path: a loaded cookie has a path as if one had. Its domain is in
 //! lower case. [`netscape::laws`](cookie_netscape::laws) states what reads back.
-ghost use Rattle.std.specs.Prelude.{◌≡◌, ◌+◌, ◌-◌, ◌^◌, ◌<◌, ◌⊎◌, IsTrue, false, true, None, filter, option_map, IfErr, IfOk, OnErr, OnOk, string_bytes};
+ghost use Rattle.std.specs.Prelude.{◌≡◌, ◌+◌, ◌-◌, ◌^◌, ◌<◌, ◌⊎◌, IsTrue, None, filter, IfErr, IfOk, OnErr, OnOk, string_bytes};
 ghost use Rattle.std.specs.Io.KnownBytes.{Appends, IsAtEnd};
 ghost use Rattle.std.specs.List.{list_all};
 ghost use Rattle.cookie_words.specs.Moments.{moment_of};
@@ -14,9 +14,10 @@ ghost use Rattle.cookie_netscape.specs.Written.{is_representable, written_text};
 ghost use Rattle.cookie_laws.specs.Contents.{rows_in_order};
 ghost use Rattle.cookie_serde.specs.Loading.{ReadsEachOnce};
 ghost use Rattle.cookie_serde.specs.NetscapeLists.{BuildsFromNetscape, BuildsWellFormed, FailsToLoadNetscape, FailsToLoadWellFormed, FailsToReadFile, FailsToSaveNetscape, HasCookieOrMalformed, IsFile, LoadsNetscape, LoadsWellFormed, SerializesToNetscape, WritesNetscape, unrepresentable_count};
-ghost use Rattle.cookie_serde.specs.Saving.{is_among, line_text, saved_rows, selected_rows};
+ghost use Rattle.cookie_serde.specs.Saving.{line_text, saved_rows};
+ghost use Rattle.cookie_serde.specs.Selections.{selected};
 
-use crate::saving::is_among;
+use crate::which::{Which, take};
 use crate::whole_text::{read_bytes, write_text};
 use cookie_core::CookieStore;
 use cookie_device::{Sink, Source};
@@ -68,7 +69,7 @@ pub fn save<W: Sink>(
     ensures stopped { IfErr result (λ error. FailsToSaveNetscape error (saved_rows (moment_of now) store.now.rows)
         (W.state writer.old) (W.state writer.new)) }
 {
-    save_among(store, writer, Some(now))
+    save_among(store, writer, Which::Persistent(now))
 }
 
 /// Writes all cookies as a `cookies.txt` file, expired cookies and session cookies included.
@@ -83,14 +84,13 @@ pub fn save_incl_expired_and_nonpersistent<W: Sink>(
     ensures count { OnOk result ((W.state writer.new).failed ≡ (W.state writer.old).failed) }
     ensures stopped { IfErr result (λ error. FailsToSaveNetscape error store.now.rows (W.state writer.old) (W.state writer.new)) }
 {
-    save_among(store, writer, None)
+    save_among(store, writer, Which::All)
 }
 
-/// Writes the cookies that the format can represent as a `cookies.txt` file, in the store's order,
-/// and returns the number of the others.
+/// Writes those of the cookies that the format can represent as a `cookies.txt` file, in the store's
+/// order, and returns the number of the others.
 ///
-/// With `all`, expired cookies and session cookies are saved too; otherwise the unexpired persistent
-/// cookies alone. The first line is that of [`save`].
+/// The first line is that of [`save`].
 ///
 /// # Errors
 ///
@@ -100,18 +100,17 @@ pub fn save_incl_expired_and_nonpersistent<W: Sink>(
 pub fn save_representable<W: Sink>(
     store: &CookieStore,
     writer: &mut W,
-    all: bool,
-    now: DateTime,
+    which: Which,
 ) -> Result<usize, NetscapeError>
     requires writable { (W.state writer.old).failed < 2 ^ 64 - 1 }
-    ensures whole { OnOk result (WritesNetscape (filter is_representable (selected_rows all (moment_of now) store.now.rows))
+    ensures whole { OnOk result (WritesNetscape (filter is_representable (selected which store.now.rows))
         (W.state writer.old).contents (W.state writer.new).contents) }
-    ensures left_out { IfOk result (λ left_out. left_out ≡ unrepresentable_count (selected_rows all (moment_of now) store.now.rows)) }
+    ensures left_out { IfOk result (λ left_out. left_out ≡ unrepresentable_count (selected which store.now.rows)) }
     ensures count { OnOk result ((W.state writer.new).failed ≡ (W.state writer.old).failed) }
-    ensures stopped { IfErr result (λ error. FailsToSaveNetscape error (filter is_representable (selected_rows all (moment_of now) store.now.rows))
+    ensures stopped { IfErr result (λ error. FailsToSaveNetscape error (filter is_representable (selected which store.now.rows))
         (W.state writer.old) (W.state writer.new)) }
 {
-    let file = to_text_representable(store, all, now)?;
+    let file = to_text_representable(store, which)?;
     write_file(writer, &file.text)?;
     Ok(file.left_out)
 }
@@ -136,7 +135,7 @@ pub fn load<A: Into<StoreAlloc>, R: Source>(
     now: DateTime,
 ) -> Result<CookieStore, NetscapeError>
     requires readable { (R.state reader.old).failed < 2 ^ 64 - 1 }
-    ensures built { IfOk result (λ store. LoadsNetscape (R.state reader.old).remaining false (moment_of now) (rows_in_order store)) }
+    ensures built { IfOk result (λ store. LoadsNetscape (R.state reader.old).remaining (Which.Unexpired now) (rows_in_order store)) }
     ensures suffixes { IfOk result (λ store. store.suffixes ≡ None) }
     ensures limit { IfOk result (λ store. store.limit ≡ None) }
     ensures read { OnOk result (IsAtEnd (R.state reader.new).remaining × ((R.state reader.new).failed ≡ (R.state reader.old).failed)) }
@@ -144,20 +143,20 @@ pub fn load<A: Into<StoreAlloc>, R: Source>(
     ensures reads { ReadsEachOnce (R.state reader.old) (R.state reader.new) }
 {
     let alloc = alloc.into();
-    let rows = load_rows(alloc, reader, false, now)?;
+    let rows = load_rows(alloc, reader, Which::Unexpired(now))?;
     Ok(CookieStore::from_rows(alloc.alloc, rows))
 }
 
-/// Loads a store from a `cookies.txt` file, expired cookies included.
+/// Loads a store from a `cookies.txt` file, expired cookies included; `now` is not used.
 ///
-/// Otherwise as [`load`]. `now` is not used.
+/// Otherwise as [`load`].
 pub fn load_all<A: Into<StoreAlloc>, R: Source>(
     alloc: A,
     reader: &mut R,
     now: DateTime,
 ) -> Result<CookieStore, NetscapeError>
     requires readable { (R.state reader.old).failed < 2 ^ 64 - 1 }
-    ensures built { IfOk result (λ store. LoadsNetscape (R.state reader.old).remaining true (moment_of now) (rows_in_order store)) }
+    ensures built { IfOk result (λ store. LoadsNetscape (R.state reader.old).remaining Which.All (rows_in_order store)) }
     ensures suffixes { IfOk result (λ store. store.suffixes ≡ None) }
     ensures limit { IfOk result (λ store. store.limit ≡ None) }
     ensures read { OnOk result (IsAtEnd (R.state reader.new).remaining × ((R.state reader.new).failed ≡ (R.state reader.old).failed)) }
@@ -165,15 +164,14 @@ pub fn load_all<A: Into<StoreAlloc>, R: Source>(
     ensures reads { ReadsEachOnce (R.state reader.old) (R.state reader.new) }
 {
     let alloc = alloc.into();
-    let rows = load_rows(alloc, reader, true, now)?;
+    let rows = load_rows(alloc, reader, Which::All)?;
     Ok(CookieStore::from_rows(alloc.alloc, rows))
 }
 
 /// Loads a store from the well-formed lines of a `cookies.txt` file, and returns the numbers of the
 /// malformed ones.
 ///
-/// Expired cookies are skipped unless `include_expired`. The lines and the store are otherwise those
-/// of [`load`].
+/// The lines and the store are otherwise those of [`load`].
 ///
 /// # Errors
 ///
@@ -185,11 +183,10 @@ pub fn load_all<A: Into<StoreAlloc>, R: Source>(
 pub fn load_well_formed<A: Into<StoreAlloc>, R: Source>(
     alloc: A,
     reader: &mut R,
-    include_expired: bool,
-    now: DateTime,
+    which: Which,
 ) -> Result<WellFormed, NetscapeError>
     requires readable { (R.state reader.old).failed < 2 ^ 64 - 1 }
-    ensures built { IfOk result (λ loaded. LoadsWellFormed (R.state reader.old).remaining include_expired (moment_of now)
+    ensures built { IfOk result (λ loaded. LoadsWellFormed (R.state reader.old).remaining which
         (rows_in_order loaded.store) loaded.malformed.items) }
     ensures suffixes { IfOk result (λ loaded. loaded.store.suffixes ≡ None) }
     ensures limit { IfOk result (λ loaded. loaded.store.limit ≡ None) }
@@ -199,7 +196,7 @@ pub fn load_well_formed<A: Into<StoreAlloc>, R: Source>(
 {
     let alloc = alloc.into();
     let text = read_file(alloc.alloc, reader)?;
-    Ok(well_formed(alloc, &text, include_expired, now)?)
+    Ok(well_formed(alloc, &text, which)?)
 }
 
 /// Formats the unexpired persistent cookies as a `cookies.txt` file, in the store's order.
@@ -214,7 +211,7 @@ pub fn load_well_formed<A: Into<StoreAlloc>, R: Source>(
 pub fn to_text(store: &CookieStore, now: DateTime) -> Result<String, NetscapeError>
     ensures { SerializesToNetscape (saved_rows (moment_of now) store.now.rows) result }
 {
-    text_among(store, &Some(now))
+    text_among(store, Which::Persistent(now))
 }
 
 /// Formats all cookies as a `cookies.txt` file, expired cookies and session cookies included.
@@ -223,32 +220,36 @@ pub fn to_text(store: &CookieStore, now: DateTime) -> Result<String, NetscapeErr
 pub fn to_text_incl_expired_and_nonpersistent(store: &CookieStore) -> Result<String, NetscapeError>
     ensures { SerializesToNetscape store.now.rows result }
 {
-    text_among(store, &None)
+    text_among(store, Which::All)
 }
 
-/// Formats the cookies that the format can represent as a `cookies.txt` file, in the store's order,
-/// and counts the others.
+/// Formats those of the cookies that the format can represent as a `cookies.txt` file, in the store's
+/// order, and counts the others.
 ///
-/// With `all`, expired cookies and session cookies are saved too; otherwise the unexpired persistent
-/// cookies alone. It is the file that [`save_representable`] writes, without the line feed at its end.
+/// It is the file that [`save_representable`] writes, without the line feed at its end.
 ///
 /// # Errors
 ///
 /// `AllocError`: out of memory.
-pub fn to_text_representable(
-    store: &CookieStore,
-    all: bool,
-    now: DateTime,
-) -> Result<Representable, AllocError>
+pub fn to_text_representable(store: &CookieStore, which: Which) -> Result<Representable, AllocError>
     ensures text { IfOk result (λ file. string_bytes file.text
-        ≡ written_text (filter is_representable (selected_rows all (moment_of now) store.now.rows))) }
-    ensures left_out { IfOk result (λ file. file.left_out ≡ unrepresentable_count (selected_rows all (moment_of now) store.now.rows)) }
+        ≡ written_text (filter is_representable (selected which store.now.rows))) }
+    ensures left_out { IfOk result (λ file. file.left_out ≡ unrepresentable_count (selected which store.now.rows)) }
 {
-    if all {
-        representable_among(store, &None)
-    } else {
-        representable_among(store, &Some(now))
+    let mut text = new_text(store.allocator())?;
+    let mut left_out: usize = 0;
+    for row in store.iter_any() {
+        if !which.selects(row) {
+            continue;
+        }
+        if is_representable(row) {
+            push_cookie(&mut text, row)?;
+        } else {
+            // for the checker: no store has as many rows as do not fit
+            left_out = left_out.checked_add(1).ok_or(AllocError)?;
+        }
     }
+    Ok(Representable { text, left_out })
 }
 
 /// Parses a `cookies.txt` file into a store, skipping expired cookies.
@@ -265,31 +266,31 @@ pub fn from_text<A: Into<StoreAlloc>>(
     text: &str,
     now: DateTime,
 ) -> Result<CookieStore, NetscapeError>
-    ensures built { IfOk result (λ store. BuildsFromNetscape text.now false (moment_of now) (rows_in_order store)) }
+    ensures built { IfOk result (λ store. BuildsFromNetscape text.now (Which.Unexpired now) (rows_in_order store)) }
     ensures suffixes { IfOk result (λ store. store.suffixes ≡ None) }
     ensures limit { IfOk result (λ store. store.limit ≡ None) }
     ensures failed { IfErr result (λ error. FailsToRead error text.now) }
 {
     let alloc = alloc.into();
-    let rows = rows_of_text(alloc, text, false, now)?;
+    let rows = rows_of_text(alloc, text, Which::Unexpired(now))?;
     Ok(CookieStore::from_rows(alloc.alloc, rows))
 }
 
-/// Parses a `cookies.txt` file into a store, expired cookies included.
+/// Parses a `cookies.txt` file into a store, expired cookies included; `now` is not used.
 ///
-/// Otherwise as [`from_text`]. `now` is not used.
+/// Otherwise as [`from_text`].
 pub fn from_text_all<A: Into<StoreAlloc>>(
     alloc: A,
     text: &str,
     now: DateTime,
 ) -> Result<CookieStore, NetscapeError>
-    ensures built { IfOk result (λ store. BuildsFromNetscape text.now true (moment_of now) (rows_in_order store)) }
+    ensures built { IfOk result (λ store. BuildsFromNetscape text.now Which.All (rows_in_order store)) }
     ensures suffixes { IfOk result (λ store. store.suffixes ≡ None) }
     ensures limit { IfOk result (λ store. store.limit ≡ None) }
     ensures failed { IfErr result (λ error. FailsToRead error text.now) }
 {
     let alloc = alloc.into();
-    let rows = rows_of_text(alloc, text, true, now)?;
+    let rows = rows_of_text(alloc, text, Which::All)?;
     Ok(CookieStore::from_rows(alloc.alloc, rows))
 }
 
@@ -305,32 +306,31 @@ pub fn from_text_all<A: Into<StoreAlloc>>(
 pub fn from_text_well_formed<A: Into<StoreAlloc>>(
     alloc: A,
     text: &str,
-    include_expired: bool,
-    now: DateTime,
+    which: Which,
 ) -> Result<WellFormed, AllocError>
-    ensures built { IfOk result (λ loaded. BuildsWellFormed text.now include_expired (moment_of now)
+    ensures built { IfOk result (λ loaded. BuildsWellFormed text.now which
         (rows_in_order loaded.store) loaded.malformed.items) }
     ensures suffixes { IfOk result (λ loaded. loaded.store.suffixes ≡ None) }
     ensures limit { IfOk result (λ loaded. loaded.store.limit ≡ None) }
     ensures memory { OnErr result (HasCookieOrMalformed text.now) }
 {
-    well_formed(alloc.into(), text, include_expired, now)
+    well_formed(alloc.into(), text, which)
 }
 
-// Writes the rows that are saved. Which these are: see [`is_among`].
-fn save_among<W: Sink>(
+/// Writes the rows that are saved.
+pub(crate) fn save_among<W: Sink>(
     store: &CookieStore,
     sink: &mut W,
-    now: Option<DateTime>,
+    which: Which,
 ) -> Result<(), NetscapeError>
     requires writable { (W.state sink.old).failed < 2 ^ 64 - 1 }
-    ensures whole { OnOk result (WritesNetscape (filter (is_among (option_map moment_of now)) store.now.rows)
+    ensures whole { OnOk result (WritesNetscape (selected which store.now.rows)
         (W.state sink.old).contents (W.state sink.new).contents) }
     ensures count { OnOk result ((W.state sink.new).failed ≡ (W.state sink.old).failed) }
     ensures stopped { IfErr result (λ error. FailsToSaveNetscape error
-        (filter (is_among (option_map moment_of now)) store.now.rows) (W.state sink.old) (W.state sink.new)) }
+        (selected which store.now.rows) (W.state sink.old) (W.state sink.new)) }
 {
-    let text = text_among(store, &now)?;
+    let text = text_among(store, which)?;
     write_file(sink, &text)
 }
 
@@ -348,70 +348,42 @@ fn write_file<W: Sink>(sink: &mut W, text: &String) -> Result<(), NetscapeError>
     }
 }
 
-// The file of the rows that are saved, without the line feed at its end.
-fn text_among(store: &CookieStore, now: &Option<DateTime>) -> Result<String, NetscapeError>
-    ensures { SerializesToNetscape (filter (is_among (option_map moment_of now.now)) store.now.rows) result }
+/// The file of the rows that are saved, without the line feed at its end.
+pub(crate) fn text_among(store: &CookieStore, which: Which) -> Result<String, NetscapeError>
+    ensures { SerializesToNetscape (selected which store.now.rows) result }
 {
-    if !are_representable(store, now) {
+    if !are_representable(store, which) {
         return Err(NetscapeError::Unrepresentable);
     }
-    Ok(representable_among(store, now)?.text)
+    Ok(to_text_representable(store, which)?.text)
 }
 
 // Whether the format can represent all rows that are saved.
-fn are_representable(store: &CookieStore, now: &Option<DateTime>) -> bool
-    ensures { result ≡ list_all is_representable (filter (is_among (option_map moment_of now.now)) store.now.rows) }
+fn are_representable(store: &CookieStore, which: Which) -> bool
+    ensures { result ≡ list_all is_representable (selected which store.now.rows) }
 {
     for row in store.iter_any() {
-        if is_among(row, now) && !is_representable(row) {
+        if which.selects(row) && !is_representable(row) {
             return false;
         }
     }
     true
 }
 
-// The file of the rows that are saved, without those that the format cannot represent, and the
-// number of these.
-fn representable_among(
-    store: &CookieStore,
-    now: &Option<DateTime>,
-) -> Result<Representable, AllocError>
-    ensures text { IfOk result (λ file. string_bytes file.text
-        ≡ written_text (filter is_representable (filter (is_among (option_map moment_of now.now)) store.now.rows))) }
-    ensures left_out { IfOk result (λ file. file.left_out
-        ≡ unrepresentable_count (filter (is_among (option_map moment_of now.now)) store.now.rows)) }
-{
-    let mut text = new_text(store.allocator())?;
-    let mut left_out: usize = 0;
-    for row in store.iter_any() {
-        if !is_among(row, now) {
-            continue;
-        }
-        if is_representable(row) {
-            push_cookie(&mut text, row)?;
-        } else {
-            // for the checker: no store has as many rows as do not fit
-            left_out = left_out.checked_add(1).ok_or(AllocError)?;
-        }
-    }
-    Ok(Representable { text, left_out })
-}
-
-// The rows of the file that the source has. Expired cookies are skipped unless `include_expired`.
-fn load_rows<R: Source>(
+/// The rows of those of the cookies that are loaded, of the file that the source has.
+pub(crate) fn load_rows<R: Source>(
     alloc: StoreAlloc,
     source: &mut R,
-    include_expired: bool,
-    now: DateTime,
+    which: Which,
 ) -> Result<Rows, NetscapeError>
     requires readable { (R.state source.old).failed < 2 ^ 64 - 1 }
-    ensures built { IfOk result (λ rows. LoadsNetscape (R.state source.old).remaining include_expired (moment_of now) rows) }
+    ensures built { IfOk result (λ rows. LoadsNetscape (R.state source.old).remaining which rows) }
     ensures read { OnOk result (IsAtEnd (R.state source.new).remaining × ((R.state source.new).failed ≡ (R.state source.old).failed)) }
     ensures failed { IfErr result (λ error. FailsToLoadNetscape error (R.state source.old) (R.state source.new)) }
     ensures reads { ReadsEachOnce (R.state source.old) (R.state source.new) }
 {
     let text = read_file(alloc.alloc, source)?;
-    rows_of_text(alloc, &text, include_expired, now)
+    rows_of_text(alloc, &text, which)
 }
 
 // The file that the source has.
@@ -433,14 +405,13 @@ fn read_file<R: Source>(alloc: Global, source: &mut R) -> Result<String, Netscap
     }
 }
 
-// The rows of the file that `text` is. Expired cookies are skipped unless `include_expired`.
-fn rows_of_text(
+/// The rows of those of the cookies that are loaded, of the file that `text` is.
+pub(crate) fn rows_of_text(
     alloc: StoreAlloc,
     text: &str,
-    include_expired: bool,
-    now: DateTime,
+    which: Which,
 ) -> Result<Rows, NetscapeError>
-    ensures built { IfOk result (λ rows. BuildsFromNetscape text.now include_expired (moment_of now) rows) }
+    ensures built { IfOk result (λ rows. BuildsFromNetscape text.now which rows) }
     ensures failed { IfErr result (λ error. FailsToRead error text.now) }
 {
     // for the checker: the file may be read line by line
@@ -448,21 +419,16 @@ fn rows_of_text(
     let mut rows = Rows::new(alloc);
     for (index, line) in text.lines().enumerate() {
         if let Some(cookie) = read_cookie(alloc.alloc, line, index + 1)? {
-            rows.take(cookie, include_expired, now)?;
+            take(&mut rows, cookie, &which)?;
         }
     }
     Ok(rows)
 }
 
-// The store of the well-formed lines of the file that `text` is, and the numbers of the malformed
-// ones. Expired cookies are skipped unless `include_expired`.
-fn well_formed(
-    alloc: StoreAlloc,
-    text: &str,
-    include_expired: bool,
-    now: DateTime,
-) -> Result<WellFormed, AllocError>
-    ensures built { IfOk result (λ loaded. BuildsWellFormed text.now include_expired (moment_of now)
+// The store of those of the cookies that are loaded, of the well-formed lines of the file that
+// `text` is, and the numbers of the malformed ones.
+fn well_formed(alloc: StoreAlloc, text: &str, which: Which) -> Result<WellFormed, AllocError>
+    ensures built { IfOk result (λ loaded. BuildsWellFormed text.now which
         (rows_in_order loaded.store) loaded.malformed.items) }
     ensures suffixes { IfOk result (λ loaded. loaded.store.suffixes ≡ None) }
     ensures limit { IfOk result (λ loaded. loaded.store.limit ≡ None) }
@@ -472,7 +438,7 @@ fn well_formed(
     let mut malformed = Vec::new(alloc.alloc);
     for (index, line) in text.lines().enumerate() {
         match read_cookie(alloc.alloc, line, index + 1) {
-            Ok(Some(cookie)) => rows.take(cookie, include_expired, now)?,
+            Ok(Some(cookie)) => take(&mut rows, cookie, &which)?,
             Ok(None) => {}
             Err(NetscapeError::BadLine { line: number }) => malformed.push(number)?,
             Err(_) => return Err(AllocError),

@@ -1,48 +1,37 @@
 //! Saving rows as lines.
-ghost use Rattle.std.specs.Prelude.{◌≡◌, ◌-◌, ◌+◌, ◌^◌, ◌<◌, ◌⊎◌, Err, filter, option_map, IfErr, OnOk};
+ghost use Rattle.std.specs.Prelude.{◌≡◌, ◌-◌, ◌+◌, ◌^◌, ◌<◌, ◌⊎◌, Err, IfErr, OnOk};
 ghost use Rattle.std.specs.Fn.{FnReturnsAt};
 ghost use Rattle.std.specs.Io.KnownBytes.{Keeps};
-ghost use Rattle.cookie_words.specs.Moments.{moment_of};
-ghost use Rattle.cookie_serde.specs.Saving.{is_among, BeginsRow, FailsToSave, WritesRow, WritesRows};
+ghost use Rattle.cookie_serde.specs.Saving.{BeginsRow, FailsToSave, WritesRow, WritesRows};
+ghost use Rattle.cookie_serde.specs.Selections.{selected};
 
+use crate::which::Which;
 use cookie_core::CookieStore;
 use cookie_device::{Sink, write_line};
 use cookie_parts::{Cookie, Error};
-use jiff::civil::DateTime;
 
 /// Writes the string that `text_of` returns for each row that is saved, and a line feed.
 pub(crate) fn save_rows<W: Sink, F: Fn(&Cookie<'_>) -> Result<String, Error>>(
     store: &CookieStore,
     sink: &mut W,
     text_of: F,
-    now: Option<DateTime>,
+    which: Which,
 ) -> Result<(), Error>
     requires callable { F.IsAlwaysCallable text_of }
     requires writable { (W.state sink.old).failed < 2 ^ 64 - 1 }
-    ensures whole { OnOk result (WritesRows (FnReturnsAt F.Fn text_of) (filter (is_among (option_map moment_of now)) store.now.rows)
+    ensures whole { OnOk result (WritesRows (FnReturnsAt F.Fn text_of) (selected which store.now.rows)
         (W.state sink.old).contents (W.state sink.new).contents) }
     ensures count { OnOk result ((W.state sink.new).failed ≡ (W.state sink.old).failed) }
     ensures stopped { IfErr result (λ error. FailsToSave (FnReturnsAt F.Fn text_of) error
-        (filter (is_among (option_map moment_of now)) store.now.rows)
+        (selected which store.now.rows)
         (W.state sink.old) (W.state sink.new)) }
 {
     for row in store.iter_any() {
-        if is_among(row, &now) {
+        if which.selects(row) {
             save_row(row, sink, &text_of)?;
         }
     }
     Ok(())
-}
-
-/// Whether a row is saved: it is unexpired and persistent at `now`; every row is if `now` is
-/// `None`.
-pub(crate) fn is_among(row: &Cookie<'static>, now: &Option<DateTime>) -> bool
-    ensures { result ≡ is_among (option_map moment_of now.now) row.now }
-{
-    match now {
-        Some(now) => !row.is_expired(*now) && row.is_persistent(),
-        None => true,
-    }
 }
 
 // Writes the string that `text_of` returns for the row, and a line feed.

@@ -1,17 +1,16 @@
 //! A list as one string: reading and writing it, and the rows of its cookies.
 ghost use Rattle.std.specs.Prelude.{◌≡◌, ◌≢◌, ◌⊎◌, ◌+◌, ◌-◌, ◌^◌, ◌<◌, [], IfErr, IfOk, IfSome, OnOk};
 ghost use Rattle.std.specs.Io.KnownBytes.{Appends, IsAtEnd};
-ghost use Rattle.cookie_words.specs.Moments.{moment_of};
 ghost use Rattle.cookie_device.specs.Device.{AppendsPrefix};
-ghost use Rattle.cookie_laws.specs.Rows.{built};
 ghost use Rattle.cookie_serde.specs.Lists.{IsAll, StopsWithin};
 ghost use Rattle.cookie_serde.specs.Loading.{ReadsEachOnce};
 ghost use Rattle.cookie_serde.specs.Saving.{line_text};
+ghost use Rattle.cookie_serde.specs.Selections.{built_from};
 
+use crate::which::{Which, take};
 use cookie_device::{FillError, Sink, Source, read_all, write_line};
 use cookie_parts::{Cookie, Error};
 use cookie_rows::{Rows, StoreAlloc};
-use jiff::civil::DateTime;
 use std::alloc::Global;
 
 /// Writes the string and a line feed.
@@ -47,22 +46,21 @@ pub(crate) fn read_bytes<R: Source>(alloc: Global, source: &mut R) -> Result<Vec
     }
 }
 
-/// The rows of the cookies, inserted in order. Expired cookies are skipped unless
-/// `include_expired`. Allocates only if there are cookies.
+/// The rows of those of the cookies that are loaded, inserted in order. Allocates only if there are
+/// cookies.
 pub(crate) fn rows_of(
     alloc: StoreAlloc,
     cookies: Vec<Cookie<'_>>,
-    include_expired: bool,
-    now: DateTime,
+    which: Which,
 ) -> Result<Rows, Error>
-    ensures built { IfOk result (λ rows. rows ≡ built include_expired (moment_of now) cookies.entry.items) }
+    ensures built { IfOk result (λ rows. rows ≡ built_from which cookies.entry.items) }
     ensures memory { IfErr result (λ error. (error ≡ Error.Memory) × (cookies.entry.items ≢ [])) }
 {
     let mut rows = Rows::new(alloc);
     let alloc = alloc.alloc;
     for cookie in cookies {
         let cookie = cookie.into_owned(alloc)?;
-        rows.take(cookie, include_expired, now)?;
+        take(&mut rows, cookie, &which)?;
     }
     Ok(rows)
 }

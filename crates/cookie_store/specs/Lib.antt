@@ -16,9 +16,10 @@ pub use Rattle.cookie_core.specs.Overlaid
 pub use Rattle.cookie_core.specs.Responses
 pub use Rattle.cookie_edit.specs.Edits
 pub use Rattle.cookie_serde.specs.Cuts
+pub use Rattle.cookie_serde.specs.FormatErrors
+pub use Rattle.cookie_serde.specs.Formats
 pub use Rattle.cookie_serde.specs.JsonLines
 pub use Rattle.cookie_serde.specs.JsonLists
-pub use Rattle.cookie_serde.specs.ListFormats
 pub use Rattle.cookie_serde.specs.Lists
 pub use Rattle.cookie_serde.specs.LoadError
 pub use Rattle.cookie_serde.specs.Loading
@@ -27,6 +28,7 @@ pub use Rattle.cookie_serde.specs.NetscapeLists
 pub use Rattle.cookie_serde.specs.RonLists
 pub use Rattle.cookie_serde.specs.SavedForms
 pub use Rattle.cookie_serde.specs.Saving
+pub use Rattle.cookie_serde.specs.Selections
 pub use Rattle.cookie_strict.specs.CrossSite
 pub use Rattle.cookie_strict.specs.HeaderValue
 pub use Rattle.cookie_strict.specs.HostPrefix

@@ -1,10 +1,11 @@
 mod Filling
-mod Loading
+mod LoadOutcomes
+mod LoadReports
 mod Passing
-mod Saving
 mod Seconds
 mod StoreBox
 mod StoreGlue
 mod StorePtrSteps
 mod StrictOutcomes
+mod UnsavedStores
 mod WrittenHeaders

@@ -1,5 +1,5 @@
 -- What each call returns, and the store after it.
-use Rattle.std.specs.Prelude.{◌≡◌, ◌==◌, if◌then◌else◌, ◌⊎◌, ℕ, Bool, true, false, List, [], length, Option, Some, None, Result, Ok, Err}
+use Rattle.std.specs.Prelude.{◌≡◌, ◌==◌, if◌then◌else◌, ◌⊎◌, ℕ, Bool, true, false, List, [], length, Option, Some, None, unwrap_or, Result, Ok, Err}
 use Rattle.std.specs.Result.{result_map_both}
 use Rattle.cookie_words.specs.Moments.{Moment}
 use Rattle.cookie_psl.specs.Rules.{RuleList, SameRules}
@@ -78,6 +78,11 @@ limit_outcome n None = error_outcome None NoStore
 limit_outcome n (Some store) =
     if n == 0 then error_outcome (Some store) BadLimit
     else record { status = Done; store = Some (record store { limit = Some n }) }
+
+-- how many cookies a domain may have, 0 if that is not limited or if there is no store
+abbrev pub limit_of : Option Contents → ℕ
+limit_of None = 0
+limit_of (Some store) = unwrap_or store.limit 0
 
 -- the expired cookies are removed, unless the time is out of range
 abbrev pub expired_outcome : Result Moment Status → Option Contents → CallOutcome

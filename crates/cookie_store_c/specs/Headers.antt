@@ -1,5 +1,5 @@
 -- The Cookie header of a request.
-use Rattle.std.specs.Prelude.{◌≡◌, ℕ, Bool, false, List, Option, Some, None, Result, Ok, Err, ℤ}
+use Rattle.std.specs.Prelude.{◌≡◌, ◌==◌, ℕ, Bool, true, false, List, Option, Some, None, Result, Ok, Err, if◌then◌else◌, ℤ}
 use Rattle.url.specs.Parts.{Parts}
 use Rattle.cookie_words.specs.Moments.{Moment}
 use Rattle.cookie_parts.specs.Cookie.{Row}
@@ -9,11 +9,19 @@ use Rattle.cookie_strict.specs.CrossSite.{IsSent}
 use Rattle.cookie_strict.specs.declared.requests.Context.{Context}
 use Rattle.cookie_store_c.specs.Inputs.{request}
 use Rattle.cookie_store_c.specs.declared.status.Status.{Status}
-use Rattle.cookie_store_c.specs.declared.status.Status.TheVariants.{NoStore}
+use Rattle.cookie_store_c.specs.declared.status.Status.TheVariants.{BadOption, NoStore}
 
 -- a cross-site request
-abbrev pub cross_site : Bool → Bool → Context
-cross_site is_top_level is_lax_by_default = record { is_same_site = false; is_top_level = is_top_level; is_lax_by_default = is_lax_by_default }
+abbrev pub cross_site_request : Bool → Bool → Context
+cross_site_request is_top_level is_lax_by_default = record { is_same_site = false; is_top_level = is_top_level; is_lax_by_default = is_lax_by_default }
+
+-- the cross-site request of these flags: 1 is a top-level navigation, 2 treats no SameSite attribute as SameSite=None
+abbrev pub cross_site : ℕ → Result Context Status
+cross_site flags =
+    if flags == 0 then Ok (cross_site_request false true) else
+    if flags == 1 then Ok (cross_site_request true true) else
+    if flags == 2 then Ok (cross_site_request false false) else
+    if flags == 3 then Ok (cross_site_request true false) else Err BadOption
 
 -- RFC 6265 5.4: the cookie-string of a request; of a request with a context, draft-ietf-httpbis-rfc6265bis 5.8.3, that
 -- of the cookies that it receives
@@ -34,3 +42,9 @@ IsHeader context store url now answer = IsHeaderFor context store (request url n
 abbrev pub IsHeaderIn : Option Context → Option Contents → List ℕ → ℤ → Result (List ℕ) Status → Type 0
 IsHeaderIn context None url now answer = answer ≡ Err NoStore
 IsHeaderIn context (Some store) url now answer = IsHeader context store url now answer
+
+-- the cookie-string of a cross-site request, or the error: `NoStore`, or that of its flags, before others
+abbrev pub IsCrossSiteHeader : Result Context Status → Option Contents → List ℕ → ℤ → Result (List ℕ) Status → Type 0
+IsCrossSiteHeader context None url now answer = answer ≡ Err NoStore
+IsCrossSiteHeader (Ok context) (Some store) url now answer = IsHeader (Some context) store url now answer
+IsCrossSiteHeader (Err status) (Some store) url now answer = answer ≡ Err status

@@ -1,9 +1,10 @@
 pub mod Inputs
+pub mod Options
 pub mod Buffers
 pub mod Calls
 pub mod Headers
-pub mod Lists
-pub mod Netscape
+pub mod LoadedStores
 pub mod Rows
+pub mod SavedStores
 pub mod StorePtrs
 pub mod Statuses

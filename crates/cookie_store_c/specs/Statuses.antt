@@ -7,10 +7,12 @@ use Rattle.cookie_parts.specs.declared.error.Error.{Error}
 use Rattle.cookie_parts.specs.declared.error.Error.TheVariants as ErrorCase
 use Rattle.cookie_parts.specs.declared.store_action.StoreAction.TheVariants as ActionCase
 use Rattle.cookie_laws.specs.Runs.{Reply, Stored, Removed, Cleared}
+use Rattle.cookie_serde.specs.declared.format_error.FormatError.{FormatError}
+use Rattle.cookie_serde.specs.declared.format_error.FormatError.TheVariants as FormatCase
 use Rattle.cookie_strict.specs.declared.error.StrictError.{StrictError}
 use Rattle.cookie_strict.specs.declared.error.StrictError.TheVariants as StrictCase
 use Rattle.cookie_store_c.specs.declared.status.Status.{Status}
-use Rattle.cookie_store_c.specs.declared.status.Status.TheVariants.{Done, Inserted, Updated, ExpiredExisting, NonHttpScheme, NonRelativeScheme, DomainMismatch, Expired, Parse, PublicSuffix, UnspecifiedDomain, NoMemory, BadUrl, NotUtf8, BadTime, NoStore, HasStore, NoRoom, NotFound, BadLimit, BadRule, BadJson, BadShape, BadRon, BadExpiry, BadLine, Unrepresentable, NoRules, ControlCharacter, TooLong, InsecureUrl, InsecureSameSiteNone, Prefix, SecureStored, SecureLimit}
+use Rattle.cookie_store_c.specs.declared.status.Status.TheVariants.{Done, Inserted, Updated, ExpiredExisting, NonHttpScheme, NonRelativeScheme, DomainMismatch, Expired, Parse, PublicSuffix, UnspecifiedDomain, NoMemory, BadUrl, NotUtf8, BadTime, NoStore, HasStore, NoRoom, NotFound, BadLimit, BadOption, BadRule, BadJson, BadShape, BadRon, BadExpiry, BadLine, Unrepresentable, NoRules, ControlCharacter, TooLong, InsecureUrl, InsecureSameSiteNone, Prefix, SecureStored, SecureLimit}
 
 -- the number of a status
 abbrev pub status_code : Status → ℕ
@@ -34,6 +36,7 @@ status_code HasStore = 25
 status_code NoRoom = 26
 status_code NotFound = 27
 status_code BadLimit = 28
+status_code BadOption = 29
 status_code BadRule = 30
 status_code BadJson = 31
 status_code BadShape = 32
@@ -95,6 +98,12 @@ error_status ErrorCase.Memory = NoMemory
 error_status ErrorCase.Io = NoMemory
 error_status (ErrorCase.Idna why) = NoMemory
 error_status (ErrorCase.Other text) = NoMemory
+
+-- the status of a failed save or load in a format
+abbrev pub format_error_status : FormatError → Status
+format_error_status (FormatCase.Store error) = error_status error
+format_error_status (FormatCase.BadLine line) = BadLine
+format_error_status FormatCase.Unrepresentable = Unrepresentable
 
 -- the number is that of a status with this property
 abbrev pub IsCodeOf : ℕ → (Status → Type 0) → Type 0

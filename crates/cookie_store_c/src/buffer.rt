@@ -4,7 +4,7 @@ ghost use Rattle.std.specs.Option.{MatchOption};
 ghost use Rattle.std.specs.Result.{result_map_both};
 ghost use Rattle.cookie_device.specs.Texts.{joined};
 ghost use Rattle.cookie_store_c.specs.Buffers.{text_outcome, IsFilledTo};
-ghost use Rattle.cookie_store_c.specs.Netscape.{with_numbers};
+ghost use Rattle.cookie_store_c.specs.LoadedStores.{with_numbers};
 
 use crate::status::Status;
 

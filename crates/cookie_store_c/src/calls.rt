@@ -17,7 +17,7 @@ use std::random::RandomSource;
 
 /// Parses the `Set-Cookie` header value `value` received from `url` and inserts the cookie, under
 /// the rules of browsers if `is_strict` is true.
-pub(crate) fn set(
+pub(crate) fn parse(
     alloc: Global,
     store: &mut CookieStore,
     is_strict: bool,
@@ -46,7 +46,7 @@ pub(crate) fn set(
 /// Puts the store under the public suffix list `list` and, unless `only_listed` is true, the rule
 /// `*`. Sets `bad_line` to the number of the first malformed line after `BadRule`, and otherwise to
 /// 0.
-pub(crate) fn use_suffixes(
+pub(crate) fn set_suffix_list(
     alloc: Global,
     store: &mut CookieStore,
     list: &[u8],

@@ -1,10 +1,10 @@
 //! The functions that C programs call. `cookie_store.h` documents them.
-ghost use Rattle.std.specs.Prelude.{◌≡◌, ◌⊎◌, ◌+◌, false, Ok, Some, None, IsOk, IsSome};
+ghost use Rattle.std.specs.Prelude.{◌≡◌, ◌⊎◌, ◌+◌, ◌&&◌, false, is_some, Ok, Some, None, IsOk, IsSome};
 ghost use Rattle.cookie_laws.specs.Runs.{Clear};
 ghost use Rattle.cookie_store_c.specs.Inputs.{text_and_time, moment_in, remove_call, set_call, text_in};
 ghost use Rattle.cookie_store_c.specs.Buffers.{WritesText, WritesSomeText};
-ghost use Rattle.cookie_store_c.specs.Calls.{expired_outcome, flag_after_new, flag_after_set, in_store, insertion_outcome_in, unchanged_outcome, limit_outcome, new_outcome, rows_count, call_outcome, HasOutcome, UsesSuffixes, RunsOut};
-ghost use Rattle.cookie_store_c.specs.Headers.{cross_site, IsHeaderIn};
+ghost use Rattle.cookie_store_c.specs.Calls.{expired_outcome, flag_after_new, flag_after_set, in_store, insertion_outcome_in, unchanged_outcome, limit_of, limit_outcome, new_outcome, rows_count, call_outcome, HasOutcome, UsesSuffixes, RunsOut};
+ghost use Rattle.cookie_store_c.specs.Headers.{cross_site, IsCrossSiteHeader, IsHeaderIn};
 ghost use Rattle.cookie_store_c.specs.Rows.{ReportsRows};
 ghost use Rattle.cookie_store_c.specs.Statuses.{IsCodeOf};
 ghost use Rattle.cookie_store_c.specs.declared.status.Status.{Status};
@@ -14,7 +14,6 @@ use crate::handle::StoreHandle;
 use crate::status::Status;
 use crate::{calls, header};
 use cookie_store::CookieStore;
-use cookie_store::strict::Context;
 use std::alloc::Global;
 
 /// Creates a store without cookies, public suffix list or limit, whose maps hash by `key`.
@@ -116,6 +115,30 @@ pub extern "C" fn cookie_store_set_strict(
     Status::Done.code()
 }
 
+/// Returns whether the store is strict: false if the handle has no store.
+#[unsafe(no_mangle)]
+pub extern "C" fn cookie_store_is_strict(handle: &mut StoreHandle) -> bool
+    ensures strict { result ≡ (is_some handle.old.store_ptr.store && handle.old.is_strict) }
+    ensures same { handle.new ≡ handle.old }
+{
+    handle.has_strict_store()
+}
+
+/// Returns how many cookies a domain may have: 0 if that is not limited, or if the handle has no store.
+#[unsafe(no_mangle)]
+pub extern "C" fn cookie_store_domain_limit(alloc: Global, handle: &mut StoreHandle) -> usize
+    ensures limit { result ≡ limit_of handle.old.store_ptr.store }
+    ensures store { handle.new.store_ptr.store ≡ handle.old.store_ptr.store }
+    ensures strict { handle.new.is_strict ≡ handle.old.is_strict }
+{
+    let Some(store) = handle.take(alloc) else {
+        return 0;
+    };
+    let limit = store.domain_limit().unwrap_or(0);
+    handle.put(alloc, store);
+    limit
+}
+
 /// Makes the maps of the store hash by `key`. The cookies stay the same.
 ///
 /// # Errors
@@ -154,7 +177,7 @@ pub extern "C" fn cookie_store_set_hash_key(
 /// - The errors of `CookieStore::parse`, or of `strict::parse` if the store is strict.
 /// - `NoMemory`: out of memory. May be returned instead of any error but the first three.
 #[unsafe(no_mangle)]
-pub extern "C" fn cookie_store_set(
+pub extern "C" fn cookie_store_parse(
     alloc: Global,
     handle: &mut StoreHandle,
     url: &[u8],
@@ -169,7 +192,7 @@ pub extern "C" fn cookie_store_set(
     let Some(mut store) = handle.take(alloc) else {
         return Status::NoStore.code();
     };
-    let status = calls::set(alloc, &mut store, handle.is_strict, url, value, now);
+    let status = calls::parse(alloc, &mut store, handle.is_strict, url, value, now);
     handle.put(alloc, store);
     status.code()
 }
@@ -190,7 +213,7 @@ pub extern "C" fn cookie_store_set(
 /// - `NoRoom`: `out` is shorter than `needed`.
 /// - `NoMemory`: out of memory. May be returned instead of any error but the first three.
 #[unsafe(no_mangle)]
-pub extern "C" fn cookie_store_get(
+pub extern "C" fn cookie_store_header(
     alloc: Global,
     handle: &mut StoreHandle,
     url: &[u8],
@@ -207,7 +230,7 @@ pub extern "C" fn cookie_store_get(
     let Some(store) = handle.take(alloc) else {
         return Status::NoStore.code();
     };
-    let status = header::get(alloc, &store, None, url, now, out, needed);
+    let status = header::write_header(alloc, &store, None, url, now, out, needed);
     handle.put(alloc, store);
     status.code()
 }
@@ -215,23 +238,26 @@ pub extern "C" fn cookie_store_get(
 /// Writes the value of the `Cookie` header of a cross-site request for `url` into `out`, its cookies
 /// in the order of RFC 6265 5.4.
 ///
-/// `is_top_level` is whether the request is a top-level navigation with a safe method, and
-/// `is_lax_by_default` whether a cookie without a SameSite attribute is treated as SameSite=Lax, not
-/// as None. All else is as in `cookie_store_get`.
+/// `request` has the flags of `enum cookie_store_cross_site`: 1 for a top-level navigation with a safe
+/// method, and 2 if a cookie without a SameSite attribute is treated as SameSite=None, not as Lax. All
+/// else is as in `cookie_store_header`.
+///
+/// # Errors
+///
+/// In the order in which they are checked: `NoStore`; `BadOption`, another flag; then those of
+/// `cookie_store_header`.
 #[unsafe(no_mangle)]
-pub extern "C" fn cookie_store_get_cross_site(
+pub extern "C" fn cookie_store_header_cross_site(
     alloc: Global,
     handle: &mut StoreHandle,
     url: &[u8],
     now: i64,
-    is_top_level: bool,
-    is_lax_by_default: bool,
+    request: u32,
     out: &mut [u8],
     needed: &mut usize,
 ) -> u32
-    ensures text { IsCodeOf result (λ status. WritesSomeText
-        (IsHeaderIn (Some (cross_site is_top_level is_lax_by_default)) handle.old.store_ptr.store url.now now)
-        (IsSome handle.old.store_ptr.store × IsOk (text_and_time url.now now)) out.old status out.new needed.new) }
+    ensures text { IsCodeOf result (λ status. WritesSomeText (IsCrossSiteHeader (cross_site request) handle.old.store_ptr.store url.now now)
+        (IsSome handle.old.store_ptr.store × IsOk (cross_site request) × IsOk (text_and_time url.now now)) out.old status out.new needed.new) }
     ensures store { handle.new.store_ptr.store ≡ handle.old.store_ptr.store }
     ensures strict { handle.new.is_strict ≡ handle.old.is_strict }
 {
@@ -239,12 +265,7 @@ pub extern "C" fn cookie_store_get_cross_site(
     let Some(store) = handle.take(alloc) else {
         return Status::NoStore.code();
     };
-    let context = Context {
-        is_same_site: false,
-        is_top_level,
-        is_lax_by_default,
-    };
-    let status = header::get(alloc, &store, Some(context), url, now, out, needed);
+    let status = header::write_cross_site(alloc, &store, request, url, now, out, needed);
     handle.put(alloc, store);
     status.code()
 }
@@ -264,7 +285,7 @@ pub extern "C" fn cookie_store_get_cross_site(
 /// - `NoRules`: each line of `list` is empty or a comment.
 /// - `NoMemory`: out of memory. May be returned instead of `BadRule` and `NoRules`.
 #[unsafe(no_mangle)]
-pub extern "C" fn cookie_store_use_suffixes(
+pub extern "C" fn cookie_store_set_suffix_list(
     alloc: Global,
     handle: &mut StoreHandle,
     list: &[u8],
@@ -281,7 +302,7 @@ pub extern "C" fn cookie_store_use_suffixes(
     let Some(mut store) = handle.take(alloc) else {
         return Status::NoStore.code();
     };
-    let status = calls::use_suffixes(alloc, &mut store, list, only_listed, bad_line);
+    let status = calls::set_suffix_list(alloc, &mut store, list, only_listed, bad_line);
     handle.put(alloc, store);
     status.code()
 }

@@ -1,5 +1,5 @@
 //! The handle that C programs hold.
-ghost use Rattle.std.specs.Prelude.{◌≡◌, is_some, option_map, None, Some};
+ghost use Rattle.std.specs.Prelude.{◌≡◌, ◌&&◌, is_some, option_map, None, Some};
 
 use crate::store_ptr::StorePtr;
 use cookie_store::CookieStore;
@@ -46,6 +46,13 @@ impl StoreHandle {
             store_ptr.consume_empty();
             None
         }
+    }
+
+    /// Returns whether there is a store, and it is strict.
+    pub(crate) fn has_strict_store(&self) -> bool
+        ensures { result ≡ (is_some self.now.store_ptr.store && self.now.is_strict) }
+    {
+        self.live && self.is_strict
     }
 
     /// Takes the store out, if there is one, and leaves the handle empty.

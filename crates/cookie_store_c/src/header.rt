@@ -1,10 +1,10 @@
 //! The `Cookie` header of a request.
-ghost use Rattle.std.specs.Prelude.{◌≡◌, ◌≢◌, [], string_bytes, Err, IfErr, IfOk, IsOk, OnErr};
+ghost use Rattle.std.specs.Prelude.{◌≡◌, ◌≢◌, [], string_bytes, Err, Some, IfErr, IfOk, IsOk, OnErr};
 ghost use Rattle.cookie_words.specs.Moments.{moment_of};
 ghost use Rattle.cookie_laws.specs.Given.{given};
 ghost use Rattle.cookie_store_c.specs.Inputs.{text_and_time};
 ghost use Rattle.cookie_store_c.specs.Buffers.{WritesSomeText};
-ghost use Rattle.cookie_store_c.specs.Headers.{IsHeader, IsHeaderText};
+ghost use Rattle.cookie_store_c.specs.Headers.{cross_site, IsCrossSiteHeader, IsHeader, IsHeaderText};
 
 use crate::buffer::copy_out;
 use crate::inputs::request;
@@ -17,7 +17,7 @@ use url::Url;
 
 /// Writes the value of the `Cookie` header of a request for `url` into `out`, and its length into
 /// `needed`. With a context it leaves out the cookies that the request must not have.
-pub(crate) fn get(
+pub(crate) fn write_header(
     alloc: Global,
     store: &CookieStore,
     context: Option<Context>,
@@ -33,6 +33,44 @@ pub(crate) fn get(
         out,
         needed,
     )
+}
+
+/// Writes the value of the `Cookie` header of a cross-site request of these flags, as [`write_header`]
+/// does.
+pub(crate) fn write_cross_site(
+    alloc: Global,
+    store: &CookieStore,
+    flags: u32,
+    url: &[u8],
+    now: i64,
+    out: &mut [u8],
+    needed: &mut usize,
+) -> Status
+    ensures { WritesSomeText (IsCrossSiteHeader (cross_site flags) (Some store.now) url.now now)
+        (IsOk (cross_site flags) × IsOk (text_and_time url.now now)) out.old result out.new needed.new }
+{
+    match cross_site(flags) {
+        Ok(context) => write_header(alloc, store, Some(context), url, now, out, needed),
+        Err(status) => copy_out(Err(status), out, needed),
+    }
+}
+
+// Returns the cross-site request of these flags of `enum cookie_store_cross_site`, or `BadOption`.
+fn cross_site(flags: u32) -> Result<Context, Status>
+    ensures { result ≡ cross_site flags }
+{
+    let (is_top_level, is_lax_by_default) = match flags {
+        0 => (false, true),
+        1 => (true, true),
+        2 => (false, false),
+        3 => (true, false),
+        _ => return Err(Status::BadOption),
+    };
+    Ok(Context {
+        is_same_site: false,
+        is_top_level,
+        is_lax_by_default,
+    })
 }
 
 // Returns the value of the `Cookie` header, or the error of the request.

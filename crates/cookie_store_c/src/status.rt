@@ -1,9 +1,10 @@
 //! The status codes of the C functions.
 ghost use Rattle.std.specs.Prelude.{◌≡◌, Ok, IfErr, IfOk};
 ghost use Rattle.cookie_laws.specs.Runs.{Stored};
-ghost use Rattle.cookie_store_c.specs.Statuses.{error_status, cookie_error_status, reply_status, status_code, strict_error_status};
+ghost use Rattle.cookie_store_c.specs.Statuses.{error_status, cookie_error_status, format_error_status, reply_status, status_code, strict_error_status};
 
 use cookie_store::saved::SavedError;
+use cookie_store::serde::FormatError;
 use cookie_store::strict::{StrictError, StrictResult};
 use cookie_store::{CookieError, Error, InsertResult, StoreAction};
 
@@ -30,6 +31,7 @@ pub enum Status {
     NoRoom,
     NotFound,
     BadLimit,
+    BadOption,
     BadRule,
     BadJson,
     BadShape,
@@ -73,6 +75,7 @@ impl Status {
             Status::NoRoom => 26,
             Status::NotFound => 27,
             Status::BadLimit => 28,
+            Status::BadOption => 29,
             Status::BadRule => 30,
             Status::BadJson => 31,
             Status::BadShape => 32,
@@ -137,8 +140,19 @@ impl Status {
         }
     }
 
-    /// Returns the status of a failed save or load. No list fails with `Io`, `Idna` or `Other`.
-    pub(crate) fn of_error(fault: Error) -> Status
+    /// Returns the status of a failed save or load.
+    pub(crate) fn of_format_error(error: FormatError) -> Status
+        ensures { result ≡ format_error_status error }
+    {
+        match error {
+            FormatError::Store(error) => Status::of_error(error),
+            FormatError::BadLine { .. } => Status::BadLine,
+            FormatError::Unrepresentable => Status::Unrepresentable,
+        }
+    }
+
+    // Returns the status of the error of a store. No list fails with `Io`, `Idna` or `Other`.
+    fn of_error(fault: Error) -> Status
         ensures { result ≡ error_status fault }
     {
         match fault {

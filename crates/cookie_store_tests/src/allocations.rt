@@ -2,6 +2,7 @@
 //! `tools/fail_allocation.c` makes each allocation fail in turn.
 mod runs;
 mod saving;
+mod strict;
 
 use crate::built::{UrlAndValue, built, items};
 use crate::checks::{end_of, has_the_same_rows, is_equal};

@@ -2,7 +2,7 @@
 use crate::built::store_of;
 use crate::checks::{end_of, has_the_same_rows, is_equal};
 use crate::forms::{CASES, Case, FROM, RECEIVED, Shape, load, loaded, save};
-use crate::saved_lines::Which;
+use crate::saved_lines::Selection;
 use crate::steps::new_year;
 use crate::texts::url;
 use cookie_fakes::Fake;
@@ -12,7 +12,7 @@ use std::process::Abort;
 use url::Url;
 
 // The format, which cookies, the most bytes of one call, and the number of the call that fails.
-type Failing<'a> = (Shape, &'a Which, usize, usize);
+type Failing<'a> = (Shape, &'a Selection, usize, usize);
 
 // Checks that a beginning of the text was written, by the writes before the one that failed.
 fn is_beginning(rt: &impl Abort, written: &[u8], text: &str, row: &Failing<'_>) {
@@ -68,7 +68,7 @@ fn each_write_fails(
     alloc: Global,
     store: &CookieStore,
     case: &Case,
-    which: &Which,
+    which: &Selection,
     most: usize,
 ) {
     for fails_at in 1..1_000 {
@@ -84,8 +84,15 @@ fn a_failed_write_stops_the_saving(rt: HostRuntime) {
     let store = store_of(&rt, rt.alloc(), &RECEIVED);
     for case in &CASES {
         for most in &[1, 3, usize::MAX] {
-            each_write_fails(&rt, rt.alloc(), &store, case, &Which::All, *most);
-            each_write_fails(&rt, rt.alloc(), &store, case, &Which::At(new_year()), *most);
+            each_write_fails(&rt, rt.alloc(), &store, case, &Selection::All, *most);
+            each_write_fails(
+                &rt,
+                rt.alloc(),
+                &store,
+                case,
+                &Selection::At(new_year()),
+                *most,
+            );
         }
     }
 }
@@ -95,7 +102,7 @@ fn nothing_is_taken(
     alloc: Global,
     store: &CookieStore,
     shape: Shape,
-    which: &Which,
+    which: &Selection,
 ) {
     let fake = Fake::new(Vec::new(alloc), 0, 0);
     let (outcome, failures, fake) = save(alloc, shape, store, which, fake);
@@ -107,8 +114,8 @@ fn nothing_is_taken(
 fn a_writer_that_takes_nothing_has_failed(rt: HostRuntime) {
     let store = store_of(&rt, rt.alloc(), &RECEIVED);
     for (shape, _) in &CASES {
-        nothing_is_taken(&rt, rt.alloc(), &store, *shape, &Which::All);
-        nothing_is_taken(&rt, rt.alloc(), &store, *shape, &Which::At(new_year()));
+        nothing_is_taken(&rt, rt.alloc(), &store, *shape, &Selection::All);
+        nothing_is_taken(&rt, rt.alloc(), &store, *shape, &Selection::At(new_year()));
     }
 }
 
@@ -196,13 +203,13 @@ fn is_loaded_whole(
 // say of them.
 fn store_loaded(rt: &impl Abort, alloc: Global, case: &Case) -> CookieStore {
     match case.0 {
-        Shape::Netscape => loaded(rt, alloc, case.0, FROM, &Which::All, case.1),
+        Shape::Netscape => loaded(rt, alloc, case.0, FROM, &Selection::All, case.1),
         _ => store_of(rt, alloc, &RECEIVED),
     }
 }
 
 // Loads with each read failing in turn, and at last without a failure.
-fn each_read_fails(rt: &impl Abort, alloc: Global, case: &Case, which: &Which, most: usize) {
+fn each_read_fails(rt: &impl Abort, alloc: Global, case: &Case, which: &Selection, most: usize) {
     let url = url(rt, alloc, FROM);
     let store = &store_loaded(rt, alloc, case);
     for fails_at in 1..1_000 {
@@ -224,8 +231,8 @@ fn each_read_fails(rt: &impl Abort, alloc: Global, case: &Case, which: &Which, m
 fn a_failed_read_stops_the_loading(rt: HostRuntime) {
     for case in &CASES {
         for most in &[1, 3, usize::MAX] {
-            each_read_fails(&rt, rt.alloc(), case, &Which::All, *most);
-            each_read_fails(&rt, rt.alloc(), case, &Which::At(new_year()), *most);
+            each_read_fails(&rt, rt.alloc(), case, &Selection::All, *most);
+            each_read_fails(&rt, rt.alloc(), case, &Selection::At(new_year()), *most);
         }
     }
 }

@@ -5,7 +5,7 @@ use crate::json::{load_json_from, save_json};
 use crate::lists::{Form, load_list, load_text, save_list, save_text};
 use crate::loaded::{Loaded, Notes, load_lines};
 use crate::netscape::{load_file, save_file};
-use crate::saved_lines::{LASTING, Names, Saved, Which, save_lines};
+use crate::saved_lines::{LASTING, Names, Saved, Selection, save_lines};
 use crate::steps::new_year;
 use crate::texts::{are_all, are_listed, listed, unexpired, url, value_of};
 use crate::{json, lists, loaded, netscape, ron};
@@ -31,7 +31,7 @@ pub fn save(
     alloc: Global,
     shape: Shape,
     store: &CookieStore,
-    which: &Which,
+    which: &Selection,
     fake: Fake<Vec<u8>>,
 ) -> Saved {
     match shape {
@@ -48,7 +48,7 @@ pub fn load<'a>(
     alloc: Global,
     shape: Shape,
     url: &Url,
-    which: &Which,
+    which: &Selection,
     fake: Fake<&'a [u8]>,
 ) -> Loaded<'a> {
     match shape {
@@ -122,7 +122,7 @@ const RON: &str = r#"[
 ]
 "#;
 
-// A format, and what `RECEIVED` is saved as, with either `Which`, and loaded from.
+// A format, and what `RECEIVED` is saved as, with either `Selection`, and loaded from.
 pub type Case = (Shape, &'static str);
 
 pub const IN_JSON: Shape = Shape::List(Form::Json);
@@ -196,7 +196,7 @@ fn is_saved_as(
     alloc: Global,
     shape: Shape,
     store: &CookieStore,
-    which: &Which,
+    which: &Selection,
     wanted: (&str, &str),
 ) {
     let fake = Fake::new(Vec::new(alloc), usize::MAX, 0);
@@ -217,7 +217,7 @@ pub fn loaded(
     alloc: Global,
     shape: Shape,
     from: &str,
-    which: &Which,
+    which: &Selection,
     text: &str,
 ) -> CookieStore {
     let url = url(rt, alloc, from);
@@ -238,9 +238,9 @@ fn origin(written: &Written) -> &'static str {
 // Checks that all cookies load again as they were, and are saved again as before.
 fn loads_again(rt: &impl Abort, alloc: Global, store: &CookieStore, written: &Written) {
     let (shape, _, all, _) = *written;
-    let again = loaded(rt, alloc, shape, origin(written), &Which::All, all);
+    let again = loaded(rt, alloc, shape, origin(written), &Selection::All, all);
     has_the_same_rows(rt, &again, store);
-    is_saved_as(rt, alloc, shape, &again, &Which::All, ("done", all));
+    is_saved_as(rt, alloc, shape, &again, &Selection::All, ("done", all));
 }
 
 // Checks that `load` skips the expired cookies.
@@ -248,7 +248,7 @@ fn loads_unexpired(rt: &impl Abort, alloc: Global, store: &CookieStore, written:
     let (shape, _, all, _) = *written;
     let live = unexpired(rt, alloc, store, new_year());
     let live = listed(rt, alloc, live.as_slice());
-    let which = Which::At(new_year());
+    let which = Selection::At(new_year());
     let again = loaded(rt, alloc, shape, origin(written), &which, all);
     are_listed(rt, alloc, &again, live.as_str(), &all);
 }
@@ -256,16 +256,16 @@ fn loads_unexpired(rt: &impl Abort, alloc: Global, store: &CookieStore, written:
 // Nothing is left to save when the last cookie has expired.
 fn is_written(rt: &impl Abort, alloc: Global, store: &CookieStore, written: &Written) {
     let (shape, _, all, live) = *written;
-    is_saved_as(rt, alloc, shape, store, &Which::All, ("done", all));
+    is_saved_as(rt, alloc, shape, store, &Selection::All, ("done", all));
     is_saved_as(
         rt,
         alloc,
         shape,
         store,
-        &Which::At(new_year()),
+        &Selection::At(new_year()),
         ("done", live),
     );
-    let later = Which::At(date(2100, 8, 4).at(0, 0, 0, 0));
+    let later = Selection::At(date(2100, 8, 4).at(0, 0, 0, 0));
     let none = if let Shape::List(_) = shape {
         "[]\n"
     } else {
@@ -291,9 +291,9 @@ fn a_function_formats_all_rows_at_once(rt: HostRuntime) {
     let store = store_of(&rt, rt.alloc(), &LASTING);
     let later = date(2026, 1, 1).at(0, 5, 0, 0);
     for (which, wanted) in &[
-        (Which::All, ("done", LASTING_TEXT)),
-        (Which::At(new_year()), ("done", LASTING_TEXT)),
-        (Which::At(later), ("no cookies", "")),
+        (Selection::All, ("done", LASTING_TEXT)),
+        (Selection::At(new_year()), ("done", LASTING_TEXT)),
+        (Selection::At(later), ("no cookies", "")),
     ] {
         is_saved_as(&rt, rt.alloc(), Shape::Text, &store, which, *wanted);
     }
@@ -337,18 +337,18 @@ static LOADED_AT: [LoadedAt; 8] = [
     ),
 ];
 
-fn are_loaded_at(rt: &impl Abort, alloc: Global, kept: &LoadedAt, which: &Which, wanted: &str) {
+fn are_loaded_at(rt: &impl Abort, alloc: Global, kept: &LoadedAt, which: &Selection, wanted: &str) {
     let store = loaded(rt, alloc, kept.0, FROM, which, kept.1);
     are_all(rt, alloc, &store, wanted, &kept.1);
 }
 
 #[test]
 fn expired_cookies_are_skipped(rt: HostRuntime) {
-    let later = Which::At(date(2026, 1, 1).at(0, 1, 0, 0));
+    let later = Selection::At(date(2026, 1, 1).at(0, 1, 0, 0));
     for kept in &LOADED_AT {
-        are_loaded_at(&rt, rt.alloc(), kept, &Which::At(new_year()), kept.2);
+        are_loaded_at(&rt, rt.alloc(), kept, &Selection::At(new_year()), kept.2);
         are_loaded_at(&rt, rt.alloc(), kept, &later, kept.3);
-        are_loaded_at(&rt, rt.alloc(), kept, &Which::All, kept.4);
+        are_loaded_at(&rt, rt.alloc(), kept, &Selection::All, kept.4);
     }
 }
 
@@ -485,7 +485,7 @@ const LISTED: [&str; 2] = [
     xn--bcher-kva.example /x c,  / d",
 ];
 
-fn are_the_ten(rt: &impl Abort, alloc: Global, which: &Which, wanted: &str) {
+fn are_the_ten(rt: &impl Abort, alloc: Global, which: &Selection, wanted: &str) {
     let store = loaded(rt, alloc, IN_JSON, FROM, which, TEN);
     are_listed(rt, alloc, &store, wanted, which);
     let value = value_of(store.get_any("example.com", "/", "lang"));
@@ -494,6 +494,6 @@ fn are_the_ten(rt: &impl Abort, alloc: Global, which: &Which, wanted: &str) {
 
 #[test]
 fn a_list_of_the_rust_crate_is_loaded(rt: HostRuntime) {
-    are_the_ten(&rt, rt.alloc(), &Which::All, LISTED[0]);
-    are_the_ten(&rt, rt.alloc(), &Which::At(new_year()), LISTED[1]);
+    are_the_ten(&rt, rt.alloc(), &Selection::All, LISTED[0]);
+    are_the_ten(&rt, rt.alloc(), &Selection::At(new_year()), LISTED[1]);
 }

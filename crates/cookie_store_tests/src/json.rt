@@ -1,6 +1,6 @@
 //! Cookies as lines of JSON.
 use crate::built::UrlAndValue;
-use crate::saved_lines::Which;
+use crate::saved_lines::Selection;
 use crate::steps::new_year;
 use cookie_fakes::Fake;
 use cookie_store::device::{Counted, Sink, Source};
@@ -11,13 +11,13 @@ use std::alloc::Global;
 // The result of saving, how many writes failed, and the writer.
 pub fn save_json(
     store: &CookieStore,
-    which: &Which,
+    which: &Selection,
     fake: Fake<Vec<u8>>,
 ) -> (Result<(), Error>, u64, Fake<Vec<u8>>) {
     let mut writer = Counted::new(fake);
     let outcome = match which {
-        Which::All => store.save_incl_expired_and_nonpersistent_json(&mut writer),
-        Which::At(now) => store.save_json(&mut writer, *now),
+        Selection::All => store.save_incl_expired_and_nonpersistent_json(&mut writer),
+        Selection::At(now) => store.save_json(&mut writer, *now),
     };
     (outcome, writer.failures(), writer.into_inner())
 }
@@ -25,19 +25,23 @@ pub fn save_json(
 // The result of loading, how many reads failed, and the reader.
 pub fn load_json_from<'a>(
     alloc: Global,
-    which: &Which,
+    which: &Selection,
     fake: Fake<&'a [u8]>,
 ) -> (Result<CookieStore, Error>, u64, Fake<&'a [u8]>) {
     let mut reader = Counted::new(fake);
     let outcome = match which {
-        Which::All => CookieStore::load_json_all(alloc, &mut reader, new_year()),
-        Which::At(now) => CookieStore::load_json(alloc, &mut reader, *now),
+        Selection::All => CookieStore::load_json_all(alloc, &mut reader, new_year()),
+        Selection::At(now) => CookieStore::load_json(alloc, &mut reader, *now),
     };
     (outcome, reader.failures(), reader.into_inner())
 }
 
 // The result of loading.
-pub fn load_json(alloc: Global, which: &Which, fake: Fake<&[u8]>) -> Result<CookieStore, Error> {
+pub fn load_json(
+    alloc: Global,
+    which: &Selection,
+    fake: Fake<&[u8]>,
+) -> Result<CookieStore, Error> {
     load_json_from(alloc, which, fake).0
 }
 

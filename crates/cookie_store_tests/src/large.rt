@@ -1,6 +1,7 @@
 //! Each call that may allocate, with large input and ample memory: its result is that of small
 //! input, and not out of memory.
 mod cookies_txt;
+mod file_lines;
 mod requests;
 mod saved;
 mod stores;

@@ -20,6 +20,8 @@ mod edits;
 #[cfg(test)]
 mod expired;
 #[cfg(test)]
+mod formats;
+#[cfg(test)]
 mod forms;
 #[cfg(test)]
 mod header;

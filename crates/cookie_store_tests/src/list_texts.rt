@@ -4,18 +4,18 @@ use crate::checks::{end_of, has_the_same_rows, is_equal};
 use crate::json::fault_of;
 use crate::lists::{self, Form, RECEIVED};
 use crate::ron;
-use crate::saved_lines::Which;
+use crate::saved_lines::Selection;
 use crate::steps::new_year;
 use cookie_store::{CookieStore, Error, serde};
 use std::alloc::Global;
 use std::process::Abort;
 
-pub fn text_of(form: Form, store: &CookieStore, which: &Which) -> Result<String, Error> {
+pub fn text_of(form: Form, store: &CookieStore, which: &Selection) -> Result<String, Error> {
     match (form, which) {
-        (Form::Json, Which::All) => serde::json::to_text_incl_expired_and_nonpersistent(store),
-        (Form::Json, Which::At(now)) => serde::json::to_text(store, *now),
-        (Form::Ron, Which::All) => serde::ron::to_text_incl_expired_and_nonpersistent(store),
-        (Form::Ron, Which::At(now)) => serde::ron::to_text(store, *now),
+        (Form::Json, Selection::All) => serde::json::to_text_incl_expired_and_nonpersistent(store),
+        (Form::Json, Selection::At(now)) => serde::json::to_text(store, *now),
+        (Form::Ron, Selection::All) => serde::ron::to_text_incl_expired_and_nonpersistent(store),
+        (Form::Ron, Selection::At(now)) => serde::ron::to_text(store, *now),
     }
 }
 
@@ -23,13 +23,13 @@ pub fn store_in(
     form: Form,
     alloc: Global,
     text: &str,
-    which: &Which,
+    which: &Selection,
 ) -> Result<CookieStore, Error> {
     match (form, which) {
-        (Form::Json, Which::All) => serde::json::from_text_all(alloc, text, new_year()),
-        (Form::Json, Which::At(now)) => serde::json::from_text(alloc, text, *now),
-        (Form::Ron, Which::All) => serde::ron::from_text_all(alloc, text, new_year()),
-        (Form::Ron, Which::At(now)) => serde::ron::from_text(alloc, text, *now),
+        (Form::Json, Selection::All) => serde::json::from_text_all(alloc, text, new_year()),
+        (Form::Json, Selection::At(now)) => serde::json::from_text(alloc, text, *now),
+        (Form::Ron, Selection::All) => serde::ron::from_text_all(alloc, text, new_year()),
+        (Form::Ron, Selection::At(now)) => serde::ron::from_text(alloc, text, *now),
     }
 }
 
@@ -43,11 +43,11 @@ static LISTS: [Listed; 4] = [
     (Form::Ron, false, ron::LASTING),
 ];
 
-pub fn which_of(all: bool) -> Which {
+pub fn selection_of(all: bool) -> Selection {
     if all {
-        Which::All
+        Selection::All
     } else {
-        Which::At(new_year())
+        Selection::At(new_year())
     }
 }
 
@@ -68,7 +68,7 @@ fn is_listed(rt: &impl Abort, outcome: &Result<String, Error>, listed: &Listed) 
 fn lists_are_formatted(rt: HostRuntime) {
     let store = store_of(&rt, rt.alloc(), &RECEIVED);
     for listed in &LISTS {
-        let outcome = text_of(listed.0, &store, &which_of(listed.1));
+        let outcome = text_of(listed.0, &store, &selection_of(listed.1));
         is_equal(&rt, &end_of(&outcome), &"done", listed);
         is_listed(&rt, &outcome, listed);
     }
@@ -78,7 +78,7 @@ fn lists_are_formatted(rt: HostRuntime) {
 fn is_parsed(rt: &impl Abort, alloc: Global, listed: &Listed, ample: bool) {
     let wanted = store_of(rt, alloc, &RECEIVED[..if listed.1 { 2 } else { 1 }]);
     crate::allocations::start(alloc);
-    let outcome = store_in(listed.0, alloc, listed.2, &which_of(listed.1));
+    let outcome = store_in(listed.0, alloc, listed.2, &selection_of(listed.1));
     crate::allocations::end(alloc);
     match &outcome {
         Ok(store) => has_the_same_rows(rt, store, &wanted),
@@ -96,7 +96,7 @@ fn lists_are_parsed(rt: HostRuntime) {
 // Checks the error for a string, if the bytes are one.
 fn is_rejected(rt: &impl Abort, alloc: Global, form: Form, refused: &(&[u8], &str)) {
     if let Ok(text) = str::from_utf8(refused.0) {
-        let outcome = store_in(form, alloc, text, &Which::All);
+        let outcome = store_in(form, alloc, text, &Selection::All);
         is_equal(rt, &fault_of(&outcome), &refused.1, &(form, text));
     }
 }
@@ -112,7 +112,7 @@ fn other_strings_are_rejected(rt: HostRuntime) {
 }
 
 mod allocations {
-    use super::{LISTS, RECEIVED, is_listed, is_parsed, text_of, which_of};
+    use super::{LISTS, RECEIVED, is_listed, is_parsed, selection_of, text_of};
     use crate::allocations::{end, start};
     use crate::built::store_of;
 
@@ -121,7 +121,7 @@ mod allocations {
         let store = store_of(&rt, rt.alloc(), &RECEIVED);
         for listed in &LISTS {
             start(rt.alloc());
-            let outcome = text_of(listed.0, &store, &which_of(listed.1));
+            let outcome = text_of(listed.0, &store, &selection_of(listed.1));
             end(rt.alloc());
             is_listed(&rt, &outcome, listed);
         }

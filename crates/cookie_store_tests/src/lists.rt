@@ -1,7 +1,7 @@
 //! Cookies as one list: by functions, in JSON or in RON.
 use crate::built::UrlAndValue;
 use crate::loaded::{Loaded, cookie_of};
-use crate::saved_lines::{Saved, Which};
+use crate::saved_lines::{Saved, Selection};
 use crate::steps::new_year;
 use cookie_fakes::Fake;
 use cookie_store::device::{Counted, Sink, Source};
@@ -26,15 +26,20 @@ fn text_of(alloc: Global, cookies: &Vec<Cookie<'_>>) -> Result<String, Error> {
     Ok(text)
 }
 
-pub fn save_text(alloc: Global, store: &CookieStore, which: &Which, fake: Fake<Vec<u8>>) -> Saved {
+pub fn save_text(
+    alloc: Global,
+    store: &CookieStore,
+    which: &Selection,
+    fake: Fake<Vec<u8>>,
+) -> Saved {
     let mut writer = Counted::new(fake);
     let outcome = match which {
-        Which::All => serde::save_incl_expired_and_nonpersistent(
+        Selection::All => serde::save_incl_expired_and_nonpersistent(
             store,
             &mut writer,
             |cookies| text_of(alloc, cookies),
         ),
-        Which::At(now) => {
+        Selection::At(now) => {
             serde::save(store, &mut writer, |cookies| text_of(alloc, cookies), *now)
         }
     };
@@ -50,16 +55,21 @@ fn cookies_of<'t>(alloc: Global, text: &'t str, url: &Url) -> Result<Vec<Cookie<
     Ok(cookies)
 }
 
-pub fn load_text<'a>(alloc: Global, url: &Url, which: &Which, fake: Fake<&'a [u8]>) -> Loaded<'a> {
+pub fn load_text<'a>(
+    alloc: Global,
+    url: &Url,
+    which: &Selection,
+    fake: Fake<&'a [u8]>,
+) -> Loaded<'a> {
     let mut reader = Counted::new(fake);
     let outcome: Result<CookieStore, Error> = match which {
-        Which::All => serde::load_all(
+        Selection::All => serde::load_all(
             alloc,
             &mut reader,
             move |text| cookies_of(alloc, text, url),
             new_year(),
         ),
-        Which::At(now) => serde::load(
+        Selection::At(now) => serde::load(
             alloc,
             &mut reader,
             move |text| cookies_of(alloc, text, url),
@@ -76,28 +86,33 @@ pub enum Form {
     Ron,
 }
 
-pub fn save_list(form: Form, store: &CookieStore, which: &Which, fake: Fake<Vec<u8>>) -> Saved {
+pub fn save_list(form: Form, store: &CookieStore, which: &Selection, fake: Fake<Vec<u8>>) -> Saved {
     let mut writer = Counted::new(fake);
     let outcome = match (form, which) {
-        (Form::Json, Which::All) => {
+        (Form::Json, Selection::All) => {
             serde::json::save_incl_expired_and_nonpersistent(store, &mut writer)
         }
-        (Form::Json, Which::At(now)) => serde::json::save(store, &mut writer, *now),
-        (Form::Ron, Which::All) => {
+        (Form::Json, Selection::At(now)) => serde::json::save(store, &mut writer, *now),
+        (Form::Ron, Selection::All) => {
             serde::ron::save_incl_expired_and_nonpersistent(store, &mut writer)
         }
-        (Form::Ron, Which::At(now)) => serde::ron::save(store, &mut writer, *now),
+        (Form::Ron, Selection::At(now)) => serde::ron::save(store, &mut writer, *now),
     };
     (outcome, writer.failures(), writer.into_inner())
 }
 
-pub fn load_list<'a>(form: Form, alloc: Global, which: &Which, fake: Fake<&'a [u8]>) -> Loaded<'a> {
+pub fn load_list<'a>(
+    form: Form,
+    alloc: Global,
+    which: &Selection,
+    fake: Fake<&'a [u8]>,
+) -> Loaded<'a> {
     let mut reader = Counted::new(fake);
     let outcome = match (form, which) {
-        (Form::Json, Which::All) => serde::json::load_all(alloc, &mut reader, new_year()),
-        (Form::Json, Which::At(now)) => serde::json::load(alloc, &mut reader, *now),
-        (Form::Ron, Which::All) => serde::ron::load_all(alloc, &mut reader, new_year()),
-        (Form::Ron, Which::At(now)) => serde::ron::load(alloc, &mut reader, *now),
+        (Form::Json, Selection::All) => serde::json::load_all(alloc, &mut reader, new_year()),
+        (Form::Json, Selection::At(now)) => serde::json::load(alloc, &mut reader, *now),
+        (Form::Ron, Selection::All) => serde::ron::load_all(alloc, &mut reader, new_year()),
+        (Form::Ron, Selection::At(now)) => serde::ron::load(alloc, &mut reader, *now),
     };
     (outcome, reader.failures(), reader.into_inner())
 }

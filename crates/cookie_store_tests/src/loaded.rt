@@ -1,6 +1,6 @@
 //! Stores loaded from lines.
 use crate::checks::{end_of, is_equal};
-use crate::saved_lines::Which;
+use crate::saved_lines::Selection;
 use crate::steps::new_year;
 use crate::texts::url;
 use cookie_fakes::Fake;
@@ -66,18 +66,18 @@ impl<'u> Notes<'u> {
 pub fn load_lines<'a>(
     alloc: Global,
     notes: &Notes<'_>,
-    which: &Which,
+    which: &Selection,
     fake: Fake<&'a [u8]>,
 ) -> Loaded<'a> {
     let mut reader = Counted::new(fake);
     let outcome = match which {
-        Which::All => CookieStore::load_all(
+        Selection::All => CookieStore::load_all(
             alloc,
             &mut reader,
             |line| notes.take(line),
             DateTime::MAX,
         ),
-        Which::At(now) => CookieStore::load(alloc, &mut reader, |line| notes.take(line), *now),
+        Selection::At(now) => CookieStore::load(alloc, &mut reader, |line| notes.take(line), *now),
     };
     (outcome, reader.failures(), reader.into_inner())
 }
@@ -124,7 +124,7 @@ static REJECTED: [Noted; 7] = [
 fn is_noted(rt: &impl Abort, alloc: Global, url: &Url, noted: &Noted, most: usize) {
     let notes = Notes::new(alloc, url);
     let fake = Fake::new(noted.0, most, 0);
-    let (outcome, _, fake) = load_lines(alloc, &notes, &Which::At(new_year()), fake);
+    let (outcome, _, fake) = load_lines(alloc, &notes, &Selection::At(new_year()), fake);
     let wanted = (noted.3, noted.2);
     is_equal(rt, &(end_of(&outcome), fake.inner), &wanted, &(noted, most));
     let lines = notes.lines.into_inner();

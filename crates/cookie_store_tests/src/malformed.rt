@@ -4,7 +4,7 @@ use crate::checks::{has_the_same_rows, is_equal};
 use crate::forms::{FROM, IN_JSON, IN_RON, Shape, load, loaded};
 use crate::json::fault_of;
 use crate::lists::Form;
-use crate::saved_lines::Which;
+use crate::saved_lines::Selection;
 use crate::steps::new_year;
 use crate::texts::url;
 use crate::{json, lists, ron};
@@ -45,7 +45,7 @@ fn is_rejected(
     rt: &impl Abort,
     alloc: Global,
     shape: Shape,
-    which: &Which,
+    which: &Selection,
     bytes: &[u8],
     wanted: &str,
 ) {
@@ -72,12 +72,12 @@ fn input_in_another_form_is_rejected(rt: HostRuntime) {
     ];
     for (shape, table) in &tables {
         for (bytes, wanted) in *table {
-            is_rejected(&rt, rt.alloc(), *shape, &Which::All, bytes, wanted);
+            is_rejected(&rt, rt.alloc(), *shape, &Selection::All, bytes, wanted);
             is_rejected(
                 &rt,
                 rt.alloc(),
                 *shape,
-                &Which::At(new_year()),
+                &Selection::At(new_year()),
                 bytes,
                 wanted,
             );
@@ -106,7 +106,7 @@ fn no_list_nests_deep(rt: HostRuntime) {
     for (form, opening, closing, count, wanted) in &DEEP {
         let text = nested(&rt, rt.alloc(), opening, closing, *count);
         let bytes = text.as_bytes();
-        for which in &[Which::All, Which::At(new_year())] {
+        for which in &[Selection::All, Selection::At(new_year())] {
             let shape = Shape::List(*form);
             is_rejected(&rt, rt.alloc(), shape, which, bytes, wanted);
         }
@@ -126,7 +126,7 @@ fn a_truncated_list_is_rejected(rt: HostRuntime) {
             let is_whole = length.saturating_add(1) == bytes.len();
             let wanted = if is_whole { "none" } else { fault };
             let front = &bytes[..length];
-            is_rejected(&rt, rt.alloc(), *shape, &Which::All, front, wanted);
+            is_rejected(&rt, rt.alloc(), *shape, &Selection::All, front, wanted);
         }
     }
 }
@@ -141,7 +141,7 @@ fn ends_within_an_object(bytes: &[u8], length: usize) -> bool {
 fn has_first_rows(rt: &impl Abort, alloc: Global, front: &str) {
     let count = front.lines().count().min(json::RECEIVED.len());
     let same = store_of(rt, alloc, &json::RECEIVED[..count]);
-    let store = loaded(rt, alloc, Shape::JsonLines, FROM, &Which::All, front);
+    let store = loaded(rt, alloc, Shape::JsonLines, FROM, &Selection::All, front);
     has_the_same_rows(rt, &store, &same);
 }
 
@@ -157,7 +157,7 @@ fn lines_truncated_within_an_object_are_rejected(rt: HostRuntime) {
                 &rt,
                 rt.alloc(),
                 Shape::JsonLines,
-                &Which::All,
+                &Selection::All,
                 front,
                 "no JSON",
             );

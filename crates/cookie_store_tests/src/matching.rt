@@ -2,7 +2,7 @@
 use crate::allocations::{ReadCall, reads_or_keeps};
 use crate::checks::is_equal;
 use crate::forms::{FROM as ORIGIN, IN_RON, loaded};
-use crate::saved_lines::Which;
+use crate::saved_lines::Selection;
 use crate::steps::{INSERTED, Step, UPDATED, new_year, take_all};
 use cookie_store::{CookieError, CookieStore};
 use jiff::civil::DateTime;
@@ -73,7 +73,7 @@ static LOADED_ROWS: [Step; 9] = [
 
 #[test]
 fn a_row_of_no_name_or_no_absolute_path_is_given_for_no_url(rt: HostRuntime) {
-    let mut store = loaded(&rt, rt.alloc(), IN_RON, ORIGIN, &Which::All, LOADED);
+    let mut store = loaded(&rt, rt.alloc(), IN_RON, ORIGIN, &Selection::All, LOADED);
     take_all(&rt, rt.alloc(), &mut store, &LOADED_ROWS, new_year());
 }
 

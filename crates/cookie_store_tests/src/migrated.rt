@@ -3,7 +3,7 @@ use crate::built::store_of;
 use crate::checks::{has_the_same_rows, is_equal};
 use crate::forms::{IN_RON, RECEIVED, Shape, save};
 use crate::lists::{Form, load_list};
-use crate::saved_lines::Which;
+use crate::saved_lines::Selection;
 use crate::texts::all_rows;
 use cookie_fakes::Fake;
 use cookie_store::CookieStore;
@@ -118,7 +118,7 @@ fn a_failed_read_stops_the_migration(rt: HostRuntime) {
 // All cookies of the store, as saved in the format.
 fn saved_in(rt: &impl Abort, alloc: Global, shape: Shape, store: &CookieStore) -> Vec<u8> {
     let ample = Fake::new(Vec::new(alloc), usize::MAX, 0);
-    let (outcome, _, fake) = save(alloc, shape, store, &Which::All, ample);
+    let (outcome, _, fake) = save(alloc, shape, store, &Selection::All, ample);
     outcome.expect(rt, "memory");
     fake.inner
 }
@@ -131,7 +131,7 @@ fn list_of(rt: &impl Abort, alloc: Global, lines: &[u8]) -> Vec<u8> {
 
 fn loads_as(rt: &impl Abort, alloc: Global, list: &[u8], store: &CookieStore) {
     let fake = Fake::new(list, usize::MAX, 0);
-    let (outcome, _, _) = load_list(Form::Ron, alloc, &Which::All, fake);
+    let (outcome, _, _) = load_list(Form::Ron, alloc, &Selection::All, fake);
     has_the_same_rows(rt, &outcome.expect(rt, "a store"), store);
 }
 

@@ -3,14 +3,14 @@ use crate::allocations::{end, start};
 use crate::built::{UrlAndValue, store_of};
 use crate::checks::is_equal;
 use crate::loaded::Loaded;
-use crate::saved_lines::{Saved, Which};
+use crate::saved_lines::{Saved, Selection};
 use crate::steps::new_year;
 use cookie_fakes::Fake;
 use cookie_store::device::{Counted, Sink, Source};
 use cookie_store::netscape::NetscapeError;
 use cookie_store::saved::SavedError;
-use cookie_store::serde::netscape;
-use cookie_store::serde::netscape::WellFormed;
+use cookie_store::serde::Which;
+use cookie_store::serde::netscape::{self, WellFormed};
 use cookie_store::{CookieStore, Error};
 use jiff::civil::DateTime;
 use std::alloc::{AllocError, Global};
@@ -33,21 +33,21 @@ fn as_error(error: NetscapeError) -> Error {
     }
 }
 
-pub fn save_file(store: &CookieStore, which: &Which, fake: Fake<Vec<u8>>) -> Saved {
+pub fn save_file(store: &CookieStore, which: &Selection, fake: Fake<Vec<u8>>) -> Saved {
     let mut writer = Counted::new(fake);
     let outcome = match which {
-        Which::All => netscape::save_incl_expired_and_nonpersistent(store, &mut writer),
-        Which::At(now) => netscape::save(store, &mut writer, *now),
+        Selection::All => netscape::save_incl_expired_and_nonpersistent(store, &mut writer),
+        Selection::At(now) => netscape::save(store, &mut writer, *now),
     };
     let outcome = outcome.map_err(as_error);
     (outcome, writer.failures(), writer.into_inner())
 }
 
-pub fn load_file<'a>(alloc: Global, which: &Which, fake: Fake<&'a [u8]>) -> Loaded<'a> {
+pub fn load_file<'a>(alloc: Global, which: &Selection, fake: Fake<&'a [u8]>) -> Loaded<'a> {
     let mut reader = Counted::new(fake);
     let outcome = match which {
-        Which::All => netscape::load_all(alloc, &mut reader, new_year()),
-        Which::At(now) => netscape::load(alloc, &mut reader, *now),
+        Selection::All => netscape::load_all(alloc, &mut reader, new_year()),
+        Selection::At(now) => netscape::load(alloc, &mut reader, *now),
     };
     let outcome = outcome.map_err(as_error);
     (outcome, reader.failures(), reader.into_inner())
@@ -356,7 +356,7 @@ fn has_salvaged(rt: &impl Abort, loaded: &WellFormed, salvaged: &Salvaged) {
 // Loads the well-formed lines, or checks that memory ran out.
 fn is_salvaged(rt: &impl Abort, alloc: Global, salvaged: &Salvaged, ample: bool) {
     start(alloc);
-    let outcome = netscape::from_text_well_formed(alloc, salvaged.0, true, new_year());
+    let outcome = netscape::from_text_well_formed(alloc, salvaged.0, Which::All);
     end(alloc);
     match outcome {
         Ok(loaded) => has_salvaged(rt, &loaded, salvaged),
@@ -378,9 +378,9 @@ fn load_and_save(
     now: DateTime,
 ) -> Result<(usize, Vec<u8>), NetscapeError> {
     let mut reader = Counted::new(Fake::new(file.as_bytes(), 7, 0));
-    let loaded = netscape::load_well_formed(alloc, &mut reader, false, now)?;
+    let loaded = netscape::load_well_formed(alloc, &mut reader, Which::Unexpired(now))?;
     let mut writer = Counted::new(Fake::new(Vec::new(alloc), 7, 0));
-    netscape::save_representable(&loaded.store, &mut writer, true, now)?;
+    netscape::save_representable(&loaded.store, &mut writer, Which::All)?;
     Ok((loaded.malformed.len(), writer.into_inner().inner))
 }
 
@@ -416,7 +416,7 @@ fn is_represented(
 ) {
     let store = store_of(rt, alloc, row.0);
     start(alloc);
-    let outcome = netscape::to_text_representable(&store, true, new_year());
+    let outcome = netscape::to_text_representable(&store, Which::All);
     end(alloc);
     match outcome {
         Ok(file) => {

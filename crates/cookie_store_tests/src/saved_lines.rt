@@ -10,9 +10,9 @@ use std::alloc::{AllocError, Global};
 use std::cell::RefCell;
 use std::process::Abort;
 
-// Which cookies are saved or loaded: all, or those that `save` or `load` selects at the time.
+// Selection cookies are saved or loaded: all, or those that `save` or `load` selects at the time.
 #[derive(Clone, Copy, Debug)]
-pub enum Which {
+pub enum Selection {
     All,
     At(DateTime),
 }
@@ -64,15 +64,15 @@ impl<'r> Names<'r> {
 pub fn save_lines(
     store: &CookieStore,
     names: &Names<'_>,
-    which: &Which,
+    which: &Selection,
     fake: Fake<Vec<u8>>,
 ) -> Saved {
     let mut writer = Counted::new(fake);
     let outcome = match which {
-        Which::All => {
+        Selection::All => {
             store.save_incl_expired_and_nonpersistent(&mut writer, |row| names.text_of(row))
         }
-        Which::At(now) => store.save(&mut writer, |row| names.text_of(row), *now),
+        Selection::At(now) => store.save(&mut writer, |row| names.text_of(row), *now),
     };
     (outcome, writer.failures(), writer.into_inner())
 }
@@ -105,7 +105,7 @@ const REJECTED: [Row; 4] = [
     ("c", "a\nb\n", "a\nb\nc\n"),
 ];
 
-fn is_saved(rt: &impl Abort, alloc: Global, store: &CookieStore, which: &Which, row: &Row) {
+fn is_saved(rt: &impl Abort, alloc: Global, store: &CookieStore, which: &Selection, row: &Row) {
     let (refused, written, requested) = *row;
     let names = Names::new(alloc, false, refused);
     let fake = Fake::new(Vec::new(alloc), usize::MAX, 0);
@@ -122,8 +122,8 @@ fn is_saved(rt: &impl Abort, alloc: Global, store: &CookieStore, which: &Which, 
 fn the_first_error_stops_the_saving(rt: HostRuntime) {
     let store = store_of(&rt, rt.alloc(), &LASTING);
     for row in &REJECTED {
-        is_saved(&rt, rt.alloc(), &store, &Which::All, row);
-        is_saved(&rt, rt.alloc(), &store, &Which::At(new_year()), row);
+        is_saved(&rt, rt.alloc(), &store, &Selection::All, row);
+        is_saved(&rt, rt.alloc(), &store, &Selection::At(new_year()), row);
     }
 }
 
@@ -132,11 +132,11 @@ fn rows_are_saved_in_order(rt: HostRuntime) {
     let store = store_of(&rt, rt.alloc(), &LIVES);
     let day = date(2026, 1, 1);
     for (which, wanted) in &[
-        (Which::All, "a\ns\ne\nm\nb\nc\n"),
-        (Which::At(new_year()), "a\nm\nb\nc\n"),
-        (Which::At(day.at(0, 0, 59, 0)), "a\nm\nb\nc\n"),
-        (Which::At(day.at(0, 1, 0, 0)), "a\nb\n"),
-        (Which::At(day.at(0, 5, 0, 0)), ""),
+        (Selection::All, "a\ns\ne\nm\nb\nc\n"),
+        (Selection::At(new_year()), "a\nm\nb\nc\n"),
+        (Selection::At(day.at(0, 0, 59, 0)), "a\nm\nb\nc\n"),
+        (Selection::At(day.at(0, 1, 0, 0)), "a\nb\n"),
+        (Selection::At(day.at(0, 5, 0, 0)), ""),
     ] {
         is_saved(&rt, rt.alloc(), &store, which, &("", *wanted, *wanted));
     }

@@ -15,9 +15,9 @@ use jiff::civil::date;
 use std::alloc::Global;
 use std::process::Abort;
 
-const INSERTED: StrictResult = Ok(StoreAction::Inserted);
+pub const INSERTED: StrictResult = Ok(StoreAction::Inserted);
 
-const UPDATED: StrictResult = Ok(StoreAction::UpdatedExisting);
+pub const UPDATED: StrictResult = Ok(StoreAction::UpdatedExisting);
 
 const EXPIRED: StrictResult = Ok(StoreAction::ExpiredExisting);
 

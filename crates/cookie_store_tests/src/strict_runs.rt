@@ -2,15 +2,12 @@
 use crate::built::UrlAndValue;
 use crate::checks::is_equal;
 use crate::steps::{new_year, store_under};
+use crate::strict::{INSERTED, UPDATED};
 use crate::texts::{are_all, url};
 use cookie_store::strict::{StrictError, StrictResult, parse};
 use cookie_store::{CookieError, CookieStore, StoreAction};
 use std::alloc::Global;
 use std::process::Abort;
-
-const INSERTED: StrictResult = Ok(StoreAction::Inserted);
-
-const UPDATED: StrictResult = Ok(StoreAction::UpdatedExisting);
 
 const ABOVE_SITE: StrictResult = Err(StrictError::Cookie(CookieError::PublicSuffix));
 

@@ -1,5 +1,5 @@
 -- The store after one more header value of a response.
-use Rattle.std.proofs.Common.{◌≡◌, ℕ, ◌+◌, ◌<◌, List, [], ◌∷◌, ◌++◌, length, map, take, drop, slice_index_or, Bor, Result, Ok, Err, None, OnOk, OnErr, ⊎_elim, refl, sym, ap, ◌∙◌}
+use Rattle.std.proofs.Common.{◌≡◌, ℕ, ◌+◌, ◌<◌, List, [], ◌∷◌, ◌++◌, length, map, take, drop, slice_index_or, Bor, Result, Ok, Err, OnOk, OnErr, ⊎_elim, refl, sym, ap, ◌∙◌}
 use Rattle.std.proofs.lemmas.List.{append_assoc, map-append, map_more, take-append-drop, take-map}
 use Rattle.url.specs.Parts.{Parts}
 use Rattle.cookie_words.specs.Moments.{Moment}
@@ -7,7 +7,7 @@ use Rattle.cookie_parts.specs.declared.cookie_error.CookieError.TheVariants.{Mem
 use Rattle.cookie_parts.specs.declared.store_action.StoreAction.{StoreAction}
 use Rattle.cookie_laws.specs.Contents.{Contents}
 use Rattle.cookie_laws.specs.Runs.{Call, Set}
-use Rattle.cookie_strict.specs.HeaderValue.{header_error}
+use Rattle.cookie_strict.specs.HeaderValue.{PassesEarlyChecks}
 use Rattle.cookie_strict.specs.StrictRuns.{set_calls, store_after_call, strict_call, strict_store_after, IsStrictReply, StopsAt}
 use Rattle.cookie_strict.specs.declared.error.StrictError.{StrictError}
 use Rattle.cookie_strict.specs.declared.error.StrictError.TheVariants.{Cookie}
@@ -47,7 +47,7 @@ next_value d values i url now old before new within known parsed =
 -- and if memory runs out at the next one, the store is that before it
 pub stops_at_value : (d : Bor (List ℕ)) (values : List (Bor (List ℕ))) (i : ℕ) (url : Parts) (now : Moment) (old before new : Contents) → i < length values
     → before ≡ strict_store_after (set_calls url now (take i (map (λ v. v.now) values))) old
-    → header_error (slice_index_or values i d).now ≡ None → new ≡ before → StopsAt url now (map (λ v. v.now) values) old new
+    → PassesEarlyChecks (slice_index_or values i d).now url → new ≡ before → StopsAt url now (map (λ v. v.now) values) old new
 stops_at_value d values i url now old before new within known passes same =
     let value = (slice_index_or values i d).now in
     let all = map (λ (v : Bor (List ℕ)). v.now) values in

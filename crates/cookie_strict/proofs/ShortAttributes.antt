@@ -2,7 +2,7 @@
 use Rattle.std.proofs.Common.{◌≡◌, ℕ, Bool, true, false, not, List, [], ◌∷◌, ◌++◌, map, Option, Some, None, IfSome, Result, Ok, Err, inl, inr, refl, sym, ap, subst, ◌∙◌}
 use Rattle.std.specs.Prelude.{◌&&◌, ◌||◌, ◌==◌, length, is_ok, is_some, is_none, option_map, unwrap_or, codes, if◌then◌else◌}
 use Rattle.std.specs.Result.{result_map_both}
-use Rattle.std.specs.List.{AllByRecursion, cons_option, filter, filter_map, list_any, onto_first}
+use Rattle.std.specs.List.{AllByRecursion, cons_option, filter_map, list_any, onto_first}
 use Rattle.std.proofs.lemmas.Bool.{cases_Bool, cond_both}
 use Rattle.std.proofs.lemmas.List.Splits.{slice_split-cons_yes, slice_split-cons_no}
 use Rattle.url.specs.Parts.{Parts}
@@ -11,15 +11,14 @@ use Rattle.cookie_words.specs.Texts.{pieces, without_dot}
 use Rattle.cookie_raw.specs.Raw.{Raw}
 use Rattle.cookie_raw.specs.Reading.{accepted_value, attribute_is_named, attributes, domain_from, has_equals, http_only_from, is_semicolon, last, last_accepted, name_of, pair_of, reading, value_of}
 use Rattle.cookie_raw.specs.declared.error.RawCookieParseError.{RawCookieParseError}
-use Rattle.cookie_raw.specs.declared.error.RawCookieParseError.TheVariants.{MissingPair, EmptyName}
-use Rattle.cookie_raw.proofs.JoinedPieces.{Attribute, IsPiece, IsWellPrinted, attributes_of_joined, joined, pair_of_joined, present}
-use Rattle.cookie_parts.specs.Cookie.{Row, and_then, cookie_from_header, cookie_of, domain_for, early, early_error, host_only_domain, is_http_only, is_out_of_reach}
+use Rattle.cookie_raw.proofs.JoinedPieces.{Attribute, IsWellPrinted, attributes_of_joined, joined, pair_of_joined, present}
+use Rattle.cookie_parts.specs.Cookie.{Row, and_then, cookie_from_header, cookie_of, domain_for, early, host_only_domain, is_out_of_reach}
 use Rattle.cookie_parts.specs.Domain.{DomainValue, domain_from_attribute}
 use Rattle.cookie_parts.specs.Hosts.{host_of}
 use Rattle.cookie_parts.specs.Outcomes.{ReturnsOrMemory}
 use Rattle.cookie_parts.specs.declared.cookie_error.CookieError.{CookieError}
 use Rattle.cookie_parts.specs.declared.cookie_error.CookieError.TheVariants.{NonHttpScheme, NonRelativeScheme, Memory, Parse}
-use Rattle.cookie_strict.specs.HeaderValue.{attribute_error, has_short, is_long, is_short, joined_attributes, short_attributes, without_long_attributes}
+use Rattle.cookie_strict.specs.HeaderValue.{attribute_error, has_short, is_long, joined_attributes, short_attributes, without_long_attributes}
 use Rattle.cookie_strict.proofs.Attributes.{first_piece}
 
 -- the piece has no `;`
@@ -199,3 +198,9 @@ of_reading (Ok raw) url now = by_reach (is_out_of_reach raw url) _ _ (by_domain 
 pub early_is_error : (text : List ℕ) (url : Parts) (now : Moment) (error : Option CookieError) → error ≡ early (reading text) url
     → IsErrorOf error (cookie_from_header text url now)
 early_is_error text url now error is = subst (λ e. IsErrorOf e (cookie_from_header text url now)) (sym is) (of_reading (reading text) url now)
+
+-- a header value that gives a cookie has none, if its early error would be returned
+pub none_if_ok : {T E : Type 0} (early : Option E) (result : Result T E) (value : T)
+    → ((error : E) → early ≡ Some error → result ≡ Err error) → result ≡ Ok value → early ≡ None
+none_if_ok None result value reported is = refl
+none_if_ok (Some error) result value reported is = let same : result ≡ Err error = reported error refl in absurd (cc)

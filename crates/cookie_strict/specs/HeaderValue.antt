@@ -1,12 +1,12 @@
 -- What the draft checks of a Set-Cookie header value before it is parsed, draft-ietf-httpbis-rfc6265bis 5.6.
-use Rattle.std.specs.Prelude.{ℕ, ◌+◌, ◌==◌, Bool, not, ◌&&◌, ◌||◌, nat_lt, List, ◌∷◌, ◌++◌, filter, flat_map, length, Option, Some, None, is_none, is_some, Result, Ok, Err, if◌then◌else◌}
+use Rattle.std.specs.Prelude.{◌≡◌, ℕ, ◌+◌, ◌==◌, Bool, not, ◌&&◌, ◌||◌, nat_lt, List, ◌∷◌, ◌++◌, filter, flat_map, length, Option, Some, None, is_none, is_some, Result, Ok, Err, if◌then◌else◌}
 use Rattle.std.specs.List.{list_any}
 use Rattle.std.specs.Result.{result_map_both}
 use Rattle.url.specs.Parts.{Parts}
 use Rattle.cookie_words.specs.Moments.{Moment}
 use Rattle.cookie_raw.specs.Raw.{Raw}
 use Rattle.cookie_raw.specs.Reading.{accepted_value, attributes, domain_from, http_only_from, pair_of, reading, value_of}
-use Rattle.cookie_parts.specs.Cookie.{Row, cookie_from_header}
+use Rattle.cookie_parts.specs.Cookie.{Row, cookie_from_header, early}
 use Rattle.cookie_parts.specs.Hosts.{host_of, is_http_scheme}
 use Rattle.cookie_parts.specs.declared.cookie_error.CookieError.{CookieError}
 use Rattle.cookie_parts.specs.declared.cookie_error.CookieError.TheVariants.{NonHttpScheme, NonRelativeScheme, Parse}
@@ -67,6 +67,10 @@ abbrev pub header_error : List ℕ → Option StrictError
 header_error text =
     if has_control text then Some ControlCharacter
     else elim (reading text) [ Ok raw ↦ pair_error raw | Err error ↦ Some (Cookie Parse) ]
+
+-- the header value is not rejected early: neither with `header_error`, nor, without the attributes that are ignored, with `early`
+abbrev pub PassesEarlyChecks : List ℕ → Parts → Type 0
+PassesEarlyChecks text url = (header_error text ≡ None) × (early (reading (without_long_attributes text)) url ≡ None)
 
 -- the cookie of a Set-Cookie header value received from the URL, or the error
 abbrev pub strict_cookie : List ℕ → Parts → Moment → Result Row StrictError

@@ -13,7 +13,7 @@ use Rattle.cookie_laws.specs.Contents.{Contents}
 use Rattle.cookie_laws.specs.Rows.{is_unexpired}
 use Rattle.cookie_laws.specs.Runs.{Call, Set, Insert, Remove, Clear, Stored, step, store_after}
 use Rattle.cookie_laws.specs.SecureLast.{secure_last_calls}
-use Rattle.cookie_strict.specs.HeaderValue.{header_error, pair_error, strict_cookie}
+use Rattle.cookie_strict.specs.HeaderValue.{pair_error, strict_cookie, PassesEarlyChecks}
 use Rattle.cookie_strict.specs.Lifetime.{limited_cookie}
 use Rattle.cookie_strict.specs.SiteRule.{admitted_by_site}
 use Rattle.cookie_strict.specs.StrictRules.{broken_rule}
@@ -99,11 +99,11 @@ allowed_calls (call ∷ calls) store =
 abbrev pub set_calls : Parts → Moment → List (List ℕ) → List Call
 set_calls url now values = map (λ value. Set value url now) values
 
--- memory ran out at a header value that passes the first checks: the cookies of those before it are stored
+-- memory ran out at a header value that is not rejected early: the cookies of those before it are stored
 abbrev pub StopsAt : Parts → Moment → List (List ℕ) → Contents → Contents → Type 0
 StopsAt url now values old new =
     (before : List (List ℕ)) × (value : List ℕ) × (after : List (List ℕ)) × (values ≡ before ++ value ∷ after)
-    × (header_error value ≡ None) × (new ≡ strict_store_after (set_calls url now before) old)
+    × PassesEarlyChecks value url × (new ≡ strict_store_after (set_calls url now before) old)
 
 -- an insertion from a URL that is not secure, at a time at which this row has not expired
 abbrev pub IsInsecureInsertion : Row → Call → Type 0

@@ -10,7 +10,7 @@ ghost use Rattle.cookie_parts.specs.declared.cookie_error.CookieError.TheVariant
 ghost use Rattle.cookie_laws.specs.Contents.{HasCreationOrder};
 ghost use Rattle.cookie_laws.specs.Rows.{are_rows};
 ghost use Rattle.cookie_laws.specs.Runs.{step, Insert, Set, Stored};
-ghost use Rattle.cookie_strict.specs.HeaderValue.{header_error, is_long, without_long_attributes};
+ghost use Rattle.cookie_strict.specs.HeaderValue.{header_error, is_long, without_long_attributes, PassesEarlyChecks};
 ghost use Rattle.cookie_strict.specs.StrictRuns.{allowed_insertion, site_reply, strict_call, strict_insertion, store_after_call, InsertsNew, IsStrictReply};
 ghost use Rattle.cookie_strict.specs.declared.error.StrictError.{StrictError};
 ghost use Rattle.cookie_strict.specs.declared.error.StrictError.TheVariants as strict_error;
@@ -55,7 +55,7 @@ pub fn parse(store: &mut CookieStore, text: &str, url: &Url, now: DateTime) -> S
         → early (reading (without_long_attributes text.now)) url.now ≡ Some error → result ≡ Err (strict_error.Cookie error) }
     ensures early_short { header_error text.now ≡ None → list_any is_long (attributes text.now) ≡ false
         → (error : CookieError) → early (reading text.now) url.now ≡ Some error → result ≡ Err (strict_error.Cookie error) }
-    ensures memory { result ≡ Err (strict_error.Cookie Memory) → header_error text.now ≡ None }
+    ensures memory { result ≡ Err (strict_error.Cookie Memory) → PassesEarlyChecks text.now url.now }
 {
     if let Some(error) = header_error(text) {
         return Err(error);

@@ -17,8 +17,9 @@ use url::Url;
 ///
 /// # Errors
 ///
-/// `AllocError`: out of memory, at a header value that has no control character, is a cookie and is
-/// not too long. The cookies before that one are stored.
+/// `AllocError`: out of memory, at a header value that has no control character, is a cookie, is not
+/// too long, and has none of the errors of `Cookie::parse` that [`parse`] returns whatever memory is
+/// left. The cookies before that one are stored.
 pub fn store_response_cookies(
     store: &mut CookieStore,
     values: &[&str],

@@ -5,27 +5,28 @@ use Rattle.cookie_parts.specs.Hosts.{passes}
 use Rattle.cookie_store.specs.Edits.{put_text, retained_text}
 use Rattle.cookie_store.specs.NetscapeLists.{file_text}
 use Rattle.cookie_store.specs.Rows.{key_of, row_of}
-use Rattle.cookies.specs.Storage.{WritesAs}
-use Rattle.cookies.specs.declared.format.Format.{Format}
-use Rattle.cookies.specs.declared.format.Format.TheVariants.{Json, Jsonl, Ron, Txt}
+use Rattle.cookies.specs.Storage.{WritesFile}
+use Rattle.cookie_serde.specs.declared.format.Format.TheVariants.{Json, Ron, Netscape}
+use Rattle.cookies.specs.declared.format.FileFormat.{FileFormat}
+use Rattle.cookies.specs.declared.format.FileFormat.TheVariants.{JsonLines, Saved}
 
 -- the new contents, of which the rows are what remains
-abbrev pub AfterRemoval : Format → List ℕ → List Row → List ℕ → Type 0
-AfterRemoval Txt contents rows new = new ≡ retained_text rows contents
-AfterRemoval Json contents rows new = WritesAs Json rows (Some []) (Some new)
-AfterRemoval Jsonl contents rows new = WritesAs Jsonl rows (Some []) (Some new)
-AfterRemoval Ron contents rows new = WritesAs Ron rows (Some []) (Some new)
+abbrev pub AfterRemoval : FileFormat → List ℕ → List Row → List ℕ → Type 0
+AfterRemoval (Saved Netscape) contents rows new = new ≡ retained_text rows contents
+AfterRemoval (Saved Json) contents rows new = WritesFile (Saved Json) rows (Some []) (Some new)
+AfterRemoval JsonLines contents rows new = WritesFile JsonLines rows (Some []) (Some new)
+AfterRemoval (Saved Ron) contents rows new = WritesFile (Saved Ron) rows (Some []) (Some new)
 
 -- the file to begin with: the first line of a `cookies.txt` if there is nothing
 abbrev pub begun_file : List ℕ → List ℕ
 begun_file contents = if length contents == 0 then file_text [] else contents
 
 -- the new contents, of which this is the new row
-abbrev pub AfterSet : Format → List ℕ → List Row → Row → List ℕ → Type 0
-AfterSet Txt contents rows cookie new = new ≡ put_text (begun_file contents) cookie
-AfterSet Json contents rows cookie new = WritesAs Json rows (Some []) (Some new)
-AfterSet Jsonl contents rows cookie new = WritesAs Jsonl rows (Some []) (Some new)
-AfterSet Ron contents rows cookie new = WritesAs Ron rows (Some []) (Some new)
+abbrev pub AfterSet : FileFormat → List ℕ → List Row → Row → List ℕ → Type 0
+AfterSet (Saved Netscape) contents rows cookie new = new ≡ put_text (begun_file contents) cookie
+AfterSet (Saved Json) contents rows cookie new = WritesFile (Saved Json) rows (Some []) (Some new)
+AfterSet JsonLines contents rows cookie new = WritesFile JsonLines rows (Some []) (Some new)
+AfterSet (Saved Ron) contents rows cookie new = WritesFile (Saved Ron) rows (Some []) (Some new)
 
 -- the row of this one's key is the same cookie
 abbrev pub has_row : List Row → Row → Bool

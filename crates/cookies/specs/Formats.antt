@@ -1,18 +1,26 @@
 -- The formats of files of cookies.
-use Rattle.std.specs.Prelude.{ℕ, List, bytes_eq, codes, Option, Some, None, option_and_then, if◌then◌else◌}
+use Rattle.std.specs.Prelude.{ℕ, Bool, true, false, List, bytes_eq, codes, Option, Some, None, option_and_then, if◌then◌else◌}
 use Rattle.std.specs.Path.{path_extension}
-use Rattle.cookies.specs.declared.format.Format.{Format}
-use Rattle.cookies.specs.declared.format.Format.TheVariants.{Json, Jsonl, Ron, Txt}
+use Rattle.cookie_serde.specs.declared.format.Format.TheVariants.{Json, Ron, Netscape}
+use Rattle.cookies.specs.declared.format.FileFormat.{FileFormat}
+use Rattle.cookies.specs.declared.format.FileFormat.TheVariants.{JsonLines, Saved}
 
 -- the format with this name
-unfoldable pub format_of_name : List ℕ → Option Format
+unfoldable pub format_of_name : List ℕ → Option FileFormat
 format_of_name name =
-    if bytes_eq name (codes "json") then Some Json
-    else (if bytes_eq name (codes "jsonl") then Some Jsonl
-    else (if bytes_eq name (codes "ron") then Some Ron
-    else (if bytes_eq name (codes "txt") then Some Txt
+    if bytes_eq name (codes "json") then Some (Saved Json)
+    else (if bytes_eq name (codes "jsonl") then Some JsonLines
+    else (if bytes_eq name (codes "ron") then Some (Saved Ron)
+    else (if bytes_eq name (codes "txt") then Some (Saved Netscape)
     else None)))
 
 -- the format that the suffix of a file name stands for
-abbrev pub format_of_file_name : List ℕ → Option Format
+abbrev pub format_of_file_name : List ℕ → Option FileFormat
 format_of_file_name file_name = option_and_then format_of_name (path_extension file_name)
+
+-- the format is that of a `cookies.txt`
+abbrev pub is_cookies_txt : FileFormat → Bool
+is_cookies_txt (Saved Netscape) = true
+is_cookies_txt (Saved Json) = false
+is_cookies_txt (Saved Ron) = false
+is_cookies_txt JsonLines = false

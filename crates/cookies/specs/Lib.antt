@@ -1,4 +1,5 @@
 pub mod Cells
+pub mod Domains
 pub mod Edits
 pub mod Escapes
 pub mod FileNames

@@ -1,7 +1,7 @@
 //! Parses the command line.
 use crate::command_line::command_line;
 use crate::error::{Failure, Usage};
-use crate::format::Format;
+use crate::format::FileFormat;
 use crate::options::{Command, CookieFile, Key, Request, SuffixFile};
 use crate::purge::Purge;
 use clap::ArgMatches;
@@ -9,7 +9,6 @@ use clap::error::ErrorKind;
 use cookie_inputs::parse_unambiguous;
 use cookie_store::saved::read_moment;
 use cookie_store::strict::Context;
-use cookie_words::without_dot;
 use jiff::civil::DateTime;
 use std::alloc::{AllocError, Global};
 use url::Url;
@@ -97,7 +96,7 @@ fn remove<'a>(matches: &ArgMatches<'a>) -> Result<Command<'a>, Usage<'a>> {
     Ok(Command::Remove {
         file: cookie_file(matches, "FILE", "format", "--format")?,
         key: Key {
-            domain: without_dot(word(matches, "DOMAIN")?),
+            domain: word(matches, "DOMAIN")?,
             path: word(matches, "PATH")?,
             name: word(matches, "NAME")?,
         },
@@ -110,7 +109,7 @@ fn purge<'a>(matches: &ArgMatches<'a>) -> Result<Command<'a>, Usage<'a>> {
         purge: Purge::of_options(
             matches.get_flag("expired"),
             matches.get_flag("session"),
-            domain(matches),
+            matches.get_str("domain"),
         ),
     })
 }
@@ -122,14 +121,6 @@ fn convert<'a>(matches: &ArgMatches<'a>) -> Result<Command<'a>, Usage<'a>> {
         skips_malformed: matches.get_flag("skip-malformed"),
         skips_unrepresentable: matches.get_flag("skip-unrepresentable"),
     })
-}
-
-// Returns the domain of an option. Like the table, it may have a dot before it.
-fn domain<'a>(matches: &ArgMatches<'a>) -> Option<&'a str> {
-    match matches.get_str("domain") {
-        Some(domain) => Some(without_dot(domain)),
-        None => None,
-    }
 }
 
 // Returns an argument that `clap` requires.
@@ -146,8 +137,8 @@ fn cookie_file<'a>(
 ) -> Result<CookieFile<'a>, Usage<'a>> {
     let name = word(matches, id)?;
     let format = match matches.get_str(option_id) {
-        Some(format) => Format::of_name(format),
-        None => Format::of_file_name(name),
+        Some(format) => FileFormat::of_name(format),
+        None => FileFormat::of_file_name(name),
     };
     match format {
         Some(format) => Ok(CookieFile { name, format }),

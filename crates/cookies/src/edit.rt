@@ -5,7 +5,7 @@ ghost use Rattle.cookie_store.specs.NetscapeLists.{file_text};
 ghost use Rattle.cookies.specs.Edits.{AfterRemoval, AfterSet, has_row, new_row};
 
 use crate::error::FileError;
-use crate::format::Format;
+use crate::format::FileFormat;
 use crate::storage::written_cookies;
 use cookie_store::edit::{put_line, retain_lines};
 use cookie_store::netscape::new_text;
@@ -14,13 +14,13 @@ use std::alloc::{AllocError, Global};
 
 /// Returns the contents of a file after cookies were removed, of which `store` has the others.
 pub fn after_removal(
-    format: Format,
+    format: FileFormat,
     contents: &[u8],
     store: &CookieStore,
 ) -> Result<Vec<u8>, FileError>
     ensures { IfOk result (λ new. AfterRemoval format contents.now store.now.rows new.items) }
 {
-    if !matches!(format, Format::Txt) {
+    if !format.is_cookies_txt() {
         return written_cookies(format, store);
     }
     let edited = retain_lines(store.allocator(), text_of(contents)?, store)?;
@@ -29,14 +29,14 @@ pub fn after_removal(
 
 /// Returns the contents of a file after `cookie` was set, which `store` has beside the other cookies.
 pub fn after_set(
-    format: Format,
+    format: FileFormat,
     contents: &[u8],
     store: &CookieStore,
     cookie: &Cookie<'_>,
 ) -> Result<Vec<u8>, FileError>
     ensures { IfOk result (λ new. AfterSet format contents.now store.now.rows cookie.now new.items) }
 {
-    if !matches!(format, Format::Txt) {
+    if !format.is_cookies_txt() {
         return written_cookies(format, store);
     }
     let alloc = store.allocator();

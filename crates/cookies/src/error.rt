@@ -8,7 +8,7 @@ use crate::escape::escaped;
 use crate::files::{input_name, output_name};
 use cookie_inputs::SuffixesError;
 use cookie_store::netscape::NetscapeError;
-use cookie_store::serde::MigrateError;
+use cookie_store::serde::{FormatError, MigrateError};
 use cookie_store::strict::StrictError;
 use cookie_store::{CookieError, Error};
 use std::alloc::{AllocError, Global};
@@ -56,18 +56,32 @@ pub enum FileError {
     System(io::Error),
     /// It is not UTF-8.
     NotUtf8,
-    /// Its cookies cannot be read or written.
-    Cookies(Error),
+    /// Its cookies cannot be read or written in its format.
+    Cookies(FormatError),
     /// One of its lines is not a cookie.
     Lines(MigrateError),
     /// It is not a public suffix list.
     Suffixes(SuffixesError),
-    /// It is not a `cookies.txt`, or its cookies cannot be written as one.
-    Netscape(NetscapeError),
+    /// A line of a `cookies.txt` is malformed, and the command has the option to leave it out.
+    Malformed(FormatError),
     /// It has no cookie with the domain, path and name.
     NoCookie,
+    /// It is an open descriptor.
+    Descriptor,
     /// A cookie for a header has a control character of ASCII other than HTAB.
     ControlCharacter,
+}
+
+impl FileError {
+    /// Returns the error of a command with the option to leave out malformed lines.
+    pub fn with_skip_option(self) -> FileError {
+        match self {
+            FileError::Cookies(FormatError::BadLine { line }) => {
+                FileError::Malformed(FormatError::BadLine { line })
+            }
+            error => error,
+        }
+    }
 }
 
 impl fmt::Display for FileError {
@@ -78,8 +92,9 @@ impl fmt::Display for FileError {
             FileError::Cookies(error) => error.fmt(f),
             FileError::Lines(error) => error.fmt(f),
             FileError::Suffixes(error) => error.fmt(f),
-            FileError::Netscape(error) => error.fmt(f),
+            FileError::Malformed(error) => write!(f, "{error}; --skip-malformed leaves it out"),
             FileError::NoCookie => f.write_str("no such cookie"),
+            FileError::Descriptor => f.write_str("an open descriptor cannot be replaced"),
             FileError::ControlCharacter => {
                 f.write_str("a cookie of the request has a control character")
             }
@@ -95,6 +110,12 @@ impl From<io::Error> for FileError {
 
 impl From<Error> for FileError {
     fn from(error: Error) -> FileError {
+        FileError::Cookies(FormatError::from(error))
+    }
+}
+
+impl From<FormatError> for FileError {
+    fn from(error: FormatError) -> FileError {
         FileError::Cookies(error)
     }
 }
@@ -107,13 +128,13 @@ impl From<MigrateError> for FileError {
 
 impl From<NetscapeError> for FileError {
     fn from(error: NetscapeError) -> FileError {
-        FileError::Netscape(error)
+        FileError::Cookies(FormatError::from(error))
     }
 }
 
 impl From<AllocError> for FileError {
     fn from(_error: AllocError) -> FileError {
-        FileError::Cookies(Error::Memory)
+        FileError::from(Error::Memory)
     }
 }
 

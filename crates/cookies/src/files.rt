@@ -11,8 +11,20 @@ use std::process;
 /// The most files that killed programs may leave in a folder before a file in it cannot be replaced.
 const LEFTOVERS: usize = 100;
 
+/// The most symbolic links that a name leads through, as in Linux.
+const LINKS: usize = 40;
+
 /// The permission bits by which the owner reads and writes.
 const OWNER_BITS: u32 = 0o600;
+
+/// An open descriptor that a name stands for.
+#[derive(Clone, Copy, Debug, PartialEq, Eq)]
+enum Descriptor {
+    Output,
+    Error,
+    /// One that has to be opened by its name.
+    Other,
+}
 
 /// Returns the name of what is read.
 pub fn input_name(name: &str) -> &str
@@ -50,13 +62,13 @@ pub fn read(rt: &HostRuntime, name: &str) -> io::Result<Vec<u8>> {
 /// and write bits are kept, and a new file has both. A symbolic link stays, and the file that it
 /// names is replaced. A mount point is written in place. A device or a pipe is written.
 pub fn write(rt: &HostRuntime, name: &str, contents: &[u8]) -> io::Result<()> {
-    match descriptor(name) {
-        Some("1") => return write_all(io::writer(rt), contents),
-        Some("2") => return write_all(rt.stderr(), contents),
-        Some(_) => return append(rt, name, contents),
+    match descriptor_of(rt, name)? {
+        Some(Descriptor::Output) => return write_all(io::writer(rt), contents),
+        Some(Descriptor::Error) => return write_all(rt.stderr(), contents),
+        Some(Descriptor::Other) => return append(rt, name, contents),
         None => {}
     }
-    let is_link = fs::read_link(rt, name).is_ok();
+    let is_link = Path::new(name).is_symlink(rt);
     match fs::metadata(rt, name) {
         Ok(metadata) if !metadata.is_file() => fs::write(rt, name, contents),
         Ok(metadata) => {
@@ -71,16 +83,81 @@ pub fn write(rt: &HostRuntime, name: &str, contents: &[u8]) -> io::Result<()> {
     }
 }
 
-// Returns the number of the open descriptor that a name stands for. The file behind it may be one
-// that others write too, so it can't be replaced.
-fn descriptor(name: &str) -> Option<&str> {
-    match name {
-        "-" | "/dev/stdout" => Some("1"),
-        "/dev/stderr" => Some("2"),
-        _ => match name.strip_prefix("/dev/fd/") {
-            Some(number) => Some(number),
-            None => name.strip_prefix("/proc/self/fd/"),
-        },
+/// Returns whether a name other than `-` stands for an open descriptor, which can't be replaced.
+pub fn is_descriptor(rt: &HostRuntime, name: &str) -> io::Result<bool> {
+    Ok(name != "-" && descriptor_of(rt, name)?.is_some())
+}
+
+// Returns the open descriptor that a name stands for, also through symbolic links. The file behind
+// it may be one that others write too, so it can't be replaced.
+fn descriptor_of(rt: &HostRuntime, name: &str) -> io::Result<Option<Descriptor>> {
+    if name == "-" {
+        return Ok(Some(Descriptor::Output));
+    }
+    let mut path = PathBuf::from_str(rt.alloc(), name)?;
+    for _ in 0..LINKS {
+        let at = in_real_folder(rt, path)?;
+        if let Some(found) = descriptor_at(rt, at.as_path())? {
+            return Ok(Some(found));
+        }
+        let Some(target) = unless_memory(fs::read_link(rt, at.as_str()))? else {
+            return Ok(None);
+        };
+        path = at;
+        path.pop();
+        path.push(target)?;
+    }
+    Ok(None)
+}
+
+// Returns the open descriptor that a path stands for, whose folder has no symbolic links.
+fn descriptor_at(rt: &HostRuntime, path: Path<'_>) -> io::Result<Option<Descriptor>> {
+    match path.as_str() {
+        "/dev/stdout" => return Ok(Some(Descriptor::Output)),
+        "/dev/stderr" => return Ok(Some(Descriptor::Error)),
+        _ => {}
+    }
+    let (Some(folder), Some(number)) = (path.parent(), path.file_name()) else {
+        return Ok(None);
+    };
+    if !folder.starts_with("/proc") || folder.file_name() != Some("fd") {
+        return Ok(None);
+    }
+    let own = unless_memory(fs::canonicalize(rt, "/proc/self"))?;
+    let is_own = own.is_some_and(|own| folder.starts_with(own));
+    Ok(Some(match number {
+        "1" if is_own => Descriptor::Output,
+        "2" if is_own => Descriptor::Error,
+        _ => Descriptor::Other,
+    }))
+}
+
+// Returns a path without symbolic links, `.` and `..` in its folder, or as it is if the folder
+// cannot be resolved.
+fn in_real_folder(rt: &HostRuntime, path: PathBuf) -> io::Result<PathBuf> {
+    let (Some(folder), Some(last)) = (path.as_path().parent(), path.as_path().file_name()) else {
+        return Ok(path);
+    };
+    let folder = if folder.as_str().is_empty() {
+        "."
+    } else {
+        folder.as_str()
+    };
+    match unless_memory(fs::canonicalize(rt, folder))? {
+        Some(mut real) => {
+            real.push(last)?;
+            Ok(real)
+        }
+        None => Ok(path),
+    }
+}
+
+// Returns `None` for any error but out of memory.
+fn unless_memory<T: Drop>(outcome: io::Result<T>) -> io::Result<Option<T>> {
+    match outcome {
+        Ok(value) => Ok(Some(value)),
+        Err(error) if error.kind() == io::ErrorKind::OutOfMemory => Err(error),
+        Err(_) => Ok(None),
     }
 }
 

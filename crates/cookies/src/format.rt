@@ -1,46 +1,50 @@
 //! The formats of files of cookies.
 ghost use Rattle.std.specs.Prelude.{◌≡◌};
-ghost use Rattle.cookies.specs.Formats.{format_of_file_name, format_of_name};
+ghost use Rattle.cookies.specs.Formats.{format_of_file_name, format_of_name, is_cookies_txt};
 
+use cookie_store::serde::Format;
 use std::path::Path;
 
 /// The format of a file of cookies.
 #[derive(Clone, Copy, Debug, PartialEq, Eq)]
-pub enum Format {
-    /// A JSON list.
-    Json,
+pub enum FileFormat {
+    /// A format of the library.
+    Saved(Format),
     /// A JSON object a line.
-    Jsonl,
-    /// A list in RON.
-    Ron,
-    /// The lines of a `cookies.txt`.
-    Txt,
+    JsonLines,
 }
 
 /// The names of the formats, as `--format` takes them.
 pub const FORMAT_NAMES: [&str; 4] = ["json", "jsonl", "ron", "txt"];
 
-impl Format {
+impl FileFormat {
     /// Returns the format with this name.
-    pub fn of_name(name: &str) -> Option<Format>
+    pub fn of_name(name: &str) -> Option<FileFormat>
         ensures { result ≡ format_of_name name.now }
     {
         match name {
-            "json" => Some(Format::Json),
-            "jsonl" => Some(Format::Jsonl),
-            "ron" => Some(Format::Ron),
-            "txt" => Some(Format::Txt),
+            "json" => Some(FileFormat::Saved(Format::Json)),
+            "jsonl" => Some(FileFormat::JsonLines),
+            "ron" => Some(FileFormat::Saved(Format::Ron)),
+            "txt" => Some(FileFormat::Saved(Format::Netscape)),
             _ => None,
         }
     }
 
     /// Returns the format that the suffix of a file name stands for: what follows its last dot.
-    pub fn of_file_name(file_name: &str) -> Option<Format>
+    pub fn of_file_name(file_name: &str) -> Option<FileFormat>
         ensures { result ≡ format_of_file_name file_name.now }
     {
         match Path::new(file_name).extension() {
-            Some(suffix) => Format::of_name(suffix),
+            Some(suffix) => FileFormat::of_name(suffix),
             None => None,
         }
+    }
+
+    /// Returns whether this is the format of a `cookies.txt`.
+    pub fn is_cookies_txt(self) -> bool
+        ensures { result ≡ is_cookies_txt self }
+    {
+        matches!(self, FileFormat::Saved(Format::Netscape))
     }
 }

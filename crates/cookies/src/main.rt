@@ -6,6 +6,7 @@
 
 mod arguments;
 mod command_line;
+mod domain;
 mod edit;
 mod error;
 mod escape;

@@ -1,5 +1,5 @@
 //! What the command line asks for.
-use crate::format::Format;
+use crate::format::FileFormat;
 use crate::purge::Purge;
 use cookie_store::strict::Context;
 use jiff::civil::DateTime;
@@ -9,7 +9,7 @@ use url::Url;
 #[derive(Clone, Copy, Debug, PartialEq, Eq)]
 pub struct CookieFile<'a> {
     pub name: &'a str,
-    pub format: Format,
+    pub format: FileFormat,
 }
 
 /// The file of a public suffix list. The name `-` is standard input.
@@ -20,7 +20,7 @@ pub struct SuffixFile<'a> {
     pub only_listed: bool,
 }
 
-/// The domain, the path and the name of a cookie.
+/// The domain, the path and the name of a cookie, as arguments.
 #[derive(Clone, Copy, Debug, PartialEq, Eq)]
 pub struct Key<'a> {
     pub domain: &'a str,

@@ -1,9 +1,10 @@
 //! Runs a command.
 use crate::arguments::parse;
+use crate::domain::named_domain;
 use crate::edit::{after_removal, after_set, set_cookie};
 use crate::error::{Failure, FileError};
-use crate::files;
-use crate::format::Format;
+use crate::files::{self, input_name, output_name};
+use crate::format::FileFormat;
 use crate::note::Note;
 use crate::options::{Command, CookieFile, Key, Request, SuffixFile};
 use crate::purge::{Purge, purged};
@@ -14,6 +15,7 @@ use crate::storage::{
 use crate::table::table;
 use cookie_inputs::parse_suffixes;
 use cookie_store::psl::List;
+use cookie_store::serde::Format;
 use cookie_store::strict::{self, Context};
 use cookie_store::{CookieStore, HashKey, StoreAlloc, cookie_string};
 use jiff::Timestamp;
@@ -93,12 +95,12 @@ impl<'r> Runner<'r> {
     ) -> Result<(), Failure<'a>> {
         let store = self.load(file, skips_malformed)?;
         if is_json {
-            let list = written_cookies(Format::Json, &store);
+            let list = written_cookies(FileFormat::Saved(Format::Json), &store);
             let list = list.map_err(|error| Failure::input(file.name, error))?;
             return self.write("-", list.as_slice());
         }
         let table = table(&store, self.now);
-        let table = table.map_err(|error| Failure::input(file.name, FileError::Cookies(error)))?;
+        let table = table.map_err(|error| Failure::input(file.name, FileError::from(error)))?;
         self.write("-", table.as_bytes())
     }
 
@@ -138,6 +140,7 @@ impl<'r> Runner<'r> {
         suffixes: Option<SuffixFile<'a>>,
         is_strict: bool,
     ) -> Result<(), Failure<'a>> {
+        self.check_replaceable(file)?;
         let list = self.list(suffixes)?;
         let (before, old) = self.load_or_new(file)?;
         let mut store = before.clone()?;
@@ -159,20 +162,28 @@ impl<'r> Runner<'r> {
     }
 
     fn remove<'a>(&self, file: CookieFile<'a>, key: Key<'a>) -> Result<(), Failure<'a>> {
+        self.check_replaceable(file)?;
         let old = self.read(file)?;
         let mut store = self.well_formed(file, old.as_slice())?;
-        match store.remove(key.domain, key.path, key.name) {
+        let domain = named_domain(&store, key.domain)?;
+        match store.remove(domain.as_str(), key.path, key.name) {
             Some(_) => self.replace(file, after_removal(file.format, old.as_slice(), &store)),
             None => Err(Failure::input(file.name, FileError::NoCookie)),
         }
     }
 
     fn purge<'a>(&self, file: CookieFile<'a>, purge: Purge<'a>) -> Result<(), Failure<'a>> {
+        self.check_replaceable(file)?;
         let old = self.read(file)?;
         let store = self.well_formed(file, old.as_slice())?;
-        match purged(self.alloc, &store, purge, self.now) {
+        let domain = match purge.domain {
+            Some(domain) => Some(named_domain(&store, domain)?),
+            None => None,
+        };
+        let domain = domain.as_deref();
+        match purged(self.alloc, &store, Purge { domain, ..purge }, self.now) {
             Ok(store) => self.replace(file, after_removal(file.format, old.as_slice(), &store)),
-            Err(error) => Err(Failure::input(file.name, FileError::Cookies(error))),
+            Err(error) => Err(Failure::input(file.name, FileError::from(error))),
         }
     }
 
@@ -184,18 +195,21 @@ impl<'r> Runner<'r> {
         skips_unrepresentable: bool,
     ) -> Result<(), Failure<'a>> {
         let store = self.load(input, skips_malformed)?;
-        if !matches!(output.format, Format::Txt) {
+        if !output.format.is_cookies_txt() {
             return self.replace(output, written_cookies(output.format, &store));
         }
         if !skips_unrepresentable {
-            self.replace(output, written_cookies(Format::Txt, &store))?;
+            self.replace(output, written_cookies(output.format, &store))?;
         } else {
-            let file = representable_cookies(&store, self.now);
+            let file = representable_cookies(&store);
             let file = file.map_err(|error| Failure::output(output.name, error))?;
             self.write(output.name, file.text.as_bytes())?;
-            self.say(output.name, Note::LeftOut(file.left_out))?;
+            self.say(output_name(output.name), Note::LeftOut(file.left_out))?;
         }
-        self.say(output.name, Note::WithoutSameSite(same_site_count(&store)))
+        self.say(
+            output_name(output.name),
+            Note::WithoutSameSite(same_site_count(&store)),
+        )
     }
 
     // Reads the cookies of a file. Malformed lines are an error, or are left out and named.
@@ -208,8 +222,8 @@ impl<'r> Runner<'r> {
         if skips_malformed {
             return self.well_formed(file, contents.as_slice());
         }
-        let store = read_cookies(self.alloc, file.format, contents.as_slice(), self.now);
-        store.map_err(|error| Failure::input(file.name, error))
+        let store = read_cookies(self.alloc, file.format, contents.as_slice());
+        store.map_err(|error| Failure::input(file.name, error.with_skip_option()))
     }
 
     // Reads the cookies of the well-formed lines of a file, and names the others.
@@ -218,12 +232,21 @@ impl<'r> Runner<'r> {
         file: CookieFile<'a>,
         contents: &[u8],
     ) -> Result<CookieStore, Failure<'a>> {
-        let loaded = read_well_formed(self.alloc, file.format, contents, self.now);
+        let loaded = read_well_formed(self.alloc, file.format, contents);
         let loaded = loaded.map_err(|error| Failure::input(file.name, error))?;
         for line in loaded.malformed.iter() {
-            self.say(file.name, Note::Malformed(*line))?;
+            self.say(input_name(file.name), Note::Malformed(*line))?;
         }
         Ok(loaded.store)
+    }
+
+    // An edit replaces its file, which cannot be done if the name stands for an open descriptor.
+    fn check_replaceable<'a>(&self, file: CookieFile<'a>) -> Result<(), Failure<'a>> {
+        match files::is_descriptor(self.rt, file.name) {
+            Ok(false) => Ok(()),
+            Ok(true) => Err(Failure::output(file.name, FileError::Descriptor)),
+            Err(error) => Err(Failure::output(file.name, FileError::System(error))),
+        }
     }
 
     // Says something of a file on standard error, unless the count is 0.

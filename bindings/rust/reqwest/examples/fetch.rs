@@ -9,7 +9,7 @@ use std::sync::Arc;
 use std::time::SystemTime;
 use std::{env, process};
 
-use pulleymaroon::CookieStore;
+use pulleymaroon::{CookieStore, Format, Which};
 use pulleymaroon_reqwest::SharedStore;
 use reqwest::blocking::Client;
 
@@ -20,7 +20,8 @@ fn main() -> Result<(), Box<dyn Error>> {
     let client = Client::builder().cookie_provider(store.clone()).build()?;
     let fetched = arguments.try_for_each(|url| print_body(&client, &url));
     // After an error too, the cookies that were received are saved.
-    let list = store.lock().save_json(SystemTime::now(), false)?;
+    let now = SystemTime::now();
+    let list = store.lock().to_text(Format::Json, Which::Persistent, now)?;
     save(Path::new(&file), &list)?;
     Ok(fetched?)
 }
@@ -32,11 +33,13 @@ fn print_body(client: &Client, url: &str) -> reqwest::Result<()> {
 
 /// Returns a store with the cookies of the file, if there is one.
 fn load(file: &Path) -> Result<CookieStore, Box<dyn Error>> {
-    match fs::read_to_string(file) {
-        Ok(list) => Ok(CookieStore::load_json(&list, SystemTime::now(), false)?),
-        Err(error) if error.kind() == ErrorKind::NotFound => Ok(CookieStore::new()?),
-        Err(error) => Err(error.into()),
-    }
+    let list = match fs::read_to_string(file) {
+        Err(error) if error.kind() == ErrorKind::NotFound => return Ok(CookieStore::new()?),
+        list => list?,
+    };
+    let now = SystemTime::now();
+    let store = CookieStore::from_text(&list, Format::Json, Which::Unexpired, now)?;
+    Ok(store)
 }
 
 /// Replaces the file at once. Only its owner can read it.

@@ -7,7 +7,7 @@ use std::sync::Arc;
 use std::thread;
 use std::time::{Duration, SystemTime};
 
-use pulleymaroon::CookieStore;
+use pulleymaroon::{CookieStore, Format, Which};
 use pulleymaroon_reqwest::SharedStore;
 use reqwest::blocking::Client;
 use reqwest::Proxy;
@@ -122,7 +122,7 @@ fn a_cookie_cannot_add_a_header() {
         )
     });
     let list = format!("[{}]", cookies.join(","));
-    let store = CookieStore::load_json(&list, SystemTime::now(), true).unwrap();
+    let store = CookieStore::from_text(&list, Format::Json, Which::All, SystemTime::now()).unwrap();
     let (address, heads) = serve(|_| "200 OK\r\n".to_owned());
     let client = Client::builder()
         .no_proxy()

@@ -4,7 +4,7 @@ use std::panic::{self, AssertUnwindSafe};
 use std::sync::{Arc, Mutex, Weak};
 use std::time::SystemTime;
 
-use pulleymaroon::CookieStore;
+use pulleymaroon::{CookieStore, Format, Which};
 use pulleymaroon_reqwest::SharedStore;
 use reqwest::cookie::CookieStore as _;
 use reqwest::header::HeaderValue;
@@ -179,7 +179,7 @@ fn control_characters_are_not_sent() {
         )
     });
     let list = format!("[{}]", list.join(","));
-    let store = CookieStore::load_json(&list, SystemTime::now(), true).unwrap();
+    let store = CookieStore::from_text(&list, Format::Json, Which::All, SystemTime::now()).unwrap();
     let (store, notes) = noting(store);
     assert_eq!(header(&store), "first=1; tab=1\t2; last=\u{e9}".as_bytes());
     let names = ["crlf", "lf", "nul", "us", "del", r"na\r\nX: me"];

@@ -51,6 +51,7 @@ fn declaration(c: &str) -> String {
         "bool" => "bool",
         "size_t" => "usize",
         "int64_t" => "i64",
+        "uint32_t" => "u32",
         "void *" => "*mut c_void",
         "char *" => "*mut c_char",
         "const char *" => "*const c_char",
@@ -59,6 +60,8 @@ fn declaration(c: &str) -> String {
         "cookie_store_row *" => "*mut cookie_store_row",
         "enum cookie_store_status" => "cookie_store_status",
         "enum cookie_store_same_site" => "cookie_store_same_site",
+        "enum cookie_store_format" => "cookie_store_format",
+        "enum cookie_store_which" => "cookie_store_which",
         unknown => panic!("the type {unknown}"),
     };
     format!("{}: {rust}", &c[begin..])
@@ -78,7 +81,13 @@ fn signature(c: &str) -> String {
 fn enums_agree() {
     let header = header();
     let mut expected = BTreeSet::new();
-    for name in ["cookie_store_status", "cookie_store_same_site"] {
+    for name in [
+        "cookie_store_status",
+        "cookie_store_cross_site",
+        "cookie_store_same_site",
+        "cookie_store_format",
+        "cookie_store_which",
+    ] {
         let constants = between(&header, &format!("enum {name} {{"), '}').split(',');
         expected.extend(
             constants.map(|constant| constant.trim().replace(" =", &format!(": {name} ="))),

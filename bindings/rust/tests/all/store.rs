@@ -3,7 +3,9 @@ use std::num::NonZeroUsize;
 use std::path::Path;
 use std::{env, fs, process};
 
-use pulleymaroon::{Cookie, CookieStore, CrossSite, Error, StoreAction, SYSTEM_SUFFIX_FILE};
+use pulleymaroon::{
+    Cookie, CookieStore, CrossSite, Error, Format, StoreAction, Which, SYSTEM_SUFFIX_FILE,
+};
 
 use crate::{assert_header, at, filled, names, FIRST, LAST, NOW, PAGE, SECURE_PAGE};
 
@@ -68,7 +70,7 @@ fn assert_rows(store: &mut CookieStore, rows: &[Row]) {
 #[test]
 fn cookies_are_parsed() {
     let mut store = CookieStore::new().unwrap();
-    store.use_suffixes("// a comment\nexample\n").unwrap();
+    store.set_suffix_list("// a comment\nexample\n").unwrap();
     assert_rows(&mut store, &ROWS);
     assert_header(&store, PAGE, NOW, "h=1; __Host-p=1");
 }
@@ -93,7 +95,7 @@ fn a_strict_store_keeps_secure_cookies_and_sites() {
     let mut store = CookieStore::new().unwrap();
     store.set_strict(true);
     store.set_domain_limit(NonZeroUsize::new(1).unwrap());
-    store.use_suffixes("example\ns3.b.example\n").unwrap();
+    store.set_suffix_list("example\ns3.b.example\n").unwrap();
     let rows = [
         (SECURE_PAGE, "s=1; Secure", INSERTED),
         (PAGE, "n=1", Err(Error::SecureLimit)),
@@ -134,9 +136,13 @@ fn times_are_checked() {
             Err(Error::BadTime),
             "{now}"
         );
-        assert_eq!(store.save_json(at(now), true), Err(Error::BadTime), "{now}");
         assert_eq!(
-            CookieStore::load_json("[]", at(now), true).unwrap_err(),
+            store.to_text(Format::Json, Which::All, at(now)),
+            Err(Error::BadTime),
+            "{now}"
+        );
+        assert_eq!(
+            CookieStore::from_text("[]", Format::Json, Which::All, at(now)).unwrap_err(),
             Error::BadTime,
             "{now}"
         );
@@ -265,6 +271,25 @@ fn a_limit_evicts_the_first() {
 }
 
 #[test]
+fn limit_and_strictness_are_read() {
+    let mut store = CookieStore::new().unwrap();
+    assert_eq!((store.domain_limit(), store.is_strict()), (None, false));
+    for (limit, strict) in [(1, true), (2, false), (usize::MAX, true)] {
+        let limit = NonZeroUsize::new(limit).unwrap();
+        store.set_domain_limit(limit);
+        store.set_strict(strict);
+        store.clear();
+        assert_eq!(
+            (store.domain_limit(), store.is_strict()),
+            (Some(limit), strict)
+        );
+    }
+    let list = store.to_text(Format::Json, Which::All, at(NOW)).unwrap();
+    let copy = CookieStore::from_text(&list, Format::Json, Which::All, at(NOW)).unwrap();
+    assert_eq!((copy.domain_limit(), copy.is_strict()), (None, false));
+}
+
+#[test]
 fn what_is_no_list_is_an_error() {
     let html = "\n<!DOCTYPE html>\n<html></html>\n";
     let table = [
@@ -277,9 +302,9 @@ fn what_is_no_list_is_an_error() {
     ];
     for (list, expected) in table {
         let mut store = CookieStore::new().unwrap();
-        assert_eq!(store.use_suffixes(list), Err(expected), "{list}");
+        assert_eq!(store.set_suffix_list(list), Err(expected), "{list}");
         assert_eq!(
-            store.use_only_listed_suffixes(list),
+            store.set_only_listed_suffixes(list),
             Err(expected),
             "{list}"
         );
@@ -315,10 +340,10 @@ fn top_level_domains_are_suffixes_unless_only_listed_ones_are() {
         ["shop.co.uk", "co.uk", "shop.np", "np"]
     );
     let mut store = CookieStore::new().unwrap();
-    store.use_suffixes(list).unwrap();
+    store.set_suffix_list(list).unwrap();
     assert_eq!(no_suffixes(&mut store), ["shop.co.uk", "shop.np"]);
     let mut store = CookieStore::new().unwrap();
-    store.use_only_listed_suffixes(list).unwrap();
+    store.set_only_listed_suffixes(list).unwrap();
     assert_eq!(no_suffixes(&mut store), ["shop.co.uk", "shop.np", "np"]);
 }
 
@@ -328,7 +353,7 @@ fn a_file_is_a_list() {
     let use_file = |content: &[u8]| {
         fs::write(&file, content).unwrap();
         let mut store = CookieStore::new().unwrap();
-        let result = store.use_suffix_file(&file);
+        let result = store.set_suffix_file(&file);
         fs::remove_file(&file).unwrap();
         result.map(|()| store)
     };
@@ -347,12 +372,12 @@ fn a_file_is_a_list() {
     }
     let error = CookieStore::new()
         .unwrap()
-        .use_suffix_file(&file)
+        .set_suffix_file(&file)
         .unwrap_err();
     assert_eq!(error.kind(), ErrorKind::NotFound);
     if Path::new(SYSTEM_SUFFIX_FILE).exists() {
         let mut store = CookieStore::new().unwrap();
-        store.use_suffix_file(SYSTEM_SUFFIX_FILE).unwrap();
+        store.set_suffix_file(SYSTEM_SUFFIX_FILE).unwrap();
         assert_eq!(no_suffixes(&mut store), ["shop.co.uk"]);
     }
 }

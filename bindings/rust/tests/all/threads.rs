@@ -1,7 +1,7 @@
 use std::sync::Mutex;
 use std::thread;
 
-use pulleymaroon::CookieStore;
+use pulleymaroon::{CookieStore, Format, Which};
 
 use crate::{assert_header, at, filled, NOW, PAGE};
 
@@ -66,7 +66,7 @@ fn drop_frees_a_store() {
     for _ in 0..400 {
         filled(&[&large]);
         // A store that could not be loaded is freed too.
-        CookieStore::load_json(&large, at(NOW), true).unwrap_err();
+        CookieStore::from_text(&large, Format::Json, Which::All, at(NOW)).unwrap_err();
     }
     let more = resident().saturating_sub(before);
     assert!(more < 100 << 10, "{more} kB");

@@ -5,7 +5,7 @@ use crate::checks::{end_of, has_the_same_rows, is_equal};
 use crate::forms;
 use crate::forms::{CASES as FORMS, Shape};
 use crate::lists::Form;
-use crate::saved_lines::Which;
+use crate::saved_lines::Selection;
 use crate::steps::new_year;
 use crate::texts::{are_given, url};
 use cookie_fakes::Fake;
@@ -37,7 +37,7 @@ fn is_saved(rt: &impl Abort, case: &forms::Case, outcome: &Result<(), Error>, wr
 }
 
 // Checks that the cookies are saved, or out of memory, and that the store keeps them.
-fn are_saved_as(rt: &impl Abort, alloc: Global, case: &forms::Case, which: &Which) {
+fn are_saved_as(rt: &impl Abort, alloc: Global, case: &forms::Case, which: &Selection) {
     let store = store_of(rt, alloc, &forms::RECEIVED);
     let room = Vec::with_capacity(alloc, 1_024).expect(rt, "memory");
     let fake = Fake::new(room, usize::MAX, 0);
@@ -50,7 +50,7 @@ fn are_saved_as(rt: &impl Abort, alloc: Global, case: &forms::Case, which: &Whic
 }
 
 // In each format.
-fn are_saved(rt: &impl Abort, alloc: Global, which: &Which) {
+fn are_saved(rt: &impl Abort, alloc: Global, which: &Selection) {
     for case in &FORMS {
         are_saved_as(rt, alloc, case, which);
     }
@@ -58,12 +58,12 @@ fn are_saved(rt: &impl Abort, alloc: Global, which: &Which) {
 
 #[test]
 fn save(rt: HostRuntime) {
-    are_saved(&rt, rt.alloc(), &Which::At(new_year()));
+    are_saved(&rt, rt.alloc(), &Selection::At(new_year()));
 }
 
 #[test]
 fn save_incl_expired_and_nonpersistent(rt: HostRuntime) {
-    are_saved(&rt, rt.alloc(), &Which::All);
+    are_saved(&rt, rt.alloc(), &Selection::All);
 }
 
 // A format, a text, and what the store loaded from it returns for `FROM`.
@@ -108,7 +108,7 @@ static SOURCES: [Source; 6] = [
     ),
 ];
 
-fn is_loaded(rt: &impl Abort, alloc: Global, url: &Url, source: &Source, which: &Which) {
+fn is_loaded(rt: &impl Abort, alloc: Global, url: &Url, source: &Source, which: &Selection) {
     let (shape, bytes, wanted) = *source;
     let fake = Fake::new(bytes, usize::MAX, 0);
     start(alloc);
@@ -121,7 +121,7 @@ fn is_loaded(rt: &impl Abort, alloc: Global, url: &Url, source: &Source, which: 
     }
 }
 
-fn are_loaded(rt: &impl Abort, alloc: Global, which: &Which) {
+fn are_loaded(rt: &impl Abort, alloc: Global, which: &Selection) {
     let url = url(rt, alloc, FROM);
     for source in &SOURCES {
         is_loaded(rt, alloc, &url, source, which);
@@ -130,10 +130,10 @@ fn are_loaded(rt: &impl Abort, alloc: Global, which: &Which) {
 
 #[test]
 fn load(rt: HostRuntime) {
-    are_loaded(&rt, rt.alloc(), &Which::At(new_year()));
+    are_loaded(&rt, rt.alloc(), &Selection::At(new_year()));
 }
 
 #[test]
 fn load_all(rt: HostRuntime) {
-    are_loaded(&rt, rt.alloc(), &Which::All);
+    are_loaded(&rt, rt.alloc(), &Selection::All);
 }

@@ -10,12 +10,12 @@ use crate::texts::{add, url};
 use cookie_fakes::Fake;
 use cookie_store::CookieStore;
 use cookie_store::device::{Counted, Sink, Source};
-use cookie_store::serde::netscape;
-use cookie_store::serde::netscape::WellFormed;
+use cookie_store::serde::Which;
+use cookie_store::serde::netscape::{self, WellFormed};
 use std::alloc::Global;
 use std::process::Abort;
 
-fn filler(rt: &impl Abort, alloc: Global) -> String {
+pub fn filler(rt: &impl Abort, alloc: Global) -> String {
     repeated(rt, alloc, "v", 400)
 }
 
@@ -89,7 +89,7 @@ fn is_salvaged(rt: &impl Abort, alloc: Global, loaded: &WellFormed, filler: &str
 fn many_malformed_lines_are_left_out(rt: HostRuntime) {
     let filler = filler(&rt, rt.alloc());
     let file = malformed_file(&rt, rt.alloc(), filler.as_str());
-    let loaded = netscape::from_text_well_formed(rt.alloc(), file.as_str(), true, new_year());
+    let loaded = netscape::from_text_well_formed(rt.alloc(), file.as_str(), Which::All);
     let loaded = loaded.expect(&rt, "memory");
     is_salvaged(&rt, rt.alloc(), &loaded, filler.as_str());
 }
@@ -99,7 +99,7 @@ fn many_malformed_lines_are_not_loaded(rt: HostRuntime) {
     let filler = filler(&rt, rt.alloc());
     let file = malformed_file(&rt, rt.alloc(), filler.as_str());
     let mut reader = Counted::new(Fake::new(file.as_bytes(), usize::MAX, 0));
-    let loaded = netscape::load_well_formed(rt.alloc(), &mut reader, false, new_year());
+    let loaded = netscape::load_well_formed(rt.alloc(), &mut reader, Which::Unexpired(new_year()));
     let loaded = loaded.expect(&rt, "a file");
     is_salvaged(&rt, rt.alloc(), &loaded, filler.as_str());
 }
@@ -123,11 +123,11 @@ fn store_with_tabs(rt: &impl Abort, alloc: Global, filler: &str) -> CookieStore 
 }
 
 fn is_represented(rt: &impl Abort, alloc: Global, store: &CookieStore, wanted: &str) {
-    let file = netscape::to_text_representable(store, true, new_year()).expect(rt, "memory");
+    let file = netscape::to_text_representable(store, Which::All).expect(rt, "memory");
     is_equal(rt, &file.left_out, &TABS, &"the string");
     is_same(rt, file.text.as_str(), wanted.trim_end(), &"the string");
     let mut writer = Counted::new(Fake::new(Vec::new(alloc), usize::MAX, 0));
-    let outcome = netscape::save_representable(store, &mut writer, false, new_year());
+    let outcome = netscape::save_representable(store, &mut writer, Which::Persistent(new_year()));
     is_equal(rt, &outcome, &Ok(TABS), &"the file");
     let bytes = writer.into_inner().inner;
     let saved = str::from_utf8(bytes.as_slice()).expect(rt, "UTF-8");

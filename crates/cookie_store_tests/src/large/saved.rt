@@ -1,15 +1,22 @@
-//! Files of 6,000 cookies.
-use super::stores::{COOKIES, Key, has_all, has_all_for, key, pair, store_of_all, text};
+//! Files and lists of 6,000 cookies, and a saved cookie of 100 KB.
+use super::stores::{
+    COOKIES, Key, are_all, has_all, has_all_for, has_pair, key, pair, store_of_all, text,
+};
 use super::{is_same, repeated};
 use crate::checks::{end_of, is_equal};
 use crate::forms::{FROM, IN_JSON, IN_RON, Shape, loaded, save};
-use crate::list_texts::{store_in, text_of, which_of};
+use crate::list_texts::{selection_of, store_in, text_of};
 use crate::lists::Form;
 use crate::texts::add;
 use cookie_fakes::Fake;
-use cookie_store::CookieStore;
 use cookie_store::device::{Counted, Sink, Source};
+use cookie_store::saved::{
+    Saved, SavedDomain, SavedExpiry, from_ron, from_text, list_from_text, list_to_text, to_ron,
+    to_text,
+};
 use cookie_store::serde::migrate_lines;
+use cookie_store::{Cookie, CookieStore};
+use jiff::civil::date;
 use std::alloc::Global;
 use std::process::Abort;
 
@@ -85,7 +92,7 @@ pub fn file(rt: &impl Abort, alloc: Global, shape: Shape, filler: &str) -> Strin
 
 fn is_saved(rt: &impl Abort, alloc: Global, store: &CookieStore, row: &(Shape, bool), file: &str) {
     let fake = Fake::new(Vec::new(alloc), usize::MAX, 0);
-    let (outcome, _, fake) = save(alloc, row.0, store, &which_of(row.1), fake);
+    let (outcome, _, fake) = save(alloc, row.0, store, &selection_of(row.1), fake);
     is_equal(rt, &end_of(&outcome), &"done", row);
     let saved = str::from_utf8(fake.inner.as_slice()).expect(rt, "UTF-8");
     is_same(rt, saved, file, row);
@@ -93,7 +100,7 @@ fn is_saved(rt: &impl Abort, alloc: Global, store: &CookieStore, row: &(Shape, b
 
 // Checks that the store loaded has all cookies. Those of functions of the test are of one URL.
 fn is_loaded(rt: &impl Abort, alloc: Global, row: &(Shape, bool), file: &str, filler: &str) {
-    let store = loaded(rt, alloc, row.0, FROM, &which_of(row.1), file);
+    let store = loaded(rt, alloc, row.0, FROM, &selection_of(row.1), file);
     match row.0 {
         Shape::Lines | Shape::Text => has_all_for(rt, alloc, &store, FROM),
         _ => has_all(rt, alloc, &store, filler),
@@ -149,7 +156,7 @@ fn many_lines_are_migrated(rt: HostRuntime) {
 // Checks the list of the store, and the store of the list, as strings.
 fn is_a_text(rt: &impl Abort, alloc: Global, form: Form, store: &CookieStore, all: bool) {
     let file = file(rt, alloc, Shape::List(form), "");
-    let which = which_of(all);
+    let which = selection_of(all);
     let text = text_of(form, store, &which).expect(rt, "a list");
     is_same(rt, text.as_str(), file.trim_end(), &(form, all));
     let again = store_in(form, alloc, text.as_str(), &which).expect(rt, "a store");
@@ -164,4 +171,91 @@ fn lists_of_many_are_formatted_and_parsed(rt: HostRuntime) {
             is_a_text(&rt, rt.alloc(), form, &store, all);
         }
     }
+}
+
+// The saved form of a cookie.
+fn saved_form(rt: &impl Abort, alloc: Global, key: Key, filler: &str) -> Saved {
+    let host = key.0;
+    let host = format!(in alloc; "h{host}.example").expect(rt, "memory");
+    Saved {
+        raw_cookie: text(rt, alloc, key, filler),
+        path: String::from_str(alloc, "/").expect(rt, "memory"),
+        from_attr: false,
+        domain: SavedDomain::HostOnly(host),
+        expires: SavedExpiry::AtUtc(date(2026, 1, 1).at(0, 1, 0, 0)),
+    }
+}
+
+fn saved_forms(rt: &impl Abort, alloc: Global) -> Vec<Saved> {
+    let mut forms = Vec::new(alloc);
+    for number in 0..COOKIES {
+        let form = saved_form(rt, alloc, key(number), "");
+        forms.push(form).expect(rt, "memory");
+    }
+    forms
+}
+
+// Checks the cookies of the saved forms.
+fn are_saved_forms(rt: &impl Abort, alloc: Global, forms: Vec<Saved>) {
+    let mut items = Vec::new(alloc);
+    for form in forms {
+        items
+            .push(Cookie::from_saved(alloc, form))
+            .expect(rt, "memory");
+    }
+    are_all(rt, alloc, items, "");
+}
+
+// Checks the list of the saved forms, and those of the list.
+fn is_a_list(rt: &impl Abort, alloc: Global, form: Form, forms: &[Saved]) {
+    let file = file(rt, alloc, Shape::List(form), "");
+    let (list, again) = match form {
+        Form::Json => (
+            list_to_text(alloc, forms),
+            list_from_text(alloc, file.as_str()),
+        ),
+        Form::Ron => (to_ron(alloc, forms), from_ron(alloc, file.as_str())),
+    };
+    is_same(
+        rt,
+        list.expect(rt, "memory").as_str(),
+        file.trim_end(),
+        &form,
+    );
+    are_saved_forms(rt, alloc, again.expect(rt, "a list"));
+}
+
+#[test]
+fn lists_of_many_saved_forms_are_formatted_and_parsed(rt: HostRuntime) {
+    let forms = saved_forms(&rt, rt.alloc());
+    for form in [Form::Json, Form::Ron] {
+        is_a_list(&rt, rt.alloc(), form, forms.as_slice());
+    }
+}
+
+const FIRST: Key = (0, 0);
+
+// Checks the cookie of a saved form.
+fn is_first(rt: &impl Abort, alloc: Global, form: Saved, filler: &str) {
+    let cookie = Cookie::from_saved(alloc, form).expect(rt, "a cookie");
+    has_pair(rt, alloc, &cookie, FIRST, filler);
+}
+
+#[test]
+fn a_long_saved_form_is_formatted_and_parsed(rt: HostRuntime) {
+    let filler = repeated(&rt, rt.alloc(), "v", 102_400);
+    let mut line = String::new(rt.alloc());
+    push_cookie(
+        &rt,
+        rt.alloc(),
+        &mut line,
+        Shape::JsonLines,
+        FIRST,
+        filler.as_str(),
+    );
+    let form = saved_form(&rt, rt.alloc(), FIRST, filler.as_str());
+    let text = to_text(rt.alloc(), &form).expect(&rt, "memory");
+    is_same(&rt, text.as_str(), line.as_str(), &"its JSON");
+    let again = from_text(rt.alloc(), line.as_str()).expect(&rt, "a cookie");
+    is_first(&rt, rt.alloc(), again, filler.as_str());
 }

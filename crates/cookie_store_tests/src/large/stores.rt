@@ -3,7 +3,7 @@ use super::is_same;
 use crate::built::{Item, built, cookie};
 use crate::checks::is_equal;
 use crate::steps::{INSERTED, new_year};
-use crate::texts::{add, url};
+use crate::texts::{add, header, url};
 use cookie_store::{Call, Cookie, CookieStore, HashKey, Reply, StoreAction};
 use std::alloc::Global;
 use std::hash::RandomState;
@@ -46,6 +46,14 @@ pub fn text(rt: &impl Abort, alloc: Global, key: Key, filler: &str) -> String {
     format!(in alloc; "n{number}-{host}={host}{filler}; Max-Age=60").expect(rt, "memory")
 }
 
+// Checks the name and the value of the cookie.
+pub fn has_pair(rt: &impl Abort, alloc: Global, cookie: &Cookie<'static>, key: Key, filler: &str) {
+    let (name, value) = (cookie.name(), cookie.value());
+    let got = format!(in alloc; "{name}={value}").expect(rt, "memory");
+    let wanted = pair(rt, alloc, key, "=", filler);
+    is_same(rt, got.as_str(), wanted.as_str(), &key);
+}
+
 fn push_host(rt: &impl Abort, alloc: Global, header: &mut String, host: usize, filler: &str) {
     for number in 0..EACH {
         let pair = pair(rt, alloc, (host, number), "=", filler);
@@ -85,7 +93,7 @@ pub fn has_all_for(rt: &impl Abort, alloc: Global, store: &CookieStore, from: &s
     has_header(rt, store, &url, wanted.as_str());
 }
 
-fn put(rt: &impl Abort, alloc: Global, store: &mut CookieStore, key: Key, filler: &str) {
+pub fn put(rt: &impl Abort, alloc: Global, store: &mut CookieStore, key: Key, filler: &str) {
     let url = host_url(rt, alloc, key.0);
     let text = text(rt, alloc, key, filler);
     let reply = store.parse(text.as_str(), &url, new_year());
@@ -119,25 +127,30 @@ fn the_hash_key_of_many_is_set(rt: HostRuntime) {
     has_all(&rt, rt.alloc(), &store, "");
 }
 
-fn cookie_of(rt: &impl Abort, alloc: Global, key: Key) -> Cookie<'static> {
-    let (address, text) = (address(rt, alloc, key.0), text(rt, alloc, key, ""));
+pub fn cookie_of(rt: &impl Abort, alloc: Global, key: Key, filler: &str) -> Cookie<'static> {
+    let (address, text) = (address(rt, alloc, key.0), text(rt, alloc, key, filler));
     cookie(rt, alloc, &(address.as_str(), text.as_str()))
 }
 
 fn items(rt: &impl Abort, alloc: Global) -> Vec<Item> {
     let mut items = Vec::new(alloc);
     for number in 0..COOKIES {
-        let cookie = cookie_of(rt, alloc, key(number));
+        let cookie = cookie_of(rt, alloc, key(number), "");
         items.push(Ok(cookie)).expect(rt, "memory");
     }
     items
 }
 
+// Checks that the items are all cookies.
+pub fn are_all(rt: &impl Abort, alloc: Global, items: Vec<Item>, filler: &str) {
+    let store = built(alloc, items.into_iter(), false).expect(rt, "a store");
+    has_all(rt, alloc, &store, filler);
+}
+
 #[test]
 fn a_store_is_built_of_many(rt: HostRuntime) {
-    let items = items(&rt, rt.alloc()).into_iter();
-    let store = built(rt.alloc(), items, false).expect(&rt, "a store");
-    has_all(&rt, rt.alloc(), &store, "");
+    let items = items(&rt, rt.alloc());
+    are_all(&rt, rt.alloc(), items, "");
 }
 
 // `Set` for even numbers, `Insert` for odd ones.
@@ -151,7 +164,7 @@ fn call(rt: &impl Abort, alloc: Global, key: Key) -> Call {
         }
     } else {
         Call::Insert {
-            cookie: cookie_of(rt, alloc, key),
+            cookie: cookie_of(rt, alloc, key, ""),
             url,
             now: new_year(),
         }
@@ -176,11 +189,36 @@ fn are_inserted(rt: &impl Abort, replies: &[Reply]) {
     }
 }
 
+fn replies_one_by_one(
+    rt: &impl Abort,
+    alloc: Global,
+    store: &mut CookieStore,
+    calls: Vec<Call>,
+) -> Vec<Reply> {
+    let mut replies = Vec::new(alloc);
+    for call in calls {
+        let reply = store.apply(call).expect(rt, "memory");
+        replies.push(reply).expect(rt, "memory");
+    }
+    replies
+}
+
+// Checks that the calls are done, together or one by one.
+fn are_done(rt: &impl Abort, alloc: Global, are_together: bool) {
+    let mut store = CookieStore::new(alloc);
+    let calls = calls(rt, alloc);
+    let replies = if are_together {
+        store.apply_all(calls).expect(rt, "memory")
+    } else {
+        replies_one_by_one(rt, alloc, &mut store, calls)
+    };
+    are_inserted(rt, replies.as_slice());
+    has_all(rt, alloc, &store, "");
+}
+
 #[test]
 fn many_calls_are_done(rt: HostRuntime) {
-    let mut store = CookieStore::new(rt.alloc());
-    let calls = calls(&rt, rt.alloc());
-    let replies = store.apply_all(calls).expect(&rt, "memory");
-    are_inserted(&rt, replies.as_slice());
-    has_all(&rt, rt.alloc(), &store, "");
+    for are_together in [true, false] {
+        are_done(&rt, rt.alloc(), are_together);
+    }
 }

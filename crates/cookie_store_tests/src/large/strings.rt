@@ -7,7 +7,7 @@ use crate::steps::{INSERTED, new_year};
 use crate::texts::{add, value_of};
 use cookie_store::inputs::{parse_suffixes, parse_unambiguous};
 use cookie_store::psl::List;
-use cookie_store::{CookieStore, StoreAction, strict};
+use cookie_store::{Call, CookieStore, Reply, StoreAction, strict};
 use std::alloc::Global;
 use std::process::Abort;
 use url::Url;
@@ -18,6 +18,7 @@ enum Insertion {
     Parse,
     InsertRaw,
     Insert,
+    Apply,
     StrictParse,
     StrictInsert,
 }
@@ -30,15 +31,17 @@ const HEADER: usize = 102_400;
 // A call, the lengths of the value and of the Path attribute, and whether that attribute counts.
 type Long = (Insertion, usize, usize, bool);
 
-static LONG: [Long; 8] = [
+static LONG: [Long; 10] = [
     (Insertion::Parse, VALUE, HEADER, true),
     (Insertion::InsertRaw, VALUE, HEADER, true),
     (Insertion::Insert, VALUE, HEADER, true),
+    (Insertion::Apply, VALUE, HEADER, true),
     (Insertion::StrictParse, VALUE, HEADER, false),
     (Insertion::StrictInsert, VALUE, HEADER, true),
     (Insertion::Parse, HEADER, VALUE, true),
     (Insertion::InsertRaw, HEADER, VALUE, true),
     (Insertion::Insert, HEADER, VALUE, true),
+    (Insertion::Apply, HEADER, VALUE, true),
 ];
 
 fn attribute(rt: &impl Abort, alloc: Global, long: &Long) -> String {
@@ -49,6 +52,17 @@ fn attribute(rt: &impl Abort, alloc: Global, long: &Long) -> String {
 fn set_cookie(rt: &impl Abort, alloc: Global, long: &Long) -> String {
     let (value, path) = (repeated(rt, alloc, "v", long.1), attribute(rt, alloc, long));
     format!(in alloc; "a={value}; Path={path}").expect(rt, "memory")
+}
+
+// Whether a call as a value inserts the cookie of the page.
+fn inserts_by_call(rt: &impl Abort, alloc: Global, store: &mut CookieStore, text: &str) -> bool {
+    let call = Call::Set {
+        text: String::from_str(alloc, text).expect(rt, "memory"),
+        url: page_url(rt, alloc),
+        now: new_year(),
+    };
+    let reply = store.apply(call).expect(rt, "memory");
+    matches!(reply, Reply::Stored(Ok(StoreAction::Inserted)))
 }
 
 // Whether a call of the module `strict` inserts the cookie of the page.
@@ -76,6 +90,7 @@ fn inserts(
         Insertion::Parse => store.parse(text, url, new_year()) == INSERTED,
         Insertion::InsertRaw => reply_to_raw(rt, alloc, store, text, url) == INSERTED,
         Insertion::Insert => reply_to_cookie(rt, alloc, store, text, url) == INSERTED,
+        Insertion::Apply => inserts_by_call(rt, alloc, store, text),
         Insertion::StrictParse => {
             strict::parse(store, text, url, new_year()) == Ok(StoreAction::Inserted)
         }
@@ -146,6 +161,12 @@ fn has_rules(rt: &impl Abort, alloc: Global, list: &List) {
     has_rule(rt, alloc, list, RULES, false);
 }
 
+// Checks whether a rule matches each top-level domain.
+fn has_default_rule(rt: &impl Abort, list: &List, wanted: bool) {
+    let suffix = list.suffix("example").expect(rt, "a suffix");
+    is_equal(rt, &suffix.is_known(), &wanted, &"the rule `*`");
+}
+
 #[test]
 fn a_long_list_is_parsed_and_cloned(rt: HostRuntime) {
     let rules = rules(&rt, rt.alloc());
@@ -153,6 +174,10 @@ fn a_long_list_is_parsed_and_cloned(rt: HostRuntime) {
     has_rules(&rt, rt.alloc(), &list);
     let copy = list.clone().expect(&rt, "memory");
     has_rules(&rt, rt.alloc(), &copy);
+    has_default_rule(&rt, &copy, false);
+    let list = list.with_default_rule().expect(&rt, "memory");
+    has_rules(&rt, rt.alloc(), &list);
+    has_default_rule(&rt, &list, true);
 }
 
 #[test]

@@ -1,6 +1,5 @@
-use Rattle.std.proofs.Common.{option_map, sym}
-use Rattle.cookie_words.specs.Moments.{moment_of}
-use Rattle.cookie_serde.specs.Saving.{is_among}
+use Rattle.std.proofs.Common.{sym}
+use Rattle.cookie_serde.specs.Selections.{is_selected}
 use Rattle.cookie_serde.proofs.ListedRows.{on_error, some_walked}
 use Rattle.cookie_serde.proofs.custom.copies_of.Goals as goal
 
@@ -8,5 +7,5 @@ pub returns-in_err-push-clause-memory : goal.returns-in_err-push-clause-memory
 returns-in_err-push-clause-memory c =
     let l = c.loop-row in
     on_error c.from_residual-in_err-push.result
-    (some_walked (is_among (option_map moment_of c.args.now.now)) c.args.store.now.rows l.yielded c.in-Some.row l.row-iterator c.next.new.self
-    c.in-Some.ensures.steps l.invariant.rest (sym c.if-is_among.ensures))
+    (some_walked (is_selected c.args.which) c.args.store.now.rows l.yielded c.in-Some.row l.row-iterator c.next.new.self
+    c.in-Some.ensures.steps l.invariant.rest (sym c.if-selects.ensures))

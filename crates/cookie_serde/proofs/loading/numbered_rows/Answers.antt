@@ -2,7 +2,6 @@ use Rattle.std.proofs.Common.{◌∙◌, ◌+◌, ◌-◌, ◌^◌, [], ◌∷�
 use Rattle.std.specs.Fn.{FnReturnsAt}
 use Rattle.std.proofs.lemmas.Option.{IfSome_then}
 use Rattle.std.proofs.lemmas.Result.{err_from_is_err_and}
-use Rattle.cookie_words.specs.Moments.{moment_of}
 use Rattle.cookie_serde.specs.Loading.{ParsesToCookie}
 use Rattle.cookie_serde.proofs.LoadErrors.{stops_at, stops_reading}
 use Rattle.cookie_serde.proofs.LoadedLines.{IsEnded, begun, built_none, ended, filled, finished, last_found, next_found, not_read, number_more, passed, taken_built, within}
@@ -17,7 +16,7 @@ lines-init g c = record {
     [],
     [],
     tt,
-    c.new-rows.ensures ∙ built_none c.args.include_expired (moment_of c.args.now),
+    c.new-rows.ensures ∙ built_none c.args.which,
     refl,
     rw c.new-input.ensures (begun (g.R.Source.state c.args.source.now).remaining),
   );
@@ -39,7 +38,7 @@ lines-preserved-in-Some g c =
     let (done, cookies, are_made, are_built, number, known) = c.lines.invariant.loaded in
     let Parses = FnReturnsAt g.F.Fn c.args.cookie_of in
     let line = c.line-line.result.now in
-    let (cookie, parses_it, built_now) = taken_built Parses _ _ _ _ _ cookies c.in_ok-insert_numbered.ensures.taken are_built in
+    let (cookie, parses_it, built_now) = taken_built Parses _ _ _ _ cookies c.in_ok-insert_numbered.ensures.taken are_built in
     record {
       reads = c.lines.invariant.reads;
       loaded = (
@@ -122,7 +121,7 @@ returns-clause-built g c =
     elim c.if-not-is_empty.branch [
       | then-not-is_empty+in_ok-insert_numbered-2 w ↦
           let takes = rw c.rest-line.ensures at w.in_ok-insert_numbered-2.ensures.taken in
-          let (cookie, parses_it, built_now) = taken_built Parses _ _ _ _ _ cookies takes are_built in
+          let (cookie, parses_it, built_now) = taken_built Parses _ _ _ _ cookies takes are_built in
           let some = rw c.rest-line.ensures at w.if-not-is_empty.ensures in (
             done ++ c.fill.new.self ∷ [],
             cookies ++ cookie ∷ [],

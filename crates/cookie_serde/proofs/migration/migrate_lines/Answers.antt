@@ -3,6 +3,7 @@ use Rattle.std.proofs.lemmas.Result.{err_from_is_err_and}
 use Rattle.cookie_laws.specs.Contents.{Contents}
 use Rattle.cookie_laws.specs.Rows.{RowsInOrder}
 use Rattle.cookie_serde.specs.Migration.{HaveSavedForms}
+use Rattle.cookie_serde.proofs.BuiltAll.{built_all}
 use Rattle.cookie_serde.proofs.Migrated.{migrates_by}
 use Rattle.cookie_serde.proofs.NoneEarly.{none_built}
 use Rattle.cookie_serde.proofs.migration.migrate_lines.Goals as goal
@@ -15,5 +16,5 @@ returns-in_err-rows-clause-failed g c =
 pub returns-clause-saved : goal.returns-clause-saved
 returns-clause-saved g c =
     let (texts, cookies, created, built, known) = c.in_ok-rows.ensures.built in
-    let rows = ap (λ (store : Contents). store.rows) c.from_rows.ensures ∙ ap (λ (kept : RowsInOrder). kept.rows) built in
+    let rows = ap (λ (store : Contents). store.rows) c.from_rows.ensures ∙ ap (λ (kept : RowsInOrder). kept.rows) (built ∙ built_all cookies) in
     subst HaveSavedForms (sym rows) (none_built texts cookies created)

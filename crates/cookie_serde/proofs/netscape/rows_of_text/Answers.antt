@@ -32,7 +32,7 @@ loop-index-preserved-in-Continue-branch-3 c =
       so_far.0 ++ c.in-Some-2.cookie ∷ [],
       next_rows c.reads_line_by_line.ensures.next c.args.text.now c.loop-index.yielded (c.in-Some.index, c.in-Some.line) c.in-Some.index
           c.in-Some.line.now so_far.0 (Some c.in-Some-2.cookie) turn.0 turn.1 so_far.1 (c.in_ok-cookie.ensures.cookie ∙ ap Some c.in-Some-2.is),
-      c.in_ok-take.ensures.built so_far.0 so_far.2,
+      c.in_ok-take.ensures.taken so_far.0 so_far.2,
     )
 
 pub returns-in_err-cookie-clause-failed : goal.returns-in_err-cookie-clause-failed

@@ -2,10 +2,9 @@ use Rattle.std.proofs.Common.{◌≡◌, ◌⊎◌, ℕ, ◌+◌, inl, inr, List
 use Rattle.std.specs.Str.Lines.{lines}
 use Rattle.std.proofs.lemmas.Iterator.Consumers.{YieldsList-at, YieldsList-end, YieldsList-from_enumerate, YieldsList-turn}
 use Rattle.std.proofs.lemmas.Iterator.Splits.{YieldsList-from_lines}
-use Rattle.cookie_words.specs.Moments.{moment_of}
 use Rattle.cookie_netscape.specs.Files.{malformed_from, well_formed_rows}
 use Rattle.cookie_laws.specs.Contents.{rows_in_order}
-use Rattle.cookie_laws.specs.Rows.{built}
+use Rattle.cookie_serde.specs.Selections.{built_from}
 use Rattle.cookie_serde.proofs.NumberedLines.{all_lines}
 use Rattle.cookie_serde.proofs.WellFormedLines.{at_line, has_line, next_line, on_err}
 use Rattle.cookie_serde.proofs.netscape.well_formed.Goals as goal
@@ -19,8 +18,8 @@ loop-index-preserved-in-Continue-1 c =
     let more = next_line c.args.text.now c.loop-index.yielded (c.in-Some.index, c.in-Some.line) c.in-Some.index c.in-Some.line.now (Some (Some c.in-Ok-Some.cookie)) turn.0 turn.1
     (c.in-Ok-Some.ensures.cookie ∙ ap Some c.in-Ok-Some.field-0-is) in
     record {
-      rows = c.in_ok-take-in-Ok-Some.ensures.built (well_formed_rows (take (length c.loop-index.yielded) (lines c.args.text.now))) c.loop-index.invariant.rows
-          ∙ ap (built c.args.include_expired (moment_of c.args.now)) (sym more.0);
+      rows = c.in_ok-take-in-Ok-Some.ensures.taken (well_formed_rows (take (length c.loop-index.yielded) (lines c.args.text.now))) c.loop-index.invariant.rows
+          ∙ ap (built_from c.args.which) (sym more.0);
       numbers = c.loop-index.invariant.numbers ∙ sym (more.1 ∙ append-nil _);
     }
 
@@ -42,7 +41,7 @@ loop-index-preserved-in-Ok-None c =
     let more = next_line c.args.text.now c.loop-index.yielded (c.in-Some.index, c.in-Some.line) c.in-Some.index c.in-Some.line.now (Some None) turn.0 turn.1
     (c.in-Ok-None.ensures.cookie ∙ ap Some c.in-Ok-None.field-0-is) in
     record {
-      rows = c.loop-index.invariant.rows ∙ ap (built c.args.include_expired (moment_of c.args.now)) (sym (more.0 ∙ append-nil _));
+      rows = c.loop-index.invariant.rows ∙ ap (built_from c.args.which) (sym (more.0 ∙ append-nil _));
       numbers = c.loop-index.invariant.numbers ∙ sym (more.1 ∙ append-nil _);
     }
 
@@ -57,7 +56,7 @@ loop-index-preserved c =
     bad.1 in
     let pushed = rw c.in-Err-BadLine.field-0-is at c.in_ok-push-in-Err-BadLine.ensures.items in
     record {
-      rows = c.loop-index.invariant.rows ∙ ap (built c.args.include_expired (moment_of c.args.now)) (sym (more.0 ∙ append-nil _));
+      rows = c.loop-index.invariant.rows ∙ ap (built_from c.args.which) (sym (more.0 ∙ append-nil _));
       numbers = pushed ∙ ap₂ (λ (items : List ℕ) (n : ℕ). items ++ n ∷ []) c.loop-index.invariant.numbers bad.0 ∙ sym more.1;
     }
 
@@ -93,6 +92,6 @@ returns-clause-built c =
     let seen = YieldsList-end road c.loop-index.yielded _ c.loop-index.yielded_by _ _ c.in-None.is c.next.ensures.steps in
     let all = all_lines (length c.loop-index.yielded) (lines c.args.text.now) seen.1 in (
       ap rows_in_order c.from_rows.ensures ∙ c.loop-index.invariant.rows
-          ∙ ap (λ visited. built c.args.include_expired (moment_of c.args.now) (well_formed_rows visited)) all,
+          ∙ ap (λ visited. built_from c.args.which (well_formed_rows visited)) all,
       c.loop-index.invariant.numbers ∙ ap (malformed_from 1) all,
     )

@@ -1,7 +1,0 @@
-use Rattle.std.proofs.Common.{inl}
-use Rattle.cookie_store_c.specs.declared.status.Status.TheVariants.{HasStore}
-use Rattle.cookie_store_c.proofs.list_exports.cookie_store_load_json.Goals as goal
-
-pub returns-in-Some-clause-outcome : goal.returns-in-Some-clause-outcome
-returns-in-Some-clause-outcome c =
-    (HasStore, c.code.ensures, rw (← c.in-Some.ensures.taken) (inl (λ i. record { status = HasStore; store = c.put.ensures.store i })))
