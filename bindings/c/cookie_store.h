@@ -36,10 +36,10 @@
  *
  *   A `cookie_store` is a handle: two words that the caller allocates, and that either hold a store
  *   or are empty. A handle starts empty, as COOKIE_STORE_INIT or as all zero bytes.
- *   cookie_store_new and cookie_store_load create a store in an empty handle. cookie_store_free
- *   frees the store and leaves the handle empty, so that it can be used again. A handle may be moved
- *   with memcpy if the old one is not used again; otherwise it must not be copied. Its members are
- *   private.
+ *   cookie_store_new, cookie_store_clone and cookie_store_load create a store in an empty handle.
+ *   cookie_store_free frees the store and leaves the handle empty, so that it can be used again. A
+ *   handle may be moved with memcpy if the old one is not used again; otherwise it must not be
+ *   copied: cookie_store_clone copies a store. Its members are private.
  *
  * Ownership
  *
@@ -291,6 +291,17 @@ typedef struct cookie_store {
  * May return NO_MEMORY instead of OK. */
 enum cookie_store_status cookie_store_new(cookie_store *store, const char *key, size_t key_len);
 
+/* Creates a copy of the store in an empty handle, `copy`.
+ *
+ * The copy has the same cookies in the same order and creation order, the public suffix list, the
+ * limit and the hash key, and is strict if the store is. After that the two are independent. The two
+ * handles must differ.
+ *
+ * Errors, in the order in which they are checked: NO_STORE, if `store` is empty; HAS_STORE, if `copy`
+ * is not.
+ * May return NO_MEMORY instead of OK; then `copy` stays empty. */
+enum cookie_store_status cookie_store_clone(cookie_store *store, cookie_store *copy);
+
 /* Frees the store and leaves the handle empty. Does nothing if the handle is empty. */
 void cookie_store_free(cookie_store *store);
 
@@ -332,7 +343,8 @@ enum cookie_store_status cookie_store_set_domain_limit(cookie_store *store, size
  * Returns 0 if there is none, or if the handle is empty. */
 size_t cookie_store_domain_limit(cookie_store *store);
 
-/* Sets whether the store is strict. A store that was just created or loaded is not.
+/* Sets whether the store is strict. A store that was just created or loaded is not, and a copy is if
+ * its original is.
  *
  * Into a strict store, cookie_store_parse inserts by rules that the revision of RFC 6265,
  * draft-ietf-httpbis-rfc6265bis, adds and browsers follow: the statuses 40 to 46 list what is
@@ -434,6 +446,15 @@ enum cookie_store_status cookie_store_header_cross_site(cookie_store *store, con
 enum cookie_store_status cookie_store_remove(cookie_store *store, const char *domain, size_t domain_len, const char *path,
                                              size_t path_len, const char *name, size_t name_len);
 
+/* Removes the cookies of this domain, host-only cookies and domain cookies, expired or not. The others
+ * keep their order.
+ *
+ * The domain is compared byte for byte with those that cookie_store_rows writes. `*removed` is set to
+ * the number of cookies removed, and to 0 on an error.
+ *
+ * Errors, in the order in which they are checked: NO_STORE, NOT_UTF8. */
+enum cookie_store_status cookie_store_remove_domain(cookie_store *store, const char *domain, size_t domain_len, size_t *removed);
+
 /* Removes all cookies. Public suffix list, limit and hash key stay, and a strict store stays strict.
  *
  * Errors: NO_STORE. */
@@ -496,6 +517,18 @@ typedef struct cookie_store_row {
  * or more. */
 enum cookie_store_status cookie_store_rows(cookie_store *store, cookie_store_row *rows, size_t rows_len, char *strings,
                                            size_t strings_len, size_t *rows_needed, size_t *strings_needed);
+
+/* Writes the cookies of a request for `url` at `now`, RFC 6265 5.4: those of the header that
+ * cookie_store_header writes, in the same order.
+ *
+ * They are written as cookie_store_rows writes all cookies, and `*rows_needed` is 0 if there are no
+ * cookies for the URL.
+ *
+ * Errors, in the order in which they are checked: NO_STORE, NOT_UTF8, BAD_TIME, BAD_URL, NO_ROOM.
+ * May return NO_MEMORY instead of BAD_URL, NO_ROOM or OK. */
+enum cookie_store_status cookie_store_cookies_for(cookie_store *store, const char *url, size_t url_len, int64_t now,
+                                                  cookie_store_row *rows, size_t rows_len, char *strings, size_t strings_len,
+                                                  size_t *rows_needed, size_t *strings_needed);
 
 /* The formats of saved cookies, all in UTF-8. */
 enum cookie_store_format {

@@ -55,6 +55,16 @@ static void grow(size_t size) {
     free(grown);
 }
 
+/* Whether the store has the cookies that it started with, or still does not exist. */
+static bool is_as_it_was(cookie_store *store, bool is_begun) {
+    char out[ROOM];
+    size_t needed = 0, left_out;
+    enum cookie_store_status status =
+        cookie_store_save(store, COOKIE_STORE_JSON, COOKIE_STORE_ALL, NOW, out, sizeof out, &needed, &left_out);
+    if (!is_begun) return status == COOKIE_STORE_NO_STORE;
+    return status == COOKIE_STORE_OK && needed == saved_len[COOKIE_STORE_JSON] && memcmp(out, saved[COOKIE_STORE_JSON], needed) == 0;
+}
+
 static enum cookie_store_status begin(cookie_store *store) { return cookie_store_new(store, "", 0); }
 
 static enum cookie_store_status parse_new(cookie_store *store) {
@@ -91,6 +101,39 @@ static enum cookie_store_status cross_site(cookie_store *store, uint32_t request
 static enum cookie_store_status header_cross_site(cookie_store *store) { return cross_site(store, COOKIE_STORE_TOP_LEVEL, NOW); }
 static enum cookie_store_status header_bad_flag(cookie_store *store) { return cross_site(store, 4, NOW); }
 static enum cookie_store_status header_bad_time(cookie_store *store) { return cross_site(store, COOKIE_STORE_TOP_LEVEL, INT64_MAX); }
+
+static enum cookie_store_status cookies_at(cookie_store *store, int64_t now) {
+    char out[256];
+    cookie_store_row rows[4];
+    size_t rows_needed, strings_needed;
+    enum cookie_store_status status =
+        cookie_store_cookies_for(store, TEXT(PAGE), now, rows, 4, out, sizeof out, &rows_needed, &strings_needed);
+    return rows_needed == (status == COOKIE_STORE_OK ? 3 : 0) ? status : COOKIE_STORE_PARSE;
+}
+
+static enum cookie_store_status cookies_for(cookie_store *store) { return cookies_at(store, NOW); }
+static enum cookie_store_status cookies_for_bad_time(cookie_store *store) { return cookies_at(store, INT64_MAX); }
+
+/* The copy has the cookies of the store, or there is none. */
+static enum cookie_store_status clone_store(cookie_store *store) {
+    cookie_store copy = COOKIE_STORE_INIT;
+    enum cookie_store_status status = cookie_store_clone(store, &copy);
+    grow(END);
+    bool is_well = is_as_it_was(&copy, status == COOKIE_STORE_OK);
+    cookie_store_free(&copy);
+    return is_well ? status : COOKIE_STORE_PARSE;
+}
+
+/* Begins a store, for which no allocation fails, and copies another one into it. */
+static enum cookie_store_status clone_into(cookie_store *store) {
+    cookie_store copy = COOKIE_STORE_INIT;
+    grow(END);
+    if (begin(&copy) != COOKIE_STORE_OK) return COOKIE_STORE_PARSE;
+    grow(START);
+    enum cookie_store_status status = cookie_store_clone(store, &copy);
+    cookie_store_free(&copy);
+    return status;
+}
 
 static enum cookie_store_status set_suffix_list(cookie_store *store) {
     size_t line;
@@ -167,6 +210,11 @@ static enum cookie_store_status remove_cookie(cookie_store *store) {
     return cookie_store_remove(store, TEXT("a.example"), TEXT("/d"), TEXT("a"));
 }
 
+static enum cookie_store_status remove_domain(cookie_store *store) {
+    size_t removed;
+    return cookie_store_remove_domain(store, TEXT("a.example"), &removed);
+}
+
 static enum cookie_store_status remove_expired(cookie_store *store) {
     size_t removed;
     return cookie_store_remove_expired(store, NOW + 60, &removed);
@@ -185,7 +233,13 @@ static const struct {
     {"parse again", true, parse_again, COOKIE_STORE_UPDATED, false},
     {"parse, strict", true, parse_strict, COOKIE_STORE_INSERTED, false},
     {"parse, strict, over a Secure cookie", true, parse_over_secure, COOKIE_STORE_SECURE_STORED, false},
+    {"clone", true, clone_store, COOKIE_STORE_OK, false},
+    {"clone of none", false, clone_store, COOKIE_STORE_NO_STORE, true},
+    {"clone into a store", true, clone_into, COOKIE_STORE_HAS_STORE, true},
     {"header", true, header, COOKIE_STORE_OK, false},
+    {"cookies_for", true, cookies_for, COOKIE_STORE_OK, false},
+    {"cookies_for of none", false, cookies_for, COOKIE_STORE_NO_STORE, true},
+    {"cookies_for, a time out of range", true, cookies_for_bad_time, COOKIE_STORE_BAD_TIME, true},
     {"header_cross_site", true, header_cross_site, COOKIE_STORE_OK, false},
     {"header_cross_site of none", false, header_cross_site, COOKIE_STORE_NO_STORE, true},
     {"header_cross_site, flag 4", true, header_bad_flag, COOKIE_STORE_BAD_OPTION, true},
@@ -212,19 +266,10 @@ static const struct {
     {"load at a time out of range", false, load_bad_time, COOKIE_STORE_BAD_TIME, true},
     {"load not UTF-8", false, load_not_utf8, COOKIE_STORE_NOT_UTF8, true},
     {"remove", true, remove_cookie, COOKIE_STORE_OK, true},
+    {"remove_domain", true, remove_domain, COOKIE_STORE_OK, true},
     {"remove_expired", true, remove_expired, COOKIE_STORE_OK, true},
     {"clear", true, cookie_store_clear, COOKIE_STORE_OK, true},
 };
-
-/* Whether the store has the cookies that it started with, or still does not exist. */
-static bool is_as_it_was(cookie_store *store, bool is_begun) {
-    char out[ROOM];
-    size_t needed = 0, left_out;
-    enum cookie_store_status status =
-        cookie_store_save(store, COOKIE_STORE_JSON, COOKIE_STORE_ALL, NOW, out, sizeof out, &needed, &left_out);
-    if (!is_begun) return status == COOKIE_STORE_NO_STORE;
-    return status == COOKIE_STORE_OK && needed == saved_len[COOKIE_STORE_JSON] && memcmp(out, saved[COOKIE_STORE_JSON], needed) == 0;
-}
 
 /* Runs the call again and again, with the next allocation failing each time, until none fails.
    Returns how many failed, or -1 if the call then behaved wrongly. */

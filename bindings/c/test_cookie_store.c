@@ -177,6 +177,31 @@ static void test_remove_expired(void) {
     cookie_store_free(&store);
 }
 
+/* Cookies of one domain: the others stay, also those of a domain above or below. */
+static void test_remove_domain(void) {
+    static const struct {
+        const char *domain;
+        enum cookie_store_status wanted;
+        size_t removed, remaining;
+    } CALLS[] = {{"\xff", COOKIE_STORE_NOT_UTF8, 0, 5}, {"b.example", COOKIE_STORE_OK, 0, 5}, {"A.example", COOKIE_STORE_OK, 0, 5},
+                 {"a.example", COOKIE_STORE_OK, 3, 2},  {"a.example", COOKIE_STORE_OK, 0, 2}};
+    cookie_store store = COOKIE_STORE_INIT;
+    cookie_store_new(&store, "", 0);
+    parse(&store, "http://a.example/", "a=1", NOW);
+    parse(&store, "http://w.a.example/", "w=2", NOW);
+    parse(&store, "http://a.example/d/", "d=3; Max-Age=60", NOW);
+    parse(&store, "http://w.a.example/", "s=4; Domain=a.example", NOW);
+    parse(&store, "http://example/", "e=5", NOW);
+    for (size_t at = 0; at < sizeof CALLS / sizeof *CALLS; at++) {
+        size_t removed = UNSET;
+        equal("remove_domain", cookie_store_remove_domain(&store, TEXT(CALLS[at].domain), &removed), CALLS[at].wanted);
+        equal("so many are removed", (long)removed, (long)CALLS[at].removed);
+        equal("so many remain", (long)cookie_store_count(&store), (long)CALLS[at].remaining);
+    }
+    gives("of a domain below", &store, "http://w.a.example/", NOW, "w=2");
+    cookie_store_free(&store);
+}
+
 /* The domain limit, and the hash key, which changes no result. */
 static void test_limit_and_key(void) {
     cookie_store store = COOKIE_STORE_INIT;
@@ -240,6 +265,117 @@ static void test_rows(void) {
     cookie_store_free(&store);
 }
 
+/* The cookies of a request, in the order of the Cookie header, with buffers that are too short or just long enough. */
+static void test_cookies_for(void) {
+    static const struct {
+        const char *url;
+        int64_t now;
+        enum cookie_store_status wanted;
+        long rows_needed;
+        const char *strings;
+    } REQUESTS[] = {{"http://a.example/d/page", NOW, COOKIE_STORE_OK, 2, "a.example/da1a.example/b2"},
+                    {"http://a.example/d/page", NOW + 60, COOKIE_STORE_OK, 1, "a.example/b2"},
+                    {"https://a.example/", NOW, COOKIE_STORE_OK, 2, "a.example/b2a.example/s3"},
+                    {"http://b.example/", NOW, COOKIE_STORE_OK, 0, ""},
+                    {"http://a.example/", FIRST - 1, COOKIE_STORE_BAD_TIME, 0, ""},
+                    {"no url", LAST + 1, COOKIE_STORE_BAD_TIME, 0, ""},
+                    {"no url", NOW, COOKIE_STORE_BAD_URL, 0, ""}};
+    cookie_store store = COOKIE_STORE_INIT;
+    cookie_store_row rows[2];
+    char strings[64];
+    size_t rows_needed = UNSET, strings_needed = UNSET;
+    cookie_store_new(&store, "", 0);
+    parse(&store, PAGE, "b=2; Path=/; HttpOnly", NOW);
+    parse(&store, PAGE, "a=1; Max-Age=60", NOW);
+    parse(&store, "https://a.example/", "s=3; Secure", NOW);
+    for (size_t at = 0; at < sizeof REQUESTS / sizeof *REQUESTS; at++) {
+        rows_needed = strings_needed = UNSET;
+        memset(strings, '-', sizeof strings);
+        equal(REQUESTS[at].url,
+              cookie_store_cookies_for(&store, TEXT(REQUESTS[at].url), REQUESTS[at].now, rows, 2, strings, sizeof strings, &rows_needed,
+                                       &strings_needed),
+              REQUESTS[at].wanted);
+        equal("rows of a request", (long)rows_needed, REQUESTS[at].rows_needed);
+        same_text("strings of a request", strings, strings_needed, REQUESTS[at].strings);
+        equal("nothing is written after its strings", strings[strings_needed], '-');
+    }
+    rows_needed = strings_needed = UNSET;
+    equal("a request not UTF-8", cookie_store_cookies_for(&store, NOT_UTF8, LAST + 1, rows, 2, strings, 64, &rows_needed, &strings_needed),
+          COOKIE_STORE_NOT_UTF8);
+    equal("nothing is needed for it", (long)(rows_needed + strings_needed), 0);
+    for (int is_short = 2; is_short >= 0; is_short--) {
+        size_t length = strlen(REQUESTS[0].strings);
+        memset(strings, '-', sizeof strings);
+        enum cookie_store_status status = cookie_store_cookies_for(&store, TEXT(PAGE), NOW, rows, is_short == 2 ? 1 : 2, strings,
+                                                                   length - (is_short == 1), &rows_needed, &strings_needed);
+        equal("a request with room, or not", status, is_short ? COOKIE_STORE_NO_ROOM : COOKIE_STORE_OK);
+        equal("rows needed for it", (long)rows_needed, 2);
+        equal("strings needed for it", (long)strings_needed, (long)length);
+        equal("nothing is written without room", strings[is_short ? 0 : length], '-');
+    }
+    equal("the first row", rows[0].persistent && rows[0].expires == NOW + 60 && !rows[0].has_path && !rows[0].http_only, true);
+    equal("the second row", !rows[1].persistent && rows[1].expires == 0 && rows[1].has_path && rows[1].http_only, true);
+    cookie_store_free(&store);
+}
+
+/* A copy has what its original has, and changes alone. */
+static void test_clone(void) {
+    cookie_store store = COOKIE_STORE_INIT, copy = COOKIE_STORE_INIT;
+    cookie_store_row row;
+    char strings[32];
+    size_t line = UNSET, rows_needed = UNSET, strings_needed = UNSET;
+    cookie_store_new(&store, "", 0);
+    cookie_store_set_suffix_list(&store, TEXT("example"), true, &line);
+    parse(&store, "http://b.example/", "n=1; SameSite=None; Max-Age=60", NOW);
+    cookie_store_set_domain_limit(&store, 2);
+    for (int is_strict = 1; is_strict >= 0; is_strict--) {
+        cookie_store_set_strict(&store, is_strict);
+        equal("clone", cookie_store_clone(&store, &copy), COOKIE_STORE_OK);
+        equal("a copy is strict if its original is", cookie_store_is_strict(&copy), is_strict);
+        equal("the original is as it was", cookie_store_is_strict(&store), is_strict);
+        equal("the limit of a copy", (long)cookie_store_domain_limit(&copy), 2);
+        equal("one cookie", (long)cookie_store_count(&copy), 1);
+        equal("rows of a copy", cookie_store_rows(&copy, &row, 1, strings, sizeof strings, &rows_needed, &strings_needed), COOKIE_STORE_OK);
+        same_text("its strings", strings, strings_needed, "b.example/n1");
+        equal("SameSite=None without Secure", row.same_site == COOKIE_STORE_SAME_SITE_NONE && !row.secure, true);
+        equal("its expiry", (long)(row.expires - NOW), 60);
+        equal("the suffix list of a copy", parse(&copy, PAGE, "a=1; Domain=example", NOW), COOKIE_STORE_PUBLIC_SUFFIX);
+        equal("clone into a copy", cookie_store_clone(&store, &copy), COOKIE_STORE_HAS_STORE);
+        cookie_store_set_strict(&copy, !is_strict);
+        cookie_store_set_domain_limit(&copy, 5);
+        cookie_store_clear(&copy);
+        equal("the original has its limit", (long)cookie_store_domain_limit(&store), 2);
+        equal("the original has its cookie", (long)cookie_store_count(&store), 1);
+        cookie_store_free(&copy);
+    }
+    equal("clone once more", cookie_store_clone(&store, &copy), COOKIE_STORE_OK);
+    cookie_store_free(&store);
+    gives("a copy without its original", &copy, "http://b.example/", NOW, "n=1");
+    equal("clone of none where there is one", cookie_store_clone(&store, &copy), COOKIE_STORE_NO_STORE);
+    equal("it is still there", (long)cookie_store_count(&copy), 1);
+    cookie_store_free(&copy);
+}
+
+/* The creation order, which is not that of the store. */
+static void test_clone_order(void) {
+    cookie_store store = COOKIE_STORE_INIT, copy = COOKIE_STORE_INIT;
+    cookie_store_new(&store, "", 0);
+    parse(&store, PAGE, "a=1; Path=/x", NOW);
+    parse(&store, PAGE, "b=2; Path=/y", NOW);
+    parse(&store, PAGE, "c=3; Path=/x", NOW);
+    cookie_store_set_domain_limit(&store, 2);
+    equal("clone for its order", cookie_store_clone(&store, &copy), COOKIE_STORE_OK);
+    parse(&store, PAGE, "d=4; Path=/z", NOW);
+    parse(&copy, PAGE, "d=4; Path=/z", NOW);
+    for (int is_copy = 0; is_copy < 2; is_copy++) {
+        cookie_store *one = is_copy ? &copy : &store;
+        gives("a and b were created first", one, "http://a.example/x", NOW, "c=3");
+        gives("b is evicted", one, "http://a.example/y", NOW, "");
+        gives("d is created last", one, "http://a.example/z", NOW, "d=4");
+        cookie_store_free(one);
+    }
+}
+
 /* Each value of the SameSite attribute, ignoring case, none, and another, which counts as none. */
 static void test_same_site(void) {
     static const struct {
@@ -279,7 +415,7 @@ static void test_room(void) {
 
 /* Calls with an empty handle, also after its store was freed. */
 static void test_no_store(void) {
-    cookie_store store = COOKIE_STORE_INIT;
+    cookie_store store = COOKIE_STORE_INIT, copy = COOKIE_STORE_INIT;
     cookie_store_row row;
     char out[8];
     size_t needed = UNSET, other = UNSET;
@@ -293,12 +429,20 @@ static void test_no_store(void) {
         equal("the limit that none has", (long)cookie_store_domain_limit(&store), 0);
         equal("key of none", cookie_store_set_hash_key(&store, "", 0), COOKIE_STORE_NO_STORE);
         equal("remove of none", cookie_store_remove(&store, "", 0, "", 0, "", 0), COOKIE_STORE_NO_STORE);
+        equal("remove_domain of none", cookie_store_remove_domain(&store, TEXT("\xff"), &needed), COOKIE_STORE_NO_STORE);
+        equal("none of none", (long)needed, 0);
         equal("clear none", cookie_store_clear(&store), COOKIE_STORE_NO_STORE);
         equal("remove_expired of none", cookie_store_remove_expired(&store, LAST + 1, &needed), COOKIE_STORE_NO_STORE);
         equal("none removed of none", (long)needed, 0);
         equal("count of none", (long)cookie_store_count(&store), 0);
         equal("rows of none", cookie_store_rows(&store, &row, 1, out, sizeof out, &needed, &other), COOKIE_STORE_NO_STORE);
         equal("nothing is needed of none", (long)(needed + other), 0);
+        needed = other = UNSET;
+        equal("cookies for a URL of none",
+              cookie_store_cookies_for(&store, NOT_UTF8, LAST + 1, &row, 1, out, sizeof out, &needed, &other), COOKIE_STORE_NO_STORE);
+        equal("nothing is needed for it", (long)(needed + other), 0);
+        equal("clone of none", cookie_store_clone(&store, &copy), COOKIE_STORE_NO_STORE);
+        equal("no copy of none", (long)cookie_store_count(&copy), 0);
         cookie_store_new(&store, "", 0);
         cookie_store_set_domain_limit(&store, 5);
         cookie_store_set_strict(&store, true);
@@ -353,7 +497,8 @@ static void test_memory(void) {
     char list[1024];
     size_t needed = 0, other = 0, before = 0, line;
     for (int round = 0; round < 1000; round++) {
-        cookie_store store = COOKIE_STORE_INIT;
+        cookie_store store = COOKIE_STORE_INIT, copy = COOKIE_STORE_INIT;
+        cookie_store_row rows[2];
         enum cookie_store_format format = (enum cookie_store_format)(round % 4);
         if (round == 500) before = used();
         cookie_store_new(&store, "", 0);
@@ -367,6 +512,10 @@ static void test_memory(void) {
         parse(&store, PAGE, "c=3; SameSite=Lax", NOW);
         cookie_store_header_cross_site(&store, TEXT(PAGE), NOW, COOKIE_STORE_TOP_LEVEL, list, sizeof list, &needed);
         cookie_store_header(&store, TEXT(PAGE), NOW, list, sizeof list, &needed);
+        cookie_store_cookies_for(&store, TEXT(PAGE), NOW, rows, 2, list, sizeof list, &needed, &other);
+        cookie_store_clone(&store, &copy);
+        cookie_store_clone(&store, &copy);
+        cookie_store_free(&copy);
         cookie_store_save(&store, format, COOKIE_STORE_ALL, NOW, list, sizeof list, &needed, &other);
         cookie_store_remove_expired(&store, NOW + 60, &other);
         cookie_store_remove(&store, TEXT("a.example"), TEXT("/d"), TEXT("a"));
@@ -391,8 +540,12 @@ int main(void) {
     test_header();
     test_remove();
     test_remove_expired();
+    test_remove_domain();
     test_limit_and_key();
     test_rows();
+    test_cookies_for();
+    test_clone();
+    test_clone_order();
     test_same_site();
     test_room();
     test_no_store();

@@ -69,6 +69,15 @@ static void change_key(cookie_store *store, const char *key) {
     parse(store, count);
 }
 
+static void copy(cookie_store *store, const char *key) {
+    cookie_store original = COOKIE_STORE_INIT;
+    cookie_store_new(&original, key, BYTES);
+    parse(&original, TABLE);
+    cookie_store_clone(&original, store);
+    cookie_store_free(&original);
+    parse(store, count);
+}
+
 static void clear(cookie_store *store, const char *key) {
     cookie_store_new(store, key, BYTES);
     parse(store, TABLE);
@@ -122,7 +131,7 @@ int main(int argc, char **argv) {
         void (*make)(cookie_store *, const char *);
     } calls[] = {{"new", begin}, {"new, with a limit", begin_with_limit}, {"load JSON", load_json}, {"load RON", load_ron},
                  {"load cookies.txt", load_netscape}, {"load cookies.txt, lenient", load_lenient}, {"set_hash_key", change_key},
-                 {"clear", clear}};
+                 {"clone", copy}, {"clear", clear}};
     int passed = 0, failed = 0;
     while (count < MOST && scanf("%39s %39[^\n]", urls[count], values[count]) == 2) count++;
     if (argc != 2 || count == 0) return 2;

@@ -171,6 +171,24 @@ static void test_rows(cookie_store *store) {
     equal("the length of all strings", (long)strings_needed, (long)at);
 }
 
+/* A copy of 6,000 cookies, and the rows of 60 of them, which are those of a request. */
+static void test_copy(cookie_store *store) {
+    cookie_store copy = COOKIE_STORE_INIT;
+    size_t rows_needed = UNSET, strings_needed = UNSET;
+    equal("clone", cookie_store_clone(store, &copy), COOKIE_STORE_OK);
+    equal("6,000 are copied", (long)cookie_store_count(&copy), STORED);
+    has_hosts("a copy", &copy, 1, NOW);
+    wanted_len = 0;
+    for (int number = 0; number < REQUEST; number++) append(wanted, &wanted_len, "h7.example/n%d7-%d", number, number);
+    equal("cookies_for",
+          cookie_store_cookies_for(&copy, TEXT("http://h7.example/"), NOW, rows, REQUEST, out, sizeof out, &rows_needed, &strings_needed),
+          COOKIE_STORE_OK);
+    equal("60 rows", (long)rows_needed, REQUEST);
+    same_long("the strings of 60 rows", strings_needed);
+    for (int number = 0; number < REQUEST; number++) equal("the expiry", rows[number].expires, number % 2 ? NOW + 1 : 0);
+    cookie_store_free(&copy);
+}
+
 /* 6,000 cookies: each is found, before and after others are removed. */
 static void test_stored(void) {
     cookie_store store = COOKIE_STORE_INIT;
@@ -180,12 +198,17 @@ static void test_stored(void) {
     equal("count", (long)cookie_store_count(&store), STORED);
     has_hosts("6,000 cookies", &store, 1, NOW);
     test_rows(&store);
+    test_copy(&store);
     memset(input, 'q', KEY);
     equal("set_hash_key", cookie_store_set_hash_key(&store, input, KEY), COOKIE_STORE_OK);
     has_hosts("under another key", &store, 1, NOW);
     equal("remove_expired", cookie_store_remove_expired(&store, NOW + 1, &removed), COOKIE_STORE_OK);
     equal("3,000 are removed", (long)removed, STORED / 2);
     has_hosts("3,000 cookies", &store, 2, NOW);
+    removed = UNSET;
+    memset(input, 'q', KEY);
+    equal("remove_domain", cookie_store_remove_domain(&store, input, KEY, &removed), COOKIE_STORE_OK);
+    equal("none is removed", (long)removed, 0);
     for (int host = 0; host < HOSTS; host++) {
         char domain[64];
         snprintf(domain, sizeof domain, "h%d.example", host);

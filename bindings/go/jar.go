@@ -212,6 +212,18 @@ func (j *Jar) Remove(domain, path, name string) error {
 	return errorOf(status, 0)
 }
 
+// RemoveDomain removes the cookies of this domain, host-only cookies and domain cookies, and returns their number. The domain
+// is as All returns it.
+//
+// Errors: ErrNotUTF8.
+func (j *Jar) RemoveDomain(domain string) (int, error) {
+	j.mu.Lock()
+	defer j.mu.Unlock()
+	var removed C.size_t
+	err := errorOf(C.cookie_store_remove_domain(&j.store, chars(domain), size(domain), &removed), 0)
+	return int(removed), err
+}
+
 // RemoveExpired removes the expired cookies and returns their number. They are never sent, but take memory until they are
 // removed.
 func (j *Jar) RemoveExpired() (int, error) {

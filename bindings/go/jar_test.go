@@ -296,8 +296,14 @@ func TestCookies(t *testing.T) {
 		t.Errorf("Remove: %v", err)
 	}
 	expectAll(t, "after Remove", jar, want[1:2])
+	if count, err := jar.RemoveDomain("com"); count != 0 || err != nil {
+		t.Errorf("RemoveDomain() = %d, %v, want 0", count, err)
+	}
 	parseAll(t, jar, "http://example.com/foo/", "c=; Max-Age=0") // expires the stored one
 	expectHeader(t, jar, "http://example.com/foo/", "")
+	if count, err := jar.RemoveDomain("example.com"); count != 1 || err != nil {
+		t.Errorf("RemoveDomain() = %d, %v, want 1", count, err)
+	}
 	if err := jar.Clear(); err != nil || jar.Len() != 0 || jar.All() != nil {
 		t.Errorf("Clear: %v, and %d cookies", err, jar.Len())
 	}
@@ -345,9 +351,10 @@ func TestClosed(t *testing.T) {
 		}
 		_, headerErr := jar.Header(u)
 		_, expiredErr := jar.RemoveExpired()
+		_, domainErr := jar.RemoveDomain("")
 		for name, err := range map[string]error{
 			"Parse": jar.Parse(u, "a=1"), "Header": headerErr, "Clear": jar.Clear(), "Remove": jar.Remove("", "", ""),
-			"RemoveExpired": expiredErr, "Save": jar.Save(new(strings.Builder), JSON, AllCookies),
+			"RemoveExpired": expiredErr, "RemoveDomain": domainErr, "Save": jar.Save(new(strings.Builder), JSON, AllCookies),
 		} {
 			expectStatus(t, name, err, ErrClosed)
 		}

@@ -26,8 +26,8 @@ WAYS = {
         header.push_str(cookie.value())?;
     }
     Ok(header)''',
-    'in_order': '''    let _alloc = alloc;
-    Ok(store.cookie_header(page, now)?)''',
+    'in_order': '''    let header = store.cookie_header(page, now)?;
+    Ok(header.unwrap_or(String::new(alloc)))''',
 }
 SOURCE = '''//! Makes the Cookie header of 20 cookies many times.
 #![tactic(auto)]

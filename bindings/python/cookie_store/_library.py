@@ -36,10 +36,12 @@ _NUMBER = ctypes.c_uint32
 _TEXT = [ctypes.c_char_p, ctypes.c_size_t]
 _OUT = [ctypes.POINTER(ctypes.c_char), ctypes.c_size_t]
 _LENGTH = ctypes.POINTER(ctypes.c_size_t)
+_ROWS = [ctypes.POINTER(Row), ctypes.c_size_t, *_OUT, _LENGTH, _LENGTH]
 
 #: Result and argument types of each function in cookie_store.h.
 SIGNATURES: Dict[str, Tuple[Any, List[Any]]] = {
     'cookie_store_new': (_NUMBER, [_AT, *_TEXT]),
+    'cookie_store_clone': (_NUMBER, [_AT, _AT]),
     'cookie_store_free': (None, [_AT]),
     'cookie_store_set_suffix_list': (_NUMBER, [_AT, *_TEXT, ctypes.c_bool, _LENGTH]),
     'cookie_store_set_domain_limit': (_NUMBER, [_AT, ctypes.c_size_t]),
@@ -51,10 +53,12 @@ SIGNATURES: Dict[str, Tuple[Any, List[Any]]] = {
     'cookie_store_header': (_NUMBER, [_AT, *_TEXT, ctypes.c_int64, *_OUT, _LENGTH]),
     'cookie_store_header_cross_site': (_NUMBER, [_AT, *_TEXT, ctypes.c_int64, _NUMBER, *_OUT, _LENGTH]),
     'cookie_store_remove': (_NUMBER, [_AT, *_TEXT, *_TEXT, *_TEXT]),
+    'cookie_store_remove_domain': (_NUMBER, [_AT, *_TEXT, _LENGTH]),
     'cookie_store_clear': (_NUMBER, [_AT]),
     'cookie_store_remove_expired': (_NUMBER, [_AT, ctypes.c_int64, _LENGTH]),
     'cookie_store_count': (ctypes.c_size_t, [_AT]),
-    'cookie_store_rows': (_NUMBER, [_AT, ctypes.POINTER(Row), ctypes.c_size_t, *_OUT, _LENGTH, _LENGTH]),
+    'cookie_store_rows': (_NUMBER, [_AT, *_ROWS]),
+    'cookie_store_cookies_for': (_NUMBER, [_AT, *_TEXT, ctypes.c_int64, *_ROWS]),
     'cookie_store_save': (_NUMBER, [_AT, _NUMBER, _NUMBER, ctypes.c_int64, *_OUT, _LENGTH, _LENGTH]),
     'cookie_store_load': (_NUMBER, [_AT, *_TEXT, _NUMBER, _NUMBER, *_TEXT, ctypes.c_int64, _LENGTH, ctypes.c_size_t, _LENGTH]),
 }

@@ -45,7 +45,7 @@ def header_for(store: CookieStore, target: Target) -> str:
     It has no control characters other than HTAB: a cookie that has one, as a loaded list may, is left out.
     """
     try:
-        header = store.header(target.url)
+        header = store.header(target.url) or ''
     except CookieStoreError as error:
         if error.status not in _NOT_VALID:
             raise

@@ -18,7 +18,7 @@ from ._status import BadLine, BadRule, CookieStoreError, Status, check, is_reply
 Text = Union[str, bytes]
 # A public suffix list, and whether only the listed domains are public suffixes.
 _Suffixes = Tuple[bytes, bool]
-# What a copy of a store is made from: its class, list, strictness, public suffix list and limit.
+# What a pickle of a store has: its class, list, strictness, public suffix list and limit.
 _State = Tuple[Type['CookieStore'], str, bool, Optional[_Suffixes], Optional[int]]
 
 #: The public suffix list of Debian's package publicsuffix.
@@ -235,8 +235,8 @@ class CookieStore:
         return rejected
 
     def header(self, url: Text, now: Optional[int] = None, *, same_site: bool = True, top_level: bool = False,
-               lax_by_default: bool = True) -> str:
-        """Return the value of the Cookie header of a request for url, or '' if none is to be sent.
+               lax_by_default: bool = True) -> Optional[str]:
+        """Return the value of the Cookie header of a request for url, or None if none is to be sent.
 
         The cookies are in the order of RFC 6265 5.4: longer paths first, then in creation order.
         The value may have control characters if a cookie did not come as a line of an HTTP header: check
@@ -262,7 +262,7 @@ class CookieStore:
                 self._buffer = ctypes.create_string_buffer(needed.value)
                 number = call(self._at, page, len(page), seconds, *request, self._buffer, len(self._buffer), needed)
             check(number)
-            return ctypes.string_at(self._buffer, needed.value).decode('utf-8')
+            return ctypes.string_at(self._buffer, needed.value).decode('utf-8') or None
 
     def remove(self, domain: Text, path: Text, name: Text) -> bool:
         """Remove the cookie with this domain, path and name, expired or not.
@@ -276,6 +276,17 @@ class CookieStore:
         if number != Status.NOT_FOUND:
             check(number)
         return bool(number == Status.OK)
+
+    def remove_domain(self, domain: Text) -> int:
+        """Remove the cookies of this domain, host-only ones and domain cookies, and return how many.
+
+        The domain is without a leading dot. The others keep their order.
+        """
+        name, removed = _bytes(domain), ctypes.c_size_t()
+        with self._lock:
+            self._cookies = None
+            check(LIBRARY.cookie_store_remove_domain(self._at, name, len(name), removed))
+        return removed.value
 
     def clear(self) -> None:
         """Remove all cookies. The public suffix list and the limit stay, and a strict store stays strict."""
@@ -320,19 +331,28 @@ class CookieStore:
                 self._cookies = _cookies_of(*self._read_rows())
             return list(self._cookies)
 
-    def _sizes(self) -> Tuple[int, int]:
-        """Return the number of cookies, and the bytes of their strings."""
+    def cookies_for(self, url: Text, now: Optional[int] = None) -> List[Cookie]:
+        """Return a list of the cookies of a request for url, in the order of header().
+
+        Raises BAD_URL.
+        """
+        page, seconds = _bytes(url), _seconds(now)
+        with self._lock:
+            return _cookies_of(*self._read_rows(LIBRARY.cookie_store_cookies_for, page, len(page), seconds))
+
+    def _sizes(self, call: Any = LIBRARY.cookie_store_rows, *request: Any) -> Tuple[int, int]:
+        """Return the number of cookies that a call writes, and the bytes of their strings."""
         rows, strings = ctypes.c_size_t(), ctypes.c_size_t()
-        number = LIBRARY.cookie_store_rows(self._at, (Row * 1)(), 0, ctypes.create_string_buffer(1), 0, rows, strings)
+        number = call(self._at, *request, (Row * 1)(), 0, ctypes.create_string_buffer(1), 0, rows, strings)
         if number != Status.NO_ROOM:
             check(number)
         return rows.value, strings.value
 
-    def _read_rows(self) -> Tuple[bytes, bytes]:
-        """Return the rows as the library writes them, and their strings."""
-        count, length = self._sizes()
+    def _read_rows(self, call: Any = LIBRARY.cookie_store_rows, *request: Any) -> Tuple[bytes, bytes]:
+        """Return the rows as a call writes them, and their strings."""
+        count, length = self._sizes(call, *request)
         rows, strings = (Row * max(1, count))(), ctypes.create_string_buffer(max(1, length))
-        check(LIBRARY.cookie_store_rows(self._at, rows, count, strings, length, ctypes.c_size_t(), ctypes.c_size_t()))
+        check(call(self._at, *request, rows, count, strings, length, ctypes.c_size_t(), ctypes.c_size_t()))
         return ctypes.string_at(rows, count * ROW.size), ctypes.string_at(strings, length)
 
     def dumps(self, format: Format = Format.JSON, which: Which = Which.PERSISTENT, now: Optional[int] = None) -> str:
@@ -429,17 +449,25 @@ class CookieStore:
         return store, lines[:malformed.value]
 
     def copy(self) -> CookieStore:
-        """Return a copy of the store: its cookies, public suffix list and limit, and whether it is strict.
+        """Return a copy of the store.
 
-        The cookies are passed through dumps() and loads() in RON, and so count as created in the order
-        of the store. A cookie that was received with SameSite=None and without Secure is Secure
-        in the copy. Raises BAD_EXPIRY if a cookie expires before the year 0.
+        It has the same cookies in the same order and creation order, the public suffix list, the limit
+        and the hash key, and is strict if the store is. copy.copy() and copy.deepcopy() return the same.
 
-        copy.copy(), copy.deepcopy() and pickle copy a store in the same way.
+        pickle saves and loads the store in RON instead, and may raise BAD_EXPIRY, see dumps(). Its
+        cookies count as created in the order of the store.
         """
-        return _restore(*self._state())
+        store = type(self)()
+        LIBRARY.cookie_store_free(store._at)
+        with self._lock:
+            check(LIBRARY.cookie_store_clone(self._at, store._at))
+            store._suffixes = self._suffixes
+        return store
 
     def __copy__(self) -> CookieStore:
+        return self.copy()
+
+    def __deepcopy__(self, memo: Dict[int, Any]) -> CookieStore:
         return self.copy()
 
     def __reduce__(self) -> Tuple[Callable[..., CookieStore], _State]:

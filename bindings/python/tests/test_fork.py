@@ -55,7 +55,7 @@ class ForkTests(unittest.TestCase):
                 stop.set()
 
         self.assertEqual(in_threads(5, lambda number: fork() if number == 4 else work(number)), [])
-        self.assertEqual(store.header(PAGE, NOW), '')
+        self.assertIsNone(store.header(PAGE, NOW))
 
 
 if __name__ == '__main__':

@@ -82,7 +82,7 @@ class JarTests(unittest.TestCase):
 
     def test_same_site(self):
         """A cookie that is set keeps its SameSite attribute."""
-        for same_site, wanted in [('Strict', ''), ('Lax', ''), ('None', 'a=1'), ('?;', 'a=1')]:
+        for same_site, wanted in [('Strict', None), ('Lax', None), ('None', 'a=1'), ('?;', 'a=1')]:
             jar = StoreJar()
             jar.set_cookie(python_cookie('a.example', rest={'SameSite': same_site}))
             self.assertEqual(jar.store.header(PAGE, same_site=False, lax_by_default=False), wanted, same_site)

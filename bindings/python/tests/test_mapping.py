@@ -110,7 +110,7 @@ class MappingTests(unittest.TestCase):
         cookie = jar.set('a', '1', domain=A, path='/d', secure=True, expires=4102444800, rest={'SameSite': 'Lax'})
         self.assertEqual((cookie.name, cookie.value), ('a', '1'))
         self.assertEqual(list(jar.store), [(A, '/d', 'a', '1', 4102444800, False, True, True, False, 'Lax')])
-        self.assertEqual(jar.store.header(f'https://{A}/d', same_site=False), '')
+        self.assertIsNone(jar.store.header(f'https://{A}/d', same_site=False))
         jar.set('a', morsel('a=2; Domain=b.example; Path=/; HttpOnly; Expires=Fri, 01 Jan 2100 00:00:00 GMT'))
         self.assertEqual(jar.store.cookies()[1], (B, '/', 'a', '2', 4102444800, False, True, False, True, None))
 

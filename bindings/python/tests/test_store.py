@@ -1,4 +1,5 @@
 """Tests of CookieStore: tables list the calls with their statuses."""
+import copy
 import gc
 import os
 import pathlib
@@ -15,6 +16,7 @@ from cookie_store._library import LIBRARY
 from cookie_store._store import SYSTEM_SUFFIXES
 
 FIRST, LAST = -377705116800, 253402300799  # the years -9999 and 9999
+SECURE_PAGE = 'https://a.example/d/page'
 
 # Set one after the other in one store, with a public suffix list of the one rule `example`.
 SETS = [
@@ -107,6 +109,7 @@ RAISES = [
     ('header, not UTF-8', lambda store: store.header(b'\xff'), Status.NOT_UTF8),
     ('header, after the years', lambda store: store.header(PAGE, LAST + 1), Status.BAD_TIME),
     ('remove, domain not UTF-8', lambda store: store.remove(b'\xff', '/', 'a'), Status.NOT_UTF8),
+    ('remove_domain, not UTF-8', lambda store: store.remove_domain(b'\xff'), Status.NOT_UTF8),
     ('remove, path not UTF-8', lambda store: store.remove('a.example', b'\xff', 'a'), Status.NOT_UTF8),
     ('remove, name not UTF-8', lambda store: store.remove('a.example', '/', b'\xff'), Status.NOT_UTF8),
     ('remove_expired, before the years', lambda store: store.remove_expired(FIRST - 1), Status.BAD_TIME),
@@ -157,9 +160,11 @@ CLOSED = [
     ('set_domain_limit', lambda store: store.set_domain_limit(1)),
     ('set_strict', lambda store: store.set_strict(True)),
     ('remove', lambda store: store.remove('', '', '')),
+    ('remove_domain', lambda store: store.remove_domain('')),
     ('clear', lambda store: store.clear()),
     ('remove_expired', lambda store: store.remove_expired()),
     ('cookies', lambda store: store.cookies()),
+    ('cookies_for', lambda store: store.cookies_for(PAGE)),
     *((f'dumps, {form.name}', lambda store, form=form: store.dumps(form)) for form in Format),
     ('dumps_lenient', lambda store: store.dumps_lenient()),
     ('copy', lambda store: store.copy()),
@@ -340,7 +345,7 @@ class StoreTests(unittest.TestCase):
         self.assertEqual(store.header('https://a.example/d/page', NOW + 4), 'a=1; b=; g=gr\u00fcn')
         self.assertEqual(store.header('https://a.example/d/page', NOW + 5), 'a=1; g=gr\u00fcn')
         self.assertEqual(store.header('https://b.a.example/', NOW), 'g=gr\u00fcn')
-        self.assertEqual(store.header('http://b.a.example/', NOW), '')
+        self.assertIsNone(store.header('http://b.a.example/', NOW))
         self.assertEqual(CookieStore().cookies(), [])
 
     def test_same_site(self):
@@ -353,6 +358,7 @@ class StoreTests(unittest.TestCase):
         rows = [('parse', lambda store: store.parse(PAGE, 'c=3', NOW), 'a1 b2 c3'),
                 ('update', lambda store: store.parse(PAGE, 'b=4', NOW), 'a1 b4'),
                 ('remove', lambda store: store.remove('a.example', '/d', 'a'), 'b2'),
+                ('remove_domain', lambda store: store.remove_domain('a.example'), ''),
                 ('remove_expired', lambda store: store.remove_expired(NOW + 60), 'b2'),
                 ('clear', lambda store: store.clear(), ''),
                 ('list', lambda store: store.cookies().clear(), 'a1 b2')]
@@ -391,6 +397,12 @@ class StoreTests(unittest.TestCase):
         self.assertEqual((len(store), store.header(PAGE, NOW)), (2, 'b=2; c=3'))
         store.clear()
         self.assertEqual((len(store), store.cookies()), (0, []))
+
+    def test_remove_domain(self):
+        store = filled('a=1', 'w=2; Domain=a.example')
+        store.parse('https://w.a.example/', 'x=3', NOW)
+        self.assertEqual((store.remove_domain('example'), len(store)), (0, 3))
+        self.assertEqual((store.remove_domain('a.example'), names(store)), (2, 'x'))
 
     def test_remove_expired(self):
         store = filled('a=1; Max-Age=60', 's=2', 'b=3; Path=/; Max-Age=60', 'c=4; Max-Age=61', 'd=5', 'd=6; Max-Age=0')
@@ -477,6 +489,35 @@ class StoreTests(unittest.TestCase):
         self.assertIs(other.parse(PAGE, 'c=3; Domain=example'), Status.PUBLIC_SUFFIX)
         other.clear()
         self.assertEqual(len(store), 2)
+
+    def test_copy_is_whole(self):
+        """What no saved list has survives a copy; a pickle has what a list has."""
+        store = filled('a=1; Path=/x', 'b=2; Path=/y', 'c=3; Path=/x')
+        store.parse('http://b.example/', 'n=1; SameSite=None', NOW)
+        store.set_domain_limit(2)
+        for make in (CookieStore.copy, copy.copy, copy.deepcopy):
+            other = make(store)
+            self.assertEqual(other.cookies(), store.cookies())
+            self.assertEqual([(row.secure, row.same_site) for row in other if row.name == 'n'], [(False, 'None')])
+            # The limit evicts in creation order, which is not that of the store.
+            other.parse(PAGE, 'd=4; Path=/z', NOW)
+            self.assertEqual(names(other), 'cdn')
+        pickled = pickle.loads(pickle.dumps(store))
+        self.assertEqual([row.secure for row in pickled if row.name == 'n'], [True])
+        self.assertEqual(len(filled('a=1; Max-Age=1', now=FIRST).copy()), 1)
+
+    def test_cookies_for(self):
+        store = filled('b=2; Path=/; HttpOnly', 'gr\u00fcn=1; Max-Age=60', 'c=3')
+        store.parse(SECURE_PAGE, 's=4; Secure', NOW)
+        for url, now in [(PAGE, NOW), (PAGE, NOW + 60), (SECURE_PAGE, NOW), ('ftp://a.example/d/page', NOW), ('http://b.example/', NOW)]:
+            with self.subTest(url=url, now=now):
+                cookies = store.cookies_for(url, now)
+                self.assertEqual('; '.join(f'{row.name}={row.value}' for row in cookies) or None, store.header(url, now))
+                self.assertLessEqual(set(cookies), set(store.cookies()))
+        self.assertEqual([row.name for row in store.cookies_for(SECURE_PAGE, NOW)], ['gr\u00fcn', 'c', 's', 'b'])
+        self.assertEqual(store.cookies_for(PAGE.encode())[-1].name, 'b')
+        for status, url, now in [(Status.BAD_URL, 'no url', NOW), (Status.BAD_TIME, 'no url', LAST + 1), (Status.NOT_UTF8, b'\xff', LAST + 1)]:
+            self.assert_raises(status.name, status, store.cookies_for, url, now)
 
     def test_threads(self):
         store, rounds = CookieStore(), 200

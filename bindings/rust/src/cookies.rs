@@ -1,11 +1,16 @@
 use std::fmt;
 use std::iter::FusedIterator;
+use std::os::raw::c_char;
+use std::time::SystemTime;
 use std::vec::IntoIter;
 
-use crate::buffer::{grow, owned, string};
-use crate::sys::{self, cookie_store_row};
-use crate::time::time_at;
+use crate::buffer::{grow, owned, string, HEADER};
+use crate::sys::{self, cookie_store_row, cookie_store_status};
+use crate::time::{seconds, time_at};
 use crate::{Cookie, CookieStore, Error, SameSite};
+
+/// A number of rows that is enough for most requests.
+const ROWS: usize = 16;
 
 /// Reading the stored cookies.
 impl CookieStore {
@@ -88,12 +93,7 @@ impl CookieStore {
     ///
     /// [`Error::NoMemory`].
     pub fn iter(&self) -> Result<Iter, Error> {
-        let mut rows: Vec<cookie_store_row> = Vec::new();
-        let mut rows_needed = 0;
-        let strings = string(0, |out, len, needed| {
-            if grow(&mut rows, rows_needed).is_err() {
-                return sys::COOKIE_STORE_NO_MEMORY;
-            }
+        read(0, 0, |rows, out, len, rows_needed, needed| {
             // SAFETY: see `CookieStore`.
             unsafe {
                 sys::cookie_store_rows(
@@ -102,15 +102,10 @@ impl CookieStore {
                     rows.len(),
                     out,
                     len,
-                    &mut rows_needed,
+                    rows_needed,
                     needed,
                 )
             }
-        })?;
-        Ok(Iter {
-            rows: rows.into_iter(),
-            strings,
-            start: 0,
         })
     }
 
@@ -120,16 +115,82 @@ impl CookieStore {
     ///
     /// [`Error::NoMemory`].
     pub fn cookies(&self) -> Result<Vec<Cookie>, Error> {
-        let all = self.iter()?;
-        let mut cookies = Vec::new();
-        cookies
-            .try_reserve_exact(all.len())
-            .map_err(|_| Error::NoMemory)?;
-        for cookie in all {
-            cookies.push(cookie?);
-        }
-        Ok(cookies)
+        self.iter()?.into_cookies()
     }
+
+    /// Returns the cookies of a request for `url` at `now`, in the order of the `Cookie` header,
+    /// RFC 6265 5.4: those of [`cookie_header`](CookieStore::cookie_header).
+    ///
+    /// ```
+    /// use pulleymaroon::CookieStore;
+    /// use std::time::SystemTime;
+    ///
+    /// let mut store = CookieStore::new()?;
+    /// let now = SystemTime::now();
+    /// store.parse("lang=de; Path=/", "https://example.com/", now)?;
+    /// store.parse("id=7; Path=/shop; HttpOnly", "https://example.com/", now)?;
+    /// store.parse("other=1", "https://example.org/", now)?;
+    ///
+    /// let cookies = store.cookies_for("https://example.com/shop/cart", now)?;
+    /// let names: Vec<_> = cookies.iter().map(|cookie| cookie.name.as_str()).collect();
+    /// assert_eq!(names, ["id", "lang"]);
+    /// assert!(cookies[0].http_only);
+    /// # Ok::<(), pulleymaroon::Error>(())
+    /// ```
+    ///
+    /// # Errors
+    ///
+    /// [`Error::BadTime`], [`Error::BadUrl`], [`Error::NoMemory`].
+    pub fn cookies_for(&self, url: &str, now: SystemTime) -> Result<Vec<Cookie>, Error> {
+        let cookies = read(ROWS, HEADER, |rows, out, len, rows_needed, needed| {
+            // SAFETY: see `CookieStore`.
+            unsafe {
+                sys::cookie_store_cookies_for(
+                    self.handle(),
+                    url.as_ptr().cast(),
+                    url.len(),
+                    seconds(now),
+                    rows.as_mut_ptr(),
+                    rows.len(),
+                    out,
+                    len,
+                    rows_needed,
+                    needed,
+                )
+            }
+        })?;
+        cookies.into_cookies()
+    }
+}
+
+/// Returns an iterator over the rows that `write(rows, strings, strings_len, rows_needed,
+/// strings_needed)` writes: to buffers that are `rows_len` and `strings_len` long, and if one of them is
+/// too short, to those of the lengths that they need.
+fn read(
+    rows_len: usize,
+    strings_len: usize,
+    mut write: impl FnMut(
+        &mut [cookie_store_row],
+        *mut c_char,
+        usize,
+        &mut usize,
+        &mut usize,
+    ) -> cookie_store_status,
+) -> Result<Iter, Error> {
+    let mut rows: Vec<cookie_store_row> = Vec::new();
+    let mut rows_needed = rows_len;
+    let strings = string(strings_len, |out, len, needed| {
+        if grow(&mut rows, rows_needed).is_err() {
+            return sys::COOKIE_STORE_NO_MEMORY;
+        }
+        write(&mut rows, out, len, &mut rows_needed, needed)
+    })?;
+    rows.truncate(rows_needed);
+    Ok(Iter {
+        rows: rows.into_iter(),
+        strings,
+        start: 0,
+    })
 }
 
 /// An iterator over the cookies of a store, which [`CookieStore::iter`] returns.
@@ -169,6 +230,18 @@ impl ExactSizeIterator for Iter {}
 impl FusedIterator for Iter {}
 
 impl Iter {
+    /// Returns the cookies.
+    fn into_cookies(self) -> Result<Vec<Cookie>, Error> {
+        let mut cookies = Vec::new();
+        cookies
+            .try_reserve_exact(self.len())
+            .map_err(|_| Error::NoMemory)?;
+        for cookie in self {
+            cookies.push(cookie?);
+        }
+        Ok(cookies)
+    }
+
     /// Returns the next row.
     fn next_row(&mut self) -> Option<Result<Row<'_>, Error>> {
         let row = self.rows.next()?;

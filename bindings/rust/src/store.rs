@@ -88,6 +88,16 @@ impl Drop for CookieStore {
     }
 }
 
+/// `clone` is [`try_clone`](CookieStore::try_clone), and panics if that is out of memory.
+impl Clone for CookieStore {
+    fn clone(&self) -> CookieStore {
+        match self.try_clone() {
+            Ok(copy) => copy,
+            Err(error) => panic!("a cookie store cannot be copied: {error}"),
+        }
+    }
+}
+
 /// Shows nothing of the cookies.
 impl fmt::Debug for CookieStore {
     fn fmt(&self, f: &mut fmt::Formatter<'_>) -> fmt::Result {
@@ -109,6 +119,34 @@ impl CookieStore {
             let status = unsafe { sys::cookie_store_new(store, key.as_ptr().cast(), key.len()) };
             check(status, 0)
         })
+    }
+
+    /// Returns a copy of the store: its cookies in the same order and creation order, public suffix
+    /// list, limit and hash key. The copy is strict if the store is.
+    ///
+    /// ```
+    /// use pulleymaroon::CookieStore;
+    /// use std::time::SystemTime;
+    ///
+    /// let mut store = CookieStore::new()?;
+    /// let now = SystemTime::now();
+    /// store.parse("id=7; SameSite=None", "http://example.com/", now)?;
+    ///
+    /// let copy = store.try_clone()?;
+    /// store.clear();
+    /// assert_eq!(copy.cookie_header("http://example.com/", now)?.as_deref(), Some("id=7"));
+    /// # Ok::<(), pulleymaroon::Error>(())
+    /// ```
+    ///
+    /// # Errors
+    ///
+    /// [`Error::NoMemory`].
+    pub fn try_clone(&self) -> Result<CookieStore, Error> {
+        let copy = CookieStore::empty();
+        // SAFETY: see `CookieStore`. The two handles differ.
+        let status = unsafe { sys::cookie_store_clone(self.handle(), copy.handle()) };
+        check(status, 0)?;
+        Ok(copy)
     }
 
     /// Sets the public suffix list, in the format of publicsuffix.org, in place of the one before,
@@ -195,7 +233,8 @@ impl CookieStore {
         NonZeroUsize::new(unsafe { sys::cookie_store_domain_limit(self.handle()) })
     }
 
-    /// Sets whether the store is strict. A store that was just created or loaded is not.
+    /// Sets whether the store is strict. A store that was just created or loaded is not, and a copy is
+    /// if its original is.
     ///
     /// A strict store follows the rules that the revision of RFC 6265, draft-ietf-httpbis-rfc6265bis,
     /// adds and browsers follow: [`Error`] lists what it rejects, attributes whose value is longer
@@ -334,6 +373,38 @@ impl CookieStore {
         status == sys::COOKIE_STORE_OK
     }
 
+    /// Removes the cookies of this domain, host-only cookies and domain cookies, and returns their
+    /// number. The others keep their order.
+    ///
+    /// The domain is compared byte for byte with those of [`cookies`](CookieStore::cookies).
+    ///
+    /// ```
+    /// use pulleymaroon::CookieStore;
+    /// use std::time::SystemTime;
+    ///
+    /// let mut store = CookieStore::new()?;
+    /// let now = SystemTime::now();
+    /// store.parse("id=7; Path=/", "https://example.com/", now)?;
+    /// store.parse("id=8; Path=/", "https://www.example.com/", now)?;
+    /// assert_eq!(store.remove_domain("example.com"), 1);
+    /// assert!(store.contains("www.example.com", "/", "id")?);
+    /// # Ok::<(), pulleymaroon::Error>(())
+    /// ```
+    pub fn remove_domain(&mut self, domain: &str) -> usize {
+        let mut removed = 0;
+        // The only error is that the handle is empty: a `str` is UTF-8.
+        // SAFETY: see `CookieStore`.
+        unsafe {
+            sys::cookie_store_remove_domain(
+                self.handle(),
+                domain.as_ptr().cast(),
+                domain.len(),
+                &mut removed,
+            )
+        };
+        removed
+    }
+
     /// Removes all cookies. The public suffix list and the limit stay, and a strict store stays
     /// strict.
     pub fn clear(&mut self) {
@@ -378,13 +449,18 @@ impl CookieStore {
     pub(crate) fn create(
         create: impl FnOnce(&mut sys::cookie_store, &[u8]) -> Result<(), Error>,
     ) -> Result<CookieStore, Error> {
-        let mut store = CookieStore(UnsafeCell::new(sys::cookie_store {
+        let mut store = CookieStore::empty();
+        create(store.0.get_mut(), &random_key())?;
+        Ok(store)
+    }
+
+    /// Returns an empty handle.
+    fn empty() -> CookieStore {
+        CookieStore(UnsafeCell::new(sys::cookie_store {
             live: false,
             strict: false,
             at: ptr::null_mut(),
-        }));
-        create(store.0.get_mut(), &random_key())?;
-        Ok(store)
+        }))
     }
 }
 

@@ -101,6 +101,10 @@ extern "C" {
         key: *const c_char,
         key_len: usize,
     ) -> cookie_store_status;
+    pub fn cookie_store_clone(
+        store: *mut cookie_store,
+        copy: *mut cookie_store,
+    ) -> cookie_store_status;
     pub fn cookie_store_free(store: *mut cookie_store);
     pub fn cookie_store_set_suffix_list(
         store: *mut cookie_store,
@@ -157,6 +161,12 @@ extern "C" {
         name: *const c_char,
         name_len: usize,
     ) -> cookie_store_status;
+    pub fn cookie_store_remove_domain(
+        store: *mut cookie_store,
+        domain: *const c_char,
+        domain_len: usize,
+        removed: *mut usize,
+    ) -> cookie_store_status;
     pub fn cookie_store_clear(store: *mut cookie_store) -> cookie_store_status;
     pub fn cookie_store_remove_expired(
         store: *mut cookie_store,
@@ -166,6 +176,18 @@ extern "C" {
     pub fn cookie_store_count(store: *mut cookie_store) -> usize;
     pub fn cookie_store_rows(
         store: *mut cookie_store,
+        rows: *mut cookie_store_row,
+        rows_len: usize,
+        strings: *mut c_char,
+        strings_len: usize,
+        rows_needed: *mut usize,
+        strings_needed: *mut usize,
+    ) -> cookie_store_status;
+    pub fn cookie_store_cookies_for(
+        store: *mut cookie_store,
+        url: *const c_char,
+        url_len: usize,
+        now: i64,
         rows: *mut cookie_store_row,
         rows_len: usize,
         strings: *mut c_char,

@@ -62,8 +62,8 @@ impl Session {
         Ok(())
     }
 
-    /// Returns the value of the `Cookie` header of a request at `now`.
-    fn header(&self, now: DateTime) -> Result<String, Error> {
+    /// Returns the value of the `Cookie` header of a request at `now`, if there is one.
+    fn header(&self, now: DateTime) -> Result<Option<String>, Error> {
         Ok(self.store.cookie_header(&self.site, now)?)
     }
 
@@ -95,18 +95,24 @@ fn url_of(alloc: Global, text: &str) -> Result<Url, Error> {
     }
 }
 
+/// Prints the `Cookie` header, if there is one.
+fn print_header(rt: &HostRuntime, header: Option<String>) -> Result<(), Error> {
+    match header {
+        Some(value) => println!(rt; "Cookie: {value}").map_err(|_| Error::Io),
+        None => Ok(()),
+    }
+}
+
 /// Runs the client twice, with a save in between.
 fn run(rt: &HostRuntime) -> Result<(), Error> {
     let (alloc, now) = (rt.alloc(), date(2026, 1, 1).at(0, 0, 0, 0));
     let site = url_of(alloc, "https://shop.example/")?;
     let mut first = Session::adopt(alloc, rt, site.clone()?, now)?;
     first.receive(rt, &HEADERS, now)?;
-    let header = first.header(now)?;
-    println!(rt; "Cookie: {header}").map_err(|_| Error::Io)?;
+    print_header(rt, first.header(now)?)?;
     first.save(rt, now)?;
     let next = Session::load(alloc, rt, site, now)?;
-    let header = next.header(now)?;
-    println!(rt; "Cookie: {header}").map_err(|_| Error::Io)
+    print_header(rt, next.header(now)?)
 }
 
 fn main(rt: HostRuntime) -> Result<(), Error> {

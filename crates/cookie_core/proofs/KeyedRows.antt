@@ -1,5 +1,5 @@
 -- The keys of the Secure rows are among those of the index after each change of the rows.
-use Rattle.std.proofs.Common.{◌≡◌, ℕ, zero, suc, List, [], ◌∷◌, filter, Option, Some, None, Result, Ok, Err, IfOk, OnErr, refl, sym, subst, ap, Bool, true, false, not, ◌&&◌, ◌||◌, ◌∙◌, inl, inr, IfSome}
+use Rattle.std.proofs.Common.{◌≡◌, ℕ, zero, suc, List, [], ◌∷◌, filter, Option, Some, None, Result, Ok, Err, IfOk, OnErr, OnOk, refl, sym, subst, ap, Bool, true, false, not, ◌&&◌, ◌||◌, ◌∙◌, inl, inr, IfSome}
 use Rattle.std.specs.List.{All, slice_get}
 use Rattle.std.proofs.lemmas.Bool.{cases_Bool, cond_both}
 use Rattle.std.proofs.lemmas.List.Elements.{All-cons, All-filter, All-head, All-tail, All-weaker}
@@ -9,7 +9,6 @@ use Rattle.cookie_parts.specs.declared.cookie_error.CookieError.{CookieError}
 use Rattle.cookie_parts.specs.declared.store_action.StoreAction.{StoreAction}
 use Rattle.cookie_laws.specs.Contents.{Contents, contents_of, rows_in_order}
 use Rattle.cookie_laws.specs.Rows.{Key, RowsInOrder, has_key, key_of, removed, row_of, same_key, same_key-true, same_key_equiv}
-use Rattle.cookie_laws.specs.Runs.{UnlessMemory}
 use Rattle.cookie_rows.specs.SecureKeys.{NamedScopes, lists_key}
 use Rattle.cookie_core.specs.SecureIndexes.{Indexes, IsKeyed, is_secure_stored}
 
@@ -49,7 +48,7 @@ kept_inserted store after cookie kept test old =
 
 -- an index for the rows and a cookie serves after the cookie was inserted, or the insertion failed
 pub indexes_inserted : (index : Option NamedScopes) (store after : Contents) (cookie : Row) (result : Result StoreAction CookieError) (new : RowsInOrder)
-    → IsKept (cookie ∷ store.rows) after.rows → UnlessMemory result (new ≡ rows_in_order after) → OnErr result (new ≡ rows_in_order store)
+    → IsKept (cookie ∷ store.rows) after.rows → OnOk result (new ≡ rows_in_order after) → OnErr result (new ≡ rows_in_order store)
     → Indexes index (cookie ∷ store.rows) → Indexes index new.rows
 indexes_inserted index store after cookie (Ok action) new kept is same indexed =
     subst (λ (left : RowsInOrder). Indexes index left.rows) (sym is) (indexes_kept index (cookie ∷ store.rows) after.rows kept indexed)

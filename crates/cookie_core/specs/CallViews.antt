@@ -1,7 +1,7 @@
 -- Calls, replies and the error of `apply_all`, as contracts see them.
 use Rattle.std.specs.Prelude.{◌≡◌, ℕ, List, ◌++◌, codes, decimal, take, length, map, slice_get, Some, None, Ok, ◌<◌, ◌⊎◌, string_bytes}
 use Rattle.cookie_words.specs.Moments.{moment_of}
-use Rattle.cookie_raw.specs.Reading.{reading}
+use Rattle.cookie_raw.specs.SetCookie.{reading}
 use Rattle.cookie_parts.specs.Cookie.{early}
 use Rattle.cookie_parts.specs.declared.store_action.StoreAction.TheVariants.{Inserted}
 use Rattle.cookie_laws.specs.Contents.{Contents}

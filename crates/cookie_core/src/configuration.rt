@@ -42,7 +42,7 @@ impl CookieStore {
     /// Limits each domain to `n` cookies, RFC 6265 6.1.
     ///
     /// Before a cookie is inserted into a domain that has `n` or more, cookies of that domain are
-    /// evicted until `n - 1` are left: first those that have expired, then the others, both in
+    /// evicted until `n - 1` remain: first those that have expired, then the others, both in
     /// creation order. Until then, cookies already stored are kept.
     pub fn set_domain_limit(&mut self, n: usize)
         requires { 1 ≤ n }

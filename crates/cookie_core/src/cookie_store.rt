@@ -1,25 +1,24 @@
 //! The cookie store.
-ghost use Rattle.std.specs.Prelude.{◌≡◌, ◌≢◌, ◌≤◌, ◌+◌, ◌*◌, [], is_some, length, map, Err, None, Ok, Some, IfErr, IfOk, IsTrue, OnErr, ◌⊎◌};
+ghost use Rattle.std.specs.Prelude.{◌≡◌, ◌≢◌, ◌≤◌, ◌*◌, [], is_some, map, Err, None, Ok, Some, IfErr, IfOk, IsTrue, OnErr, ◌⊎◌};
 ghost use Rattle.std.specs.Iterator.{IsFinite};
 ghost use Rattle.std.specs.Option.{option_copied};
 ghost use Rattle.cookie_words.specs.Moments.{moment_of};
-ghost use Rattle.cookie_raw.specs.Reading.{reading};
+ghost use Rattle.cookie_raw.specs.SetCookie.{reading};
 ghost use Rattle.cookie_parts.specs.Cookie.{cookie_of, early, early_error};
 ghost use Rattle.cookie_parts.specs.declared.cookie_error.CookieError.TheVariants.{Memory};
 ghost use Rattle.cookie_parts.specs.declared.store_action.StoreAction.TheVariants.{Inserted};
 ghost use Rattle.cookie_laws.specs.Acceptance.{received, IsInsertionError};
-ghost use Rattle.cookie_laws.specs.Contents.{contents_of, rows_in_order, unexpired, HasCreationOrder, Contents};
+ghost use Rattle.cookie_laws.specs.Contents.{contents_of, rows_in_order, HasCreationOrder, Contents};
 ghost use Rattle.cookie_lookup.specs.SearchView.{domains_found, paths_found};
 ghost use Rattle.cookie_lookup.specs.Candidates.{most_domains, most_paths};
 ghost use Rattle.cookie_rows.specs.Building.{Builds, FailsFirst, ReachesNewRow};
 ghost use Rattle.cookie_laws.specs.Given.{given};
 ghost use Rattle.cookie_laws.specs.Rows.{are_rows, if_unexpired, key_at, row_of};
 ghost use Rattle.cookie_core.specs.SecureIndexes.{Indexes};
-ghost use Rattle.cookie_laws.specs.Runs.{step, Clear, Insert, IsReply, Remove, Removed, Set, Stored, UnlessMemory};
+ghost use Rattle.cookie_laws.specs.Runs.{step, Insert, IsReply, Set, Stored, UnlessMemory};
 
-use crate::insertion::{accept, owned_raw_cookie};
-use crate::secure::{SecureIndex, with_cookie};
-use cookie_laws::kept_by_calls;
+use crate::insertion::owned_raw_cookie;
+use crate::secure::SecureIndex;
 use cookie_lookup::Lookups;
 use cookie_parts::{Cookie, CookieError, CookieResult, Error, StoreAction};
 use cookie_psl::List;
@@ -41,7 +40,7 @@ pub type InsertResult = Result<StoreAction, CookieError>;
 /// Under a public suffix list, no domain cookie is inserted for a public suffix.
 #[derive(Drop)]
 pub struct CookieStore {
-    alloc: Global,
+    pub(crate) alloc: Global,
     pub(crate) rows: Rows,
     pub(crate) suffixes: Option<List>,
     pub(crate) limit: Option<usize>,
@@ -197,18 +196,12 @@ impl CookieStore {
         ensures memory { result ≡ Err Memory
             → (step (Insert cookie.entry url.now (moment_of now)) self.old).reply ≡ Stored (Ok Inserted) }
     {
-        self.secure = with_cookie(self.secure.take(), &self.rows, &cookie);
-        // for the checker: what the index says of the cookie and the rows, it says of the rows after
-        kept_by_calls();
-        accept(
-            self.suffixes.as_ref(),
-            self.limit,
-            EvictionOrder::ExpiredFirst,
-            &mut self.rows,
-            cookie,
-            url,
-            now,
-        )
+        match self.acceptance(&cookie, url, now) {
+            Ok(acceptance) => {
+                self.insert_accepted(cookie, acceptance, EvictionOrder::ExpiredFirst, now)
+            }
+            Err(error) => Err(error),
+        }
     }
 
     /// Inserts the cookie of a parsed `Set-Cookie` header value received from `url`, RFC 6265 5.3.
@@ -280,39 +273,6 @@ impl CookieStore {
             ≡ is_some (if_unexpired (moment_of now) (row_of (key_at domain.now path.now name.now) self.now.rows)) }
     {
         self.get(domain, path, name, now).is_some()
-    }
-
-    /// Removes and returns the cookie with this domain, path and name, expired or not.
-    ///
-    /// The others keep their order.
-    pub fn remove(&mut self, domain: &str, path: &str, name: &str) -> Option<Cookie<'static>>
-        ensures reply { Removed result
-            ≡ (step (Remove (key_at domain.now path.now name.now)) self.old).reply }
-        ensures store { self.new ≡ (step (Remove (key_at domain.now path.now name.now)) self.old).store }
-    {
-        // for the checker: what the index says of the rows, it says of those that are left
-        kept_by_calls();
-        self.rows.remove(domain, path, name)
-    }
-
-    /// Removes the cookies that have expired at `now`, RFC 6265 5.3, and returns how many.
-    ///
-    /// The others keep their order. Allocates nothing. At `now` and later,
-    /// [`matches`](Self::matches) returns the same cookies as without the removal, since it never
-    /// returns an expired cookie.
-    pub fn remove_expired(&mut self, now: DateTime) -> usize
-        ensures store { self.new ≡ unexpired (moment_of now) self.old }
-        ensures removed { result + length self.new.rows ≡ length self.old.rows }
-    {
-        self.rows.remove_expired(now)
-    }
-
-    /// Removes all cookies. The public suffix list and the limit are kept.
-    pub fn clear(&mut self)
-        ensures { self.new ≡ (step Clear self.old).store }
-    {
-        self.secure = None;
-        self.rows.clear();
     }
 
     /// Returns the cookies that match `url` and are unexpired at `now`, in the store's order.

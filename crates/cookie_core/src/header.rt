@@ -1,6 +1,6 @@
 //! The Cookie header of a request, RFC 6265 4.2.1.
 ghost use Rattle.std.specs.Option.{MatchOption};
-ghost use Rattle.std.specs.Prelude.{◌≡◌, ◌≢◌, ◌+◌, ◌^◌, ◌≤◌, [], ◌++◌, flat_map, length, map, string_bytes, IfOk, OnErr, OnOk};
+ghost use Rattle.std.specs.Prelude.{◌≡◌, ◌≢◌, ◌+◌, ◌^◌, ◌≤◌, [], ◌++◌, flat_map, length, map, option_map, string_bytes, IfOk, OnErr, OnOk};
 ghost use Rattle.cookie_words.specs.Moments.{moment_of};
 ghost use Rattle.cookie_laws.specs.Given.{given};
 ghost use Rattle.cookie_laws.specs.Header.{IsCookieHeader, cookie_string, later_pair, pair_text};
@@ -12,16 +12,20 @@ use std::alloc::{AllocError, Global};
 use url::Url;
 
 impl CookieStore {
-    /// Returns the value of the Cookie header for a request to `url`, RFC 6265 4.2.1 and 5.4.
+    /// Returns the value of the Cookie header for a request to `url`, RFC 6265 4.2.1 and 5.4, or
+    /// `None` if no cookie matches: send no header then.
     ///
     /// It lists the cookies of [`cookies_in_order`](Self::cookies_in_order), such as
-    /// `id=1; lang=de`. If none matches, the string is empty: send no header then. Allocates only
-    /// if a cookie matches.
-    pub fn cookie_header(&self, url: &Url, now: DateTime) -> Result<String, AllocError>
-        ensures header { IfOk result (λ text. IsCookieHeader url.now (moment_of now) self.now (string_bytes text)) }
+    /// `id=1; lang=de`. Allocates only if a cookie matches.
+    pub fn cookie_header(&self, url: &Url, now: DateTime) -> Result<Option<String>, AllocError>
+        ensures header { IfOk result (λ header. IsCookieHeader url.now (moment_of now) self.now (option_map string_bytes header)) }
         ensures memory { OnErr result (given url.now (moment_of now) self.now.rows ≢ []) }
     {
-        cookie_string(self.allocator(), &self.cookies_in_order(url, now)?)
+        let cookies = self.cookies_in_order(url, now)?;
+        if cookies.is_empty() {
+            return Ok(None);
+        }
+        Ok(Some(cookie_string(self.allocator(), &cookies)?))
     }
 }
 

@@ -3,7 +3,7 @@ ghost use Rattle.std.specs.Prelude.{◌≡◌, ◌≢◌, [], map, IfOk, OnErr};
 ghost use Rattle.cookie_words.specs.Moments.{moment_of};
 ghost use Rattle.cookie_laws.specs.Given.{given};
 ghost use Rattle.cookie_laws.specs.Header.{InHeaderOrder};
-ghost use Rattle.cookie_rows.specs.Requests.{name_and_value};
+ghost use Rattle.cookie_rows.specs.RequestCookies.{name_and_value};
 
 use crate::CookieStore;
 use cookie_parts::Cookie;

@@ -40,9 +40,9 @@ impl CookieStore {
     /// not read all cookies.
     ///
     /// Later insertions and removals keep the index. It is built in linear time, and again only
-    /// after at least as many insertions of Secure cookies, [`clear`](Self::clear) or
-    /// [`set_hash_key`](Self::set_hash_key). If memory runs out, there is no index. It changes no
-    /// result.
+    /// after at least as many insertions of Secure cookies, [`clear`](Self::clear),
+    /// [`retain`](Self::retain) or [`set_hash_key`](Self::set_hash_key). If memory runs out, there
+    /// is no index. It changes no result.
     pub fn index_secure(&mut self)
         ensures { self.new ≡ self.old }
     {

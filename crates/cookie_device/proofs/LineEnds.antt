@@ -6,7 +6,7 @@ use Rattle.std.proofs.lemmas.List.{get_or-take, length-take}
 use Rattle.std.proofs.lemmas.List.Sums.{fails_before_first}
 use Rattle.std.proofs.lemmas.List.Splits.{slice_split_at, slice_split_none, length-slice_split}
 use Rattle.std.proofs.lemmas.List.Quantifiers.{position-Some}
-use Rattle.cookie_device.specs.Lines.{EndsLine, IsLastLine}
+use Rattle.cookie_device.specs.LineBuffers.{EndsLine, IsLastLine}
 use Rattle.cookie_device.proofs.Scanning.{length-none}
 
 -- the line feed that was found, and the bytes before and after it

@@ -7,7 +7,7 @@ use Rattle.std.proofs.lemmas.List.Sums.{prefix_len-drop_yes, fails_before_first,
 use Rattle.std.proofs.Math.ListN.{get_or-append}
 use Rattle.std.specs.List.{AllWithin, position_or_len}
 use Rattle.memchr.specs.Find.{IsFirstByte, is_byte}
-use Rattle.cookie_device.specs.Lines.{IsScanned}
+use Rattle.cookie_device.specs.LineBuffers.{IsScanned}
 
 -- the position that `memchr` finds
 pub position-first : (bytes : List ℕ) (r : Option ℕ) → IsFirstByte (is_byte 10) bytes r → r ≡ position (λ b. eqb b 10) bytes

@@ -5,7 +5,7 @@ use Rattle.std.proofs.lemmas.List.{take-append-drop}
 use Rattle.std.proofs.lemmas.Grind.{flat_map-append}
 use Rattle.std.proofs.KnownBytes.{Appends-trans, Appends-nil}
 use Rattle.cookie_device.specs.Device.{AppendsPrefix, Sends}
-use Rattle.cookie_device.specs.Texts.{joined}
+use Rattle.cookie_device.specs.Joined.{joined}
 
 -- the bytes written and those left, of two strings in a row
 rejoined : (g t u sent more g1 g2 : List ℕ) → g ++ t ≡ sent ++ g1 → g1 ++ u ≡ more ++ g2 → g ++ (t ++ u) ≡ (sent ++ more) ++ g2

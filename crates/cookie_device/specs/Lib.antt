@@ -1,5 +1,5 @@
 pub mod Device
 pub mod Counted
 pub mod FillError
-pub mod Lines
-pub mod Texts
+pub mod LineBuffers
+pub mod Joined

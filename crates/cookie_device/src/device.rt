@@ -33,7 +33,7 @@ pub trait Sink {
     // What was written, and the failed calls.
     ghost state: { Self → SinkState };
 
-    /// Writes once and returns how many bytes from the front of `buf` were written: at least one,
+    /// Writes once and returns how many bytes from the start of `buf` were written: at least one,
     /// unless `buf` is empty.
     fn write(&mut self, buf: &[u8]) -> Result<usize, DeviceFailed>
         requires { (state self.old).failed < 2 ^ 64 - 1 }

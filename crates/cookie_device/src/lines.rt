@@ -4,7 +4,7 @@ ghost use Rattle.std.specs.Io.{StartsWith};
 ghost use Rattle.std.specs.Io.KnownBytes.{IsAtEnd, Keeps, prepend_known};
 ghost use Rattle.std.specs.Str.Lines.{strip_carriage_return};
 ghost use Rattle.cookie_device.specs.FillError.{CountsReadFailure};
-ghost use Rattle.cookie_device.specs.Lines.{EndsLine, IsLastLine, IsScanned};
+ghost use Rattle.cookie_device.specs.LineBuffers.{EndsLine, IsLastLine, IsScanned};
 
 use crate::device::{DeviceFailed, Source};
 use crate::reading::{READ_LIMIT, read_more};
@@ -130,8 +130,8 @@ impl LineBuffer {
         ensures bytes { Keeps (prepend_known self.old (R.state source.old).remaining)
             (prepend_known self.new (R.state source.new).remaining) }
         ensures at_hand { StartsWith self.new self.old }
-        ensures moved { IfSome (R.state source.old).remaining (λ text. (left : List ℕ) × ((R.state source.new).remaining ≡ Some left)
-            × (length text + length self.old ≡ length left + length self.new)) }
+        ensures moved { IfSome (R.state source.old).remaining (λ text. (unread : List ℕ) × ((R.state source.new).remaining ≡ Some unread)
+            × (length text + length self.old ≡ length unread + length self.new)) }
         ensures bound { length self.new ≤ length self.old + LineBuffer.READ_LIMIT }
 
         ensures came { IfOk result (λ came. IsTrue came → length self.old < length self.new) }
@@ -162,7 +162,7 @@ fn without_return(line: &[u8]) -> &[u8]
     ensures { result.now ≡ strip_carriage_return line.now }
 {
     match line {
-        [front @ .., b'\r'] => front,
+        [prefix @ .., b'\r'] => prefix,
         _ => line,
     }
 }
@@ -175,7 +175,7 @@ fn remove_front(bytes: &mut Vec<u8>, start: usize)
     if start == 0 {
         return;
     }
-    let left = bytes.len() - start;
+    let rest = bytes.len() - start;
     bytes.copy_within(start.., 0);
-    bytes.truncate(left);
+    bytes.truncate(rest);
 }

@@ -2,7 +2,7 @@
 ghost use Rattle.std.specs.Prelude.{◌≡◌, ◌+◌, ◌-◌, ◌^◌, ◌<◌, ◌≤◌, [], ◌++◌, length, IfOk, IsOk, OnOk, OnErr, ℕ, List, vec_len, vec_capacity};
 ghost use Rattle.std.specs.Io.KnownBytes.{Appends};
 ghost use Rattle.cookie_device.specs.Device.{AppendsPrefix, CountsFailure, Sends};
-ghost use Rattle.cookie_device.specs.Texts.{joined};
+ghost use Rattle.cookie_device.specs.Joined.{joined};
 
 use crate::device::{DeviceFailed, Sink, write_all};
 use std::alloc::{AllocError, Global};

@@ -2,7 +2,7 @@
 use Rattle.std.specs.Prelude.{ℕ, ◌==◌, Bool, not, ◌||◌, List, [], ◌∷◌, ◌++◌, codes, filter, length, nat_eq, is_some, if◌then◌else◌}
 use Rattle.std.specs.Char.{is_newline}
 use Rattle.std.specs.List.{before_first, concat, ends_with, list_any, onto_first}
-use Rattle.cookie_words.specs.Texts.{pieces}
+use Rattle.cookie_words.specs.Strings.{pieces}
 use Rattle.cookie_parts.specs.Cookie.{Row}
 use Rattle.cookie_parts.specs.Hosts.{passes}
 use Rattle.cookie_netscape.specs.Files.{cookie_of_line, has_empty_expiry}

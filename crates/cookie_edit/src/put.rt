@@ -2,7 +2,7 @@
 ghost use Rattle.std.specs.Prelude.{◌≡◌, IfErr, IfOk, OnOk, IsTrue, false, nat_eq, string_bytes, ◌⊎◌};
 ghost use Rattle.std.specs.Char.{is_newline};
 ghost use Rattle.std.specs.List.{before_first, ends_with, list_any};
-ghost use Rattle.cookie_words.specs.Texts.{pieces};
+ghost use Rattle.cookie_words.specs.Strings.{pieces};
 ghost use Rattle.cookie_netscape.specs.Files.{has_empty_expiry};
 ghost use Rattle.cookie_netscape.specs.Written.{is_representable};
 ghost use Rattle.cookie_laws.specs.Rows.{has_key, key_of};

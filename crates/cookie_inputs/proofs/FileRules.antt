@@ -6,8 +6,8 @@ use Rattle.std.specs.Str.Pattern.{FindsChar}
 use Rattle.std.proofs.lemmas.Bool.{cases_Bool}
 use Rattle.std.proofs.lemmas.Iterator.{YieldsList}
 use Rattle.std.proofs.lemmas.Iterator.Splits.{YieldsList-from_str_split}
-use Rattle.cookie_words.specs.Texts.{pieces}
-use Rattle.cookie_psl.specs.Reading.{line_rule, rules_of, with_line}
+use Rattle.cookie_words.specs.Strings.{pieces}
+use Rattle.cookie_psl.specs.ListFormat.{line_rule, rules_of, with_line}
 use Rattle.cookie_psl.specs.Rules.{Rule, RuleList}
 use Rattle.cookie_inputs.specs.Suffixes.{file_rules_of, is_foreign, unless_foreign}
 

@@ -3,7 +3,7 @@ use Rattle.std.proofs.Common.{◌≡◌, ◌≢◌, ℕ, ◌+◌, ◌==◌, Bool
 use Rattle.std.specs.Prelude.{codes}
 use Rattle.std.specs.List.{list_any, starts_with}
 use Rattle.std.proofs.lemmas.Bool.{cases_Bool}
-use Rattle.cookie_psl.specs.Reading.{line_rule, read_part, with_line}
+use Rattle.cookie_psl.specs.ListFormat.{line_rule, read_part, with_line}
 use Rattle.cookie_psl.specs.Rules.{Rule, RuleList, SameRules, default_rule}
 use Rattle.cookie_inputs.specs.Suffixes.{file_line_rule, file_rules_of, has_rule, is_foreign, some_rules, with_default, ParsesLines, ParsesSuffixes}
 use Rattle.cookie_inputs.specs.declared.suffixes.SuffixesError.{SuffixesError}

@@ -2,8 +2,8 @@
 -- that protects nothing.
 use Rattle.std.specs.Prelude.{◌≡◌, ◌≢◌, ℕ, ◌+◌, ◌==◌, min, Bool, not, ◌&&◌, ◌||◌, List, [], ◌∷◌, length, codes, nat_eq, Option, None, Some, Result, Ok, Err, ⊤, if◌then◌else◌}
 use Rattle.std.specs.List.{list_any, position_from, starts_with}
-use Rattle.cookie_words.specs.Texts.{pieces}
-use Rattle.cookie_psl.specs.Reading.{line_rule, read_part, with_line}
+use Rattle.cookie_words.specs.Strings.{pieces}
+use Rattle.cookie_psl.specs.ListFormat.{line_rule, read_part, with_line}
 use Rattle.cookie_psl.specs.Rules.{Rule, RuleList, SameRules, default_rule}
 use Rattle.cookie_psl.specs.declared.list.List as psl
 use Rattle.cookie_inputs.specs.declared.suffixes.SuffixesError.{SuffixesError}
@@ -43,10 +43,10 @@ file_rules_of number (line ∷ more) = with_line number (file_line_rule line) (f
 
 -- unless out of memory: a list with these rules, or the number of the first malformed line
 abbrev pub ParsesLines : Result psl.List SuffixesError → Result RuleList ℕ → Type 0
-ParsesLines (Ok list) answer = (rules : RuleList) × (answer ≡ Ok rules) × SameRules list rules
-ParsesLines (Err (BadRule line)) answer = answer ≡ Err line
-ParsesLines (Err NoRules) answer = ⊥
-ParsesLines (Err Memory) answer = ⊤
+ParsesLines (Ok list) expected = (rules : RuleList) × (expected ≡ Ok rules) × SameRules list rules
+ParsesLines (Err (BadRule line)) expected = expected ≡ Err line
+ParsesLines (Err NoRules) expected = ⊥
+ParsesLines (Err Memory) expected = ⊤
 
 -- at least one rule, or the error
 abbrev pub some_rules : Result RuleList ℕ → Result RuleList SuffixesError
@@ -64,7 +64,7 @@ with_default only_listed rules = if only_listed then rules else default_rule ∷
 
 -- a list with the rules of the file, or the error; memory can run out only if a line has a rule
 abbrev pub ParsesSuffixes : Bool → Result psl.List SuffixesError → Result RuleList SuffixesError → Type 0
-ParsesSuffixes only_listed (Ok list) answer = (rules : RuleList) × (answer ≡ Ok rules) × SameRules list (with_default only_listed rules)
-ParsesSuffixes only_listed (Err (BadRule line)) answer = answer ≡ Err (BadRule line)
-ParsesSuffixes only_listed (Err NoRules) answer = answer ≡ Err NoRules
-ParsesSuffixes only_listed (Err Memory) answer = answer ≢ Err NoRules
+ParsesSuffixes only_listed (Ok list) expected = (rules : RuleList) × (expected ≡ Ok rules) × SameRules list (with_default only_listed rules)
+ParsesSuffixes only_listed (Err (BadRule line)) expected = expected ≡ Err (BadRule line)
+ParsesSuffixes only_listed (Err NoRules) expected = expected ≡ Err NoRules
+ParsesSuffixes only_listed (Err Memory) expected = expected ≢ Err NoRules

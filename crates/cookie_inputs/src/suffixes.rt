@@ -1,9 +1,9 @@
 //! Files of public suffix lists.
 ghost use Rattle.std.specs.Prelude.{◌≡◌, ℕ, IfOk, Result};
 ghost use Rattle.std.specs.List.{list_any};
-ghost use Rattle.cookie_words.specs.Texts.{pieces};
-ghost use Rattle.cookie_psl.specs.Lists.{ParsesList};
-ghost use Rattle.cookie_psl.specs.Reading.{read_part};
+ghost use Rattle.cookie_words.specs.Strings.{pieces};
+ghost use Rattle.cookie_psl.specs.ParsedLists.{ParsesList};
+ghost use Rattle.cookie_psl.specs.ListFormat.{read_part};
 ghost use Rattle.cookie_psl.specs.Rules.{RuleList, SameRules};
 ghost use Rattle.cookie_inputs.specs.Suffixes.{file_rules_of, foreign_line, has_rule, is_foreign, is_foreign_byte, suffixes_from, unless_foreign, with_default, ParsesLines, ParsesSuffixes};
 
@@ -91,7 +91,7 @@ fn unless_foreign(
     read: Result<List, ListError>,
     foreign: Option<usize>,
 ) -> Result<List, SuffixesError>
-    ensures { (answer : Result RuleList ℕ) → ParsesList read answer → ParsesLines result (unless_foreign foreign answer) }
+    ensures { (expected : Result RuleList ℕ) → ParsesList read expected → ParsesLines result (unless_foreign foreign expected) }
 {
     match (read, foreign) {
         (Ok(list), None) => Ok(list),

@@ -7,8 +7,8 @@ use Rattle.std.proofs.lemmas.Bool.Decides.{Decides-eqb}
 use Rattle.std.proofs.lemmas.Slice.Eq.{bytes_eq-Decides, ends_is}
 use Rattle.cookie_parts.specs.Hosts.{covers, Covers}
 
--- a string that ends with another is a front and that one
-pub front-ends_with : (text end : List ℕ) → ends_with nat_eq text end ≡ true → (front : List ℕ) × (text ≡ front ++ end)
+-- a string that ends with another is a prefix and that one
+pub front-ends_with : (text end : List ℕ) → ends_with nat_eq text end ≡ true → (prefix : List ℕ) × (text ≡ prefix ++ end)
 front-ends_with text end is =
     (take (length text - length end) text, (ends_is Decides-eqb text end (ends_with nat_eq text end) refl).0 is)
 

@@ -56,7 +56,7 @@ module _ {T : Type 0} where
     first-behind (x ∷ xs) ys none comes = grind (arith, first-behind xs ys)
 
 -- of keys that differ, one further back is not in front
-none-in_front : (key : Key) (front back : List Key) → differ same_key (front ++ key ∷ back) ≡ true → list_any (same_key key) front ≡ false
+none-in_front : (key : Key) (prefix back : List Key) → differ same_key (prefix ++ key ∷ back) ≡ true → list_any (same_key key) prefix ≡ false
 none-in_front key [] back d = refl
 none-in_front key (k ∷ ks) back d =
     let behind : list_any (same_key k) (ks ++ key ∷ back) ≡ false = grind (arith, d) in
@@ -65,20 +65,20 @@ none-in_front key (k ∷ ks) back d =
     grind (arith, same_key_equiv.symm key k, apart, none-in_front key ks back rest)
 
 -- so of two of them the one in front comes first
-made_before : (first later : Key) (front between back created : List Key) → created ≡ front ++ first ∷ (between ++ later ∷ back)
+made_before : (first later : Key) (prefix between back created : List Key) → created ≡ prefix ++ first ∷ (between ++ later ∷ back)
     → differ same_key created ≡ true → comes_first (same_key first) (same_key later) created ≡ true
 unfolding comes_first
-made_before first later front between back created is d =
-    let all : (front ++ first ∷ between) ++ later ∷ back ≡ front ++ first ∷ (between ++ later ∷ back) =
-    append_assoc front (first ∷ between) (later ∷ back) in
-    let none : list_any (same_key later) (front ++ first ∷ between) ≡ false =
-    none-in_front later (front ++ first ∷ between) back (ap (differ same_key) (all ∙ sym is) ∙ d) in
-    let before : list_any (same_key later) front ≡ false =
-    grind (arith, list_any-append (same_key later) front (first ∷ between), none) in
+made_before first later prefix between back created is d =
+    let all : (prefix ++ first ∷ between) ++ later ∷ back ≡ prefix ++ first ∷ (between ++ later ∷ back) =
+    append_assoc prefix (first ∷ between) (later ∷ back) in
+    let none : list_any (same_key later) (prefix ++ first ∷ between) ≡ false =
+    none-in_front later (prefix ++ first ∷ between) back (ap (differ same_key) (all ∙ sym is) ∙ d) in
+    let before : list_any (same_key later) prefix ≡ false =
+    grind (arith, list_any-append (same_key later) prefix (first ∷ between), none) in
     let here : comes_first (same_key first) (same_key later) (first ∷ (between ++ later ∷ back)) ≡ true =
     grind (arith, same_key_equiv.refl first) in
     ap (comes_first (same_key first) (same_key later)) is
-    ∙ first-behind (same_key first) (same_key later) front (first ∷ (between ++ later ∷ back)) before here
+    ∙ first-behind (same_key first) (same_key later) prefix (first ∷ (between ++ later ∷ back)) before here
 
 -- what passes is there
 passes-some : {T : Type 0} (test : T → Bool) (found : Option T) → passes test found ≡ true → is_some found ≡ true
@@ -142,16 +142,16 @@ module _ (store : Contents) (now : Moment) (new first later : Key) (has : HasCre
 
   -- if both have expired, or neither has, and it was created first, it is evicted
   pub made_first : has_expired now store.rows first ≡ has_expired now store.rows later
-      → (front between back : List Key) → store.created ≡ front ++ first ∷ (between ++ later ∷ back)
+      → (prefix between back : List Key) → store.created ≡ prefix ++ first ∷ (between ++ later ∷ back)
       → list_any (same_key first) (evicted store now new) ≡ true
-  made_first alike front between back is =
+  made_first alike prefix between back is =
       let p = same_key first in
       let q = same_key later in
       let expired_row = has_expired now store.rows in
       let keys = filter (same_domain new) store.created in
       let comes : comes_first p q keys ≡ true =
       first-filtered p q (same_domain new) (same_key-passes (same_domain new) first true first-near) store.created
-      (made_before first later front between back store.created is has.1) in
+      (made_before first later prefix between back store.created is has.1) in
       let turn : comes_first p q (eviction_order now store.rows keys) ≡ true =
       ⊎_elim (λ over.
       first-before p q (filter expired_row keys) (filter (λ key. not (expired_row key)) keys)

@@ -128,9 +128,9 @@ module _ (limit : ℕ) (some : 0 < limit) where
     store_by-within (Err rejection) store cookie now new old within = within
 
     -- after the outcome of an admitted cookie
-    answer-within : (store : Contents) (cookie : Row) (url : Parts) (now : Moment) → Within domain most store
+    expected-within : (store : Contents) (cookie : Row) (url : Parts) (now : Moment) → Within domain most store
         → Within domain most (store_by (reply_at (row_of (key_of cookie) store.rows) cookie url now) store cookie now)
-    answer-within store cookie url now within =
+    expected-within store cookie url now within =
         let row = row_of (key_of cookie) store.rows in
         let known = row-created (key_of cookie) store within.0 in
         store_by-within (reply_at row cookie url now) store cookie now
@@ -148,7 +148,7 @@ module _ (limit : ℕ) (some : 0 < limit) where
     -- and after calls
     within-after : (calls : List Call) (store : Contents) → Within domain most store → Within domain most (store_after calls store)
     within-after =
-        store_after-keeps (Within domain most) answer-within removed-within (λ store within. (once-none, within.1, omega arith))
+        store_after-keeps (Within domain most) expected-within removed-within (λ store within. (once-none, within.1, omega arith))
 
 -- how many rows a store has of a domain
 abbrev domain_count : List ℕ → Contents → ℕ

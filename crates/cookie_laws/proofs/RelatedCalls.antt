@@ -40,13 +40,13 @@ related_calls url = record {
 }
 
 -- what follows a dot of a string is among `after_dots` of it
-after_dots-has : (domain front : List ℕ) → list_any (bytes_eq domain) (after_dots (front ++ 46 ∷ domain)) ≡ true
+after_dots-has : (domain prefix : List ℕ) → list_any (bytes_eq domain) (after_dots (prefix ++ 46 ∷ domain)) ≡ true
 after_dots-has domain [] = or_left _ _ ((bytes_eq-Decides domain domain).1 refl)
-after_dots-has domain (b ∷ front) =
-    let rest = front ++ 46 ∷ domain in
+after_dots-has domain (b ∷ prefix) =
+    let rest = prefix ++ 46 ∷ domain in
     cond_both (eqb b 46) (rest ∷ after_dots rest) (after_dots rest) (λ texts. list_any (bytes_eq domain) texts ≡ true)
-    (λ _. or_right _ _ (after_dots-has domain front))
-    (λ _. after_dots-has domain front)
+    (λ _. or_right _ _ (after_dots-has domain prefix))
+    (λ _. after_dots-has domain prefix)
 
 -- a domain that covers a host is the host, or follows one of its dots
 below-related : (domain host : List ℕ) → ends_with nat_eq host (46 ∷ domain) ≡ true → list_any (bytes_eq domain) (after_dots host) ≡ true

@@ -120,9 +120,9 @@ removed-alike_first key xs ys alike test =
     same_first-count test key (removed (same_key key) xs) ys
     (permuted-count test xs (key ∷ removed (same_key key) xs) (key_first key xs some) ∙ alike test)
 
--- and after the keys of a front are
-pub all_removed-front : (keys xs ys : List Key) → ((test : Key → Bool) → length (filter test xs) ≡ length (filter test (keys ++ ys)))
+-- and after the keys of a prefix are
+pub all_removed-prefix : (keys xs ys : List Key) → ((test : Key → Bool) → length (filter test xs) ≡ length (filter test (keys ++ ys)))
     → (test : Key → Bool) → length (filter test (all_removed same_key keys xs)) ≡ length (filter test ys)
-all_removed-front [] xs ys alike = alike
-all_removed-front (key ∷ keys) xs ys alike =
-    all_removed-front keys (removed (same_key key) xs) ys (removed-alike_first key xs (keys ++ ys) alike)
+all_removed-prefix [] xs ys alike = alike
+all_removed-prefix (key ∷ keys) xs ys alike =
+    all_removed-prefix keys (removed (same_key key) xs) ys (removed-alike_first key xs (keys ++ ys) alike)

@@ -11,8 +11,8 @@ abbrev pub passing : (Key → Bool) → List Row → List Row
 passing test rows = filter (λ row. test (key_of row)) rows
 
 -- a row of a key passes as the key does
-pub has_key-passes : (test : Key → Bool) (key : Key) (answer : Bool) → test key ≡ answer → (row : Row) → has_key key row ≡ true → test (key_of row) ≡ answer
-has_key-passes test key answer told row same = ap test (sym (same_key-true key (key_of row) same)) ∙ told
+pub has_key-passes : (test : Key → Bool) (key : Key) (expected : Bool) → test key ≡ expected → (row : Row) → has_key key row ≡ true → test (key_of row) ≡ expected
+has_key-passes test key expected told row same = ap test (sym (same_key-true key (key_of row) same)) ∙ told
 
 -- the row of a key that passes is among the rows that do
 pub row_of-passing : (test : Key → Bool) (key : Key) (rows : List Row) → test key ≡ true → row_of key (passing test rows) ≡ row_of key rows

@@ -22,7 +22,7 @@ use Rattle.cookie_laws.proofs.DomainEvictionOrder.{none-passing}
 use Rattle.cookie_laws.proofs.Filtered.{filter-all, none-append, none-filter, none-take}
 use Rattle.cookie_laws.proofs.FoundRows.{find-none}
 use Rattle.cookie_laws.proofs.LimitedRows.{found-any, reply_at-new}
-use Rattle.cookie_laws.proofs.Removals.{all_removed, all_removed-front, removed_from, removed_from-without, row_of-all_removed, store_after-append, store_after-removals}
+use Rattle.cookie_laws.proofs.Removals.{all_removed, all_removed-prefix, removed_from, removed_from-without, row_of-all_removed, store_after-append, store_after-removals}
 
 -- the three parts of the eviction order
 
@@ -93,24 +93,24 @@ own-left now rows new created n =
     let keys = filter near created in
     let order = secure_last_order now rows keys in
     let others = filter (λ key. not (near key)) created in
-    let front = take n order in
+    let prefix = take n order in
     let back = drop n order in
-    let all : front ++ (back ++ others) ≡ order ++ others =
-    sym (append_assoc front back others) ∙ ap (λ ks. ks ++ others) (take-append-drop n order) in
-    let alike : (test : Key → Bool) → length (filter test created) ≡ length (filter test (front ++ (back ++ others))) = λ test.
+    let all : prefix ++ (back ++ others) ≡ order ++ others =
+    sym (append_assoc prefix back others) ∙ ap (λ ks. ks ++ others) (take-append-drop n order) in
+    let alike : (test : Key → Bool) → length (filter test created) ≡ length (filter test (prefix ++ (back ++ others))) = λ test.
     let order_count = secure_last_order-count now rows test keys in
     let halves_count = halves-count near test created in
     let joined = ap length (filter-append test order others) ∙ length-append (filter test order) (filter test others) in
     let counted : length (filter test created) ≡ length (filter test (order ++ others)) = omega (arith, order_count, halves_count, joined) in
     counted ∙ ap (λ ks. length (filter test ks)) (sym all) in
-    let left = all_removed-front front created (back ++ others) alike near in
+    let left = all_removed-prefix prefix created (back ++ others) alike near in
     let away = none-count near created in
     let joined = ap length (filter-append near back others) ∙ length-append (filter near back) (filter near others) in
     let fewer = filter-shorter near back in
     let long = length-drop n order ∙ ap (λ m. m - n) (secure_last_order-length now rows keys) in
     omega (arith, left, away, joined, fewer, long)
 
--- a front of nothing is nothing
+-- a prefix of nothing is nothing
 take-none : (n : ℕ) → take {A = Key} n [] ≡ []
 take-none zero = refl
 take-none (suc n) = refl

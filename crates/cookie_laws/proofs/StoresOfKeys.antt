@@ -20,8 +20,8 @@ abbrev pub passing_store : (Key → Bool) → Contents → Contents
 passing_store test store = record store { rows = passing test store.rows; created = filter test store.created }
 
 -- a key passes as the same key does
-pub same_key-passes : (test : Key → Bool) (key : Key) (answer : Bool) → test key ≡ answer → (other : Key) → same_key key other ≡ true → test other ≡ answer
-same_key-passes test key answer told other same = ap test (sym (same_key-true key other same)) ∙ told
+pub same_key-passes : (test : Key → Bool) (key : Key) (expected : Bool) → test key ≡ expected → (other : Key) → same_key key other ≡ true → test other ≡ expected
+same_key-passes test key expected told other same = ap test (sym (same_key-true key other same)) ∙ told
 
 -- a key removed that passes
 pub unmade-passing : (test : Key → Bool) (key : Key) (created : List Key) → test key ≡ true → filter test (removed (same_key key) created) ≡ removed (same_key key) (filter test created)

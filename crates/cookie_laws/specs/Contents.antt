@@ -67,6 +67,21 @@ unexpired now store = record store {
   created = filter (λ key. not (has_expired now store.rows key)) store.created;
 }
 
+-- each result that a closure may return for a value is that of the test
+abbrev pub ReturnsTest : {X : Type 0} → (X → Bool → Type 0) → (X → Bool) → Type 0
+ReturnsTest {X} returns test = (x : X) (result : Bool) → returns x result → result ≡ test x
+
+-- the row of the key exists and passes the test
+abbrev pub is_retained : (Row → Bool) → List Row → Key → Bool
+is_retained test rows key = passes test (row_of key rows)
+
+-- the store with the rows that pass the test, and the keys of these in creation order
+abbrev pub retained : (Row → Bool) → Contents → Contents
+retained test store = record store {
+  rows = filter test store.rows;
+  created = filter (is_retained test store.rows) store.created;
+}
+
 -- the store with the cookie stored: it replaces the row of its key, which keeps its place in the
 -- creation order, or it is a new row, created last
 abbrev pub with_cookie : Contents → Row → Contents

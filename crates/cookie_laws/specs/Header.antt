@@ -1,5 +1,5 @@
 -- The Cookie header of a request, RFC 6265 4.2.1 and 5.4.
-use Rattle.std.specs.Prelude.{◌≡◌, ℕ, List, [], ◌∷◌, ◌++◌, codes, flat_map, length}
+use Rattle.std.specs.Prelude.{◌≡◌, ℕ, List, [], ◌∷◌, ◌++◌, codes, flat_map, length, Option, Some, None}
 use Rattle.std.specs.List.{position_or_len}
 use Rattle.std.specs.List.Sorted.{IsPermutation, IsSorted}
 use Rattle.std.specs.Ordering.{nat_cmp, ordering_then}
@@ -38,6 +38,11 @@ abbrev pub InHeaderOrder : Parts → Moment → Contents → List Row → Type 0
 InHeaderOrder url now store cookies =
     IsPermutation (given url now store.rows) cookies × IsSorted (header_order store.created) cookies
 
--- 4.2.1: the value of the Cookie header of a request
-abbrev pub IsCookieHeader : Parts → Moment → Contents → List ℕ → Type 0
-IsCookieHeader url now store text = (cookies : List Row) × InHeaderOrder url now store cookies × (text ≡ cookie_string cookies)
+-- 4.2.1: the value of a Cookie header with these cookies; without cookies there is no header
+abbrev pub header_value : List Row → Option (List ℕ)
+header_value [] = None
+header_value (c ∷ cs) = Some (cookie_string (c ∷ cs))
+
+-- 4.2.1: the value of the Cookie header of a request, if it has one
+abbrev pub IsCookieHeader : Parts → Moment → Contents → Option (List ℕ) → Type 0
+IsCookieHeader url now store header = (cookies : List Row) × InHeaderOrder url now store cookies × (header ≡ header_value cookies)

@@ -79,7 +79,7 @@ pub fn evicted_in_order()
     ensures older_first { (store : Contents) (now : Moment) (new first later : Key) → HasCreationOrder store → same_domain first later ≡ true
         → list_any (same_key later) (evicted store now new) ≡ true
         → has_expired now store.rows first ≡ has_expired now store.rows later
-        → (front between back : List Key) → store.created ≡ front ++ first ∷ (between ++ later ∷ back)
+        → (prefix between back : List Key) → store.created ≡ prefix ++ first ∷ (between ++ later ∷ back)
         → list_any (same_key first) (evicted store now new) ≡ true }
 {}
 

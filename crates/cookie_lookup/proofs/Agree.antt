@@ -21,19 +21,19 @@ module _ {X : Type 0} (F : ℕ → List X → ℕ) where
   total n [] = 0
   total n (g ∷ gs) = F n g.1 + total (n + 1) gs
 
-  abbrev pub answer : ℕ → Option ℕ → List (List ℕ × List X) → ℕ
-  answer n None gs = 0
-  answer n (Some p) gs = F (n + p) (under p gs)
+  abbrev pub value_at : ℕ → Option ℕ → List (List ℕ × List X) → ℕ
+  value_at n None gs = 0
+  value_at n (Some p) gs = F (n + p) (under p gs)
 
   not_there : (n : ℕ) (text : List ℕ) (gs : List (List ℕ × List X)) → list_any (bytes_eq text) (map (λ g. g.0) gs) ≡ false → value n text gs ≡ 0
   not_there n text [] h = refl
   not_there n text (g ∷ gs) h = grind (arith, nat_tests, h, not_there (n + 1) text gs)
 
-  one_later : (n : ℕ) (o : Option ℕ) (g : List ℕ × List X) (gs : List (List ℕ × List X)) → answer n (option_map suc o) (g ∷ gs) ≡ answer (n + 1) o gs
+  one_later : (n : ℕ) (o : Option ℕ) (g : List ℕ × List X) (gs : List (List ℕ × List X)) → value_at n (option_map suc o) (g ∷ gs) ≡ value_at (n + 1) o gs
   one_later n None g gs = refl
   one_later n (Some p) g gs = let e : n + suc p ≡ n + 1 + p = omega arith in ap (λ m. F m (under p gs)) e
 
-  pub position_value : (n : ℕ) (text : List ℕ) (gs : List (List ℕ × List X)) → answer n (group_position text gs) gs ≡ value n text gs
+  pub position_value : (n : ℕ) (text : List ℕ) (gs : List (List ℕ × List X)) → value_at n (group_position text gs) gs ≡ value n text gs
   position_value n text [] = refl
   position_value n text (g ∷ gs) = elim (bool_cases (bytes_eq text g.0)) [
     | inl e ↦ let z : n + 0 ≡ n = omega arith in rw e (ap (λ m. F m g.1) z)
@@ -106,7 +106,7 @@ module _ (test : Row → Bool) (f : RowPosition → ℕ) where
   path_sum : (d : ℕ) (paths : PathGroups) (text : List ℕ) → sum_by f (at_path test d paths text) ≡ value (rows_sum d) 0 text paths
   path_sum d paths text = go d paths text (group_position text paths) refl ∙ position_value (rows_sum d) 0 text paths
     where
-      go : (d : ℕ) (paths : PathGroups) (text : List ℕ) (o : Option ℕ) → group_position text paths ≡ o → sum_by f (at_path test d paths text) ≡ answer (rows_sum d) 0 (group_position text paths) paths
+      go : (d : ℕ) (paths : PathGroups) (text : List ℕ) (o : Option ℕ) → group_position text paths ≡ o → sum_by f (at_path test d paths text) ≡ value_at (rows_sum d) 0 (group_position text paths) paths
       go d paths text None e = rw (at_path, e) refl
       go d paths text (Some p) e = let z : 0 + p ≡ p = omega arith in rw (at_path, e) (sym (ap (λ m. rows_sum d m (under p paths)) z))
 
@@ -127,7 +127,7 @@ module _ (test : Row → Bool) (f : RowPosition → ℕ) where
   domain_sum : (texts : List (List ℕ)) (groups : DomainGroups) (text : List ℕ) → sum_by f (at_domain test groups texts text) ≡ value (paths_sum texts) 0 text groups
   domain_sum texts groups text = go texts groups text (group_position text groups) refl ∙ position_value (paths_sum texts) 0 text groups
     where
-      go : (texts : List (List ℕ)) (groups : DomainGroups) (text : List ℕ) (o : Option ℕ) → group_position text groups ≡ o → sum_by f (at_domain test groups texts text) ≡ answer (paths_sum texts) 0 (group_position text groups) groups
+      go : (texts : List (List ℕ)) (groups : DomainGroups) (text : List ℕ) (o : Option ℕ) → group_position text groups ≡ o → sum_by f (at_domain test groups texts text) ≡ value_at (paths_sum texts) 0 (group_position text groups) groups
       go texts groups text None e = rw (at_domain, e) refl
       go texts groups text (Some p) e = let z : 0 + p ≡ p = omega arith in rw (at_domain, e) (sym (ap (λ m. paths_sum texts m (under p groups)) z))
 

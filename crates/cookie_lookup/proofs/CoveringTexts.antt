@@ -29,7 +29,7 @@ among_fronts r at (suc m) h e = elim (bool_cases (eqb at m)) [
 ]
 
 ends_there : (p r rest : List ℕ) (at : ℕ) → length p ≡ suc at → r ≡ p ++ rest
-    → (rest ≡ []) ⊎ (((front : List ℕ) × (p ≡ front ++ 47 ∷ [])) ⊎ ((more : List ℕ) × (rest ≡ 47 ∷ more))) → ends_candidate r at ≡ true
+    → (rest ≡ []) ⊎ (((prefix : List ℕ) × (p ≡ prefix ++ 47 ∷ [])) ⊎ ((more : List ℕ) × (rest ≡ 47 ∷ more))) → ends_candidate r at ≡ true
 ends_there p r rest at l split o = elim o [
   | inl e ↦ let long : length r ≡ length p + length rest = ap length split ∙ length-append p rest in
       let none : length rest ≡ 0 = ap length e in
@@ -85,9 +85,9 @@ front_of r text (suc m) h = elim (bool_cases (ends_candidate r m)) [
       let w = front_of r text m (ap (list_any (bytes_eq text)) (sym (append-nil (front_texts r m))) ∙ h') in (w.0, omega (arith, w.1), w.2, w.3)
 ]
 
--- a front that ends at a slash, before one, or with the path
+-- a prefix that ends at a slash, before one, or with the path
 front_is : (r : List ℕ) (at : ℕ) → at < length r → ends_candidate r at ≡ true
-    → (take (suc at) r ≡ r) ⊎ ((front : List ℕ) × (rest : List ℕ) × (r ≡ front ++ 47 ∷ rest) × ((take (suc at) r ≡ front) ⊎ (take (suc at) r ≡ front ++ 47 ∷ [])))
+    → (take (suc at) r ≡ r) ⊎ ((prefix : List ℕ) × (rest : List ℕ) × (r ≡ prefix ++ 47 ∷ rest) × ((take (suc at) r ≡ prefix) ⊎ (take (suc at) r ≡ prefix ++ 47 ∷ [])))
 front_is r at l e = elim (or_cases (eqb (at + 1) (length r) || eqb (get_or r at 0) 47) (eqb (get_or r (at + 1) 0) 47) e) [
   | inl o ↦ elim (or_cases (eqb (at + 1) (length r)) (eqb (get_or r at 0) 47) o) [
     | inl w ↦ let whole : suc at ≡ length r = grind (arith, nat_tests, w) in inl (ap (λ n. take n r) whole ∙ take-length r)
@@ -131,12 +131,12 @@ path_texts_are path text = (there path text, λ w. covering_among text path (cov
           let h' : list_any (bytes_eq text) (front_texts path (length path)) ≡ true = rw e at h in
           let w = front_of path text (length path) h' in (
             ap (λ t. starts_with nat_eq t (47 ∷ [])) w.3 ∙ front_begins path w.0 e,
-            subst (λ t. (t ≡ path) ⊎ ((front : List ℕ) × (rest : List ℕ) × (path ≡ front ++ 47 ∷ rest) × ((t ≡ front) ⊎ (t ≡ front ++ 47 ∷ [])))) (sym w.3) (front_is path w.0 w.1 w.2),
+            subst (λ t. (t ≡ path) ⊎ ((prefix : List ℕ) × (rest : List ℕ) × (path ≡ prefix ++ 47 ∷ rest) × ((t ≡ prefix) ⊎ (t ≡ prefix ++ 47 ∷ [])))) (sym w.3) (front_is path w.0 w.1 w.2),
           )
       | inr e ↦ let h' = rw e at h in absurd (cc)
     ]
 
--- a front that begins with a slash and ends where `ends_candidate` holds is a candidate
+-- a prefix that begins with a slash and ends where `ends_candidate` holds is a candidate
 front_among : (b : ℕ) (p r rest : List ℕ) → starts_with nat_eq (b ∷ p) (47 ∷ []) ≡ true → ends_candidate r (length p) ≡ true → r ≡ (b ∷ p) ++ rest → list_any (bytes_eq (b ∷ p)) (candidate_paths r) ≡ true
 front_among b p r rest s ends split =
     let begins : starts_with eqb r (47 ∷ []) ≡ true = subst (λ t. starts_with eqb t (47 ∷ []) ≡ true) (sym split) (grind (arith, nat_tests, s)) in
@@ -184,7 +184,7 @@ path_text_is path text = elim (bool_cases (list_any (bytes_eq text) (candidate_p
 pub path_text_by : (path text bytes other : List ℕ) → bytes ≡ path → other ≡ text → is_candidate_path bytes other ≡ list_any (bytes_eq text) (candidate_paths path)
 path_text_by path text bytes other b o = ap (λ x. is_candidate_path x other) b ∙ ap (is_candidate_path path) o ∙ path_text_is path text
 
--- it is a front of the path, which is cut there
+-- it is a prefix of the path, which is cut there
 pub front_text : (path text : List ℕ) → list_any (bytes_eq text) (candidate_paths path) ≡ true → take (length text) path ≡ text
 front_text path text h =
     let o = covers_it path text ((path_texts_are path text).0 h) in

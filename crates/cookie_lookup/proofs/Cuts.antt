@@ -34,7 +34,7 @@ cut_boundary bs i u l h = elim (three (eqb (i + 1) (length bs)) (eqb (get_or bs 
     before_byte : (bs : List ℕ) (j : ℕ) → IsUtf8 bs → j ≤ length bs → get_or bs j 0 ≡ 47 → IsCharBoundary bs j
     before_byte bs j u l e = (l, λ k h. absurd (omega (arith, e, h)))
 
--- where a candidate ends there is one front more
+-- where a candidate ends there is one prefix more
 pub front_more : (bs : List ℕ) (i : ℕ) → ends_candidate bs i ≡ true → front_texts bs (i + 1) ≡ front_texts bs i ++ take (i + 1) bs ∷ []
 front_more bs i h = rw (add-one, h) refl
 

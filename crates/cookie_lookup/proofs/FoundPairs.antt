@@ -12,7 +12,7 @@ use Rattle.cookie_laws.specs.Rows.{differ}
 use Rattle.cookie_lookup.specs.Groups.{PathGroups, DomainGroups, flat_paths, flat, HasDomainAndPath, Filled, ArePaths, AreGroups}
 use Rattle.cookie_lookup.specs.SearchView.{group_position, under, how_many_found, how_many_paths, paths_at_domain, how_many_pairs_found, has_domain_and_path, of_host, paths_found}
 use Rattle.cookie_lookup.specs.Candidates.{url_candidate_domains, candidate_paths, candidate_domains}
-use Rattle.cookie_lookup.proofs.Agree.{value, answer, position_value, sum_alike}
+use Rattle.cookie_lookup.proofs.Agree.{value, value_at, position_value, sum_alike}
 use Rattle.cookie_lookup.proofs.Bounds.{counted, counts_alike, some_later}
 use Rattle.cookie_lookup.proofs.Cuts.{bool_cases}
 use Rattle.cookie_lookup.proofs.Listed.{no_place, shared_all}
@@ -141,7 +141,7 @@ module _ (texts : List (List ℕ)) where
   at_value : (groups : DomainGroups) (text : List ℕ) → paths_at_domain groups texts text ≡ value texts_in 0 text groups
   at_value groups text = go (group_position text groups) refl ∙ position_value texts_in 0 text groups
     where
-      go : (o : Option ℕ) → group_position text groups ≡ o → paths_at_domain groups texts text ≡ answer texts_in 0 (group_position text groups) groups
+      go : (o : Option ℕ) → group_position text groups ≡ o → paths_at_domain groups texts text ≡ value_at texts_in 0 (group_position text groups) groups
       go None e = rw (paths_at_domain, e) refl
       go (Some p) e = rw (paths_at_domain, e) refl
 

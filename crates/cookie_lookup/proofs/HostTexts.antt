@@ -44,16 +44,16 @@ pub length_related : (host : List ℕ) → length (candidate_domains host) ≡ 1
 length_related host = grind (arith, length_dots host)
 
 -- what follows a dot of a string is among `after_dots` of it
-after_dots-has : (domain front : List ℕ) → list_any (bytes_eq domain) (after_dots (front ++ 46 ∷ domain)) ≡ true
+after_dots-has : (domain prefix : List ℕ) → list_any (bytes_eq domain) (after_dots (prefix ++ 46 ∷ domain)) ≡ true
 after_dots-has domain [] = or_left _ _ ((bytes_eq-Decides domain domain).1 refl)
-after_dots-has domain (b ∷ front) =
-    let rest = front ++ 46 ∷ domain in
+after_dots-has domain (b ∷ prefix) =
+    let rest = prefix ++ 46 ∷ domain in
     cond_both (eqb b 46) (rest ∷ after_dots rest) (after_dots rest) (λ texts. list_any (bytes_eq domain) texts ≡ true)
-    (λ _. or_right _ _ (after_dots-has domain front))
-    (λ _. after_dots-has domain front)
+    (λ _. or_right _ _ (after_dots-has domain prefix))
+    (λ _. after_dots-has domain prefix)
 
 -- and what is among them follows one
-after_dots_are : (text host : List ℕ) → list_any (bytes_eq text) (after_dots host) ≡ true → (front : List ℕ) × (host ≡ front ++ 46 ∷ text)
+after_dots_are : (text host : List ℕ) → list_any (bytes_eq text) (after_dots host) ≡ true → (prefix : List ℕ) × (host ≡ prefix ++ 46 ∷ text)
 after_dots_are text [] h = absurd (cc)
 after_dots_are text (b ∷ bs) h = elim (bool_cases (eqb b 46)) [
   | inl e ↦

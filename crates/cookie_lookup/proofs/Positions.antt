@@ -78,10 +78,10 @@ domain_none test groups texts text e = rw (at_domain, ← e) refl
 -- what several lookups find, one after another
 
 -- if one of them finds something, all do
-pub some_given : {X A : Type 0} (f : X → List A) (front : List X) (x : X) (more : List X) → f x ≢ [] → flat_map f (front ++ x ∷ more) ≢ []
-some_given f front x more some none =
-    let parts : flat_map f front ++ (f x ++ flat_map f more) ≡ [] = sym (flat_map-append f front (x ∷ more)) ∙ none in
-    some (nothing_left (f x) (flat_map f more) (nothing_right (flat_map f front) (f x ++ flat_map f more) parts))
+pub some_given : {X A : Type 0} (f : X → List A) (prefix : List X) (x : X) (more : List X) → f x ≢ [] → flat_map f (prefix ++ x ∷ more) ≢ []
+some_given f prefix x more some none =
+    let parts : flat_map f prefix ++ (f x ++ flat_map f more) ≡ [] = sym (flat_map-append f prefix (x ∷ more)) ∙ none in
+    some (nothing_left (f x) (flat_map f more) (nothing_right (flat_map f prefix) (f x ++ flat_map f more) parts))
   where
     nothing_right : {A : Type 0} (xs ys : List A) → xs ++ ys ≡ [] → ys ≡ []
     nothing_right [] ys e = e

@@ -17,11 +17,11 @@ one_of a b c d (inl p) q = rw (p, q) refl
 one_of true b c d (inr p) q = q
 one_of false b c d (inr p) q = rw (p.0, p.1, q) refl
 
-with_dot : (host front text : List ℕ) → host ≡ front ++ 46 ∷ text → host ≡ (front ++ 46 ∷ []) ++ text
-with_dot host front text e = e ∙ sym (append_assoc front (46 ∷ []) text)
+with_dot : (host prefix text : List ℕ) → host ≡ prefix ++ 46 ∷ text → host ≡ (prefix ++ 46 ∷ []) ++ text
+with_dot host prefix text e = e ∙ sym (append_assoc prefix (46 ∷ []) text)
 
-ends : (host front text : List ℕ) → host ≡ front ++ text → ends_with nat_eq host text ≡ true
-ends host front text e = (ends_is Decides-eqb host text (ends_with nat_eq host text) refl).1 front e
+ends : (host prefix text : List ℕ) → host ≡ prefix ++ text → ends_with nat_eq host text ≡ true
+ends host prefix text e = (ends_is Decides-eqb host text (ends_with nat_eq host text) refl).1 prefix e
 
 holds : (host text : List ℕ) → IsCandidateDomain host text → is_candidate_domain host text ≡ true
 holds host text w = elim w [
@@ -53,8 +53,8 @@ related host text t =
           let dot : get_or host (length host - length text - 1) 0 ≡ 46 = grind (arith, nat_tests, parts.1) in
           let m : ℕ = length host - length text - 1 in
           let next : length host - length text ≡ suc m = omega (arith, less) in
-          let front : take (length host - length text) host ≡ take m host ++ 46 ∷ [] = ap (λ n. take n host) next ∙ take_next host m (omega (arith, less)) ∙ ap (λ b. take m host ++ b ∷ []) dot in
-          inr (take m host, split ∙ ap (λ f. f ++ text) front ∙ append_assoc (take m host) (46 ∷ []) text)
+          let prefix : take (length host - length text) host ≡ take m host ++ 46 ∷ [] = ap (λ n. take n host) next ∙ take_next host m (omega (arith, less)) ∙ ap (λ b. take m host ++ b ∷ []) dot in
+          inr (take m host, split ∙ ap (λ f. f ++ text) prefix ∙ append_assoc (take m host) (46 ∷ []) text)
     ]
 
 -- the test decides whether a domain is a candidate

@@ -7,7 +7,7 @@ use Rattle.cookie_laws.specs.Related.{after_dots}
 
 -- 5.1.3: a domain that covers a host is the host, or follows one of its dots
 abbrev pub IsCandidateDomain : List ℕ → List ℕ → Type 0
-IsCandidateDomain host text = (text ≡ host) ⊎ ((front : List ℕ) × (host ≡ front ++ 46 ∷ text))
+IsCandidateDomain host text = (text ≡ host) ⊎ ((prefix : List ℕ) × (host ≡ prefix ++ 46 ∷ text))
 
 -- the candidate domains of a host, longest first
 abbrev pub candidate_domains : List ℕ → List (List ℕ)
@@ -27,7 +27,7 @@ is_candidate_domain host text =
 -- of its slashes, or the part that ends with one
 abbrev pub IsCandidatePath : List ℕ → List ℕ → Type 0
 IsCandidatePath path text = (starts_with nat_eq text (47 ∷ []) ≡ true)
-    × ((text ≡ path) ⊎ ((front : List ℕ) × (rest : List ℕ) × (path ≡ front ++ 47 ∷ rest) × ((text ≡ front) ⊎ (text ≡ front ++ 47 ∷ []))))
+    × ((text ≡ path) ⊎ ((prefix : List ℕ) × (rest : List ℕ) × (path ≡ prefix ++ 47 ∷ rest) × ((text ≡ prefix) ⊎ (text ≡ prefix ++ 47 ∷ []))))
 
 -- the byte at this position is the last one, or a slash, or followed by a slash
 abbrev pub ends_candidate : List ℕ → ℕ → Bool

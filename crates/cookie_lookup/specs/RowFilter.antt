@@ -1,4 +1,4 @@
--- The tests left for a row that was found under a candidate domain and a candidate path, RFC 6265
+-- The remaining tests of a row that was found under a candidate domain and a candidate path, RFC 6265
 -- 5.4.
 use Rattle.std.specs.Prelude.{◌≡◌, ◌==◌, ℕ, Bool, false, not, ◌&&◌, ◌||◌, List, [], bytes_eq, codes, length}
 use Rattle.url.specs.Parts.{Parts}

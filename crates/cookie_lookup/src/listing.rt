@@ -241,22 +241,22 @@ fn push_listed<S: ListedSearch>(
 {
     let path = row_filter.url.path();
     for place in 0..count {
-        if let Some(front) = front_at(search, domain, place, path) {
-            push_path(search, domain, front, row_filter, positions)?;
+        if let Some(prefix) = prefix_at(search, domain, place, path) {
+            push_path(search, domain, prefix, row_filter, positions)?;
         }
     }
     Ok(())
 }
 
 // Returns the start of the path that is the domain's path at `place`, if that is a candidate.
-fn front_at<'a, S: ListedSearch>(
+fn prefix_at<'a, S: ListedSearch>(
     search: &S,
     domain: usize,
     place: usize,
     path: &'a str,
 ) -> Option<&'a str>
-    ensures front { IfSome result (λ front. Some front.now ≡ slice_get (map (λ p. p.0) (under domain (S.view_of search.now).groups)) place) }
-    ensures is { IfSome result (λ front. list_any (bytes_eq front.now) (candidate_paths path.now) ≡ true) }
+    ensures prefix { IfSome result (λ prefix. Some prefix.now ≡ slice_get (map (λ p. p.0) (under domain (S.view_of search.now).groups)) place) }
+    ensures is { IfSome result (λ prefix. list_any (bytes_eq prefix.now) (candidate_paths path.now) ≡ true) }
     ensures none { IfNone result ((text : List ℕ) → Some text ≡ slice_get (map (λ p. p.0) (under domain (S.view_of search.now).groups)) place
         → list_any (bytes_eq text) (candidate_paths path.now) ≡ false) }
 {

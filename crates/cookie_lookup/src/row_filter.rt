@@ -1,4 +1,4 @@
-//! The tests left for a row that was found under a candidate domain and a candidate path, RFC 6265
+//! The remaining tests of a row that was found under a candidate domain and a candidate path, RFC 6265
 //! 5.4.
 ghost use Rattle.std.specs.Prelude.{◌≡◌, Some};
 ghost use Rattle.cookie_words.specs.Moments.{moment_of};
@@ -14,7 +14,7 @@ use cookie_parts::{Cookie, CookieDomain};
 use jiff::civil::DateTime;
 use url::Url;
 
-/// The tests left for a row found under a candidate domain and a candidate path: its kind of
+/// The remaining tests of a row found under a candidate domain and a candidate path: its kind of
 /// domain, its expiry, Secure and HttpOnly. `host_only` and `suffix` are whether a host-only cookie
 /// and a domain cookie of that domain match the host, so a row's domain and path are not compared
 /// again.

@@ -15,7 +15,7 @@ pub trait Search {
     /// Returns the position of the domain's group.
     fn domain(&mut self, text: &str) -> Option<usize>
         requires { (view_of self.old).domains + 1 < 2 ^ 128 }
-        ensures answer { result ≡ group_position text.now (view_of self.old).groups }
+        ensures position { result ≡ group_position text.now (view_of self.old).groups }
         ensures view_of { view_of self.new ≡ record (view_of self.old) { domains = (view_of self.old).domains + 1 } };
 
     /// Returns the position of the path's group in the domain at position `domain`. If it is found,
@@ -23,7 +23,7 @@ pub trait Search {
     fn path(&mut self, domain: usize, text: &str) -> Option<usize>
         requires room { (view_of self.old).paths + 1 < 2 ^ 128 }
         requires domain { domain < length (view_of self.old).groups }
-        ensures answer { result ≡ group_position text.now (under domain (view_of self.old).groups) }
+        ensures position { result ≡ group_position text.now (under domain (view_of self.old).groups) }
         ensures view_of { view_of self.new ≡ record (view_of self.old) {
           paths = (view_of self.old).paths + 1;
           current = now_at result (under domain (view_of self.old).groups) (view_of self.old).current;

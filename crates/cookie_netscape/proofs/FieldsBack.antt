@@ -4,7 +4,7 @@ use Rattle.std.specs.Char.{is_ascii_control, to_ascii_lowercase}
 use Rattle.std.specs.List.{AllByRecursion, ends_with, join_with_byte, starts_with}
 use Rattle.std.proofs.lemmas.Bool.{and_from, and_left, and_parts, both_ways, cond-false, cond-true, eq-eqb, false≢true, ne_eqb, not-true, or_parts}
 use Rattle.cookie_words.specs.Steps.{◌>>=◌}
-use Rattle.cookie_words.specs.Texts.{pieces, without_dot}
+use Rattle.cookie_words.specs.Strings.{pieces, without_dot}
 use Rattle.cookie_parts.specs.Cookie.{Row, is_http_only, is_secure_only}
 use Rattle.cookie_parts.specs.Domain.{DomainValue, HostOnly, Suffix, NotPresent, Empty as EmptyDomain, domain_text}
 use Rattle.cookie_parts.specs.Expiry.{Expiry}

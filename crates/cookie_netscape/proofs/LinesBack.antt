@@ -5,7 +5,7 @@ use Rattle.std.specs.Str.Lines.{lines, lines_of_parts, strip_carriage_return}
 use Rattle.std.proofs.lemmas.Bool.{and_parts, both_ways, cond-false, false_from_ne_true}
 use Rattle.std.proofs.lemmas.List.Folds.{list_any_at}
 use Rattle.std.proofs.lemmas.List.Splits.{length-slice_split}
-use Rattle.cookie_words.specs.Texts.{pieces}
+use Rattle.cookie_words.specs.Strings.{pieces}
 use Rattle.cookie_parts.specs.Cookie.{Row}
 use Rattle.cookie_netscape.specs.Files.{rows_in_file, rows_in_lines}
 use Rattle.cookie_netscape.specs.Lines.{content_cookie, fields_cookie, line_cookie}

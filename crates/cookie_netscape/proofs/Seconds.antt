@@ -9,7 +9,7 @@ use Rattle.jiff_core.proofs.SignedLemmas.{signed_arith}
 use Rattle.cookie_words.specs.Moments.{Moment, epoch, moment_of, nanoseconds}
 use Rattle.jiff_core.specs.declared.civil.datetime.DateTime.{DateTime}
 use Rattle.jiff.specs.Words.{civil_nanos}
-use Rattle.cookie_raw.specs.Reading.{of_seconds}
+use Rattle.cookie_raw.specs.SetCookie.{of_seconds}
 use Rattle.cookie_netscape.specs.Written.{not_negative, second_of}
 
 -- the same nanoseconds, by the definitions of this repository

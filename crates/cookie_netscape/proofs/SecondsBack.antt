@@ -16,7 +16,7 @@ use Rattle.jiff_core.specs.declared.civil.datetime.DateTime.{DateTime}
 use Rattle.jiff_core.proofs.SignedLemmas.{signed_arith}
 use Rattle.jiff.proofs.Family.{civil_nanos_range}
 use Rattle.cookie_words.specs.Moments.{epoch, moment_at, moment_of, nanoseconds}
-use Rattle.cookie_raw.specs.Reading.{of_seconds}
+use Rattle.cookie_raw.specs.SetCookie.{of_seconds}
 use Rattle.cookie_parts.specs.Expiry.{Expiry, AtUtc, SessionEnd, latest}
 use Rattle.cookie_netscape.specs.Lines.{expiry_at, expiry_from, seconds_from}
 use Rattle.cookie_netscape.specs.Written.{expiry_field, expiry_second, second_of}

@@ -3,7 +3,7 @@ use Rattle.std.specs.Prelude.{◌≡◌, ◌≢◌, ℕ, ◌+◌, ◌==◌, Bool
 use Rattle.std.specs.List.{cons_option}
 use Rattle.std.specs.Str.Lines.{lines}
 use Rattle.cookie_words.specs.Steps.{◌>>=◌}
-use Rattle.cookie_words.specs.Texts.{pieces}
+use Rattle.cookie_words.specs.Strings.{pieces}
 use Rattle.cookie_parts.specs.Cookie.{Row}
 use Rattle.cookie_parts.specs.Hosts.{passes}
 use Rattle.cookie_netscape.specs.Lines.{content, fields_cookie, fields_from, line_cookie}

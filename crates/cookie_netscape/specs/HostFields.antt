@@ -4,7 +4,7 @@ use Rattle.std.specs.Prelude.{ℕ, ◌-◌, ◌==◌, Bool, false, not, ◌&&◌
 use Rattle.std.specs.Char.{is_ascii_digit, to_ascii_lowercase}
 use Rattle.std.specs.List.{after_first, before_first, ends_with, list_all, list_any, starts_with}
 use Rattle.std.specs.Str.{str_eq_ignore_ascii_case}
-use Rattle.cookie_words.specs.Texts.{without_dot}
+use Rattle.cookie_words.specs.Strings.{without_dot}
 
 -- the byte is a colon
 abbrev pub is_colon : ℕ → Bool

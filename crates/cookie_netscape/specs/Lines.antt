@@ -8,9 +8,9 @@ use Rattle.std.specs.Str.{str_eq_ignore_ascii_case}
 use Rattle.std.specs.Str.Parse.{digits_value}
 use Rattle.cookie_words.specs.Moments.{epoch}
 use Rattle.cookie_words.specs.Steps.{◌>>=◌}
-use Rattle.cookie_words.specs.Texts.{pieces, without_dot}
+use Rattle.cookie_words.specs.Strings.{pieces, without_dot}
 use Rattle.cookie_raw.specs.Raw.{ExpiresValue, Raw, pair}
-use Rattle.cookie_raw.specs.Reading.{is_equals, is_semicolon, of_seconds, reading}
+use Rattle.cookie_raw.specs.SetCookie.{is_equals, is_semicolon, of_seconds, reading}
 use Rattle.cookie_parts.specs.Cookie.{Row, is_http_only, is_secure_only}
 use Rattle.cookie_parts.specs.Domain.{DomainValue, HostOnly, Suffix}
 use Rattle.cookie_parts.specs.Expiry.{Expiry, SessionEnd, expiry_of_expires, expiry_of_max_age}

@@ -1,6 +1,6 @@
 //! The fields of a line.
 ghost use Rattle.std.specs.Prelude.{◌≡◌, ◌∷◌, [], ℕ, List, None, Some, is_some, option_map, MatchOption};
-ghost use Rattle.cookie_words.specs.Texts.{pieces};
+ghost use Rattle.cookie_words.specs.Strings.{pieces};
 ghost use Rattle.cookie_netscape.specs.Lines.{after_quote, are_fields, before_quote, fields_from, fields_of, flag_from, has_control, is_domain_field, is_name_field, is_path_field, is_unquoted, is_value_field, last_fields, path_from};
 ghost use Rattle.cookie_netscape.specs.Views.{fields_view};
 

@@ -1,6 +1,6 @@
 //! Reads the cookies of a file.
 ghost use Rattle.std.specs.Prelude.{◌≡◌, ◌==◌, IfErr, IfOk, Some, length, option_map};
-ghost use Rattle.cookie_words.specs.Texts.{pieces};
+ghost use Rattle.cookie_words.specs.Strings.{pieces};
 ghost use Rattle.cookie_parts.specs.Hosts.{passes};
 ghost use Rattle.cookie_netscape.specs.Files.{FailsAtLine, FailsToRead, has_empty_expiry, has_fields, rows_in_file};
 ghost use Rattle.cookie_netscape.specs.Lines.{content, cookie_from, fields_cookie, fields_from, line_cookie};

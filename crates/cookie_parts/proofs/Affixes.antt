@@ -10,8 +10,8 @@ Decides-starts_with s p =
     let told = starts_is Decides-eqb s p (starts_with nat_eq s p) refl in
     (λ e. (drop (length p) s, told.0 e), λ w. told.1 w.0 w.1)
 
--- a list ends with another exactly if it is a front and that one
-pub Decides-ends_with : (s p : List ℕ) → Decides (ends_with nat_eq s p) ((front : List ℕ) × (s ≡ front ++ p))
+-- a list ends with another exactly if it is a prefix and that one
+pub Decides-ends_with : (s p : List ℕ) → Decides (ends_with nat_eq s p) ((prefix : List ℕ) × (s ≡ prefix ++ p))
 Decides-ends_with s p =
     let told = ends_is Decides-eqb s p (ends_with nat_eq s p) refl in
     (λ e. (take (length s - length p) s, told.0 e), λ w. told.1 w.0 w.1)

@@ -20,18 +20,18 @@ covers-Decides domain host =
     (Decides-and below named (Decides-ends_with host (46 ∷ domain)) (λ e. e, λ e. e)))
 
 -- a host that ends in a domain ends in a dot and the domain exactly if what precedes the domain ends in a dot
-pub ends_in_dot : (host domain front : List ℕ) (r : Bool) → host ≡ front ++ domain
-    → Decides r ((rest : List ℕ) × (front ≡ rest ++ 46 ∷ []))
+pub ends_in_dot : (host domain prefix : List ℕ) (r : Bool) → host ≡ prefix ++ domain
+    → Decides r ((rest : List ℕ) × (prefix ≡ rest ++ 46 ∷ []))
     → r ≡ ends_with nat_eq host (46 ∷ domain)
-ends_in_dot host domain front r split dotted =
+ends_in_dot host domain prefix r split dotted =
     same_from_decides r _ (Decides-like r
     (λ w. (w.0, split ∙ ap (λ x. x ++ domain) w.1 ∙ append_assoc w.0 (46 ∷ []) domain))
-    (λ w. (w.0, append_cancel_right front (w.0 ++ 46 ∷ []) domain (sym split ∙ w.1 ∙ sym (append_assoc w.0 (46 ∷ []) domain))))
+    (λ w. (w.0, append_cancel_right prefix (w.0 ++ 46 ∷ []) domain (sym split ∙ w.1 ∙ sym (append_assoc w.0 (46 ∷ []) domain))))
     dotted)
     (Decides-ends_with host (46 ∷ domain))
 
 -- a host that does not end in a domain does not end in a dot and the domain
-pub ends_otherwise : (host domain : List ℕ) → ((front : List ℕ) → host ≢ front ++ domain)
+pub ends_otherwise : (host domain : List ℕ) → ((prefix : List ℕ) → host ≢ prefix ++ domain)
     → false ≡ ends_with nat_eq host (46 ∷ domain)
 ends_otherwise host domain other =
     same_from_decides false _

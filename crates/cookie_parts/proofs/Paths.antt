@@ -14,7 +14,7 @@ use Rattle.cookie_parts.proofs.Affixes.{Decides-ends_with, Decides-starts_with}
 
 -- the path ends with `/`
 abbrev EndsInSlash : List ℕ → Type 0
-EndsInSlash path = (front : List ℕ) × (path ≡ front ++ 47 ∷ [])
+EndsInSlash path = (prefix : List ℕ) × (path ≡ prefix ++ 47 ∷ [])
 
 -- the rest begins with `/`
 abbrev BeginsWithSlash : List ℕ → Type 0

@@ -4,10 +4,10 @@ use Rattle.std.specs.Cmp.{IsEquivalence, and_equiv, on_equiv}
 use Rattle.std.specs.Result.{result_map_both}
 use Rattle.url.specs.Parts.{Parts}
 use Rattle.cookie_words.specs.Moments.{Moment, epoch}
-use Rattle.cookie_words.specs.Texts.{without_dot}
+use Rattle.cookie_words.specs.Strings.{without_dot}
 use Rattle.cookie_raw.specs.Raw.{Raw, ExpiresValue, At, pair}
 use Rattle.cookie_raw.specs.SameParts.{same_parts, same_parts_equiv}
-use Rattle.cookie_raw.specs.Reading.{reading}
+use Rattle.cookie_raw.specs.SetCookie.{reading}
 use Rattle.cookie_raw.specs.declared.error.RawCookieParseError.{RawCookieParseError}
 use Rattle.cookie_parts.specs.Domain.{DomainValue, domain_matches, domain_from_attribute, same_domain_value, same_domain_value_equiv}
 use Rattle.cookie_parts.specs.Domain as Domain

@@ -8,7 +8,7 @@ use Rattle.std.specs.Str.{trim}
 use Rattle.idna.specs.Uts46.{domain_to_ascii}
 use Rattle.idna.specs.declared.deny_list.TheConstants.AsciiDenyList.{EMPTY}
 use Rattle.url.specs.Parts.{Parts}
-use Rattle.cookie_words.specs.Texts.{without_dot}
+use Rattle.cookie_words.specs.Strings.{without_dot}
 use Rattle.cookie_psl.specs.Rules.{RuleList, listed}
 use Rattle.cookie_parts.specs.Hosts.{host_of, covers, passes, Covers}
 

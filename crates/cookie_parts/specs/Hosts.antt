@@ -9,7 +9,7 @@ use Rattle.url.specs.declared.host.Host.{Host}
 use Rattle.url.specs.declared.host.Host.TheVariants.{Domain, Ipv4, Ipv6}
 use Rattle.url.specs.Parser.{parse_url}
 use Rattle.url.specs.Parts.{Parts, nonempty_host}
-use Rattle.cookie_words.specs.Texts.{pieces}
+use Rattle.cookie_words.specs.Strings.{pieces}
 
 -- the value passes the test; false for `None`
 abbrev pub passes : {T : Type 0} → (T → Bool) → Option T → Bool
@@ -40,7 +40,7 @@ is_host_name text = not (list_any (λ b. b == 58) text) && not (is_ipv4 text)
 -- character before it is a dot, and the string is a host name
 abbrev pub Covers : List ℕ → List ℕ → Type 0
 Covers domain host = (domain ≡ host)
-    ⊎ (IsTrue (is_host_name host) × ((front : List ℕ) × (host ≡ front ++ 46 ∷ domain)))
+    ⊎ (IsTrue (is_host_name host) × ((prefix : List ℕ) × (host ≡ prefix ++ 46 ∷ domain)))
 
 -- `Covers` as a test
 abbrev pub covers : List ℕ → List ℕ → Bool

@@ -57,7 +57,7 @@ path_or_default (Some path) url = unwrap_or (absolute_path path) (from_url url)
 -- or the cookie-path ends with `/`, or the first character after the prefix is `/`
 abbrev pub CoversPath : List ℕ → List ℕ → Type 0
 CoversPath path request = (rest : List ℕ) × (request ≡ path ++ rest)
-    × ((rest ≡ []) ⊎ (((front : List ℕ) × (path ≡ front ++ 47 ∷ [])) ⊎ ((more : List ℕ) × (rest ≡ 47 ∷ more))))
+    × ((rest ≡ []) ⊎ (((prefix : List ℕ) × (path ≡ prefix ++ 47 ∷ [])) ⊎ ((more : List ℕ) × (rest ≡ 47 ∷ more))))
 
 -- `CoversPath` as a test
 abbrev pub covers_path : List ℕ → List ℕ → Bool

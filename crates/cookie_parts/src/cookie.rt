@@ -2,7 +2,7 @@
 ghost use Rattle.std.specs.Prelude.{◌≡◌, ◌&&◌, false, is_none, true, Err, IfOk, MatchResult, Some};
 ghost use Rattle.std.specs.Option.{option_or};
 ghost use Rattle.cookie_words.specs.Moments.{moment_of};
-ghost use Rattle.cookie_raw.specs.Reading.{reading};
+ghost use Rattle.cookie_raw.specs.SetCookie.{reading};
 ghost use Rattle.cookie_parts.specs.Cookie.{cookie_from_header, cookie_matches, cookie_of, domain_for, early, early_error, expired_row, is_expired, is_http_only, is_out_of_reach, is_persistent, is_secure_only, to_raw, domain_attribute, expires_attribute, path_attribute, Row};
 ghost use Rattle.cookie_parts.specs.Domain.{domain_from_attribute};
 ghost use Rattle.cookie_parts.specs.Expiry.{expiry_of};
@@ -101,8 +101,30 @@ impl<'a> Cookie<'a> {
         ensures value { ReturnsOrMemory (λ cookie. cookie) result (cookie_from_header header_value.now url.now (moment_of now)) }
         ensures early { (error : CookieError) → early (reading header_value.now) url.now ≡ Some error → result ≡ Err error }
     {
+        let Ok(raw) = RawCookie::parse(header_value) else {
+            return Err(CookieError::Parse);
+        };
+        Cookie::from_raw_owned(alloc, raw, url, now)
+    }
+
+    /// Makes a cookie as [`try_from_raw_cookie`](Self::try_from_raw_cookie) does, and returns one that
+    /// borrows nothing.
+    ///
+    /// # Errors
+    ///
+    /// Those of [`try_from_raw_cookie`](Self::try_from_raw_cookie). `Memory` also if the strings of the
+    /// cookie cannot be copied.
+    pub fn from_raw_owned(
+        alloc: Global,
+        raw: RawCookie<'_>,
+        url: &Url,
+        now: DateTime,
+    ) -> CookieResult<'static>
+        ensures value { ReturnsOrMemory (λ cookie. cookie) result (cookie_of raw.entry url.now (moment_of now)) }
+        ensures early { (error : CookieError) → early_error raw.entry url.now ≡ Some error → result ≡ Err error }
+    {
         // A `?` would move the cookie once more.
-        match Cookie::parse(alloc, header_value, url, now) {
+        match Cookie::from_raw_cookie(alloc, raw, url, now) {
             Ok(cookie) => match cookie.into_owned(alloc) {
                 Ok(owned) => Ok(owned),
                 Err(_) => Err(CookieError::Memory),

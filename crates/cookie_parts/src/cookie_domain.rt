@@ -240,7 +240,7 @@ fn is_below(host: &str, domain: &str) -> bool
     ensures { result ≡ ends_with nat_eq host.now (46 ∷ domain.now) }
 {
     match host.strip_suffix(domain) {
-        Some(front) => front.ends_with('.'),
+        Some(prefix) => prefix.ends_with('.'),
         None => false,
     }
 }

@@ -2,7 +2,7 @@
 ghost use Rattle.std.specs.Prelude.{◌≡◌, min, pos, ◌+ℤ◌, ◌≤ℤ◌, ◌<ℤ◌, IsTrue};
 ghost use Rattle.jiff.specs.Words.{signed_nanos};
 ghost use Rattle.cookie_words.specs.Moments.{moment_of, nanoseconds, Moment};
-ghost use Rattle.cookie_raw.specs.Reading.{of_seconds};
+ghost use Rattle.cookie_raw.specs.SetCookie.{of_seconds};
 ghost use Rattle.cookie_raw.specs.Views.{expires_value};
 ghost use Rattle.cookie_parts.specs.Expiry.{expiry_at_time, capped_at_latest, has_passed, latest, expiry_of_max_age, expiry_of_expires, same_expiry, same_expiry_equiv};
 ghost use Rattle.cookie_parts.specs.Views.{expiry_value};

@@ -1,7 +1,7 @@
 //! Laws about paths and saved cookies, stated over definitions alone.
 ghost use Rattle.std.specs.Prelude.{◌≡◌, ◌↔◌, ℕ, IsTrue, List, Ok};
 ghost use Rattle.cookie_raw.specs.CookieText.{cookie_text};
-ghost use Rattle.cookie_raw.specs.Reading.{reading};
+ghost use Rattle.cookie_raw.specs.SetCookie.{reading};
 ghost use Rattle.cookie_parts.specs.Cookie.{Row};
 ghost use Rattle.cookie_parts.specs.SavedConversion.{cookie_of_saved, saved_of};
 ghost use Rattle.cookie_parts.specs.Path.{covers_path, CoversPath};

@@ -18,14 +18,14 @@ fn fill(rt: HostRuntime) {
     start(&rt, rt.alloc());
     let mut source = Counted::new(b"get\n".as_slice());
     let mut lines = LineBuffer::new(rt.alloc());
-    let answer = lines.fill(&mut source);
+    let outcome = lines.fill(&mut source);
     let rest: (&[u8], &[u8]) = (lines.rest(), source.into_inner());
-    let wanted: (Result<bool, FillError>, (&[u8], &[u8])) = if answer.is_ok() {
+    let wanted: (Result<bool, FillError>, (&[u8], &[u8])) = if outcome.is_ok() {
         (Ok(true), (b"get\n", b""))
     } else {
         (Err(FillError::Memory), (b"", b"get\n"))
     };
-    is_equal(&rt, (answer, rest), wanted, &"a line");
+    is_equal(&rt, (outcome, rest), wanted, &"a line");
 }
 
 #[test]

@@ -5,14 +5,14 @@ use std::fmt::{Debug, Display};
 use std::hash::{DefaultHasher, Hash, Hasher};
 use std::process::Abort;
 
-// Asserts that the answer is the expected one.
+// Asserts that the outcome is the expected one.
 pub(crate) fn is_equal<T: PartialEq + Debug + Drop>(
     rt: &impl Abort,
-    answer: T,
+    outcome: T,
     wanted: T,
     row: &impl Debug,
 ) {
-    assert_eq!(rt; answer, wanted, "at {row:?}");
+    assert_eq!(rt; outcome, wanted, "at {row:?}");
 }
 
 // Asserts a condition of the row.
@@ -20,14 +20,14 @@ pub(crate) fn holds(rt: &impl Abort, is_so: bool, row: &impl Debug) {
     assert!(rt; is_so, "at {row:?}");
 }
 
-// Asserts that the answer is the expected string or error.
+// Asserts that the outcome is the expected string or error.
 pub(crate) fn is_text<E: Copy + PartialEq + Debug + Drop>(
     rt: &impl Abort,
-    answer: &Result<String, E>,
+    outcome: &Result<String, E>,
     wanted: Result<&str, E>,
     row: &impl Debug,
 ) {
-    match answer {
+    match outcome {
         Ok(text) => is_equal(rt, Ok(text.as_str()), wanted, row),
         Err(fault) => is_equal(rt, Err(*fault), wanted, row),
     }

@@ -105,14 +105,14 @@ fn a_long_line_is_read_whole(rt: HostRuntime) {
     long_lines_are_read_as(&rt, rt.alloc(), &input, &wanted)
 }
 
-// Asserts that the answer is the expected bytes or error.
+// Asserts that the outcome is the expected bytes or error.
 fn is_read(
     rt: &impl Abort,
-    answer: &Result<Vec<u8>, FillError>,
+    outcome: &Result<Vec<u8>, FillError>,
     wanted: Result<&[u8], FillError>,
     row: &impl Debug,
 ) {
-    match answer {
+    match outcome {
         Ok(bytes) => is_equal(rt, Ok(bytes.as_slice()), wanted, row),
         Err(fault) => is_equal(rt, Err(*fault), wanted, row),
     }
@@ -121,7 +121,7 @@ fn is_read(
 // Asserts that all bytes are read, at most `most` at a time, unless a read fails.
 fn all_are_read(rt: &impl Abort, alloc: Global, input: &[u8], most: usize, fails_at: usize) {
     let mut source = Counted::new(Fake::new(input, most, fails_at));
-    let answer = read_all(alloc, &mut source);
+    let outcome = read_all(alloc, &mut source);
     let failures = u64::from(fails_at > 0);
     is_equal(rt, source.failures(), failures, &(most, fails_at));
     let wanted = if fails_at > 0 {
@@ -129,7 +129,7 @@ fn all_are_read(rt: &impl Abort, alloc: Global, input: &[u8], most: usize, fails
     } else {
         Ok(input)
     };
-    is_read(rt, &answer, wanted, &(most, fails_at));
+    is_read(rt, &outcome, wanted, &(most, fails_at));
 }
 
 fn all_are_read_however_cut(rt: &impl Abort, alloc: Global, input: &[u8]) {
@@ -260,8 +260,8 @@ fn reads_as(rt: &impl Abort, alloc: Global, row: &Readings) {
     let mut buffer = LineBuffer::new(alloc);
     let mut source = Counted::new(Fake::new(input, most, fails_at));
     for wanted in results {
-        let answer = read(rt, alloc, &mut buffer, &mut source, reading);
-        is_read(rt, &answer, *wanted, &(input, most, fails_at));
+        let outcome = read(rt, alloc, &mut buffer, &mut source, reading);
+        is_read(rt, &outcome, *wanted, &(input, most, fails_at));
     }
     let counts = (source.failures(), source.into_inner().calls);
     is_equal(rt, counts, (1, calls), &(input, most, fails_at));

@@ -14,28 +14,28 @@ dot_alone (b ∷ []) h = ap (λ x. x ∷ []) (sym (eqb-true 46 b (and_parts (nat
 dot_alone (b ∷ c ∷ xs) h = let differs = (and_parts (nat_eq 46 b) false h).1 in cc
 
 -- a trailing dot is removed
-pub without_final_dot-behind : (front : List ℕ) → without_final_dot (front ++ 46 ∷ []) ≡ front
-without_final_dot-behind front =
-    let one : length (front ++ 46 ∷ []) - 1 ≡ length front = omega (arith, length-append front (46 ∷ [])) in
+pub without_final_dot-behind : (prefix : List ℕ) → without_final_dot (prefix ++ 46 ∷ []) ≡ prefix
+without_final_dot-behind prefix =
+    let one : length (prefix ++ 46 ∷ []) - 1 ≡ length prefix = omega (arith, length-append prefix (46 ∷ [])) in
     simp (one, drop-append_seam, take-append_seam)
 
 -- if the rest is not a dot, nothing is removed
 kept_under : (domain : List ℕ) (n : ℕ) (ends : Bool) → pointwise nat_eq (46 ∷ []) (drop n domain) ≡ ends
-    → ((front : List ℕ) → domain ≢ front ++ 46 ∷ []) → (if ends then take n domain else domain) ≡ domain
+    → ((prefix : List ℕ) → domain ≢ prefix ++ 46 ∷ []) → (if ends then take n domain else domain) ≡ domain
 kept_under domain n true e other =
     absurd (other (take n domain) (sym (take-append-drop n domain) ∙ ap (λ rest. take n domain ++ rest) (dot_alone (drop n domain) e)))
 kept_under domain n false e other = refl
 
 -- a domain without a trailing dot is unchanged
-pub without_final_dot-other : (domain : List ℕ) → ((front : List ℕ) → domain ≢ front ++ 46 ∷ []) → without_final_dot domain ≡ domain
+pub without_final_dot-other : (domain : List ℕ) → ((prefix : List ℕ) → domain ≢ prefix ++ 46 ∷ []) → without_final_dot domain ≡ domain
 without_final_dot-other domain other = kept_under domain (length domain - 1) _ refl other
 
 -- what `strip_suffix` returns, or else the domain
 pub without_final_dot-stripped : (domain : Bor (List ℕ)) (stripped : Option (Bor (List ℕ)))
-    → MatchOption stripped ((front : List ℕ) → domain.now ≢ front ++ 46 ∷ []) (λ front. domain.now ≡ front.now ++ 46 ∷ [])
+    → MatchOption stripped ((prefix : List ℕ) → domain.now ≢ prefix ++ 46 ∷ []) (λ prefix. domain.now ≡ prefix.now ++ 46 ∷ [])
     → (unwrap_or stripped domain).now ≡ without_final_dot domain.now
 without_final_dot-stripped domain None h = sym (without_final_dot-other domain.now h)
-without_final_dot-stripped domain (Some front) h = sym (ap without_final_dot h ∙ without_final_dot-behind front.now)
+without_final_dot-stripped domain (Some prefix) h = sym (ap without_final_dot h ∙ without_final_dot-behind prefix.now)
 
 -- a prefix and what follows it
 joined_under : (domain : List ℕ) (n : ℕ) (ends : Bool) → n ≤ length domain

@@ -7,7 +7,7 @@ use Rattle.std.specs.Str.Pattern.{FindsBy}
 use Rattle.std.proofs.lemmas.List.{append_assoc, take-append-drop}
 use Rattle.std.proofs.lemmas.List.Sums.{take_while-cons}
 use Rattle.std.proofs.lemmas.Str.{chars_from_encodes, cons_from_encodes, encodes-chars}
-use Rattle.cookie_psl.specs.Reading.{read_part}
+use Rattle.cookie_psl.specs.ListFormat.{read_part}
 
 -- nothing precedes a first element that passes
 before_first-cons_yes : (p : ℕ → Bool) (c : ℕ) (cs : List ℕ) → p c ≡ true → before_first p (c ∷ cs) ≡ []
@@ -23,16 +23,16 @@ before_first-none p [] none = refl
 before_first-none p (c ∷ cs) none = before_first-cons_no p c cs none.0 ∙ ap (λ l. c ∷ l) (before_first-none p cs none.1)
 
 -- the characters before the first that passes, from the bytes before it
-before_first-encoded : (p : ℕ → Bool) (front : List ℕ) (c : ℕ) (rest cs : List ℕ) → NonePass p front → p c ≡ true
-    → encode_utf8_all cs ≡ encode_utf8_all front ++ (encode_utf8 c ++ rest) → before_first p cs ≡ front
+before_first-encoded : (p : ℕ → Bool) (prefix : List ℕ) (c : ℕ) (rest cs : List ℕ) → NonePass p prefix → p c ≡ true
+    → encode_utf8_all cs ≡ encode_utf8_all prefix ++ (encode_utf8 c ++ rest) → before_first p cs ≡ prefix
 before_first-encoded p [] c rest cs none passes same =
     let found = cons_from_encodes cs rest c same in
     ap (before_first p) found.1 ∙ before_first-cons_yes p c found.0 passes
-before_first-encoded p (d ∷ front) c rest cs none passes same =
-    let found = cons_from_encodes cs (encode_utf8_all front ++ (encode_utf8 c ++ rest)) d
-    (same ∙ append_assoc (encode_utf8 d) (encode_utf8_all front) (encode_utf8 c ++ rest)) in
+before_first-encoded p (d ∷ prefix) c rest cs none passes same =
+    let found = cons_from_encodes cs (encode_utf8_all prefix ++ (encode_utf8 c ++ rest)) d
+    (same ∙ append_assoc (encode_utf8 d) (encode_utf8_all prefix) (encode_utf8 c ++ rest)) in
     ap (before_first p) found.1 ∙ before_first-cons_no p d found.0 none.0
-    ∙ ap (λ l. d ∷ l) (before_first-encoded p front c rest found.0 none.1 passes found.2)
+    ∙ ap (λ l. d ∷ l) (before_first-encoded p prefix c rest found.0 none.1 passes found.2)
 
 -- a line without white space is read to its end
 pub read_part-none : (line : List ℕ) → IsUtf8 line → FindsBy is_whitespace line None → line ≡ read_part line

@@ -23,26 +23,26 @@ step_join false b [] others some = absurd (omega arith)
 step_join false b (part ∷ parts) others some = refl
 
 -- a string is split at each of its dots
-split_join : (front label : List ℕ) → slice_split (λ b. b == 46) (front ++ 46 ∷ label) ≡ slice_split (λ b. b == 46) front ++ slice_split (λ b. b == 46) label
+split_join : (prefix label : List ℕ) → slice_split (λ b. b == 46) (prefix ++ 46 ∷ label) ≡ slice_split (λ b. b == 46) prefix ++ slice_split (λ b. b == 46) label
 split_join [] label = refl
-split_join (b ∷ front) label =
-    ap (λ parts. cond (b == 46) ([] ∷ parts) (onto_first b parts)) (split_join front label)
-    ∙ step_join (b == 46) b (slice_split (λ x. x == 46) front) (slice_split (λ x. x == 46) label) (omega (arith, length-slice_split (λ x. x == 46) front))
+split_join (b ∷ prefix) label =
+    ap (λ parts. cond (b == 46) ([] ∷ parts) (onto_first b parts)) (split_join prefix label)
+    ∙ step_join (b == 46) b (slice_split (λ x. x == 46) prefix) (slice_split (λ x. x == 46) label) (omega (arith, length-slice_split (λ x. x == 46) prefix))
 
 -- a string without dots is its only label
 pub one_label : (text : List ℕ) → NoCharPasses (λ b. b == 46) text → labels_of text ≡ text ∷ []
 one_label text lacks = ap reverse (slice_split_none (λ b. b == 46) text (no_dots text lacks))
 
 -- what follows the last dot is the last label
-labels_join : (front label : List ℕ) → NoCharPasses (λ b. b == 46) label → labels_of (front ++ 46 ∷ label) ≡ label ∷ labels_of front
-labels_join front label lacks =
-    ap reverse (split_join front label ∙ ap (λ parts. slice_split (λ b. b == 46) front ++ parts) (slice_split_none (λ b. b == 46) label (no_dots label lacks)))
-    ∙ reverse-append (slice_split (λ b. b == 46) front) (label ∷ [])
+labels_join : (prefix label : List ℕ) → NoCharPasses (λ b. b == 46) label → labels_of (prefix ++ 46 ∷ label) ≡ label ∷ labels_of prefix
+labels_join prefix label lacks =
+    ap reverse (split_join prefix label ∙ ap (λ parts. slice_split (λ b. b == 46) prefix ++ parts) (slice_split_none (λ b. b == 46) label (no_dots label lacks)))
+    ∙ reverse-append (slice_split (λ b. b == 46) prefix) (label ∷ [])
 
 -- the same, with the position of the dot
-pub last_label : (domain front label : List ℕ) (i j : ℕ) → NoCharPasses (λ b. b == 46) (drop j domain) → HasCharAt 46 domain i j → front ≡ take i domain → label ≡ drop j domain →
-    labels_of domain ≡ label ∷ labels_of front
-last_label domain front label i j lacks at is_front is_label =
+pub last_label : (domain prefix label : List ℕ) (i j : ℕ) → NoCharPasses (λ b. b == 46) (drop j domain) → HasCharAt 46 domain i j → prefix ≡ take i domain → label ≡ drop j domain →
+    labels_of domain ≡ label ∷ labels_of prefix
+last_label domain prefix label i j lacks at is_front is_label =
     ap labels_of (sym (take-append-drop i domain) ∙ ap (λ rest. take i domain ++ rest) (drop_at_char 46 domain i j at (omega arith)))
     ∙ labels_join (take i domain) (drop j domain) lacks ∙ cc
 

@@ -2,7 +2,7 @@
 use Rattle.std.proofs.Common.{◌≡◌, ℕ, ◌<◌, zero, suc, List, [], ◌∷◌, ◌++◌, length, get_or, Option, Some, None, Err, refl, ap, sym, ◌∙◌, arith}
 use Rattle.cookie_words.specs.Steps.{◌>>=◌}
 use Rattle.cookie_psl.specs.ParsedRules.{ParsesOrMemory}
-use Rattle.cookie_psl.specs.Reading.{label_from, labels_from}
+use Rattle.cookie_psl.specs.ListFormat.{label_from, labels_from}
 use Rattle.cookie_psl.specs.declared.reading.LineError.{LineError}
 use Rattle.cookie_psl.specs.declared.reading.LineError.TheVariants.{Bad, Memory}
 

@@ -11,7 +11,7 @@ use Rattle.std.proofs.lemmas.List.Elements.{All-from_get_or}
 use Rattle.std.proofs.lemmas.List.Splits.{slice_split_none, slice_split-cons_yes, length-slice_split}
 use Rattle.std.proofs.lemmas.Str.{IsCharBoundary-end, IsCharBoundary-before_ascii, IsCharBoundary-after_ascii, IsUtf8-take}
 use Rattle.std.proofs.lemmas.Str.Pattern.{NoCharPasses-char, drop_at_char}
-use Rattle.cookie_words.specs.Texts.{pieces}
+use Rattle.cookie_words.specs.Strings.{pieces}
 use Rattle.cookie_psl.specs.Rules.{last_labels}
 
 -- the string has no dot
@@ -108,7 +108,7 @@ rsplit_parts text None h = LacksDot-searched text h
 rsplit_parts text (Some p) h = (
   sym (take-append-drop h.0 text)
       ∙ ap (λ rest. take h.0 text ++ rest) (drop_at_char 46 text h.0 h.1 h.2.1 (lit< tt))
-      ∙ ap (λ front. front ++ 46 ∷ drop h.1 text) (sym h.3)
+      ∙ ap (λ prefix. prefix ++ 46 ∷ drop h.1 text) (sym h.3)
       ∙ ap (λ back. p.0.now ++ 46 ∷ back) (sym h.4),
   subst LacksDot (sym h.4) (LacksDot-searched (drop h.1 text) h.2.0),
 )
@@ -120,10 +120,10 @@ before_is_utf8 before label utf8 =
     let ends = IsCharBoundary-before_ascii (before ++ 46 ∷ label) (length before) (omega (arith, length-append before (46 ∷ label))) (omega arith) in
     subst IsUtf8 (take-append_seam before (46 ∷ label)) (IsUtf8-take (before ++ 46 ∷ label) (length before) utf8 ends)
 
--- the last `count` labels begin at `start`, and `front` precedes them
-pub record HasPassed (domain front : List ℕ) (count start : ℕ) : Type 0 where
-  pub split : domain ≡ front ++ drop (length front) domain
-  pub more : (n : ℕ) → last_labels (count + (n + 1)) domain ≡ last_labels (n + 1) front ++ drop (length front) domain
+-- the last `count` labels begin at `start`, and `prefix` precedes them
+pub record HasPassed (domain prefix : List ℕ) (count start : ℕ) : Type 0 where
+  pub split : domain ≡ prefix ++ drop (length prefix) domain
+  pub more : (n : ℕ) → last_labels (count + (n + 1)) domain ≡ last_labels (n + 1) prefix ++ drop (length prefix) domain
   pub labels : drop start domain ≡ last_labels count domain
   pub cut : IsCharBoundary domain start
 
@@ -142,11 +142,11 @@ HasPassed-none domain =
     }
 
 -- the walk passes one more label
-pub HasPassed-more : (domain front before label : List ℕ) (count start : ℕ) → IsUtf8 domain → LacksDot label
-    → front ≡ before ++ 46 ∷ label → HasPassed domain front count start
+pub HasPassed-more : (domain prefix before label : List ℕ) (count start : ℕ) → IsUtf8 domain → LacksDot label
+    → prefix ≡ before ++ 46 ∷ label → HasPassed domain prefix count start
     → HasPassed domain before (count + 1) (length before + 1)
-HasPassed-more domain front before label count start utf8 lacks e h =
-    let rest = drop (length front) domain in
+HasPassed-more domain prefix before label count start utf8 lacks e h =
+    let rest = drop (length prefix) domain in
     let whole : domain ≡ before ++ (46 ∷ (label ++ rest)) =
     h.split ∙ ap (λ xs. xs ++ rest) e ∙ append_assoc before (46 ∷ label) rest in
     let behind : drop (length before) domain ≡ 46 ∷ (label ++ rest) =
@@ -162,7 +162,7 @@ HasPassed-more domain front before label count start utf8 lacks e h =
           let two : (n + 1) + 1 ≡ n + 2 = omega arith in
           ap (λ k. last_labels k domain) one_more
           ∙ h.more (n + 1)
-          ∙ ap (λ k. last_labels k front ++ rest) two
+          ∙ ap (λ k. last_labels k prefix ++ rest) two
           ∙ ap (λ xs. last_labels (n + 2) xs ++ rest) e
           ∙ ap (λ xs. xs ++ rest) (last_labels-more n before label lacks)
           ∙ append_assoc (last_labels (n + 1) before) (46 ∷ label) rest
@@ -177,12 +177,12 @@ HasPassed-more domain front before label count start utf8 lacks e h =
     }
 
 -- if the front is a single label, more labels than were passed are all
-pub HasPassed-all : (domain front : List ℕ) (passed count start : ℕ) → LacksDot front → passed < count
-    → HasPassed domain front passed start → domain ≡ last_labels count domain
-HasPassed-all domain front passed count start lacks less h =
+pub HasPassed-all : (domain prefix : List ℕ) (passed count start : ℕ) → LacksDot prefix → passed < count
+    → HasPassed domain prefix passed start → domain ≡ last_labels count domain
+HasPassed-all domain prefix passed count start lacks less h =
     let n = count - passed - 1 in
     let same : passed + (n + 1) ≡ count = omega arith in
     h.split
-    ∙ ap (λ xs. xs ++ drop (length front) domain) (sym (last_labels-all n front lacks))
+    ∙ ap (λ xs. xs ++ drop (length prefix) domain) (sym (last_labels-all n prefix lacks))
     ∙ sym (h.more n)
     ∙ ap (λ k. last_labels k domain) same

@@ -3,7 +3,7 @@ use Rattle.std.proofs.Common.{◌≡◌, ◌≢◌, ℕ, true, false, List, [], 
 use Rattle.std.specs.List.{starts_with}
 use Rattle.std.proofs.lemmas.Bool.{ne_eqb}
 use Rattle.cookie_psl.specs.ParsedRules.{marked_rule}
-use Rattle.cookie_psl.specs.Reading.{rule_from}
+use Rattle.cookie_psl.specs.ListFormat.{rule_from}
 
 -- a string without the mark does not begin with it
 unmarked : (part : List ℕ) → ((rest : List ℕ) → part ≢ 33 ∷ rest) → starts_with nat_eq part (codes "!") ≡ false

@@ -10,10 +10,10 @@ use Rattle.std.proofs.lemmas.List.Folds.{list_any-append}
 use Rattle.std.proofs.lemmas.List.FromFn.{get_or-enumerate_from, length-enumerate_from}
 use Rattle.std.proofs.lemmas.Simd.{map-map}
 use Rattle.std.proofs.Math.Seq.{drop-cons}
-use Rattle.cookie_psl.specs.Lists.{ParsesList, AddsLine, with_rule}
+use Rattle.cookie_psl.specs.ParsedLists.{ParsesList, AddsLine, with_rule}
 use Rattle.cookie_psl.specs.declared.error.ListError.{ListError}
 use Rattle.cookie_psl.specs.declared.error.ListError.TheVariants.{BadRule, Memory}
-use Rattle.cookie_psl.specs.Reading.{line_rule, rules_of, with_line}
+use Rattle.cookie_psl.specs.ListFormat.{line_rule, rules_of, with_line}
 use Rattle.cookie_psl.specs.Rules.{Rule, RuleList, SameRules}
 
 -- one more rule at the end, if there is one
@@ -136,7 +136,7 @@ bad_next walked place line lines rules so_far more next good bad =
     ∙ ap (λ numbered. Err (numbered.0 + 1)) (sym here)
 
 -- the error for a line that was not added
-pub not_taken : (error : ListError) (said : Option (Option Rule)) (number : ℕ) (old new : RuleList) (answer : Result RuleList ℕ)
-    → AddsLine {T = ⊤} (Err error) said number old new → (said ≡ None → answer ≡ Err number) → ParsesList (Err error) answer
-not_taken (BadRule line) said number old new answer (bad, e) first = first bad ∙ ap (λ n. Err n) (sym e)
-not_taken Memory said number old new answer h first = tt
+pub not_taken : (error : ListError) (said : Option (Option Rule)) (number : ℕ) (old new : RuleList) (expected : Result RuleList ℕ)
+    → AddsLine {T = ⊤} (Err error) said number old new → (said ≡ None → expected ≡ Err number) → ParsesList (Err error) expected
+not_taken (BadRule line) said number old new expected (bad, e) first = first bad ∙ ap (λ n. Err n) (sym e)
+not_taken Memory said number old new expected h first = tt

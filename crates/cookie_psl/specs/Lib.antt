@@ -1,7 +1,7 @@
 pub mod Errors
-pub mod Lists
+pub mod ParsedLists
 pub mod ParsedRules
-pub mod Reading
+pub mod ListFormat
 pub mod Rules
 pub mod Tree
 pub mod Views

@@ -6,7 +6,7 @@ use Rattle.std.specs.declared.vec.Vec.{Vec}
 use Rattle.std.specs.List.{starts_with}
 use Rattle.idna.specs.declared.Errors.{Errors}
 use Rattle.idna.specs.declared.Errors.TheVariants.{Invalid, OutOfMemory}
-use Rattle.cookie_psl.specs.Reading.{rule_from}
+use Rattle.cookie_psl.specs.ListFormat.{rule_from}
 use Rattle.cookie_psl.specs.Rules.{Rule}
 use Rattle.cookie_psl.specs.declared.reading.LineError.{LineError}
 use Rattle.cookie_psl.specs.declared.reading.LineError.TheVariants.{Bad, Memory}
@@ -35,10 +35,10 @@ marked_rule part = if starts_with nat_eq part (codes "!") then rule_from true (d
 
 -- unless out of memory: the view of the result is the expected one, and it is `Bad` if none is expected
 abbrev pub ParsesOrMemory : {T U : Type 0} → (T → U) → Result T LineError → Option U → Type 0
-ParsesOrMemory view (Ok value) answer = answer ≡ Some (view value)
-ParsesOrMemory view (Err Bad) answer = answer ≡ None
-ParsesOrMemory view (Err Memory) answer = ⊤
+ParsesOrMemory view (Ok value) expected = expected ≡ Some (view value)
+ParsesOrMemory view (Err Bad) expected = expected ≡ None
+ParsesOrMemory view (Err Memory) expected = ⊤
 
 -- the same for the result of a line
 abbrev pub ParsesLine : Result (Option ParsedRule) LineError → Option (Option Rule) → Type 0
-ParsesLine result answer = ParsesOrMemory (option_map rule_view) result answer
+ParsesLine result expected = ParsesOrMemory (option_map rule_view) result expected

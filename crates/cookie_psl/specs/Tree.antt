@@ -47,7 +47,7 @@ label_rules kids = under_labels (map (λ kid. (kid.0, tree_rules kid.1)) kids)
 -- the labels of a domain that are left, if there are any
 abbrev pub labels_left : Option (Bor (List ℕ)) → List (List ℕ)
 labels_left None = []
-labels_left (Some front) = labels_of front.now
+labels_left (Some prefix) = labels_of prefix.now
 
 -- the rules of an optional tree
 abbrev pub rules_in : Option Node → RuleList

@@ -1,8 +1,8 @@
 //! A public suffix list in the format of publicsuffix.org.
 ghost use Rattle.std.specs.Prelude.{◌≡◌, ◌∷◌, [], option_map, IfOk, IfSome};
 ghost use Rattle.std.specs.Str.Iter.{HasSubslice};
-ghost use Rattle.cookie_psl.specs.Lists.{ParsesList, AddsLine};
-ghost use Rattle.cookie_psl.specs.Reading.{line_rule, rules_from};
+ghost use Rattle.cookie_psl.specs.ParsedLists.{ParsesList, AddsLine};
+ghost use Rattle.cookie_psl.specs.ListFormat.{line_rule, rules_from};
 ghost use Rattle.cookie_psl.specs.Rules.{default_rule, labels_of, prevailing, registrable_domain, suffix_of, without_final_dot, SameRules};
 ghost use Rattle.cookie_psl.specs.Views.{suffix_value};
 

@@ -1,8 +1,8 @@
 //! Parsing the lines of a public suffix list.
 ghost use Rattle.std.specs.Prelude.{◌≡◌};
-ghost use Rattle.cookie_words.specs.Texts.{pieces};
+ghost use Rattle.cookie_words.specs.Strings.{pieces};
 ghost use Rattle.cookie_psl.specs.ParsedRules.{label_text, label_texts, marked_rule, rule_view, ParsesOrMemory, ParsesLine};
-ghost use Rattle.cookie_psl.specs.Reading.{label_from, labels_from, line_rule, read_part, rule_from};
+ghost use Rattle.cookie_psl.specs.ListFormat.{label_from, labels_from, line_rule, read_part, rule_from};
 
 use idna::{Errors, domain_to_ascii};
 use std::alloc::{AllocFailed, Global};
@@ -52,7 +52,7 @@ impl<T: Drop> From<AllocFailed<T>> for LineError {
 }
 
 /// Parses a line and returns its rule, or `None` if it is empty or a comment.
-#[tactic(auto, unfolding(crate::specs::Reading::line_rule))]
+#[tactic(auto, unfolding(crate::specs::ListFormat::line_rule))]
 pub(crate) fn read_line(alloc: Global, line: &str) -> Result<Option<ParsedRule>, LineError>
     ensures { ParsesLine result (line_rule line.now) }
 {
@@ -84,7 +84,7 @@ fn read_marked(alloc: Global, part: &str) -> Result<ParsedRule, LineError>
 }
 
 // Parses a rule without its mark `!`.
-#[tactic(auto, unfolding(crate::specs::Reading::rule_from))]
+#[tactic(auto, unfolding(crate::specs::ListFormat::rule_from))]
 fn read_rule(alloc: Global, text: &str, is_exception: bool) -> Result<ParsedRule, LineError>
     ensures { ParsesOrMemory rule_view result (rule_from is_exception text.now) }
 {
@@ -110,7 +110,7 @@ fn read_labels(alloc: Global, text: &str) -> Result<Vec<Option<String>>, LineErr
 }
 
 // Converts a label to ASCII. `None` is the label `*`.
-#[tactic(auto, unfolding(crate::specs::Reading::label_from))]
+#[tactic(auto, unfolding(crate::specs::ListFormat::label_from))]
 fn read_label(alloc: Global, label: &str) -> Result<Option<String>, LineError>
     ensures { ParsesOrMemory label_text result (label_from label.now) }
 {

@@ -90,13 +90,13 @@ fn labels_start(domain: &str, count: usize) -> usize
     ensures labels { drop result domain.now ≡ last_labels count domain.now }
     ensures cut { IsCharBoundary domain.now result }
 {
-    let mut front = domain;
+    let mut prefix = domain;
     let mut start = domain.len();
     for _ in 0..count {
-        match front.rsplit_once('.') {
+        match prefix.rsplit_once('.') {
             Some((before, _)) => {
                 start = before.len() + 1;
-                front = before;
+                prefix = before;
             }
             None => return 0,
         }

@@ -137,13 +137,13 @@ fn longest_within(node: &Node, is_exception: bool, domain: Option<&str>) -> Opti
     if node.kids.len() == 0 && node.any.is_none() {
         return here;
     }
-    let (front, label) = cut_last(domain);
+    let (prefix, label) = cut_last(domain);
     let by_label = match node.kids.get(label) {
-        Some(kid) => longest_within(kid, is_exception, front),
+        Some(kid) => longest_within(kid, is_exception, prefix),
         None => None,
     };
     let by_any = match &node.any {
-        Some(any) => longest_within(any, is_exception, front),
+        Some(any) => longest_within(any, is_exception, prefix),
         None => None,
     };
     match greater(by_label, by_any) {
@@ -168,7 +168,7 @@ fn cut_last(domain: &str) -> (Option<&str>, &str)
     ensures { labels_of domain.now ≡ result.1.now ∷ labels_left result.0 }
 {
     match domain.rsplit_once('.') {
-        Some((front, label)) => (Some(front), label),
+        Some((prefix, label)) => (Some(prefix), label),
         None => (None, domain),
     }
 }

@@ -7,7 +7,7 @@ use Rattle.std.specs.Str.Parse.{ParsesSigned, digits_value}
 use Rattle.std.proofs.lemmas.Bool.{and_parts, eqb-true, leb-true, le-leb, cases_lt}
 use Rattle.std.proofs.Math.Nat.{min-eq_left, min-eq_right}
 use Rattle.std.proofs.lemmas.Str.Parse.{IsDigitsTest, numerals_by_value, parse_signed_digits}
-use Rattle.cookie_raw.specs.Reading.{age_of, of_seconds}
+use Rattle.cookie_raw.specs.SetCookie.{age_of, of_seconds}
 
 -- `list_all is_ascii_digit` tests for digits
 tells_bytes : IsDigitsTest (λ ds. list_all is_ascii_digit ds ≡ true)

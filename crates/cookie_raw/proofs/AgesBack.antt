@@ -9,7 +9,7 @@ use Rattle.std.proofs.lemmas.Fmt.{decimal_nonempty, digits_decimal, digits_value
 use Rattle.std.proofs.lemmas.Str.Parse.{IsNumeralModel, numerals_by_value}
 use Rattle.cookie_raw.specs.CookieText.{age_text}
 use Rattle.cookie_raw.specs.PlainCookie.{is_plain_age, is_plain_text}
-use Rattle.cookie_raw.specs.Reading.{age_of, of_seconds}
+use Rattle.cookie_raw.specs.SetCookie.{age_of, of_seconds}
 use Rattle.cookie_raw.proofs.AsciiTexts.{digits_are_printing, digits_start_visibly, digits_end_visibly, printing_is_plain}
 
 -- `digits_value` gives the value of a string of digits

@@ -9,7 +9,7 @@ use Rattle.std.proofs.lemmas.List.Folds.{list_all-append}
 use Rattle.std.proofs.lemmas.Slice.Eq.{bytes_eq-Decides}
 use Rattle.std.proofs.lemmas.Str.{chars-IsAscii, encodes-IsAscii}
 use Rattle.cookie_raw.specs.PlainCookie.{is_plain_text}
-use Rattle.cookie_raw.specs.Reading.{is_semicolon}
+use Rattle.cookie_raw.specs.SetCookie.{is_semicolon}
 
 -- a space or a visible ASCII character, other than `;`
 abbrev pub is_printing : ℕ → Bool

@@ -4,8 +4,8 @@ use Rattle.std.specs.List.{AllByRecursion, cons_option, list_any, slice_split, o
 use Rattle.std.proofs.lemmas.Bool.{or_parts}
 use Rattle.std.proofs.lemmas.List.{length_push}
 use Rattle.std.proofs.lemmas.List.Splits.{slice_split-cons_yes, slice_split-cons_no}
-use Rattle.cookie_words.specs.Texts.{pieces}
-use Rattle.cookie_raw.specs.Reading.{is_semicolon, pair_of, attributes, name_of}
+use Rattle.cookie_words.specs.Strings.{pieces}
+use Rattle.cookie_raw.specs.SetCookie.{is_semicolon, pair_of, attributes, name_of}
 
 -- a string in which no byte passes is one piece
 one_piece : (p : ℕ → Bool) (text : List ℕ) → list_any p text ≡ false → slice_split p text ≡ text ∷ []

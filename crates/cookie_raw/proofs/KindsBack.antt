@@ -5,11 +5,11 @@ use Rattle.std.specs.Str.{trim_start, trim_end, chars}
 use Rattle.std.proofs.Math.Utf8.{encode}
 use Rattle.std.proofs.lemmas.Bool.{and_parts, false≢true}
 use Rattle.cookie_words.specs.Moments.{Moment, is_day, is_time}
-use Rattle.cookie_words.specs.Texts.{without_dot}
+use Rattle.cookie_words.specs.Strings.{without_dot}
 use Rattle.cookie_raw.specs.CookieText.{site_text, rfc1123_date, age_text, has_four_digits, expires_text}
 use Rattle.cookie_raw.specs.PlainCookie.{is_plain_age, is_plain_year, is_plain_moment, is_plain_expires}
 use Rattle.cookie_raw.specs.Raw.{ExpiresValue, At, Session}
-use Rattle.cookie_raw.specs.Reading.{attribute_is_named, value_of, expires_from, max_age_from, domain_from, path_from, secure_from, http_only_from, site_of, same_site_from, last, last_accepted, accepted_value}
+use Rattle.cookie_raw.specs.SetCookie.{attribute_is_named, value_of, expires_from, max_age_from, domain_from, path_from, secure_from, http_only_from, site_of, same_site_from, last, last_accepted, accepted_value}
 use Rattle.cookie_raw.specs.declared.same_site.SameSite.{SameSite}
 use Rattle.cookie_raw.specs.declared.same_site.SameSite.TheVariants as same_site
 use Rattle.cookie_raw.proofs.AgesBack.{age_back, age_is_plain}

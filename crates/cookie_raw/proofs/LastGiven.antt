@@ -5,7 +5,7 @@ use Rattle.std.specs.List.{filter_map, cons_option}
 use Rattle.std.specs.Option.{option_or}
 use Rattle.std.proofs.lemmas.List.{map-append, append-nil}
 use Rattle.std.proofs.lemmas.List.Elements.{filter_map-append}
-use Rattle.cookie_raw.specs.Reading.{last, last_accepted, accepted_value}
+use Rattle.cookie_raw.specs.SetCookie.{last, last_accepted, accepted_value}
 
 last-push : {T : Type 0} (xs : List T) (x : T) → last (xs ++ x ∷ []) ≡ Some x
 last-push [] x = refl

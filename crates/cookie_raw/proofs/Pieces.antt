@@ -8,8 +8,8 @@ use Rattle.std.proofs.lemmas.Iterator.Consumers.{YieldsList-at}
 use Rattle.std.proofs.lemmas.Iterator.Splits.{YieldsList-from_str_split}
 use Rattle.std.proofs.lemmas.List.Splits.{slice_split_first, slice_split_none}
 use Rattle.std.proofs.lemmas.List.Sums.{fails_before_first}
-use Rattle.cookie_words.specs.Texts.{pieces}
-use Rattle.cookie_raw.specs.Reading.{attributes, is_semicolon}
+use Rattle.cookie_words.specs.Strings.{pieces}
+use Rattle.cookie_raw.specs.SetCookie.{attributes, is_semicolon}
 
 -- the attributes of a string with a `;`
 pub attributes-after_first : (text : List ℕ) → position_or_len is_semicolon text < length text

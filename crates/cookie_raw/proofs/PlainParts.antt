@@ -5,11 +5,11 @@ use Rattle.std.specs.Option.{unwrap_or}
 use Rattle.std.specs.Str.{trim}
 use Rattle.std.proofs.lemmas.Bool.{and_parts, not-true, eqb-true, true≢false}
 use Rattle.std.proofs.lemmas.Slice.Eq.{bytes_eq-Decides}
-use Rattle.cookie_words.specs.Texts.{without_dot}
+use Rattle.cookie_words.specs.Strings.{without_dot}
 use Rattle.cookie_raw.specs.CookieText.{is_for_all_sites}
 use Rattle.cookie_raw.specs.PlainCookie.{if_present, is_plain_text, is_plain_name, is_plain_domain, is_plain_age, is_plain_expires, is_plain}
 use Rattle.cookie_raw.specs.Raw.{Raw}
-use Rattle.cookie_raw.specs.Reading.{is_equals, is_semicolon}
+use Rattle.cookie_raw.specs.SetCookie.{is_equals, is_semicolon}
 
 -- a string without `;` that trimming does not change
 pub record IsPlainText (text : List ℕ) : Type 0 where

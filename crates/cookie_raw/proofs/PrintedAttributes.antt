@@ -6,7 +6,7 @@ use Rattle.std.proofs.Math.Utf8.{encode}
 use Rattle.std.proofs.lemmas.List.Folds.{list_any-append}
 use Rattle.cookie_raw.specs.CookieText.{flag, optional, site_text, age_text, expires_text, is_for_all_sites, cookie_text}
 use Rattle.cookie_raw.specs.Raw.{Raw}
-use Rattle.cookie_raw.specs.Reading.{is_equals, is_semicolon, value_of}
+use Rattle.cookie_raw.specs.SetCookie.{is_equals, is_semicolon, value_of}
 use Rattle.cookie_raw.proofs.JoinedPieces.{Attribute, IsPiece, IsWellPrinted, behind_semicolon, joined, before_at, after_at, before_none}
 use Rattle.cookie_raw.proofs.PlainParts.{IsPlainText}
 

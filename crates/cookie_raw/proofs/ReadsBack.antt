@@ -3,11 +3,11 @@ use Rattle.std.proofs.Common.{◌≡◌, ℕ, true, false, ◌==◌, List, [], �
 use Rattle.std.specs.List.{AllByRecursion, list_any}
 use Rattle.std.specs.Str.{trim}
 use Rattle.std.proofs.lemmas.List.Folds.{list_any-append}
-use Rattle.cookie_words.specs.Texts.{without_dot}
+use Rattle.cookie_words.specs.Strings.{without_dot}
 use Rattle.cookie_raw.specs.CookieText.{site_text, age_text, expires_text, is_for_all_sites, cookie_text}
 use Rattle.cookie_raw.specs.PlainCookie.{is_plain}
 use Rattle.cookie_raw.specs.Raw.{Raw}
-use Rattle.cookie_raw.specs.Reading.{is_equals, is_semicolon, pair_of, attributes, has_equals, name_of, value_of, expires_from, max_age_from, domain_from, path_from, secure_from, http_only_from, same_site_from, accepted_value, last_accepted, reading}
+use Rattle.cookie_raw.specs.SetCookie.{is_equals, is_semicolon, pair_of, attributes, has_equals, name_of, value_of, expires_from, max_age_from, domain_from, path_from, secure_from, http_only_from, same_site_from, accepted_value, last_accepted, reading}
 use Rattle.cookie_raw.proofs.JoinedPieces.{IsWellPrinted, joined, present, pair_of_joined, attributes_of_joined, before_at, after_at}
 use Rattle.cookie_raw.proofs.KindsBack.{TakesOnly, pieces_named, one_decides, http_only_back, secure_back, site_is_plain, same_site_back, path_back, domain_is_plain, domain_back, age_text_is_plain, max_age_back, ending_is_plain, expires_back}
 use Rattle.cookie_raw.proofs.PlainParts.{IsPlain, plain_cookie}

@@ -2,7 +2,7 @@
 use Rattle.std.proofs.Common.{◌≡◌, ℕ, ◌+◌, false, List, [], drop, length, refl, ap, ◌∙◌, arith}
 use Rattle.std.specs.Str.{trim, trim_start, trim_end, chars}
 use Rattle.std.proofs.lemmas.List.{drop_all}
-use Rattle.cookie_raw.specs.Reading.{is_equals, has_equals, name_of, value_of}
+use Rattle.cookie_raw.specs.SetCookie.{is_equals, has_equals, name_of, value_of}
 use Rattle.cookie_raw.proofs.JoinedPieces.{before_none, no_place}
 
 -- the name is all of it, trimmed

@@ -7,9 +7,9 @@ use Rattle.std.specs.Str.{IsUtf8}
 use Rattle.std.specs.Str.Iter.{HasSubslice}
 use Rattle.std.proofs.lemmas.List.{append-nil}
 use Rattle.std.proofs.lemmas.List.Elements.{All-drop, recursion_from_All}
-use Rattle.cookie_words.specs.Texts.{pieces}
-use Rattle.cookie_words.specs.Texts.{without_dot}
-use Rattle.cookie_raw.specs.Reading.{is_equals, pair_of, attributes, name_of, value_of, last, last_accepted, accepted_value, domain_from, path_from}
+use Rattle.cookie_words.specs.Strings.{pieces}
+use Rattle.cookie_words.specs.Strings.{without_dot}
+use Rattle.cookie_raw.specs.SetCookie.{is_equals, pair_of, attributes, name_of, value_of, last, last_accepted, accepted_value, domain_from, path_from}
 use Rattle.cookie_raw.proofs.Parts.{IsPart, itself_is_slice, slice_of_slice, before_is_part, after_is_part, pieces_are_parts, trim_is_part}
 
 -- the name of a part of a string

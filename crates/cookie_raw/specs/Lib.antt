@@ -4,7 +4,7 @@ pub mod DateSteps
 pub mod Errors
 pub mod PlainCookie
 pub mod Raw
-pub mod Reading
+pub mod SetCookie
 pub mod SameParts
 pub mod Slices
 pub mod Views

@@ -5,7 +5,7 @@ use Rattle.std.specs.Str.{trim}
 use Rattle.cookie_words.specs.Moments.{Moment, is_within, is_day, is_time}
 use Rattle.cookie_raw.specs.CookieText.{is_for_all_sites}
 use Rattle.cookie_raw.specs.Raw.{Raw, ExpiresValue, At, Session}
-use Rattle.cookie_raw.specs.Reading.{is_equals, is_semicolon}
+use Rattle.cookie_raw.specs.SetCookie.{is_equals, is_semicolon}
 
 -- the part is absent or passes the test
 abbrev pub if_present : {T : Type 0} → (T → Bool) → Option T → Bool

@@ -5,7 +5,7 @@ ghost use Rattle.std.specs.List.{list_all};
 ghost use Rattle.std.specs.Str.Parse.{digits_value};
 ghost use Rattle.std.specs.Option.{option_copied, option_or};
 ghost use Rattle.jiff.specs.Words.{signed_nanos};
-ghost use Rattle.cookie_raw.specs.Reading.{age_of, attributes_after, domain_from, expires_from, http_only_from, attribute_is_named, last_accepted, max_age_from, name_of, path_from, accepted_value, same_site_from, secure_from, site_of, value_of};
+ghost use Rattle.cookie_raw.specs.SetCookie.{age_of, attributes_after, domain_from, expires_from, http_only_from, attribute_is_named, last_accepted, max_age_from, name_of, path_from, accepted_value, same_site_from, secure_from, site_of, value_of};
 ghost use Rattle.cookie_raw.specs.Views.{expires_value};
 
 use crate::raw_cookie::name_and_value;
@@ -71,7 +71,7 @@ fn read_flag(flag: &str, name: &str) -> Option<bool>
 }
 
 // Parses the value of SameSite, ignoring case.
-#[tactic(auto, unfolding(crate::specs::Reading::site_of))]
+#[tactic(auto, unfolding(crate::specs::SetCookie::site_of))]
 fn site(value: &str) -> Option<SameSite>
     ensures { result ≡ site_of value.now }
 {

@@ -1,6 +1,6 @@
 //! Building raw cookies.
 ghost use Rattle.std.specs.Prelude.{◌≡◌, Some, string_bytes};
-ghost use Rattle.cookie_words.specs.Texts.{without_dot};
+ghost use Rattle.cookie_words.specs.Strings.{without_dot};
 ghost use Rattle.jiff.specs.Words.{signed_nanos};
 ghost use Rattle.cookie_raw.specs.Raw.{pair};
 ghost use Rattle.cookie_raw.specs.Views.{expires_value};

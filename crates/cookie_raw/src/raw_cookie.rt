@@ -3,10 +3,10 @@ ghost use Rattle.std.specs.Prelude.{◌≡◌, true, false, option_map, unwrap_o
 ghost use Rattle.std.specs.Cow.{cow_str_bytes};
 ghost use Rattle.std.specs.Option.{option_copied};
 ghost use Rattle.jiff.specs.Words.{signed_nanos};
-ghost use Rattle.cookie_raw.specs.Reading.{reading, pair_of, attributes, attributes_after, has_equals, name_of, value_of};
+ghost use Rattle.cookie_raw.specs.SetCookie.{reading, pair_of, attributes, attributes_after, has_equals, name_of, value_of};
 ghost use Rattle.cookie_raw.specs.Slices.{HasSlices};
 ghost use Rattle.cookie_raw.specs.Views.{expires_value, max_age_nanos};
-ghost use Rattle.cookie_words.specs.Texts.{without_dot};
+ghost use Rattle.cookie_words.specs.Strings.{without_dot};
 ghost use Rattle.cookie_raw.specs.Raw.{Raw};
 
 use crate::attributes::Attributes;

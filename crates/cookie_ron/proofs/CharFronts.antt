@@ -11,7 +11,7 @@ use Rattle.std.proofs.lemmas.List.{append_assoc, take-append-drop, get_or_append
 use Rattle.std.proofs.lemmas.List.Sums.{passes_at_first, position_or_len_is, AllPass-from_list_all}
 use Rattle.std.proofs.Math.Seq.{drop-cons, take-append_seam, drop-append-add, get_or-append_seam}
 use Rattle.cookie_ron.specs.Grammar.{escaped_by, HasHexValue, CharForm}
-use Rattle.cookie_ron.specs.Reading.{hex_value, byte_at, code_of, brace_in, in_braces, code_at, escape_at, char_at}
+use Rattle.cookie_ron.specs.RonInput.{hex_value, byte_at, code_of, brace_in, in_braces, code_at, escape_at, char_at}
 use Rattle.cookie_ron.proofs.Fronts.{Front, Takes}
 
 if_some : {A : Type 0} (b : Bool) (o : Option A) (r : A) → (if b then o else None) ≡ Some r → (b ≡ true) × (o ≡ Some r)

@@ -3,7 +3,7 @@ use Rattle.std.proofs.Common.{◌≡◌, ℕ, List, Bool, true, false, Option, S
 use Rattle.std.proofs.lemmas.Option.{option_and_then_some, same_Some}
 use Rattle.cookie_forms.specs.Saved.{Domain, host_only, suffix, not_present, empty, Parts}
 use Rattle.cookie_ron.specs.Grammar.{◌▸◌, Token, Text, Flag, Argument, PathPair, DomainForm, ExpiryForm, Field, Cookie}
-use Rattle.cookie_ron.specs.Reading.{token_at, either, close_at, text_at, flag_at, argument_at, path_at, domain_at, expiry_text_at, name_at, field_at, first_fields_at, last_fields_at, cookie_at}
+use Rattle.cookie_ron.specs.RonInput.{token_at, either, close_at, text_at, flag_at, argument_at, path_at, domain_at, expiry_text_at, name_at, field_at, first_fields_at, last_fields_at, cookie_at}
 use Rattle.cookie_ron.proofs.Fronts.{Front, Takes, Misses, joined, front_of, chain, last, here, here_alone, there, missed, grouped, spread, takes_of}
 use Rattle.cookie_ron.proofs.SignFronts.{sign_front, sign_takes, sign_misses, close_front, close_takes, is_solid}
 use Rattle.cookie_ron.proofs.CharFronts.{map_some}

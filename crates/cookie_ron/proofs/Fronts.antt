@@ -2,7 +2,7 @@
 use Rattle.std.proofs.Common.{◌≡◌, ℕ, ◌<◌, ◌≤◌, length, length-append, arith, List, ◌++◌, Option, Some, None, option_and_then, refl, sym, ap, ◌∙◌}
 use Rattle.std.proofs.lemmas.List.{append_assoc}
 use Rattle.cookie_ron.specs.Grammar.{◌▸◌}
-use Rattle.cookie_ron.specs.Reading.{either}
+use Rattle.cookie_ron.specs.RonInput.{either}
 
 -- the input is of the rule, followed by the rest
 pub record Front (P : List ℕ → Type 0) (s rest : List ℕ) : Type 0 where

@@ -4,7 +4,7 @@ use Rattle.std.proofs.lemmas.Option.{option_and_then_some, same_Some}
 use Rattle.std.proofs.lemmas.List.{append_assoc, append-nil}
 use Rattle.cookie_forms.specs.Saved.{Parts}
 use Rattle.cookie_ron.specs.Grammar.{Token, Close, Cookie, Cookies, IsList}
-use Rattle.cookie_ron.specs.Reading.{drop_blanks, token_at, either, onto, behind_cookie, cookie_at, cookies_at, if_empty, list_at}
+use Rattle.cookie_ron.specs.RonInput.{drop_blanks, token_at, either, onto, behind_cookie, cookie_at, cookies_at, if_empty, list_at}
 use Rattle.cookie_ron.proofs.Onto.{onto_both}
 use Rattle.cookie_ron.proofs.Fronts.{Front, joined, front_of, front_shorter, front_no_longer}
 use Rattle.cookie_ron.proofs.SignFronts.{blanks_front, blanks_over, sign_front, sign_takes, sign_misses}

@@ -6,7 +6,7 @@ use Rattle.cookie_forms.specs.FromJson.{all_with_parsed_expiry}
 use Rattle.cookie_forms.specs.Saved.{Parts}
 use Rattle.cookie_forms.specs.declared.error.SavedError.{SavedError}
 use Rattle.cookie_ron.specs.Grammar.{IsList}
-use Rattle.cookie_ron.specs.RonLists.{RonParsesTo}
+use Rattle.cookie_ron.specs.ParsedRon.{RonParsesTo}
 
 module _ (one : (parts others : List (Parts (List ℕ))) (text : List ℕ) → IsList parts text → IsList others text → parts ≡ others) where
   -- if an input is two lists, their expiries are parsed alike
@@ -15,8 +15,8 @@ module _ (one : (parts others : List (Parts (List ℕ))) (text : List ℕ) → I
   same_moments text parts others a b is reads are read =
       sym reads ∙ ap all_with_parsed_expiry (one parts others (chars text) is are) ∙ read
 
-  pub one_result : (text : List ℕ) (answer other : Result (List (Parts Moment)) SavedError) → RonParsesTo text answer → RonParsesTo text other
-      → answer ≡ other
+  pub one_result : (text : List ℕ) (outcome other : Result (List (Parts Moment)) SavedError) → RonParsesTo text outcome → RonParsesTo text other
+      → outcome ≡ other
   one_result text (Ok list) (Ok lists) (parts, is, reads) (others, are, read) =
       let some = same_moments text parts others (Some list) (Some lists) is reads are read in
       let same : list ≡ lists = cc in

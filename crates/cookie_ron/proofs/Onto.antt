@@ -1,7 +1,7 @@
 -- What was read before, followed by what is read next.
 use Rattle.std.proofs.Common.{◌≡◌, ℕ, List, [], ◌++◌, Option, Some, None, refl, sym, ap}
 use Rattle.std.proofs.lemmas.List.{append_assoc}
-use Rattle.cookie_ron.specs.Reading.{onto}
+use Rattle.cookie_ron.specs.RonInput.{onto}
 
 pub onto_both : {A : Type 0} (a b : List A) (o : Option (List A × List ℕ)) → onto a (onto b o) ≡ onto (a ++ b) o
 onto_both a b None = refl

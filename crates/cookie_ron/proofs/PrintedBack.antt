@@ -14,7 +14,7 @@ use Rattle.cookie_forms.specs.declared.saved.Saved.{Saved}
 use Rattle.cookie_forms.specs.declared.saved.SavedExpiry.{SavedExpiry}
 use Rattle.cookie_forms.specs.declared.saved.SavedExpiry.TheVariants as Expiry
 use Rattle.cookie_ron.specs.Printed.{ron_written}
-use Rattle.cookie_ron.specs.RonLists.{RonParsesTo}
+use Rattle.cookie_ron.specs.ParsedRon.{RonParsesTo}
 use Rattle.cookie_ron.proofs.Bools.{both_false}
 use Rattle.cookie_ron.proofs.PrintedLists.{line_is_list, printed_is_list}
 

@@ -7,8 +7,8 @@ use Rattle.cookie_forms.specs.FromJson.{all_with_parsed_expiry}
 use Rattle.cookie_forms.specs.declared.error.SavedError.{SavedError}
 use Rattle.cookie_forms.specs.declared.error.SavedError.TheVariants as ErrorCase
 use Rattle.cookie_ron.specs.Grammar.{IsList}
-use Rattle.cookie_ron.specs.Reading.{list_at}
-use Rattle.cookie_ron.specs.RonLists.{RonParsesTo}
+use Rattle.cookie_ron.specs.RonInput.{list_at}
+use Rattle.cookie_ron.specs.ParsedRon.{RonParsesTo}
 use Rattle.cookie_ron.proofs.ListFronts.{list_front, list_read}
 
 none_read : (s : List ℕ) (parts : List (Parts (List ℕ))) → list_at s ≡ None → ¬ IsList parts s
@@ -43,13 +43,13 @@ empty_says_none text none =
     says_none text (chars text) ErrorCase.Ron refl (inr (refl, unread))
 
 -- every input has a result
-pub says : (text : List ℕ) → (answer : Result (List (Parts Moment)) SavedError) × RonParsesTo text answer
+pub says : (text : List ℕ) → (outcome : Result (List (Parts Moment)) SavedError) × RonParsesTo text outcome
 says text = by_list (list_at (chars text)) refl
   where
-    by_list : (read : Option (List (Parts (List ℕ)))) → list_at (chars text) ≡ read → (answer : Result (List (Parts Moment)) SavedError) × RonParsesTo text answer
+    by_list : (read : Option (List (Parts (List ℕ)))) → list_at (chars text) ≡ read → (outcome : Result (List (Parts Moment)) SavedError) × RonParsesTo text outcome
     by_list None e = (Err ErrorCase.Ron, inl (refl, λ parts is. none_read (chars text) parts e is))
     by_list (Some parts) e = by_ends (all_with_parsed_expiry parts) refl
       where
-        by_ends : (read : Option (List (Parts Moment))) → all_with_parsed_expiry parts ≡ read → (answer : Result (List (Parts Moment)) SavedError) × RonParsesTo text answer
+        by_ends : (read : Option (List (Parts Moment))) → all_with_parsed_expiry parts ≡ read → (outcome : Result (List (Parts Moment)) SavedError) × RonParsesTo text outcome
         by_ends None m = (Err ErrorCase.Moment, inr (refl, parts, list_front (chars text) parts e, m))
         by_ends (Some list) m = (Ok list, (parts, list_front (chars text) parts e, m))

@@ -5,7 +5,7 @@ use Rattle.std.specs.List.{list_all}
 use Rattle.std.proofs.lemmas.Bool.Decides.{Decides-eqb}
 use Rattle.std.proofs.lemmas.List.{append_assoc}
 use Rattle.cookie_ron.specs.Grammar.{is_blank, Blanks, Token, Close}
-use Rattle.cookie_ron.specs.Reading.{drop_blanks, behind, token_at, either, close_at}
+use Rattle.cookie_ron.specs.RonInput.{drop_blanks, behind, token_at, either, close_at}
 use Rattle.cookie_ron.proofs.Fronts.{Front, Takes, Misses, joined, front_here, here, there}
 
 -- the token is not empty and does not begin with a blank

@@ -6,7 +6,7 @@ use Rattle.std.specs.Str.{encode_utf8_all}
 use Rattle.std.proofs.lemmas.Option.{option_and_then_some}
 use Rattle.std.proofs.lemmas.List.{append_assoc}
 use Rattle.cookie_ron.specs.Grammar.{◌▸◌, Exactly, CharForm, CharForms, Text}
-use Rattle.cookie_ron.specs.Reading.{behind, token_at, char_at, onto, chars_behind, chars_at, text_at}
+use Rattle.cookie_ron.specs.RonInput.{behind, token_at, char_at, onto, chars_behind, chars_at, text_at}
 use Rattle.cookie_ron.proofs.Onto.{onto_both}
 use Rattle.cookie_ron.proofs.Fronts.{Front, Takes, joined, front_of, front_shorter, chain}
 use Rattle.cookie_ron.proofs.SignFronts.{behind_front, sign_front, sign_takes}

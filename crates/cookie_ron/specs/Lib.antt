@@ -1,5 +1,5 @@
 pub mod Entries
 pub mod Grammar
 pub mod Printed
-pub mod Reading
-pub mod RonLists
+pub mod RonInput
+pub mod ParsedRon

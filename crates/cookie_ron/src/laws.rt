@@ -7,7 +7,7 @@ ghost use Rattle.cookie_forms.specs.declared.error.SavedError.{SavedError};
 ghost use Rattle.cookie_forms.specs.declared.saved.Saved.{Saved};
 ghost use Rattle.cookie_ron.specs.Grammar.{IsList};
 ghost use Rattle.cookie_ron.specs.Printed.{ron_written};
-ghost use Rattle.cookie_ron.specs.RonLists.{RonParsesTo};
+ghost use Rattle.cookie_ron.specs.ParsedRon.{RonParsesTo};
 
 use cookie_forms::laws::moments_read_back;
 
@@ -18,15 +18,15 @@ pub fn grammar_is_unambiguous()
 
 /// An input, as bytes, has at most one result: one list or one error.
 pub fn results_are_unique()
-    ensures { (text : List ℕ) (answer other : Result (List (Parts Moment)) SavedError) → RonParsesTo text answer → RonParsesTo text other
-        → answer ≡ other }
+    ensures { (text : List ℕ) (outcome other : Result (List (Parts Moment)) SavedError) → RonParsesTo text outcome → RonParsesTo text other
+        → outcome ≡ other }
 {
     grammar_is_unambiguous();
 }
 
 /// Every input has a result: a list or an error.
 pub fn every_text_has_result()
-    ensures { (text : List ℕ) → (answer : Result (List (Parts Moment)) SavedError) × RonParsesTo text answer }
+    ensures { (text : List ℕ) → (outcome : Result (List (Parts Moment)) SavedError) × RonParsesTo text outcome }
 {}
 
 /// A list, printed and read back, is unchanged but for the expiries, which are cut to whole

@@ -6,8 +6,8 @@ ghost use Rattle.std.specs.Str.{chars};
 ghost use Rattle.cookie_forms.specs.Saved.{saved_view, domain_view, expiry_view};
 ghost use Rattle.cookie_forms.specs.FromJson.{parsed_expiry, with_parsed_expiry, all_with_parsed_expiry};
 ghost use Rattle.cookie_ron.specs.Entries.{entry_view};
-ghost use Rattle.cookie_ron.specs.Reading.{flag_at, argument_at, path_at, domain_at, expiry_text_at, first_fields_at, last_fields_at, cookie_at, cookies_at, list_at};
-ghost use Rattle.cookie_ron.specs.RonLists.{RonParsesTo};
+ghost use Rattle.cookie_ron.specs.RonInput.{flag_at, argument_at, path_at, domain_at, expiry_text_at, first_fields_at, last_fields_at, cookie_at, cookies_at, list_at};
+ghost use Rattle.cookie_ron.specs.ParsedRon.{RonParsesTo};
 
 use crate::texts::text_at;
 use crate::tokens::{close_at, drop_blanks, name_at, token_at};
@@ -104,7 +104,7 @@ fn expiry_at(expires: &Option<String>) -> Result<SavedExpiry, SavedError>
 }
 
 // Reads a whole list, up to the end of the input.
-#[tactic(auto, unfolding(crate::specs::Reading::list_at))]
+#[tactic(auto, unfolding(crate::specs::RonInput::list_at))]
 fn list_at(alloc: Global, input: &[char]) -> Result<Vec<Entry>, SavedError>
     ensures read { IfOk result (λ list. list_at input.now ≡ Some (map entry_view list.items)) }
     ensures errors { IfErr result (λ e. (e ≡ SavedError.Memory)
@@ -141,7 +141,7 @@ fn cookies_at(alloc: Global, input: &[char]) -> Result<(Vec<Entry>, &[char]), Sa
 }
 
 // Reads a saved cookie.
-#[tactic(auto, unfolding(crate::specs::Reading::cookie_at))]
+#[tactic(auto, unfolding(crate::specs::RonInput::cookie_at))]
 fn cookie_at(alloc: Global, input: &[char]) -> Result<(Entry, &[char]), SavedError>
     ensures read { IfOk result (λ p. cookie_at input.now ≡ Some (entry_view p.0, p.1.now)) }
     ensures errors { IfErr result (λ e. (e ≡ SavedError.Memory)
@@ -161,7 +161,7 @@ fn cookie_at(alloc: Global, input: &[char]) -> Result<(Entry, &[char]), SavedErr
 }
 
 // Reads the fields `raw_cookie` and `path`.
-#[tactic(auto, unfolding(crate::specs::Reading::first_fields_at))]
+#[tactic(auto, unfolding(crate::specs::RonInput::first_fields_at))]
 fn first_fields_at(
     alloc: Global,
     input: &[char],
@@ -177,7 +177,7 @@ fn first_fields_at(
 }
 
 // Reads the fields `domain` and `expires`.
-#[tactic(auto, unfolding(crate::specs::Reading::last_fields_at))]
+#[tactic(auto, unfolding(crate::specs::RonInput::last_fields_at))]
 fn last_fields_at(
     alloc: Global,
     input: &[char],
@@ -193,7 +193,7 @@ fn last_fields_at(
 }
 
 // Reads a path, and whether a Path attribute set it.
-#[tactic(auto, unfolding(crate::specs::Reading::path_at))]
+#[tactic(auto, unfolding(crate::specs::RonInput::path_at))]
 fn path_at(alloc: Global, input: &[char]) -> Result<(String, bool, &[char]), SavedError>
     ensures read { IfOk result (λ p. path_at input.now ≡ Some ((string_bytes p.0, p.1), p.2.now)) }
     ensures errors { IfErr result (λ e. (e ≡ SavedError.Memory)
@@ -205,7 +205,7 @@ fn path_at(alloc: Global, input: &[char]) -> Result<(String, bool, &[char]), Sav
 }
 
 // Reads `true` or `false`.
-#[tactic(auto, unfolding(crate::specs::Reading::flag_at))]
+#[tactic(auto, unfolding(crate::specs::RonInput::flag_at))]
 fn flag_at(input: &[char]) -> Result<(bool, &[char]), SavedError>
     ensures read { IfOk result (λ p. flag_at input.now ≡ Some (p.0, p.1.now)) }
     ensures errors { IfErr result (λ e. (e ≡ SavedError.Ron) × (flag_at input.now ≡ None)) }
@@ -217,7 +217,7 @@ fn flag_at(input: &[char]) -> Result<(bool, &[char]), SavedError>
 }
 
 // Reads a domain.
-#[tactic(auto, unfolding(crate::specs::Reading::domain_at))]
+#[tactic(auto, unfolding(crate::specs::RonInput::domain_at))]
 fn domain_at(alloc: Global, input: &[char]) -> Result<(SavedDomain, &[char]), SavedError>
     ensures read { IfOk result (λ p. domain_at input.now ≡ Some (domain_view p.0, p.1.now)) }
     ensures errors { IfErr result (λ e. (e ≡ SavedError.Memory)
@@ -238,7 +238,7 @@ fn domain_at(alloc: Global, input: &[char]) -> Result<(SavedDomain, &[char]), Sa
 }
 
 // Reads an expiry as a string, not parsed yet; `None` for `SessionEnd`.
-#[tactic(auto, unfolding(crate::specs::Reading::expiry_text_at))]
+#[tactic(auto, unfolding(crate::specs::RonInput::expiry_text_at))]
 fn expiry_text_at(alloc: Global, input: &[char]) -> Result<(Option<String>, &[char]), SavedError>
     ensures read { IfOk result (λ p. expiry_text_at input.now ≡ Some (option_map string_bytes p.0, p.1.now)) }
     ensures errors { IfErr result (λ e. (e ≡ SavedError.Memory)
@@ -254,7 +254,7 @@ fn expiry_text_at(alloc: Global, input: &[char]) -> Result<(Option<String>, &[ch
 }
 
 // Reads a string in parentheses.
-#[tactic(auto, unfolding(crate::specs::Reading::argument_at))]
+#[tactic(auto, unfolding(crate::specs::RonInput::argument_at))]
 fn argument_at(alloc: Global, input: &[char]) -> Result<(String, &[char]), SavedError>
     ensures read { IfOk result (λ p. argument_at input.now ≡ Some (string_bytes p.0, p.1.now)) }
     ensures errors { IfErr result (λ e. (e ≡ SavedError.Memory)

@@ -3,7 +3,7 @@
 //! A parser takes the characters that are left, and returns what it read with the rest of them.
 ghost use Rattle.std.specs.Prelude.{◌≡◌, ◌⊎◌, ◌<◌, ◌≤◌, ◌^◌, length, None, Some, IfOk, IfErr, IfSome, option_map, string_bytes};
 ghost use Rattle.cookie_ron.specs.Grammar.{escaped_by};
-ghost use Rattle.cookie_ron.specs.Reading.{hex_value, byte_at, code_of, brace_in, in_braces, code_at, escape_at, char_at, text_at};
+ghost use Rattle.cookie_ron.specs.RonInput.{hex_value, byte_at, code_of, brace_in, in_braces, code_at, escape_at, char_at, text_at};
 
 use crate::tokens::{behind, token_at};
 use cookie_forms::SavedError;
@@ -46,7 +46,7 @@ fn code_of(digits: &[char]) -> Option<char>
 }
 
 // The index of the first closing brace.
-#[tactic(auto, unfolding(crate::specs::Reading::brace_in))]
+#[tactic(auto, unfolding(crate::specs::RonInput::brace_in))]
 fn brace_in(input: &[char]) -> Option<usize>
     ensures place { result ≡ brace_in input.now }
     ensures within { IfSome result (λ end. end < length input.now) }
@@ -55,7 +55,7 @@ fn brace_in(input: &[char]) -> Option<usize>
 }
 
 // Splits the input at the first closing brace.
-#[tactic(auto, unfolding(crate::specs::Reading::in_braces))]
+#[tactic(auto, unfolding(crate::specs::RonInput::in_braces))]
 fn in_braces(input: &[char]) -> Option<(&[char], &[char])>
     ensures { option_map (λ p. (p.0.now, p.1.now)) result ≡ in_braces input.now }
 {
@@ -115,7 +115,7 @@ fn char_at(input: &[char]) -> Option<(char, &[char])>
 }
 
 // Reads a quoted string.
-#[tactic(auto, unfolding(crate::specs::Reading::text_at))]
+#[tactic(auto, unfolding(crate::specs::RonInput::text_at))]
 pub(crate) fn text_at(alloc: Global, input: &[char]) -> Result<(String, &[char]), SavedError>
     ensures read { IfOk result (λ p. text_at input.now ≡ Some (string_bytes p.0, p.1.now)) }
     ensures errors { IfErr result (λ e. (e ≡ SavedError.Memory)

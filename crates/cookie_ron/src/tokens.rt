@@ -1,7 +1,7 @@
 //! Blanks and tokens of RON.
 ghost use Rattle.std.specs.Prelude.{◌≡◌, None, Some, IfOk, IfErr};
 ghost use Rattle.cookie_ron.specs.Grammar.{is_blank};
-ghost use Rattle.cookie_ron.specs.Reading.{drop_blanks, behind, token_at, close_at, name_at};
+ghost use Rattle.cookie_ron.specs.RonInput.{drop_blanks, behind, token_at, close_at, name_at};
 
 use cookie_forms::SavedError;
 
@@ -66,7 +66,7 @@ pub(crate) fn close_at<'a>(token: &[u8], input: &'a [char]) -> Result<&'a [char]
 }
 
 // The rest of the input after a field's name and colon.
-#[tactic(auto, unfolding(crate::specs::Reading::name_at))]
+#[tactic(auto, unfolding(crate::specs::RonInput::name_at))]
 pub(crate) fn name_at<'a>(name: &[u8], input: &'a [char]) -> Result<&'a [char], SavedError>
     ensures read { IfOk result (λ rest. name_at name.now input.now ≡ Some rest.now) }
     ensures errors { IfErr result (λ e. (e ≡ SavedError.Ron) × (name_at name.now input.now ≡ None)) }

@@ -5,7 +5,7 @@ use Rattle.std.proofs.lemmas.Bool.{cases_Bool}
 use Rattle.cookie_parts.specs.Cookie.{Row}
 use Rattle.cookie_parts.specs.Domain.{domain_text}
 use Rattle.cookie_laws.specs.Rows.{Key}
-use Rattle.cookie_rows.specs.Groups.{is_named, row_named, found, put_at, changed_at, unless_empty, lessened_at}
+use Rattle.cookie_rows.specs.GroupChanges.{is_named, row_named, found, put_at, changed_at, unless_empty, lessened_at}
 use Rattle.cookie_rows.proofs.BareGroups.{put_name, expire_name, remove_name, find_paths, find_groups, put_paths, put_groups, expire_paths, expire_groups, remove_paths, remove_groups}
 use Rattle.cookie_rows.specs.Items.{Item, ItemPaths, ItemGroups, rows_of, bare_paths, bare, put_item, expire_item, remove_item, find_item_paths, find_items, put_item_paths, put_items, expire_item_paths, expire_items, remove_item_paths, remove_items}
 

@@ -4,7 +4,7 @@ use Rattle.cookie_parts.specs.Cookie.{Row, expired_row}
 use Rattle.cookie_parts.specs.Domain.{domain_text}
 use Rattle.cookie_laws.specs.Rows.{Key, changed, removed}
 use Rattle.cookie_lookup.specs.Groups.{DomainGroups, PathGroups}
-use Rattle.cookie_rows.specs.Groups.{changed_at, found, is_named, lessened_at, put_at, row_named}
+use Rattle.cookie_rows.specs.GroupChanges.{changed_at, found, is_named, lessened_at, put_at, row_named}
 
 -- one group
 

@@ -7,7 +7,7 @@ use Rattle.std.proofs.lemmas.List.{map-append}
 use Rattle.cookie_parts.specs.Cookie.{Row}
 use Rattle.cookie_laws.specs.Rows.{Key, key_of, key_at, same_key, has_key, row_of, add_created, removed, differ, are_rows}
 use Rattle.cookie_lookup.specs.Groups.{flat, flat_paths, HasDomainAndPath, ArePaths, AreGroups}
-use Rattle.cookie_rows.specs.Groups.{is_named}
+use Rattle.cookie_rows.specs.GroupChanges.{is_named}
 use Rattle.cookie_rows.specs.Items.{Item, ItemPaths, ItemGroups, rows_of, bare_paths, bare, put_items, expire_item, expire_item_paths, expire_items, remove_items, numbered_names, numbered_paths, numbered, by_number, creation_order, Below, NumbersDiffer}
 use Rattle.cookie_rows.proofs.AfterLast.{list_any-map}
 use Rattle.cookie_rows.proofs.Bare.{viewed_texts}

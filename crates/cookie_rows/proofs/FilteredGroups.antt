@@ -9,7 +9,7 @@ use Rattle.std.proofs.lemmas.Slice.Eq.{bytes_eq-Decides}
 use Rattle.cookie_parts.specs.Cookie.{Row}
 use Rattle.cookie_laws.specs.Rows.{Key, key_of, same_domain, same_key, same_domain_equiv, same_group_equiv, differ, are_adjacent, are_rows}
 use Rattle.cookie_lookup.specs.Groups.{PathGroups, HasDomainAndPath, Filled, ArePaths, AreGroups}
-use Rattle.cookie_rows.specs.Groups.{lessened_at}
+use Rattle.cookie_rows.specs.GroupChanges.{lessened_at}
 use Rattle.cookie_rows.specs.Items.{Item, ItemPaths, ItemGroups, rows_of, bare_paths, bare, numbered_names, numbered_paths, numbered, by_number, creation_order}
 use Rattle.cookie_rows.specs.Eviction.{is_filled, filter_paths, paths_of}
 use Rattle.cookie_rows.proofs.Bare.{viewed_texts}

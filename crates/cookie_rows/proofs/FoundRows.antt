@@ -6,7 +6,7 @@ use Rattle.std.proofs.lemmas.Bool.Decides.{nat_tests}
 use Rattle.cookie_parts.specs.Cookie.{Row, expired_row}
 use Rattle.cookie_laws.specs.Rows.{Key, in_group, has_key, differ, changed, removed, row_of}
 use Rattle.cookie_lookup.specs.Groups.{PathGroups, DomainGroups, flat_paths, flat, Filled, AreGroups}
-use Rattle.cookie_rows.specs.Groups.{is_named, row_named, unless_empty}
+use Rattle.cookie_rows.specs.GroupChanges.{is_named, row_named, unless_empty}
 use Rattle.cookie_rows.proofs.BareGroups.{expire_name, remove_name, find_paths, find_groups, expire_paths, expire_groups, remove_paths, remove_groups}
 use Rattle.cookie_rows.proofs.Flat.{changed_right, changed_left, removed_right, removed_left, find_right, find_left}
 use Rattle.cookie_rows.proofs.Members.{absent, no_group_rows, all_group_rows, no_key, no_group, by_name, no_group_paths, no_domain_paths, no_domain_groups}

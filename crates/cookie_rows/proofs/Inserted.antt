@@ -10,7 +10,7 @@ use Rattle.cookie_parts.specs.Domain.{domain_text}
 use Rattle.cookie_laws.specs.Contents.{Contents, contents_of, with_cookie, without, rows_in_order}
 use Rattle.cookie_laws.specs.Rows.{Key, RowsInOrder, differ, key_at, key_of, add_created, put, row_of, same_domain, same_key}
 use Rattle.cookie_lookup.specs.Groups.{flat}
-use Rattle.cookie_rows.specs.Groups.{lessened_at}
+use Rattle.cookie_rows.specs.GroupChanges.{lessened_at}
 use Rattle.cookie_rows.specs.Items.{AreItems, Item, ItemGroups, ItemPaths, bare, by_number, groups_in_order, creation_order, numbered, numbered_names, numbered_paths, put_items}
 use Rattle.cookie_rows.specs.Eviction.{HasRoom, InsertsInDomains, IsFirstSurvivor, EvictionRank, class_of, comes_before, evicted_in, insert_in_domains, filter_paths, paths_of, survives, rank_of, ranks_of, with_inserted}
 use Rattle.cookie_rows.specs.declared.eviction_order.EvictionOrder.{EvictionOrder}

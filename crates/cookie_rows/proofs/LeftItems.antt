@@ -11,7 +11,7 @@ use Rattle.cookie_parts.specs.Hosts.{passes}
 use Rattle.cookie_laws.specs.Contents.{has_expired}
 use Rattle.cookie_laws.specs.Rows.{Key, key_at, key_of, same_key, same_key_equiv, row_of, differ, are_rows}
 use Rattle.cookie_lookup.specs.Groups.{flat, flat_paths, HasDomainAndPath, Filled, ArePaths}
-use Rattle.cookie_rows.specs.Groups.{unless_empty, lessened_at}
+use Rattle.cookie_rows.specs.GroupChanges.{unless_empty, lessened_at}
 use Rattle.cookie_rows.specs.Items.{Item, ItemPaths, ItemGroups, AreItems, rows_of, bare_paths, bare, numbered_paths, numbered, by_number, creation_order, groups_in_order}
 use Rattle.cookie_rows.specs.Eviction.{is_filled, filter_paths, paths_of}
 use Rattle.cookie_rows.proofs.ByNumber.{all_map}
@@ -32,6 +32,10 @@ Each P groups = AllByRecursion (λ g. EachIn (P g.0) g.1) groups
 -- what holds of whatever there is holds of each item of a domain
 pub each_in_any : (P : List ℕ → Item → Type 0) → ((path : List ℕ) (x : Item) → P path x) → (ps : ItemPaths) → EachIn P ps
 each_in_any P f ps = all_any (λ (p : List ℕ × List Item). AllByRecursion (P p.0) p.1) (λ p. all_any (P p.0) (f p.0) p.1) ps
+
+-- and in all groups
+pub each_any : (P : List ℕ → List ℕ → Item → Type 0) → ((d p : List ℕ) (x : Item) → P d p x) → (gs : ItemGroups) → Each P gs
+each_any P f gs = all_any (λ (g : List ℕ × ItemPaths). EachIn (P g.0) g.1) (λ g. each_in_any (P g.0) (f g.0) g.1) gs
 
 -- what follows from what holds of each
 pub each_in_map : (P Q : List ℕ → Item → Type 0) → ((path : List ℕ) (x : Item) → P path x → Q path x) → (ps : ItemPaths) → EachIn P ps → EachIn Q ps

@@ -33,6 +33,7 @@ pub mod Puts
 pub mod RankOrder
 pub mod Removed
 pub mod Results
+pub mod RetainedItems
 pub mod RowsInOrder
 pub mod SameOrder
 pub mod SecureRows

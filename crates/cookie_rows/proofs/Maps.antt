@@ -7,7 +7,7 @@ use Rattle.std.proofs.lemmas.Bool.{cases_Bool}
 use Rattle.indexmap.specs.IndexMap.{insert_entry}
 use Rattle.cookie_parts.specs.Cookie.{Row}
 use Rattle.cookie_laws.specs.Rows.{removed}
-use Rattle.cookie_rows.specs.Groups.{texts_of, found, put_at, changed_at, is_empty_at, unless_empty, lessened_at}
+use Rattle.cookie_rows.specs.GroupChanges.{texts_of, found, put_at, changed_at, is_empty_at, unless_empty, lessened_at}
 
 -- the test of a key by a name
 abbrev pub at_text : {A : Type 0} → List ℕ → String A → Bool

@@ -7,7 +7,7 @@ use Rattle.cookie_parts.specs.Cookie.{Row}
 use Rattle.cookie_parts.specs.Domain.{domain_text}
 use Rattle.cookie_laws.specs.Rows.{Key, in_domain, in_group, has_key, differ}
 use Rattle.cookie_lookup.specs.Groups.{PathGroups, DomainGroups, flat_paths, flat, HasDomainAndPath, Filled, ArePaths}
-use Rattle.cookie_rows.specs.Groups.{is_named}
+use Rattle.cookie_rows.specs.GroupChanges.{is_named}
 use Rattle.cookie_rows.proofs.Flat.{any_append}
 
 -- the rest of the names is without the first one

@@ -8,7 +8,7 @@ use Rattle.std.proofs.lemmas.Bool.{cases_Bool}
 use Rattle.std.proofs.lemmas.Slice.Eq.{bytes_eq-Decides}
 use Rattle.indexmap.specs.IndexMap.{insert_entry}
 use Rattle.cookie_parts.specs.Cookie.{Row, expired_row}
-use Rattle.cookie_rows.specs.Groups.{row_named, texts_of}
+use Rattle.cookie_rows.specs.GroupChanges.{row_named, texts_of}
 use Rattle.cookie_rows.specs.Items.{AreNamed, Item, expire_item, is_item_named, put_item, remove_item, rows_of}
 
 -- there is no item that has no row

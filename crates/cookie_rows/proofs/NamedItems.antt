@@ -10,7 +10,7 @@ use Rattle.std.proofs.lemmas.Slice.Eq.{bytes_eq-Decides}
 use Rattle.indexmap.specs.IndexMap.{insert_entry}
 use Rattle.cookie_parts.specs.Cookie.{Row}
 use Rattle.cookie_laws.specs.Rows.{changed}
-use Rattle.cookie_rows.specs.Groups.{row_named}
+use Rattle.cookie_rows.specs.GroupChanges.{row_named}
 use Rattle.cookie_rows.specs.Items.{AreNamed, Item, expire_item, is_item_named, put_item, remove_item, rows_of}
 use Rattle.cookie_rows.specs.NameMaps.{names_differ, names_in}
 use Rattle.cookie_rows.proofs.Named.{named_insert, none_named, put_insert}

@@ -9,7 +9,7 @@ use Rattle.std.proofs.lemmas.List.Folds.{list_any-append}
 use Rattle.std.proofs.lemmas.Slice.Eq.{bytes_eq-Decides}
 use Rattle.cookie_parts.specs.Cookie.{Row}
 use Rattle.cookie_laws.specs.Rows.{Key, key_of, same_key}
-use Rattle.cookie_rows.specs.Groups.{put_at, texts_of}
+use Rattle.cookie_rows.specs.GroupChanges.{put_at, texts_of}
 use Rattle.cookie_rows.specs.SecureKeys.{NamedScopes, ScopeValue, is_in_scope, lists_key, scope_of, scopes_named}
 use Rattle.cookie_rows.proofs.Maps.{at_text}
 

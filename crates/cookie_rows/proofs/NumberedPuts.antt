@@ -6,7 +6,7 @@ use Rattle.std.proofs.lemmas.Slice.Eq.{bytes_eq-Decides}
 use Rattle.cookie_parts.specs.Cookie.{Row}
 use Rattle.cookie_parts.specs.Domain.{domain_text}
 use Rattle.cookie_laws.specs.Rows.{Key, key_at, key_of, same_key, differ}
-use Rattle.cookie_rows.specs.Groups.{is_named}
+use Rattle.cookie_rows.specs.GroupChanges.{is_named}
 use Rattle.cookie_rows.specs.Items.{Item, ItemPaths, ItemGroups, put_item, put_item_paths, put_items, numbered_names, numbered_paths, numbered}
 use Rattle.cookie_rows.proofs.Flat.{any_append}
 use Rattle.cookie_rows.proofs.Members.{absent}

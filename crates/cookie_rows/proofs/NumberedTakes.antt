@@ -4,7 +4,7 @@ use Rattle.std.specs.List.{list_any}
 use Rattle.std.proofs.lemmas.Bool.{cases_Bool}
 use Rattle.std.proofs.lemmas.Slice.Eq.{bytes_eq-Decides}
 use Rattle.cookie_laws.specs.Rows.{Key, key_at, same_key, removed}
-use Rattle.cookie_rows.specs.Groups.{is_named, unless_empty}
+use Rattle.cookie_rows.specs.GroupChanges.{is_named, unless_empty}
 use Rattle.cookie_rows.specs.Items.{Item, ItemPaths, ItemGroups, remove_item, remove_item_paths, remove_items, numbered_names, numbered_paths, numbered}
 use Rattle.cookie_rows.proofs.Flat.{removed_right, removed_left}
 use Rattle.cookie_rows.proofs.ByNumber.{Gains, gains_right, gains_left}

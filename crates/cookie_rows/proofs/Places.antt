@@ -8,7 +8,7 @@ use Rattle.std.proofs.lemmas.Option.{slice_get_within}
 use Rattle.cookie_parts.specs.Cookie.{Row}
 use Rattle.cookie_lookup.specs.Groups.{DomainGroups}
 use Rattle.cookie_lookup.specs.SearchView.{RowPosition, group_position, under, rows_at, list_of}
-use Rattle.cookie_rows.specs.Groups.{found, texts_of}
+use Rattle.cookie_rows.specs.GroupChanges.{found, texts_of}
 use Rattle.cookie_rows.specs.HeaderItems.{items_in}
 use Rattle.cookie_rows.specs.Items.{Item, ItemGroups, bare, rows_of}
 

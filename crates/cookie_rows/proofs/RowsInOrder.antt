@@ -8,7 +8,7 @@ use Rattle.cookie_parts.specs.Cookie.{Row}
 use Rattle.cookie_parts.specs.Domain.{domain_text}
 use Rattle.cookie_laws.specs.Rows.{Key, differ}
 use Rattle.cookie_lookup.specs.Groups.{PathGroups, DomainGroups, HasDomainAndPath, ArePaths, AreGroups}
-use Rattle.cookie_rows.specs.Groups.{is_named, put_at, changed_at, unless_empty, lessened_at}
+use Rattle.cookie_rows.specs.GroupChanges.{is_named, put_at, changed_at, unless_empty, lessened_at}
 use Rattle.cookie_rows.proofs.BareGroups.{put_name, expire_name, remove_name, put_paths, put_groups, expire_paths, expire_groups, remove_paths, remove_groups}
 use Rattle.cookie_rows.proofs.Flat.{any_append}
 

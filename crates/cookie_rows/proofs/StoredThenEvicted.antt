@@ -1,9 +1,8 @@
 -- A row is inserted into groups from which others are evicted. It is stored before the others are evicted, so its
 -- groups are moved to the end if it is alone in them.
-use Rattle.std.proofs.Common.{◌≡◌, ℕ, zero, suc, ◌+◌, ◌-◌, ◌<◌, ◌==◌, Bool, true, false, not, cond, List, [], ◌∷◌, ◌++◌, length, map, filter, remove, insert, refl, sym, ◌∙◌, ap, subst, inl, inr, bytes_eq, slice_get, position, string_bytes, String, Option, Some, None, option_map, arith}
+use Rattle.std.proofs.Common.{◌≡◌, ℕ, zero, suc, ◌+◌, ◌-◌, ◌<◌, ◌==◌, Bool, true, false, cond, List, [], ◌∷◌, ◌++◌, length, map, filter, remove, insert, refl, sym, ◌∙◌, ap, subst, inl, inr, bytes_eq, slice_get, position, string_bytes, String, Option, Some, None, option_map, arith}
 use Rattle.std.specs.List.{AllByRecursion, list_any}
-use Rattle.std.specs.Map.{keys_of, lookup, values_of}
-use Rattle.std.specs.Map.Calls.{RetainsPairs}
+use Rattle.std.specs.Map.{keys_of, lookup}
 use Rattle.std.specs.Option.{option_map_or}
 use Rattle.std.proofs.lemmas.Bool.{cases_Bool}
 use Rattle.std.proofs.lemmas.Bool.Decides.{nat_tests}
@@ -12,13 +11,12 @@ use Rattle.std.proofs.lemmas.List.Edits.{insert_end, length-remove}
 use Rattle.std.proofs.lemmas.Option.{slice_get_within}
 use Rattle.std.proofs.lemmas.Slice.Eq.{bytes_eq-Decides}
 use Rattle.indexmap.specs.IndexMap.{move_index}
-use Rattle.indexmap.proofs.CallerLemmas.{filter-RetainsPairs}
 use Rattle.cookie_parts.specs.Cookie.{Row}
 use Rattle.cookie_parts.specs.Domain.{domain_text}
 use Rattle.cookie_laws.specs.Rows.{differ, key_of}
 use Rattle.cookie_lookup.specs.SearchView.{group_position}
-use Rattle.cookie_rows.specs.Groups.{changed_at, found, is_named, unless_empty, lessened_at, put_at, row_named, texts_of}
-use Rattle.cookie_rows.specs.Items.{AreNamed, Item, ItemGroups, ItemPaths, find_item_paths, find_items, put_item, put_item_paths, put_items, rows_of}
+use Rattle.cookie_rows.specs.GroupChanges.{changed_at, found, is_named, unless_empty, lessened_at, put_at, row_named, texts_of}
+use Rattle.cookie_rows.specs.Items.{Item, ItemGroups, ItemPaths, find_item_paths, find_items, put_item, put_item_paths, put_items, rows_of}
 use Rattle.cookie_rows.specs.Eviction.{insert_in_domains, insert_in_paths, is_filled, is_single, is_single_paths, filter_paths, moved_to_end_if}
 use Rattle.cookie_rows.proofs.Maps.{at_text}
 use Rattle.cookie_rows.proofs.Members.{absent}
@@ -381,60 +379,3 @@ module _ {A X : Type 0} (alone : List X → Bool) (text : List ℕ) where
     | inl t ↦ let l' = rw t at l in absurd (cc)
     | inr t ↦ let l' = rw t at l in rw t (ap (λ gs. (string_bytes e.0, e.1) ∷ gs) (map_stays_none es l'))
   ]
-
--- entries are removed from a map
-
--- the entries after `retain`, if the closure keeps no state, changes each value by a function and tests the result
-module _ {K X F : Type 0} (T : F → K → X → Bool → X → F → Type 0) (change : X → X) (test : X → Bool) (f : F)
-    (says : (k : K) (v : X) (b : Bool) (w : X) (g : F) → T f k v b w g → (b ≡ test (change v)) × (w ≡ change v) × (g ≡ f)) where
-  pub changed_retained : (es left : List (K × X)) → RetainsPairs T f es left → left ≡ filter (λ e. test e.1) (map (λ e. (e.0, change e.1)) es)
-  changed_retained [] left h = h
-  changed_retained (e ∷ es) left h =
-      let s = says e.0 e.1 h.0 h.1 h.2 h.4 in
-      let rest = changed_retained es h.3 (subst (λ g. RetainsPairs T g es h.3) s.2 h.5) in
-      h.6 ∙ (λ j. cond (s.0 j) ((e.0, s.1 j) ∷ rest j) (rest j))
-
--- items under their names, without those that fail the test
-module _ {A F : Type 0} (T : F → String A → Item → Bool → Item → F → Type 0) (test : Item → Bool) (f : F)
-    (says : (k : String A) (v : Item) (b : Bool) (w : Item) (g : F) → T f k v b w g → (b ≡ test v) × (w ≡ v) × (g ≡ f)) where
-  -- the items
-  pub values_retained : (es left : List (String A × Item)) → RetainsPairs T f es left → values_of left ≡ filter test (values_of es)
-  values_retained es left h = ap values_of (filter-RetainsPairs T (λ e. test e.1) f says es left h) ∙ values_filtered es
-    where
-      -- the same of the entries that pass
-      values_filtered : (es : List (String A × Item)) → values_of (filter (λ e. test e.1) es) ≡ filter test (values_of es)
-      values_filtered [] = refl
-      values_filtered (e ∷ es) = elim (cases_Bool (test e.1)) [
-        | inl t ↦ rw t (ap (λ xs. e.1 ∷ xs) (values_filtered es))
-        | inr t ↦ rw t (values_filtered es)
-      ]
-
-  -- and each name is its item's
-  pub named_retained : (es left : List (String A × Item)) → RetainsPairs T f es left → AreNamed es → AreNamed left
-  named_retained es left h named = subst AreNamed (sym (filter-RetainsPairs T (λ e. test e.1) f says es left h)) (named_filtered es named)
-    where
-      -- the same of the entries that pass
-      named_filtered : (es : List (String A × Item)) → AreNamed es → AreNamed (filter (λ e. test e.1) es)
-      named_filtered [] g = tt
-      named_filtered (e ∷ es) g = elim (cases_Bool (test e.1)) [
-        | inl t ↦ rw t (g.0, named_filtered es g.1)
-        | inr t ↦ rw t (named_filtered es g.1)
-      ]
-
--- groups under their paths, without those in which no item passes the test
-module _ {A F : Type 0} (T : F → String A → List Item → Bool → List Item → F → Type 0) (test : Item → Bool) (f : F)
-    (says : (k : String A) (v : List Item) (b : Bool) (w : List Item) (g : F) → T f k v b w g → (b ≡ not (length (filter test v) == 0)) × (w ≡ filter test v) × (g ≡ f)) where
-  pub texts_retained : (es left : List (String A × List Item)) → RetainsPairs T f es left → texts_of left ≡ filter_paths test (texts_of es)
-  texts_retained es left h = ap texts_of (changed_retained T (filter test) (λ xs. not (length xs == 0)) f says es left h) ∙ texts_filtered es
-    where
-      -- an entry remains if its group is kept
-      one_stays : (k : String A) (xs : List Item) (es : List (String A × List Item)) (ps : ItemPaths) → texts_of es ≡ ps → texts_of (cond (not (length xs == 0)) ((k, xs) ∷ es) es) ≡ unless_empty (string_bytes k) xs ps
-      one_stays k [] es ps same = same
-      one_stays k (x ∷ xs) es ps same = rw (some_is x xs) (ap (λ qs. (string_bytes k, x ∷ xs) ∷ qs) same)
-
-      -- the remaining entries have the kept groups
-      texts_filtered : (es : List (String A × List Item)) → texts_of (filter (λ e. not (length e.1 == 0)) (map (λ e. (e.0, filter test e.1)) es)) ≡ filter_paths test (texts_of es)
-      texts_filtered [] = refl
-      texts_filtered (e ∷ es) =
-          one_stays e.0 (filter test e.1) (filter (λ e. not (length e.1 == 0)) (map (λ e. (e.0, filter test e.1)) es)) (filter_paths test (texts_of es)) (texts_filtered es)
-          ∙ sym (passing_kept test (string_bytes e.0, e.1) (texts_of es))

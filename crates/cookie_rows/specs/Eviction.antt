@@ -11,7 +11,7 @@ use Rattle.cookie_laws.specs.Rows.{Key, is_unexpired, key_of}
 use Rattle.cookie_laws.specs.SecureLast.{evicted_secure_last, is_full_of_secure}
 use Rattle.cookie_rows.specs.declared.eviction_order.EvictionOrder.{EvictionOrder}
 use Rattle.cookie_rows.specs.declared.eviction_order.EvictionOrder.TheVariants.{ExpiredFirst, SecureLast}
-use Rattle.cookie_rows.specs.Groups.{put_at}
+use Rattle.cookie_rows.specs.GroupChanges.{put_at}
 use Rattle.cookie_rows.specs.Items.{Item, ItemGroups, ItemPaths, put_item_paths, put_items}
 
 -- the keys whose rows are evicted for a new row of this key
@@ -123,12 +123,12 @@ insert_in_domains test row number groups =
     moved_to_end_if is_single_paths (domain_text row.domain) (put_at (insert_in_paths test row number) (domain_text row.domain) groups)
 
 -- the groups of a domain after a new row is inserted: either there was room, or rows were evicted
--- (`left`)
+-- (`has_evicted`)
 abbrev pub InsertsInPaths : ℕ → EvictionOrder → Moment → Row → ℕ → ItemPaths → ItemPaths → Bool → Type 0
-InsertsInPaths limit order now row number old new left =
-    ((length (ranks_of order now old) < limit) × (new ≡ put_item_paths row number old) × (left ≡ false))
+InsertsInPaths limit order now row number old new has_evicted =
+    ((length (ranks_of order now old) < limit) × (new ≡ put_item_paths row number old) × (has_evicted ≡ false))
     ⊎ ((first : EvictionRank) × IsFirstSurvivor limit order now (class_of order now row, number) old first
-    × (limit ≤ length (ranks_of order now old)) × (new ≡ insert_in_paths (survives order now first) row number old) × (left ≡ true))
+    × (limit ≤ length (ranks_of order now old)) × (new ≡ insert_in_paths (survives order now first) row number old) × (has_evicted ≡ true))
 
 -- all groups after a new row is inserted: either its domain had room, or rows of the domain were
 -- evicted

@@ -5,7 +5,7 @@ use Rattle.cookie_parts.specs.Cookie.{Row, expired_row}
 use Rattle.cookie_parts.specs.Domain.{domain_text}
 use Rattle.cookie_laws.specs.Rows.{Key, RowsInOrder, are_rows, changed, differ, key_at, removed}
 use Rattle.cookie_lookup.specs.Groups.{AreGroups, DomainGroups, PathGroups, flat}
-use Rattle.cookie_rows.specs.Groups.{changed_at, found, is_named, lessened_at, put_at, row_named}
+use Rattle.cookie_rows.specs.GroupChanges.{changed_at, found, is_named, lessened_at, put_at, row_named}
 
 -- a row and its number; rows created later have greater numbers
 pub record Item : Type 0 where

@@ -1,10 +1,11 @@
 pub mod Building
-pub mod Groups
+pub mod GroupChanges
 pub mod Hashing
 pub mod HeaderItems
 pub mod Items
 pub mod NameMaps
 pub mod PathMaps
-pub mod Requests
+pub mod RequestCookies
 pub mod SecureKeys
 pub mod Eviction
+pub mod Retained

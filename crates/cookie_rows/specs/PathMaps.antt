@@ -1,6 +1,6 @@
 -- The groups of a domain: none, a single one, or a table.
 use Rattle.std.specs.Prelude.{[], ◌∷◌, string_bytes}
-use Rattle.cookie_rows.specs.Groups.{texts_of}
+use Rattle.cookie_rows.specs.GroupChanges.{texts_of}
 use Rattle.cookie_rows.specs.Items.{ItemPaths}
 use Rattle.cookie_rows.specs.declared.paths.PathMap.{PathMap}
 use Rattle.cookie_rows.specs.declared.paths.PathMap.TheVariants as Groups

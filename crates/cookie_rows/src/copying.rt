@@ -1,6 +1,6 @@
 //! Copies of maps with another hash key.
 ghost use Rattle.std.specs.Prelude.{◌≡◌, ◌≢◌, [], IfOk, OnErr};
-ghost use Rattle.cookie_rows.specs.Groups.{texts_of};
+ghost use Rattle.cookie_rows.specs.GroupChanges.{texts_of};
 
 use crate::hashing::HashKey;
 use indexmap::IndexMap;

@@ -4,9 +4,10 @@ ghost use Rattle.std.specs.Option.{option_copied};
 ghost use Rattle.cookie_words.specs.Moments.{moment_of};
 ghost use Rattle.cookie_parts.specs.Domain.{domain_text};
 ghost use Rattle.cookie_laws.specs.Rows.{key_at, key_of};
-ghost use Rattle.cookie_rows.specs.Groups.{changed_at, is_empty_at, texts_of};
+ghost use Rattle.cookie_rows.specs.GroupChanges.{changed_at, is_empty_at, texts_of};
 ghost use Rattle.cookie_rows.specs.Items.{expire_items, find_items, put_item_paths, put_items, remove_item_paths, remove_items};
-ghost use Rattle.cookie_rows.specs.Eviction.{is_single_paths, filter_paths, filter_groups, moved_to_end_if, survives, InsertsInDomains};
+ghost use Rattle.cookie_rows.specs.Eviction.{is_single_paths, moved_to_end_if, InsertsInDomains};
+ghost use Rattle.cookie_rows.specs.Retained.{RetainsDomains, RetainsPaths, ReturnsFor};
 
 use crate::boxed::BoxedCookie;
 use crate::eviction_order::EvictionOrder;
@@ -118,11 +119,11 @@ pub(crate) fn insert_row_within_limit(
     let alloc = *groups.allocator();
     let hash_key = *groups.hasher();
     let domain = String::from_str(alloc, row.cookie().domain.as_str())?;
-    let left = match groups.get_mut(domain.as_str()) {
+    let has_evicted = match groups.get_mut(domain.as_str()) {
         Some(group) => group.insert_within_limit(alloc, hash_key, row, limit, order, now)?,
         None => return add_row(groups, row),
     };
-    if left {
+    if has_evicted {
         move_domain_to_end(groups, domain.as_str());
     }
     Ok(())
@@ -188,16 +189,20 @@ pub(crate) fn remove_row(
     row
 }
 
-// Keeps the rows that have not expired at `now`, and drops empty groups. An expired row is one that
-// comes before (1, 0) in eviction order.
-pub(crate) fn retain_groups(groups: &mut IndexMap<String, Paths, HashKey>, now: DateTime)
-    ensures { texts_of groups.new.entries ≡ filter_groups (survives EvictionOrder.ExpiredFirst (moment_of now) (1, 0)) (texts_of groups.old.entries) }
+// Keeps the rows for which `keep` returns true, and drops empty groups.
+pub(crate) fn retain_groups<F: Fn(&Cookie<'_>, u64) -> bool>(
+    groups: &mut IndexMap<String, Paths, HashKey>,
+    keep: &F,
+)
+    requires { F.IsAlwaysCallable keep.now }
+    ensures { RetainsDomains (ReturnsFor (F.post keep.now)) (texts_of groups.old.entries) (texts_of groups.new.entries) }
 {
     groups.retain(
-        |_domain: &String, group: &mut Paths| -> bool
-            ensures { (group.new ≡ filter_paths (survives EvictionOrder.ExpiredFirst (moment_of now) (1, 0)) group.old) × (result ≡ not (length group.new == 0)) }
+        move |_domain: &String, group: &mut Paths| -> bool
+            requires { F.IsAlwaysCallable keep.now }
+            ensures { (RetainsPaths (ReturnsFor (F.post keep.entry.now)) group.old group.new) × (result ≡ not (length group.new == 0)) }
         {
-            group.retain((1, 0), EvictionOrder::ExpiredFirst, now);
+            group.retain(keep);
             !group.is_empty()
         },
     );

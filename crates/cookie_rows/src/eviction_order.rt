@@ -6,19 +6,19 @@ ghost use Rattle.cookie_rows.specs.Eviction.{class_of};
 use cookie_parts::Cookie;
 use jiff::civil::DateTime;
 
-/// The order in which rows are evicted so that their domain keeps within its limit.
-#[derive(Clone, Copy, Debug)]
+/// The order in which cookies are evicted so that their domain keeps within its limit.
+#[derive(Clone, Copy, Debug, PartialEq, Eq)]
 pub enum EvictionOrder {
-    /// Expired rows first, then the others, both in creation order, RFC 6265 5.3.
+    /// Expired cookies first, then the others, both in creation order, RFC 6265 5.3.
     ExpiredFirst,
-    /// Expired rows first, then those that are not Secure, then the Secure ones, each in creation
+    /// Expired cookies first, then those that are not Secure, then the Secure ones, each in creation
     /// order, draft-ietf-httpbis-rfc6265bis 5.7.
     SecureLast,
 }
 
 impl EvictionOrder {
     // Returns the class of a row: rows of lower classes are evicted first.
-    pub(crate) fn class_of(self, cookie: &Cookie<'static>, now: DateTime) -> u8
+    pub(crate) fn class_of(self, cookie: &Cookie<'_>, now: DateTime) -> u8
         ensures { result ≡ class_of self (moment_of now) cookie.now }
     {
         if cookie.is_expired(now) {

@@ -7,7 +7,7 @@ ghost use Rattle.cookie_laws.specs.Contents.{contents_of};
 ghost use Rattle.cookie_laws.specs.Given.{given};
 ghost use Rattle.cookie_laws.specs.Header.{InHeaderOrder};
 ghost use Rattle.cookie_lookup.specs.Groups.{flat};
-ghost use Rattle.cookie_rows.specs.Groups.{texts_of};
+ghost use Rattle.cookie_rows.specs.GroupChanges.{texts_of};
 ghost use Rattle.cookie_rows.specs.HeaderItems.{item_order, items_at};
 ghost use Rattle.cookie_rows.specs.Items.{bare, groups_in_order, AreItems};
 

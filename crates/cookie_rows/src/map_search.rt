@@ -7,7 +7,7 @@ ghost use Rattle.cookie_laws.specs.Given.{given};
 ghost use Rattle.cookie_lookup.specs.Groups.{flat, AreGroups};
 ghost use Rattle.cookie_lookup.specs.SearchView.{domains_found, given_positions, how_many_found, how_many_pairs_found, paths_found, rows_at, under};
 ghost use Rattle.cookie_lookup.specs.Candidates.{url_candidate_domains, most_domains, most_paths, candidate_paths};
-ghost use Rattle.cookie_rows.specs.Groups.{texts_of};
+ghost use Rattle.cookie_rows.specs.GroupChanges.{texts_of};
 ghost use Rattle.cookie_rows.specs.Items.{bare, rows_of};
 
 use crate::boxed::BoxedCookie;

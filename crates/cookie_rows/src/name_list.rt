@@ -1,20 +1,17 @@
 //! The rows of one domain and path, in a list.
-ghost use Rattle.std.specs.Prelude.{◌≡◌, ◌≢◌, [], ◌≤◌, ◌<◌, ℕ, IsTrue, IfOk, IfSome, None, OnErr, OnOk, filter, length, map, position, string_bytes};
+ghost use Rattle.std.specs.Prelude.{◌≡◌, ◌≢◌, [], ◌≤◌, ◌<◌, ℕ, IsTrue, IfOk, IfSome, None, OnErr, OnOk, length, map, position, string_bytes};
 ghost use Rattle.std.specs.Option.{option_copied};
 ghost use Rattle.std.specs.Map.{values_of};
 ghost use Rattle.indexmap.specs.IndexMap.{spare};
-ghost use Rattle.cookie_words.specs.Moments.{moment_of};
-ghost use Rattle.cookie_rows.specs.Groups.{row_named};
+ghost use Rattle.cookie_rows.specs.GroupChanges.{row_named};
 ghost use Rattle.cookie_rows.specs.Items.{AreNamed, expire_item, is_item_named, put_item, remove_item, rows_of};
 ghost use Rattle.cookie_rows.specs.NameMaps.{names_differ, names_in};
-ghost use Rattle.cookie_rows.specs.Eviction.{survives};
+ghost use Rattle.cookie_rows.specs.Retained.{RetainsItems, ReturnsFor};
 
 use crate::boxed::BoxedCookie;
-use crate::eviction_order::EvictionOrder;
 use crate::hashing::HashKey;
 use cookie_parts::Cookie;
 use indexmap::IndexMap;
-use jiff::civil::DateTime;
 use std::alloc::{AllocError, Global};
 
 /// The most rows of a list. To search 32 rows takes about as long as a lookup in a table, which has a
@@ -87,21 +84,18 @@ pub(crate) fn remove_among(rows: &mut Vec<BoxedCookie>, name: &str) -> Option<Co
     }
 }
 
-// Keeps the rows that do not come before `first` in eviction order.
-pub(crate) fn retain_among(
-    rows: &mut Vec<BoxedCookie>,
-    first: (u8, u64),
-    order: EvictionOrder,
-    now: DateTime,
-)
-    requires { IsTrue (names_differ rows.old.items) }
-    ensures retained { rows.new.items ≡ filter (survives order (moment_of now) first) rows.old.items }
+// Keeps the rows for which `keep` returns true.
+pub(crate) fn retain_among<F: Fn(&Cookie<'_>, u64) -> bool>(rows: &mut Vec<BoxedCookie>, keep: &F)
+    requires callable { F.IsAlwaysCallable keep.now }
+    requires differ { IsTrue (names_differ rows.old.items) }
+    ensures retained { RetainsItems (ReturnsFor (F.post keep.now)) rows.old.items rows.new.items }
     ensures differ { IsTrue (names_differ rows.new.items) }
 {
     rows.retain(
-        |row: &BoxedCookie| -> bool
-            ensures { result ≡ survives order (moment_of now) first row.now }
-        { row.rank(order, now) >= first },
+        move |row: &BoxedCookie| -> bool
+            requires { F.IsAlwaysCallable keep.now }
+            ensures { ReturnsFor (F.post keep.entry.now) row.now result }
+        { keep(row.cookie(), row.number()) },
     );
 }
 

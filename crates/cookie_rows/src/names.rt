@@ -1,16 +1,14 @@
 //! The rows of one domain and path, by name.
-ghost use Rattle.std.specs.Prelude.{◌≡◌, ◌≢◌, ◌<◌, ◌+◌, ◌^◌, ◌∷◌, [], ◌==◌, ℕ, filter, length, option_map, slice_get, None, IfOk, IfSome, OnErr, OnOk, ◌≤◌, List, IsTrue, vec_capacity};
+ghost use Rattle.std.specs.Prelude.{◌≡◌, ◌≢◌, ◌<◌, ◌+◌, ◌^◌, ◌∷◌, [], ◌==◌, ℕ, length, option_map, slice_get, None, IfOk, IfSome, OnErr, OnOk, ◌≤◌, List, IsTrue, vec_capacity};
 ghost use Rattle.std.specs.Map.{values_of};
 ghost use Rattle.std.specs.Option.{option_copied};
-ghost use Rattle.cookie_words.specs.Moments.{moment_of};
-ghost use Rattle.cookie_rows.specs.Groups.{row_named};
+ghost use Rattle.cookie_rows.specs.GroupChanges.{row_named};
 ghost use Rattle.cookie_rows.specs.Items.{AreNamed, expire_item, put_item, remove_item, rows_of, Item};
 ghost use Rattle.cookie_rows.specs.NameMaps.{items_of, names_differ, HasNames};
-ghost use Rattle.cookie_rows.specs.Eviction.{survives};
+ghost use Rattle.cookie_rows.specs.Retained.{RetainsItems, ReturnsFor};
 
 use crate::boxed::BoxedCookie;
 use crate::copying::{Rehash, rehashed_table};
-use crate::eviction_order::EvictionOrder;
 use crate::hashing::HashKey;
 use crate::name_list::{
     MOST_LISTED, expire_among, fill_table, push_row, remove_among, replace_among, retain_among,
@@ -18,7 +16,6 @@ use crate::name_list::{
 };
 use cookie_parts::Cookie;
 use indexmap::IndexMap;
-use jiff::civil::DateTime;
 use std::alloc::{AllocError, Global};
 use std::marker::Model;
 use std::{mem, slice};
@@ -140,11 +137,12 @@ impl Names {
         outcome
     }
 
-    // Keeps the rows that do not come before `first` in eviction order.
-    pub(crate) fn retain(&mut self, first: (u8, u64), order: EvictionOrder, now: DateTime)
-        ensures { self.new ≡ filter (survives order (moment_of now) first) self.old }
+    // Keeps the rows for which `keep` returns true.
+    pub(crate) fn retain<F: Fn(&Cookie<'_>, u64) -> bool>(&mut self, keep: &F)
+        requires { F.IsAlwaysCallable keep.now }
+        ensures { RetainsItems (ReturnsFor (F.post keep.now)) self.old self.new }
     {
-        retain_rows(&mut self.rows, first, order, now);
+        retain_rows(&mut self.rows, keep);
     }
 
     // Expires the row of this name.
@@ -347,39 +345,40 @@ fn add_in(
     Ok(())
 }
 
-// Keeps the rows that do not come before `first` in eviction order.
-fn retain_rows(rows: &mut NameMap, first: (u8, u64), order: EvictionOrder, now: DateTime)
+// Keeps the rows for which `keep` returns true.
+fn retain_rows<F: Fn(&Cookie<'_>, u64) -> bool>(rows: &mut NameMap, keep: &F)
+    requires callable { F.IsAlwaysCallable keep.now }
     requires named { HasNames rows.old }
-    ensures retained { items_of rows.new ≡ filter (survives order (moment_of now) first) (items_of rows.old) }
+    ensures retained { RetainsItems (ReturnsFor (F.post keep.now)) (items_of rows.old) (items_of rows.new) }
     ensures named { HasNames rows.new }
 {
     match rows {
         NameMap::Empty => {}
         NameMap::Single(row) => {
-            if row.rank(order, now) < first {
+            if !keep(row.cookie(), row.number()) {
                 *rows = NameMap::Empty;
             }
         }
-        NameMap::List(rows) => retain_among(rows.as_mut(), first, order, now),
-        NameMap::Table(rows) => retain_in(rows.as_mut(), first, order, now),
+        NameMap::List(rows) => retain_among(rows.as_mut(), keep),
+        NameMap::Table(rows) => retain_in(rows.as_mut(), keep),
     }
 }
 
-// Keeps the rows of a table that do not come before `first` in eviction order.
-fn retain_in(
+// Keeps the rows of a table for which `keep` returns true.
+fn retain_in<F: Fn(&Cookie<'_>, u64) -> bool>(
     rows: &mut IndexMap<String, BoxedCookie, HashKey>,
-    first: (u8, u64),
-    order: EvictionOrder,
-    now: DateTime,
+    keep: &F,
 )
+    requires callable { F.IsAlwaysCallable keep.now }
     requires named { AreNamed rows.old.entries }
-    ensures retained { values_of rows.new.entries ≡ filter (survives order (moment_of now) first) (values_of rows.old.entries) }
+    ensures retained { RetainsItems (ReturnsFor (F.post keep.now)) (values_of rows.old.entries) (values_of rows.new.entries) }
     ensures named { AreNamed rows.new.entries }
 {
     rows.retain(
-        |_name: &String, row: &mut BoxedCookie| -> bool
-            ensures { (result ≡ survives order (moment_of now) first row.old) × (row.new ≡ row.old) }
-        { row.rank(order, now) >= first },
+        move |_name: &String, row: &mut BoxedCookie| -> bool
+            requires { F.IsAlwaysCallable keep.now }
+            ensures { (ReturnsFor (F.post keep.entry.now) row.old result) × (row.new ≡ row.old) }
+        { keep(row.cookie(), row.number()) },
     );
 }
 

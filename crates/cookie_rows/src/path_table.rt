@@ -1,18 +1,16 @@
 //! The groups of one domain in a table, by path.
-ghost use Rattle.std.specs.Prelude.{◌≡◌, ◌==◌, ◌<◌, filter, length, map, not, option_map, slice_get, None, IfSome, OnErr, OnOk, ℕ, false, ◌≢◌};
-ghost use Rattle.cookie_words.specs.Moments.{moment_of};
+ghost use Rattle.std.specs.Prelude.{◌≡◌, ◌==◌, ◌<◌, length, map, not, option_map, slice_get, None, IfSome, OnErr, OnOk, ℕ, false, ◌≢◌};
 ghost use Rattle.cookie_lookup.specs.SearchView.{group_position, under};
-ghost use Rattle.cookie_rows.specs.Groups.{changed_at, is_empty_at, texts_of};
+ghost use Rattle.cookie_rows.specs.GroupChanges.{changed_at, is_empty_at, texts_of};
 ghost use Rattle.cookie_rows.specs.Items.{expire_item_paths, find_item_paths, put_item_paths, remove_item, remove_item_paths};
-ghost use Rattle.cookie_rows.specs.Eviction.{is_single, filter_paths, moved_to_end_if, survives};
+ghost use Rattle.cookie_rows.specs.Eviction.{is_single, moved_to_end_if};
+ghost use Rattle.cookie_rows.specs.Retained.{RetainsItems, RetainsPaths, ReturnsFor};
 
 use crate::boxed::BoxedCookie;
-use crate::eviction_order::EvictionOrder;
 use crate::hashing::HashKey;
 use crate::names::Names;
 use cookie_parts::Cookie;
 use indexmap::IndexMap;
-use jiff::civil::DateTime;
 use std::alloc::{AllocError, Global};
 
 // Returns the group of this path in a table, and its position.
@@ -71,21 +69,20 @@ pub(crate) fn add_in(
     }
 }
 
-// Keeps the rows of a table that do not come before `first` in eviction order, and drops empty
-// groups.
-pub(crate) fn retain_in(
+// Keeps the rows of a table for which `keep` returns true, and drops empty groups.
+pub(crate) fn retain_in<F: Fn(&Cookie<'_>, u64) -> bool>(
     groups: &mut IndexMap<String, Names, HashKey>,
-    first: (u8, u64),
-    order: EvictionOrder,
-    now: DateTime,
+    keep: &F,
 )
-    ensures { texts_of groups.new.entries ≡ filter_paths (survives order (moment_of now) first) (texts_of groups.old.entries) }
+    requires { F.IsAlwaysCallable keep.now }
+    ensures { RetainsPaths (ReturnsFor (F.post keep.now)) (texts_of groups.old.entries) (texts_of groups.new.entries) }
 {
     groups.retain(
-        |_path: &String, names: &mut Names| -> bool
-            ensures { (names.new ≡ filter (survives order (moment_of now) first) names.old) × (result ≡ not (length names.new == 0)) }
+        move |_path: &String, names: &mut Names| -> bool
+            requires { F.IsAlwaysCallable keep.now }
+            ensures { (RetainsItems (ReturnsFor (F.post keep.entry.now)) names.old names.new) × (result ≡ not (length names.new == 0)) }
         {
-            names.retain(first, order, now);
+            names.retain(keep);
             !names.is_empty()
         },
     );

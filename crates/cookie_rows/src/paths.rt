@@ -9,6 +9,7 @@ ghost use Rattle.cookie_rows.specs.PathMaps.{groups_of};
 ghost use Rattle.cookie_rows.specs.HeaderItems.{items_in};
 ghost use Rattle.cookie_rows.specs.Items.{expire_item_paths, find_item_paths, put_item_paths, remove_item_paths, ItemPaths};
 ghost use Rattle.cookie_rows.specs.Eviction.{is_single, is_single_paths, filter_paths, moved_to_end_if, survives, rank_of, ranks_of, InsertsInPaths, IsFirstSurvivor};
+ghost use Rattle.cookie_rows.specs.Retained.{RetainsPaths, ReturnsFor};
 
 use crate::boxed::{BoxedCookie, push_ranks};
 use crate::copying::{Rehash, rehashed_table};
@@ -205,7 +206,7 @@ impl Paths {
     ) -> Result<bool, AllocError>
         requires limit { 0 < limit }
         requires new { find_item_paths row.row.path.text row.row.raw.name self.old ≡ None }
-        ensures inserted { IfOk result (λ left. InsertsInPaths limit order (moment_of now) row.row row.number self.old self.new left) }
+        ensures inserted { IfOk result (λ has_evicted. InsertsInPaths limit order (moment_of now) row.row row.number self.old self.new has_evicted) }
         ensures unchanged { OnErr result (self.new ≡ self.old) }
     {
         let Some(first) = self.first_survivor(alloc, &row, limit, order, now)? else {
@@ -214,7 +215,7 @@ impl Paths {
         };
         let path = String::from_str(alloc, row.cookie().path.as_str())?;
         self.add(alloc, hash_key, row)?;
-        self.retain(first, order, now);
+        self.evict_before(first, order, now);
         move_path_to_end(&mut self.groups, path.as_str());
         Ok(true)
     }
@@ -261,11 +262,31 @@ impl Paths {
         Ok(ranks)
     }
 
+    // Keeps the rows for which `keep` returns true, and drops empty groups.
+    pub(crate) fn retain<F: Fn(&Cookie<'_>, u64) -> bool>(&mut self, keep: &F)
+        requires { F.IsAlwaysCallable keep.now }
+        ensures { RetainsPaths (ReturnsFor (F.post keep.now)) self.old self.new }
+    {
+        match &mut self.groups {
+            PathMap::Empty => {}
+            PathMap::Single(_, names) => {
+                names.retain(keep);
+                if names.is_empty() {
+                    self.groups = PathMap::Empty;
+                }
+            }
+            PathMap::Table(groups) => retain_in(groups.as_mut(), keep),
+        }
+    }
+
     // Keeps the rows that do not come before `first` in eviction order, and drops empty groups.
-    pub(crate) fn retain(&mut self, first: (u8, u64), order: EvictionOrder, now: DateTime)
+    fn evict_before(&mut self, first: (u8, u64), order: EvictionOrder, now: DateTime)
         ensures { self.new ≡ filter_paths (survives order (moment_of now) first) self.old }
     {
-        retain_paths(&mut self.groups, first, order, now);
+        let keep = move |cookie: &Cookie<'_>, number: u64| -> bool
+            ensures { result ≡ survives order (moment_of now) first (record { row = cookie.now; number = number }) }
+        { (order.class_of(cookie, now), number) >= first };
+        self.retain(&keep);
     }
 
     // Whether there is exactly one row.
@@ -358,8 +379,7 @@ fn with_row(
     }
 }
 
-// Adds the row, which has another path, after a single group. Returns that group alone if out of
-// memory.
+// Adds the row, of another path, after a single group. Returns that group alone if out of memory.
 fn with_second(
     first: String,
     names: Names,
@@ -394,7 +414,7 @@ fn table_for(
 
 // Returns a table of a group, and of a second one with a single row.
 fn pair(
-    table: Box<IndexMap<String, Names, HashKey>>,
+    mut table: Box<IndexMap<String, Names, HashKey>>,
     first: String,
     names: Names,
     path: String,
@@ -405,26 +425,9 @@ fn pair(
     requires differ { string_eq path first ≡ false }
     ensures { groups_of result ≡ (string_bytes first, names) ∷ (string_bytes path, row ∷ []) ∷ [] }
 {
-    let mut table = table;
     table.insert(first, names).unwrap();
     table.insert(path, Names::of_one(row)).unwrap();
     PathMap::Table(table)
-}
-
-// Keeps the rows that do not come before `first` in eviction order, and drops empty groups.
-fn retain_paths(groups: &mut PathMap, first: (u8, u64), order: EvictionOrder, now: DateTime)
-    ensures { groups_of groups.new ≡ filter_paths (survives order (moment_of now) first) (groups_of groups.old) }
-{
-    match groups {
-        PathMap::Empty => {}
-        PathMap::Single(_, names) => {
-            names.retain(first, order, now);
-            if names.is_empty() {
-                *groups = PathMap::Empty;
-            }
-        }
-        PathMap::Table(groups) => retain_in(groups.as_mut(), first, order, now),
-    }
 }
 
 // Moves the group of this path to the end, if it has a single row.
@@ -476,7 +479,7 @@ fn without_row(groups: PathMap, path: &str, name: &str) -> (PathMap, Option<Cook
 // Removes the row from a single group, and the group if it was its last row.
 fn without_named(
     own: String,
-    names: Names,
+    mut names: Names,
     path: &str,
     name: &str,
 ) -> (PathMap, Option<Cookie<'static>>)
@@ -486,7 +489,6 @@ fn without_named(
     if own.as_str() != path {
         return (PathMap::Single(own, names), None);
     }
-    let mut names = names;
     let row = names.remove(name);
     if names.is_empty() {
         (PathMap::Empty, row)

@@ -1,6 +1,6 @@
 //! Iterators over the cookies of a request.
 ghost use Rattle.std.specs.Prelude.{◌≡◌, map, ℕ, List};
-ghost use Rattle.cookie_rows.specs.Requests.{name_and_value};
+ghost use Rattle.cookie_rows.specs.RequestCookies.{name_and_value};
 ghost use Rattle.std.specs.Vec.Iter.{into_iter_items};
 ghost use Rattle.cookie_raw.specs.Raw.{Raw};
 
@@ -36,7 +36,7 @@ impl<'a> Iterator for RequestValues<'a> {
     type Item = (&'a str, &'a str);
 
     ghost use Rattle.std.specs.Iterator.{YieldsFirstBy, item_count};
-    ghost use Rattle.cookie_rows.specs.Requests.{borrowed_pair};
+    ghost use Rattle.cookie_rows.specs.RequestCookies.{borrowed_pair};
 
     ghost next_gives = { YieldsFirstBy borrowed_pair (λ pairs. pairs) };
 

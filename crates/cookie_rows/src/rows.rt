@@ -1,20 +1,21 @@
 //! The rows of a store, as one list.
-ghost use Rattle.std.specs.Prelude.{◌≡◌, ◌≢◌, ◌≤◌, ◌<◌, false, ◌+◌, ◌*◌, [], ◌∷◌, length, map, IfErr, IfOk, IfSome, IsTrue, None, OnErr, OnOk, Some, ◌⊎◌};
+ghost use Rattle.std.specs.Prelude.{◌≡◌, ◌≢◌, ◌≤◌, ◌<◌, false, ◌+◌, ◌*◌, [], ◌∷◌, Bool, length, map, IfErr, IfOk, IfSome, IsTrue, None, OnErr, OnOk, Some, ◌⊎◌};
+ghost use Rattle.std.specs.Fn.{FnReturnsAt};
 ghost use Rattle.std.specs.Iterator.{IsFinite};
 ghost use Rattle.std.specs.Option.{option_copied};
 ghost use Rattle.cookie_words.specs.Moments.{moment_of};
-ghost use Rattle.cookie_parts.specs.Cookie.{expired_row, is_expired};
-ghost use Rattle.cookie_laws.specs.Contents.{contents_of, rows_in_order, unexpired, HasCreationOrder};
+ghost use Rattle.cookie_parts.specs.Cookie.{expired_row, is_expired, Row};
+ghost use Rattle.cookie_laws.specs.Contents.{contents_of, retained, rows_in_order, unexpired, HasCreationOrder, ReturnsTest};
 ghost use Rattle.cookie_laws.specs.Given.{given};
 ghost use Rattle.cookie_laws.specs.Header.{InHeaderOrder};
-ghost use Rattle.cookie_laws.specs.Rows.{are_rows, changed, has_key, included, key_at, key_of, unexpired_rows, add_created, add_all_created, put, put_all, removed, row_of, same_key, RowsInOrder};
+ghost use Rattle.cookie_laws.specs.Rows.{are_rows, changed, has_key, included, is_unexpired, key_at, key_of, unexpired_rows, add_created, add_all_created, put, put_all, removed, row_of, same_key, RowsInOrder};
 ghost use Rattle.cookie_laws.specs.SecureLast.{is_full_of_secure};
 ghost use Rattle.cookie_lookup.specs.SearchView.{domains_found, paths_found};
 ghost use Rattle.cookie_lookup.specs.Candidates.{most_domains, most_paths};
 ghost use Rattle.cookie_rows.specs.Building.{Builds, BuildsAt, FailsFirst, FailsFirstAt, IsNewRow, TakesCookie, ReachesNewRow, ReachesNewRowAt};
 ghost use Rattle.cookie_rows.specs.Eviction.{with_inserted, HasRoom};
-ghost use Rattle.cookie_rows.specs.Groups.{texts_of};
-ghost use Rattle.cookie_rows.specs.Requests.{name_and_value};
+ghost use Rattle.cookie_rows.specs.GroupChanges.{texts_of};
+ghost use Rattle.cookie_rows.specs.RequestCookies.{name_and_value};
 ghost use Rattle.cookie_rows.specs.Items.{AreItems, groups_in_order};
 
 use crate::boxed::BoxedCookie;
@@ -394,8 +395,25 @@ impl Rows {
         ensures removed { result + length self.new.rows ≡ length self.old.rows }
     {
         let before = self.len();
-        retain_groups(&mut self.groups, now);
+        let keep = move |cookie: &Cookie<'_>, _number: u64| -> bool
+            ensures { result ≡ is_unexpired (moment_of now) cookie.now }
+        { !cookie.is_expired(now) };
+        retain_groups(&mut self.groups, &keep);
         before - self.len()
+    }
+
+    /// Keeps the rows for which `keep` returns true, in order and in creation order, and removes the
+    /// others. Calls `keep` once for each row. Allocates nothing.
+    pub fn retain<F: Fn(&Cookie<'_>) -> bool>(&mut self, keep: F)
+        requires { F.IsAlwaysCallable keep }
+        ensures { (test : Row → Bool) → ReturnsTest (FnReturnsAt F.Fn keep) test
+            → self.new ≡ rows_in_order (retained test (contents_of self.old None None)) }
+    {
+        let keep_row = move |cookie: &Cookie<'_>, _number: u64| -> bool
+            requires { F.IsAlwaysCallable keep }
+            ensures { FnReturnsAt F.Fn keep cookie.now result }
+        { keep(&*cookie) };
+        retain_groups(&mut self.groups, &keep_row);
     }
 
     /// Returns how many rows there are.

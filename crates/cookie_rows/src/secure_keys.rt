@@ -1,7 +1,7 @@
 //! The keys of Secure rows, by name.
 ghost use Rattle.std.specs.Prelude.{◌≡◌, ◌∷◌, ◌++◌, ◌||◌, [], IfOk, OnErr, OnOk};
 ghost use Rattle.cookie_laws.specs.Rows.{key_of, same_key, Key};
-ghost use Rattle.cookie_rows.specs.Groups.{put_at, texts_of};
+ghost use Rattle.cookie_rows.specs.GroupChanges.{put_at, texts_of};
 ghost use Rattle.cookie_rows.specs.SecureKeys.{lists_key, scope_of, scopes_named};
 
 use crate::hashing::{HashKey, StoreAlloc};
@@ -101,7 +101,7 @@ pub struct SecureKeys {
 }
 
 impl Model for SecureKeys {
-    ghost use Rattle.cookie_rows.specs.Groups.{texts_of};
+    ghost use Rattle.cookie_rows.specs.GroupChanges.{texts_of};
     ghost use Rattle.cookie_rows.specs.SecureKeys.{NamedScopes};
 
     ghost Value = { NamedScopes };

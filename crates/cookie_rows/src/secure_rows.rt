@@ -2,7 +2,7 @@
 ghost use Rattle.std.specs.Prelude.{◌≡◌, ◌≤◌, filter, length, nat_le};
 ghost use Rattle.cookie_words.specs.Moments.{moment_of};
 ghost use Rattle.cookie_rows.specs.Eviction.{count_secure, is_secure_item, paths_of};
-ghost use Rattle.cookie_rows.specs.Groups.{texts_of};
+ghost use Rattle.cookie_rows.specs.GroupChanges.{texts_of};
 
 use crate::boxed::BoxedCookie;
 use crate::hashing::HashKey;

@@ -7,7 +7,7 @@ use Rattle.cookie_parts.specs.Cookie.{Row}
 use Rattle.cookie_parts.specs.SavedConversion.{saved_of}
 use Rattle.cookie_parts.specs.declared.error.Error.{Error}
 use Rattle.cookie_parts.specs.declared.error.Error.TheVariants as Store
-use Rattle.cookie_store.specs.Lists.{FailsToSaveList}
+use Rattle.cookie_store.specs.SavedLists.{FailsToSaveList}
 use Rattle.cookie_store.specs.Migration.{HaveSavedForms, Migrates}
 use Rattle.cookie_store.specs.RonLists.{SerializesToRonList}
 use Rattle.cookie_store.specs.Rows.{RowsInOrder}

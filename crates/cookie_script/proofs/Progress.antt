@@ -3,7 +3,7 @@ use Rattle.std.proofs.Common.{◌≡◌, ◌≢◌, ℕ, ◌+◌, cond, eqb, ne_
 use Rattle.std.specs.Io.KnownBytes.{Appends, IsAtEnd, Keeps, prepend_known}
 use Rattle.std.specs.Str.Lines.{lines, lines_of_parts, strip_carriage_return}
 use Rattle.cookie_device.specs.Device.{AppendsPrefix, Sends}
-use Rattle.cookie_device.specs.Lines.{EndsLine, IsLastLine}
+use Rattle.cookie_device.specs.LineBuffers.{EndsLine, IsLastLine}
 use Rattle.cookie_device.proofs.Sending.{nothing_part, nothing_put}
 use Rattle.cookie_store.specs.Contents.{Contents}
 use Rattle.cookie_script.specs.Progress.{AreRead}

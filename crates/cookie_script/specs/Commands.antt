@@ -7,7 +7,7 @@ use Rattle.url.specs.Parts.{Parts}
 use Rattle.cookie_words.specs.Moments.{Moment}
 use Rattle.cookie_parts.specs.Cookie.{early}
 use Rattle.cookie_parts.specs.Hosts.{url_at}
-use Rattle.cookie_raw.specs.Reading.{reading}
+use Rattle.cookie_raw.specs.SetCookie.{reading}
 use Rattle.cookie_forms.specs.MomentText.{parsed_moment}
 use Rattle.cookie_store.specs.Rows.{Key, key_at}
 

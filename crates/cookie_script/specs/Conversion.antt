@@ -6,7 +6,7 @@ use Rattle.std.specs.declared.string.String.{String}
 use Rattle.cookie_device.specs.Device.{AppendsPrefix, SinkState, SourceState}
 use Rattle.cookie_parts.specs.declared.error.Error.{Error}
 use Rattle.cookie_parts.specs.declared.error.Error.TheVariants as Store
-use Rattle.cookie_store.specs.Lists.{WritesList}
+use Rattle.cookie_store.specs.SavedLists.{WritesList}
 use Rattle.cookie_store.specs.Migration.{FailsToMigrate, Migrates}
 use Rattle.cookie_store.specs.RonLists.{SerializesToRonList}
 use Rattle.cookie_store.specs.Rows.{RowsInOrder}

@@ -7,4 +7,4 @@ pub mod LineOutput
 pub mod LineResult
 pub mod Progress
 pub mod Script
-pub mod Suffixes
+pub mod ListFiles

@@ -10,10 +10,10 @@ use Rattle.cookie_script.specs.Script.{outputs, start}
 abbrev pub whole_lines : List ℕ → List ℕ
 whole_lines text = take (length text - suffix_len (λ b. not (b == 10)) text) text
 
--- all of the input except `left` was read, and `first` are the whole lines of what was read
+-- all of the input except `remaining` was read, and `first` are the whole lines of what was read
 abbrev pub AreRead : List ℕ → Option (List ℕ) → List (List ℕ) → Type 0
-AreRead input left first =
-    (read unread : List ℕ) × (left ≡ Some unread) × (input ≡ read ++ unread) × (first ≡ lines (whole_lines read))
+AreRead input remaining first =
+    (read unread : List ℕ) × (remaining ≡ Some unread) × (input ≡ read ++ unread) × (first ≡ lines (whole_lines read))
 
 -- there is a next line, and it may allocate
 abbrev pub NextMayAllocate : List (List ℕ) → Type 0

@@ -1,4 +1,4 @@
-//! Command-line arguments of the program.
+//! The options that the arguments give.
 
 /// The options given by the command-line arguments.
 #[derive(Clone, Copy, Debug, PartialEq, Eq)]

@@ -4,7 +4,7 @@ ghost use Rattle.std.specs.IoError.{error_kind};
 ghost use Rattle.std.specs.Result.{result_map_both};
 ghost use Rattle.std.specs.Str.{is_utf8};
 ghost use Rattle.cookie_script.specs.Errors.{list_file_error, main_error_of_list};
-ghost use Rattle.cookie_script.specs.Suffixes.{list_in_file, ParsesListFile};
+ghost use Rattle.cookie_script.specs.ListFiles.{list_in_file, ParsesListFile};
 
 use crate::error::{MainFault, RunFault};
 use cookie_store::psl::{List, ListError};
@@ -19,7 +19,7 @@ use std::io;
 /// - `CannotReadList`: the bytes are not UTF-8.
 /// - `BadRule`: a line is malformed, with the number of the first one.
 /// - `Run(Memory)`: out of memory. May be returned instead of `BadRule`.
-#[tactic(auto, unfolding(crate::specs::Suffixes::list_in_file))]
+#[tactic(auto, unfolding(crate::specs::ListFiles::list_in_file))]
 pub fn list_of(alloc: Global, bytes: &[u8]) -> Result<List, MainFault>
     ensures value { ParsesListFile result (list_in_file bytes.now) }
     ensures utf8 { is_utf8 bytes.now ≡ false → result ≡ Err MainFault.CannotReadList }

@@ -65,15 +65,15 @@ fn is_out_of_memory(rt: &impl Abort, fault: MainFault) {
 }
 
 // Returns what follows the output of a line.
-fn behind<'a>(text: &'a [u8], answer: &str) -> Option<&'a [u8]> {
-    text.strip_prefix(answer.as_bytes())
+fn behind<'a>(text: &'a [u8], outcome: &str) -> Option<&'a [u8]> {
+    text.strip_prefix(outcome.as_bytes())
 }
 
 // The output is that of some first lines, each whole.
 fn is_of_whole_outputs(rt: &impl Abort, written: &[u8]) {
     let mut rest = written;
-    for answer in &LINE_OUTPUTS {
-        match behind(rest, answer) {
+    for outcome in &LINE_OUTPUTS {
+        match behind(rest, outcome) {
             Some(more) => rest = more,
             None => break,
         }

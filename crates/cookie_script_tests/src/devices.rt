@@ -82,8 +82,8 @@ fn reads_on(
     fails_at: usize,
 ) -> Result<(), Fail> {
     let taken = fails_at.saturating_sub(1).saturating_mul(most);
-    let left = HOSTS.get(taken.min(HOSTS.len())..).unwrap_or(&[]);
-    is_text(rt, fake.inner, left, fails_at);
+    let unread = HOSTS.get(taken.min(HOSTS.len())..).unwrap_or(&[]);
+    is_text(rt, fake.inner, unread, fails_at);
     let wanted = output(alloc, fake.inner, None, None)?;
     let (outcome, written, _) = read_from(alloc, fake);
     has_outcome(rt, outcome, Ok(()), fails_at);

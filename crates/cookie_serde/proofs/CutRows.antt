@@ -13,7 +13,7 @@ use Rattle.cookie_forms.specs.declared.saved.Saved.{Saved}
 use Rattle.cookie_forms.specs.ToJson.{list_written}
 use Rattle.cookie_forms.specs.declared.error.SavedError.{SavedError}
 use Rattle.cookie_raw.specs.CookieText.{cookie_text}
-use Rattle.cookie_raw.specs.Reading.{reading}
+use Rattle.cookie_raw.specs.SetCookie.{reading}
 use Rattle.cookie_parts.specs.Cookie.{Row}
 use Rattle.cookie_parts.specs.Expiry.{Expiry, AtUtc, SessionEnd}
 use Rattle.cookie_parts.specs.declared.error.Error.{Error}

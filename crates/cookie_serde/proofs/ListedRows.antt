@@ -18,7 +18,7 @@ use Rattle.cookie_parts.specs.declared.error.Error.TheVariants.{Io}
 use Rattle.cookie_laws.specs.Rows.{RowsInOrder}
 use Rattle.cookie_serde.specs.declared.which.Which.{Which}
 use Rattle.cookie_serde.specs.SavedForms.{cookies_of_saved}
-use Rattle.cookie_serde.specs.Lists.{BuildsFromList, BuildsFromText, FailsAtText, FailsToLoadList, FailsToSaveList, IsAll, ParsesToCookies, ParsesToVec, RejectsText, WritesList}
+use Rattle.cookie_serde.specs.SavedLists.{BuildsFromList, BuildsFromText, FailsAtText, FailsToLoadList, FailsToSaveList, IsAll, ParsesToCookies, ParsesToVec, RejectsText, WritesList}
 use Rattle.cookie_serde.specs.Saving.{line_text}
 use Rattle.cookie_serde.proofs.SavedLines.{filter_around}
 use Rattle.cookie_core.proofs.Walked.{around}
@@ -41,48 +41,48 @@ some_walked kept all done x left after step so_far passes =
     some_kept kept all (map (λ c. c.now) done) x.now after (around done x left after all step so_far) passes
 
 -- what always holds also holds on an error
-pub on_error : {T E P : Type 0} (answer : Result T E) → P → OnErr answer P
+pub on_error : {T E P : Type 0} (expected : Result T E) → P → OnErr expected P
 on_error (Ok done) holds = tt
 on_error (Err error) holds = holds
 
 module _ (Parses : List ℕ → Result (Vec Row Global) Error → Type 0) where
   -- the cookies that a function returns for a string are those that it may return
-  pub parsed_at_once : (text : List ℕ) (answer : Result (Vec Row Global) Error) → IsTrue (is_utf8 text) → Parses text answer
-      → IfOk answer (λ cookies. ParsesToCookies (ParsesToVec Parses) text cookies.items)
+  pub parsed_at_once : (text : List ℕ) (expected : Result (Vec Row Global) Error) → IsTrue (is_utf8 text) → Parses text expected
+      → IfOk expected (λ cookies. ParsesToCookies (ParsesToVec Parses) text cookies.items)
   parsed_at_once text (Ok cookies) valid answers = (valid, (Ok cookies, answers, refl))
   parsed_at_once text (Err error) valid answers = tt
 
   -- and if it returns an error, the string is rejected
-  pub rejected_at_once : (text : List ℕ) (answer : Result (Vec Row Global) Error) → IsTrue (is_utf8 text) → Parses text answer
-      → IfErr answer (λ error. RejectsText (ParsesToVec Parses) error text)
+  pub rejected_at_once : (text : List ℕ) (expected : Result (Vec Row Global) Error) → IsTrue (is_utf8 text) → Parses text expected
+      → IfErr expected (λ error. RejectsText (ParsesToVec Parses) error text)
   rejected_at_once text (Ok cookies) valid answers = tt
   rejected_at_once text (Err error) valid answers = inr (valid, (Err error, answers, refl))
 
 module _ (Parses : List ℕ → Result (List Row) Error → Type 0) (old : SourceState) (text : List ℕ) (all : IsAll old.remaining text) (valid : IsTrue (is_utf8 text)) where
   -- rows built from all bytes of the source, as a string
-  pub list_built : (which : Which) (answer : Result RowsInOrder Error)
-      → IfOk answer (BuildsFromText Parses text which) → IfOk answer (BuildsFromList Parses old.remaining which)
+  pub list_built : (which : Which) (expected : Result RowsInOrder Error)
+      → IfOk expected (BuildsFromText Parses text which) → IfOk expected (BuildsFromList Parses old.remaining which)
   list_built which (Ok kept) (cookies, parsed, is) = (text, cookies, all, (valid, parsed), is)
   list_built which (Err error) built = tt
 
   -- or the error of that string, once all was read
-  pub list_rejected : {T : Type 0} (answer : Result T Error) (new : SourceState) → IsAtEnd new.remaining → new.failed ≡ old.failed
-      → IfErr answer (λ error. FailsAtText Parses error text) → IfErr answer (λ error. FailsToLoadList Parses error old new)
+  pub list_rejected : {T : Type 0} (expected : Result T Error) (new : SourceState) → IsAtEnd new.remaining → new.failed ≡ old.failed
+      → IfErr expected (λ error. FailsAtText Parses error text) → IfErr expected (λ error. FailsToLoadList Parses error old new)
   list_rejected (Ok rows) new end count failed = tt
   list_rejected (Err error) new end count (inl rejected) = inl ((text, all, inl (inr (valid, rejected))), end, count)
   list_rejected (Err error) new end count (inr (is, cookies, parsed, some)) = inl ((text, all, inr (is, cookies, (valid, parsed), some)), end, count)
 
 module _ (Serializes : List Row → Result (String Global) Error → Type 0) (rows : List Row) (text : String Global) (said : Serializes rows (Ok text)) {T : Type 0} where
   -- the string of the rows and a line feed were written
-  pub list_written : (answer : Result T Error) (old new : Option (List ℕ)) → OnOk answer (Appends old new (line_text text))
-      → OnOk answer (WritesList Serializes rows old new)
+  pub list_written : (expected : Result T Error) (old new : Option (List ℕ)) → OnOk expected (Appends old new (line_text text))
+      → OnOk expected (WritesList Serializes rows old new)
   list_written (Ok done) old new appended = (text, said, appended)
   list_written (Err error) old new appended = tt
 
   -- or a beginning of them
-  pub list_begun : (answer : Result T Error) (old new : SinkState)
-      → IfErr answer (λ error. AppendsPrefix old.contents new.contents (line_text text) × (error ≡ Io) × (new.failed ≡ old.failed + 1))
-      → IfErr answer (λ error. FailsToSaveList Serializes error rows old new)
+  pub list_begun : (expected : Result T Error) (old new : SinkState)
+      → IfErr expected (λ error. AppendsPrefix old.contents new.contents (line_text text) × (error ≡ Io) × (new.failed ≡ old.failed + 1))
+      → IfErr expected (λ error. FailsToSaveList Serializes error rows old new)
   list_begun (Ok done) old new begun = tt
   list_begun (Err error) old new (begun, is, count) = inr (text, said, begun, is, count)
 

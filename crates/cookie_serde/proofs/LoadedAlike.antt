@@ -16,7 +16,7 @@ use Rattle.cookie_serde.specs.declared.loading.LoadError.TheVariants.{Line, Sour
 use Rattle.cookie_serde.proofs.Pairs.{AllZip-then}
 
 module _ {Parses Other : List ℕ → Result Row Error → Type 0}
-    (implies : (line : List ℕ) (answer : Result Row Error) → Parses line answer → Other line answer) where
+    (implies : (line : List ℕ) (expected : Result Row Error) → Parses line expected → Other line expected) where
   made_alike : (line : List ℕ) (cookie : Row) → ParsesToCookie Parses line cookie → ParsesToCookie Other line cookie
   made_alike line cookie (valid, created) = (valid, implies line (Ok cookie) created)
 
@@ -35,8 +35,8 @@ module _ {Parses Other : List ℕ → Result Row Error → Type 0}
   reached_alike number line known (before, cookies, created, is, first) = (before, cookies, cookies_alike before cookies created, is, first)
 
   ends_within_alike : (bytes : List ℕ) → EndsWithinLine Parses bytes → EndsWithinLine Other bytes
-  ends_within_alike bytes (front, part, before, cookies, split, none, are_lines, created) =
-      (front, part, before, cookies, split, none, are_lines, cookies_alike before cookies created)
+  ends_within_alike bytes (prefix, part, before, cookies, split, none, are_lines, created) =
+      (prefix, part, before, cookies, split, none, are_lines, cookies_alike before cookies created)
 
   stops_within_alike : (old new : SourceState) (text : List ℕ)
       → StopsWithinLine Parses old new text → StopsWithinLine Other old new text
@@ -61,7 +61,7 @@ module _ {Parses Other : List ℕ → Result Row Error → Type 0}
 -- the same for what the contract of a call with a function ensures
 pub loaded_alike : {F : Type 0} (g : Shared F (Bor (List ℕ) × Unit {0}) (Result Row Error)) (f : F)
     (Other : List ℕ → Result Row Error → Type 0)
-    → ((line : List ℕ) (answer : Result Row Error) → FnReturnsAt g f line answer → Other line answer)
+    → ((line : List ℕ) (expected : Result Row Error) → FnReturnsAt g f line expected → Other line expected)
     → (result : Result RowsInOrder LoadError) (old new : SourceState)
     → (which : Which)
     → IfErr result (λ fault. StopsLoading (FnReturnsAt g f) fault old new)

@@ -5,7 +5,7 @@ use Rattle.std.specs.Str.Lines.{lines, lines_of_parts, strip_carriage_return}
 use Rattle.std.specs.Io.{StartsWith}
 use Rattle.std.specs.Io.KnownBytes.{IsAtEnd, Keeps, prepend_known}
 use Rattle.cookie_device.specs.Device.{SourceState}
-use Rattle.cookie_device.specs.Lines.{EndsLine, IsLastLine}
+use Rattle.cookie_device.specs.LineBuffers.{EndsLine, IsLastLine}
 use Rattle.cookie_parts.specs.Cookie.{Row}
 use Rattle.cookie_parts.specs.declared.error.Error.{Error}
 use Rattle.cookie_serde.specs.Selections.{built_from}
@@ -22,11 +22,11 @@ built_none (Unexpired now) = refl
 built_none All = refl
 
 -- passing bytes moves them from the buffer to those already passed
-passed_over : (front at_hand behind more : List ℕ) (count : ℕ) → behind ≡ drop count at_hand
-    → front ++ take count at_hand ++ (behind ++ more) ≡ front ++ (at_hand ++ more)
-passed_over front at_hand behind more count is =
-    append_assoc front (take count at_hand) (behind ++ more)
-    ∙ ap (λ xs. front ++ xs) (sym (append_assoc (take count at_hand) behind more)
+passed_over : (prefix at_hand behind more : List ℕ) (count : ℕ) → behind ≡ drop count at_hand
+    → prefix ++ take count at_hand ++ (behind ++ more) ≡ prefix ++ (at_hand ++ more)
+passed_over prefix at_hand behind more count is =
+    append_assoc prefix (take count at_hand) (behind ++ more)
+    ∙ ap (λ xs. prefix ++ xs) (sym (append_assoc (take count at_hand) behind more)
     ∙ ap (λ xs. xs ++ more) (ap (λ xs. take count at_hand ++ xs) is ∙ take-append-drop count at_hand))
 
 -- bytes that begin with the old ones are the old ones and those after them
@@ -35,14 +35,14 @@ grown old new starts = sym (take-append-drop (length old) new) ∙ ap (λ xs. xs
 
 module _ (Parses : List ℕ → Result Row Error → Type 0) where
   -- a cookie that the function returns for a line is one that it may return
-  pub created : (line : List ℕ) (answer : Result Row Error) → IsTrue (is_utf8 line) → Parses line answer
-      → IfOk answer (λ cookie. ParsesToCookie Parses line cookie)
+  pub created : (line : List ℕ) (expected : Result Row Error) → IsTrue (is_utf8 line) → Parses line expected
+      → IfOk expected (λ cookie. ParsesToCookie Parses line cookie)
   created line (Ok cookie) valid answers = (valid, answers)
   created line (Err error) valid answers = tt
 
   -- and if it returns an error, the line is rejected
-  pub refused : (line : List ℕ) (answer : Result Row Error) → IsTrue (is_utf8 line) → Parses line answer
-      → IfErr answer (λ error. RejectsLine Parses error line)
+  pub refused : (line : List ℕ) (expected : Result Row Error) → IsTrue (is_utf8 line) → Parses line expected
+      → IfErr expected (λ error. RejectsLine Parses error line)
   refused line (Ok cookie) valid answers = tt
   refused line (Err error) valid answers = inr (valid, answers)
 
@@ -56,24 +56,24 @@ module _ (Parses : List ℕ → Result Row Error → Type 0) where
     taken cookies are_built,
   )
 
--- `front` has been passed, with the lines `done`; `at_hand` is in the buffer, and `left` is still in the source. The lines `done` do
+-- `prefix` has been passed, with the lines `done`; `at_hand` is in the buffer, and `left` is still in the source. The lines `done` do
 -- not depend on what follows the buffer.
 pub record Loaded (text at_hand : List ℕ) (rest : Option (List ℕ)) (done : List (List ℕ)) : Type 0 where
-  pub front : List ℕ
+  pub prefix : List ℕ
   pub left : List ℕ
   pub known : rest ≡ Some left
-  pub whole : text ≡ front ++ (at_hand ++ left)
-  pub split : (more : List ℕ) → lines (front ++ (at_hand ++ more)) ≡ done ++ lines (at_hand ++ more)
+  pub whole : text ≡ prefix ++ (at_hand ++ left)
+  pub split : (more : List ℕ) → lines (prefix ++ (at_hand ++ more)) ≡ done ++ lines (at_hand ++ more)
 
 -- at the beginning all bytes are left
 pub begun : (rest : Option (List ℕ)) → IfSome rest (λ text. Loaded text [] rest [])
 begun None = tt
-begun (Some text) = record { front = []; left = text; known = refl; whole = refl; split = λ more. refl }
+begun (Some text) = record { prefix = []; left = text; known = refl; whole = refl; split = λ more. refl }
 
 -- the lines of the source, once the next line is in the buffer
 next_line : (text at_hand line : List ℕ) (rest : Option (List ℕ)) (done : List (List ℕ)) (end : ℕ)
     (l : Loaded text at_hand rest done) → EndsLine at_hand end → line ≡ strip_carriage_return (take end at_hand)
-    → (more : List ℕ) → lines (l.front ++ (at_hand ++ more)) ≡ done ++ line ∷ lines (drop (end + 1) at_hand ++ more)
+    → (more : List ℕ) → lines (l.prefix ++ (at_hand ++ more)) ≡ done ++ line ∷ lines (drop (end + 1) at_hand ++ more)
 next_line text at_hand line rest done end l ends is more =
     let others = lines (drop (end + 1) at_hand ++ more) in
     l.split more ∙ ap (λ ls. done ++ ls) (ends more ∙ ap (λ x. x ∷ others) (sym is))
@@ -93,12 +93,12 @@ pub passed : (text at_hand behind line : List ℕ) (rest : Option (List ℕ)) (d
     → behind ≡ drop (end + 1) at_hand → Loaded text behind rest (done ++ line ∷ [])
 passed text at_hand behind line rest done end l ends is stands =
     record {
-      front = l.front ++ take (end + 1) at_hand;
+      prefix = l.prefix ++ take (end + 1) at_hand;
       left = l.left;
       known = l.known;
-      whole = l.whole ∙ sym (passed_over l.front at_hand behind l.left (end + 1) stands);
+      whole = l.whole ∙ sym (passed_over l.prefix at_hand behind l.left (end + 1) stands);
       split = λ more.
-          ap lines (passed_over l.front at_hand behind more (end + 1) stands)
+          ap lines (passed_over l.prefix at_hand behind more (end + 1) stands)
           ∙ next_line text at_hand line rest done end l ends is more
           ∙ ap (λ xs. done ++ line ∷ lines (xs ++ more)) (sym stands)
           ∙ sym (append_assoc done (line ∷ []) (lines (behind ++ more)));
@@ -113,13 +113,13 @@ filled text old new rest less done l kept starts moved =
     let (more, is, count) = rw l.known at moved in
     let same : new ++ more ≡ old ++ l.left = rw (l.known, is) at kept in
     record {
-      front = l.front;
+      prefix = l.prefix;
       left = more;
       known = is;
-      whole = l.whole ∙ ap (λ xs. l.front ++ xs) (sym same);
+      whole = l.whole ∙ ap (λ xs. l.prefix ++ xs) (sym same);
       split = λ xs.
           let longer = ap (λ bs. bs ++ xs) (grown old new starts) ∙ append_assoc old (drop (length old) new) xs in
-          ap (λ bs. lines (l.front ++ bs)) longer ∙ l.split (drop (length old) new ++ xs) ∙ ap (λ bs. done ++ lines bs) (sym longer);
+          ap (λ bs. lines (l.prefix ++ bs)) longer ∙ l.split (drop (length old) new ++ xs) ∙ ap (λ bs. done ++ lines bs) (sym longer);
     }
 
 -- all bytes were read: the lines are those passed, and the last bytes if there are any
@@ -151,15 +151,15 @@ pub within : (Parses : List ℕ → Result Row Error → Type 0) (text at_hand :
     → position (λ b. eqb b 10) at_hand ≡ None → StopsWithinLine Parses old new text
 within Parses text at_hand done cookies old new are_made l brought none =
     let whole = append-nil at_hand in
-    let split = ap (λ xs. lines (l.front ++ xs)) (sym whole) ∙ l.split [] ∙ ap (λ xs. done ++ lines xs) whole in
-    let is = l.whole ∙ sym (append_assoc l.front at_hand l.left) in
-    let count = ap length is ∙ length-append (l.front ++ at_hand) l.left in
+    let split = ap (λ xs. lines (l.prefix ++ xs)) (sym whole) ∙ l.split [] ∙ ap (λ xs. done ++ lines xs) whole in
+    let is = l.whole ∙ sym (append_assoc l.prefix at_hand l.left) in
+    let count = ap length is ∙ length-append (l.prefix ++ at_hand) l.left in
     let each_brought : old.reads_left + length l.left ≤ new.reads_left + length text = rw l.known at brought in (
-      l.front ++ at_hand,
+      l.prefix ++ at_hand,
       l.left,
       is,
       l.known,
-      (l.front, at_hand, done, cookies, refl, none, split, are_made),
+      (l.prefix, at_hand, done, cookies, refl, none, split, are_made),
       omega arith,
     )
 

@@ -49,9 +49,9 @@ pub list_of_tree : (text : List ℕ) (tree : Data) → read text ≡ Some tree �
 list_of_tree text tree is = rw (list_in, is) refl
 
 -- the cookie of a line that is a saved form
-pub saved_parses : (line : List ℕ) (saved : Parts Moment) (answer : Result Row Error) → saved_in line ≡ Ok saved
-    → IfOk answer (λ cookie. cookie_of_saved saved ≡ Ok cookie)
-    → IfErr answer (λ error. (error ≡ Memory) ⊎ ((error ≡ Cookie Parse) × (cookie_of_saved saved ≡ Err Parse))) → JsonParsesTo line answer
+pub saved_parses : (line : List ℕ) (saved : Parts Moment) (expected : Result Row Error) → saved_in line ≡ Ok saved
+    → IfOk expected (λ cookie. cookie_of_saved saved ≡ Ok cookie)
+    → IfErr expected (λ error. (error ≡ Memory) ⊎ ((error ≡ Cookie Parse) × (cookie_of_saved saved ≡ Err Parse))) → JsonParsesTo line expected
 saved_parses line saved (Ok cookie) is created refused = ap read_cookie is ∙ ap (result_map_both (λ cookie. cookie) Cookie) created
 saved_parses line saved (Err error) is created (inl memory) = inr (memory, some_parsed saved_in no_saved line saved is)
 saved_parses line saved (Err error) is created (inr (parse, refused)) =
@@ -68,10 +68,10 @@ saved_error line ErrorCase.Ron (inl is) = inl (ap read_cookie is)
 saved_error line ErrorCase.Moment (inl is) = inl (ap read_cookie is)
 
 -- the same for a list
-pub list_parses : (text : List ℕ) (list : List (Parts Moment)) (answer : Result (Vec Row Global) Error) → list_in text ≡ Ok list
-    → IfOk answer (λ cookies. cookies_of_saved list ≡ Ok cookies.items)
-    → IfErr answer (λ error. (error ≡ Memory) ⊎ (result_map_both (λ cookies. cookies) Cookie (cookies_of_saved list) ≡ Err error))
-    → JsonListParsesTo text (result_map_both (λ cookies. cookies.items) (λ error. error) answer)
+pub list_parses : (text : List ℕ) (list : List (Parts Moment)) (expected : Result (Vec Row Global) Error) → list_in text ≡ Ok list
+    → IfOk expected (λ cookies. cookies_of_saved list ≡ Ok cookies.items)
+    → IfErr expected (λ error. (error ≡ Memory) ⊎ (result_map_both (λ cookies. cookies) Cookie (cookies_of_saved list) ≡ Err error))
+    → JsonListParsesTo text (result_map_both (λ cookies. cookies.items) (λ error. error) expected)
 list_parses text list (Ok cookies) is created refused = ap read_cookies is ∙ ap (result_map_both (λ cookies. cookies) Cookie) created
 list_parses text list (Err error) is created (inl memory) = inr (memory, some_parsed list_in no_list text list is)
 list_parses text list (Err error) is created (inr refused) = inl (ap read_cookies is ∙ refused)

@@ -9,7 +9,7 @@ use Rattle.cookie_forms.specs.Saved.{Parts}
 use Rattle.cookie_forms.specs.declared.saved.Saved.{Saved}
 use Rattle.cookie_forms.specs.declared.error.SavedError.{SavedError}
 use Rattle.cookie_forms.specs.declared.error.SavedError.TheVariants as ErrorCase
-use Rattle.cookie_ron.specs.RonLists.{RonParsesTo}
+use Rattle.cookie_ron.specs.ParsedRon.{RonParsesTo}
 use Rattle.cookie_parts.specs.Cookie.{Row}
 use Rattle.cookie_parts.specs.Errors.{error_from_saved}
 use Rattle.cookie_parts.specs.declared.error.Error.{Error}
@@ -22,10 +22,10 @@ module _ (text : List ℕ) (result : Result (Vec Saved Global) SavedError) (empt
   is_some e reported memory none = let fault = sym reported ∙ empty none in absurd (cc)
 
   -- a string reads as its list does
-  pub ron_parses : (saved : Vec Saved Global) → result ≡ Ok saved → (list : List (Parts Moment)) (answer : Result (Vec Row Global) Error) → RonParsesTo text (Ok list)
-      → IfOk answer (λ cookies. cookies_of_saved list ≡ Ok cookies.items)
-      → IfErr answer (λ error. (error ≡ Memory) ⊎ (result_map_both (λ cookies. cookies) Cookie (cookies_of_saved list) ≡ Err error))
-      → RonListParsesTo text (result_map_both (λ cookies. cookies.items) (λ error. error) answer)
+  pub ron_parses : (saved : Vec Saved Global) → result ≡ Ok saved → (list : List (Parts Moment)) (expected : Result (Vec Row Global) Error) → RonParsesTo text (Ok list)
+      → IfOk expected (λ cookies. cookies_of_saved list ≡ Ok cookies.items)
+      → IfErr expected (λ error. (error ≡ Memory) ⊎ (result_map_both (λ cookies. cookies) Cookie (cookies_of_saved list) ≡ Err error))
+      → RonListParsesTo text (result_map_both (λ cookies. cookies.items) (λ error. error) expected)
   ron_parses saved read list (Ok cookies) parses created refused = (Ok list, parses, rw created refl)
   ron_parses saved read list (Err error) parses created (inl memory) = inr (memory, λ none. let clash = sym read ∙ empty none in absurd (cc))
   ron_parses saved read list (Err error) parses created (inr refused) = inl (Ok list, parses, sym refused)

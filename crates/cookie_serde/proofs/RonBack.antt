@@ -5,13 +5,13 @@ use Rattle.std.specs.Prelude.{string_bytes}
 use Rattle.std.specs.declared.alloc.Global.{Global}
 use Rattle.std.specs.declared.string.String.{String}
 use Rattle.cookie_raw.specs.CookieText.{cookie_text}
-use Rattle.cookie_raw.specs.Reading.{reading}
+use Rattle.cookie_raw.specs.SetCookie.{reading}
 use Rattle.cookie_forms.specs.FromJson.{cut}
 use Rattle.cookie_forms.specs.Saved.{saved_view}
 use Rattle.cookie_forms.specs.declared.error.SavedError.{SavedError}
 use Rattle.cookie_forms.specs.declared.saved.Saved.{Saved}
 use Rattle.cookie_ron.specs.Printed.{ron_written}
-use Rattle.cookie_ron.specs.RonLists.{RonParsesTo}
+use Rattle.cookie_ron.specs.ParsedRon.{RonParsesTo}
 use Rattle.cookie_parts.specs.Cookie.{Row}
 use Rattle.cookie_parts.specs.SavedConversion.{cookie_of_saved, saved_of}
 use Rattle.cookie_serde.specs.Cuts.{cut_rows, ReadsBack}

@@ -12,7 +12,7 @@ use Rattle.cookie_serde.proofs.Pairs.{AllZip-then}
 
 -- all results of the one relation satisfy the other
 abbrev pub Implies : (Serializes Other : Row → Result (String Global) Error → Type 0) → Type 0
-Implies Serializes Other = (row : Row) (answer : Result (String Global) Error) → Serializes row answer → Other row answer
+Implies Serializes Other = (row : Row) (expected : Result (String Global) Error) → Serializes row expected → Other row expected
 
 module _ {Serializes Other : Row → Result (String Global) Error → Type 0} where
   texts_alike : (rows : List Row) (texts : List (String Global)) → AreTexts Serializes rows texts → Implies Serializes Other → AreTexts Other rows texts

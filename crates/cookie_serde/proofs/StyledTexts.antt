@@ -12,9 +12,9 @@ module _ {W : Type 0} (took : W → List ℕ → W → Type 0) where
   styled_three f g h i a b c all = Writes.styled_three took f g h i a b c all
 
   -- a string, and after it one that may be known
-  pub styled_before : (f g h : Formatter W) (first second : Result (Unit {0}) Error) (front : List ℕ) (behind : Option (List ℕ))
-      → WritesStyledOnOk took f first front g → IsOk first → DisplaysStyledOnOk took g second behind h
-      → DisplaysStyledOnOk took f second (option_map (λ words. front ++ words) behind) h
-  styled_before f g h first second front None wrote ok then = tt
-  styled_before f g h first second front (Some words) wrote ok then =
-      λ flush done. let one = wrote flush ok in Writes.styled_two took f g h front words (front ++ words) one (then one.flush done) refl
+  pub styled_before : (f g h : Formatter W) (first second : Result (Unit {0}) Error) (prefix : List ℕ) (behind : Option (List ℕ))
+      → WritesStyledOnOk took f first prefix g → IsOk first → DisplaysStyledOnOk took g second behind h
+      → DisplaysStyledOnOk took f second (option_map (λ words. prefix ++ words) behind) h
+  styled_before f g h first second prefix None wrote ok then = tt
+  styled_before f g h first second prefix (Some words) wrote ok then =
+      λ flush done. let one = wrote flush ok in Writes.styled_two took f g h prefix words (prefix ++ words) one (then one.flush done) refl

@@ -1,7 +1,7 @@
 -- Rows that can be saved and loaded again, with each expiry cut to whole seconds.
 use Rattle.std.specs.Prelude.{◌≡◌, List, map, Ok}
 use Rattle.cookie_raw.specs.CookieText.{cookie_text}
-use Rattle.cookie_raw.specs.Reading.{reading}
+use Rattle.cookie_raw.specs.SetCookie.{reading}
 use Rattle.cookie_forms.specs.MomentText.{whole_seconds}
 use Rattle.cookie_forms.specs.Saved.{saved_view}
 use Rattle.cookie_forms.specs.declared.saved.Saved.{Saved}

@@ -10,7 +10,7 @@ use Rattle.cookie_parts.specs.declared.error.Error.{Error}
 use Rattle.cookie_laws.specs.Rows.{RowsInOrder}
 use Rattle.cookie_serde.specs.FormatErrors.{format_error_of}
 use Rattle.cookie_serde.specs.JsonLists.{JsonListParsesTo, SerializesToJsonList}
-use Rattle.cookie_serde.specs.Lists.{BuildsFromList, BuildsFromText, FailsAtText, FailsToLoadList, FailsToSaveList, WritesList}
+use Rattle.cookie_serde.specs.SavedLists.{BuildsFromList, BuildsFromText, FailsAtText, FailsToLoadList, FailsToSaveList, WritesList}
 use Rattle.cookie_serde.specs.NetscapeLists.{BuildsFromNetscape, FailsToLoadNetscape, FailsToSaveNetscape, LoadsNetscape, SerializesToNetscape, WritesNetscape}
 use Rattle.cookie_serde.specs.RonLists.{RonListParsesTo, SerializesToRonList}
 use Rattle.cookie_serde.specs.declared.format.Format.{Format}

@@ -18,11 +18,11 @@ use Rattle.cookie_serde.specs.SavedForms.{read_cookie}
 abbrev pub SerializesToLine : Result Data SavedError → Result (String Global) Error → Type 0
 SerializesToLine (Ok tree) (Ok text) = (string_bytes text ≡ compact_text tree) × (read (string_bytes text) ≡ Some tree)
 SerializesToLine (Ok tree) (Err error) = error ≡ Memory
-SerializesToLine (Err fault) answer = answer ≡ Err (Saved fault)
+SerializesToLine (Err fault) expected = expected ≡ Err (Saved fault)
 
 -- the result of writing a row: the JSON value of its saved form
 abbrev pub SerializesToJson : Row → Result (String Global) Error → Type 0
-SerializesToJson row answer = SerializesToLine (written (saved_of row)) answer
+SerializesToJson row expected = SerializesToLine (written (saved_of row)) expected
 
 -- the cookie of a line that is a saved form in JSON, or the error
 abbrev pub json_cookie : List ℕ → Result Row Error

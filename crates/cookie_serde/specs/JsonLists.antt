@@ -19,11 +19,11 @@ use Rattle.cookie_serde.specs.SavedForms.{read_cookies}
 abbrev pub SerializesToLines : Result Data SavedError → Result (String Global) Error → Type 0
 SerializesToLines (Ok tree) (Ok text) = (string_bytes text ≡ pretty_text tree) × (read (string_bytes text) ≡ Some tree)
 SerializesToLines (Ok tree) (Err error) = error ≡ Memory
-SerializesToLines (Err fault) answer = answer ≡ Err (Saved fault)
+SerializesToLines (Err fault) expected = expected ≡ Err (Saved fault)
 
 -- the result of writing rows: the JSON array of their saved forms
 abbrev pub SerializesToJsonList : List Row → Result (String Global) Error → Type 0
-SerializesToJsonList rows answer = SerializesToLines (list_written (map saved_of rows)) answer
+SerializesToJsonList rows expected = SerializesToLines (list_written (map saved_of rows)) expected
 
 -- the cookies of a list of saved forms in JSON, or the error
 abbrev pub json_cookies : List ℕ → Result (List Row) Error

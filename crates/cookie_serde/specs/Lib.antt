@@ -4,7 +4,7 @@ pub mod Formats
 pub mod JsonLines
 pub mod JsonLists
 pub mod ListFormats
-pub mod Lists
+pub mod SavedLists
 pub mod LoadError
 pub mod Loading
 pub mod Migration

@@ -42,14 +42,14 @@ module _ (Parses : List ℕ → Result Row Error → Type 0) where
   -- the bytes are lines that are cookies, and a beginning of a line, without a line feed
   abbrev pub EndsWithinLine : List ℕ → Type 0
   EndsWithinLine bytes =
-      (front part : List ℕ) × (before : List (List ℕ)) × (cookies : List Row)
-      × (bytes ≡ front ++ part) × (position (λ b. b == 10) part ≡ None)
+      (prefix part : List ℕ) × (before : List (List ℕ)) × (cookies : List Row)
+      × (bytes ≡ prefix ++ part) × (position (λ b. b == 10) part ≡ None)
       × (lines bytes ≡ before ++ lines part) × AreCookies before cookies
 
   -- such bytes were read, by at most as many reads as there are bytes, and the other bytes of the source are left
   abbrev pub StopsWithinLine : SourceState → SourceState → List ℕ → Type 0
   StopsWithinLine old new text =
-      (given left : List ℕ) × (text ≡ given ++ left) × (new.remaining ≡ Some left) × EndsWithinLine given
+      (given rest : List ℕ) × (text ≡ given ++ rest) × (new.remaining ≡ Some rest) × EndsWithinLine given
       × (old.reads_left ≤ new.reads_left + length given)
 
   -- a cookie that the function may return for the line was added to the rows

@@ -51,7 +51,7 @@ HaveSavedForms rows = list_any is_early (map saved_of rows) ≡ false
 
 -- the result of reading a line, out of memory aside: its cookie or the error
 abbrev pub IsOfJson : List ℕ → Result Row Error → Type 0
-IsOfJson line answer = json_cookie line ≡ answer
+IsOfJson line expected = json_cookie line ≡ expected
 
 -- the line of this number is the first that is rejected, with this error
 abbrev pub RejectsFirst : ℕ → Error → Option (List ℕ) → Type 0

@@ -13,7 +13,7 @@ use Rattle.cookie_netscape.specs.Written.{is_representable, written_text}
 use Rattle.cookie_netscape.specs.declared.error.NetscapeError.{NetscapeError}
 use Rattle.cookie_netscape.specs.declared.error.NetscapeError.TheVariants.{BadLine, Unrepresentable, Io, NotUtf8, Memory}
 use Rattle.cookie_laws.specs.Rows.{RowsInOrder}
-use Rattle.cookie_serde.specs.Lists.{IsAll, StopsWithin}
+use Rattle.cookie_serde.specs.SavedLists.{IsAll, StopsWithin}
 use Rattle.cookie_serde.specs.Selections.{built_from}
 use Rattle.cookie_serde.specs.declared.which.Which.{Which}
 

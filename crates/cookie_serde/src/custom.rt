@@ -4,7 +4,7 @@ ghost use Rattle.std.specs.Fn.{FnReturnsAt};
 ghost use Rattle.std.specs.Io.KnownBytes.{IsAtEnd};
 ghost use Rattle.cookie_words.specs.Moments.{moment_of};
 ghost use Rattle.cookie_laws.specs.Contents.{rows_in_order};
-ghost use Rattle.cookie_serde.specs.Lists.{BuildsFromList, FailsToLoadList, FailsToSaveList, ParsesToCookies, ParsesToVec, RejectsText, SerializesCopies, WritesList};
+ghost use Rattle.cookie_serde.specs.SavedLists.{BuildsFromList, FailsToLoadList, FailsToSaveList, ParsesToCookies, ParsesToVec, RejectsText, SerializesCopies, WritesList};
 ghost use Rattle.cookie_serde.specs.Loading.{ReadsEachOnce};
 ghost use Rattle.cookie_serde.specs.Saving.{saved_rows};
 ghost use Rattle.cookie_serde.specs.Selections.{selected};

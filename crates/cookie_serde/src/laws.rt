@@ -11,7 +11,7 @@ ghost use Rattle.cookie_laws.specs.Rows.{are_rows, RowsInOrder};
 ghost use Rattle.cookie_serde.specs.Cuts.{cut_rows, ReadsBack};
 ghost use Rattle.cookie_serde.specs.JsonLines.{json_cookie, JsonParsesTo, SerializesToJson};
 ghost use Rattle.cookie_serde.specs.JsonLists.{json_cookies, JsonListParsesTo, SerializesToJsonList};
-ghost use Rattle.cookie_serde.specs.Lists.{BuildsFromList, WritesList};
+ghost use Rattle.cookie_serde.specs.SavedLists.{BuildsFromList, WritesList};
 ghost use Rattle.cookie_serde.specs.Loading.{BuildsFrom};
 ghost use Rattle.cookie_serde.specs.RonLists.{RonListParsesTo, RonCookies, SerializesToRonList};
 ghost use Rattle.cookie_serde.specs.Saving.{line_text, lines_text, AreTexts, WritesRows};

@@ -8,7 +8,7 @@ ghost use Rattle.cookie_forms.specs.ToJson.{is_early};
 ghost use Rattle.cookie_parts.specs.SavedConversion.{saved_of};
 ghost use Rattle.cookie_serde.specs.ListFormats.{ParsesTo, SerializesTo};
 ghost use Rattle.cookie_serde.specs.JsonLists.{JsonListParsesTo};
-ghost use Rattle.cookie_serde.specs.Lists.{BuildsFromList, BuildsFromText, FailsAtText, FailsToLoadList, FailsToSaveList, WritesList};
+ghost use Rattle.cookie_serde.specs.SavedLists.{BuildsFromList, BuildsFromText, FailsAtText, FailsToLoadList, FailsToSaveList, WritesList};
 ghost use Rattle.cookie_serde.specs.Loading.{ReadsEachOnce};
 ghost use Rattle.cookie_serde.specs.RonLists.{RonListParsesTo};
 ghost use Rattle.cookie_serde.specs.SavedForms.{cookies_of_saved};

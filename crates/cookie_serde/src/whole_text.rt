@@ -2,7 +2,7 @@
 ghost use Rattle.std.specs.Prelude.{◌≡◌, ◌≢◌, ◌⊎◌, ◌+◌, ◌-◌, ◌^◌, ◌<◌, [], IfErr, IfOk, IfSome, OnOk};
 ghost use Rattle.std.specs.Io.KnownBytes.{Appends, IsAtEnd};
 ghost use Rattle.cookie_device.specs.Device.{AppendsPrefix};
-ghost use Rattle.cookie_serde.specs.Lists.{IsAll, StopsWithin};
+ghost use Rattle.cookie_serde.specs.SavedLists.{IsAll, StopsWithin};
 ghost use Rattle.cookie_serde.specs.Loading.{ReadsEachOnce};
 ghost use Rattle.cookie_serde.specs.Saving.{line_text};
 ghost use Rattle.cookie_serde.specs.Selections.{built_from};

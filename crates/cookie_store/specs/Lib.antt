@@ -9,9 +9,12 @@ pub use Rattle.cookie_laws.specs.Related
 pub use Rattle.cookie_laws.specs.Rows
 pub use Rattle.cookie_laws.specs.Runs
 pub use Rattle.cookie_laws.specs.SecureLast
+pub use Rattle.cookie_lookup.specs.Groups
+pub use Rattle.cookie_lookup.specs.SearchView
 pub use Rattle.cookie_rows.specs.Building
-pub use Rattle.cookie_rows.specs.Requests
+pub use Rattle.cookie_rows.specs.RequestCookies
 pub use Rattle.cookie_core.specs.CallViews
+pub use Rattle.cookie_core.specs.Insertions
 pub use Rattle.cookie_core.specs.Overlaid
 pub use Rattle.cookie_core.specs.Responses
 pub use Rattle.cookie_edit.specs.Edits
@@ -20,7 +23,7 @@ pub use Rattle.cookie_serde.specs.FormatErrors
 pub use Rattle.cookie_serde.specs.Formats
 pub use Rattle.cookie_serde.specs.JsonLines
 pub use Rattle.cookie_serde.specs.JsonLists
-pub use Rattle.cookie_serde.specs.Lists
+pub use Rattle.cookie_serde.specs.SavedLists
 pub use Rattle.cookie_serde.specs.LoadError
 pub use Rattle.cookie_serde.specs.Loading
 pub use Rattle.cookie_serde.specs.Migration

@@ -11,7 +11,9 @@
 pub mod device;
 pub mod saved;
 
-pub use cookie_core::{AsStore, Call, CookieStore, InsertResult, Reply, Stopped, cookie_string};
+pub use cookie_core::{
+    Acceptance, AsStore, Call, CookieStore, InsertResult, Reply, Stopped, cookie_string,
+};
 pub use cookie_edit as edit;
 pub use cookie_inputs as inputs;
 pub use cookie_laws as laws;
@@ -26,7 +28,9 @@ pub use cookie_parts::{
 pub use cookie_psl as psl;
 pub use cookie_raw as raw;
 pub use cookie_raw::{RawCookie, RawCookieParseError};
-pub use cookie_rows::{HashKey, IterAny, IterUnexpired, RequestCookies, RequestValues, StoreAlloc};
+pub use cookie_rows::{
+    EvictionOrder, HashKey, IterAny, IterUnexpired, RequestCookies, RequestValues, StoreAlloc,
+};
 pub use cookie_serde as serde;
 pub use cookie_serde::Bulk;
 pub use cookie_strict as strict;

@@ -3,7 +3,7 @@ use Rattle.std.proofs.Common.{◌≡◌, ℕ, suc, ◌+◌, ◌≤◌, ◌<◌, 
 use Rattle.std.proofs.Math.Seq.{set-append_seam, take-suc}
 use Rattle.std.proofs.lemmas.Grind.{flat_map-append}
 use Rattle.std.proofs.lemmas.List.{drop_more, length-map, map-append, take-append-drop}
-use Rattle.cookie_store_c.specs.Buffers.{IsFilledTo, at_front}
+use Rattle.cookie_store_c.specs.Buffers.{IsFilledTo, at_start}
 
 module _ {A : Type 0} (f : A → List ℕ) (items : List A) where
   -- the strings of the first items and of one more
@@ -30,29 +30,29 @@ module _ {A : Type 0} (f : A → List ℕ) (items : List A) where
       ∙ length-append (flat_map f (take i items)) (f (get_or items i d)) in
       omega (arith, parts (i + 1), next, is)
 
--- a front that grew twice
-pub stands_more : (front a b both before buffer : List ℕ) (place : ℕ) → both ≡ a ++ b → IsFilledTo ((front ++ a) ++ b) before buffer place
-    → IsFilledTo (front ++ both) before buffer place
-stands_more front a b both before buffer place e h =
-    subst (λ text. IsFilledTo text before buffer place) (append_assoc front a b ∙ ap (λ text. front ++ text) (sym e)) h
+-- a prefix that grew twice
+pub stands_more : (prefix a b both before buffer : List ℕ) (place : ℕ) → both ≡ a ++ b → IsFilledTo ((prefix ++ a) ++ b) before buffer place
+    → IsFilledTo (prefix ++ both) before buffer place
+stands_more prefix a b both before buffer place e h =
+    subst (λ text. IsFilledTo text before buffer place) (append_assoc prefix a b ∙ ap (λ text. prefix ++ text) (sym e)) h
 
--- a front that grew by an item
-pub filled_more : {T : Type 0} (front before : List T) (item : T) → length front < length before
-    → set (at_front front before) (length front) item ≡ at_front (front ++ item ∷ []) before
-filled_more front before item small =
-    let n : length (front ++ item ∷ []) ≡ length front + 1 = length-append front (item ∷ []) in
-    ap (λ rest. set (front ++ rest) (length front) item) (drop_more before (length front) item small)
-    ∙ set-append_seam front (get_or before (length front) item) (drop (length front + 1) before) item
-    ∙ sym (append_assoc front (item ∷ []) (drop (length (front ++ item ∷ [])) before)
-    ∙ ap (λ k. front ++ item ∷ drop k before) n)
+-- a prefix that grew by an item
+pub filled_more : {T : Type 0} (prefix before : List T) (item : T) → length prefix < length before
+    → set (at_start prefix before) (length prefix) item ≡ at_start (prefix ++ item ∷ []) before
+filled_more prefix before item small =
+    let n : length (prefix ++ item ∷ []) ≡ length prefix + 1 = length-append prefix (item ∷ []) in
+    ap (λ rest. set (prefix ++ rest) (length prefix) item) (drop_more before (length prefix) item small)
+    ∙ set-append_seam prefix (get_or before (length prefix) item) (drop (length prefix + 1) before) item
+    ∙ sym (append_assoc prefix (item ∷ []) (drop (length (prefix ++ item ∷ [])) before)
+    ∙ ap (λ k. prefix ++ item ∷ drop k before) n)
 
 -- the rows of the first items and of one more
 pub filled_next : {A T : Type 0} (tell : A → T) (seen : List A) (item : A) (before buffer : List T) (place : ℕ) (reported : T)
-    → buffer ≡ at_front (map tell seen) before → place ≡ length seen → length seen < length before → reported ≡ tell item
-    → set buffer place reported ≡ at_front (map tell (seen ++ item ∷ [])) before
+    → buffer ≡ at_start (map tell seen) before → place ≡ length seen → length seen < length before → reported ≡ tell item
+    → set buffer place reported ≡ at_start (map tell (seen ++ item ∷ [])) before
 filled_next tell seen item before buffer place reported filled at small is =
-    let front = map tell seen in
-    let as_many : length front ≡ length seen = length-map seen tell in
-    ap (λ xs. set xs place reported) filled ∙ ap (λ n. set (at_front front before) n reported) (at ∙ sym as_many)
-    ∙ ap (set (at_front front before) (length front)) is ∙ filled_more front before (tell item) (omega (arith, as_many, small))
-    ∙ ap (λ xs. at_front xs before) (sym (map-append tell seen (item ∷ [])))
+    let prefix = map tell seen in
+    let as_many : length prefix ≡ length seen = length-map seen tell in
+    ap (λ xs. set xs place reported) filled ∙ ap (λ n. set (at_start prefix before) n reported) (at ∙ sym as_many)
+    ∙ ap (set (at_start prefix before) (length prefix)) is ∙ filled_more prefix before (tell item) (omega (arith, as_many, small))
+    ∙ ap (λ xs. at_start xs before) (sym (map-append tell seen (item ∷ [])))

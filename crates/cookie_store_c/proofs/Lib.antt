@@ -2,6 +2,7 @@ mod Filling
 mod LoadOutcomes
 mod LoadReports
 mod Passing
+mod RequestRows
 mod Seconds
 mod StoreBox
 mod StoreGlue

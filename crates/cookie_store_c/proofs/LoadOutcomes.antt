@@ -9,7 +9,7 @@ use Rattle.cookie_laws.specs.Rows.{RowsInOrder}
 use Rattle.cookie_serde.specs.FormatErrors.{format_error_of}
 use Rattle.cookie_serde.specs.Formats.{BuildsAs, FailsToParseAs}
 use Rattle.cookie_serde.specs.JsonLists.{JsonListParsesTo}
-use Rattle.cookie_serde.specs.Lists.{FailsAtText}
+use Rattle.cookie_serde.specs.SavedLists.{FailsAtText}
 use Rattle.cookie_serde.specs.RonLists.{RonListParsesTo}
 use Rattle.cookie_serde.specs.Selections.{is_selected}
 use Rattle.cookie_serde.specs.declared.format.Format.{Format}

@@ -13,7 +13,7 @@ use Rattle.cookie_store_c.specs.declared.status.Status.{Status}
 use Rattle.cookie_store_c.specs.declared.status.Status.TheVariants.{NoMemory}
 
 -- if both steps succeed, so does the first one
-first_is_ok : {A B : Type 0} (first : Result A Status) (next : A → Result B Status) (b : B) → and_then first next ≡ Ok b → IsOk first
+pub first_is_ok : {A B : Type 0} (first : Result A Status) (next : A → Result B Status) (b : B) → and_then first next ≡ Ok b → IsOk first
 first_is_ok (Ok a) next b is = refl
 first_is_ok (Err status) next b is = absurd (cc)
 
@@ -33,8 +33,8 @@ module _ (context : Option Context) (store : Contents) (url : List ℕ) (now : �
   WritesText = WritesSomeText (IsHeader context store url now) (IsOk (text_and_time url now)) old status new needed
 
   -- it is that of this result
-  answered : (answer : Result (List ℕ) Status) (inputs : Result (Parts × Moment) Status) → inputs ≡ request url now → IsHeaderFor context store inputs answer → BufferOutcome ≡ text_outcome answer old → WritesText
-  answered answer inputs is header reported = inl (answer, subst (λ r. IsHeaderFor context store r answer) is header, reported)
+  answered : (expected : Result (List ℕ) Status) (inputs : Result (Parts × Moment) Status) → inputs ≡ request url now → IsHeaderFor context store inputs expected → BufferOutcome ≡ text_outcome expected old → WritesText
+  answered expected inputs is header reported = inl (expected, subst (λ r. IsHeaderFor context store r expected) is header, reported)
 
   -- memory ran out
   ran_out : (error : Status) → error ≡ NoMemory → IsOk (text_and_time url now) → BufferOutcome ≡ text_outcome (Err error) old → WritesText

@@ -3,14 +3,14 @@ use Rattle.std.specs.Prelude.{◌≡◌, ◌⊎◌, ℕ, List, ◌++◌, drop, l
 use Rattle.cookie_store_c.specs.declared.status.Status.{Status}
 use Rattle.cookie_store_c.specs.declared.status.Status.TheVariants.{Done, NoMemory, NoRoom}
 
--- the buffer with these items at its front, and otherwise unchanged
-abbrev pub at_front : {T : Type 0} → List T → List T → List T
-at_front items buffer = items ++ drop (length items) buffer
+-- the buffer with these items at its start, and otherwise unchanged
+abbrev pub at_start : {T : Type 0} → List T → List T → List T
+at_start items buffer = items ++ drop (length items) buffer
 
--- the buffer, which was `before`, has `front` at its front, which ends at `place`
-pub record IsFilledTo (front before buffer : List ℕ) (place : ℕ) : Type 0 where
-  pub filled : buffer ≡ at_front front before
-  pub ends : place ≡ length front
+-- the buffer, which was `before`, has `prefix` at its start, which ends at `place`
+pub record IsFilledTo (prefix before buffer : List ℕ) (place : ℕ) : Type 0 where
+  pub filled : buffer ≡ at_start prefix before
+  pub ends : place ≡ length prefix
   pub as_long : length buffer ≡ length before
 
 -- the status, the buffer after the call, and the length of the string
@@ -22,7 +22,7 @@ pub record TextOutcome : Type 0 where
 -- a string is written if it fits; its length is returned in any case
 abbrev pub write_if_fits : List ℕ → List ℕ → TextOutcome
 write_if_fits text buffer =
-    if nat_le (length text) (length buffer) then record { status = Done; buffer = at_front text buffer; needed = length text }
+    if nat_le (length text) (length buffer) then record { status = Done; buffer = at_start text buffer; needed = length text }
     else record { status = NoRoom; buffer = buffer; needed = length text }
 
 -- on an error nothing is written, and the length is 0
@@ -36,11 +36,11 @@ RunsOutWriting MayAllocate old status new needed = (status ≡ NoMemory) × MayA
 
 -- the outcome is that of this result, or memory ran out
 abbrev pub WritesText : Result (List ℕ) Status → Type 0 → List ℕ → Status → List ℕ → ℕ → Type 0
-WritesText answer MayAllocate old status new needed =
-    (record { status = status; buffer = new; needed = needed } ≡ text_outcome answer old) ⊎ RunsOutWriting MayAllocate old status new needed
+WritesText expected MayAllocate old status new needed =
+    (record { status = status; buffer = new; needed = needed } ≡ text_outcome expected old) ⊎ RunsOutWriting MayAllocate old status new needed
 
 -- the outcome is that of a result with this property, or memory ran out
 abbrev pub WritesSomeText : (Result (List ℕ) Status → Type 0) → Type 0 → List ℕ → Status → List ℕ → ℕ → Type 0
 WritesSomeText IsResult MayAllocate old status new needed =
-    ((answer : Result (List ℕ) Status) × IsResult answer × (record { status = status; buffer = new; needed = needed } ≡ text_outcome answer old))
+    ((expected : Result (List ℕ) Status) × IsResult expected × (record { status = status; buffer = new; needed = needed } ≡ text_outcome expected old))
     ⊎ RunsOutWriting MayAllocate old status new needed

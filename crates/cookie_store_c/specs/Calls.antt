@@ -1,13 +1,14 @@
 -- What each call returns, and the store after it.
-use Rattle.std.specs.Prelude.{◌≡◌, ◌==◌, if◌then◌else◌, ◌⊎◌, ℕ, Bool, true, false, List, [], length, Option, Some, None, unwrap_or, Result, Ok, Err}
+use Rattle.std.specs.Prelude.{◌≡◌, ◌==◌, if◌then◌else◌, ◌⊎◌, ℕ, Bool, true, false, not, List, [], bytes_eq, length, Option, Some, None, unwrap_or, Result, Ok, Err}
 use Rattle.std.specs.Result.{result_map_both}
 use Rattle.cookie_words.specs.Moments.{Moment}
 use Rattle.cookie_psl.specs.Rules.{RuleList, SameRules}
 use Rattle.cookie_parts.specs.Cookie.{Row}
+use Rattle.cookie_parts.specs.Domain.{domain_text}
 use Rattle.cookie_inputs.specs.Suffixes.{suffixes_from, with_default}
 use Rattle.cookie_inputs.specs.declared.suffixes.SuffixesError.{SuffixesError}
 use Rattle.cookie_inputs.specs.declared.suffixes.SuffixesError.TheVariants as SuffixesCase
-use Rattle.cookie_laws.specs.Contents.{Contents, unexpired}
+use Rattle.cookie_laws.specs.Contents.{Contents, retained, unexpired}
 use Rattle.cookie_laws.specs.Runs.{Call, step}
 use Rattle.cookie_store_c.specs.Inputs.{text_in}
 use Rattle.cookie_strict.specs.StrictRuns.{store_after_call, strict_call}
@@ -61,11 +62,17 @@ abbrev pub unchanged_outcome : Option Contents → CallOutcome
 unchanged_outcome None = error_outcome None NoStore
 unchanged_outcome (Some store) = record { status = Done; store = Some store }
 
--- a new store is not strict; otherwise the flag is unchanged
-abbrev pub flag_after_new : Option Contents → Option Contents → Bool → Bool
-flag_after_new None None is_strict = is_strict
-flag_after_new None (Some store) is_strict = false
-flag_after_new (Some store) new is_strict = is_strict
+-- a copy of a store is put into an empty handle, or `HasStore` if the handle has a store; `NoStore` if there is none to copy
+abbrev pub clone_outcome : Option Contents → Option Contents → CallOutcome
+clone_outcome None held = error_outcome held NoStore
+clone_outcome (Some store) None = record { status = Done; store = Some store }
+clone_outcome (Some store) (Some held) = error_outcome (Some held) HasStore
+
+-- a new store has the chosen flag; otherwise the flag is unchanged
+abbrev pub flag_after_new : Bool → Option Contents → Option Contents → Bool → Bool
+flag_after_new chosen None None is_strict = is_strict
+flag_after_new chosen None (Some store) is_strict = chosen
+flag_after_new chosen (Some store) new is_strict = is_strict
 
 -- the flag of a store is set; without a store it is unchanged
 abbrev pub flag_after_set : Option Contents → Bool → Bool → Bool
@@ -83,6 +90,16 @@ limit_outcome n (Some store) =
 abbrev pub limit_of : Option Contents → ℕ
 limit_of None = 0
 limit_of (Some store) = unwrap_or store.limit 0
+
+-- the cookie has another domain
+abbrev pub has_other_domain : List ℕ → Row → Bool
+has_other_domain domain row = not (bytes_eq (domain_text row.domain) domain)
+
+-- the cookies of the domain are removed, unless it is not UTF-8
+abbrev pub domain_outcome : Result (List ℕ) Status → Option Contents → CallOutcome
+domain_outcome domain None = error_outcome None NoStore
+domain_outcome (Ok domain) (Some store) = record { status = Done; store = Some (retained (has_other_domain domain) store) }
+domain_outcome (Err status) (Some store) = error_outcome (Some store) status
 
 -- the expired cookies are removed, unless the time is out of range
 abbrev pub expired_outcome : Result Moment Status → Option Contents → CallOutcome

@@ -4,7 +4,7 @@ use Rattle.url.specs.Parts.{Parts}
 use Rattle.cookie_words.specs.Moments.{Moment}
 use Rattle.cookie_parts.specs.Cookie.{Row}
 use Rattle.cookie_laws.specs.Contents.{Contents}
-use Rattle.cookie_laws.specs.Header.{IsCookieHeader, cookie_string}
+use Rattle.cookie_laws.specs.Header.{InHeaderOrder, cookie_string}
 use Rattle.cookie_strict.specs.CrossSite.{IsSent}
 use Rattle.cookie_strict.specs.declared.requests.Context.{Context}
 use Rattle.cookie_store_c.specs.Inputs.{request}
@@ -23,28 +23,32 @@ cross_site flags =
     if flags == 2 then Ok (cross_site_request false false) else
     if flags == 3 then Ok (cross_site_request true false) else Err BadOption
 
--- RFC 6265 5.4: the cookie-string of a request; of a request with a context, draft-ietf-httpbis-rfc6265bis 5.8.3, that
--- of the cookies that it receives
+-- RFC 6265 5.4: the cookies of a request; of a request with a context, draft-ietf-httpbis-rfc6265bis 5.8.3, those that
+-- it receives
+abbrev pub AreCookiesOf : Option Context → Parts → Moment → Contents → List Row → Type 0
+AreCookiesOf None url now store cookies = InHeaderOrder url now store cookies
+AreCookiesOf (Some context) url now store cookies = IsSent context url now store cookies
+
+-- their cookie-string
 abbrev pub IsHeaderText : Option Context → Parts → Moment → Contents → List ℕ → Type 0
-IsHeaderText None url now store text = IsCookieHeader url now store text
-IsHeaderText (Some context) url now store text = (cookies : List Row) × IsSent context url now store cookies × (text ≡ cookie_string cookies)
+IsHeaderText context url now store text = (cookies : List Row) × AreCookiesOf context url now store cookies × (text ≡ cookie_string cookies)
 
 -- the cookie-string of a request for a URL, or the error
 abbrev pub IsHeaderFor : Option Context → Contents → Result (Parts × Moment) Status → Result (List ℕ) Status → Type 0
-IsHeaderFor context store (Ok inputs) answer = (text : List ℕ) × IsHeaderText context inputs.0 inputs.1 store text × (answer ≡ Ok text)
-IsHeaderFor context store (Err status) answer = answer ≡ Err status
+IsHeaderFor context store (Ok inputs) expected = (text : List ℕ) × IsHeaderText context inputs.0 inputs.1 store text × (expected ≡ Ok text)
+IsHeaderFor context store (Err status) expected = expected ≡ Err status
 
 -- the same for the string of a URL and a time in seconds
 abbrev pub IsHeader : Option Context → Contents → List ℕ → ℤ → Result (List ℕ) Status → Type 0
-IsHeader context store url now answer = IsHeaderFor context store (request url now) answer
+IsHeader context store url now expected = IsHeaderFor context store (request url now) expected
 
 -- the same, or `NoStore` if there is no store
 abbrev pub IsHeaderIn : Option Context → Option Contents → List ℕ → ℤ → Result (List ℕ) Status → Type 0
-IsHeaderIn context None url now answer = answer ≡ Err NoStore
-IsHeaderIn context (Some store) url now answer = IsHeader context store url now answer
+IsHeaderIn context None url now expected = expected ≡ Err NoStore
+IsHeaderIn context (Some store) url now expected = IsHeader context store url now expected
 
 -- the cookie-string of a cross-site request, or the error: `NoStore`, or that of its flags, before others
 abbrev pub IsCrossSiteHeader : Result Context Status → Option Contents → List ℕ → ℤ → Result (List ℕ) Status → Type 0
-IsCrossSiteHeader context None url now answer = answer ≡ Err NoStore
-IsCrossSiteHeader (Ok context) (Some store) url now answer = IsHeader (Some context) store url now answer
-IsCrossSiteHeader (Err status) (Some store) url now answer = answer ≡ Err status
+IsCrossSiteHeader context None url now expected = expected ≡ Err NoStore
+IsCrossSiteHeader (Ok context) (Some store) url now expected = IsHeader (Some context) store url now expected
+IsCrossSiteHeader (Err status) (Some store) url now expected = expected ≡ Err status

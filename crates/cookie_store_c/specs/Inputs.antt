@@ -53,4 +53,4 @@ remove_call domain path name =
 
 -- the result is this one, or memory ran out
 abbrev pub GivesOrRunsOut : {T : Type 0} → Result T Status → Result T Status → Type 0
-GivesOrRunsOut result answer = (result ≡ answer) ⊎ (result ≡ Err NoMemory)
+GivesOrRunsOut result expected = (result ≡ expected) ⊎ (result ≡ Err NoMemory)

@@ -4,7 +4,8 @@ pub mod Buffers
 pub mod Calls
 pub mod Headers
 pub mod LoadedStores
-pub mod Rows
+pub mod CookieRows
+pub mod RowIters
 pub mod SavedStores
 pub mod StorePtrs
 pub mod Statuses

@@ -12,7 +12,7 @@ use Rattle.cookie_serde.specs.declared.format.Format.{Format}
 use Rattle.cookie_serde.specs.declared.format.Format.TheVariants.{Json, Ron, Netscape}
 use Rattle.cookie_serde.specs.declared.format_error.FormatError.{FormatError}
 use Rattle.cookie_serde.specs.declared.format_error.FormatError.TheVariants as FormatCase
-use Rattle.cookie_store_c.specs.Buffers.{at_front}
+use Rattle.cookie_store_c.specs.Buffers.{at_start}
 use Rattle.cookie_store_c.specs.Calls.{CallOutcome, error_outcome}
 use Rattle.cookie_store_c.specs.Inputs.{text_in}
 use Rattle.cookie_store_c.specs.Options.{Chosen}
@@ -45,7 +45,7 @@ listed chosen (Err why) = rejected (error_status why) []
 -- a string is loaded in a format: a list, or a file, of which a malformed line is an error
 abbrev pub LoadsAs : Format → Chosen → List ℕ → LoadOutcome → Type 0
 LoadsAs Json chosen text loaded = loaded ≡ listed chosen (json_cookies text)
-LoadsAs Ron chosen text loaded = (answer : Result (List Row) Error) × RonCookies text answer × (loaded ≡ listed chosen answer)
+LoadsAs Ron chosen text loaded = (parsed : Result (List Row) Error) × RonCookies text parsed × (loaded ≡ listed chosen parsed)
 LoadsAs Netscape chosen text loaded =
     ((rows : List Row) × (rows_in_file text ≡ Some rows) × (loaded ≡ created chosen rows []))
     ⊎ ((line : ℕ) × IsFirstBad line text × (loaded ≡ rejected BadLine (line ∷ [])))
@@ -69,9 +69,9 @@ abbrev pub LoadsInto : Option Contents → Result (Chosen × List ℕ) Status �
 LoadsInto None given loaded = Loads given loaded
 LoadsInto (Some store) given loaded = loaded ≡ record { outcome = error_outcome (Some store) HasStore; numbers = [] }
 
--- the buffer with the first of the numbers at its front, as many as fit
+-- the buffer with the first of the numbers at its start, as many as fit
 abbrev pub with_numbers : List ℕ → List ℕ → List ℕ
-with_numbers numbers buffer = at_front (take (length buffer) numbers) buffer
+with_numbers numbers buffer = at_start (take (length buffer) numbers) buffer
 
 -- the outcome, its numbers written to the buffer, as many as fit, and how many there are
 abbrev pub LoadsAndReports : Option Contents → Result (Chosen × List ℕ) Status → List ℕ → CallOutcome → List ℕ → ℕ → Type 0

@@ -2,7 +2,7 @@
 ghost use Rattle.std.specs.Prelude.{◌≡◌, ℕ, ◌+◌, ◌^◌, ◌≤◌, ◌++◌, ◌∷◌, [], length, List, IfErr, IfOk, string_bytes};
 ghost use Rattle.std.specs.Option.{MatchOption};
 ghost use Rattle.std.specs.Result.{result_map_both};
-ghost use Rattle.cookie_device.specs.Texts.{joined};
+ghost use Rattle.cookie_device.specs.Joined.{joined};
 ghost use Rattle.cookie_store_c.specs.Buffers.{text_outcome, IsFilledTo};
 ghost use Rattle.cookie_store_c.specs.LoadedStores.{with_numbers};
 
@@ -24,8 +24,8 @@ pub(crate) fn put_all(buffer: &mut [u8], place: usize, texts: &[&str]) -> usize
     requires { place + length (joined texts.now) ≤ length buffer.old }
     ensures end { result ≡ place + length (joined texts.now) }
     ensures long { length buffer.new ≡ length buffer.old }
-    ensures stands { (front before : List ℕ) → IsFilledTo front before buffer.old place
-        → IsFilledTo (front ++ joined texts.now) before buffer.new result }
+    ensures stands { (prefix before : List ℕ) → IsFilledTo prefix before buffer.old place
+        → IsFilledTo (prefix ++ joined texts.now) before buffer.new result }
 {
     let mut end = place;
     for text in texts {
@@ -39,15 +39,15 @@ fn put(buffer: &mut [u8], place: usize, text: &[u8]) -> usize
     requires { place + length text.now ≤ length buffer.old }
     ensures end { result ≡ place + length text.now }
     ensures long { length buffer.new ≡ length buffer.old }
-    ensures stands { (front before : List ℕ) → IsFilledTo front before buffer.old place
-        → IsFilledTo (front ++ text.now) before buffer.new result }
+    ensures stands { (prefix before : List ℕ) → IsFilledTo prefix before buffer.old place
+        → IsFilledTo (prefix ++ text.now) before buffer.new result }
 {
     let end = place + text.len();
     buffer[place..end].copy_from_slice(text);
     end
 }
 
-/// Copies `output` into the front of the buffer, if it is `Ok` and fits, and returns the status.
+/// Copies `output` into the start of the buffer, if it is `Ok` and fits, and returns the status.
 ///
 /// `needed` is set to its length, also if the result is `NoRoom`, and to 0 if `output` is an error.
 pub(crate) fn copy_out(
@@ -74,7 +74,7 @@ pub(crate) fn copy_out(
     }
 }
 
-/// Copies the first of the numbers to the front of the buffer, as many as fit.
+/// Copies the first of the numbers to the start of the buffer, as many as fit.
 pub(crate) fn copy_numbers(numbers: &[usize], buffer: &mut [usize])
     ensures { buffer.new ≡ with_numbers numbers.now buffer.old }
 {

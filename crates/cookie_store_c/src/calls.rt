@@ -1,10 +1,11 @@
 //! Calls that change a store.
 ghost use Rattle.std.specs.Prelude.{◌≡◌, ◌⊎◌, ◌+◌, length, Ok, Some, IfErr, IsOk};
 ghost use Rattle.std.specs.Result.{result_map_both};
+ghost use Rattle.cookie_laws.specs.Contents.{retained};
 ghost use Rattle.cookie_laws.specs.Rows.{key_at};
 ghost use Rattle.cookie_laws.specs.Runs.{Clear, Remove};
 ghost use Rattle.cookie_store_c.specs.Inputs.{text_and_time, moment_in, remove_call, set_call, text_in};
-ghost use Rattle.cookie_store_c.specs.Calls.{expired_outcome, insertion_outcome, limit_outcome, store_outcome, suffixes_error_status, HasOutcome, UsesSuffixText, RunsOut};
+ghost use Rattle.cookie_store_c.specs.Calls.{domain_outcome, expired_outcome, has_other_domain, insertion_outcome, limit_outcome, store_outcome, suffixes_error_status, HasOutcome, UsesSuffixText, RunsOut};
 
 use crate::inputs::{moment_in, request, text_in};
 use crate::status::Status;
@@ -134,6 +135,31 @@ pub(crate) fn remove_expired(store: &mut CookieStore, now: i64, removed: &mut us
     }
 }
 
+/// Removes the cookies of this domain, and sets `removed` to their number, or to 0 on an error.
+pub(crate) fn remove_domain(store: &mut CookieStore, domain: &[u8], removed: &mut usize) -> Status
+    ensures store { record { status = result; store = Some store.new } ≡ domain_outcome (text_in domain.now) (Some store.old) }
+    ensures removed { removed.new + length store.new.rows ≡ length store.old.rows }
+{
+    *removed = 0;
+    match text_in(domain) {
+        Ok(domain) => {
+            *removed = remove_all_of(store, domain);
+            Status::Done
+        }
+        Err(status) => status,
+    }
+}
+
+// Removes the cookies of this domain, and returns how many.
+fn remove_all_of(store: &mut CookieStore, domain: &str) -> usize
+    ensures store { store.new ≡ retained (has_other_domain domain.now) store.old }
+    ensures removed { result + length store.new.rows ≡ length store.old.rows }
+{
+    let before = store.len();
+    store.retain(move |cookie| cookie.domain.as_str() != domain);
+    before - store.len()
+}
+
 /// Limits each domain to `limit` cookies, or returns `BadLimit` if `limit` is 0.
 pub(crate) fn set_domain_limit(store: &mut CookieStore, limit: usize) -> Status
     ensures { record { status = result; store = Some store.new } ≡ limit_outcome limit (Some store.old) }
@@ -170,7 +196,7 @@ pub(crate) fn hash_key(key: &[u8]) -> Result<HashKey, Status>
     }
 }
 
-// The caller's key as a source of random bytes, in place of the system's. It fills the front of a
+// The caller's key as a source of random bytes, in place of the system's. It fills the start of a
 // longer buffer.
 #[derive(Drop)]
 struct CallerBytes<'a> {

@@ -1,17 +1,19 @@
-//! Lists all cookies of a store, as a cookie editor shows them.
+//! Lists cookies, as a cookie editor shows them.
 ghost use Rattle.std.specs.Prelude.{◌≡◌, ◌⊎◌, ◌^◌, ◌≤◌, flat_map, length, map, pos};
 ghost use Rattle.std.specs.Option.{MatchOption};
 ghost use Rattle.std.specs.Int.{int_div_euclid};
 ghost use Rattle.cookie_words.specs.Moments.{moment_of, nanoseconds};
 ghost use Rattle.cookie_parts.specs.Views.{expiry_value};
-ghost use Rattle.cookie_store_c.specs.Buffers.{at_front};
-ghost use Rattle.cookie_store_c.specs.Rows.{expiry_second, nothing_written, row_strings, same_site_code, cookie_row, rows_outcome, IsTooLong};
+ghost use Rattle.cookie_store_c.specs.Buffers.{at_start};
+ghost use Rattle.cookie_store_c.specs.CookieRows.{expiry_second, nothing_written, row_strings, same_site_code, cookie_row, rows_outcome, IsTooLong};
+ghost use Rattle.cookie_store_c.specs.RowIters.{chosen_rows, remaining_rows};
 ghost use Rattle.cookie_store_c.specs.declared.status.Status.TheVariants.{NoMemory};
 
 use crate::buffer::{put_all, with_lengths};
+use crate::row_iter::{RowIter, row_count};
 use crate::status::Status;
 use cookie_store::raw::SameSite;
-use cookie_store::{Cookie, CookieDomain, CookieExpiration, CookieStore, IterAny};
+use cookie_store::{Cookie, CookieDomain, CookieExpiration, CookieStore};
 use cookie_words::epoch;
 use jiff::civil::DateTime;
 
@@ -37,37 +39,40 @@ pub struct CookieRow {
     pub same_site: u32,
 }
 
-/// Writes all rows into `rows`, and their strings, one after the other, into `strings`.
-pub(crate) fn write_rows(
-    store: &CookieStore,
+/// Writes the cookies of a request, or else all those of the store, into `rows`, and their strings,
+/// one after the other, into `strings`.
+pub(crate) fn write_rows<'a>(
+    store: &'a CookieStore,
+    request: &'a [&'a Cookie<'static>],
+    is_request: bool,
     rows: &mut [CookieRow],
     strings: &mut [u8],
     rows_needed: &mut usize,
     strings_needed: &mut usize,
 ) -> Status
     ensures { (record { status = result; rows = rows.new; strings = strings.new; rows_needed = rows_needed.new; strings_needed = strings_needed.new }
-        ≡ rows_outcome store.now.rows rows.old strings.old)
-        ⊎ (IsTooLong store.now.rows
+        ≡ rows_outcome (chosen_rows store.now (map (λ c. c.now) request.now) is_request) rows.old strings.old)
+        ⊎ (IsTooLong (chosen_rows store.now (map (λ c. c.now) request.now) is_request)
         × (record { status = result; rows = rows.new; strings = strings.new; rows_needed = rows_needed.new; strings_needed = strings_needed.new }
         ≡ nothing_written NoMemory rows.old strings.old)) }
 {
     (*rows_needed, *strings_needed) = (0, 0);
-    let Some(length) = strings_len(store.iter_any()) else {
+    let Some(length) = strings_len(RowIter::new(store, request, is_request)) else {
         return Status::NoMemory;
     };
-    let count = store.len();
+    let count = row_count(store, request, is_request);
     (*rows_needed, *strings_needed) = (count, length);
     if rows.len() < count || strings.len() < length {
         return Status::NoRoom;
     }
-    put_rows(store.iter_any(), rows);
-    put_strings(store.iter_any(), strings);
+    put_rows(RowIter::new(store, request, is_request), rows);
+    put_strings(RowIter::new(store, request, is_request), strings);
     Status::Done
 }
 
 // Returns the total length of the strings of all rows, or `None` on overflow.
-fn strings_len(all: IterAny<'_>) -> Option<usize>
-    ensures { MatchOption result (2 ^ 64 ≤ length (flat_map row_strings all.entry)) (λ n. n ≡ length (flat_map row_strings all.entry)) }
+fn strings_len(all: RowIter<'_>) -> Option<usize>
+    ensures { MatchOption result (2 ^ 64 ≤ length (flat_map row_strings (remaining_rows all.entry))) (λ n. n ≡ length (flat_map row_strings (remaining_rows all.entry))) }
 {
     let mut total = 0;
     for row in all {
@@ -84,10 +89,10 @@ fn strings_len(all: IterAny<'_>) -> Option<usize>
     Some(total)
 }
 
-// Writes the strings of all rows to the front of the buffer.
-fn put_strings(all: IterAny<'_>, strings: &mut [u8])
-    requires { length (flat_map row_strings all) ≤ length strings.old }
-    ensures { strings.new ≡ at_front (flat_map row_strings all.entry) strings.old }
+// Writes the strings of all rows to the start of the buffer.
+fn put_strings(all: RowIter<'_>, strings: &mut [u8])
+    requires { length (flat_map row_strings (remaining_rows all)) ≤ length strings.old }
+    ensures { strings.new ≡ at_start (flat_map row_strings (remaining_rows all.entry)) strings.old }
 {
     let mut place = 0;
     for row in all {
@@ -104,10 +109,10 @@ fn put_strings(all: IterAny<'_>, strings: &mut [u8])
     }
 }
 
-// Writes all rows to the front of the buffer.
-fn put_rows(all: IterAny<'_>, rows: &mut [CookieRow])
-    requires { length all ≤ length rows.old }
-    ensures { rows.new ≡ at_front (map cookie_row all.entry) rows.old }
+// Writes all rows to the start of the buffer.
+fn put_rows(all: RowIter<'_>, rows: &mut [CookieRow])
+    requires { length (remaining_rows all) ≤ length rows.old }
+    ensures { rows.new ≡ at_start (map cookie_row (remaining_rows all.entry)) rows.old }
 {
     let mut place = 0;
     for row in all {

@@ -2,14 +2,12 @@
 ghost use Rattle.std.specs.Prelude.{◌≡◌, ◌⊎◌, ◌+◌, ◌&&◌, false, is_some, Ok, Some, None, IsOk, IsSome};
 ghost use Rattle.cookie_laws.specs.Runs.{Clear};
 ghost use Rattle.cookie_store_c.specs.Inputs.{text_and_time, moment_in, remove_call, set_call, text_in};
-ghost use Rattle.cookie_store_c.specs.Buffers.{WritesText, WritesSomeText};
-ghost use Rattle.cookie_store_c.specs.Calls.{expired_outcome, flag_after_new, flag_after_set, in_store, insertion_outcome_in, unchanged_outcome, limit_of, limit_outcome, new_outcome, rows_count, call_outcome, HasOutcome, UsesSuffixes, RunsOut};
+ghost use Rattle.cookie_store_c.specs.Buffers.{WritesSomeText};
+ghost use Rattle.cookie_store_c.specs.Calls.{call_outcome, clone_outcome, domain_outcome, expired_outcome, flag_after_new, flag_after_set, insertion_outcome_in, limit_of, limit_outcome, new_outcome, rows_count, unchanged_outcome, HasOutcome, RunsOut, UsesSuffixes};
 ghost use Rattle.cookie_store_c.specs.Headers.{cross_site, IsCrossSiteHeader, IsHeaderIn};
-ghost use Rattle.cookie_store_c.specs.Rows.{ReportsRows};
 ghost use Rattle.cookie_store_c.specs.Statuses.{IsCodeOf};
 ghost use Rattle.cookie_store_c.specs.declared.status.Status.{Status};
 
-use crate::cookie_row::{self, CookieRow};
 use crate::handle::StoreHandle;
 use crate::status::Status;
 use crate::{calls, header};
@@ -27,33 +25,94 @@ use std::alloc::Global;
 pub extern "C" fn cookie_store_new(alloc: Global, handle: &mut StoreHandle, key: &[u8]) -> u32
     ensures outcome { IsCodeOf result (λ status. HasOutcome (new_outcome handle.old.store_ptr.store) (handle.old.store_ptr.store ≡ None)
         handle.old.store_ptr.store status handle.new.store_ptr.store) }
-    ensures strict { handle.new.is_strict ≡ flag_after_new handle.old.store_ptr.store handle.new.store_ptr.store handle.old.is_strict }
+    ensures strict { handle.new.is_strict ≡ flag_after_new false handle.old.store_ptr.store handle.new.store_ptr.store handle.old.is_strict }
 {
     if let Some(store) = handle.take(alloc) {
         handle.put(alloc, store);
         return Status::HasStore.code();
     }
     match calls::hash_key(key) {
-        Ok(hash_key) => begin(alloc, handle, CookieStore::with_hash_key(alloc, hash_key)).code(),
+        Ok(hash_key) => {
+            let store = CookieStore::with_hash_key(alloc, hash_key);
+            begin(alloc, handle, store, false).code()
+        }
         Err(status) => status.code(),
     }
 }
 
-/// Boxes the store and puts it into the empty handle. It is not strict.
-pub(crate) fn begin(alloc: Global, handle: &mut StoreHandle, store: CookieStore) -> Status
+/// Boxes the store and puts it into the empty handle, strict or not.
+pub(crate) fn begin(
+    alloc: Global,
+    handle: &mut StoreHandle,
+    store: CookieStore,
+    strict: bool,
+) -> Status
     requires { handle.old.store_ptr.store ≡ None }
     ensures outcome { ((result ≡ Status.Done) × (handle.new.store_ptr.store ≡ Some store))
         ⊎ ((result ≡ Status.NoMemory) × (handle.new.store_ptr.store ≡ None)) }
-    ensures strict { handle.new.is_strict ≡ flag_after_new None handle.new.store_ptr.store handle.old.is_strict }
+    ensures strict { handle.new.is_strict ≡ flag_after_new strict None handle.new.store_ptr.store handle.old.is_strict }
 {
     match Box::new(alloc, store) {
         Ok(store) => {
-            handle.is_strict = false;
+            handle.is_strict = strict;
             handle.put(alloc, store);
             Status::Done
         }
         Err(_) => Status::NoMemory,
     }
+}
+
+/// Puts a copy of the store of `handle` into `copy`: the same cookies in the same order, public
+/// suffix list, limit and hash key. The copy is strict if the store is.
+///
+/// The store is unchanged.
+///
+/// # Errors
+///
+/// In the order in which they are checked; `copy` is unchanged:
+/// - `NoStore`: `handle` has no store.
+/// - `HasStore`: `copy` has a store.
+/// - `NoMemory`: out of memory.
+#[unsafe(no_mangle)]
+pub extern "C" fn cookie_store_clone(
+    alloc: Global,
+    handle: &mut StoreHandle,
+    copy: &mut StoreHandle,
+) -> u32
+    ensures outcome { IsCodeOf result (λ status. HasOutcome (clone_outcome handle.old.store_ptr.store copy.old.store_ptr.store)
+        (IsSome handle.old.store_ptr.store × (copy.old.store_ptr.store ≡ None)) copy.old.store_ptr.store status copy.new.store_ptr.store) }
+    ensures strict { copy.new.is_strict
+        ≡ flag_after_new handle.old.is_strict copy.old.store_ptr.store copy.new.store_ptr.store copy.old.is_strict }
+    ensures store { handle.new.store_ptr.store ≡ handle.old.store_ptr.store }
+    ensures flag { handle.new.is_strict ≡ handle.old.is_strict }
+{
+    let Some(store) = handle.take(alloc) else {
+        return Status::NoStore.code();
+    };
+    let status = copy_store(alloc, &store, handle.is_strict, copy);
+    handle.put(alloc, store);
+    status.code()
+}
+
+// Puts a copy of the store into the handle, strict or not, or returns `HasStore` if it has a store.
+fn copy_store(
+    alloc: Global,
+    store: &CookieStore,
+    is_strict: bool,
+    handle: &mut StoreHandle,
+) -> Status
+    ensures outcome { HasOutcome (clone_outcome (Some store.now) handle.old.store_ptr.store) (handle.old.store_ptr.store ≡ None)
+        handle.old.store_ptr.store result handle.new.store_ptr.store }
+    ensures strict { handle.new.is_strict ≡ flag_after_new is_strict handle.old.store_ptr.store handle.new.store_ptr.store handle.old.is_strict }
+{
+    if let Some(held) = handle.take(alloc) {
+        handle.put(alloc, held);
+        return Status::HasStore;
+    }
+    let Ok(copy) = store.clone() else {
+        return Status::NoMemory;
+    };
+    begin(alloc, handle, copy, is_strict)
 }
 
 /// Frees the store of the handle, if there is one.
@@ -335,6 +394,36 @@ pub extern "C" fn cookie_store_remove(
     status.code()
 }
 
+/// Removes the cookies of this domain, host-only cookies and domain cookies, expired or not.
+///
+/// `removed` is set to their number, and to 0 on an error.
+///
+/// # Errors
+///
+/// In the order in which they are checked; the store is unchanged:
+/// - `NoStore`: the handle has no store.
+/// - `NotUtf8`: `domain` is not UTF-8.
+#[unsafe(no_mangle)]
+pub extern "C" fn cookie_store_remove_domain(
+    alloc: Global,
+    handle: &mut StoreHandle,
+    domain: &[u8],
+    removed: &mut usize,
+) -> u32
+    ensures store { IsCodeOf result (λ status. record { status = status; store = handle.new.store_ptr.store }
+        ≡ domain_outcome (text_in domain.now) handle.old.store_ptr.store) }
+    ensures removed { removed.new + rows_count handle.new.store_ptr.store ≡ rows_count handle.old.store_ptr.store }
+    ensures strict { handle.new.is_strict ≡ handle.old.is_strict }
+{
+    *removed = 0;
+    let Some(mut store) = handle.take(alloc) else {
+        return Status::NoStore.code();
+    };
+    let status = calls::remove_domain(&mut store, domain, removed);
+    handle.put(alloc, store);
+    status.code()
+}
+
 /// Removes all cookies, or returns `NoStore` if the handle has no store.
 #[unsafe(no_mangle)]
 pub extern "C" fn cookie_store_clear(alloc: Global, handle: &mut StoreHandle) -> u32
@@ -393,38 +482,4 @@ pub extern "C" fn cookie_store_count(alloc: Global, handle: &mut StoreHandle) ->
     let count = store.len();
     handle.put(alloc, store);
     count
-}
-
-/// Writes all cookies, expired ones included, into `rows`, and their strings into `strings`.
-///
-/// The store is unchanged. `rows_needed` and `strings_needed` are set to the lengths that the
-/// buffers need, and to 0 on any error but `NoRoom`.
-///
-/// # Errors
-///
-/// In the order in which they are checked; `rows` and `strings` are unchanged:
-/// - `NoStore`: the handle has no store.
-/// - `NoMemory`: the strings together have 2^64 bytes or more.
-/// - `NoRoom`: `rows` or `strings` is too short.
-#[unsafe(no_mangle)]
-pub extern "C" fn cookie_store_rows(
-    alloc: Global,
-    handle: &mut StoreHandle,
-    rows: &mut [CookieRow],
-    strings: &mut [u8],
-    rows_needed: &mut usize,
-    strings_needed: &mut usize,
-) -> u32
-    ensures reported { IsCodeOf result (λ status. ReportsRows handle.old.store_ptr.store rows.old strings.old
-        (record { status = status; rows = rows.new; strings = strings.new; rows_needed = rows_needed.new; strings_needed = strings_needed.new })) }
-    ensures store { handle.new.store_ptr.store ≡ handle.old.store_ptr.store }
-    ensures strict { handle.new.is_strict ≡ handle.old.is_strict }
-{
-    (*rows_needed, *strings_needed) = (0, 0);
-    let Some(store) = handle.take(alloc) else {
-        return Status::NoStore.code();
-    };
-    let status = cookie_row::write_rows(&store, rows, strings, rows_needed, strings_needed);
-    handle.put(alloc, store);
-    status.code()
 }

@@ -1,16 +1,16 @@
 //! The `Cookie` header of a request.
-ghost use Rattle.std.specs.Prelude.{◌≡◌, ◌≢◌, [], string_bytes, Err, Some, IfErr, IfOk, IsOk, OnErr};
+ghost use Rattle.std.specs.Prelude.{◌≡◌, ◌≢◌, [], map, string_bytes, Err, Some, IfErr, IfOk, IsOk, OnErr};
 ghost use Rattle.cookie_words.specs.Moments.{moment_of};
 ghost use Rattle.cookie_laws.specs.Given.{given};
 ghost use Rattle.cookie_store_c.specs.Inputs.{text_and_time};
 ghost use Rattle.cookie_store_c.specs.Buffers.{WritesSomeText};
-ghost use Rattle.cookie_store_c.specs.Headers.{cross_site, IsCrossSiteHeader, IsHeader, IsHeaderText};
+ghost use Rattle.cookie_store_c.specs.Headers.{cross_site, AreCookiesOf, IsCrossSiteHeader, IsHeader, IsHeaderText};
 
 use crate::buffer::copy_out;
 use crate::inputs::request;
 use crate::status::Status;
 use cookie_store::strict::{Context, cookies_for};
-use cookie_store::{CookieStore, cookie_string};
+use cookie_store::{Cookie, CookieStore, cookie_string};
 use jiff::civil::DateTime;
 use std::alloc::{AllocError, Global};
 use url::Url;
@@ -102,8 +102,24 @@ fn cookie_header(
     ensures text { IfOk result (λ text. IsHeaderText context url.now (moment_of now) store.now (string_bytes text)) }
     ensures memory { OnErr result (given url.now (moment_of now) store.now.rows ≢ []) }
 {
+    cookie_string(
+        store.allocator(),
+        &header_cookies(store, context, url, now)?,
+    )
+}
+
+// Returns the cookies of a request, or those that a request with a context receives.
+fn header_cookies<'s>(
+    store: &'s CookieStore,
+    context: Option<Context>,
+    url: &Url,
+    now: DateTime,
+) -> Result<Vec<&'s Cookie<'static>>, AllocError>
+    ensures sent { IfOk result (λ cookies. AreCookiesOf context url.now (moment_of now) store.now (map (λ c. c.now) cookies.items)) }
+    ensures memory { OnErr result (given url.now (moment_of now) store.now.rows ≢ []) }
+{
     match context {
-        None => store.cookie_header(url, now),
-        Some(context) => cookie_string(store.allocator(), &cookies_for(store, url, context, now)?),
+        None => store.cookies_in_order(url, now),
+        Some(context) => cookies_for(store, url, context, now),
     }
 }

@@ -1,5 +1,5 @@
 //! The functions that C programs call to save and load a store. `cookie_store.h` documents them.
-ghost use Rattle.std.specs.Prelude.{◌≡◌, ◌⊎◌, length, None, Some, IsOk};
+ghost use Rattle.std.specs.Prelude.{◌≡◌, ◌⊎◌, false, length, None, Some, IsOk};
 ghost use Rattle.cookie_store_c.specs.Buffers.{WritesText};
 ghost use Rattle.cookie_store_c.specs.Calls.{flag_after_new, in_store, RunsOut};
 ghost use Rattle.cookie_store_c.specs.LoadedStores.{numbers_of, to_load, with_numbers, LoadsAndReports};
@@ -95,7 +95,7 @@ pub extern "C" fn cookie_store_load(
         ⊎ ((lines.new ≡ lines.old) × (malformed.new ≡ 0)
         × RunsOut ((handle.old.store_ptr.store ≡ None) × IsOk (to_load (options_in format which now) list.now))
         handle.old.store_ptr.store status handle.new.store_ptr.store)) }
-    ensures strict { handle.new.is_strict ≡ flag_after_new handle.old.store_ptr.store handle.new.store_ptr.store handle.old.is_strict }
+    ensures strict { handle.new.is_strict ≡ flag_after_new false handle.old.store_ptr.store handle.new.store_ptr.store handle.old.is_strict }
 {
     *malformed = 0;
     if let Some(store) = handle.take(alloc) {
@@ -122,13 +122,13 @@ fn begin_loaded(
     ensures outcome { ((result ≡ Status.Done) × (handle.new.store_ptr.store ≡ Some loaded.store)
         × (lines.new ≡ with_numbers loaded.malformed.items lines.old) × (malformed.new ≡ length loaded.malformed.items))
         ⊎ ((result ≡ Status.NoMemory) × (handle.new.store_ptr.store ≡ None) × (lines.new ≡ lines.old) × (malformed.new ≡ 0)) }
-    ensures strict { handle.new.is_strict ≡ flag_after_new None handle.new.store_ptr.store handle.old.is_strict }
+    ensures strict { handle.new.is_strict ≡ flag_after_new false None handle.new.store_ptr.store handle.old.is_strict }
 {
     let WellFormed {
         store,
         malformed: numbers,
     } = loaded;
-    let status = begin(alloc, handle, store);
+    let status = begin(alloc, handle, store, false);
     if status == Status::Done {
         copy_numbers(&numbers, lines);
         *malformed = numbers.len();

@@ -167,8 +167,8 @@ fn is_rest_loaded(
     fake: Fake<&[u8]>,
 ) {
     let taken = row.3.saturating_sub(1).saturating_mul(row.2);
-    let left = text.as_bytes().get(taken.min(text.len())..);
-    is_equal(rt, &Some(fake.inner), &left, row);
+    let unread = text.as_bytes().get(taken.min(text.len())..);
+    is_equal(rt, &Some(fake.inner), &unread, row);
     let wanted = outcome_of(alloc, url, row, fake.inner);
     is_loaded_so(rt, alloc, url, row, fake, &wanted);
 }

@@ -137,20 +137,20 @@ static REPLIES: [Received; 8] = [
 // A domain, a path, a name, and whether the stored cookie has expired; `None` if there is none.
 type StoredRow = (&'static str, &'static str, &'static str, Option<bool>);
 
-static LEFT: [StoredRow; 4] = [
+static STORED: [StoredRow; 4] = [
     ("example.com", "/foo", "c", Some(true)),
     ("example.com", "/", "c", None),
     ("bar.example.com", "/foo", "c", None),
     ("example.com", "/foo", "d", None),
 ];
 
-fn has_stored_row(rt: &impl Abort, way: InsertCall, store: &CookieStore, left: &StoredRow) {
-    let (domain, path, name, has_ended) = *left;
+fn has_stored_row(rt: &impl Abort, way: InsertCall, store: &CookieStore, stored: &StoredRow) {
+    let (domain, path, name, has_expired) = *stored;
     let is_expired = match store.get_any(domain, path, name) {
         Some(row) => Some(row.is_expired(new_year())),
         None => None,
     };
-    is_equal(rt, &is_expired, &has_ended, &(way, left));
+    is_equal(rt, &is_expired, &has_expired, &(way, stored));
 }
 
 fn is_replied(
@@ -178,8 +178,8 @@ fn cookies_are_inserted_by_each_call(rt: HostRuntime) {
         for received in &REPLIES {
             is_replied(&rt, rt.alloc(), *way, &mut store, received);
         }
-        for left in &LEFT {
-            has_stored_row(&rt, *way, &store, left);
+        for stored in &STORED {
+            has_stored_row(&rt, *way, &store, stored);
         }
     }
 }

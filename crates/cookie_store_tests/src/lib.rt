@@ -34,6 +34,8 @@ mod json;
 #[cfg(test)]
 mod large;
 #[cfg(test)]
+mod list_search;
+#[cfg(test)]
 mod list_texts;
 #[cfg(test)]
 mod lists;
@@ -50,7 +52,11 @@ mod migrated;
 #[cfg(test)]
 mod netscape;
 #[cfg(test)]
+mod own_lists;
+#[cfg(test)]
 mod responses;
+#[cfg(test)]
+mod retained;
 #[cfg(test)]
 mod ron;
 #[cfg(test)]

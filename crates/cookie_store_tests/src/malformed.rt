@@ -125,23 +125,23 @@ fn a_truncated_list_is_rejected(rt: HostRuntime) {
         for length in 0..bytes.len() {
             let is_whole = length.saturating_add(1) == bytes.len();
             let wanted = if is_whole { "none" } else { fault };
-            let front = &bytes[..length];
-            is_rejected(&rt, rt.alloc(), *shape, &Selection::All, front, wanted);
+            let prefix = &bytes[..length];
+            is_rejected(&rt, rt.alloc(), *shape, &Selection::All, prefix, wanted);
         }
     }
 }
 
 // Whether the first `length` bytes of lines of JSON end within an object.
 fn ends_within_an_object(bytes: &[u8], length: usize) -> bool {
-    let (front, rest) = bytes.split_at(length.min(bytes.len()));
-    !front.is_empty() && !front.ends_with(b"\n") && !rest.starts_with(b"\n")
+    let (prefix, rest) = bytes.split_at(length.min(bytes.len()));
+    !prefix.is_empty() && !prefix.ends_with(b"\n") && !rest.starts_with(b"\n")
 }
 
 // Checks that a prefix of the lines loads as the first cookies.
-fn has_first_rows(rt: &impl Abort, alloc: Global, front: &str) {
-    let count = front.lines().count().min(json::RECEIVED.len());
+fn has_first_rows(rt: &impl Abort, alloc: Global, prefix: &str) {
+    let count = prefix.lines().count().min(json::RECEIVED.len());
     let same = store_of(rt, alloc, &json::RECEIVED[..count]);
-    let store = loaded(rt, alloc, Shape::JsonLines, FROM, &Selection::All, front);
+    let store = loaded(rt, alloc, Shape::JsonLines, FROM, &Selection::All, prefix);
     has_the_same_rows(rt, &store, &same);
 }
 
@@ -151,19 +151,19 @@ fn has_first_rows(rt: &impl Abort, alloc: Global, front: &str) {
 fn lines_truncated_within_an_object_are_rejected(rt: HostRuntime) {
     let bytes = json::LINES.as_bytes();
     for length in 0..bytes.len() {
-        let front = &bytes[..length];
+        let prefix = &bytes[..length];
         if ends_within_an_object(bytes, length) {
             is_rejected(
                 &rt,
                 rt.alloc(),
                 Shape::JsonLines,
                 &Selection::All,
-                front,
+                prefix,
                 "no JSON",
             );
         } else {
-            let front = str::from_utf8(front).expect(&rt, "ASCII");
-            has_first_rows(&rt, rt.alloc(), front);
+            let prefix = str::from_utf8(prefix).expect(&rt, "ASCII");
+            has_first_rows(&rt, rt.alloc(), prefix);
         }
     }
 }

@@ -109,8 +109,8 @@ fn inserts_all(rt: &impl Abort, alloc: Global, store: &mut CookieStore, steps: &
 fn a_limit_evicts_secure_cookies_last(rt: HostRuntime) {
     let mut store = CookieStore::new(rt.alloc()).with_domain_limit(3);
     inserts_all(&rt, rt.alloc(), &mut store, &LIMITED);
-    let left = "d=2; g=1; e=3; a=1";
-    are_all(&rt, rt.alloc(), &store, left, &left);
+    let stored = "d=2; g=1; e=3; a=1";
+    are_all(&rt, rt.alloc(), &store, stored, &stored);
 }
 
 #[test]

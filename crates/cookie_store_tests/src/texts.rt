@@ -51,7 +51,7 @@ pub fn are_given(
     is_equal(rt, &header.as_str(), &wanted.1, row);
 }
 
-// Checks the Cookie header of a request for the URL.
+// Checks the Cookie header of a request for the URL; `wanted` is empty if there is none.
 fn is_sent(
     rt: &impl Abort,
     store: &CookieStore,
@@ -61,7 +61,8 @@ fn is_sent(
     row: &impl Debug,
 ) {
     let sent = store.cookie_header(url, now).expect(rt, "memory");
-    is_equal(rt, &sent.as_str(), &wanted, row);
+    let wanted = Some(wanted).filter(|wanted| !wanted.is_empty());
+    is_equal(rt, &sent.as_deref(), &wanted, row);
 }
 
 // Checks the Cookie header for a URL at the time, and the order of its cookies.

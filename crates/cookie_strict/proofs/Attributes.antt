@@ -12,8 +12,8 @@ use Rattle.std.proofs.lemmas.Iterator.Splits.{YieldsList-from_str_split}
 use Rattle.std.proofs.lemmas.List.{drop_all}
 use Rattle.std.proofs.lemmas.List.Splits.{slice_split-cons_yes, slice_split-cons_no, slice_split_first, slice_split_none}
 use Rattle.std.proofs.lemmas.List.Sums.{fails_before_first}
-use Rattle.cookie_words.specs.Texts.{pieces}
-use Rattle.cookie_raw.specs.Reading.{attributes, is_equals, is_semicolon, name_of, pair_of, value_of}
+use Rattle.cookie_words.specs.Strings.{pieces}
+use Rattle.cookie_raw.specs.SetCookie.{attributes, is_equals, is_semicolon, name_of, pair_of, value_of}
 use Rattle.cookie_strict.specs.HeaderValue.{is_long, joined_attributes, short_attributes, without_long_attributes}
 
 -- trimming an empty string gives an empty string

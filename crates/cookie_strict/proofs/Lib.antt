@@ -1,9 +1,11 @@
 pub mod AdmittedCookies
 pub mod AllowedCalls
 pub mod Attributes
+pub mod CheckedPairs
 pub mod HostCookies
 pub mod Letters
 pub mod Responses
 pub mod SecureRows
 pub mod ShortAttributes
+pub mod ShortValues
 pub mod SiteCookies

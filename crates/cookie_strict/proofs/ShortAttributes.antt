@@ -7,9 +7,9 @@ use Rattle.std.proofs.lemmas.Bool.{cases_Bool, cond_both}
 use Rattle.std.proofs.lemmas.List.Splits.{slice_split-cons_yes, slice_split-cons_no}
 use Rattle.url.specs.Parts.{Parts}
 use Rattle.cookie_words.specs.Moments.{Moment}
-use Rattle.cookie_words.specs.Texts.{pieces, without_dot}
+use Rattle.cookie_words.specs.Strings.{pieces, without_dot}
 use Rattle.cookie_raw.specs.Raw.{Raw}
-use Rattle.cookie_raw.specs.Reading.{accepted_value, attribute_is_named, attributes, domain_from, has_equals, http_only_from, is_semicolon, last, last_accepted, name_of, pair_of, reading, value_of}
+use Rattle.cookie_raw.specs.SetCookie.{accepted_value, attribute_is_named, attributes, domain_from, has_equals, http_only_from, is_semicolon, last, last_accepted, name_of, pair_of, reading, value_of}
 use Rattle.cookie_raw.specs.declared.error.RawCookieParseError.{RawCookieParseError}
 use Rattle.cookie_raw.proofs.JoinedPieces.{Attribute, IsWellPrinted, attributes_of_joined, joined, pair_of_joined, present}
 use Rattle.cookie_parts.specs.Cookie.{Row, and_then, cookie_from_header, cookie_of, domain_for, early, host_only_domain, is_out_of_reach}
@@ -63,7 +63,7 @@ short_well [] k = tt
 short_well (part ∷ parts) k = kept_well (not (is_long part)) part (short_attributes parts) k.0 (short_well parts k.1)
 
 -- the name-value pair stays
-pair_stays : (text : List ℕ) → pair_of (without_long_attributes text) ≡ pair_of text
+pub pair_stays : (text : List ℕ) → pair_of (without_long_attributes text) ≡ pair_of text
 pair_stays text =
     let short = short_attributes (attributes text) in
     ap (λ xs. pair_of (pair_of text ++ xs)) (sym (joined_printed short))
@@ -171,7 +171,7 @@ early_short text url is =
 
 -- the result is out of memory, or this error if there is one
 abbrev IsErrorOf : Option CookieError → Result Row CookieError → Type 0
-IsErrorOf error answer = ReturnsOrMemory (λ (cookie : Row). cookie) (Err (unwrap_or error Memory)) answer
+IsErrorOf error expected = ReturnsOrMemory (λ (cookie : Row). cookie) (Err (unwrap_or error Memory)) expected
 
 by_host : (host : Option (List ℕ)) (next : DomainValue → Result Row CookieError)
     → IsErrorOf (if is_none host then Some NonRelativeScheme else None) (and_then (host_only_domain host) next)
@@ -183,10 +183,10 @@ by_domain : (domain : Option (List ℕ)) (url : Parts) (next : DomainValue → R
 by_domain None url next = by_host (host_of url) next
 by_domain (Some domain) url next = tt
 
-by_reach : (beyond : Bool) (error : Option CookieError) (answer : Result Row CookieError) → IsErrorOf error answer
-    → IsErrorOf (if beyond then Some NonHttpScheme else error) (if beyond then Err NonHttpScheme else answer)
-by_reach true error answer is = refl
-by_reach false error answer is = is
+by_reach : (beyond : Bool) (error : Option CookieError) (expected : Result Row CookieError) → IsErrorOf error expected
+    → IsErrorOf (if beyond then Some NonHttpScheme else error) (if beyond then Err NonHttpScheme else expected)
+by_reach true error expected is = refl
+by_reach false error expected is = is
 
 of_reading : (read : Result Raw RawCookieParseError) (url : Parts) (now : Moment)
     → IsErrorOf (early read url) (and_then (result_map_both (λ raw. raw) (λ _. Parse) read) (λ raw. cookie_of raw url now))

@@ -20,7 +20,7 @@ use Rattle.cookie_strict.specs.StrictRuns.{allowed_calls}
 use Rattle.cookie_strict.proofs.AllowedCalls.{proper_at, IsProper}
 
 -- a domain that passes the test covers the host
-front-ends_with : (text end : List ℕ) → ends_with nat_eq text end ≡ true → (front : List ℕ) × (text ≡ front ++ end)
+front-ends_with : (text end : List ℕ) → ends_with nat_eq text end ≡ true → (prefix : List ℕ) × (text ≡ prefix ++ end)
 front-ends_with text end is =
     (take (length text - length end) text, (ends_is Decides-eqb text end (ends_with nat_eq text end) refl).0 is)
 

@@ -5,7 +5,7 @@ use Rattle.std.specs.Result.{result_map_both}
 use Rattle.url.specs.Parts.{Parts}
 use Rattle.cookie_words.specs.Moments.{Moment}
 use Rattle.cookie_raw.specs.Raw.{Raw}
-use Rattle.cookie_raw.specs.Reading.{accepted_value, attributes, domain_from, http_only_from, pair_of, reading, value_of}
+use Rattle.cookie_raw.specs.SetCookie.{accepted_value, attributes, domain_from, http_only_from, pair_of, reading, value_of}
 use Rattle.cookie_parts.specs.Cookie.{Row, cookie_from_header, early}
 use Rattle.cookie_parts.specs.Hosts.{host_of, is_http_scheme}
 use Rattle.cookie_parts.specs.declared.cookie_error.CookieError.{CookieError}

@@ -1,7 +1,7 @@
 -- How long a cookie may last, draft-ietf-httpbis-rfc6265bis 5.5.
 use Rattle.std.specs.Prelude.{ℕ, if◌then◌else◌}
 use Rattle.cookie_words.specs.Moments.{Moment}
-use Rattle.cookie_raw.specs.Reading.{of_seconds}
+use Rattle.cookie_raw.specs.SetCookie.{of_seconds}
 use Rattle.cookie_parts.specs.Cookie.{Row}
 use Rattle.cookie_parts.specs.Expiry.{Expiry, AtUtc, SessionEnd, expiry_of_max_age, has_passed}
 

@@ -84,7 +84,7 @@ abbrev pub strict_store_after : List Call → Contents → Contents
 strict_store_after [] store = store
 strict_store_after (call ∷ calls) store = strict_store_after calls (store_after_call (strict_call call store) store)
 
--- the plain calls of a call in front, if it is allowed
+-- the plain calls of a call before others, if it is allowed
 abbrev pub allowed_first : Result Call StrictError → Contents → List Call → List Call
 allowed_first (Ok call) store calls = plain_calls call store ++ calls
 allowed_first (Err error) store calls = calls

@@ -1,7 +1,7 @@
 //! What is checked of a Set-Cookie header value before it is parsed.
-ghost use Rattle.std.specs.Prelude.{◌≡◌, ◌++◌, IfOk, OnOk, string_bytes};
-ghost use Rattle.cookie_words.specs.Texts.{pieces};
-ghost use Rattle.cookie_raw.specs.Reading.{attributes, name_of, value_of};
+ghost use Rattle.std.specs.Prelude.{◌≡◌, ◌++◌, IfErr, IfOk, None, Ok, OnOk, Some, string_bytes};
+ghost use Rattle.cookie_words.specs.Strings.{pieces};
+ghost use Rattle.cookie_raw.specs.SetCookie.{attributes, name_of, reading, value_of};
 ghost use Rattle.std.specs.List.{list_any};
 ghost use Rattle.cookie_strict.specs.HeaderValue.{has_control, header_error, is_control, is_long, is_too_long, joined_attributes, pair_error, short_attributes, without_long_attributes};
 
@@ -19,7 +19,12 @@ const LONGEST_VALUE: usize = 1_024;
 fn has_control(text: &str) -> bool
     ensures { result ≡ has_control text.now }
 {
-    text.as_bytes().iter().any(|byte| is_control(*byte))
+    // the loop has no early exit, so that it is compiled to vector instructions
+    let mut found = false;
+    for byte in text.as_bytes() {
+        found |= is_control(*byte);
+    }
+    found
 }
 
 // Whether the byte is a control character other than HTAB.
@@ -29,18 +34,28 @@ fn is_control(byte: u8) -> bool
     byte < 32 && byte != b'\t' || byte == 127
 }
 
-/// Returns the error that is found before the attributes are parsed: a control character, no cookie,
-/// or a cookie that is too long.
-pub(crate) fn header_error(text: &str) -> Option<StrictError>
-    ensures { result ≡ header_error text.now }
+/// Parses the header value.
+///
+/// # Errors
+///
+/// In the order in which they are checked: `ControlCharacter`, `Cookie(Parse)`, `TooLong`.
+pub(crate) fn checked_raw(text: &str) -> Result<RawCookie<'_>, StrictError>
+    ensures raw { IfOk result (λ raw. reading text.now ≡ Ok raw) }
+    ensures pair { IfOk result (λ raw. pair_error raw ≡ None) }
+    ensures passed { OnOk result (header_error text.now ≡ None) }
+    ensures error { IfErr result (λ error. header_error text.now ≡ Some error) }
 {
     if has_control(text) {
-        return Some(StrictError::ControlCharacter);
+        return Err(StrictError::ControlCharacter);
     }
-    match RawCookie::parse(text) {
-        Ok(raw) => pair_error(&raw),
-        Err(_) => Some(StrictError::Cookie(CookieError::Parse)),
+    let Ok(raw) = RawCookie::parse(text) else {
+        return Err(StrictError::Cookie(CookieError::Parse));
+    };
+    // name and value are slices of the header value, and so have no control character
+    if is_too_long(&raw) {
+        return Err(StrictError::TooLong);
     }
+    Ok(raw)
 }
 
 /// Returns the error of the name and the value: a control character, or both together are too long.
@@ -67,6 +82,10 @@ fn is_too_long(raw: &RawCookie<'_>) -> bool
 pub(crate) fn has_long_attribute(text: &str) -> bool
     ensures { result ≡ list_any is_long (attributes text.now) }
 {
+    // a shorter header value has no such attribute, and most are shorter
+    if text.len() <= LONGEST_VALUE {
+        return false;
+    }
     match text.split_once(';') {
         Some((_, rest)) => is_any_long(rest),
         None => false,

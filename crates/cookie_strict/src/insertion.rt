@@ -2,7 +2,7 @@
 ghost use Rattle.std.specs.Prelude.{◌≡◌, ◌≢◌, false, Err, None, Ok, Some, IfErr, IfOk, IsTrue, OnErr, OnOk};
 ghost use Rattle.std.specs.List.{list_any};
 ghost use Rattle.cookie_words.specs.Moments.{moment_of};
-ghost use Rattle.cookie_raw.specs.Reading.{attributes, reading};
+ghost use Rattle.cookie_raw.specs.SetCookie.{attributes, reading};
 ghost use Rattle.cookie_parts.specs.Cookie.{cookie_from_header, early};
 ghost use Rattle.cookie_parts.specs.Outcomes.{ReturnsOrMemory};
 ghost use Rattle.cookie_parts.specs.declared.cookie_error.CookieError.{CookieError};
@@ -10,19 +10,22 @@ ghost use Rattle.cookie_parts.specs.declared.cookie_error.CookieError.TheVariant
 ghost use Rattle.cookie_laws.specs.Contents.{HasCreationOrder};
 ghost use Rattle.cookie_laws.specs.Rows.{are_rows};
 ghost use Rattle.cookie_laws.specs.Runs.{step, Insert, Set, Stored};
-ghost use Rattle.cookie_strict.specs.HeaderValue.{header_error, is_long, without_long_attributes, PassesEarlyChecks};
+ghost use Rattle.cookie_core.specs.Insertions.{IsAccepted};
+ghost use Rattle.cookie_strict.specs.HeaderValue.{header_error, is_long, pair_error, without_long_attributes, PassesEarlyChecks};
 ghost use Rattle.cookie_strict.specs.StrictRuns.{allowed_insertion, site_reply, strict_call, strict_insertion, store_after_call, InsertsNew, IsStrictReply};
 ghost use Rattle.cookie_strict.specs.declared.error.StrictError.{StrictError};
 ghost use Rattle.cookie_strict.specs.declared.error.StrictError.TheVariants as strict_error;
 
-use crate::header_value::{has_long_attribute, header_error, pair_error, without_long_attributes};
+use crate::header_value::{checked_raw, has_long_attribute, pair_error, without_long_attributes};
 use crate::rules::{broken_rule, index_secure, limited_expiry};
 use crate::short_attributes::early_error;
 use crate::site::is_above_site;
 use crate::{StrictError, StrictResult};
-use cookie_core::{CookieStore, InsertResult};
+use cookie_core::{Acceptance, CookieStore};
 use cookie_laws::evictions_are_removals;
 use cookie_parts::{Cookie, CookieError, CookieResult};
+use cookie_raw::RawCookie;
+use cookie_rows::EvictionOrder;
 use jiff::civil::DateTime;
 use std::alloc::Global;
 use url::Url;
@@ -57,21 +60,28 @@ pub fn parse(store: &mut CookieStore, text: &str, url: &Url, now: DateTime) -> S
         → (error : CookieError) → early (reading text.now) url.now ≡ Some error → result ≡ Err (strict_error.Cookie error) }
     ensures memory { result ≡ Err (strict_error.Cookie Memory) → PassesEarlyChecks text.now url.now }
 {
-    if let Some(error) = header_error(text) {
-        return Err(error);
-    }
-    let cookie = owned_cookie(store.allocator(), text, url, now)?;
-    insert(store, cookie, url, now)
+    let raw = checked_raw(text)?;
+    let cookie = owned_cookie(store.allocator(), text, raw, url, now)?;
+    insert_checked(store, cookie, url, now)
 }
 
-// The cookie of the header value, without the attributes whose value is too long.
-fn owned_cookie(alloc: Global, text: &str, url: &Url, now: DateTime) -> CookieResult<'static>
+// The cookie of the header value, which was parsed as `raw`, without the attributes whose value is
+// too long.
+fn owned_cookie(
+    alloc: Global,
+    text: &str,
+    raw: RawCookie<'_>,
+    url: &Url,
+    now: DateTime,
+) -> CookieResult<'static>
+    requires raw { reading text.now ≡ Ok raw }
+    ensures pair { IfOk result (λ cookie. pair_error cookie.raw ≡ pair_error raw.entry) }
     ensures early { (error : CookieError) → early (reading (without_long_attributes text.now)) url.now ≡ Some error
         → result ≡ Err error }
     ensures value { ReturnsOrMemory (λ cookie. cookie) result (cookie_from_header (without_long_attributes text.now) url.now (moment_of now)) }
 {
     if !has_long_attribute(text) {
-        return Cookie::parse_owned(alloc, text, url, now);
+        return Cookie::from_raw_owned(alloc, raw, url, now);
     }
     match without_long_attributes(alloc, text) {
         Ok(short) => Cookie::parse_owned(alloc, short.as_str(), url, now),
@@ -120,6 +130,24 @@ pub fn insert(
     if let Some(error) = pair_error(cookie.raw()) {
         return Err(error);
     }
+    insert_checked(store, cookie, url, now)
+}
+
+// Inserts a cookie whose name and value passed `pair_error`.
+fn insert_checked(
+    store: &mut CookieStore,
+    cookie: Cookie<'static>,
+    url: &Url,
+    now: DateTime,
+) -> StrictResult
+    requires pair { pair_error cookie.raw ≡ None }
+    ensures reply { IsStrictReply result (strict_insertion cookie.entry url.now (moment_of now) store.old) store.old }
+    ensures store { OnOk result (store.new
+        ≡ store_after_call (strict_insertion cookie.entry url.now (moment_of now) store.old) store.old) }
+    ensures unchanged { OnErr result (store.new ≡ store.old) }
+    ensures memory { result ≡ Err (strict_error.Cookie Memory)
+        → InsertsNew (strict_insertion cookie.entry url.now (moment_of now) store.old) store.old }
+{
     let mut cookie = cookie;
     cookie.expires = limited_expiry(cookie.expires, now);
     insert_limited(store, cookie, url, now)
@@ -139,28 +167,30 @@ fn insert_limited(
     ensures memory { result ≡ Err (strict_error.Cookie Memory)
         → InsertsNew (allowed_insertion cookie.entry url.now (moment_of now) store.old) store.old }
 {
-    check_insert(store, &cookie, url, now)?;
+    let acceptance = check_insert(store, &cookie, url, now)?;
     index_secure(store, &cookie, url);
     if let Some(error) = broken_rule(store, &cookie, url, now) {
         return Err(error);
     }
     // for the checker: the eviction leaves what the removals leave
     evictions_are_removals();
-    Ok(store.insert_secure_last(cookie, url, now)?)
+    Ok(store.insert_accepted(cookie, acceptance, EvictionOrder::SecureLast, now)?)
 }
 
-// Returns what the store would return for the cookie, and `PublicSuffix` for a domain cookie above
-// the site of the URL's host, but never `Memory`.
+// Returns how the store accepts the cookie, or why it does not, and `PublicSuffix` for a domain cookie
+// above the site of the URL's host, but never `Memory`.
 #[tactic(auto, unfolding(cookie_laws::specs::Acceptance::accept))]
 fn check_insert(
     store: &CookieStore,
     cookie: &Cookie<'static>,
     url: &Url,
     now: DateTime,
-) -> InsertResult
-    ensures reply { result ≡ site_reply cookie.now url.now (moment_of now) store.now }
-    ensures accepted { IfOk result (λ action.
-        (step (Insert cookie.now url.now (moment_of now)) store.now).reply ≡ Stored (Ok action)) }
+) -> Result<Acceptance, CookieError>
+    ensures reply { IfOk result (λ acceptance. site_reply cookie.now url.now (moment_of now) store.now ≡ Ok acceptance.action) }
+    ensures rejected { IfErr result (λ error. site_reply cookie.now url.now (moment_of now) store.now ≡ Err error) }
+    ensures accepted { IfOk result (λ acceptance. IsAccepted url.now store.now cookie.now (moment_of now) acceptance) }
+    ensures inserted { IfOk result (λ acceptance.
+        (step (Insert cookie.now url.now (moment_of now)) store.now).reply ≡ Stored (Ok acceptance.action)) }
     ensures errors { IfErr result (λ error. error ≢ Memory) }
     ensures in_order { OnOk result (IsTrue (are_rows store.now.rows)) }
     ensures has_creation_order { OnOk result (HasCreationOrder store.now) }
@@ -172,5 +202,8 @@ fn check_insert(
     {
         return Err(CookieError::PublicSuffix);
     }
-    store.check_stored(cookie, url, now)
+    Ok(Acceptance {
+        is_host_only,
+        action: store.check_stored(cookie, url, now)?,
+    })
 }

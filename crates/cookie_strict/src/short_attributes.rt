@@ -1,7 +1,7 @@
 //! The errors of a Set-Cookie header value that its short attributes show.
 ghost use Rattle.std.specs.Prelude.{◌≡◌, is_ok};
-ghost use Rattle.cookie_words.specs.Texts.{pieces};
-ghost use Rattle.cookie_raw.specs.Reading.{attributes, domain_from, http_only_from, reading};
+ghost use Rattle.cookie_words.specs.Strings.{pieces};
+ghost use Rattle.cookie_raw.specs.SetCookie.{attributes, domain_from, http_only_from, reading};
 ghost use Rattle.cookie_parts.specs.Cookie.{early};
 ghost use Rattle.cookie_strict.specs.HeaderValue.{attribute_error, has_short, is_short, without_long_attributes};
 

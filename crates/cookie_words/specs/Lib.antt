@@ -1,3 +1,3 @@
 pub mod Moments
 pub mod Steps
-pub mod Texts
+pub mod Strings

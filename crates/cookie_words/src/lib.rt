@@ -5,7 +5,7 @@
 ghost use Rattle.std.specs.Prelude.{◌≡◌};
 ghost use Rattle.jiff_core.specs.declared.civil.datetime.DateTime.{DateTime};
 ghost use Rattle.cookie_words.specs.Moments.{moment_at, moment_of, nanoseconds};
-ghost use Rattle.cookie_words.specs.Texts.{without_dot};
+ghost use Rattle.cookie_words.specs.Strings.{without_dot};
 
 mod dates;
 mod digits;

@@ -1,4 +1,3 @@
-pub mod BuiltStores
 pub mod OtherNames
 pub mod SafeTexts
 pub mod ShownValues

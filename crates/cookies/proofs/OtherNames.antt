@@ -4,7 +4,7 @@ use Rattle.std.specs.Str.{bytes_eq}
 use Rattle.std.proofs.lemmas.Bool.{false_from_ne_true}
 use Rattle.std.proofs.lemmas.Slice.Eq.{bytes_eq-Decides}
 use Rattle.cookies.specs.FileNames.{input_name, output_name}
-use Rattle.cookies.specs.Formats.{format_of_name}
+use Rattle.cookies.specs.FileFormats.{format_of_name}
 
 -- different strings compare as different
 pub differ : (xs ys : List ℕ) → (xs ≡ ys → ⊥) → bytes_eq xs ys ≡ false

@@ -1,10 +1,10 @@
 pub mod Cells
 pub mod Domains
-pub mod Edits
+pub mod EditedFiles
 pub mod Escapes
 pub mod FileNames
-pub mod Formats
+pub mod FileFormats
 pub mod Purges
-pub mod Requests
-pub mod Statuses
+pub mod SentCookies
+pub mod ExitStatuses
 pub mod Storage

@@ -1,22 +1,20 @@
 -- Which cookies `purge` removes.
-use Rattle.std.specs.Prelude.{ℕ, Bool, false, not, ◌&&◌, ◌||◌, List, bytes_eq, filter, Option, Some, None}
-use Rattle.std.specs.Option.{option_copied}
+use Rattle.std.specs.Prelude.{ℕ, Bool, not, ◌&&◌, ◌||◌, List, bytes_eq, Option, Some, None}
 use Rattle.cookie_words.specs.Moments.{Moment}
 use Rattle.cookie_parts.specs.Cookie.{Row, is_expired, is_persistent}
 use Rattle.cookie_parts.specs.Domain.{domain_text}
+use Rattle.cookie_store.specs.Contents.{Contents, retained}
 use Rattle.cookies.specs.declared.purge.Purge.{Purge}
 
--- this is the domain whose cookies are removed
-abbrev pub names_domain : Option (List ℕ) → List ℕ → Bool
-names_domain None domain = false
-names_domain (Some named) domain = bytes_eq named domain
+-- the cookie has expired, or is a session cookie, and such cookies are removed
+abbrev pub is_stale : Bool → Bool → Moment → Row → Bool
+is_stale expired session now row = (expired && is_expired now row) || (session && not (is_persistent row.expires))
 
--- the cookie has expired, is a session cookie or has the domain, and these are removed
-abbrev pub is_removed : Purge → Moment → Row → Bool
-is_removed purge now row =
-    (purge.is_expired && is_expired now row) || (purge.is_session && not (is_persistent row.expires))
-    || names_domain (option_copied purge.domain) (domain_text row.domain)
+-- the store without these
+abbrev pub without_stale : Purge → Moment → Contents → Contents
+without_stale purge now store = retained (λ row. not (is_stale purge.is_expired purge.is_session now row)) store
 
--- the cookies that remain, in their order
-abbrev pub remaining_rows : Purge → Moment → List Row → List Row
-remaining_rows purge now rows = filter (λ row. not (is_removed purge now row)) rows
+-- the store without the cookies of the domain, if one is named
+abbrev pub without_domain : Option (List ℕ) → Contents → Contents
+without_domain None store = store
+without_domain (Some named) store = retained (λ row. not (bytes_eq named (domain_text row.domain))) store

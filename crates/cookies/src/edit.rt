@@ -2,7 +2,7 @@
 ghost use Rattle.std.specs.Prelude.{◌≡◌, [], IfOk, string_bytes};
 ghost use Rattle.std.specs.Option.{option_copied};
 ghost use Rattle.cookie_store.specs.NetscapeLists.{file_text};
-ghost use Rattle.cookies.specs.Edits.{AfterRemoval, AfterSet, has_row, new_row};
+ghost use Rattle.cookies.specs.EditedFiles.{AfterRemoval, AfterSet, has_row, new_row};
 
 use crate::error::FileError;
 use crate::format::FileFormat;

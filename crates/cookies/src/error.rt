@@ -2,7 +2,7 @@
 ghost use Rattle.std.specs.Prelude.{◌≡◌, IfOk, string_bytes};
 ghost use Rattle.std.specs.Str.{NoCharPasses};
 ghost use Rattle.cookies.specs.Escapes.{is_escaped};
-ghost use Rattle.cookies.specs.Statuses.{status_of};
+ghost use Rattle.cookies.specs.ExitStatuses.{status_of};
 
 use crate::escape::escaped;
 use crate::files::{input_name, output_name};

@@ -1,6 +1,6 @@
 //! The formats of files of cookies.
 ghost use Rattle.std.specs.Prelude.{◌≡◌};
-ghost use Rattle.cookies.specs.Formats.{format_of_file_name, format_of_name, is_cookies_txt};
+ghost use Rattle.cookies.specs.FileFormats.{format_of_file_name, format_of_name, is_cookies_txt};
 
 use cookie_store::serde::Format;
 use std::path::Path;

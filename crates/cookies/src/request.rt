@@ -4,7 +4,7 @@ ghost use Rattle.std.specs.List.{list_any};
 ghost use Rattle.cookie_words.specs.Moments.{moment_of};
 ghost use Rattle.cookie_store.specs.CrossSite.{IsSent};
 ghost use Rattle.cookie_store.specs.Header.{InHeaderOrder};
-ghost use Rattle.cookies.specs.Requests.{is_field_control, is_for_suffix};
+ghost use Rattle.cookies.specs.SentCookies.{is_field_control, is_for_suffix};
 
 use cookie_store::psl::List;
 use cookie_store::strict::{self, Context};

@@ -7,7 +7,7 @@ use crate::files::{self, input_name, output_name};
 use crate::format::FileFormat;
 use crate::note::Note;
 use crate::options::{Command, CookieFile, Key, Request, SuffixFile};
-use crate::purge::{Purge, purged};
+use crate::purge::{Purge, remove_purged};
 use crate::request::{has_control, is_for_suffix, request_cookies};
 use crate::storage::{
     read_cookies, read_well_formed, representable_cookies, same_site_count, written_cookies,
@@ -175,16 +175,14 @@ impl<'r> Runner<'r> {
     fn purge<'a>(&self, file: CookieFile<'a>, purge: Purge<'a>) -> Result<(), Failure<'a>> {
         self.check_replaceable(file)?;
         let old = self.read(file)?;
-        let store = self.well_formed(file, old.as_slice())?;
+        let mut store = self.well_formed(file, old.as_slice())?;
         let domain = match purge.domain {
             Some(domain) => Some(named_domain(&store, domain)?),
             None => None,
         };
         let domain = domain.as_deref();
-        match purged(self.alloc, &store, Purge { domain, ..purge }, self.now) {
-            Ok(store) => self.replace(file, after_removal(file.format, old.as_slice(), &store)),
-            Err(error) => Err(Failure::input(file.name, FileError::from(error))),
-        }
+        remove_purged(&mut store, Purge { domain, ..purge }, self.now);
+        self.replace(file, after_removal(file.format, old.as_slice(), &store))
     }
 
     fn convert<'a>(

@@ -47,8 +47,8 @@ impl Crawler {
         })
     }
 
-    /// Returns the value of the `Cookie` header of a request for the page.
-    fn header(&self, page: &Url, now: DateTime) -> Result<String, Error> {
+    /// Returns the value of the `Cookie` header of a request for the page, if there is one.
+    fn header(&self, page: &Url, now: DateTime) -> Result<Option<String>, Error> {
         Ok(self.store.cookie_header(page, now)?)
     }
 
@@ -88,6 +88,7 @@ fn run(rt: &HostRuntime) -> Result<(), Error> {
     for (address, texts) in &PAGES {
         let page = url_of(alloc, address)?;
         let header = crawler.header(&page, now)?;
+        let header = header.as_deref().unwrap_or("no cookies");
         println!(rt; "{address} ({header})").map_err(|_| Error::Io)?;
         for text in *texts {
             let outcome = crawler.take(text, &page, now)?;

@@ -13,7 +13,7 @@ use url::{ParseError, Url};
 #[derive(Drop)]
 struct Bytes<'a> {
     /// The bytes that are still to be read.
-    left: &'a [u8],
+    unread: &'a [u8],
     /// How many more reads may succeed.
     reads: u64,
     /// How many reads have failed.
@@ -21,7 +21,7 @@ struct Bytes<'a> {
 }
 
 impl<'a> Source for Bytes<'a> {
-    ghost state = { λ s. record { remaining = Some s.left.now; failed = s.failures; reads_left = s.reads } };
+    ghost state = { λ s. record { remaining = Some s.unread.now; failed = s.failures; reads_left = s.reads } };
 
     fn read(&mut self, buf: &mut [u8]) -> Result<usize, DeviceFailed> {
         if self.reads == 0 {
@@ -29,9 +29,9 @@ impl<'a> Source for Bytes<'a> {
             return Err(DeviceFailed);
         }
         self.reads -= 1;
-        let count = buf.len().min(self.left.len());
-        buf[..count].copy_from_slice(&self.left[..count]);
-        self.left = &self.left[count..];
+        let count = buf.len().min(self.unread.len());
+        buf[..count].copy_from_slice(&self.unread[..count]);
+        self.unread = &self.unread[count..];
         Ok(count)
     }
 
@@ -82,7 +82,7 @@ fn run(rt: &HostRuntime) -> Result<(), Error> {
     let (alloc, now) = (rt.alloc(), date(2026, 1, 1).at(0, 0, 0, 0));
     let site = url_of(alloc, "http://example.com/")?;
     let mut source = Bytes {
-        left: b"a=1; Max-Age=60\nb=2; Max-Age=0\n",
+        unread: b"a=1; Max-Age=60\nb=2; Max-Age=0\n",
         reads: u64::MAX,
         failures: 0,
     };

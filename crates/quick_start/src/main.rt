@@ -12,7 +12,9 @@ fn main(rt: HostRuntime) -> Result<(), Fail> {
     let mut store = CookieStore::new(alloc);
     let page = Url::parse(alloc, "http://example.com/foo/bar")?;
     store.parse("cookie1=value1", &page, now)?;
-    let header = store.cookie_header(&Url::parse(alloc, "http://example.com/foo/x")?, now)?;
-    println!(rt; "Cookie: {header}")?;
+    let next = Url::parse(alloc, "http://example.com/foo/x")?;
+    if let Some(header) = store.cookie_header(&next, now)? {
+        println!(rt; "Cookie: {header}")?;
+    }
     Ok(())
 }

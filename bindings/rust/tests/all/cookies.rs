@@ -1,6 +1,8 @@
-use pulleymaroon::{Cookie, CookieStore, SameSite};
+use std::time::Duration;
 
-use crate::{at, filled, LAST, NOW};
+use pulleymaroon::{Cookie, CookieStore, Error, SameSite};
+
+use crate::{assert_header, at, filled, FIRST, LAST, NOW, PAGE, SECURE_PAGE};
 
 #[test]
 fn cookies_have_their_same_site_attribute() {
@@ -71,4 +73,48 @@ fn an_iterator_has_the_cookies_of_its_time() {
     }
     assert_eq!((all.len(), all.next(), all.next()), (0, None, None));
     assert_eq!(store.iter().unwrap().len(), 0);
+}
+
+/// The cookies of a request are those of its header, with their fields.
+#[test]
+fn cookies_of_a_request_are_in_the_order_of_the_header() {
+    let mut store = filled(&["b=2; Path=/; HttpOnly", "gr\u{fc}n=1; Max-Age=60", "c=3"]);
+    store.parse("s=4; Secure", SECURE_PAGE, at(NOW)).unwrap();
+    for (url, now, expected) in [
+        (PAGE, NOW, "gr\u{fc}n=1; c=3; b=2"),
+        (PAGE, NOW + 60, "c=3; b=2"),
+        (SECURE_PAGE, NOW, "gr\u{fc}n=1; c=3; s=4; b=2"),
+        ("ftp://a.example/d/page", NOW, "gr\u{fc}n=1; c=3"),
+        ("http://a.example/", NOW, "b=2"),
+        ("http://b.example/", NOW, ""),
+    ] {
+        let cookies = store.cookies_for(url, at(now)).unwrap();
+        let pairs: Vec<_> = cookies
+            .iter()
+            .map(|cookie| format!("{}={}", cookie.name, cookie.value))
+            .collect();
+        assert_eq!(pairs.join("; "), expected, "{url} at {now}");
+        assert_header(&store, url, now, expected);
+        for cookie in cookies {
+            let stored = store.get(&cookie.domain, &cookie.path, &cookie.name);
+            assert_eq!(stored, Ok(Some(cookie)));
+        }
+    }
+    for (url, now, expected) in [
+        ("no url", at(FIRST) - Duration::from_secs(1), Error::BadTime),
+        ("no url", at(NOW), Error::BadUrl),
+    ] {
+        assert_eq!(store.cookies_for(url, now), Err(expected), "{url}");
+    }
+}
+
+/// More rows than the first buffer has, and then also longer strings.
+#[test]
+fn many_cookies_of_a_request_are_whole() {
+    let mut store = CookieStore::new().unwrap();
+    for number in 0..200 {
+        store.parse(&format!("n{number}=1"), PAGE, at(NOW)).unwrap();
+        let cookies = store.cookies_for(PAGE, at(NOW)).unwrap();
+        assert_eq!(cookies, store.cookies().unwrap());
+    }
 }

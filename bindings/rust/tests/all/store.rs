@@ -435,6 +435,9 @@ fn cookies_are_removed() {
     assert!(store.remove("a.example", "/d", "s"));
     assert!(!store.remove("a.example", "/d", "s"));
     assert_eq!((store.len(), store.is_empty()), (1, false));
+    assert_eq!(store.remove_domain("example"), 0);
+    assert_eq!(store.remove_domain("a.example"), 1);
+    assert!(store.is_empty());
     store.clear();
     assert_eq!(
         (store.len(), store.is_empty(), store.cookies()),
@@ -460,6 +463,41 @@ fn long_results_are_whole() {
         .map(|cookie| format!("{}={}", cookie.name, cookie.value))
         .collect();
     assert_eq!(stored, pairs);
+}
+
+/// A copy has all that its original has, and the two are independent.
+#[test]
+fn copies_are_whole() {
+    let mut store = filled(&["a=1; Path=/x", "b=2; Path=/y", "c=3; Path=/x"]);
+    store
+        .parse("n=1; SameSite=None", "http://b.example/", at(NOW))
+        .unwrap();
+    store.parse("old=1; Max-Age=1", PAGE, at(FIRST)).unwrap();
+    store.set_suffix_list("example\n").unwrap();
+    store.set_domain_limit(NonZeroUsize::new(2).unwrap());
+    for (strict, copy) in [true, false].map(|strict| {
+        store.set_strict(strict);
+        (strict, store.clone())
+    }) {
+        assert_eq!(copy.is_strict(), strict);
+        assert_eq!(copy.domain_limit(), store.domain_limit());
+        assert_eq!(copy.cookies(), store.cookies());
+    }
+    let mut copy = store.try_clone().unwrap();
+    let error = copy
+        .parse("a=1; Domain=example", PAGE, at(NOW))
+        .unwrap_err();
+    assert_eq!(error, Error::PublicSuffix);
+    // The limit evicts in creation order, which is not that of the store.
+    for one in [&mut copy, &mut store] {
+        one.parse("d=4; Path=/z", PAGE, at(NOW)).unwrap();
+        assert_eq!(names(one), "cdn");
+    }
+    copy.clear();
+    assert_eq!((copy.len(), store.len()), (0, 3));
+    drop(store);
+    copy.parse("e=5", PAGE, at(NOW)).unwrap();
+    assert_header(&copy, PAGE, NOW, "e=5");
 }
 
 #[test]

@@ -180,7 +180,10 @@ fn header_by(
         Request::Matches | Request::Counted | Request::InOrder => matching_header(
             rt, alloc, request, store, url,
         ),
-        Request::Header => store.cookie_header(url, now).expect(rt, "memory"),
+        Request::Header => store
+            .cookie_header(url, now)
+            .expect(rt, "memory")
+            .unwrap_or(String::new(alloc)),
         Request::Values => {
             let values = store.get_request_values(url, now).expect(rt, "memory");
             header_of_values(rt, alloc, values)

@@ -63,7 +63,7 @@ fn push_host(rt: &impl Abort, alloc: Global, header: &mut String, host: usize, f
 
 fn has_header(rt: &impl Abort, store: &CookieStore, url: &Url, wanted: &str) {
     let header = store.cookie_header(url, new_year()).expect(rt, "memory");
-    is_same(rt, header.as_str(), wanted, &url.as_str());
+    is_same(rt, header.as_deref().unwrap_or(""), wanted, &url.as_str());
 }
 
 fn has_host(rt: &impl Abort, alloc: Global, store: &CookieStore, host: usize, filler: &str) {

@@ -1,7 +1,7 @@
 use Rattle.std.proofs.Common.{◌≡◌, ◌≢◌, ℕ, Bool, true, false, cond, eqb, List, [], ◌∷◌, None, refl, sym, ap, lit<}
 use Rattle.std.proofs.lemmas.Bool.{eqb-true}
 use Rattle.std.proofs.lemmas.Str.Pattern.{strip_prefix_char}
-use Rattle.cookie_words.specs.Texts.{without_dot}
+use Rattle.cookie_words.specs.Strings.{without_dot}
 use Rattle.cookie_words.proofs.without_dot.Goals as goal
 
 first_stays : (b : ℕ) (bs : List ℕ) (is_dot : Bool) → eqb b 46 ≡ is_dot → b ≢ 46 → cond is_dot bs (b ∷ bs) ≡ b ∷ bs

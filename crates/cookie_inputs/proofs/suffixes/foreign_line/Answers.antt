@@ -1,7 +1,7 @@
 use Rattle.std.proofs.Common.{◌+◌, option_map, sym, ap, ◌∙◌, rules, tests}
 use Rattle.std.proofs.lemmas.Iterator.Adapters.{position_from-zero}
 use Rattle.std.proofs.lemmas.Iterator.Search.{position_from_yields_List}
-use Rattle.cookie_words.specs.Texts.{pieces}
+use Rattle.cookie_words.specs.Strings.{pieces}
 use Rattle.cookie_inputs.specs.Suffixes.{is_foreign}
 use Rattle.cookie_inputs.proofs.FileRules.{counted_from, yields_lines}
 use Rattle.cookie_inputs.proofs.suffixes.foreign_line.Goals as goal

@@ -1,6 +1,6 @@
 use Rattle.std.proofs.Common.{subst, ap, ◌∙◌}
-use Rattle.cookie_words.specs.Texts.{pieces}
-use Rattle.cookie_psl.specs.Reading.{rules_from}
+use Rattle.cookie_words.specs.Strings.{pieces}
+use Rattle.cookie_psl.specs.ListFormat.{rules_from}
 use Rattle.cookie_inputs.specs.Suffixes.{unless_foreign, ParsesLines}
 use Rattle.cookie_inputs.proofs.FileRules.{with_foreign}
 use Rattle.cookie_inputs.proofs.suffixes.parse_lines.Goals as goal

@@ -1,6 +1,6 @@
 use Rattle.std.proofs.Common.{ap, ◌∙◌, rules}
 use Rattle.std.proofs.lemmas.Result.{err_from_is_err_and}
-use Rattle.cookie_words.specs.Texts.{pieces}
+use Rattle.cookie_words.specs.Strings.{pieces}
 use Rattle.cookie_inputs.specs.Suffixes.{file_rules_of, some_rules}
 use Rattle.cookie_inputs.proofs.SomeRules.{fails, kept, no_rules, not_empty, same_default, some_rules-read}
 use Rattle.cookie_inputs.proofs.suffixes.parse_suffixes.Goals as goal

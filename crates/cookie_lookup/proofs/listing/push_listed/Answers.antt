@@ -17,10 +17,10 @@ push_path-requires-clause-room g c =
     let path = c.args.row_filter.now.url.now.path in
     let test : List ℕ → _ = λ text. list_any (bytes_eq text) (candidate_paths path) in
     let texts : List (List ℕ) = map (λ p. p.0) (under c.args.domain first.groups) in
-    let here : Some c.in-Some.front.now ≡ slice_get texts c.loop-place.place = subst (λ (groups : DomainGroups). Some c.in-Some.front.now ≡ slice_get (map (λ p. p.0) (under c.args.domain groups)) c.loop-place.place) c.loop-place.invariant.groups c.in-Some.ensures.front in
-    let passes : test c.in-Some.front.now ≡ true = subst (λ r. list_any (bytes_eq c.in-Some.front.now) (candidate_paths r) ≡ true) c.path-path.ensures.value c.in-Some.ensures.is in
+    let here : Some c.in-Some.prefix.now ≡ slice_get texts c.loop-place.place = subst (λ (groups : DomainGroups). Some c.in-Some.prefix.now ≡ slice_get (map (λ p. p.0) (under c.args.domain groups)) c.loop-place.place) c.loop-place.invariant.groups c.in-Some.ensures.prefix in
+    let passes : test c.in-Some.prefix.now ≡ true = subst (λ r. list_any (bytes_eq c.in-Some.prefix.now) (candidate_paths r) ≡ true) c.path-path.ensures.value c.in-Some.ensures.is in
     let most = listed_most path texts (paths_differ first.groups (g.met.S.Search.are_groups c.args.search.now) c.args.domain) in
-    omega (arith, c.loop-place.invariant.paths, ap length (filter_at test texts c.loop-place.place c.in-Some.front.now here passes), most, c.requires.room)
+    omega (arith, c.loop-place.invariant.paths, ap length (filter_at test texts c.loop-place.place c.in-Some.prefix.now here passes), most, c.requires.room)
 
 pub returns-in_err-push_path-clause-paths : goal.returns-in_err-push_path-clause-paths
 returns-in_err-push_path-clause-paths g c =
@@ -28,10 +28,10 @@ returns-in_err-push_path-clause-paths g c =
     let path = c.args.row_filter.now.url.now.path in
     let test : List ℕ → _ = λ text. list_any (bytes_eq text) (candidate_paths path) in
     let texts : List (List ℕ) = map (λ p. p.0) (under c.args.domain first.groups) in
-    let here : Some c.in-Some.front.now ≡ slice_get texts c.loop-place.place = subst (λ (groups : DomainGroups). Some c.in-Some.front.now ≡ slice_get (map (λ p. p.0) (under c.args.domain groups)) c.loop-place.place) c.loop-place.invariant.groups c.in-Some.ensures.front in
-    let passes : test c.in-Some.front.now ≡ true = subst (λ r. list_any (bytes_eq c.in-Some.front.now) (candidate_paths r) ≡ true) c.path-path.ensures.value c.in-Some.ensures.is in
+    let here : Some c.in-Some.prefix.now ≡ slice_get texts c.loop-place.place = subst (λ (groups : DomainGroups). Some c.in-Some.prefix.now ≡ slice_get (map (λ p. p.0) (under c.args.domain groups)) c.loop-place.place) c.loop-place.invariant.groups c.in-Some.ensures.prefix in
+    let passes : test c.in-Some.prefix.now ≡ true = subst (λ r. list_any (bytes_eq c.in-Some.prefix.now) (candidate_paths r) ≡ true) c.path-path.ensures.value c.in-Some.ensures.is in
     let most = listed_most path texts (paths_differ first.groups (g.met.S.Search.are_groups c.args.search.now) c.args.domain) in
-    omega (arith, c.push_path.ensures.paths, c.loop-place.invariant.paths, ap length (filter_at test texts c.loop-place.place c.in-Some.front.now here passes), most)
+    omega (arith, c.push_path.ensures.paths, c.loop-place.invariant.paths, ap length (filter_at test texts c.loop-place.place c.in-Some.prefix.now here passes), most)
 
 pub returns-in_err-push_path-clause-memory : goal.returns-in_err-push_path-clause-memory
 returns-in_err-push_path-clause-memory g c =
@@ -40,10 +40,10 @@ returns-in_err-push_path-clause-memory g c =
     let test : List ℕ → _ = λ text. list_any (bytes_eq text) (candidate_paths url.path) in
     let texts : List (List ℕ) = map (λ p. p.0) (under c.args.domain first.groups) in
     let look : DomainGroups → List ℕ → List (ℕ × ℕ × ℕ) = λ groups. at_path (is_given_under c.args.row_filter.now.host_only c.args.row_filter.now.suffix url (moment_of c.args.row_filter.now.time)) c.args.domain (under c.args.domain groups) in
-    let here : Some c.in-Some.front.now ≡ slice_get texts c.loop-place.place = subst (λ (groups : DomainGroups). Some c.in-Some.front.now ≡ slice_get (map (λ p. p.0) (under c.args.domain groups)) c.loop-place.place) c.loop-place.invariant.groups c.in-Some.ensures.front in
-    let passes : test c.in-Some.front.now ≡ true = subst (λ r. list_any (bytes_eq c.in-Some.front.now) (candidate_paths r) ≡ true) c.path-path.ensures.value c.in-Some.ensures.is in
-    let some : look first.groups c.in-Some.front.now ≢ [] = subst (λ groups. look groups c.in-Some.front.now ≢ []) c.loop-place.invariant.groups c.in_err-push_path.ensures.memory in
-    either_way c.from_residual.result (text_gives test texts c.loop-place.place c.in-Some.front.now here (look first.groups) passes some)
+    let here : Some c.in-Some.prefix.now ≡ slice_get texts c.loop-place.place = subst (λ (groups : DomainGroups). Some c.in-Some.prefix.now ≡ slice_get (map (λ p. p.0) (under c.args.domain groups)) c.loop-place.place) c.loop-place.invariant.groups c.in-Some.ensures.prefix in
+    let passes : test c.in-Some.prefix.now ≡ true = subst (λ r. list_any (bytes_eq c.in-Some.prefix.now) (candidate_paths r) ≡ true) c.path-path.ensures.value c.in-Some.ensures.is in
+    let some : look first.groups c.in-Some.prefix.now ≢ [] = subst (λ groups. look groups c.in-Some.prefix.now ≢ []) c.loop-place.invariant.groups c.in_err-push_path.ensures.memory in
+    either_way c.from_residual.result (text_gives test texts c.loop-place.place c.in-Some.prefix.now here (look first.groups) passes some)
 
 pub loop-place-preserved : goal.loop-place-preserved
 loop-place-preserved g c =
@@ -54,17 +54,17 @@ loop-place-preserved g c =
     let texts : List (List ℕ) = map (λ p. p.0) (under c.args.domain first.groups) in
     let look : DomainGroups → List ℕ → List (ℕ × ℕ × ℕ) = λ groups. at_path (is_given_under c.args.row_filter.now.host_only c.args.row_filter.now.suffix url (moment_of c.args.row_filter.now.time)) c.args.domain (under c.args.domain groups) in
     let all = c.args.positions.now.items ++ flat_map (look first.groups) (filter test texts) in
-    elim c.match-front_at.branch [
+    elim c.match-prefix_at.branch [
       | in-Some+in_ok-push_path w ↦
-          let front = w.in-Some.front.now in
-          let here : Some front ≡ slice_get texts place = subst (λ (groups : DomainGroups). Some front ≡ slice_get (map (λ p. p.0) (under c.args.domain groups)) place) c.loop-place.invariant.groups w.in-Some.ensures.front in
-          let passes : test front ≡ true = subst (λ r. list_any (bytes_eq front) (candidate_paths r) ≡ true) c.path-path.ensures.value w.in-Some.ensures.is in
-          let added = ap (λ v. v.items) w.positions-is ∙ w.in_ok-push_path.ensures.positions ∙ ap (λ groups. c.loop-place.positions.items ++ look groups front) c.loop-place.invariant.groups in
+          let prefix = w.in-Some.prefix.now in
+          let here : Some prefix ≡ slice_get texts place = subst (λ (groups : DomainGroups). Some prefix ≡ slice_get (map (λ p. p.0) (under c.args.domain groups)) place) c.loop-place.invariant.groups w.in-Some.ensures.prefix in
+          let passes : test prefix ≡ true = subst (λ r. list_any (bytes_eq prefix) (candidate_paths r) ≡ true) c.path-path.ensures.value w.in-Some.ensures.is in
+          let added = ap (λ v. v.items) w.positions-is ∙ w.in_ok-push_path.ensures.positions ∙ ap (λ groups. c.loop-place.positions.items ++ look groups prefix) c.loop-place.invariant.groups in
           rw w.search-is record {
-            positions = text_pushed test texts place front here (look first.groups) passes all c.loop-place.positions.items c.match-front_at.positions.items c.loop-place.invariant.positions added;
+            positions = text_pushed test texts place prefix here (look first.groups) passes all c.loop-place.positions.items c.match-prefix_at.positions.items c.loop-place.invariant.positions added;
             groups = w.in_ok-push_path.ensures.groups ∙ c.loop-place.invariant.groups;
             domains = w.in_ok-push_path.ensures.domains ∙ c.loop-place.invariant.domains;
-            paths = omega (arith, w.in_ok-push_path.ensures.paths, c.loop-place.invariant.paths, ap length (filter_at test texts place front here passes));
+            paths = omega (arith, w.in_ok-push_path.ensures.paths, c.loop-place.invariant.paths, ap length (filter_at test texts place prefix here passes));
           }
       | in_default w ↦
           let below : place < length texts = omega (arith, length_texts (under c.args.domain first.groups), c.requires.count, c.loop-place-test.true) in

@@ -3,9 +3,9 @@ use Rattle.std.proofs.lemmas.Iterator.Consumers.{YieldsList-at, YieldsList-end, 
 use Rattle.std.proofs.lemmas.Iterator.Splits.{YieldsList-from_str_split}
 use Rattle.std.proofs.lemmas.List.{map-append}
 use Rattle.std.proofs.lemmas.Result.{err_from_is_err_and}
-use Rattle.cookie_words.specs.Texts.{pieces}
+use Rattle.cookie_words.specs.Strings.{pieces}
 use Rattle.cookie_psl.specs.ParsedRules.{label_text, label_texts}
-use Rattle.cookie_psl.specs.Reading.{label_from, labels_from}
+use Rattle.cookie_psl.specs.ListFormat.{label_from, labels_from}
 use Rattle.cookie_psl.proofs.LabelsRead.{labels_from-bad, labels_from-push, ParsesOrMemory-err}
 use Rattle.cookie_psl.proofs.reading.read_labels.Goals as goal
 

@@ -10,18 +10,18 @@ loop-init c = (c.utf8.domain, HasPassed-none c.args.domain.now)
 
 pub loop-preserved : goal.loop-preserved
 loop-preserved c =
-    let front = c.loop.front.now in
+    let prefix = c.loop.prefix.now in
     let before = c.in-Some.before.now in
     let label = c.in-Some.field-0-1.now in
-    let parts = rsplit_parts front (Some (c.in-Some.before, c.in-Some.field-0-1)) c.in-Some.ensures.cases in (
+    let parts = rsplit_parts prefix (Some (c.in-Some.before, c.in-Some.field-0-1)) c.in-Some.ensures.cases in (
       before_is_utf8 before label (subst IsUtf8 parts.0 c.loop.invariant.0),
-      HasPassed-more c.args.domain.now front before label c.loop.counter c.loop.start c.utf8.domain parts.1 parts.0 c.loop.invariant.1,
+      HasPassed-more c.args.domain.now prefix before label c.loop.counter c.loop.start c.utf8.domain parts.1 parts.0 c.loop.invariant.1,
     )
 
 pub returns-in-None-clause-labels : goal.returns-in-None-clause-labels
 returns-in-None-clause-labels c =
-    let front = c.loop.front.now in
-    HasPassed-all c.args.domain.now front c.loop.counter c.args.count c.loop.start (rsplit_parts front None c.in-None.ensures.cases)
+    let prefix = c.loop.prefix.now in
+    HasPassed-all c.args.domain.now prefix c.loop.counter c.args.count c.loop.start (rsplit_parts prefix None c.in-None.ensures.cases)
     c.loop-test.true c.loop.invariant.1
 
 pub returns-in-None-clause-cut : goal.returns-in-None-clause-cut

@@ -4,4 +4,4 @@ use Rattle.cookie_psl.proofs.LastLabels.{HasPassed}
 use Rattle.cookie_psl.proofs.suffix.labels_start.Given as goal
 
 abbrev pub invariant-loop : goal.invariant-loop
-invariant-loop l = shadow (Utf8 l.front) × HasPassed l.domain l.front l.counter l.start
+invariant-loop l = shadow (Utf8 l.prefix) × HasPassed l.domain l.prefix l.counter l.start

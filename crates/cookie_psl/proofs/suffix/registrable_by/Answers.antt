@@ -2,7 +2,7 @@ use Rattle.std.proofs.Common.{◌≡◌, ℕ, ◌+◌, ◌-◌, ◌^◌, ◌<◌
 use Rattle.std.specs.Prelude.{min}
 use Rattle.std.specs.List.{join_with_byte}
 use Rattle.std.proofs.lemmas.List.{length-reverse}
-use Rattle.cookie_words.specs.Texts.{pieces}
+use Rattle.cookie_words.specs.Strings.{pieces}
 use Rattle.cookie_psl.specs.Rules.{ending, labels_of, prevailing, registrable_domain, without_final_dot, RuleList}
 use Rattle.cookie_psl.proofs.BareLabels.{bare_labels_fit}
 use Rattle.cookie_psl.proofs.suffix.registrable_by.Goals as goal

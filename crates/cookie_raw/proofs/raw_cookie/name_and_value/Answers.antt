@@ -1,7 +1,7 @@
 use Rattle.std.proofs.Common.{◌≡◌, ℕ, suc, ◌+◌, Bool, true, false, not, ◌||◌, cond, List, [], ◌∷◌, length, None, refl, arith, lit<}
 use Rattle.std.specs.List.{list_any, position_or_len}
 use Rattle.std.proofs.lemmas.Str.Pattern.{split_once_first}
-use Rattle.cookie_raw.specs.Reading.{is_equals}
+use Rattle.cookie_raw.specs.SetCookie.{is_equals}
 use Rattle.cookie_raw.proofs.raw_cookie.name_and_value.Goals as goal
 
 none_passes_after : (b rest : Bool) (n m : ℕ) → cond (not b) (1 + n) 0 ≡ suc m → (n ≡ m → rest ≡ false) → b || rest ≡ false

@@ -7,8 +7,8 @@ next : (old between new a b : List ℕ) → between ≡ old ++ a → new ≡ bet
 next old between new a b first second = second ∙ ap (λ text. text ++ b) first ∙ append_assoc old a b
 
 -- a string behind all others, if there was memory for it
-last : {T E : Type 0} (answer : Result T E) (old between new a b : List ℕ) → between ≡ old ++ a
-    → new ≡ if◌then◌else◌ (is_ok answer) (between ++ b) between → OnOk answer (new ≡ old ++ (a ++ b))
+last : {T E : Type 0} (outcome : Result T E) (old between new a b : List ℕ) → between ≡ old ++ a
+    → new ≡ if◌then◌else◌ (is_ok outcome) (between ++ b) between → OnOk outcome (new ≡ old ++ (a ++ b))
 last (Ok done) old between new a b first second = next old between new a b first second
 last (Err error) old between new a b first second = tt
 

@@ -1,7 +1,7 @@
 -- The cookies read so far precede those that are left.
 use Rattle.std.proofs.Common.{◌≡◌, suc, length, map}
 use Rattle.cookie_ron.specs.Entries.{entry_view}
-use Rattle.cookie_ron.specs.Reading.{onto, cookies_at}
+use Rattle.cookie_ron.specs.RonInput.{onto, cookies_at}
 use Rattle.cookie_ron.proofs.reading.cookies_at.Given as goal
 
 abbrev pub invariant-loop-behind : goal.invariant-loop-behind

@@ -1,5 +1,5 @@
 use Rattle.std.proofs.Common.{suc, length, string_bytes, sym, ap, ◌∙◌}
-use Rattle.cookie_ron.specs.Reading.{onto, chars_at}
+use Rattle.cookie_ron.specs.RonInput.{onto, chars_at}
 use Rattle.cookie_ron.proofs.Onto.{onto_none}
 use Rattle.cookie_ron.proofs.TextFronts.{chars_turn, char_shorter}
 use Rattle.cookie_ron.proofs.texts.text_at.Goals as goal

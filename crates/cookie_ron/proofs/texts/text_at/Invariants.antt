@@ -1,6 +1,6 @@
 -- The characters read so far precede those that are left.
 use Rattle.std.proofs.Common.{◌≡◌, suc, length, string_bytes}
-use Rattle.cookie_ron.specs.Reading.{onto, chars_at}
+use Rattle.cookie_ron.specs.RonInput.{onto, chars_at}
 use Rattle.cookie_ron.proofs.texts.text_at.Given as goal
 
 abbrev pub invariant-loop-c : goal.invariant-loop-c

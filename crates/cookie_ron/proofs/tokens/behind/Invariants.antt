@@ -1,5 +1,5 @@
 use Rattle.std.proofs.Common.{◌≡◌, drop}
-use Rattle.cookie_ron.specs.Reading.{behind}
+use Rattle.cookie_ron.specs.RonInput.{behind}
 use Rattle.cookie_ron.proofs.tokens.behind.Given as goal
 
 abbrev pub invariant-loop-byte : goal.invariant-loop-byte

@@ -1,5 +1,5 @@
 use Rattle.std.proofs.Common.{◌≡◌, length}
-use Rattle.cookie_ron.specs.Reading.{drop_blanks}
+use Rattle.cookie_ron.specs.RonInput.{drop_blanks}
 use Rattle.cookie_ron.proofs.tokens.drop_blanks.Given as goal
 
 abbrev pub invariant-loop-rest : goal.invariant-loop-rest

@@ -1,6 +1,6 @@
 -- The copied and the remaining entries are all entries.
 use Rattle.std.proofs.Common.{◌≡◌, ◌++◌}
-use Rattle.cookie_rows.specs.Groups.{texts_of}
+use Rattle.cookie_rows.specs.GroupChanges.{texts_of}
 use Rattle.cookie_rows.proofs.copying.rehashed_table.Given as goal
 
 abbrev pub invariant-loop-text : goal.invariant-loop-text

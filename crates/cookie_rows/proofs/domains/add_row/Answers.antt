@@ -4,7 +4,7 @@ use Rattle.std.specs.Map.{set_value}
 use Rattle.indexmap.specs.IndexMap.{insert_entry}
 use Rattle.cookie_parts.specs.Cookie.{Row}
 use Rattle.cookie_parts.specs.Domain.{domain_text}
-use Rattle.cookie_rows.specs.Groups.{texts_of, put_at, found}
+use Rattle.cookie_rows.specs.GroupChanges.{texts_of, put_at, found}
 use Rattle.cookie_rows.specs.Items.{find_item_paths, put_item_paths}
 use Rattle.cookie_rows.proofs.Maps.{at_text, put_set, same_set, put_insert, found_some}
 use Rattle.cookie_rows.proofs.Results.{on_ok_map, on_err_map}

@@ -3,7 +3,7 @@ use Rattle.std.specs.Map.{set_value}
 use Rattle.cookie_parts.specs.Cookie.{Row}
 use Rattle.cookie_parts.specs.Domain.{domain_text}
 use Rattle.cookie_laws.specs.Rows.{key_of}
-use Rattle.cookie_rows.specs.Groups.{texts_of, changed_at}
+use Rattle.cookie_rows.specs.GroupChanges.{texts_of, changed_at}
 use Rattle.cookie_rows.specs.Items.{expire_item_paths}
 use Rattle.cookie_rows.proofs.Maps.{at_text, changed_set, changed_none}
 use Rattle.cookie_rows.proofs.domains.expire_row.Goals as goal

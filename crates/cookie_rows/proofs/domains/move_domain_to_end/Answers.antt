@@ -1,6 +1,6 @@
 use Rattle.std.proofs.Common.{◌∙◌, ◌-◌, ap, sym}
 use Rattle.indexmap.specs.IndexMap.{move_index}
-use Rattle.cookie_rows.specs.Groups.{texts_of}
+use Rattle.cookie_rows.specs.GroupChanges.{texts_of}
 use Rattle.cookie_rows.specs.Eviction.{is_single_paths}
 use Rattle.cookie_rows.proofs.StoredThenEvicted.{map_moved_to_end, map_stays, map_stays_none}
 use Rattle.cookie_rows.proofs.domains.move_domain_to_end.Goals as goal

@@ -1,6 +1,6 @@
 use Rattle.std.proofs.Common.{◌≡◌, ◌∙◌, sym, ap, bytes_eq, true, false}
 use Rattle.cookie_laws.specs.Rows.{removed}
-use Rattle.cookie_rows.specs.Groups.{texts_of, is_empty_at, changed_at}
+use Rattle.cookie_rows.specs.GroupChanges.{texts_of, is_empty_at, changed_at}
 use Rattle.cookie_rows.specs.Items.{remove_item_paths}
 use Rattle.cookie_rows.proofs.Maps.{texts_removed, lessened_some, lessened_none}
 use Rattle.cookie_rows.proofs.domains.remove_row.Goals as goal

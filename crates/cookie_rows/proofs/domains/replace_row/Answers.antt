@@ -2,7 +2,7 @@ use Rattle.std.proofs.Common.{◌∙◌, sym, ap}
 use Rattle.std.specs.Map.{set_value}
 use Rattle.cookie_parts.specs.Cookie.{Row}
 use Rattle.cookie_parts.specs.Domain.{domain_text}
-use Rattle.cookie_rows.specs.Groups.{texts_of, put_at, found}
+use Rattle.cookie_rows.specs.GroupChanges.{texts_of, put_at, found}
 use Rattle.cookie_rows.specs.Items.{find_item_paths, put_item_paths}
 use Rattle.cookie_rows.proofs.Maps.{at_text, put_set, found_some, found_none}
 use Rattle.cookie_rows.proofs.domains.replace_row.Goals as goal

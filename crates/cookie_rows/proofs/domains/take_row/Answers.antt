@@ -1,6 +1,6 @@
 use Rattle.std.proofs.Common.{◌∙◌, sym, ap}
 use Rattle.std.specs.Map.{set_value}
-use Rattle.cookie_rows.specs.Groups.{texts_of, is_empty_at}
+use Rattle.cookie_rows.specs.GroupChanges.{texts_of, is_empty_at}
 use Rattle.cookie_rows.specs.Items.{find_item_paths, remove_item_paths}
 use Rattle.cookie_rows.proofs.Maps.{at_text, changed_set, changed_none, found_some, found_none, empty_set, empty_none}
 use Rattle.cookie_rows.proofs.domains.take_row.Goals as goal

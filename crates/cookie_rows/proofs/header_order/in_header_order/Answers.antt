@@ -5,7 +5,7 @@ use Rattle.cookie_laws.specs.Contents.{contents_of}
 use Rattle.cookie_laws.specs.Header.{InHeaderOrder}
 use Rattle.cookie_lookup.specs.Groups.{flat}
 use Rattle.cookie_laws.specs.Given.{given}
-use Rattle.cookie_rows.specs.Groups.{texts_of}
+use Rattle.cookie_rows.specs.GroupChanges.{texts_of}
 use Rattle.cookie_rows.specs.HeaderItems.{items_at}
 use Rattle.cookie_rows.specs.Items.{bare, groups_in_order, rows_of}
 use Rattle.cookie_rows.proofs.HeaderItems.{refs_none, refs_rows, sorted_in_order, sorted_some}

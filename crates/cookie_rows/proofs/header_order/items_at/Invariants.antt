@@ -1,7 +1,7 @@
 -- The rows at the positions that were passed.
 use Rattle.std.proofs.Common.{◌≡◌, map, take}
 use Rattle.std.specs.List.{flat_map}
-use Rattle.cookie_rows.specs.Groups.{texts_of}
+use Rattle.cookie_rows.specs.GroupChanges.{texts_of}
 use Rattle.cookie_rows.specs.HeaderItems.{items_at}
 use Rattle.cookie_rows.proofs.header_order.items_at.Given as goal
 

@@ -2,7 +2,7 @@ use Rattle.std.proofs.Common.{◌≡◌, ◌∙◌, ℕ, Some, ap, sym}
 use Rattle.std.specs.Prelude.{option_map, slice_get}
 use Rattle.std.proofs.lemmas.Option.{slice_get-map}
 use Rattle.cookie_lookup.specs.SearchView.{under}
-use Rattle.cookie_rows.specs.Groups.{texts_of}
+use Rattle.cookie_rows.specs.GroupChanges.{texts_of}
 use Rattle.cookie_rows.specs.Items.{Item, ItemGroups, bare}
 use Rattle.cookie_rows.proofs.Places.{bare_rows}
 use Rattle.cookie_rows.proofs.map_search.row_at.Goals as goal

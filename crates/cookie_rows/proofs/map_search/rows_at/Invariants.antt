@@ -1,7 +1,7 @@
 use Rattle.std.proofs.Common.{◌≡◌, map, take}
 use Rattle.std.specs.List.{flat_map}
 use Rattle.cookie_lookup.specs.SearchView.{rows_at}
-use Rattle.cookie_rows.specs.Groups.{texts_of}
+use Rattle.cookie_rows.specs.GroupChanges.{texts_of}
 use Rattle.cookie_rows.specs.Items.{bare}
 use Rattle.cookie_rows.proofs.map_search.rows_at.Given as goal
 

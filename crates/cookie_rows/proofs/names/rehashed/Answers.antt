@@ -1,5 +1,5 @@
 use Rattle.std.proofs.Common.{◌∙◌, sym, ap, subst}
-use Rattle.cookie_rows.specs.Groups.{texts_of}
+use Rattle.cookie_rows.specs.GroupChanges.{texts_of}
 use Rattle.cookie_rows.specs.NameMaps.{items_of, HasNames}
 use Rattle.cookie_rows.proofs.Copies.{same_values}
 use Rattle.cookie_rows.proofs.Named.{named_texts}

@@ -1,7 +1,7 @@
 use Rattle.std.proofs.Common.{◌∙◌, sym, ap}
 use Rattle.std.specs.Prelude.{option_map}
 use Rattle.std.specs.Map.{values_of, set_value}
-use Rattle.cookie_rows.specs.Groups.{row_named}
+use Rattle.cookie_rows.specs.GroupChanges.{row_named}
 use Rattle.cookie_rows.specs.Items.{Item, rows_of}
 use Rattle.cookie_rows.proofs.Named.{at_text, row_found, named_set, put_set}
 use Rattle.cookie_rows.proofs.names.replace_in.Goals as goal

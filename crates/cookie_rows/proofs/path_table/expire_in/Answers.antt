@@ -1,6 +1,6 @@
 use Rattle.std.proofs.Common.{◌∙◌, ap}
 use Rattle.std.specs.Map.{set_value}
-use Rattle.cookie_rows.specs.Groups.{texts_of}
+use Rattle.cookie_rows.specs.GroupChanges.{texts_of}
 use Rattle.cookie_rows.specs.Items.{expire_item}
 use Rattle.cookie_rows.proofs.Maps.{at_text, changed_set, changed_none}
 use Rattle.cookie_rows.proofs.path_table.expire_in.Goals as goal

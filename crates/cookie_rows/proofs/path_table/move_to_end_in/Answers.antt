@@ -1,7 +1,7 @@
 use Rattle.std.proofs.Common.{◌≡◌, ◌≢◌, ◌∙◌, ℕ, ◌-◌, ◌==◌, false, ap, length, sym, arith}
 use Rattle.std.proofs.lemmas.Bool.Decides.{nat_tests}
 use Rattle.indexmap.specs.IndexMap.{move_index}
-use Rattle.cookie_rows.specs.Groups.{texts_of}
+use Rattle.cookie_rows.specs.GroupChanges.{texts_of}
 use Rattle.cookie_rows.specs.Eviction.{is_single}
 use Rattle.cookie_rows.proofs.StoredThenEvicted.{map_moved_to_end, map_stays, map_stays_none}
 use Rattle.cookie_rows.proofs.path_table.move_to_end_in.Goals as goal

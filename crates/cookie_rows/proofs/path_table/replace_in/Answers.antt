@@ -1,7 +1,7 @@
 use Rattle.std.proofs.Common.{List, ◌∙◌, sym, ap}
 use Rattle.std.specs.Map.{set_value}
 use Rattle.cookie_parts.specs.Cookie.{Row}
-use Rattle.cookie_rows.specs.Groups.{texts_of, put_at, found, row_named}
+use Rattle.cookie_rows.specs.GroupChanges.{texts_of, put_at, found, row_named}
 use Rattle.cookie_rows.specs.Items.{put_item, rows_of, Item}
 use Rattle.cookie_rows.proofs.Maps.{at_text, put_set, found_some, found_none}
 use Rattle.cookie_rows.proofs.path_table.replace_in.Goals as goal

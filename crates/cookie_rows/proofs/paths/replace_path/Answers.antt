@@ -1,5 +1,5 @@
 use Rattle.std.proofs.Common.{◌∙◌, sym, ap}
-use Rattle.cookie_rows.specs.Groups.{texts_of}
+use Rattle.cookie_rows.specs.GroupChanges.{texts_of}
 use Rattle.cookie_rows.specs.Items.{put_item_paths}
 use Rattle.cookie_rows.specs.PathMaps.{groups_of}
 use Rattle.cookie_rows.proofs.paths.replace_path.Goals as goal

@@ -3,7 +3,7 @@ use Rattle.std.specs.Prelude.{string_bytes}
 use Rattle.std.specs.String.{string_eq}
 use Rattle.std.specs.Map.{set_value}
 use Rattle.indexmap.specs.IndexMap.{insert_entry}
-use Rattle.cookie_rows.specs.Groups.{put_at, texts_of}
+use Rattle.cookie_rows.specs.GroupChanges.{put_at, texts_of}
 use Rattle.cookie_rows.specs.SecureKeys.{ScopeValue, scope_of}
 use Rattle.cookie_rows.proofs.Maps.{at_text, put_insert, put_set, same_set}
 use Rattle.cookie_rows.proofs.Results.{on_err_map, on_ok_map}

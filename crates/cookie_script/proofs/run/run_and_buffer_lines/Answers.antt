@@ -1,7 +1,7 @@
 use Rattle.std.proofs.Common.{◌≡◌, ◌≢◌, ◌∙◌, inl, inr, ℕ, ◌+◌, arith, eqb, eq-eqb, position, length, [], ◌∷◌, Result, Ok, Err, OnOk, IsErrAnd, subst, sym, ap, refl, rules}
 use Rattle.std.proofs.lemmas.Bool.{eqb-true, false≢true}
 use Rattle.std.proofs.lemmas.Option.{IfSome_then}
-use Rattle.cookie_device.specs.Lines.{IsLastLine}
+use Rattle.cookie_device.specs.LineBuffers.{IsLastLine}
 use Rattle.cookie_script.specs.Script.{empty}
 use Rattle.cookie_script.proofs.HasRunLines.{all_sent, next_line_run, next_part, sent_all}
 use Rattle.cookie_script.proofs.Progress.{begun, are_read, flush_part, flushed, found, line_run, no_line_left, one_line_left, part_so_far, read_ahead}

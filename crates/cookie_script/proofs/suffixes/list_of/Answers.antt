@@ -3,14 +3,14 @@ use Rattle.std.specs.Result.{result_map_both}
 use Rattle.std.specs.Str.{IsUtf8, is_utf8}
 use Rattle.std.proofs.lemmas.Bool.{false_from_ne_true}
 use Rattle.std.proofs.lemmas.Str.{IsUtf8-from_is_utf8, is_utf8-from_IsUtf8}
-use Rattle.cookie_psl.specs.Lists as Psl
-use Rattle.cookie_psl.specs.Reading.{rules_from}
+use Rattle.cookie_psl.specs.ParsedLists as Psl
+use Rattle.cookie_psl.specs.ListFormat.{rules_from}
 use Rattle.cookie_psl.specs.Rules.{RuleList}
 use Rattle.cookie_psl.specs.declared.error.ListError.{ListError}
 use Rattle.cookie_psl.specs.declared.error.ListError.TheVariants as ListCase
 use Rattle.cookie_psl.specs.declared.list as Declared
 use Rattle.cookie_script.specs.Errors.{main_error_of_list}
-use Rattle.cookie_script.specs.Suffixes.{list_in_file, ParsesListFile}
+use Rattle.cookie_script.specs.ListFiles.{list_in_file, ParsesListFile}
 use Rattle.cookie_script.specs.declared.error.MainFault.{MainFault}
 use Rattle.cookie_script.specs.declared.error.MainFault.TheVariants.{CannotReadList, BadRule}
 use Rattle.cookie_script.proofs.suffixes.list_of.Goals as goal
@@ -30,11 +30,11 @@ no_other : (bytes : List ℕ) → IsUtf8 bytes → is_utf8 bytes ≡ false → �
 no_other bytes valid other = let is : is_utf8 bytes ≡ true = is_utf8-from_IsUtf8 bytes valid in cc
 
 -- what was parsed is the list, or the error of the program for its error
-of_read : (read : Result Declared.List.List ListError) (rules : Result RuleList ℕ) (answer : Result RuleList MainFault)
-    → Psl.ParsesList read rules → answer ≡ result_map_both (λ rules. rules) BadRule rules → ParsesListFile (result_map_both (λ list. list) main_error_of_list read) answer
-of_read (Ok list) rules answer (given, is, same) answered = (given, answered ∙ ap (result_map_both (λ rules. rules) BadRule) is, same)
-of_read (Err (ListCase.BadRule line)) rules answer given answered = answered ∙ ap (result_map_both (λ rules. rules) BadRule) given
-of_read (Err ListCase.Memory) rules answer given answered = tt
+of_read : (read : Result Declared.List.List ListError) (rules : Result RuleList ℕ) (expected : Result RuleList MainFault)
+    → Psl.ParsesList read rules → expected ≡ result_map_both (λ rules. rules) BadRule rules → ParsesListFile (result_map_both (λ list. list) main_error_of_list read) expected
+of_read (Ok list) rules expected (given, is, same) answered = (given, answered ∙ ap (result_map_both (λ rules. rules) BadRule) is, same)
+of_read (Err (ListCase.BadRule line)) rules expected given answered = answered ∙ ap (result_map_both (λ rules. rules) BadRule) given
+of_read (Err ListCase.Memory) rules expected given answered = tt
 
 pub returns-in_default-clause-value : goal.returns-in_default-clause-value
 returns-in_default-clause-value c = not_text _ c.in_default.ensures.cases.0

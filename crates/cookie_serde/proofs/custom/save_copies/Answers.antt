@@ -3,7 +3,7 @@ use Rattle.std.specs.Fn.{FnReturnsAt}
 use Rattle.std.proofs.KnownBytes.{Keeps-refl}
 use Rattle.std.proofs.lemmas.Fn.{says_at}
 use Rattle.std.proofs.lemmas.Result.{err_from_is_err_and}
-use Rattle.cookie_serde.specs.Lists.{SerializesCopies}
+use Rattle.cookie_serde.specs.SavedLists.{SerializesCopies}
 use Rattle.cookie_serde.specs.Selections.{is_selected}
 use Rattle.cookie_serde.proofs.ListedRows.{list_begun, list_written}
 use Rattle.cookie_serde.proofs.custom.save_copies.Goals as goal

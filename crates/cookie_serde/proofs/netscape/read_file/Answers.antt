@@ -2,7 +2,7 @@ use Rattle.std.proofs.Common.{ap, inl, refl, subst, sym}
 use Rattle.std.specs.Str.{is_utf8}
 use Rattle.std.proofs.lemmas.Bool.{false_from_ne_true, false≢true}
 use Rattle.std.proofs.lemmas.Str.{IsUtf8-from_is_utf8, IsUtf8-string_bytes, is_utf8-from_IsUtf8}
-use Rattle.cookie_serde.specs.Lists.{IsAll}
+use Rattle.cookie_serde.specs.SavedLists.{IsAll}
 use Rattle.cookie_serde.proofs.netscape.read_file.Goals as goal
 
 pub returns-in-Ok-from_utf8-clause-file : goal.returns-in-Ok-from_utf8-clause-file

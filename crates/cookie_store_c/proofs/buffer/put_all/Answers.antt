@@ -1,5 +1,5 @@
 use Rattle.std.proofs.Common.{ap, arith, length, length-append, ◌++◌, ◌∙◌, take}
-use Rattle.cookie_device.specs.Texts.{joined}
+use Rattle.cookie_device.specs.Joined.{joined}
 use Rattle.cookie_store_c.proofs.Filling.{fits, next_text, stands_more}
 use Rattle.cookie_store_c.proofs.buffer.put_all.Goals as goal
 
@@ -19,7 +19,7 @@ loop-text-preserved c =
     record {
       ends = omega (arith, longer, invariant.ends, c.put-end.ensures.end);
       long = c.put-end.ensures.long ∙ invariant.long;
-      stands = λ front started stood.
-          stands_more front before text _ started _ _ next
-          (c.put-end.ensures.stands (front ++ before) started (invariant.stands front started stood));
+      stands = λ prefix started stood.
+          stands_more prefix before text _ started _ _ next
+          (c.put-end.ensures.stands (prefix ++ before) started (invariant.stands prefix started stood));
     }

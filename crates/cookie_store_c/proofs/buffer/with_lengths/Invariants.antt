@@ -1,5 +1,5 @@
 use Rattle.std.proofs.Common.{◌≡◌, ◌+◌, length, take}
-use Rattle.cookie_device.specs.Texts.{joined}
+use Rattle.cookie_device.specs.Joined.{joined}
 use Rattle.cookie_store_c.proofs.buffer.with_lengths.Given as goal
 
 abbrev pub invariant-loop-text : goal.invariant-loop-text

@@ -1,4 +1,4 @@
-use Rattle.std.proofs.Common.{◌≡◌, List, [], ◌∷◌, length, map, Result, Ok, Err, OnErr, refl, ap, ◌∙◌, arith}
+use Rattle.std.proofs.Common.{◌≡◌, List, [], ◌∷◌, length, map, Option, Some, None, Result, Ok, Err, OnErr, refl, ap, ◌∙◌, arith}
 use Rattle.std.specs.Prelude.{◌≢◌}
 use Rattle.std.specs.List.{filter}
 use Rattle.std.proofs.lemmas.List.Sorted.{length_permutation}
@@ -7,8 +7,9 @@ use Rattle.cookie_words.specs.Moments.{Moment, moment_of}
 use Rattle.cookie_parts.specs.Cookie.{Row}
 use Rattle.cookie_laws.specs.Contents.{Contents}
 use Rattle.cookie_laws.specs.Given.{given}
-use Rattle.cookie_strict.specs.CrossSite.{is_sent, IsSent}
+use Rattle.cookie_strict.specs.CrossSite.{is_sent}
 use Rattle.cookie_strict.specs.declared.requests.Context.{Context}
+use Rattle.cookie_store_c.specs.Headers.{AreCookiesOf}
 use Rattle.cookie_store_c.proofs.header.cookie_header.Goals as goal
 
 -- a list of no length is empty
@@ -27,14 +28,16 @@ on_err_map (Ok a) f known = tt
 on_err_map (Err error) f known = f known
 
 -- if a cookie is sent, one is given
-some_given : (context : Context) (url : Parts) (now : Moment) (store : Contents) (cookies : List Row) → IsSent context url now store cookies → cookies ≢ []
+some_given : (context : Option Context) (url : Parts) (now : Moment) (store : Contents) (cookies : List Row) → AreCookiesOf context url now store cookies → cookies ≢ []
     → given url now store.rows ≢ []
-some_given context url now store cookies (all, order, is) some empty =
+some_given None url now store cookies order some empty =
+    some (none cookies (length_permutation (given url now store.rows) cookies order.0 ∙ ap length empty))
+some_given (Some context) url now store cookies (all, order, is) some empty =
     some (is ∙ ap (filter (is_sent context)) (none all (length_permutation (given url now store.rows) all order.0 ∙ ap length empty)))
 
-pub returns-in_ok-cookies_for-in-Some-clause-memory : goal.returns-in_ok-cookies_for-in-Some-clause-memory
-returns-in_ok-cookies_for-in-Some-clause-memory c =
-    let sent = c.in_ok-cookies_for-in-Some.ensures.sent in
+pub returns-clause-memory : goal.returns-clause-memory
+returns-clause-memory c =
     on_err_map c.cookie_string.result
-    (λ some. some_given c.in-Some.context c.args.url.now (moment_of c.args.now) c.args.store.now _ sent (λ empty. some (c.deref.ensures.value ∙ no_map (λ c. c.now) _ empty)))
+    (λ some. some_given c.args.context c.args.url.now (moment_of c.args.now) c.args.store.now _ c.in_ok-header_cookies.ensures.sent
+    (λ empty. some (c.deref.ensures.value ∙ no_map (λ c. c.now) _ empty)))
     c.cookie_string.ensures.memory

@@ -7,9 +7,9 @@ use Rattle.cookie_store_c.proofs.header.write_cross_site.Goals as goal
 pub returns-in-Err : goal.returns-in-Err
 returns-in-Err c =
     let is = sym c.cross_site.ensures ∙ c.in-Err.is in
-    let answer = Err c.in-Err.status in
+    let expected = Err c.in-Err.status in
     inl (
-      answer,
-      subst (λ (request : Result Context Status). IsCrossSiteHeader request (Some c.args.store.now) c.args.url.now c.args.now answer) (sym is) refl,
+      expected,
+      subst (λ (request : Result Context Status). IsCrossSiteHeader request (Some c.args.store.now) c.args.url.now c.args.now expected) (sym is) refl,
       c.copy_out.ensures,
     )

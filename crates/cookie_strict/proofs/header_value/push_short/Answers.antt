@@ -1,6 +1,6 @@
 use Rattle.std.proofs.Common.{◌≡◌, ◌++◌, map, string_bytes, ap, ◌∙◌}
 use Rattle.std.proofs.lemmas.Iterator.Consumers.{YieldsList-end}
-use Rattle.cookie_words.specs.Texts.{pieces}
+use Rattle.cookie_words.specs.Strings.{pieces}
 use Rattle.cookie_strict.specs.HeaderValue.{joined_attributes, short_attributes}
 use Rattle.cookie_strict.proofs.Attributes.{yields_pieces}
 use Rattle.cookie_strict.proofs.header_value.push_short.Goals as goal

@@ -1,6 +1,6 @@
 use Rattle.std.proofs.Common.{◌≡◌, ◌++◌, IfOk, string_bytes, sym, ap, subst, ◌∙◌, lit<}
-use Rattle.cookie_words.specs.Texts.{pieces}
-use Rattle.cookie_raw.specs.Reading.{pair_of}
+use Rattle.cookie_words.specs.Strings.{pieces}
+use Rattle.cookie_raw.specs.SetCookie.{pair_of}
 use Rattle.cookie_strict.specs.HeaderValue.{joined_attributes, short_attributes, without_long_attributes}
 use Rattle.cookie_strict.proofs.Attributes.{attributes-after_first, attributes-none, whole}
 use Rattle.cookie_strict.proofs.header_value.without_long_attributes.Goals as goal
@@ -19,5 +19,5 @@ returns c =
     let text = c.args.text.now in
     let split = c.in-Some.ensures.byte (lit< tt) (λ text found finds. finds) in
     c.in_ok-push_short.ensures
-    ∙ ap (λ front. front ++ joined_attributes (short_attributes (pieces 59 c.in-Some.rest.now))) (c.in_ok-short.ensures.ok ∙ split.0)
+    ∙ ap (λ prefix. prefix ++ joined_attributes (short_attributes (pieces 59 c.in-Some.rest.now))) (c.in_ok-short.ensures.ok ∙ split.0)
     ∙ ap (λ xs. pair_of text ++ joined_attributes (short_attributes xs)) (ap (pieces 59) split.1 ∙ attributes-after_first text split.2)

@@ -8,5 +8,5 @@ pub returns : goal.returns
 returns c =
     let name = c.args.name.now in
     let n = length c.args.prefix.now in
-    let front : take c.min.result name ≡ take n name = rw (c.min.ensures, min_comm (length name) n) (take_min n name) in
-    rw front at (same_letters c.eq_ignore_ascii_case.result (take c.min.result name) c.args.prefix.now c.eq_ignore_ascii_case.ensures.test)
+    let prefix : take c.min.result name ≡ take n name = rw (c.min.ensures, min_comm (length name) n) (take_min n name) in
+    rw prefix at (same_letters c.eq_ignore_ascii_case.result (take c.min.result name) c.args.prefix.now c.eq_ignore_ascii_case.ensures.test)

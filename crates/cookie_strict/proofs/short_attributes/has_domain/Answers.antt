@@ -1,5 +1,5 @@
 use Rattle.std.proofs.Common.{ap, ◌∙◌, lit<}
-use Rattle.cookie_raw.specs.Reading.{domain_from}
+use Rattle.cookie_raw.specs.SetCookie.{domain_from}
 use Rattle.cookie_strict.specs.HeaderValue.{has_short}
 use Rattle.cookie_strict.proofs.Attributes.{attributes-after_first, attributes-none}
 use Rattle.cookie_strict.proofs.short_attributes.has_domain.Goals as goal

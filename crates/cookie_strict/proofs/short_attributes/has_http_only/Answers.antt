@@ -1,5 +1,5 @@
 use Rattle.std.proofs.Common.{ap, ◌∙◌, lit<}
-use Rattle.cookie_raw.specs.Reading.{http_only_from}
+use Rattle.cookie_raw.specs.SetCookie.{http_only_from}
 use Rattle.cookie_strict.specs.HeaderValue.{has_short}
 use Rattle.cookie_strict.proofs.Attributes.{attributes-after_first, attributes-none}
 use Rattle.cookie_strict.proofs.short_attributes.has_http_only.Goals as goal

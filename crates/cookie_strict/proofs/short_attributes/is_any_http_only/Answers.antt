@@ -1,6 +1,6 @@
 use Rattle.std.proofs.Common.{refl, rules, tests}
 use Rattle.std.proofs.lemmas.Iterator.Search.{any_from_yields_List}
-use Rattle.cookie_raw.specs.Reading.{http_only_from}
+use Rattle.cookie_raw.specs.SetCookie.{http_only_from}
 use Rattle.cookie_strict.specs.HeaderValue.{is_short}
 use Rattle.cookie_strict.proofs.Attributes.{yields_pieces}
 use Rattle.cookie_strict.proofs.short_attributes.is_any_http_only.Goals as goal

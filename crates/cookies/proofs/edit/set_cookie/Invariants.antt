@@ -1,6 +1,6 @@
 -- The first new row is among those that are left.
 use Rattle.std.proofs.Common.{◌≡◌}
-use Rattle.cookies.specs.Edits.{new_row}
+use Rattle.cookies.specs.EditedFiles.{new_row}
 use Rattle.cookies.proofs.edit.set_cookie.Given as goal
 
 abbrev pub invariant-loop-cookie : goal.invariant-loop-cookie

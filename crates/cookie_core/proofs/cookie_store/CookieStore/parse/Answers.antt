@@ -1,4 +1,4 @@
-use Rattle.cookie_raw.specs.Reading.{reading}
+use Rattle.cookie_raw.specs.SetCookie.{reading}
 use Rattle.cookie_core.proofs.EarlyErrors.{memory_is_not_early}
 use Rattle.cookie_core.proofs.cookie_store.CookieStore.parse.Goals as goal
 

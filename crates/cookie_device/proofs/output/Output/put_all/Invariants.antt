@@ -1,7 +1,7 @@
 -- No call has failed; of the buffer and the strings so far, all but what is in the buffer now was written.
 use Rattle.std.proofs.Common.{◌≡◌, ◌+◌, ◌≤◌, ◌++◌, length, take}
 use Rattle.cookie_device.specs.Device.{Sends}
-use Rattle.cookie_device.specs.Texts.{joined}
+use Rattle.cookie_device.specs.Joined.{joined}
 use Rattle.cookie_device.proofs.output.Output.put_all.Given as goal
 
 abbrev pub invariant-loop-text : goal.invariant-loop-text

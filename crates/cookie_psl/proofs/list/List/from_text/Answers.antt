@@ -3,8 +3,8 @@ use Rattle.std.proofs.lemmas.Iterator.Consumers.{YieldsList-at, YieldsList-end, 
 use Rattle.std.proofs.lemmas.Iterator.Splits.{YieldsList-from_str_split}
 use Rattle.std.proofs.lemmas.List.{map-append}
 use Rattle.std.proofs.lemmas.Result.{err_from_is_err_and}
-use Rattle.cookie_words.specs.Texts.{pieces}
-use Rattle.cookie_psl.specs.Reading.{line_rule, rules_from, rules_of}
+use Rattle.cookie_words.specs.Strings.{pieces}
+use Rattle.cookie_psl.specs.ListFormat.{line_rule, rules_from, rules_of}
 use Rattle.cookie_psl.proofs.LinesRead.{then_rule, rules_of-push, bad_next, same_with_rule, not_taken, texts, all_texts}
 use Rattle.cookie_psl.proofs.list.List.from_text.Goals as goal
 

@@ -1,5 +1,5 @@
 use Rattle.std.proofs.Common.{◌≡◌, Ok}
-use Rattle.cookie_psl.specs.Reading.{rules_of}
+use Rattle.cookie_psl.specs.ListFormat.{rules_of}
 use Rattle.cookie_psl.specs.Rules.{RuleList, SameRules}
 use Rattle.cookie_psl.proofs.LinesRead.{texts}
 use Rattle.cookie_psl.proofs.list.List.from_text.Given as goal

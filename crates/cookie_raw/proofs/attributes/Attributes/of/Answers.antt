@@ -1,7 +1,7 @@
 use Rattle.std.proofs.Common.{◌≡◌, map, sym, ap, ◌∙◌}
 use Rattle.std.specs.Option.{option_copied}
 use Rattle.std.proofs.lemmas.Iterator.Consumers.{YieldsList-end}
-use Rattle.cookie_raw.specs.Reading.{attributes_after, domain_from, expires_from, http_only_from, last_accepted, max_age_from, path_from, same_site_from, secure_from}
+use Rattle.cookie_raw.specs.SetCookie.{attributes_after, domain_from, expires_from, http_only_from, last_accepted, max_age_from, path_from, same_site_from, secure_from}
 use Rattle.cookie_raw.proofs.LastGiven.{last_accepted-push}
 use Rattle.cookie_raw.proofs.Pieces.{yields_pieces}
 use Rattle.cookie_raw.proofs.attributes.Attributes.of.Goals as goal

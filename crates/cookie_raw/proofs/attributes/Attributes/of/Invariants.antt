@@ -1,7 +1,7 @@
 use Rattle.std.proofs.Common.{◌≡◌, map, option_map}
 use Rattle.std.specs.Option.{option_copied}
 use Rattle.jiff.specs.Words.{signed_nanos}
-use Rattle.cookie_raw.specs.Reading.{domain_from, expires_from, http_only_from, last_accepted, max_age_from, path_from, same_site_from, secure_from}
+use Rattle.cookie_raw.specs.SetCookie.{domain_from, expires_from, http_only_from, last_accepted, max_age_from, path_from, same_site_from, secure_from}
 use Rattle.cookie_raw.specs.Views.{expires_value}
 use Rattle.cookie_raw.proofs.attributes.Attributes.of.Given as goal
 

@@ -1,6 +1,6 @@
 use Rattle.std.proofs.Common.{◌∙◌, sym, ap, Some}
 use Rattle.std.specs.Prelude.{slice_get}
-use Rattle.cookie_rows.specs.Groups.{texts_of}
+use Rattle.cookie_rows.specs.GroupChanges.{texts_of}
 use Rattle.cookie_rows.proofs.Places.{bare_domains, text_is, text_none}
 use Rattle.cookie_rows.proofs.map_search.MapSearchListedSearch.domain_text.Goals as goal
 

@@ -1,5 +1,5 @@
 use Rattle.std.proofs.Common.{◌∙◌, sym, ap, length}
-use Rattle.cookie_rows.specs.Groups.{texts_of}
+use Rattle.cookie_rows.specs.GroupChanges.{texts_of}
 use Rattle.cookie_rows.proofs.Places.{bare_count, under_is, under_none}
 use Rattle.cookie_rows.proofs.map_search.MapSearchListedSearch.path_count.Goals as goal
 

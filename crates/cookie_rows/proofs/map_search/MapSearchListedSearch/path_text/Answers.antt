@@ -1,6 +1,6 @@
 use Rattle.std.proofs.Common.{◌∙◌, sym, ap, map}
 use Rattle.std.specs.Prelude.{slice_get}
-use Rattle.cookie_rows.specs.Groups.{texts_of}
+use Rattle.cookie_rows.specs.GroupChanges.{texts_of}
 use Rattle.cookie_rows.proofs.Places.{bare_texts, under_is, under_none}
 use Rattle.cookie_rows.proofs.map_search.MapSearchListedSearch.path_text.Goals as goal
 

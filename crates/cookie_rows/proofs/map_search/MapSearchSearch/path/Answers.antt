@@ -1,20 +1,20 @@
 use Rattle.std.proofs.Common.{◌+◌, ◌∙◌, sym, ap, Some, List}
 use Rattle.cookie_parts.specs.Cookie.{Row}
 use Rattle.cookie_lookup.specs.SearchView.{SearchView, group_position, under}
-use Rattle.cookie_rows.specs.Groups.{texts_of}
+use Rattle.cookie_rows.specs.GroupChanges.{texts_of}
 use Rattle.cookie_rows.specs.Items.{bare, rows_of}
 use Rattle.cookie_rows.proofs.Places.{bare_place, bare_rows, under_is}
 use Rattle.cookie_rows.proofs.map_search.MapSearchSearch.path.Goals as goal
 
-pub returns-in_err-place-clause-answer : goal.returns-in_err-place-clause-answer
-returns-in_err-place-clause-answer c =
+pub returns-in_err-place-clause-position : goal.returns-in_err-place-clause-position
+returns-in_err-place-clause-position c =
     let es = c.args.self.now.groups.now.entries in
     let there = under_is es c.args.domain c.in_ok-paths.field-0-0.now c.in_ok-paths.paths.now (sym c.in_ok-paths.ensures.entry) in
     c.from_residual-in_err-place.ensures ∙ c.in_err-place.ensures.place ∙ ap (group_position c.args.text.now) there
     ∙ bare_place c.args.text.now c.args.domain (texts_of es)
 
-pub returns-clause-answer : goal.returns-clause-answer
-returns-clause-answer c =
+pub returns-clause-position : goal.returns-clause-position
+returns-clause-position c =
     let es = c.args.self.now.groups.now.entries in
     let there = under_is es c.args.domain c.in_ok-paths.field-0-0.now c.in_ok-paths.paths.now (sym c.in_ok-paths.ensures.entry) in
     c.in_ok-place.ensures.place ∙ ap (group_position c.args.text.now) there ∙ bare_place c.args.text.now c.args.domain (texts_of es)

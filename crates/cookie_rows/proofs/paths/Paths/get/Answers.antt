@@ -1,5 +1,5 @@
 use Rattle.std.proofs.Common.{List, ◌∙◌, sym, ap}
-use Rattle.cookie_rows.specs.Groups.{row_named}
+use Rattle.cookie_rows.specs.GroupChanges.{row_named}
 use Rattle.cookie_rows.specs.Items.{rows_of, Item}
 use Rattle.cookie_rows.proofs.Places.{found_at, found_nowhere}
 use Rattle.cookie_rows.proofs.paths.Paths.get.Goals as goal

@@ -1,7 +1,7 @@
 use Rattle.std.proofs.Common.{◌∙◌, ap, subst, sym}
 use Rattle.cookie_parts.specs.Cookie.{expired_row}
 use Rattle.cookie_laws.specs.Rows.{RowsInOrder, changed, has_key, key_of}
-use Rattle.cookie_rows.specs.Groups.{texts_of}
+use Rattle.cookie_rows.specs.GroupChanges.{texts_of}
 use Rattle.cookie_rows.specs.Items.{AreItems, groups_in_order}
 use Rattle.cookie_rows.proofs.AreItems.{items_expired, kept_expired}
 use Rattle.cookie_rows.proofs.rows.Rows.expire.Goals as goal

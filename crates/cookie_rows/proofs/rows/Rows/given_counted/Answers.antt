@@ -1,6 +1,6 @@
 use Rattle.std.proofs.Common.{None, subst, rules}
 use Rattle.cookie_laws.specs.Contents.{HasCreationOrder, contents_of}
-use Rattle.cookie_rows.specs.Groups.{texts_of}
+use Rattle.cookie_rows.specs.GroupChanges.{texts_of}
 use Rattle.cookie_rows.proofs.AreCreationKeys.{created_once}
 use Rattle.cookie_rows.proofs.rows.Rows.given_counted.Goals as goal
 

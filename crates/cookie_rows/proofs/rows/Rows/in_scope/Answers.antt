@@ -1,6 +1,6 @@
 use Rattle.std.proofs.Common.{◌∙◌, ap, List, ℕ}
 use Rattle.cookie_laws.specs.Rows.{RowsInOrder, key_at, row_of}
-use Rattle.cookie_rows.specs.Groups.{texts_of}
+use Rattle.cookie_rows.specs.GroupChanges.{texts_of}
 use Rattle.cookie_rows.proofs.AreItems.{found_items}
 use Rattle.cookie_rows.proofs.rows.Rows.in_scope.Goals as goal
 

@@ -2,7 +2,7 @@ use Rattle.std.proofs.Common.{◌∙◌, ◌+◌, ◌<◌, ap, arith, inl, refl,
 use Rattle.cookie_words.specs.Moments.{moment_of}
 use Rattle.cookie_laws.specs.Contents.{contents_of, rows_in_order}
 use Rattle.cookie_laws.specs.Rows.{RowsInOrder, key_of, add_created, put, row_of}
-use Rattle.cookie_rows.specs.Groups.{texts_of}
+use Rattle.cookie_rows.specs.GroupChanges.{texts_of}
 use Rattle.cookie_rows.specs.Items.{AreItems, Item, find_items, groups_in_order, put_items}
 use Rattle.cookie_rows.specs.Eviction.{HasRoom, InsertsInDomains, with_inserted}
 use Rattle.cookie_rows.proofs.AreItems.{found_items, items_put, kept_put}

@@ -7,7 +7,7 @@ use Rattle.cookie_laws.specs.Contents.{contents_of}
 use Rattle.cookie_laws.specs.Rows.{RowsInOrder, key_of}
 use Rattle.cookie_laws.specs.SecureLast.{is_full_of_secure}
 use Rattle.cookie_rows.specs.Eviction.{count_secure, paths_of}
-use Rattle.cookie_rows.specs.Groups.{texts_of}
+use Rattle.cookie_rows.specs.GroupChanges.{texts_of}
 use Rattle.cookie_rows.proofs.SecureRows.{secure_counted}
 use Rattle.cookie_rows.proofs.rows.Rows.is_full_of_secure.Goals as goal
 

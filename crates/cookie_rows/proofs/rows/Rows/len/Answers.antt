@@ -2,7 +2,7 @@ use Rattle.std.proofs.Common.{◌∙◌, ap, arith, length, sym}
 use Rattle.std.specs.Map.{values_of}
 use Rattle.std.proofs.lemmas.List.{length-map}
 use Rattle.cookie_laws.specs.Rows.{RowsInOrder}
-use Rattle.cookie_rows.specs.Groups.{texts_of}
+use Rattle.cookie_rows.specs.GroupChanges.{texts_of}
 use Rattle.cookie_rows.specs.Items.{Item, all_groups, joined}
 use Rattle.cookie_rows.proofs.Joined.{joined_is}
 use Rattle.cookie_rows.proofs.UnexpiredItems.{few_rows}

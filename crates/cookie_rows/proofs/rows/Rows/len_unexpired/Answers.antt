@@ -1,7 +1,7 @@
 use Rattle.std.proofs.Common.{ap, arith, inl, length}
 use Rattle.cookie_words.specs.Moments.{moment_of}
 use Rattle.cookie_laws.specs.Rows.{RowsInOrder}
-use Rattle.cookie_rows.specs.Groups.{texts_of}
+use Rattle.cookie_rows.specs.GroupChanges.{texts_of}
 use Rattle.cookie_rows.proofs.UnexpiredItems.{few_rows, fewer_rows}
 use Rattle.cookie_rows.proofs.rows.Rows.len_unexpired.Goals as goal
 

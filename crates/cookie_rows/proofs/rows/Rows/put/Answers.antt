@@ -1,7 +1,7 @@
 use Rattle.std.proofs.Common.{◌∙◌, ◌+◌, ap, inl, inr, refl, subst, sym}
 use Rattle.std.specs.Prelude.{is_none}
 use Rattle.cookie_laws.specs.Rows.{RowsInOrder, key_of, add_created, put, row_of}
-use Rattle.cookie_rows.specs.Groups.{texts_of}
+use Rattle.cookie_rows.specs.GroupChanges.{texts_of}
 use Rattle.cookie_rows.specs.Items.{AreItems, groups_in_order}
 use Rattle.cookie_rows.proofs.AreItems.{found_items, items_put, kept_put}
 use Rattle.cookie_rows.proofs.Results.{either_way}

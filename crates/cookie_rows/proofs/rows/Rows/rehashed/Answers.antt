@@ -1,6 +1,6 @@
 use Rattle.std.proofs.Common.{◌∙◌, ap, subst, sym}
 use Rattle.cookie_laws.specs.Rows.{RowsInOrder}
-use Rattle.cookie_rows.specs.Groups.{texts_of}
+use Rattle.cookie_rows.specs.GroupChanges.{texts_of}
 use Rattle.cookie_rows.specs.Items.{AreItems, groups_in_order}
 use Rattle.cookie_rows.proofs.AreItems.{some_rows}
 use Rattle.cookie_rows.proofs.Results.{either_way}

@@ -1,6 +1,6 @@
 use Rattle.std.proofs.Common.{◌∙◌, ap, subst, sym}
 use Rattle.cookie_laws.specs.Rows.{RowsInOrder, has_key, key_at, removed, row_of, same_key}
-use Rattle.cookie_rows.specs.Groups.{texts_of}
+use Rattle.cookie_rows.specs.GroupChanges.{texts_of}
 use Rattle.cookie_rows.specs.Items.{AreItems, groups_in_order}
 use Rattle.cookie_rows.proofs.AreItems.{found_items, items_removed, kept_removed}
 use Rattle.cookie_rows.proofs.rows.Rows.remove.Goals as goal

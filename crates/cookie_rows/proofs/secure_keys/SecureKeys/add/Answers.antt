@@ -1,6 +1,6 @@
 use Rattle.std.proofs.Common.{◌∙◌, ap, ◌||◌}
 use Rattle.cookie_laws.specs.Rows.{key_of, same_key}
-use Rattle.cookie_rows.specs.Groups.{texts_of}
+use Rattle.cookie_rows.specs.GroupChanges.{texts_of}
 use Rattle.cookie_rows.specs.SecureKeys.{lists_key}
 use Rattle.cookie_rows.proofs.NamedScopes.{added_key}
 use Rattle.cookie_rows.proofs.Results.{on_ok_map}

@@ -1,5 +1,5 @@
 use Rattle.std.proofs.Common.{refl}
-use Rattle.cookies.specs.Formats.{format_of_name}
+use Rattle.cookies.specs.FileFormats.{format_of_name}
 use Rattle.cookies.proofs.OtherNames.{no_format}
 use Rattle.cookies.proofs.format.FileFormat.of_name.Goals as goal
 

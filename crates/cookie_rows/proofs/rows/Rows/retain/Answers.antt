@@ -1,0 +1,17 @@
+use Rattle.std.proofs.Common.{◌∙◌, None, ap, rules, subst}
+use Rattle.std.specs.Fn.{FnReturnsAt}
+use Rattle.cookie_laws.specs.Contents.{contents_of, retained, rows_in_order}
+use Rattle.cookie_laws.specs.Rows.{RowsInOrder}
+use Rattle.cookie_rows.specs.GroupChanges.{texts_of}
+use Rattle.cookie_rows.proofs.RetainedItems.{items_retained, kept_retained}
+use Rattle.cookie_rows.proofs.rows.Rows.retain.Goals as goal
+
+pub invariant_of-self : goal.invariant_of-self
+invariant_of-self g c =
+    items_retained _ c.self.inside.created (texts_of c.self.inside.groups.entries) (texts_of c.retain_groups.new.groups.entries) c.self.invariant c.retain_groups.ensures
+
+pub returns : goal.returns
+returns g c = λ test computes.
+    kept_retained _ c.self.inside.created (texts_of c.self.inside.groups.entries) (texts_of c.retain_groups.new.groups.entries) c.self.invariant c.retain_groups.ensures
+    test (λ row result call. computes row.row result (subst (λ x. FnReturnsAt g.F.Fn c.args.keep x result) call.1 (search rules)))
+    ∙ ap (λ (k : RowsInOrder). rows_in_order (retained test (contents_of k None None))) c.self.view_is
