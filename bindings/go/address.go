@@ -1,3 +1,5 @@
+//go:build cgo
+
 package cookiestore
 
 import (
@@ -6,7 +8,6 @@ import (
 	"net"
 	"net/http"
 	"net/url"
-	"regexp"
 	"strings"
 )
 
@@ -16,8 +17,11 @@ func address(u *url.URL) string {
 	if u == nil || strings.Contains(u.Scheme, ":") || !sentTo(u.Opaque, u.Host) {
 		return ""
 	}
-	host := asciiHost(u.Host)
-	if name := (&url.URL{Host: host}).Hostname(); name == "" || numeric.MatchString(name) && net.ParseIP(name) == nil {
+	host, plain := u.Host, isPlain(u.Host, ':')
+	if !plain {
+		host = asciiHost(host)
+	}
+	if name := (&url.URL{Host: host}).Hostname(); name == "" || isNumeric(name) && net.ParseIP(name) == nil {
 		return ""
 	}
 	scheme := strings.ToLower(u.Scheme)
@@ -27,8 +31,33 @@ func address(u *url.URL) string {
 	case "wss":
 		scheme = "https"
 	}
+	if plain && scheme != "" && strings.HasPrefix(u.Path, "/") && u.RawPath == "" && isPlain(u.Path, '/') {
+		return scheme + "://" + host + u.Path // as String, but faster
+	}
 	// String escapes what would end the host, and the library takes no host with an escape.
 	return (&url.URL{Scheme: scheme, Host: host, Path: u.Path, RawPath: u.RawPath}).String()
+}
+
+// isPlain reports whether s has only letters, digits, dots, hyphens, underscores and the other character.
+func isPlain(s string, other byte) bool {
+	for i := 0; i < len(s); i++ {
+		if c := s[i]; !plainBytes[c] && c != other {
+			return false
+		}
+	}
+	return true
+}
+
+const letters = "ABCDEFGHIJKLMNOPQRSTUVWXYZabcdefghijklmnopqrstuvwxyz"
+
+var plainBytes = setOf("-._0123456789" + letters)
+
+// setOf returns whether each byte is one of these.
+func setOf(bytes string) (set [256]bool) {
+	for i := 0; i < len(bytes); i++ {
+		set[bytes[i]] = true
+	}
+	return set
 }
 
 // sentTo reports whether a request for a URL with this Opaque and Host goes to that host. Opaque is what the request line has, or
@@ -41,9 +70,19 @@ func sentTo(opaque, host string) bool {
 	return opaque == "" || opaque[0] == '/'
 }
 
-// numeric matches the hosts that a URL can only have if they are IPv4 addresses, such as 127.1 and 0x7f.1 for 127.0.0.1. To
+// isNumeric reports whether a URL can only have this host if it is an IPv4 address, such as 127.1 and 0x7f.1 for 127.0.0.1. To
 // net/http those are names.
-var numeric = regexp.MustCompile(`(^|\.)([0-9]+|0[xX][0-9A-Fa-f]*)\.?$`)
+func isNumeric(host string) bool {
+	host = strings.TrimSuffix(host, ".")
+	label := host[strings.LastIndexByte(host, '.')+1:]
+	if label == "" || label[0] < '0' || label[0] > '9' {
+		return false
+	}
+	if len(label) > 1 && (label[:2] == "0x" || label[:2] == "0X") {
+		return strings.Trim(label[2:], "0123456789ABCDEFabcdef") == ""
+	}
+	return strings.Trim(label, "0123456789") == ""
+}
 
 // asciiHost returns the host, with its port, of an internationalized domain name as net/http connects to it. The mapping of
 // net/http is not exported, but the Host header of a request has its result.
