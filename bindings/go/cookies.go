@@ -40,19 +40,22 @@ func (j *Jar) Len() int {
 // All returns the stored cookies, expired ones included, and nil after Close.
 func (j *Jar) All() []Cookie {
 	rows, text := j.rows()
-	var cookies []Cookie
-	for _, row := range rows {
-		cookies = append(cookies, Cookie{
-			Domain:   cut(&text, row.domain_len),
-			Path:     cut(&text, row.path_len),
-			Name:     cut(&text, row.name_len),
-			Value:    cut(&text, row.value_len),
+	if len(rows) == 0 {
+		return nil
+	}
+	cookies := make([]Cookie, len(rows))
+	for i, row := range rows {
+		cookies[i] = Cookie{
+			Domain:   takeFirst(&text, row.domain_len),
+			Path:     takeFirst(&text, row.path_len),
+			Name:     takeFirst(&text, row.name_len),
+			Value:    takeFirst(&text, row.value_len),
 			Expires:  expiry(row),
 			HostOnly: bool(row.host_only),
 			Secure:   bool(row.secure),
 			HttpOnly: bool(row.http_only),
 			SameSite: sameSites[row.same_site],
-		})
+		}
 	}
 	return cookies
 }
@@ -61,20 +64,22 @@ func (j *Jar) All() []Cookie {
 func (j *Jar) rows() ([]C.cookie_store_row, string) {
 	j.mu.Lock()
 	defer j.mu.Unlock()
-	rows, text := make([]C.cookie_store_row, 1), make([]byte, 1)
-	for {
-		var count, length C.size_t
-		status := C.cookie_store_rows(&j.store, &rows[0], C.size_t(len(rows)),
-			(*C.char)(unsafe.Pointer(&text[0])), C.size_t(len(text)), &count, &length)
-		if status != C.COOKIE_STORE_NO_ROOM { // OK, or NO_STORE with no row
-			return rows[:count], string(text[:length])
-		}
-		rows, text = make([]C.cookie_store_row, count), make([]byte, length)
-	}
+	count, length := j.writeRows(make([]C.cookie_store_row, 1), make([]byte, 1))
+	rows, text := make([]C.cookie_store_row, count+1), make([]byte, length+1)
+	j.writeRows(rows, text)
+	return rows[:count], view(text[:length])
 }
 
-// cut removes the first bytes of text and returns them.
-func cut(text *string, length C.size_t) string {
+// writeRows writes the rows and their strings if both fit, and returns how many rows and bytes there are: none after Close. The
+// last item of each buffer is left free, so that the other ones may be none. The lock must be held.
+func (j *Jar) writeRows(rows []C.cookie_store_row, text []byte) (count, length C.size_t) {
+	C.cookie_store_rows(&j.store, &rows[0], C.size_t(len(rows)-1), (*C.char)(unsafe.Pointer(&text[0])), C.size_t(len(text)-1),
+		&count, &length)
+	return count, length
+}
+
+// takeFirst removes the first bytes of text and returns them.
+func takeFirst(text *string, length C.size_t) string {
 	head := (*text)[:length]
 	*text = (*text)[length:]
 	return head

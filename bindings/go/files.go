@@ -7,6 +7,7 @@ import (
 	"bytes"
 	"io"
 	"math"
+	"unsafe"
 )
 
 // Format is a format of saved cookies.
@@ -55,12 +56,25 @@ func (j *Jar) save(w io.Writer, format, which C.uint32_t) (leftOut int, err erro
 func (j *Jar) list(format, which C.uint32_t) ([]byte, int, error) {
 	j.mu.Lock()
 	defer j.mu.Unlock()
-	now, leftOut := j.seconds(), C.size_t(0)
-	list, err := grow(func(out *C.char, room C.size_t, needed *C.size_t) C.enum_cookie_store_status {
-		return C.cookie_store_save(&j.store, C.enum_cookie_store_format(format), C.enum_cookie_store_which(which), now,
-			out, room, needed, &leftOut)
-	})
-	return list, int(leftOut), err
+	list, now, leftOut := make([]byte, j.room(format)), j.seconds(), C.size_t(0)
+	for {
+		status := C.cookie_store_save(&j.store, C.enum_cookie_store_format(format), C.enum_cookie_store_which(which), now,
+			(*C.char)(unsafe.Pointer(&list[0])), C.size_t(len(list)), &j.needed, &leftOut)
+		if status != C.COOKIE_STORE_NO_ROOM {
+			return list[:j.needed], int(leftOut), errorOf(status, 0)
+		}
+		list = make([]byte, j.needed)
+	}
+}
+
+// room returns the length of a buffer for the stored cookies. With many escaped characters they may take more: then they are
+// written twice.
+func (j *Jar) room(format C.uint32_t) C.size_t {
+	count, length := j.writeRows(make([]C.cookie_store_row, 1), make([]byte, 1))
+	if format == C.COOKIE_STORE_JSON || format == C.COOKIE_STORE_RON {
+		return 4096 + 2*length + 512*count // at most twice the strings of a cookie, and 512 other bytes
+	}
+	return 4096 + length + 40*count
 }
 
 // Load returns a jar with cookies of r. Nil options are those of a zero Options. No option applies to the loaded cookies: their
@@ -86,7 +100,7 @@ func load(r io.Reader, format, which C.uint32_t, options *Options) (jar *Jar, ma
 	if err != nil {
 		return nil, nil, err
 	}
-	list, lines, count := string(read), make([]C.size_t, bytes.Count(read, []byte("\n"))+1), C.size_t(0)
+	list, lines, count := view(read), make([]C.size_t, bytes.Count(read, []byte("\n"))+1), C.size_t(0)
 	jar, err = create(options, func(jar *Jar, key string) error {
 		status := C.cookie_store_load(&jar.store, chars(key), size(key), C.enum_cookie_store_format(format),
 			C.enum_cookie_store_which(which), chars(list), size(list), jar.seconds(), &lines[0], C.size_t(len(lines)), &count)

@@ -1,9 +1,11 @@
+//go:build cgo
+
 package cookiestore
 
 import (
 	"net/http"
+	"net/textproto"
 	"net/url"
-	"reflect"
 	"strings"
 )
 
@@ -15,31 +17,34 @@ var _ http.CookieJar = (*Jar)(nil)
 // A cookie of a response is inserted by its Set-Cookie header as received (Raw): RFC 6265 reads more dates than net/http. A
 // cookie that was made by hand, or whose fields were changed, is inserted by the header that its method String returns.
 func (j *Jar) SetCookies(u *url.URL, cookies []*http.Cookie) {
-	for i, err := range j.parseAll(address(u), cookies) {
-		if err != nil {
-			j.dropped(u, cookies[i].Name, err)
-		}
+	for _, cookie := range j.parseAll(address(u), cookies) {
+		j.dropped(u, cookie.name, cookie.err)
 	}
 }
 
-// parseAll inserts cookies and returns the error of each.
-func (j *Jar) parseAll(url string, cookies []*http.Cookie) []error {
+// droppedCookie is the name of a cookie that is not stored, and why.
+type droppedCookie struct {
+	name string
+	err  error
+}
+
+// parseAll inserts cookies and returns those that are dropped.
+func (j *Jar) parseAll(url string, cookies []*http.Cookie) (dropped []droppedCookie) {
 	j.mu.Lock()
 	defer j.mu.Unlock()
-	errs := make([]error, len(cookies))
-	for i, cookie := range cookies {
-		errs[i] = j.parse(url, setCookie(cookie))
+	now := j.seconds()
+	for _, cookie := range cookies {
+		if err := j.parse(url, setCookie(cookie), now); err != nil {
+			dropped = append(dropped, droppedCookie{cookie.Name, err})
+		}
 	}
-	return errs
+	return dropped
 }
 
 // setCookie returns the Set-Cookie header value of a cookie.
 func setCookie(cookie *http.Cookie) string {
-	response := http.Response{Header: http.Header{"Set-Cookie": {cookie.Raw}}}
-	for _, received := range response.Cookies() { // one, or none
-		if reflect.DeepEqual(received, cookie) {
-			return cookie.Raw
-		}
+	if isReceived(cookie) {
+		return cookie.Raw
 	}
 	return cookie.String()
 }
@@ -51,23 +56,43 @@ func setCookie(cookie *http.Cookie) string {
 // A value is as received, but without double quotes around it, as net/http reads and writes cookies. Header returns the exact
 // values.
 func (j *Jar) Cookies(u *url.URL) []*http.Cookie {
-	pairs, err := j.pairs(u)
+	header, err := j.readHeader(address(u))
 	if err != nil {
 		j.dropped(u, "", err)
 	}
-	var cookies []*http.Cookie
-	for _, pair := range pairs {
-		cookies = append(cookies, requestCookie(pair))
+	if header == "" {
+		return nil
+	}
+	most := strings.Count(header, ";") + 1
+	memory, cookies := make([]http.Cookie, most), make([]*http.Cookie, 0, most)
+	for more := true; more; {
+		var pair string
+		pair, header, more = strings.Cut(header, pairSeparator)
+		if j.isSent(u, pair) {
+			cookie := &memory[len(cookies)]
+			readPair(cookie, pair)
+			cookies = append(cookies, cookie)
+		}
+	}
+	if len(cookies) == 0 {
+		return nil
 	}
 	return cookies
 }
 
-// requestCookie returns the cookie of a pair name=value.
-func requestCookie(pair string) *http.Cookie {
-	request := http.Request{Header: http.Header{"Cookie": {pair}}}
-	if read := request.Cookies(); len(read) == 1 {
-		return read[0]
+// readPair sets the name and the value of a cookie to those that net/http reads from a pair name=value.
+func readPair(cookie *http.Cookie, pair string) {
+	name, value, _ := strings.Cut(textproto.TrimString(pair), "=")
+	value, quoted := unquoted(value)
+	if isToken(name) && isValue(value) {
+		cookie.Name, cookie.Value = name, value
+		setQuoted(cookie, quoted)
+		return
 	}
-	name, value, _ := strings.Cut(pair, "=") // net/http cannot read it: it is not of a response
-	return &http.Cookie{Name: name, Value: value}
+	request := http.Request{Header: http.Header{"Cookie": {pair}}} // versions of net/http read other pairs differently
+	if read := request.Cookies(); len(read) == 1 {
+		*cookie = *read[0]
+		return
+	}
+	cookie.Name, cookie.Value, _ = strings.Cut(pair, "=") // net/http cannot read it: it is not of a response
 }

@@ -22,6 +22,8 @@ import (
 type Jar struct {
 	mu        sync.Mutex
 	store     C.cookie_store
+	header    []byte                             // a buffer for Cookie headers
+	needed    C.size_t                           // what a call reports of its buffer
 	now       func() time.Time                   // the clock of a test, or nil
 	onDropped func(host, name string, err error) // or nil
 }
@@ -103,7 +105,7 @@ func create(options *Options, begin func(jar *Jar, key string) error) (*Jar, err
 func (j *Jar) configure(options *Options) error {
 	j.onDropped = options.OnDropped
 	if options.PublicSuffixList != nil {
-		list, line := string(options.PublicSuffixList), C.size_t(0)
+		list, line := view(options.PublicSuffixList), C.size_t(0)
 		status := C.cookie_store_set_suffix_list(&j.store, chars(list), size(list), C.bool(options.OnlyListed), &line)
 		if err := errorOf(status, line); err != nil {
 			return err
@@ -133,12 +135,12 @@ func (j *Jar) Close() error {
 func (j *Jar) Parse(u *url.URL, setCookie string) error {
 	j.mu.Lock()
 	defer j.mu.Unlock()
-	return j.parse(address(u), setCookie)
+	return j.parse(address(u), setCookie, j.seconds())
 }
 
 // parse is Parse while the lock is held.
-func (j *Jar) parse(url, setCookie string) error {
-	return errorOf(C.cookie_store_parse(&j.store, chars(url), size(url), chars(setCookie), size(setCookie), j.seconds()), 0)
+func (j *Jar) parse(url, setCookie string, now C.int64_t) error {
+	return errorOf(C.cookie_store_parse(&j.store, chars(url), size(url), chars(setCookie), size(setCookie), now), 0)
 }
 
 // Header returns the value of the Cookie header of a request for u, RFC 6265 5.4, or "" if none is to be sent. Names and values
@@ -149,38 +151,57 @@ func (j *Jar) parse(url, setCookie string) error {
 //
 // Errors: ErrBadURL, ErrNotUTF8 (the URL).
 func (j *Jar) Header(u *url.URL) (string, error) {
-	pairs, err := j.pairs(u)
-	return strings.Join(pairs, "; "), err
-}
-
-// pairs returns the pairs name=value of the Cookie header of a request for u.
-func (j *Jar) pairs(u *url.URL) ([]string, error) {
-	header, err := j.header(address(u))
-	if err != nil || header == "" {
-		return nil, err
+	header, err := j.readHeader(address(u))
+	if err != nil || !hasControl(header) {
+		return header, err
 	}
-	var pairs []string
-	for _, pair := range strings.Split(header, "; ") { // no name and no value has a semicolon
-		if strings.IndexFunc(pair, isControl) < 0 {
-			pairs = append(pairs, pair)
-			continue
+	var sent []string
+	for _, pair := range strings.Split(header, pairSeparator) {
+		if j.isSent(u, pair) {
+			sent = append(sent, pair)
 		}
-		name, _, _ := strings.Cut(pair, "=")
-		j.dropped(u, name, &Error{Status: ErrControlCharacter})
 	}
-	return pairs, nil
+	return strings.Join(sent, pairSeparator), nil
 }
 
-func isControl(r rune) bool { return r < ' ' && r != '\t' || r == 0x7f }
+// pairSeparator separates the pairs of a header. No name and no value has a semicolon.
+const pairSeparator = "; "
 
-func (j *Jar) header(url string) (string, error) {
+// isSent reports whether a pair name=value of a header is sent, and passes one that is not to Options.OnDropped.
+func (j *Jar) isSent(u *url.URL, pair string) bool {
+	if !hasControl(pair) {
+		return true
+	}
+	name, _, _ := strings.Cut(pair, "=")
+	j.dropped(u, name, &Error{Status: ErrControlCharacter})
+	return false
+}
+
+func hasControl(s string) bool {
+	for i := 0; i < len(s); i++ {
+		if c := s[i]; c < ' ' && c != '\t' || c == 0x7f {
+			return true
+		}
+	}
+	return false
+}
+
+// readHeader returns the header as the library writes it.
+func (j *Jar) readHeader(url string) (string, error) {
 	j.mu.Lock()
 	defer j.mu.Unlock()
 	now := j.seconds()
-	header, err := grow(func(out *C.char, room C.size_t, needed *C.size_t) C.enum_cookie_store_status {
-		return C.cookie_store_header(&j.store, chars(url), size(url), now, out, room, needed)
-	})
-	return string(header), err
+	if j.header == nil {
+		j.header = make([]byte, 1024)
+	}
+	for {
+		status := C.cookie_store_header(&j.store, chars(url), size(url), now,
+			(*C.char)(unsafe.Pointer(&j.header[0])), C.size_t(len(j.header)), &j.needed)
+		if status != C.COOKIE_STORE_NO_ROOM {
+			return string(j.header[:j.needed]), errorOf(status, 0)
+		}
+		j.header = make([]byte, j.needed)
+	}
 }
 
 // dropped calls Options.OnDropped. The lock must not be held.
@@ -243,22 +264,15 @@ func (j *Jar) seconds() C.int64_t {
 	return C.int64_t(now().Unix())
 }
 
-// chars returns a copy of s with a zero byte after it, since the library takes no pointer that is NULL.
+// chars returns a pointer to the bytes of s, for the time of a call. The library takes no pointer that is NULL.
 func chars(s string) *C.char {
-	return (*C.char)(unsafe.Pointer(&append([]byte(s), 0)[0]))
+	if s == "" {
+		s = "\x00"
+	}
+	return *(**C.char)(unsafe.Pointer(&s)) // the first word of a string
 }
 
 func size(s string) C.size_t { return C.size_t(len(s)) }
 
-// grow returns what call writes to a buffer. It calls it again if the buffer was too short.
-func grow(call func(out *C.char, room C.size_t, needed *C.size_t) C.enum_cookie_store_status) ([]byte, error) {
-	buffer := make([]byte, 256)
-	for {
-		var needed C.size_t
-		status := call((*C.char)(unsafe.Pointer(&buffer[0])), C.size_t(len(buffer)), &needed)
-		if status != C.COOKIE_STORE_NO_ROOM {
-			return buffer[:needed], errorOf(status, 0)
-		}
-		buffer = make([]byte, needed)
-	}
-}
+// view returns the bytes as a string without a copy, for the time of a call.
+func view(b []byte) string { return *(*string)(unsafe.Pointer(&b)) }
