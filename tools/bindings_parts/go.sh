@@ -20,6 +20,12 @@ go_cache() {
 
 go_is_formatted() { in_go gofmt -d . > "$temp/formatted" && diff /dev/null "$temp/formatted"; }
 
+# Without cgo the build fails, and the only error says why.
+go_needs_cgo() {
+    ! in_go env CGO_ENABLED=0 go build . > "$temp/no_cgo" 2>&1 &&
+        grep -v '^#' "$temp/no_cgo" | sed 's/.*: //' | diff - <(echo cookiestore_needs_cgo_and_a_C_compiler)
+}
+
 # go_block LANGUAGE N: the README's block N of that language.
 go_block() {
     awk -v begin="\`\`\`$1" -v wanted="$2" '$0 == "```" { inside = 0 } inside && n == wanted; $0 == begin { inside = 1; n++ }' \
@@ -52,6 +58,7 @@ go_tests() {
     cp -R bindings/go "$temp/go"
     try 'Go format' go_is_formatted || true
     try 'go vet' in_go go vet ./... || true
+    try 'go build without cgo' go_needs_cgo || true
     try 'go test' in_go go test -count=1 ./... || true
     try 'go test -race' in_go go test -race -vet=off -count=1 . || true
     try 'README.md of Go, code' go_quotes_are_tested || true
