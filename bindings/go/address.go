@@ -13,16 +13,24 @@ import (
 
 // address returns the URL as the library takes it, or "" if there is none from which the library reads the host that net/http
 // connects to, which is u.Host. Only what matters to cookies is in it. A WebSocket handshake is a request by HTTP, RFC 6455 4.1.
-func address(u *url.URL) string {
+//
+// The string is in a buffer of the jar: the lock must be held while it is used.
+func (j *Jar) address(u *url.URL) string {
+	j.url = appendAddress(j.url[:0], u)
+	return view(j.url)
+}
+
+// appendAddress appends that string to b.
+func appendAddress(b []byte, u *url.URL) []byte {
 	if u == nil || strings.Contains(u.Scheme, ":") || !sentTo(u.Opaque, u.Host) {
-		return ""
+		return b
 	}
 	host, plain := u.Host, isPlain(u.Host, ':')
 	if !plain {
 		host = asciiHost(host)
 	}
 	if name := (&url.URL{Host: host}).Hostname(); name == "" || isNumeric(name) && net.ParseIP(name) == nil {
-		return ""
+		return b
 	}
 	scheme := strings.ToLower(u.Scheme)
 	switch scheme {
@@ -32,10 +40,10 @@ func address(u *url.URL) string {
 		scheme = "https"
 	}
 	if plain && scheme != "" && strings.HasPrefix(u.Path, "/") && u.RawPath == "" && isPlain(u.Path, '/') {
-		return scheme + "://" + host + u.Path // as String, but faster
+		return append(append(append(append(b, scheme...), "://"...), host...), u.Path...) // as String, but faster
 	}
 	// String escapes what would end the host, and the library takes no host with an escape.
-	return (&url.URL{Scheme: scheme, Host: host, Path: u.Path, RawPath: u.RawPath}).String()
+	return append(b, (&url.URL{Scheme: scheme, Host: host, Path: u.Path, RawPath: u.RawPath}).String()...)
 }
 
 // isPlain reports whether s has only letters, digits, dots, hyphens, underscores and the other character.

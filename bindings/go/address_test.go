@@ -11,7 +11,7 @@ import (
 
 var numeric = regexp.MustCompile(`(^|\.)([0-9]+|0[xX][0-9A-Fa-f]*)\.?$`)
 
-// addressByString is address by a regular expression and String alone.
+// addressByString is appendAddress by a regular expression and String alone.
 func addressByString(u *url.URL) string {
 	if strings.Contains(u.Scheme, ":") || !sentTo(u.Opaque, u.Host) {
 		return ""
@@ -48,7 +48,7 @@ func TestAddress(t *testing.T) {
 		if random.Intn(10) == 0 {
 			u.Opaque = join(2, "//", "/a", "example", u.Host)
 		}
-		got, want := address(u), addressByString(u)
+		got, want := string(appendAddress(nil, u)), addressByString(u)
 		if got != want {
 			t.Fatalf("%+v: %q, want %q", u, got, want)
 		}

@@ -17,7 +17,7 @@ var _ http.CookieJar = (*Jar)(nil)
 // A cookie of a response is inserted by its Set-Cookie header as received (Raw): RFC 6265 reads more dates than net/http. A
 // cookie that was made by hand, or whose fields were changed, is inserted by the header that its method String returns.
 func (j *Jar) SetCookies(u *url.URL, cookies []*http.Cookie) {
-	for _, cookie := range j.parseAll(address(u), cookies) {
+	for _, cookie := range j.parseAll(u, cookies) {
 		j.dropped(u, cookie.name, cookie.err)
 	}
 }
@@ -29,10 +29,10 @@ type droppedCookie struct {
 }
 
 // parseAll inserts cookies and returns those that are dropped.
-func (j *Jar) parseAll(url string, cookies []*http.Cookie) (dropped []droppedCookie) {
+func (j *Jar) parseAll(u *url.URL, cookies []*http.Cookie) (dropped []droppedCookie) {
 	j.mu.Lock()
 	defer j.mu.Unlock()
-	now := j.seconds()
+	url, now := j.address(u), j.seconds()
 	for _, cookie := range cookies {
 		if err := j.parse(url, setCookie(cookie), now); err != nil {
 			dropped = append(dropped, droppedCookie{cookie.Name, err})
@@ -56,7 +56,7 @@ func setCookie(cookie *http.Cookie) string {
 // A value is as received, but without double quotes around it, as net/http reads and writes cookies. Header returns the exact
 // values.
 func (j *Jar) Cookies(u *url.URL) []*http.Cookie {
-	header, err := j.readHeader(address(u))
+	header, err := j.readHeader(u)
 	if err != nil {
 		j.dropped(u, "", err)
 	}

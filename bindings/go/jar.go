@@ -2,6 +2,15 @@ package cookiestore
 
 // #cgo pkg-config: cookie_store
 // #include <cookie_store.h>
+//
+// // The two calls of each request take a handle as bytes: cgo would look for Go pointers in another one each time.
+// static enum cookie_store_status parse(char *store, const char *url, size_t url_len, const char *value, size_t value_len, int64_t now) {
+// 	return cookie_store_parse((cookie_store *)store, url, url_len, value, value_len, now);
+// }
+//
+// static enum cookie_store_status header(char *store, const char *url, size_t url_len, int64_t now, char *out, size_t out_len, size_t *needed) {
+// 	return cookie_store_header((cookie_store *)store, url, url_len, now, out, out_len, needed);
+// }
 import "C"
 
 import (
@@ -22,8 +31,9 @@ import (
 type Jar struct {
 	mu        sync.Mutex
 	store     C.cookie_store
-	header    []byte                             // a buffer for Cookie headers
-	needed    C.size_t                           // what a call reports of its buffer
+	url       []byte                             // a buffer for the URL of a call
+	header    []byte                             // a buffer for its Cookie header
+	needed    C.size_t                           // what it reports of its buffer
 	now       func() time.Time                   // the clock of a test, or nil
 	onDropped func(host, name string, err error) // or nil
 }
@@ -135,12 +145,12 @@ func (j *Jar) Close() error {
 func (j *Jar) Parse(u *url.URL, setCookie string) error {
 	j.mu.Lock()
 	defer j.mu.Unlock()
-	return j.parse(address(u), setCookie, j.seconds())
+	return j.parse(j.address(u), setCookie, j.seconds())
 }
 
 // parse is Parse while the lock is held.
 func (j *Jar) parse(url, setCookie string, now C.int64_t) error {
-	return errorOf(C.cookie_store_parse(&j.store, chars(url), size(url), chars(setCookie), size(setCookie), now), 0)
+	return errorOf(C.parse(j.handle(), chars(url), size(url), chars(setCookie), size(setCookie), now), 0)
 }
 
 // Header returns the value of the Cookie header of a request for u, RFC 6265 5.4, or "" if none is to be sent. Names and values
@@ -151,7 +161,7 @@ func (j *Jar) parse(url, setCookie string, now C.int64_t) error {
 //
 // Errors: ErrBadURL, ErrNotUTF8 (the URL).
 func (j *Jar) Header(u *url.URL) (string, error) {
-	header, err := j.readHeader(address(u))
+	header, err := j.readHeader(u)
 	if err != nil || !hasControl(header) {
 		return header, err
 	}
@@ -187,15 +197,15 @@ func hasControl(s string) bool {
 }
 
 // readHeader returns the header as the library writes it.
-func (j *Jar) readHeader(url string) (string, error) {
+func (j *Jar) readHeader(u *url.URL) (string, error) {
 	j.mu.Lock()
 	defer j.mu.Unlock()
-	now := j.seconds()
+	url, now := j.address(u), j.seconds()
 	if j.header == nil {
 		j.header = make([]byte, 1024)
 	}
 	for {
-		status := C.cookie_store_header(&j.store, chars(url), size(url), now,
+		status := C.header(j.handle(), chars(url), size(url), now,
 			(*C.char)(unsafe.Pointer(&j.header[0])), C.size_t(len(j.header)), &j.needed)
 		if status != C.COOKIE_STORE_NO_ROOM {
 			return string(j.header[:j.needed]), errorOf(status, 0)
@@ -263,6 +273,8 @@ func (j *Jar) seconds() C.int64_t {
 	}
 	return C.int64_t(now().Unix())
 }
+
+func (j *Jar) handle() *C.char { return (*C.char)(unsafe.Pointer(&j.store)) }
 
 // chars returns a pointer to the bytes of s, for the time of a call. The library takes no pointer that is NULL.
 func chars(s string) *C.char {
