@@ -191,6 +191,21 @@ func TestSaveLenient(t *testing.T) {
 	expectStatus(t, "SaveLenient of a closed jar", err, ErrClosed)
 }
 
+// A list is longer than its first buffer if most of its characters are escaped.
+func TestSaveOfEscapedCharacters(t *testing.T) {
+	jar := newJar(t, nil)
+	value := strings.Repeat("\x01", 10000)
+	parseAll(t, jar, "http://example.com/", "a="+value)
+	for name, format := range map[string]Format{"JSON": JSON, "RON": RON} {
+		var list strings.Builder
+		if err := jar.Save(&list, format, AllCookies); err != nil {
+			t.Fatalf("%s: Save: %v", name, err)
+		}
+		want := []Cookie{{Domain: "example.com", Path: "/", Name: "a", Value: value, HostOnly: true}}
+		expectAll(t, name, loadedJar(t, list.String(), format), want)
+	}
+}
+
 func TestSaveErrors(t *testing.T) {
 	jar := newJar(t, nil)
 	parseAll(t, jar, "http://example.com/", "a=\x01"+expires2099)
