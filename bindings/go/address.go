@@ -3,8 +3,7 @@
 package cookiestore
 
 import (
-	"bufio"
-	"bytes"
+	"context"
 	"net"
 	"net/http"
 	"net/url"
@@ -93,21 +92,19 @@ func isNumeric(host string) bool {
 }
 
 // asciiHost returns the host, with its port, of an internationalized domain name as net/http connects to it. The mapping of
-// net/http is not exported, but the Host header of a request has its result.
+// net/http is not exported, but a dialer gets its result. Newer versions of Go send another Host header.
 func asciiHost(host string) string {
 	if strings.IndexFunc(host, func(r rune) bool { return r >= 0x80 }) < 0 {
 		return host
 	}
-	if strings.ContainsAny(host, "\r\n /") { // a header has only a part of it
-		return ""
+	dialed := ""
+	transport := &http.Transport{DialContext: func(_ context.Context, _, address string) (net.Conn, error) {
+		dialed = address
+		return nil, net.ErrClosed
+	}}
+	request := &http.Request{URL: &url.URL{Scheme: "http", Host: host}, Header: http.Header{}}
+	if response, err := transport.RoundTrip(request); err == nil {
+		response.Body.Close()
 	}
-	var sent bytes.Buffer
-	if err := (&http.Request{URL: &url.URL{Scheme: "http", Host: host}}).Write(&sent); err != nil {
-		return ""
-	}
-	request, err := http.ReadRequest(bufio.NewReader(&sent))
-	if err != nil {
-		return ""
-	}
-	return request.Host
+	return dialed
 }
