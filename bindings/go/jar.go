@@ -4,11 +4,13 @@ package cookiestore
 // #include <cookie_store.h>
 //
 // // The two calls of each request take a handle as bytes: cgo would look for Go pointers in another one each time.
-// static enum cookie_store_status parse(char *store, const char *url, size_t url_len, const char *value, size_t value_len, int64_t now) {
+// static enum cookie_store_status parse(char *store, const char *url, size_t url_len, const char *value, size_t value_len,
+// 	int64_t now) {
 // 	return cookie_store_parse((cookie_store *)store, url, url_len, value, value_len, now);
 // }
 //
-// static enum cookie_store_status header(char *store, const char *url, size_t url_len, int64_t now, char *out, size_t out_len, size_t *needed) {
+// static enum cookie_store_status header(char *store, const char *url, size_t url_len, int64_t now, char *out, size_t out_len,
+// 	size_t *needed) {
 // 	return cookie_store_header((cookie_store *)store, url, url_len, now, out, out_len, needed);
 // }
 import "C"
@@ -274,6 +276,7 @@ func (j *Jar) seconds() C.int64_t {
 	return C.int64_t(now().Unix())
 }
 
+// handle returns the address of the handle, which has no pointer into Go's memory.
 func (j *Jar) handle() *C.char { return (*C.char)(unsafe.Pointer(&j.store)) }
 
 // chars returns a pointer to the bytes of s, for the time of a call. The library takes no pointer that is NULL.
@@ -286,5 +289,5 @@ func chars(s string) *C.char {
 
 func size(s string) C.size_t { return C.size_t(len(s)) }
 
-// view returns the bytes as a string without a copy, for the time of a call.
+// view returns the bytes as a string without a copy. They must not change while it is used.
 func view(b []byte) string { return *(*string)(unsafe.Pointer(&b)) }

@@ -172,7 +172,7 @@ func parseDate(value string) (time.Time, bool) {
 }
 
 // parseGMT returns the time of a date such as "Mon, 02 Jan 2006 15:04:05 GMT", or one with hyphens in place of the spaces in
-// "02 Jan 2006", or false: time.Parse reads more forms, but allocates.
+// "02 Jan 2006", or false: time.Parse reads more forms, and 29 February, but allocates.
 func parseGMT(date string) (t time.Time, ok bool) {
 	if len(date) != len(http.TimeFormat) || date[3:5] != ", " || date[7] != ' ' && date[7] != '-' || date[11] != date[7] ||
 		date[16] != ' ' || date[19] != ':' || date[22] != ':' || date[25:] != " GMT" {
