@@ -2,8 +2,6 @@
 use Rattle.std.proofs.Common.{◌≡◌, ℕ, List, [], Result, Ok, Err, Some, None, inl, inr, refl, sym, ◌∙◌, ap}
 use Rattle.std.specs.Prelude.{◌≢◌, ◌⊎◌, IfOk, IfErr}
 use Rattle.std.specs.Result.{result_map_both}
-use Rattle.std.specs.declared.alloc.Global.{Global}
-use Rattle.std.specs.declared.vec.Vec.{Vec}
 use Rattle.serde_json.proofs.OnLiterals.{serde_json_on_literals}
 use Rattle.serde_json.specs.Data.{Data}
 use Rattle.serde_json.specs.Read.{read}
@@ -21,6 +19,7 @@ use Rattle.cookie_parts.specs.declared.error.Error.TheVariants.{Cookie, Memory}
 use Rattle.cookie_serde.specs.JsonLines.{JsonParsesTo}
 use Rattle.cookie_serde.specs.JsonLists.{JsonListParsesTo}
 use Rattle.cookie_serde.specs.SavedForms.{cookies_of_saved, read_cookie, read_cookies}
+use Rattle.cookie_serde.specs.SavedLists.{FailsAtText}
 
 nothing_read : read [] ≡ None
 unfolding serde_json_on_literals
@@ -67,15 +66,15 @@ saved_error line ErrorCase.Shape (inl is) = inl (ap read_cookie is)
 saved_error line ErrorCase.Ron (inl is) = inl (ap read_cookie is)
 saved_error line ErrorCase.Moment (inl is) = inl (ap read_cookie is)
 
--- the same for a list
-pub list_parses : (text : List ℕ) (list : List (Parts Moment)) (expected : Result (Vec Row Global) Error) → list_in text ≡ Ok list
-    → IfOk expected (λ cookies. cookies_of_saved list ≡ Ok cookies.items)
-    → IfErr expected (λ error. (error ≡ Memory) ⊎ (result_map_both (λ cookies. cookies) Cookie (cookies_of_saved list) ≡ Err error))
-    → JsonListParsesTo text (result_map_both (λ cookies. cookies.items) (λ error. error) expected)
-list_parses text list (Ok cookies) is created refused = ap read_cookies is ∙ ap (result_map_both (λ cookies. cookies) Cookie) created
-list_parses text list (Err error) is created (inl memory) = inr (memory, some_parsed list_in no_list text list is)
-list_parses text list (Err error) is created (inr refused) = inl (ap read_cookies is ∙ refused)
+-- the error of a list that has no cookies
+pub list_refused : {T : Type 0} (text : List ℕ) (list : List (Parts Moment)) (built : Result T Error) → list_in text ≡ Ok list
+    → IfErr built (λ error. (error ≡ Memory) ⊎ (result_map_both (λ cookies. cookies) Cookie (cookies_of_saved list) ≡ Err error))
+    → IfErr built (λ error. FailsAtText JsonListParsesTo error text)
+list_refused text list (Ok rows) is refused = tt
+list_refused text list (Err error) is (inl memory) = inl (inr (memory, some_parsed list_in no_list text list is))
+list_refused text list (Err error) is (inr refused) = inl (inl (ap read_cookies is ∙ refused))
 
+-- and of a string that is no list
 pub list_error : (text : List ℕ) (fault : SavedError) → (list_in text ≡ Err fault) ⊎ ((fault ≡ ErrorCase.Memory) × (text ≢ []))
     → JsonListParsesTo text (Err (error_from_saved fault))
 list_error text fault (inr (memory, some)) = rw memory (inr (refl, some))

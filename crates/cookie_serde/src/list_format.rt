@@ -11,12 +11,12 @@ ghost use Rattle.cookie_serde.specs.JsonLists.{JsonListParsesTo};
 ghost use Rattle.cookie_serde.specs.SavedLists.{BuildsFromList, BuildsFromText, FailsAtText, FailsToLoadList, FailsToSaveList, WritesList};
 ghost use Rattle.cookie_serde.specs.Loading.{ReadsEachOnce};
 ghost use Rattle.cookie_serde.specs.RonLists.{RonListParsesTo};
-ghost use Rattle.cookie_serde.specs.SavedForms.{cookies_of_saved};
+ghost use Rattle.cookie_serde.specs.SavedForms.{cookies_of_saved, BuildsFromSaved};
 ghost use Rattle.cookie_serde.specs.Selections.{selected};
 
 use crate::json_lines::expires_early;
-use crate::which::Which;
-use crate::whole_text::{read_bytes, rows_of, write_text};
+use crate::which::{Which, take};
+use crate::whole_text::{read_bytes, write_text};
 use cookie_core::CookieStore;
 use cookie_device::{Sink, Source};
 use cookie_forms::{Saved, SavedError, format_list, list_from_text};
@@ -131,52 +131,42 @@ pub(crate) fn list_rows(
     ensures built { IfOk result (λ rows. BuildsFromText (ParsesTo format) text.now which rows) }
     ensures failed { IfErr result (λ error. FailsAtText (ParsesTo format) error text.now) }
 {
-    let cookies = cookies_of_text(format, alloc.alloc, text)?;
-    rows_of(alloc, cookies, which)
-}
-
-// The cookies of a list in this format.
-fn cookies_of_text(
-    format: ListFormat,
-    alloc: Global,
-    text: &str,
-) -> Result<Vec<Cookie<'static>>, Error>
-    ensures { ParsesTo format text.now (result_map_both (λ cookies. cookies.items) (λ error. error) result) }
-{
     match format {
-        ListFormat::Json => cookies_of_json(alloc, text),
-        ListFormat::Ron => cookies_of_ron(alloc, text),
+        ListFormat::Json => rows_of_json(alloc, text, which),
+        ListFormat::Ron => rows_of_ron(alloc, text, which),
     }
 }
 
-// The cookies of a JSON array: `Saved(Json)`, `Saved(Shape)` or `Saved(Moment)` if `text` is not a
-// list of saved cookies, or `Cookie(Parse)` if a `Set-Cookie` value is not a cookie.
-fn cookies_of_json(alloc: Global, text: &str) -> Result<Vec<Cookie<'static>>, Error>
-    ensures { JsonListParsesTo text.now (result_map_both (λ cookies. cookies.items) (λ error. error) result) }
+// The rows of a JSON array: `Saved(Json)`, `Saved(Shape)` or `Saved(Moment)` if `text` is not a list
+// of saved cookies, or `Cookie(Parse)` if a `Set-Cookie` value is not a cookie.
+fn rows_of_json(alloc: StoreAlloc, text: &str, which: Which) -> Result<Rows, Error>
+    ensures built { IfOk result (λ rows. BuildsFromText JsonListParsesTo text.now which rows) }
+    ensures failed { IfErr result (λ error. FailsAtText JsonListParsesTo error text.now) }
 {
-    let list = list_from_text(alloc, text)?;
-    cookies_of_list(alloc, list)
+    let list = list_from_text(alloc.alloc, text)?;
+    rows_of_list(alloc, list, which)
 }
 
-// The cookies of a list in RON: `Saved(Ron)` if `text` is not one, `Saved(Moment)` if an expiry is
-// not a valid time, `Cookie(Parse)` if a `Set-Cookie` value is not a cookie.
-fn cookies_of_ron(alloc: Global, text: &str) -> Result<Vec<Cookie<'static>>, Error>
-    ensures { RonListParsesTo text.now (result_map_both (λ cookies. cookies.items) (λ error. error) result) }
+// The rows of a list in RON: `Saved(Ron)` if `text` is not one, `Saved(Moment)` if an expiry is not a
+// valid time, `Cookie(Parse)` if a `Set-Cookie` value is not a cookie.
+fn rows_of_ron(alloc: StoreAlloc, text: &str, which: Which) -> Result<Rows, Error>
+    ensures built { IfOk result (λ rows. BuildsFromText RonListParsesTo text.now which rows) }
+    ensures failed { IfErr result (λ error. FailsAtText RonListParsesTo error text.now) }
 {
-    let list = from_ron(alloc, text)?;
-    cookies_of_list(alloc, list)
+    let list = from_ron(alloc.alloc, text)?;
+    rows_of_list(alloc, list, which)
 }
 
-// The cookies of saved forms, or `Cookie(Parse)` if a `Set-Cookie` value is not a cookie.
-fn cookies_of_list(alloc: Global, list: Vec<Saved>) -> Result<Vec<Cookie<'static>>, Error>
-    ensures cookies { IfOk result (λ cookies. cookies_of_saved (map saved_view list.items) ≡ Ok cookies.items) }
+// The rows of saved forms, or `Cookie(Parse)` if a `Set-Cookie` value is not a cookie.
+fn rows_of_list(alloc: StoreAlloc, list: Vec<Saved>, which: Which) -> Result<Rows, Error>
+    ensures built { IfOk result (BuildsFromSaved (map saved_view list.items) which) }
     ensures errors { IfErr result (λ error. (error ≡ Error.Memory)
         ⊎ (result_map_both (λ cookies. cookies) Error.Cookie (cookies_of_saved (map saved_view list.items)) ≡ Err error)) }
     ensures memory { OnErr result (list.items ≢ []) }
 {
-    let mut cookies = Vec::new(alloc);
+    let mut rows = Rows::new(alloc);
     for saved in list {
-        cookies.push(Cookie::from_saved(alloc, saved)?)?;
+        take(&mut rows, Cookie::from_saved(alloc.alloc, saved)?, &which)?;
     }
-    Ok(cookies)
+    Ok(rows)
 }
