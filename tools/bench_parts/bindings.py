@@ -6,7 +6,7 @@ StoreJar, and of files as CookieStore and StoreJar. A StoreJar counts unexpired 
 change, and then after a change each time. Freeing what was loaded is not counted. The library is installed in a temporary
 folder, from --archive; without it the library is proved and built first. Needs a C compiler.
 
-Exit status: 0; 1 if a call fails."""
+Exit status: 0; 1 if a call fails, or if http.cookiejar is ahead on an idle machine."""
 import http.cookiejar
 import importlib
 import os
@@ -16,6 +16,7 @@ import tempfile
 import time
 import urllib.request
 
+from bench_parts import report
 from bench_parts.jar import Response
 from common import compile_c, install, stop
 
@@ -133,7 +134,37 @@ def loaded(jar, path):
     return jar
 
 
+def print_calls(columns):
+    """Prints the table of calls, and returns what is behind http.cookiejar."""
+    behind = []
+    heads = ['C', 'CookieStore', 'StoreJar', 'http.cookiejar', 'ratio']
+    print(f'{HOSTS} hosts, microseconds'.ljust(26) + ''.join(head.rjust(15) for head in heads))
+    rows = [('set', 'set a cookie'), ('get_one', 'header, 1 cookie a host'), ('get_many', f'header, {EACH} cookies a host'),
+            ('count', 'count'), ('iterate', 'iterate over all'), ('iterate_changed', 'iterate after a set')]
+    for key, name in rows:
+        took = [f'{column[key] * 1e6:.2f}' if key in column else '-' for column in columns]
+        ratio = columns[3][key] / columns[2][key]
+        behind += report.behind(f'StoreJar, {name}', 'http.cookiejar', ratio)
+        print(name.ljust(26) + ''.join(each.rjust(15) for each in [*took, f'{ratio:.2f}']))
+    return behind
+
+
+def print_files(files):
+    """Prints the table of files, and returns what is behind MozillaCookieJar."""
+    behind = []
+    heads = ['CookieStore', 'StoreJar', 'MozillaCookieJar', 'ratios']
+    print(f'{LINES:,} lines of cookies.txt, microseconds a line'.ljust(48) + ''.join(head.rjust(18) for head in heads))
+    for each, took in files.items():
+        for name, (store, jar, other) in took.items():
+            values = ''.join(f'{value * 1e6:18.2f}' for value in (store, jar, other))
+            for by, own in (('CookieStore', store), ('StoreJar', jar)):
+                behind += report.behind(f'{by}, {name}, {each} a host', 'MozillaCookieJar', other / own)
+            print(f'{name}, {each} a host'.ljust(48) + values + f'{other / store:.2f}, {other / jar:.2f}'.rjust(18))
+    return behind
+
+
 def run(options):
+    load = os.getloadavg()[0]
     with tempfile.TemporaryDirectory() as folder:
         prefix, program = build(folder, options.archive and os.path.realpath(options.archive))
         sys.path.insert(0, f'{prefix}/lib/python3/dist-packages')
@@ -142,17 +173,4 @@ def run(options):
         jars = [measure_jar(jar) for jar in (module.StoreJar, http.cookiejar.CookieJar)]
         columns = [measure_c(program), measure_store(module), *jars]
         files = {each: measure_files(module, f'{folder}/cookies.txt', each) for each in (EACH, 1)}
-    heads = ['C', 'CookieStore', 'StoreJar', 'http.cookiejar', 'ratio']
-    print(f'{HOSTS} hosts, microseconds'.ljust(26) + ''.join(head.rjust(15) for head in heads))
-    rows = [('set', 'set a cookie'), ('get_one', 'header, 1 cookie a host'), ('get_many', f'header, {EACH} cookies a host'),
-            ('count', 'count'), ('iterate', 'iterate over all'), ('iterate_changed', 'iterate after a set')]
-    for key, name in rows:
-        took = [f'{column[key] * 1e6:.2f}' if key in column else '-' for column in columns]
-        ratio = f'{columns[3][key] / columns[2][key]:.2f}'
-        print(name.ljust(26) + ''.join(each.rjust(15) for each in [*took, ratio]))
-    heads = ['CookieStore', 'StoreJar', 'MozillaCookieJar', 'ratios']
-    print(f'{LINES:,} lines of cookies.txt, microseconds a line'.ljust(48) + ''.join(head.rjust(18) for head in heads))
-    for each, took in files.items():
-        for name, (store, jar, other) in took.items():
-            values = ''.join(f'{value * 1e6:18.2f}' for value in (store, jar, other))
-            print(f'{name}, {each} a host'.ljust(48) + values + f'{other / store:.2f}, {other / jar:.2f}'.rjust(18))
+    report.exit_after([*print_calls(columns), *print_files(files)], load)

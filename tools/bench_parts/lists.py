@@ -6,19 +6,22 @@ and for both together the bytes per cookie at the peak of resident memory, besid
 serde_json, and of Python's json, which makes no store. The programs are proved and built in a copy of the repository,
 in ten minutes.
 
-Exit status: 0; 1 if a program fails or is not proved, or saves another list."""
+Exit status: 0; 1 if a program fails or is not proved, or saves another list, or if the Rust crate is ahead on an idle
+machine, or needs less memory by more than a sixth."""
 import json
 import os
 import subprocess
 import tempfile
 import time
 
-from bench_parts import programs
+from bench_parts import programs, report
 from bench_parts.built import built
 from bench_parts.measure import GNU_TIME, has_gnu_time, has_valgrind, instructions
 from common import processor_seconds, read, stop
 
 OPTIONS = ['--lists']
+COLUMNS = ['load, us', 'save, us', 'load, instructions', 'save, instructions', 'bytes']
+MOST_MEMORY = 1.2  # times the Rust crate's memory
 SOURCE = '''//! Loads the list in a file into a store, and saves it in another.
 #![tactic(auto)]
 
@@ -126,6 +129,14 @@ def figures(commands, folder, form, cookies):
     return [*cells, (peak(commands['both'], folder) - least) / cookies]
 
 
+def ahead(list_name, cells, theirs):
+    """Warnings of the figures in which the Rust crate is ahead."""
+    for name, own, other in zip(COLUMNS, cells, theirs):
+        if not isinstance(own, str):
+            allowed = MOST_MEMORY if name == 'bytes' else 1
+            yield from report.behind(f'{list_name}, {name}', programs.RUST, other * allowed / own)
+
+
 def row(cookies, form, name, cells):
     texts = [cell if isinstance(cell, str) else f'{cell:,.2f}' if at in (0, 1) else f'{cell:,.0f}' for at, cell in enumerate(cells)]
     return ' | '.join([f'| {cookies:,}', form, name, *texts]) + ' |'
@@ -136,6 +147,7 @@ def add_arguments(parser):
 
 
 def run(options):
+    behind, load = [], os.getloadavg()[0]
     with tempfile.TemporaryDirectory() as folder:
         sources = {f'{part}_{form}': SOURCE.replace('SAVE', SAVES[part]).replace('FORM', form) for form in WRITERS for part in SAVES}
         found = built(folder, options.lists, sources, lambda name, folder: write_one(name.rpartition('_')[2], folder))
@@ -144,17 +156,21 @@ def run(options):
         except programs.Missing as why:
             peer = None
             print(f'{programs.RUST} is not measured: {why}.\n')
-        print('| cookies | form | by | load, us | save, us | load, instructions | save, instructions | bytes |')
+        print(f'| cookies | form | by | {" | ".join(COLUMNS)} |')
         print('| ---: | --- | --- | ---: | ---: | ---: | ---: | ---: |')
         for cookies in options.COOKIES:
             for form, writer in WRITERS.items():
                 writer(os.path.join(folder, f'list.{form}'), cookies)
                 own = {part: [found[f'{part}_{form}']] for part in SAVES}
-                print(row(cookies, form, 'cookie_store', figures(own, folder, form, cookies)), flush=True)
+                cells = figures(own, folder, form, cookies)
+                print(row(cookies, form, 'cookie_store', cells), flush=True)
                 if form == 'json' and peer:
                     others = {'load': [*peer.command, 'list.json'], 'both': [*peer.command, 'list.json', 'peer.json']}
-                    print(row(cookies, form, programs.RUST, figures(others, folder, form, cookies)), flush=True)
+                    theirs = figures(others, folder, form, cookies)
+                    print(row(cookies, form, programs.RUST, theirs), flush=True)
+                    behind += ahead(f'{cookies:,} cookies in JSON', cells, theirs)
             times = [seconds / cookies * 1e6 for seconds in python(folder)]
             print(row(cookies, 'json', "Python's json", [*times, '-', '-', '-']), flush=True)
             if not is_same(folder, 'saved.json', 'python.json') or not is_same(folder, 'list.ron', 'saved.ron'):
                 stop('another list was saved than was loaded')
+    report.exit_after(behind, load)

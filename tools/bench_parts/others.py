@@ -7,6 +7,7 @@ import subprocess
 from common import ROOT
 
 MINUTES = 8  # after which a command is stopped
+BEHIND = 'Warning: '  # begins the lines of a command that found a peer ahead, and has printed its figures
 COMMANDS = [f'tools/bench {words}' for words in
             ('requests 50 20 2000', 'convert 10000 100000', 'bindings', 'lists 10000', 'header')]
 
@@ -35,7 +36,7 @@ def run(command, variables):
     except KeyboardInterrupt:
         stop(tool)
         raise
-    if tool.returncode:
+    if tool.returncode and BEHIND not in printed:
         return f'failed with status {tool.returncode}: {(printed.strip().splitlines() or ["it printed nothing"])[-1]}'
     return printed.strip()
 

@@ -2,14 +2,16 @@
 import datetime
 import os
 import platform
+import sys
 import textwrap
 from dataclasses import dataclass, field
 
-from bench_parts.others import MINUTES
+from bench_parts.others import BEHIND, MINUTES
 from bench_parts.programs import output
 from common import ROOT
 
 IDLE = 0.5  # the greatest load average of an idle machine
+SLOWEST = 0.95  # the least ratio to a peer that is not behind it, since figures differ by some percent from run to run
 
 
 @dataclass
@@ -19,17 +21,18 @@ class Table:
     columns: list
     rows: list
     warnings: list = field(default_factory=list)
+    behind: list = field(default_factory=list)  # warnings that count on an idle machine
 
     def text(self):
         lines = [self.columns, *self.rows]
         first, *others = (max(map(len, column)) for column in zip(*lines))
         form = '  '.join([f'{{:{first}}}', *(f'{{:>{width}}}' for width in others)])
-        return '\n'.join([self.title, *(form.format(*line) for line in lines), *self.warnings, ''])
+        return '\n'.join([self.title, *(form.format(*line) for line in lines), *self.warnings, *self.behind, ''])
 
     def markdown(self):
         heads = ['---', *['---:'] * (len(self.columns) - 1)]
         lines = [f'| {" | ".join(line)} |' for line in (self.columns, heads, *self.rows)]
-        return '\n'.join([f'## {self.title}', '', paragraph(self.note), '', *lines, *paragraphs(self.warnings), ''])
+        return '\n'.join([f'## {self.title}', '', paragraph(self.note), '', *lines, *paragraphs([*self.warnings, *self.behind]), ''])
 
 
 def paragraph(text):
@@ -54,6 +57,24 @@ def ratio(peer, own):
     """The peer's figure divided by ours; a figure may be 0 or less if it is below what can be measured."""
     value = peer / own if own > 0 else None
     return f'{value:.2f}' if value is not None and value < 1 else number(value)
+
+
+def behind(figure, peer, value):
+    """A warning if the peer is faster or smaller by more than figures differ from run to run."""
+    if value is not None and value < SLOWEST:
+        yield f'{BEHIND}{peer} is ahead: {figure}, ratio {value:.2f}.'
+
+
+def fails(warnings, load):
+    """Whether warnings that a peer is ahead count: the machine was idle."""
+    return bool(warnings) and load <= IDLE
+
+
+def exit_after(warnings, load):
+    """Prints the warnings, and exits with status 1 if they count."""
+    for warning in warnings:
+        print(warning)
+    sys.exit(fails(warnings, load))
 
 
 def machine():

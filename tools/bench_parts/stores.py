@@ -5,7 +5,8 @@ Prints the time of a set, a replaced cookie, a get and a removal, bytes and inst
 hostile inputs grows. A peer that cannot be built is left out, and a line says so. --write runs the other commands
 too, and writes docs/FIGURES.md before the first of them and after each.
 
-Exit status: 0; 1 if the time of a hostile input grows faster than linearly, or a program fails."""
+Exit status: 0; 1 if the time of a hostile input grows faster than linearly, if a peer is ahead on an idle machine, or if
+a program fails."""
 import os
 import sys
 import tempfile
@@ -59,11 +60,13 @@ def table(title, note, first, measured, rows):
     """A table with our figures, the peers' and the ratios after the `first` columns."""
     names = [program.name for program in measured]
     heads = [*first, *names, *(f'{name} / ours' for name in names[1:])]
-    lines = []
+    lines, behind = [], []
     for cells, figures in rows:
         own, *peers = (figures[name] for name in names)
         lines.append([*cells, *map(number, (own, *peers)), *(ratio(peer, own) for peer in peers)])
-    return Table(title, note, heads, lines)
+        for name, peer in zip(names[1:], peers):
+            behind += report.behind(', '.join([title, *lines[-1][:len(first)]]), name, peer / own if own > 0 else None)
+    return Table(title, note, heads, lines, behind=behind)
 
 
 def time_table(operation, took, measured):
@@ -217,4 +220,5 @@ def run(options):
         report.write_chart(chart_panels(took, measured))
         document.write()
         add_others(document, others.environment(options.program, options.archive or ARCHIVE, options.lists))
-    sys.exit(any(each.warnings for each in document.tables))
+    behind = [warning for each in document.tables for warning in each.behind]
+    sys.exit(any(each.warnings for each in document.tables) or report.fails(behind, load))
