@@ -89,9 +89,9 @@
  *
  *   A status below 10 is success, from 10 to 19 and from 40 on the cookie is rejected, and from 20
  *   to 39 the call failed. Statuses are named in these comments without their prefix
- *   COOKIE_STORE_. A call that fails leaves the store unchanged and writes nothing to a buffer, but
- *   for the number of a line with BAD_LINE. Each function lists its errors in the order in which
- *   they are checked: the first that applies is returned.
+ *   COOKIE_STORE_. A call that fails leaves the store unchanged, except cookie_store_merge, and
+ *   writes nothing to a buffer, but for the number of a line with BAD_LINE. Each function lists its
+ *   errors in the order in which they are checked: the first that applies is returned.
  *
  *   Every call that may allocate memory can return NO_MEMORY. If a function says `May return
  *   NO_MEMORY instead of X`, then errors before X are reported even if no memory is left, and X and
@@ -610,6 +610,21 @@ enum cookie_store_status cookie_store_save(cookie_store *store, enum cookie_stor
 enum cookie_store_status cookie_store_load(cookie_store *store, const char *key, size_t key_len, enum cookie_store_format format,
                                            enum cookie_store_which which, const char *list, size_t list_len, int64_t now, size_t *lines,
                                            size_t lines_len, size_t *malformed);
+
+/* Inserts the cookies of `from`, in its order, as if each was received at `now` from
+ * https://DOMAIN/, with its own domain. `from` is unchanged. To add the cookies of a list to a
+ * store, load the list into a handle of its own, and merge that.
+ *
+ * A cookie is left out if the store rejects it, as cookie_store_parse does, or if its domain is not
+ * the host of a URL. `*left_out` is set to the number of these, and to 0 on an error. A domain
+ * cookie whose domain is a public suffix on the list of `store` becomes a host-only cookie. An
+ * expired cookie expires the stored one with the same domain, path and name, if there is one. The
+ * two handles must differ.
+ *
+ * Errors, in the order in which they are checked: NO_STORE, if a handle is empty; BAD_TIME.
+ * May return NO_MEMORY instead of OK. Then the cookies before one are inserted, and the others are
+ * not. */
+enum cookie_store_status cookie_store_merge(cookie_store *store, cookie_store *from, int64_t now, size_t *left_out);
 
 #ifdef __cplusplus
 }

@@ -206,6 +206,39 @@ static enum cookie_store_status load_bad_format(cookie_store *store) { return lo
 static enum cookie_store_status load_bad_time(cookie_store *store) { return load(store, COOKIE_STORE_JSON, TEXT("[]"), INT64_MAX, 0); }
 static enum cookie_store_status load_not_utf8(cookie_store *store) { return load(store, COOKIE_STORE_JSON, "\xff", 1, NOW, 0); }
 
+/* Merges two cookies, of which the first may be inserted without the second, and removes them again. */
+static enum cookie_store_status merge_at(cookie_store *store, cookie_store *from, int64_t now) {
+    size_t left_out = 77, before = cookie_store_count(store);
+    enum cookie_store_status status = cookie_store_merge(store, from, now, &left_out);
+    size_t inserted = cookie_store_count(store) - before, least = status == COOKIE_STORE_OK ? 2 : 0, most = status == COOKIE_STORE_NO_MEMORY ? 1 : least;
+    bool is_well = left_out == 0 && inserted >= least && inserted <= most;
+    for (int number = 0; number < 2; number++) cookie_store_remove(store, TEXT("m.example"), TEXT("/"), number ? "y" : "x", 1);
+    return is_well ? status : COOKIE_STORE_PARSE;
+}
+
+/* No allocation fails for the store that is merged. */
+static enum cookie_store_status merge_into(cookie_store *store, int64_t now) {
+    cookie_store from = COOKIE_STORE_INIT;
+    grow(END);
+    bool is_begun = cookie_store_new(&from, "", 0) == COOKIE_STORE_OK
+        && cookie_store_parse(&from, TEXT("http://m.example/"), TEXT("x=1"), NOW) == COOKIE_STORE_INSERTED
+        && cookie_store_parse(&from, TEXT("http://m.example/"), TEXT("y=2"), NOW) == COOKIE_STORE_INSERTED;
+    grow(START);
+    enum cookie_store_status status = is_begun ? merge_at(store, &from, now) : COOKIE_STORE_PARSE;
+    cookie_store_free(&from);
+    return status;
+}
+
+static enum cookie_store_status merge(cookie_store *store) { return merge_into(store, NOW); }
+static enum cookie_store_status merge_bad_time(cookie_store *store) { return merge_into(store, INT64_MAX); }
+
+static enum cookie_store_status merge_strict(cookie_store *store) {
+    cookie_store_set_strict(store, true);
+    enum cookie_store_status status = merge_into(store, NOW);
+    cookie_store_set_strict(store, false);
+    return status;
+}
+
 static enum cookie_store_status remove_cookie(cookie_store *store) {
     return cookie_store_remove(store, TEXT("a.example"), TEXT("/d"), TEXT("a"));
 }
@@ -265,6 +298,10 @@ static const struct {
     {"load, format 4", false, load_bad_format, COOKIE_STORE_BAD_OPTION, true},
     {"load at a time out of range", false, load_bad_time, COOKIE_STORE_BAD_TIME, true},
     {"load not UTF-8", false, load_not_utf8, COOKIE_STORE_NOT_UTF8, true},
+    {"merge", true, merge, COOKIE_STORE_OK, false},
+    {"merge, strict", true, merge_strict, COOKIE_STORE_OK, false},
+    {"merge into none", false, merge, COOKIE_STORE_NO_STORE, true},
+    {"merge at a time out of range", true, merge_bad_time, COOKIE_STORE_BAD_TIME, true},
     {"remove", true, remove_cookie, COOKIE_STORE_OK, true},
     {"remove_domain", true, remove_domain, COOKIE_STORE_OK, true},
     {"remove_expired", true, remove_expired, COOKIE_STORE_OK, true},

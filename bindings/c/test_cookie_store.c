@@ -356,6 +356,43 @@ static void test_clone(void) {
     cookie_store_free(&copy);
 }
 
+/* What a store holds after a merge, and how many cookies were left out. */
+static void merges(const char *name, cookie_store *store, cookie_store *from, size_t wanted_left_out, const char *wanted) {
+    size_t left_out = UNSET;
+    equal(name, cookie_store_merge(store, from, NOW, &left_out), COOKIE_STORE_OK);
+    equal("cookies left out", (long)left_out, (long)wanted_left_out);
+    gives("what is sent after a merge", store, PAGE, NOW, wanted);
+}
+
+/* The cookies of a list come into a store by its rules, beside those that it has. */
+static void test_merge(void) {
+    static const char LIST[] = "a.example\tFALSE\t/\tFALSE\t0\ta\t2\n.a.example\tTRUE\t/\tTRUE\t0\t__Host-b\t3\n"
+                               ".example\tTRUE\t/\tFALSE\t0\tc\t4\na b\tFALSE\t/\tFALSE\t0\td\t5\na.example\tFALSE\t/\tFALSE\t0\te\t6\n";
+    cookie_store store = COOKIE_STORE_INIT, from = COOKIE_STORE_INIT;
+    size_t line = UNSET, malformed = UNSET, left_out = UNSET;
+    equal("merge none into none", cookie_store_merge(&store, &from, NOW, &left_out), COOKIE_STORE_NO_STORE);
+    equal("nothing is left out", (long)left_out, 0);
+    cookie_store_new(&store, "", 0);
+    equal("merge none", cookie_store_merge(&store, &from, NOW, &left_out), COOKIE_STORE_NO_STORE);
+    cookie_store_load(&from, "", 0, COOKIE_STORE_NETSCAPE, COOKIE_STORE_ALL, TEXT(LIST), NOW, &line, 1, &malformed);
+    parse(&store, PAGE, "z=1; Path=/", NOW);
+    parse(&store, PAGE, "a=1; Path=/; HttpOnly", NOW);
+    equal("merge at a time out of range", cookie_store_merge(&store, &from, INT64_MAX, &left_out), COOKIE_STORE_BAD_TIME);
+    merges("a domain that is not a host", &store, &from, 1, "z=1; a=2; e=6; c=4");
+    cookie_store_clear(&store);
+    cookie_store_set_suffix_list(&store, TEXT("example"), true, &line);
+    merges("a public suffix becomes host-only", &store, &from, 1, "a=2; e=6");
+    gives("for its own host", &store, "http://example/", NOW, "c=4");
+    cookie_store_clear(&store);
+    cookie_store_set_strict(&store, true);
+    cookie_store_set_domain_limit(&store, 1);
+    merges("a prefix that demands a host-only cookie", &store, &from, 2, "e=6");
+    equal("what was merged is unchanged", (long)cookie_store_count(&from), 5);
+    equal("and is not strict", cookie_store_is_strict(&from), false);
+    cookie_store_free(&from);
+    cookie_store_free(&store);
+}
+
 /* The creation order, which is not that of the store. */
 static void test_clone_order(void) {
     cookie_store store = COOKIE_STORE_INIT, copy = COOKIE_STORE_INIT;
@@ -546,6 +583,7 @@ int main(void) {
     test_cookies_for();
     test_clone();
     test_clone_order();
+    test_merge();
     test_same_site();
     test_room();
     test_no_store();

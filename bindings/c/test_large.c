@@ -189,6 +189,18 @@ static void test_copy(cookie_store *store) {
     cookie_store_free(&copy);
 }
 
+/* A merge of 6,000 cookies. */
+static void test_merge(cookie_store *store) {
+    cookie_store merged = COOKIE_STORE_INIT;
+    size_t left_out = UNSET;
+    begin(&merged);
+    equal("merge", cookie_store_merge(&merged, store, NOW, &left_out), COOKIE_STORE_OK);
+    equal("none is left out", (long)left_out, 0);
+    equal("6,000 are merged", (long)cookie_store_count(&merged), STORED);
+    has_hosts("a merge", &merged, 1, NOW);
+    cookie_store_free(&merged);
+}
+
 /* 6,000 cookies: each is found, before and after others are removed. */
 static void test_stored(void) {
     cookie_store store = COOKIE_STORE_INIT;
@@ -199,6 +211,7 @@ static void test_stored(void) {
     has_hosts("6,000 cookies", &store, 1, NOW);
     test_rows(&store);
     test_copy(&store);
+    test_merge(&store);
     memset(input, 'q', KEY);
     equal("set_hash_key", cookie_store_set_hash_key(&store, input, KEY), COOKIE_STORE_OK);
     has_hosts("under another key", &store, 1, NOW);

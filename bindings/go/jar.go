@@ -228,6 +228,30 @@ func (j *Jar) dropped(u *url.URL, name string, err error) {
 	j.onDropped(host, name, err)
 }
 
+// Merge inserts the cookies of another jar, each as if its own domain had sent it, and returns how many are left out: those that
+// Parse would reject, and those whose domain is not the host of a URL. A domain cookie of a public suffix becomes host-only, and
+// an expired one expires the stored one. The other jar is unchanged, and so is one that is merged into itself.
+//
+// To add the cookies of a file to a jar, Load them into a jar of their own, and Merge that.
+//
+// Errors: ErrNoMemory, after some cookies were inserted.
+func (j *Jar) Merge(other *Jar) (leftOut int, err error) {
+	if other == j {
+		return 0, nil
+	}
+	first, second := j, other
+	if uintptr(unsafe.Pointer(second)) < uintptr(unsafe.Pointer(first)) { // one order for all, so that no call waits for another
+		first, second = second, first
+	}
+	first.mu.Lock()
+	defer first.mu.Unlock()
+	second.mu.Lock()
+	defer second.mu.Unlock()
+	var count C.size_t
+	err = errorOf(C.cookie_store_merge(&j.store, &other.store, j.seconds(), &count), 0)
+	return int(count), err
+}
+
 // Clear removes all cookies.
 func (j *Jar) Clear() error {
 	j.mu.Lock()

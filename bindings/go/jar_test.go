@@ -340,6 +340,27 @@ func expectAll(t *testing.T, when string, jar *Jar, want []Cookie) {
 	}
 }
 
+func TestMerge(t *testing.T) {
+	jar, other := newJar(t, &Options{Strict: true}), newJar(t, nil)
+	parseAll(t, jar, "https://example.com/foo/", "a=1", "c=2")
+	parseAll(t, other, "http://example.com/foo/", "a=3", "__Secure-b=4", "d=5; Domain=com")
+	for _, one := range []struct {
+		from    *Jar
+		leftOut int
+	}{{other, 1}, {jar, 0}} {
+		if leftOut, err := jar.Merge(one.from); leftOut != one.leftOut || err != nil {
+			t.Errorf("Merge() = %d, %v, want %d", leftOut, err, one.leftOut)
+		}
+		expectHeader(t, jar, "http://example.com/foo/", "a=3; c=2; d=5")
+	}
+	expectHeader(t, other, "http://example.com/foo/", "a=3; __Secure-b=4; d=5")
+	if err := other.Close(); err != nil {
+		t.Errorf("Close: %v", err)
+	}
+	_, err := jar.Merge(other)
+	expectStatus(t, "Merge of a closed jar", err, ErrClosed)
+}
+
 func TestClosed(t *testing.T) {
 	closed, u := newJar(t, nil), parseURL(t, "http://example.com/")
 	parseAll(t, closed, u.String(), "a=1")
@@ -352,9 +373,10 @@ func TestClosed(t *testing.T) {
 		_, headerErr := jar.Header(u)
 		_, expiredErr := jar.RemoveExpired()
 		_, domainErr := jar.RemoveDomain("")
+		_, mergeErr := jar.Merge(newJar(t, nil))
 		for name, err := range map[string]error{
 			"Parse": jar.Parse(u, "a=1"), "Header": headerErr, "Clear": jar.Clear(), "Remove": jar.Remove("", "", ""),
-			"RemoveExpired": expiredErr, "RemoveDomain": domainErr, "Save": jar.Save(new(strings.Builder), JSON, AllCookies),
+			"RemoveExpired": expiredErr, "RemoveDomain": domainErr, "Merge": mergeErr, "Save": jar.Save(new(strings.Builder), JSON, AllCookies),
 		} {
 			expectStatus(t, name, err, ErrClosed)
 		}

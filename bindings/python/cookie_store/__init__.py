@@ -33,8 +33,9 @@ from __future__ import annotations
 from ._files import replace_file
 from ._formats import Format, Which
 from ._jar import StoreJar
+from ._listing import Cookie
 from ._status import BadLine, BadRule, CookieStoreError, NoDomain, NoMemory, Status
-from ._store import Cookie, CookieStore
+from ._store import CookieStore
 
 __all__ = ['BadLine', 'BadRule', 'Cookie', 'CookieStore', 'CookieStoreError', 'Format', 'NoDomain', 'NoMemory', 'Status',
            'StoreJar', 'Which', 'replace_file']

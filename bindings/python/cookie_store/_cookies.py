@@ -6,12 +6,13 @@ import http.cookiejar
 import http.cookies
 import re
 import time
-from typing import Any, Dict, Iterator, List, Optional, Tuple
+from typing import Any, Dict, List, Optional, Tuple
 
 from ._formats import Format, Which
+from ._listing import Cookie
 from ._messages import log_not_saved, log_not_stored
 from ._status import CookieStoreError, NoDomain, Status, text_of
-from ._store import Cookie, CookieStore, Text
+from ._store import CookieStore, Text
 from ._urls import is_plain_host
 
 # A path that needs no escaping in a URL.
@@ -153,16 +154,19 @@ def insert(store: CookieStore, cookie: http.cookiejar.Cookie) -> Status:
     return store.parse(from_wire(f'https://{host}{path}'), from_wire(text), now)
 
 
-def header_values(rows: List[Cookie], now: int, is_strict: bool) -> Iterator[Tuple[str, str]]:
-    """Yield a host and a Set-Cookie header value for each cookie of a cookies.txt file, without those that none can express."""
-    hosts = {domain for domain in {row.domain for row in rows} if _PLAIN_HOST.fullmatch(domain)}
-    for domain, path, name, value, expires, host_only, _, secure, http_only, _ in rows:
-        if domain in hosts and _is_path_attribute(path, is_strict) and name == name.strip() and value == value.strip():
-            yield domain, (f'{name}={value}; Path={path}{"" if host_only else "; Domain=" + domain}'
-                           f'{"" if expires is None else f"; Max-Age={expires - now}"}'
-                           f'{"; Secure" if secure else ""}{"; HttpOnly" if http_only else ""}')
-        else:
-            log_not_stored(domain, name, 'no header value can express it')
+def reason_of(store: CookieStore, row: Cookie, now: int) -> str:
+    """Return why a store left out this cookie of a store that was merged into it. The cookie may be inserted."""
+    domain, path, name, value, expires, host_only, _, secure, http_only, _ = row
+    if not (_PLAIN_HOST.fullmatch(domain) and _is_path_attribute(path, store.strict) and name == name.strip() and value == value.strip()):
+        return 'no header value can express it'
+    text = (f'{name}={value}; Path={path}{"" if host_only else "; Domain=" + domain}{"" if expires is None else f"; Max-Age={expires - now}"}'
+            f'{"; Secure" if secure else ""}{"; HttpOnly" if http_only else ""}')
+    try:
+        status = store.parse(f'https://{domain}/', text, now)
+    except CookieStoreError as error:
+        status = error.status
+    # A host may be written in several ways, as 0:0:0:0:0:0:0:1, and a cookie has the shortest.
+    return text_of(Status.DOMAIN_MISMATCH if status < 10 else status)
 
 
 def _key(row: Cookie) -> Tuple[str, str, str]:

@@ -8,13 +8,14 @@ import time
 import urllib.request
 from typing import Any, Dict, Iterator, List, Optional
 
-from ._cookies import JarCookie, from_wire, header_values, insert, log_left_out, set_cookie_text, to_wire, unexpired
+from ._cookies import JarCookie, from_wire, insert, log_left_out, reason_of, set_cookie_text, to_wire, unexpired
 from ._files import Path, replace_file
 from ._formats import Format, Which
+from ._listing import Cookie
 from ._mapping import MappingJar
 from ._messages import header_for, insert_header, log_not_stored, name_of, receive
-from ._status import CookieStoreError, Status, text_of
-from ._store import Cookie, CookieStore
+from ._status import CookieStoreError, Status
+from ._store import CookieStore
 from ._urls import target_of
 
 
@@ -177,13 +178,10 @@ class StoreJar(MappingJar):
 
         Without filename the file is that of the attribute filename. Session cookies are left out unless
         ignore_discard is true. Expired cookies are left out, whatever ignore_expires is: no request gets
-        them. A cookie that the store rejects is left out, and a domain cookie of a public suffix on its
-        list becomes host-only. The other cookies of the jar stay.
-
-        A cookie that no Set-Cookie header can express is left out too. Its path does not begin with `/`,
-        as MozillaCookieJar writes it after Path=foo, and never sends it; or it has a `;`, or, in a strict
-        store, more than 1,024 bytes; or the path, name or value has white space at an end, such as a
-        no-break space. CookieStore.loads() keeps it. What is left out is logged.
+        them. The others are inserted as CookieStore.merge() does: what the store rejects is left out and
+        logged, and a domain cookie of a public suffix on its list becomes host-only. The other cookies of
+        the jar stay. No request gets a cookie whose path does not begin with `/`, as MozillaCookieJar
+        writes it after Path=foo.
 
         A first line such as MozillaCookieJar demands need not be there, and an expiry of 0 is that of a
         session cookie. Raises http.cookiejar.LoadError, an OSError, if the file is not UTF-8 or has a
@@ -199,9 +197,16 @@ class StoreJar(MappingJar):
                 raise
             raise http.cookiejar.LoadError(f'{name}: {error}') from error
         with loaded:
-            rows = loaded.cookies()
-        for host, header_value, status in self.store._parse_all(header_values(rows, now, self.store.strict), now):
-            log_not_stored(host, name_of(header_value), text_of(status))
+            if self.store.merge(loaded, now):
+                self._log_rejected(loaded.cookies(), now)
+
+    def _log_rejected(self, rows: List[Cookie], now: int) -> None:
+        """Log those of the cookies that are not in the store, with the reasons why it rejects them."""
+        stored = {row[:4] for row in self.store.cookies()}
+        with self.store.copy() as other:
+            for row in rows:
+                if row[:4] not in stored:
+                    log_not_stored(row.domain, row.name, reason_of(other, row, now))
 
     def _filename(self, filename: Optional[Path]) -> str:
         name = self.filename if filename is None else filename

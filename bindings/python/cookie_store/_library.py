@@ -61,6 +61,7 @@ SIGNATURES: Dict[str, Tuple[Any, List[Any]]] = {
     'cookie_store_cookies_for': (_NUMBER, [_AT, *_TEXT, ctypes.c_int64, *_ROWS]),
     'cookie_store_save': (_NUMBER, [_AT, _NUMBER, _NUMBER, ctypes.c_int64, *_OUT, _LENGTH, _LENGTH]),
     'cookie_store_load': (_NUMBER, [_AT, *_TEXT, _NUMBER, _NUMBER, *_TEXT, ctypes.c_int64, _LENGTH, ctypes.c_size_t, _LENGTH]),
+    'cookie_store_merge': (_NUMBER, [_AT, _AT, ctypes.c_int64, _LENGTH]),
 }
 
 

@@ -149,6 +149,10 @@ def text_of(status: Status) -> str:
     return TEXTS.get(status, 'unknown status')
 
 
+#: The known statuses by their numbers: finding one here takes a fraction of the time of Status(number).
+STATUSES = {int(status): status for status in Status}
+
+
 def is_reply(number: int) -> bool:
     """Return whether a status of an insertion is that the cookie was accepted, or why it was rejected."""
     return number < 20 or number >= 40

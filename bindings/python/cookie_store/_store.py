@@ -8,12 +8,13 @@ import os
 import threading
 import time
 import weakref
-from typing import Any, Callable, Dict, Iterable, Iterator, List, NamedTuple, Optional, Tuple, Type, Union
+from typing import Any, Callable, Dict, Iterator, List, Optional, Tuple, Type, Union
 
 from ._files import Path
 from ._formats import NETSCAPE_LENIENT, Format, Which, option_of
-from ._library import LIBRARY, NONE_BY_DEFAULT, ROW, SAME_SITES, TOP_LEVEL, Row, Store
-from ._status import BadLine, BadRule, CookieStoreError, Status, check, is_reply
+from ._library import LIBRARY, NONE_BY_DEFAULT, ROW, TOP_LEVEL, Row, Store
+from ._listing import Cookie, Listing, cookies_of
+from ._status import STATUSES, BadLine, BadRule, CookieStoreError, Status, check, is_reply
 
 Text = Union[str, bytes]
 # A public suffix list, and whether only the listed domains are public suffixes.
@@ -23,45 +24,6 @@ _State = Tuple[Type['CookieStore'], str, bool, Optional[_Suffixes], Optional[int
 
 #: The public suffix list of Debian's package publicsuffix.
 SYSTEM_SUFFIXES = '/usr/share/publicsuffix/public_suffix_list.dat'
-
-
-class Cookie(NamedTuple):
-    """A stored cookie."""
-    domain: str
-    path: str
-    name: str
-    value: str
-    #: Expiry time, or None for a session cookie.
-    expires: Optional[int]
-    #: True for a host-only cookie, False if it is also sent to the hosts below its domain.
-    host_only: bool
-    #: True if the path comes from a Path attribute.
-    has_path: bool
-    secure: bool
-    http_only: bool
-    #: 'Strict', 'Lax' or 'None', or None without a SameSite attribute.
-    same_site: Optional[str]
-
-
-def _cookies_of(rows: bytes, strings: bytes) -> List[Cookie]:
-    """Return the cookies of the rows and strings that the library writes."""
-    # Lengths are in bytes, and so are those of a string in Latin-1.
-    text, cookies, at = strings.decode('latin-1'), [], 0
-    for domain, path, name, value, expires, persistent, host_only, has_path, secure, http_only, same_site in ROW.iter_unpack(rows):
-        path_at = at + domain
-        name_at = path_at + path
-        value_at = name_at + name
-        end = value_at + value
-        fields = (text[at:path_at], text[path_at:name_at], text[name_at:value_at], text[value_at:end],
-                  expires if persistent else None, host_only, has_path, secure, http_only, SAME_SITES[same_site])
-        cookies.append(tuple.__new__(Cookie, fields))  # Cookie._make() takes longer
-        at = end
-    return cookies if strings.isascii() else [_decoded(cookie) for cookie in cookies]
-
-
-def _decoded(cookie: Cookie) -> Cookie:
-    """Return a cookie whose strings are in Latin-1, each byte a character, with their strings in UTF-8."""
-    return Cookie._make([*(string.encode('latin-1').decode('utf-8') for string in cookie[:4]), *cookie[4:]])
 
 
 def _bytes(text: Text) -> bytes:
@@ -119,6 +81,7 @@ class CookieStore:
         self._suffixes: Optional[_Suffixes] = None
         self._buffer = ctypes.create_string_buffer(4096)
         self._cookies: Optional[List[Cookie]] = None  # what cookies() returns, until the store changes
+        self._listing = Listing()
         check(LIBRARY.cookie_store_new(self._at, *_random_key()))
         self._finalizer = weakref.finalize(self, LIBRARY.cookie_store_free, self._at)
         # Another thread may still be in a call when the program ends.
@@ -218,21 +181,7 @@ class CookieStore:
             number = LIBRARY.cookie_store_parse(self._at, page, len(page), cookie, len(cookie), seconds)
         if not is_reply(number):
             check(number)
-        return Status(number)
-
-    def _parse_all(self, pairs: Iterable[Tuple[str, str]], now: int) -> List[Tuple[str, str, Status]]:
-        """Insert the cookies of pairs of a host and a header value. Return those that are rejected, with the reasons."""
-        insert, rejected = LIBRARY.cookie_store_parse, []
-        with self._lock:
-            self._cookies = None
-            for host, value in pairs:
-                page, cookie = f'https://{host}/'.encode(), value.encode()
-                number = insert(self._at, page, len(page), cookie, len(cookie), now)
-                if number >= 10:
-                    if not is_reply(number) and number != Status.BAD_URL:
-                        check(number)
-                    rejected.append((host, value, Status(number)))
-        return rejected
+        return STATUSES.get(number) or Status(number)
 
     def header(self, url: Text, now: Optional[int] = None, *, same_site: bool = True, top_level: bool = False,
                lax_by_default: bool = True) -> Optional[str]:
@@ -328,7 +277,7 @@ class CookieStore:
         """
         with self._lock:
             if self._cookies is None:
-                self._cookies = _cookies_of(*self._read_rows())
+                self._cookies = self._listing.read(*self._read_rows())
             return list(self._cookies)
 
     def cookies_for(self, url: Text, now: Optional[int] = None) -> List[Cookie]:
@@ -338,7 +287,7 @@ class CookieStore:
         """
         page, seconds = _bytes(url), _seconds(now)
         with self._lock:
-            return _cookies_of(*self._read_rows(LIBRARY.cookie_store_cookies_for, page, len(page), seconds))
+            return cookies_of(*self._read_rows(LIBRARY.cookie_store_cookies_for, page, len(page), seconds))[0]
 
     def _sizes(self, call: Any = LIBRARY.cookie_store_rows, *request: Any) -> Tuple[int, int]:
         """Return the number of cookies that a call writes, and the bytes of their strings."""
@@ -447,6 +396,31 @@ class CookieStore:
         if strict:
             store.set_strict(True)
         return store, lines[:malformed.value]
+
+    def merge(self, other: CookieStore, now: Optional[int] = None) -> int:
+        """Insert the cookies of another store, each as if its own domain had sent it, and return how many are left out.
+
+            store.merge(CookieStore.loads(text))  # adds the cookies of a list
+
+        Left out are cookies that parse() would reject, and those whose domain is not the host of a URL.
+        A domain cookie of a public suffix on the list of this store becomes host-only. An expired cookie
+        expires the stored one. The other store is unchanged, and so is one that is merged into itself.
+
+        If it raises NoMemory, some of the cookies are inserted.
+        """
+        if other is self:
+            return 0
+        seconds, left_out = _seconds(now), ctypes.c_size_t()
+        with _fork_lock:  # as os.fork() does before it waits for stores, so that neither waits for the other
+            self._lock.acquire()
+            other._lock.acquire()
+        try:
+            self._cookies = None
+            check(LIBRARY.cookie_store_merge(self._at, other._at, seconds, left_out))
+        finally:
+            other._lock.release()
+            self._lock.release()
+        return left_out.value
 
     def copy(self) -> CookieStore:
         """Return a copy of the store.

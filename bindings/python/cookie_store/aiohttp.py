@@ -9,8 +9,9 @@ import yarl
 from aiohttp.abc import AbstractCookieJar
 
 from ._cookies import unexpired
+from ._listing import Cookie
 from ._messages import header_for, log_not_sent, receive
-from ._store import Cookie, CookieStore
+from ._store import CookieStore
 from ._urls import Target, target_of_parts
 
 

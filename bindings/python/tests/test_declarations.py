@@ -82,7 +82,7 @@ class DeclarationTests(unittest.TestCase):
         return [self.TYPES[kind] for word in words for kind in self.IN_C[word.strip()]]
 
     def test_proved_signatures(self):
-        text = ''.join((PROVED / name).read_text() for name in ('exports.rt', 'row_exports.rt', 'saved_exports.rt'))
+        text = ''.join((PROVED / name).read_text() for name in ('exports.rt', 'row_exports.rt', 'saved_exports.rt', 'merging.rt'))
         exports = re.findall(r'#\[unsafe\(no_mangle\)\]\npub extern "C" fn (\w+)\((.*?)\)(?: -> (\w+))?\n', text, re.S)
         proved = {name: (self.in_c([result])[0], self.in_c(re.findall(r'\w+: ([^,]+)', arguments)))
                   for name, arguments, result in exports}

@@ -35,12 +35,13 @@ class ForkTests(unittest.TestCase):
 
     def test_fork(self):
         """A child that is forked while threads are in calls, or create stores, may use the store, and sees it whole."""
-        store, stop = CookieStore(), threading.Event()
+        store, other, stop = CookieStore(), CookieStore(), threading.Event()
 
         def work(number):
             at = 0
             while not stop.is_set():
                 store.parse(f'http://h{number}.example/', f'c{at % 100}=1', NOW)
+                store.merge(other, NOW) if number % 2 else other.merge(store, NOW)
                 CookieStore()
                 at += 1
 

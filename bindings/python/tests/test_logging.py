@@ -48,12 +48,6 @@ def new_jar_of_aiohttp():
     return asyncio.run(run())
 
 
-# The domain, path, name and value of lines of which a strict store gets no Set-Cookie header.
-INEXPRESSIBLE = [('a b', '/', 'a', 'VALUE'), ('a.example', '/;x', 'a', 'VALUE'), ('a.example', 'foo', 'a', 'VALUE'),
-                 ('a.example', '/ ', 'a', 'VALUE'), ('a.example', '/', '\u00a0a', 'VALUE'), ('a.example', '/', 'a', 'VALUE\u2003'),
-                 ('a.example', '/' + 1024 * 'x', 'a', 'VALUE')]
-
-
 class LoggingTests(unittest.TestCase):
 
     def setUp(self):
@@ -154,13 +148,12 @@ class LoggingTests(unittest.TestCase):
 
     def test_loaded_files(self):
         lines = ['a.example\tFALSE\t/\tFALSE\t0\ta\tVALUE', 'a.example\tFALSE\t/\tFALSE\t0\t__Secure-b\tVALUE',
-                 '1.2.3.300\tFALSE\t/\tFALSE\t0\tc\tVALUE',
-                 *(f'{domain}\tFALSE\t{path}\tFALSE\t0\t{name}\t{value}' for domain, path, name, value in INEXPRESSIBLE)]
+                 '1.2.3.300\tFALSE\t/\tFALSE\t0\tc\tVALUE', 'a b\tFALSE\t/\tFALSE\t0\td\tVALUE', '0:0:0:0:0:0:0:1\tFALSE\t/\tFALSE\t0\te\tVALUE']
         self.path.write_text('\n'.join(lines) + '\n', encoding='utf-8')
         with self.logs("cookie '__Secure-b' of host 'a.example' is not stored: lacks what the prefix of its name demands",
                        "cookie 'c' of host '1.2.3.300' is not stored: not a valid URL",
-                       *(f'cookie {name!r} of host {domain!r} is not stored: no header value can express it'
-                         for domain, _, name, _ in INEXPRESSIBLE)):
+                       "cookie 'd' of host 'a b' is not stored: no header value can express it",
+                       "cookie 'e' of host '[0:0:0:0:0:0:0:1]' is not stored: the host does not match the cookie's domain"):
             StoreJar(CookieStore(strict=True)).load(self.path, ignore_discard=True)
 
     def test_saved_files(self):

@@ -490,6 +490,23 @@ class StoreTests(unittest.TestCase):
         other.clear()
         self.assertEqual(len(store), 2)
 
+    def test_merge(self):
+        store, other = filled('a=1', 'b=2; Path=/'), filled('b=3; Path=/', '__Host-c=4', 'd=5; Domain=a.example')
+        store.set_suffix_list('a.example\n')
+        self.assertEqual(store.merge(other, NOW), 0)
+        self.assertEqual([(row.name, row.value, row.host_only) for row in store],
+                         [('a', '1', True), ('__Host-c', '4', True), ('d', '5', True), ('b', '3', True)])
+        strict = CookieStore(strict=True)
+        self.assertEqual(strict.merge(other, NOW), 1)
+        self.assertEqual([row.name for row in strict], ['b', 'd'])
+        self.assertEqual(strict.merge(CookieStore.loads('a b\tFALSE\t/\tFALSE\t0\tc\t3\n', Format.NETSCAPE), NOW), 1)
+        self.assertEqual(len(other), 3)
+        self.assertEqual((strict.merge(strict, NOW), len(strict)), (0, 2))
+        other.close()
+        with self.assertRaises(CookieStoreError) as caught:
+            store.merge(other, NOW)
+        self.assertIs(caught.exception.status, Status.NO_STORE)
+
     def test_copy_is_whole(self):
         """What no saved list has survives a copy; a pickle has what a list has."""
         store = filled('a=1; Path=/x', 'b=2; Path=/y', 'c=3; Path=/x')

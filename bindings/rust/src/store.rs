@@ -405,6 +405,26 @@ impl CookieStore {
         removed
     }
 
+    /// Inserts the cookies of another store, in its order, each as if its own domain had sent it at
+    /// `now`, and returns how many are left out.
+    ///
+    /// Left out are those that [`parse`](CookieStore::parse) would reject, and those whose domain is not
+    /// the host of a URL. A domain cookie whose domain is a public suffix on the list of this store becomes
+    /// host-only. An expired cookie expires the stored one.
+    ///
+    /// # Errors
+    ///
+    /// [`Error::BadTime`]. [`Error::NoMemory`], after some of the cookies were inserted.
+    pub fn merge(&mut self, other: &CookieStore, now: SystemTime) -> Result<usize, Error> {
+        let mut left_out = 0;
+        // SAFETY: see `CookieStore`. The two handles differ.
+        let status = unsafe {
+            sys::cookie_store_merge(self.handle(), other.handle(), seconds(now), &mut left_out)
+        };
+        check(status, 0)?;
+        Ok(left_out)
+    }
+
     /// Removes all cookies. The public suffix list and the limit stay, and a strict store stays
     /// strict.
     pub fn clear(&mut self) {

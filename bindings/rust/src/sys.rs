@@ -218,4 +218,10 @@ extern "C" {
         lines_len: usize,
         malformed: *mut usize,
     ) -> cookie_store_status;
+    pub fn cookie_store_merge(
+        store: *mut cookie_store,
+        from: *mut cookie_store,
+        now: i64,
+        left_out: *mut usize,
+    ) -> cookie_store_status;
 }

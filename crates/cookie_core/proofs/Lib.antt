@@ -4,6 +4,7 @@ pub mod Inserted
 pub mod Insertions
 pub mod KeyedRows
 pub mod LongerRuns
+pub mod Merged
 pub mod OverlaidRows
 pub mod StyledTexts
 pub mod Walked

@@ -1,5 +1,6 @@
 pub mod CallViews
 pub mod Insertions
+pub mod Merging
 pub mod Overlaid
 pub mod Responses
 pub mod SecureIndexes

@@ -4,6 +4,7 @@ pub mod Buffers
 pub mod Calls
 pub mod Headers
 pub mod LoadedStores
+pub mod MergedStores
 pub mod CookieRows
 pub mod RowIters
 pub mod SavedStores

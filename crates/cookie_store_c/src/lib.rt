@@ -10,6 +10,7 @@ mod handle;
 mod header;
 mod inputs;
 mod loading;
+mod merging;
 mod options;
 mod request_rows;
 mod row_exports;

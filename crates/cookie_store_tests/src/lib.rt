@@ -48,6 +48,8 @@ mod malformed;
 #[cfg(test)]
 mod matching;
 #[cfg(test)]
+mod merged;
+#[cfg(test)]
 mod migrated;
 #[cfg(test)]
 mod netscape;

@@ -4,6 +4,7 @@ pub mod Attributes
 pub mod CheckedPairs
 pub mod HostCookies
 pub mod Letters
+pub mod Merged
 pub mod Responses
 pub mod SecureRows
 pub mod ShortAttributes

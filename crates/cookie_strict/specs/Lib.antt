@@ -5,5 +5,6 @@ pub mod Lifetime
 pub mod SiteRule
 pub mod Sites
 pub mod StrictErrors
+pub mod StrictMerging
 pub mod StrictRules
 pub mod StrictRuns

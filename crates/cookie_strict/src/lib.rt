@@ -9,6 +9,7 @@ mod error;
 mod header_value;
 mod insertion;
 pub mod laws;
+mod merging;
 mod requests;
 mod response;
 mod rules;
@@ -17,6 +18,7 @@ mod site;
 
 pub use error::{StrictError, StrictResult};
 pub use insertion::{insert, parse};
+pub use merging::merge;
 pub use requests::{Context, cookies_for};
 pub use response::store_response_cookies;
 pub use rules::breaks_prefix;

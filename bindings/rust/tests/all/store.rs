@@ -467,6 +467,19 @@ fn long_results_are_whole() {
 
 /// A copy has all that its original has, and the two are independent.
 #[test]
+fn stores_are_merged() {
+    let mut store = filled(&["a=1; Path=/x", "b=2; Path=/x"]);
+    let other = filled(&["b=3; Path=/x", "__Host-c=4", "d=5; Path=/x"]);
+    assert_eq!(store.merge(&other, at(NOW)), Ok(0));
+    assert_header(&store, "http://a.example/x", NOW, "a=1; b=3; d=5");
+    store.set_strict(true);
+    store.clear();
+    assert_eq!(store.merge(&other, at(NOW)), Ok(1));
+    assert_eq!(names(&store), "bd");
+    assert_eq!(other.len(), 3);
+}
+
+#[test]
 fn copies_are_whole() {
     let mut store = filled(&["a=1; Path=/x", "b=2; Path=/y", "c=3; Path=/x"]);
     store

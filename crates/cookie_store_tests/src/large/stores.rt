@@ -2,6 +2,7 @@
 use super::is_same;
 use crate::built::{Item, built, cookie};
 use crate::checks::is_equal;
+use crate::merged::merged;
 use crate::steps::{INSERTED, new_year};
 use crate::texts::{add, header, url};
 use cookie_store::{Call, Cookie, CookieStore, HashKey, Reply, StoreAction};
@@ -115,6 +116,21 @@ fn a_store_of_many_is_cloned(rt: HostRuntime) {
     has_all(&rt, rt.alloc(), &store, "");
     let copy = store.clone().expect(&rt, "memory");
     has_all(&rt, rt.alloc(), &copy, "");
+}
+
+fn are_merged(rt: &impl Abort, alloc: Global, other: &CookieStore, is_strict: bool) {
+    let mut store = CookieStore::new(alloc);
+    let left_out = merged(&mut store, other, is_strict).expect(rt, "memory");
+    is_equal(rt, &left_out, &0, &is_strict);
+    has_all(rt, alloc, &store, "");
+}
+
+#[test]
+fn a_store_of_many_is_merged(rt: HostRuntime) {
+    let other = store_of_all(&rt, rt.alloc(), "");
+    for is_strict in [false, true] {
+        are_merged(&rt, rt.alloc(), &other, is_strict);
+    }
 }
 
 #[test]

@@ -1,0 +1,17 @@
+-- The cookies so far are inserted, and those that were left out are counted with the remaining ones.
+use Rattle.std.proofs.Common.{◌≡◌, ◌+◌, ◌≤◌, ◌++◌, length, map}
+use Rattle.cookie_words.specs.Moments.{moment_of}
+use Rattle.cookie_core.specs.Merging.{own_insertions}
+use Rattle.cookie_strict.specs.StrictMerging.{how_many_allowed}
+use Rattle.cookie_strict.specs.StrictRuns.{strict_store_after}
+use Rattle.cookie_strict.proofs.merging.merge.Given as goal
+
+abbrev pub invariant-loop-cookie : goal.invariant-loop-cookie
+invariant-loop-cookie l = record {
+  can : (goal.iterator-loop-cookie).can_next l.cookie-iterator;
+  ends : (goal.iterator-loop-cookie).is_finite l.cookie-iterator;
+  merged : l.store ≡ strict_store_after (own_insertions (moment_of l.now) (map (λ c. c.now) l.yielded)) l.fn.store;
+  counted : l.left_out + how_many_allowed (own_insertions (moment_of l.now) (map (λ c. c.now) l.yielded)) l.fn.store ≡ length l.fn.other.rows;
+  enough : length l.cookie-iterator ≤ l.left_out;
+  all : map (λ c. c.now) l.yielded ++ l.cookie-iterator ≡ l.fn.other.rows;
+}
