@@ -1,0 +1,14 @@
+pub mod Around
+pub mod Ascending
+pub mod CallerLemmas
+pub mod ClosedViews
+pub mod Closing
+pub mod Found
+pub mod Moved
+pub mod Numbers
+pub mod Pieces
+pub mod PlaceViews
+pub mod Removal
+pub mod RetainedViews
+pub mod Retaining
+pub mod Views

@@ -1,0 +1,13 @@
+//! Maps by string that keep the order of insertion, from which an entry is removed in amortized
+//! constant time.
+#![tactic(auto)]
+
+mod gaps;
+mod iter;
+mod map;
+mod retain;
+#[cfg(test)]
+mod tests;
+
+pub use iter::{Iter, Values};
+pub use map::OrderedMap;
