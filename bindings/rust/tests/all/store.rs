@@ -465,7 +465,6 @@ fn long_results_are_whole() {
     assert_eq!(stored, pairs);
 }
 
-/// A copy has all that its original has, and the two are independent.
 #[test]
 fn stores_are_merged() {
     let mut store = filled(&["a=1; Path=/x", "b=2; Path=/x"]);
@@ -479,6 +478,7 @@ fn stores_are_merged() {
     assert_eq!(other.len(), 3);
 }
 
+/// A copy has all that its original has, and the two are independent.
 #[test]
 fn copies_are_whole() {
     let mut store = filled(&["a=1; Path=/x", "b=2; Path=/y", "c=3; Path=/x"]);
