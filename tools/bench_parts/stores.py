@@ -153,7 +153,7 @@ def explained_table(meter, own, *peers):
     pairs = {hosts: hostile.measure(meter, own, *peers, families=pair) for hosts, pair in hostile.REMOVALS.items()}
     at_limit = hostile.measure(meter, own, *peers, families=[hostile.AT_LIMIT])
     note = '''Milliseconds, as above. [DECISIONS.md](DECISIONS.md) says why: a removal keeps the order of its map, so it
-shifts the entries behind it, and a set under a limit looks at all cookies of the host. A removal in reverse order
+shifts the entries behind it, and a set at the limit looks at all cookies of the host. A removal in reverse order
 shifts nothing. ''' + ' '.join(compare_orders(*pair) for pair in pairs.items())
     grown = [*(each for pair in pairs.values() for each in pair), *at_limit]
     return growth_table('Growth that a decision explains', note, grown, own, *peers)

@@ -1,5 +1,5 @@
 -- Ranks that are split around one: sorted, they have it at the same place.
-use Rattle.std.proofs.Common.{◌≡◌, ℕ, zero, suc, ◌+◌, ◌-◌, ◌<◌, false, List, [], ◌∷◌, ◌++◌, length, get_or, slice_get, Some, refl, ◌∙◌, ap, inl, inr, add-one, arith, IsPermutation, IsSorted}
+use Rattle.std.proofs.Common.{◌≡◌, ℕ, zero, suc, ◌+◌, ◌-◌, ◌<◌, false, List, [], ◌∷◌, ◌++◌, length, get_or, slice_get, true, Some, refl, sym, ◌∙◌, ap, subst, inl, inr, add-one, arith, IsPermutation, IsSorted}
 use Rattle.std.specs.Prelude.{if◌then◌else◌}
 use Rattle.std.specs.List.{AllByRecursion}
 use Rattle.std.specs.List.Sorted.{IsSplitAround}
@@ -10,7 +10,7 @@ use Rattle.cookie_rows.specs.Items.{ItemPaths}
 use Rattle.cookie_rows.specs.Eviction.{EvictionRank, rank_cmp, comes_before, ranks_of, IsFirstSurvivor}
 use Rattle.cookie_rows.specs.declared.eviction_order.EvictionOrder.{EvictionOrder}
 use Rattle.cookie_rows.proofs.ByNumber.{all_map}
-use Rattle.cookie_rows.proofs.RankOrder.{Ascends, all_by_index, ranks_order}
+use Rattle.cookie_rows.proofs.RankOrder.{Ascends, all_by_index, not_before_itself, ranks_order}
 use Rattle.cookie_rows.proofs.Eviction.{all_joined, all_moved}
 
 -- ranks in order
@@ -115,4 +115,51 @@ module _ (front : List EvictionRank) (first : EvictionRank) (back : List Evictio
         moved = all;
         sorted = both_sorted split;
         is = ap (slice_get both_in_order) place ∙ stands_between (in_order front) first (in_order back);
+      }
+
+-- the least rank
+
+-- a list that is not empty has a first item
+first_of : {T : Type 0} (xs : List T) → 0 < length xs → (x : T) × (ys : List T) × (xs ≡ x ∷ ys)
+first_of [] some = absurd (omega (arith, some))
+first_of (x ∷ xs) some = (x, xs, refl)
+
+-- a rank that comes before the one after the least, which is the first that survives if as many survive as others come after the least
+pub record LeavesLeast (limit : ℕ) (order : EvictionOrder) (now : Moment) (rank least : EvictionRank) (paths : ItemPaths) (others : List EvictionRank) : Type 0 where
+  pub first : EvictionRank
+  pub survives_first : IsFirstSurvivor limit order now rank paths first
+  pub before : comes_before least first ≡ true
+  pub after : AllByRecursion (λ y. comes_before y first ≡ false) others
+
+module _ (limit : ℕ) (order : EvictionOrder) (now : Moment) (rank least : EvictionRank) (paths : ItemPaths) (others : List EvictionRank) where
+  -- of ranks of which the least comes before all others, and all others survive, the first that survives is the least of these
+  pub leaves_least : IsPermutation (ranks_of order now paths ++ rank ∷ []) (least ∷ others) → AllByRecursion (λ y. comes_before least y ≡ true) others → length others ≡ limit → 0 < limit
+      → LeavesLeast limit order now rank least paths others
+  leaves_least moved after count some =
+      let all = order_moved others in
+      let same : length (in_order others) ≡ limit = omega (arith, count, length_permutation others (in_order others) all) in
+      let head = first_of (in_order others) (omega (arith, same, some)) in
+      let up = ascends_order others in
+      let sorted : Ascends (least ∷ in_order others)
+      = (
+        all_map (λ y. comes_before least y ≡ true) (λ y. comes_before y least ≡ false) (λ y h. ranks_order.one_way least y h) (in_order others)
+            (all_moved (λ y. comes_before least y ≡ true) others (in_order others) all after),
+        up,
+      ) in
+      let unsorted : List EvictionRank = ranks_of order now paths ++ rank ∷ [] in
+      let place : length (least ∷ in_order others) - limit ≡ 1 = omega (arith, same) in
+      let first_up = subst Ascends head.2 up in
+      let none : AllByRecursion (λ y. comes_before y head.0 ≡ false) (in_order others)
+      = subst (AllByRecursion (λ y. comes_before y head.0 ≡ false)) (sym head.2) (not_before_itself head.0, first_up.0) in
+      let early = subst (AllByRecursion (λ y. comes_before least y ≡ true)) head.2 (all_moved (λ y. comes_before least y ≡ true) others (in_order others) all after) in
+      record {
+        first = head.0;
+        survives_first = record {
+          ranks = least ∷ in_order others;
+          moved = IsPermutation-trans unsorted (least ∷ others) (least ∷ in_order others) moved (IsPermutation-cons least others (in_order others) all);
+          sorted = sorted_ascends (least ∷ in_order others) sorted;
+          is = ap (slice_get (least ∷ in_order others)) place ∙ ap (λ (ts : List EvictionRank). slice_get ts 0) head.2;
+        };
+        before = early.0;
+        after = all_moved (λ y. comes_before y head.0 ≡ false) (in_order others) others (IsPermutation-sym others (in_order others) all) none;
       }

@@ -1,8 +1,9 @@
 -- The groups of a domain in a map of domains.
-use Rattle.std.proofs.Common.{◌≡◌, ℕ, List, [], ◌∷◌, inl, inr, refl, sym, Some, None}
-use Rattle.std.specs.Prelude.{String}
+use Rattle.std.proofs.Common.{◌≡◌, ℕ, suc, Option, List, ap, [], ◌∷◌, inl, inr, refl, sym, Some, None}
+use Rattle.std.specs.Prelude.{String, option_map}
 use Rattle.std.specs.Map.{lookup}
 use Rattle.std.proofs.lemmas.Bool.{cases_Bool}
+use Rattle.cookie_lookup.specs.SearchView.{group_position}
 use Rattle.cookie_rows.specs.Eviction.{paths_of}
 use Rattle.cookie_rows.specs.GroupChanges.{texts_of}
 use Rattle.cookie_rows.specs.Items.{ItemPaths}
@@ -24,3 +25,25 @@ module _ {A : Type 0} (d : List ℕ) where
     | inl t ↦ let l' = rw t at l in absurd (cc)
     | inr t ↦ let l' = rw t at l in rw t (paths_none es l')
   ]
+
+  module _ {X : Type 0} where
+    -- then the domain has no position
+    pub position_none : (es : List (String A × List X)) → None ≡ lookup (at_text d) es → group_position d (texts_of es) ≡ None
+    position_none [] l = refl
+    position_none (e ∷ es) l = elim (cases_Bool (at_text d e.0)) [
+      | inl t ↦ let l' = rw t at l in absurd (cc)
+      | inr t ↦ let l' = rw t at l in rw t (ap (option_map suc) (position_none es l'))
+    ]
+
+    -- and back
+    pub lookup_none : (es : List (String A × List X)) → group_position d (texts_of es) ≡ None → None ≡ lookup (at_text d) es
+    lookup_none [] l = refl
+    lookup_none (e ∷ es) l = elim (cases_Bool (at_text d e.0)) [
+      | inl t ↦ let l' = rw t at l in absurd (cc)
+      | inr t ↦ let l' = rw t at l in rw t (lookup_none es (none_behind (group_position d (texts_of es)) l'))
+    ]
+      where
+        -- no position further on is none
+        none_behind : (o : Option ℕ) → option_map suc o ≡ None → o ≡ None
+        none_behind None h = refl
+        none_behind (Some n) h = absurd (cc)

@@ -79,7 +79,7 @@ all_moved P xs ys p a = recursion_from_All P ys (All-permutation P xs ys p (All-
 
 module _ {T : Type 0} where
   -- if none passes, each fails
-  each_fails : (test : T → Bool) (xs : List T) → list_any test xs ≡ false → AllByRecursion (λ x. test x ≡ false) xs
+  pub each_fails : (test : T → Bool) (xs : List T) → list_any test xs ≡ false → AllByRecursion (λ x. test x ≡ false) xs
   each_fails test [] n = tt
   each_fails test (x ∷ xs) n = let parts = or_parts (test x) (list_any test xs) n in (parts.0, each_fails test xs parts.1)
 

@@ -18,6 +18,8 @@ pub mod HeaderItems
 pub mod Inserted
 pub mod Joined
 pub mod KeyClasses
+pub mod LeastEvicted
+pub mod LeastSearch
 pub mod LeftItems
 pub mod Maps
 pub mod Members
@@ -32,10 +34,13 @@ pub mod Positions
 pub mod Puts
 pub mod RankOrder
 pub mod Removed
+pub mod RemovedAt
 pub mod Results
 pub mod RetainedItems
+pub mod RowCounts
 pub mod RowsInOrder
 pub mod SameOrder
 pub mod SecureRows
 pub mod StoredThenEvicted
 pub mod UnexpiredItems
+pub mod WithoutAt

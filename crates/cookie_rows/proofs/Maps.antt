@@ -105,17 +105,18 @@ module _ {A X : Type 0} where
   values_texts (e ∷ es) = ap (λ xs. e.1 ∷ xs) (values_texts es)
 
 -- a changed group is dropped if it is empty
+
+-- a group with something in it is kept
+pub some_kept : {X : Type 0} (t : List ℕ) (v : List X) (gs : List (List ℕ × List X)) → (length v == 0) ≡ false → (t, v) ∷ gs ≡ unless_empty t v gs
+some_kept t [] gs h = absurd (cc)
+some_kept t (x ∷ xs) gs h = refl
+
+-- one with nothing in it is not
+pub none_kept : {X : Type 0} (t : List ℕ) (v : List X) (gs : List (List ℕ × List X)) → (length v == 0) ≡ true → gs ≡ unless_empty t v gs
+none_kept t [] gs h = refl
+none_kept t (x ∷ xs) gs h = absurd (grind arith)
+
 module _ {X : Type 0} (f : List X → List X) (q : List ℕ) where
-  -- a group with something in it is kept
-  some_kept : (t : List ℕ) (v : List X) (gs : List (List ℕ × List X)) → (length v == 0) ≡ false → (t, v) ∷ gs ≡ unless_empty t v gs
-  some_kept t [] gs h = absurd (cc)
-  some_kept t (x ∷ xs) gs h = refl
-
-  -- one with nothing in it is not
-  none_kept : (t : List ℕ) (v : List X) (gs : List (List ℕ × List X)) → (length v == 0) ≡ true → gs ≡ unless_empty t v gs
-  none_kept t [] gs h = refl
-  none_kept t (x ∷ xs) gs h = absurd (grind arith)
-
   -- something is left in the group that was changed
   pub lessened_some : (gs : List (List ℕ × List X)) → is_empty_at q (changed_at f q gs) ≡ false → changed_at f q gs ≡ lessened_at f q gs
   lessened_some [] h = refl

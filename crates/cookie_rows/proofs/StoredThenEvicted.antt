@@ -115,7 +115,7 @@ module _ {X : Type 0} where
 
 module _ (test : Item → Bool) where
   -- a group is kept if something in it passes
-  passing_kept : (p : List ℕ × List Item) (ps : ItemPaths) → filter_paths test (p ∷ ps) ≡ unless_empty p.0 (filter test p.1) (filter_paths test ps)
+  pub passing_kept : (p : List ℕ × List Item) (ps : ItemPaths) → filter_paths test (p ∷ ps) ≡ unless_empty p.0 (filter test p.1) (filter_paths test ps)
   passing_kept p ps = filled_kept p.0 (filter test p.1) (filter_paths test ps)
     where
       -- the same of any group
@@ -182,7 +182,7 @@ module _ (test : Item → Bool) where
 
 module _ (row : Row) (n : ℕ) where
   -- at the end, if none has its name
-  put_last : (xs : List Item) → row_named row.raw.name (rows_of xs) ≡ None → put_item row n xs ≡ xs ++ record { row = row; number = n } ∷ []
+  pub put_last : (xs : List Item) → row_named row.raw.name (rows_of xs) ≡ None → put_item row n xs ≡ xs ++ record { row = row; number = n } ∷ []
   put_last [] none = refl
   put_last (x ∷ xs) none = elim (cases_Bool (is_named row.raw.name x.row)) [
     | inl e ↦ let none' = rw e at none in absurd (cc)

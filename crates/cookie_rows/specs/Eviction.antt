@@ -122,13 +122,11 @@ abbrev pub insert_in_domains : (Item → Bool) → Row → ℕ → ItemGroups �
 insert_in_domains test row number groups =
     moved_to_end_if is_single_paths (domain_text row.domain) (put_at (insert_in_paths test row number) (domain_text row.domain) groups)
 
--- the groups of a domain after a new row is inserted: either there was room, or rows were evicted
--- (`has_evicted`)
-abbrev pub InsertsInPaths : ℕ → EvictionOrder → Moment → Row → ℕ → ItemPaths → ItemPaths → Bool → Type 0
-InsertsInPaths limit order now row number old new has_evicted =
-    ((length (ranks_of order now old) < limit) × (new ≡ put_item_paths row number old) × (has_evicted ≡ false))
-    ⊎ ((first : EvictionRank) × IsFirstSurvivor limit order now (class_of order now row, number) old first
-    × (limit ≤ length (ranks_of order now old)) × (new ≡ insert_in_paths (survives order now first) row number old) × (has_evicted ≡ true))
+-- the groups of a domain after rows were evicted for a new one
+abbrev pub EvictsInPaths : ℕ → EvictionOrder → Moment → Row → ℕ → ItemPaths → ItemPaths → Type 0
+EvictsInPaths limit order now row number old new =
+    (first : EvictionRank) × IsFirstSurvivor limit order now (class_of order now row, number) old first
+    × (limit ≤ length (ranks_of order now old)) × (new ≡ insert_in_paths (survives order now first) row number old)
 
 -- all groups after a new row is inserted: either its domain had room, or rows of the domain were
 -- evicted

@@ -9,3 +9,4 @@ pub mod RequestCookies
 pub mod SecureKeys
 pub mod Eviction
 pub mod Retained
+pub mod Least

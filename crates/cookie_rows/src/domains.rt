@@ -1,12 +1,14 @@
 //! The groups of a store, by domain.
-ghost use Rattle.std.specs.Prelude.{◌≡◌, ◌≢◌, ◌<◌, ℕ, true, ◌==◌, [], length, not, is_none, string_bytes, IfOk, None, OnErr, OnOk};
+ghost use Rattle.std.specs.Prelude.{◌≡◌, ◌≢◌, ◌+◌, ◌<◌, ℕ, true, ◌==◌, length, not, is_none, IfOk, None, OnErr, OnOk};
 ghost use Rattle.std.specs.Option.{option_copied};
 ghost use Rattle.cookie_words.specs.Moments.{moment_of};
 ghost use Rattle.cookie_parts.specs.Domain.{domain_text};
 ghost use Rattle.cookie_laws.specs.Rows.{key_at, key_of};
+ghost use Rattle.cookie_lookup.specs.SearchView.{group_position};
 ghost use Rattle.cookie_rows.specs.GroupChanges.{changed_at, is_empty_at, texts_of};
-ghost use Rattle.cookie_rows.specs.Items.{expire_items, find_items, put_item_paths, put_items, remove_item_paths, remove_items};
+ghost use Rattle.cookie_rows.specs.Items.{expire_items, find_items, put_items, remove_item_paths, remove_items, AreItems};
 ghost use Rattle.cookie_rows.specs.Eviction.{is_single_paths, moved_to_end_if, InsertsInDomains};
+ghost use Rattle.cookie_rows.specs.Least.{items_in_groups};
 ghost use Rattle.cookie_rows.specs.Retained.{RetainsDomains, RetainsPaths, ReturnsFor};
 
 use crate::boxed::BoxedCookie;
@@ -33,14 +35,20 @@ pub(crate) fn find_row<'a>(
     }
 }
 
-// Returns the row's domain, and a group of this row alone.
-fn entry_of(alloc: Global, row: BoxedCookie) -> Result<(String, Paths), AllocError>
-    ensures domain { IfOk result (λ entry. string_bytes entry.0 ≡ domain_text row.row.domain) }
-    ensures group { IfOk result (λ entry. entry.1 ≡ put_item_paths row.row row.number []) }
+// Adds a group of this row alone: there is none of its domain.
+fn add_domain(
+    groups: &mut IndexMap<String, Paths, HashKey>,
+    row: BoxedCookie,
+) -> Result<(), AllocError>
+    requires absent { group_position (domain_text row.row.domain) (texts_of groups.old.entries) ≡ None }
+    ensures added { OnOk result (texts_of groups.new.entries ≡ put_items row.row row.number (texts_of groups.old.entries)) }
+    ensures unchanged { OnErr result (texts_of groups.new.entries ≡ texts_of groups.old.entries) }
 {
+    let alloc = *groups.allocator();
     let domain = String::from_str(alloc, row.cookie().domain.as_str())?;
     let group = Paths::of_one(alloc, row)?;
-    Ok((domain, group))
+    groups.insert(domain, group)?;
+    Ok(())
 }
 
 // Replaces the row of the cookie's key.
@@ -67,11 +75,7 @@ pub(crate) fn add_row(
     let hash_key = *groups.hasher();
     match groups.get_mut(row.cookie().domain.as_str()) {
         Some(group) => group.add(alloc, hash_key, row),
-        None => {
-            let (domain, group) = entry_of(alloc, row)?;
-            groups.insert(domain, group)?;
-            Ok(())
-        }
+        None => add_domain(groups, row),
     }
 }
 
@@ -93,40 +97,49 @@ pub(crate) fn put_row(
     match groups.get_mut(cookie.domain.as_str()) {
         Some(group) => group.put(alloc, hash_key, cookie, number),
         None => {
-            let row = BoxedCookie::new(alloc, cookie, number)?;
-            let (domain, group) = entry_of(alloc, row)?;
-            groups.insert(domain, group)?;
+            add_domain(groups, BoxedCookie::new(alloc, cookie, number)?)?;
             Ok(true)
         }
     }
 }
 
 // Adds the row to the group of its domain, and evicts rows so that at most `limit` of the domain
-// are stored.
+// are stored. Returns how many were evicted.
 pub(crate) fn insert_row_within_limit(
     groups: &mut IndexMap<String, Paths, HashKey>,
     row: BoxedCookie,
     limit: usize,
     order: EvictionOrder,
     now: DateTime,
-) -> Result<(), AllocError>
+) -> Result<usize, AllocError>
     requires limit { 0 < limit }
+    requires numbered { AreItems row.number (texts_of groups.old.entries) }
     requires new { find_items (key_of row.row) (texts_of groups.old.entries) ≡ None }
     ensures inserted { OnOk result (InsertsInDomains limit order (moment_of now) row.row row.number
         (texts_of groups.old.entries) (texts_of groups.new.entries)) }
+    ensures evicted { IfOk result (λ evicted. length (items_in_groups (texts_of groups.new.entries)) + evicted
+        ≡ length (items_in_groups (texts_of groups.old.entries)) + 1) }
     ensures unchanged { OnErr result (texts_of groups.new.entries ≡ texts_of groups.old.entries) }
 {
     let alloc = *groups.allocator();
     let hash_key = *groups.hasher();
-    let domain = String::from_str(alloc, row.cookie().domain.as_str())?;
-    let has_evicted = match groups.get_mut(domain.as_str()) {
-        Some(group) => group.insert_within_limit(alloc, hash_key, row, limit, order, now)?,
-        None => return add_row(groups, row),
+    let (domain, evicted) = match groups.get_mut(row.cookie().domain.as_str()) {
+        None => {
+            add_domain(groups, row)?;
+            return Ok(0);
+        }
+        Some(group) => {
+            if group.has_fewer_than(limit) {
+                group.add(alloc, hash_key, row)?;
+                return Ok(0);
+            }
+            let domain = String::from_str(alloc, row.cookie().domain.as_str())?;
+            let evicted = group.insert_at_limit(alloc, hash_key, row, limit, order, now)?;
+            (domain, evicted)
+        }
     };
-    if has_evicted {
-        move_domain_to_end(groups, domain.as_str());
-    }
-    Ok(())
+    move_domain_to_end(groups, domain.as_str());
+    Ok(evicted)
 }
 
 // Moves the group of this domain to the end, if it has a single row: all its old rows were evicted.

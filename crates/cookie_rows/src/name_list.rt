@@ -1,5 +1,6 @@
 //! The rows of one domain and path, in a list.
 ghost use Rattle.std.specs.Prelude.{◌≡◌, ◌≢◌, [], ◌≤◌, ◌<◌, ℕ, IsTrue, IfOk, IfSome, None, OnErr, OnOk, length, map, position, string_bytes};
+ghost use Rattle.std.specs.List.{remove};
 ghost use Rattle.std.specs.Option.{option_copied};
 ghost use Rattle.std.specs.Map.{values_of};
 ghost use Rattle.indexmap.specs.IndexMap.{spare};
@@ -82,6 +83,16 @@ pub(crate) fn remove_among(rows: &mut Vec<BoxedCookie>, name: &str) -> Option<Co
         Some(at) => Some(rows.remove(at).into_cookie()),
         None => None,
     }
+}
+
+// Removes the row at a position. The others keep their order.
+pub(crate) fn remove_at_among(rows: &mut Vec<BoxedCookie>, at: usize)
+    requires differ { IsTrue (names_differ rows.old.items) }
+    requires within { at < length rows.old.items }
+    ensures removed { rows.new.items ≡ remove rows.old.items at }
+    ensures differ { IsTrue (names_differ rows.new.items) }
+{
+    rows.remove(at);
 }
 
 // Keeps the rows for which `keep` returns true.

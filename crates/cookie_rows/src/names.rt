@@ -1,6 +1,7 @@
 //! The rows of one domain and path, by name.
 ghost use Rattle.std.specs.Prelude.{◌≡◌, ◌≢◌, ◌<◌, ◌+◌, ◌^◌, ◌∷◌, [], ◌==◌, ℕ, length, option_map, slice_get, None, IfOk, IfSome, OnErr, OnOk, ◌≤◌, List, IsTrue, vec_capacity};
 ghost use Rattle.std.specs.Map.{values_of};
+ghost use Rattle.std.specs.List.{remove};
 ghost use Rattle.std.specs.Option.{option_copied};
 ghost use Rattle.cookie_rows.specs.GroupChanges.{row_named};
 ghost use Rattle.cookie_rows.specs.Items.{AreNamed, expire_item, put_item, remove_item, rows_of, Item};
@@ -11,8 +12,8 @@ use crate::boxed::BoxedCookie;
 use crate::copying::{Rehash, rehashed_table};
 use crate::hashing::HashKey;
 use crate::name_list::{
-    MOST_LISTED, expire_among, fill_table, push_row, remove_among, replace_among, retain_among,
-    row_among, table_for,
+    MOST_LISTED, expire_among, fill_table, push_row, remove_among, remove_at_among, replace_among,
+    retain_among, row_among, table_for,
 };
 use cookie_parts::Cookie;
 use indexmap::IndexMap;
@@ -160,6 +161,14 @@ impl Names {
         let (rows, row) = without_row(mem::replace(&mut self.rows, NameMap::Empty), name);
         self.rows = rows;
         row
+    }
+
+    // Removes the row at a position. The others keep their order.
+    pub(crate) fn remove_at(&mut self, at: usize)
+        requires within { at < length self.old }
+        ensures { self.new ≡ remove self.old at }
+    {
+        remove_row_at(&mut self.rows, at);
     }
 }
 
@@ -453,4 +462,28 @@ fn remove_in(
         Some(row) => Some(row.into_cookie()),
         None => None,
     }
+}
+
+// Removes the row at a position.
+fn remove_row_at(rows: &mut NameMap, at: usize)
+    requires named { HasNames rows.old }
+    requires within { at < length (items_of rows.old) }
+    ensures removed { items_of rows.new ≡ remove (items_of rows.old) at }
+    ensures named { HasNames rows.new }
+{
+    match rows {
+        NameMap::Empty => {}
+        NameMap::Single(_) => *rows = NameMap::Empty,
+        NameMap::List(rows) => remove_at_among(rows.as_mut(), at),
+        NameMap::Table(rows) => remove_at_in(rows.as_mut(), at),
+    }
+}
+
+// Removes the row at a position of a table. The others keep their order.
+fn remove_at_in(rows: &mut IndexMap<String, BoxedCookie, HashKey>, at: usize)
+    requires named { AreNamed rows.old.entries }
+    ensures removed { values_of rows.new.entries ≡ remove (values_of rows.old.entries) at }
+    ensures named { AreNamed rows.new.entries }
+{
+    rows.shift_remove_index(at);
 }

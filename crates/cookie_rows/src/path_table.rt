@@ -1,9 +1,11 @@
 //! The groups of one domain in a table, by path.
 ghost use Rattle.std.specs.Prelude.{◌≡◌, ◌==◌, ◌<◌, length, map, not, option_map, slice_get, None, IfSome, OnErr, OnOk, ℕ, false, ◌≢◌};
+ghost use Rattle.std.specs.List.{remove};
 ghost use Rattle.cookie_lookup.specs.SearchView.{group_position, under};
 ghost use Rattle.cookie_rows.specs.GroupChanges.{changed_at, is_empty_at, texts_of};
 ghost use Rattle.cookie_rows.specs.Items.{expire_item_paths, find_item_paths, put_item_paths, remove_item, remove_item_paths};
 ghost use Rattle.cookie_rows.specs.Eviction.{is_single, moved_to_end_if};
+ghost use Rattle.cookie_rows.specs.Least.{changed_place, without_at};
 ghost use Rattle.cookie_rows.specs.Retained.{RetainsItems, RetainsPaths, ReturnsFor};
 
 use crate::boxed::BoxedCookie;
@@ -144,4 +146,29 @@ pub(crate) fn remove_in(
         groups.shift_remove(path);
     }
     row
+}
+
+// Removes the row at a position from its group in a table. Returns whether the group is now empty.
+fn take_at(groups: &mut IndexMap<String, Names, HashKey>, place: usize, at: usize) -> bool
+    requires within { at < length (under place (texts_of groups.old.entries)) }
+    ensures groups { texts_of groups.new.entries ≡ changed_place (λ items. remove items at) place (texts_of groups.old.entries) }
+    ensures is_empty { result ≡ (length (under place (texts_of groups.new.entries)) == 0) }
+{
+    match groups.get_index_mut(place) {
+        Some(group) => {
+            group.remove_at(at);
+            group.is_empty()
+        }
+        None => true,
+    }
+}
+
+// Removes the row at a position from a table, and its group if it was the last row there.
+pub(crate) fn remove_at_in(groups: &mut IndexMap<String, Names, HashKey>, place: usize, at: usize)
+    requires within { at < length (under place (texts_of groups.old.entries)) }
+    ensures { texts_of groups.new.entries ≡ without_at place at (texts_of groups.old.entries) }
+{
+    if take_at(groups, place, at) {
+        groups.shift_remove_index(place);
+    }
 }

@@ -1,24 +1,24 @@
 //! The rows of one domain, by path.
-ghost use Rattle.std.specs.Prelude.{◌≡◌, ◌∷◌, [], ◌==◌, ◌<◌, ◌≤◌, is_none, length, map, option_map, slice_get, string_bytes, None, IfNone, IfOk, IfSome, OnErr, OnOk, OnSome, ℕ, bytes_eq, false, ◌≢◌};
+ghost use Rattle.std.specs.Prelude.{◌≡◌, [], ◌==◌, ◌+◌, ◌^◌, ◌<◌, ◌≤◌, is_none, length, map, nat_lt, option_map, slice_get, None, IfNone, IfOk, IfSome, OnErr, OnOk, ℕ, true, ◌≢◌};
 ghost use Rattle.std.specs.Option.{option_copied};
-ghost use Rattle.std.specs.String.{string_eq};
-ghost use Rattle.indexmap.specs.IndexMap.{spare};
 ghost use Rattle.cookie_words.specs.Moments.{moment_of};
 ghost use Rattle.cookie_lookup.specs.SearchView.{group_position, under};
 ghost use Rattle.cookie_rows.specs.PathMaps.{groups_of};
 ghost use Rattle.cookie_rows.specs.HeaderItems.{items_in};
 ghost use Rattle.cookie_rows.specs.Items.{expire_item_paths, find_item_paths, put_item_paths, remove_item_paths, ItemPaths};
-ghost use Rattle.cookie_rows.specs.Eviction.{is_single, is_single_paths, filter_paths, moved_to_end_if, survives, rank_of, ranks_of, InsertsInPaths, IsFirstSurvivor};
+ghost use Rattle.cookie_rows.specs.Eviction.{is_single, is_single_paths, filter_paths, moved_to_end_if, survives, rank_of, ranks_of, comes_before, EvictsInPaths, IsFirstSurvivor};
+ghost use Rattle.cookie_rows.specs.Least.{items_in_paths, without_at, AreNumbered, IsLeast};
 ghost use Rattle.cookie_rows.specs.Retained.{RetainsPaths, ReturnsFor};
 
 use crate::boxed::{BoxedCookie, push_ranks};
 use crate::copying::{Rehash, rehashed_table};
 use crate::eviction_order::EvictionOrder;
 use crate::hashing::HashKey;
+use crate::least::{Least, least_of};
 use crate::names::Names;
-use crate::path_table::{
-    add_in, expire_in, found_in, move_to_end_in, remove_in, replace_in, retain_in, text_in,
-};
+use crate::path_adding::with_row;
+use crate::path_removal::{with_expired, without_row};
+use crate::path_table::{found_in, move_to_end_in, remove_at_in, replace_in, retain_in, text_in};
 use cookie_parts::Cookie;
 use indexmap::IndexMap;
 use jiff::civil::DateTime;
@@ -193,9 +193,45 @@ impl Paths {
         Ok(true)
     }
 
-    // Adds a new row and evicts rows of the domain, so that at most `limit` are stored. Returns
-    // whether any was evicted. Unchanged if out of memory.
-    pub(crate) fn insert_within_limit(
+    // Whether there are fewer rows than `limit`.
+    pub(crate) fn has_fewer_than(&self, limit: usize) -> bool
+        ensures { result ≡ nat_lt (length (items_in_paths self.now)) limit }
+    {
+        match self.room(limit) {
+            Some(room) => room > 0,
+            None => false,
+        }
+    }
+
+    // How many rows can be added so that there are at most `limit`. `None` if there are more now.
+    fn room(&self, limit: usize) -> Option<usize>
+        ensures room { IfSome result (λ room. length (items_in_paths self.now) + room ≡ limit) }
+        ensures none { IfNone result (limit < length (items_in_paths self.now)) }
+    {
+        let mut room = limit;
+        let groups = self.groups();
+        for names in groups {
+            room = room.checked_sub(names.rows().len())?;
+        }
+        Some(room)
+    }
+
+    // The number of rows.
+    fn len(&self) -> usize
+        requires few { length (items_in_paths self.now) < 2 ^ 64 }
+        ensures { result ≡ length (items_in_paths self.now) }
+    {
+        let mut count: usize = 0;
+        let groups = self.groups();
+        for names in groups {
+            count += names.rows().len();
+        }
+        count
+    }
+
+    // Adds a new row to at least `limit` rows and evicts rows, so that `limit` are stored. Returns
+    // how many were evicted. Unchanged if out of memory.
+    pub(crate) fn insert_at_limit(
         &mut self,
         alloc: Global,
         hash_key: HashKey,
@@ -203,25 +239,94 @@ impl Paths {
         limit: usize,
         order: EvictionOrder,
         now: DateTime,
-    ) -> Result<bool, AllocError>
+    ) -> Result<usize, AllocError>
         requires limit { 0 < limit }
+        requires full { limit ≤ length (items_in_paths self.old) }
+        requires numbered { AreNumbered self.old }
         requires new { find_item_paths row.row.path.text row.row.raw.name self.old ≡ None }
-        ensures inserted { IfOk result (λ has_evicted. InsertsInPaths limit order (moment_of now) row.row row.number self.old self.new has_evicted) }
+        ensures evicts { OnOk result (EvictsInPaths limit order (moment_of now) row.row row.number self.old self.new) }
+        ensures evicted { IfOk result (λ evicted. length (items_in_paths self.new) + evicted ≡ length (items_in_paths self.old) + 1) }
         ensures unchanged { OnErr result (self.new ≡ self.old) }
     {
-        let Some(first) = self.first_survivor(alloc, &row, limit, order, now)? else {
-            self.add(alloc, hash_key, row)?;
-            return Ok(false);
-        };
         let path = String::from_str(alloc, row.cookie().path.as_str())?;
+        let evicted = self.add_and_evict(alloc, hash_key, row, limit, order, now)?;
+        move_path_to_end(&mut self.groups, path.as_str());
+        Ok(evicted)
+    }
+
+    // The same, but the group of the row's path keeps its position.
+    fn add_and_evict(
+        &mut self,
+        alloc: Global,
+        hash_key: HashKey,
+        row: BoxedCookie,
+        limit: usize,
+        order: EvictionOrder,
+        now: DateTime,
+    ) -> Result<usize, AllocError>
+        requires limit { 0 < limit }
+        requires full { limit ≤ length (items_in_paths self.old) }
+        requires numbered { AreNumbered self.old }
+        requires new { find_item_paths row.row.path.text row.row.raw.name self.old ≡ None }
+        ensures evicts { OnOk result (EvictsInPaths limit order (moment_of now) row.row row.number self.old
+            (moved_to_end_if is_single row.row.path.text self.new)) }
+        ensures evicted { IfOk result (λ evicted. length (items_in_paths self.new) + evicted ≡ length (items_in_paths self.old) + 1) }
+        ensures unchanged { OnErr result (self.new ≡ self.old) }
+    {
+        if let Some(least) = self.only_evicted(&row, limit, order, now) {
+            self.add(alloc, hash_key, row)?;
+            self.remove_at(least.place, least.at);
+            return Ok(1);
+        }
+        let (first, count) = self.first_survivor(alloc, &row, limit, order, now)?;
         self.add(alloc, hash_key, row)?;
         self.evict_before(first, order, now);
-        move_path_to_end(&mut self.groups, path.as_str());
-        Ok(true)
+        Ok(count - self.len())
+    }
+
+    // The one row that is evicted for this new row, if there are `limit` rows and the new one is
+    // not the first in eviction order.
+    fn only_evicted(
+        &self,
+        row: &BoxedCookie,
+        limit: usize,
+        order: EvictionOrder,
+        now: DateTime,
+    ) -> Option<Least>
+        ensures count { IfSome result (λ _. length (items_in_paths self.now) ≡ limit) }
+        ensures least { IfSome result (λ least. IsLeast order (moment_of now) least self.now) }
+        ensures before { IfSome result (λ least. comes_before least.rank (rank_of order (moment_of now) row.now) ≡ true) }
+    {
+        if self.room(limit)? > 0 {
+            return None;
+        }
+        let least = least_of(self.groups(), order, now)?;
+        if least.rank < row.rank(order, now) {
+            Some(least)
+        } else {
+            None
+        }
+    }
+
+    // Removes the row at a position, and its group if it was the last row there.
+    fn remove_at(&mut self, place: usize, at: usize)
+        requires within { at < length (under place self.old) }
+        ensures { self.new ≡ without_at place at self.old }
+    {
+        match &mut self.groups {
+            PathMap::Empty => {}
+            PathMap::Single(_, names) => {
+                names.remove_at(at);
+                if names.is_empty() {
+                    self.groups = PathMap::Empty;
+                }
+            }
+            PathMap::Table(groups) => remove_at_in(groups.as_mut(), place, at),
+        }
     }
 
     // Returns the place in eviction order of the first row that survives once this new row is
-    // added. `None` if nothing need be evicted.
+    // added to at least `limit` rows, and the number of rows with the new one.
     fn first_survivor(
         &self,
         alloc: Global,
@@ -229,20 +334,18 @@ impl Paths {
         limit: usize,
         order: EvictionOrder,
         now: DateTime,
-    ) -> Result<Option<(u8, u64)>, AllocError>
+    ) -> Result<((u8, u64), usize), AllocError>
         requires limit { 0 < limit }
-        ensures room { IfOk result (λ first. IfNone first (length (ranks_of order (moment_of now) self.now) < limit)) }
-        ensures full { IfOk result (λ first. OnSome first (limit ≤ length (ranks_of order (moment_of now) self.now))) }
-        ensures first { IfOk result (λ first. IfSome first (IsFirstSurvivor limit order (moment_of now) (rank_of order (moment_of now) row.now) self.now)) }
+        requires full { limit ≤ length (items_in_paths self.now) }
+        ensures first { IfOk result (λ found. IsFirstSurvivor limit order (moment_of now) (rank_of order (moment_of now) row.now) self.now found.0) }
+        ensures count { IfOk result (λ found. found.1 ≡ length (items_in_paths self.now) + 1) }
     {
         let mut ranks = self.ranks(alloc, order, now)?;
-        if ranks.len() < limit {
-            return Ok(None);
-        }
         ranks.push(row.rank(order, now))?;
-        let place = ranks.len() - limit;
+        let count = ranks.len();
+        let place = count - limit;
         let (_, first, _) = ranks.select_nth_unstable(place);
-        Ok(Some(*first))
+        Ok((*first, count))
     }
 
     // The places of the rows in eviction order.
@@ -348,88 +451,6 @@ fn replace_path(groups: &mut PathMap, cookie: Cookie<'static>)
     }
 }
 
-// Adds the row at the end of its path's group. Returns the groups unchanged if out of memory.
-fn with_row(
-    groups: PathMap,
-    alloc: Global,
-    hash_key: HashKey,
-    row: BoxedCookie,
-) -> (PathMap, Result<(), AllocError>)
-    requires new { find_item_paths row.row.path.text row.row.raw.name (groups_of groups) ≡ None }
-    ensures added { OnOk result.1 (groups_of result.0 ≡ put_item_paths row.row row.number (groups_of groups)) }
-    ensures unchanged { OnErr result.1 (groups_of result.0 ≡ groups_of groups) }
-{
-    match groups {
-        PathMap::Empty => match String::from_str(alloc, row.cookie().path.as_str()) {
-            Ok(path) => (PathMap::Single(path, Names::of_one(row)), Ok(())),
-            Err(error) => (PathMap::Empty, Err(error)),
-        },
-        PathMap::Single(path, mut names) => {
-            if path.as_str() == row.cookie().path.as_str() {
-                let outcome = names.add(alloc, hash_key, row);
-                (PathMap::Single(path, names), outcome)
-            } else {
-                with_second(path, names, alloc, hash_key, row)
-            }
-        }
-        PathMap::Table(mut table) => {
-            let outcome = add_in(table.as_mut(), alloc, hash_key, row);
-            (PathMap::Table(table), outcome)
-        }
-    }
-}
-
-// Adds the row, of another path, after a single group. Returns that group alone if out of memory.
-fn with_second(
-    first: String,
-    names: Names,
-    alloc: Global,
-    hash_key: HashKey,
-    row: BoxedCookie,
-) -> (PathMap, Result<(), AllocError>)
-    requires other { bytes_eq row.row.path.text (string_bytes first) ≡ false }
-    ensures added { OnOk result.1 (groups_of result.0 ≡ (string_bytes first, names) ∷ (row.row.path.text, row ∷ []) ∷ []) }
-    ensures unchanged { OnErr result.1 (groups_of result.0 ≡ (string_bytes first, names) ∷ []) }
-{
-    match table_for(alloc, hash_key, &row) {
-        Ok((table, path)) => (pair(table, first, names, path, row), Ok(())),
-        Err(error) => (PathMap::Single(first, names), Err(error)),
-    }
-}
-
-// Returns an empty table with room for two groups, and the row's path.
-fn table_for(
-    alloc: Global,
-    hash_key: HashKey,
-    row: &BoxedCookie,
-) -> Result<(Box<IndexMap<String, Names, HashKey>>, String), AllocError>
-    ensures empty { IfOk result (λ created. created.0.value.entries ≡ []) }
-    ensures room { IfOk result (λ created. 2 ≤ spare created.0.value) }
-    ensures path { IfOk result (λ created. string_bytes created.1 ≡ row.now.row.path.text) }
-{
-    let path = String::from_str(alloc, row.cookie().path.as_str())?;
-    let table = IndexMap::with_capacity_and_hasher(alloc, 2, hash_key)?;
-    Ok((Box::new(alloc, table)?, path))
-}
-
-// Returns a table of a group, and of a second one with a single row.
-fn pair(
-    mut table: Box<IndexMap<String, Names, HashKey>>,
-    first: String,
-    names: Names,
-    path: String,
-    row: BoxedCookie,
-) -> PathMap
-    requires empty { table.value.entries ≡ [] }
-    requires room { 2 ≤ spare table.value }
-    requires differ { string_eq path first ≡ false }
-    ensures { groups_of result ≡ (string_bytes first, names) ∷ (string_bytes path, row ∷ []) ∷ [] }
-{
-    table.insert(first, names).unwrap();
-    table.insert(path, Names::of_one(row)).unwrap();
-    PathMap::Table(table)
-}
-
 // Moves the group of this path to the end, if it has a single row.
 fn move_path_to_end(groups: &mut PathMap, path: &str)
     ensures { groups_of groups.new ≡ moved_to_end_if is_single path.now (groups_of groups.old) }
@@ -437,62 +458,5 @@ fn move_path_to_end(groups: &mut PathMap, path: &str)
     match groups {
         PathMap::Empty | PathMap::Single(_, _) => {}
         PathMap::Table(groups) => move_to_end_in(groups.as_mut(), path),
-    }
-}
-
-// Expires the row of this path and name. Returns the groups.
-fn with_expired(groups: PathMap, path: &str, name: &str) -> PathMap
-    ensures { groups_of result ≡ expire_item_paths path.now name.now (groups_of groups) }
-{
-    match groups {
-        PathMap::Empty => PathMap::Empty,
-        PathMap::Single(own, mut names) => {
-            if own.as_str() != path {
-                return PathMap::Single(own, names);
-            }
-            names.expire(name);
-            PathMap::Single(own, names)
-        }
-        PathMap::Table(mut table) => {
-            expire_in(&mut table, path, name);
-            PathMap::Table(table)
-        }
-    }
-}
-
-// Removes the row of this path and name, and its group if it was the last row there. Returns the
-// remaining groups, and the removed row.
-fn without_row(groups: PathMap, path: &str, name: &str) -> (PathMap, Option<Cookie<'static>>)
-    ensures value { result.1 ≡ find_item_paths path.now name.now (groups_of groups) }
-    ensures removed { groups_of result.0 ≡ remove_item_paths path.now name.now (groups_of groups) }
-{
-    match groups {
-        PathMap::Empty => (PathMap::Empty, None),
-        PathMap::Single(own, names) => without_named(own, names, path, name),
-        PathMap::Table(mut table) => {
-            let row = remove_in(table.as_mut(), path, name);
-            (PathMap::Table(table), row)
-        }
-    }
-}
-
-// Removes the row from a single group, and the group if it was its last row.
-fn without_named(
-    own: String,
-    mut names: Names,
-    path: &str,
-    name: &str,
-) -> (PathMap, Option<Cookie<'static>>)
-    ensures value { result.1 ≡ find_item_paths path.now name.now ((string_bytes own, names) ∷ []) }
-    ensures removed { groups_of result.0 ≡ remove_item_paths path.now name.now ((string_bytes own, names) ∷ []) }
-{
-    if own.as_str() != path {
-        return (PathMap::Single(own, names), None);
-    }
-    let row = names.remove(name);
-    if names.is_empty() {
-        (PathMap::Empty, row)
-    } else {
-        (PathMap::Single(own, names), row)
     }
 }

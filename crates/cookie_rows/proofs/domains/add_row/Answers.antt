@@ -1,12 +1,12 @@
 use Rattle.std.proofs.Common.{◌∙◌, sym, ap, Some}
-use Rattle.std.specs.String.{string_eq}
 use Rattle.std.specs.Map.{set_value}
-use Rattle.indexmap.specs.IndexMap.{insert_entry}
 use Rattle.cookie_parts.specs.Cookie.{Row}
 use Rattle.cookie_parts.specs.Domain.{domain_text}
+use Rattle.cookie_lookup.specs.SearchView.{group_position}
 use Rattle.cookie_rows.specs.GroupChanges.{texts_of, put_at, found}
-use Rattle.cookie_rows.specs.Items.{find_item_paths, put_item_paths}
-use Rattle.cookie_rows.proofs.Maps.{at_text, put_set, same_set, put_insert, found_some}
+use Rattle.cookie_rows.specs.Items.{find_item_paths, put_item_paths, put_items}
+use Rattle.cookie_rows.proofs.DomainMaps.{position_none}
+use Rattle.cookie_rows.proofs.Maps.{at_text, put_set, same_set, found_some}
 use Rattle.cookie_rows.proofs.Results.{on_ok_map, on_err_map}
 use Rattle.cookie_rows.proofs.domains.add_row.Goals as goal
 
@@ -36,15 +36,22 @@ returns-in-Some-clause-unchanged c =
     (λ same. ap texts_of (c.get_mut.follows.holds c.add.new.self).0 ∙ same_set _ c.args.groups.now.entries c.add.new.self (ap Some same ∙ c.in-Some.ensures.value))
     c.add.ensures.unchanged
 
-pub returns-in_ok-insert-in-None-clause-added : goal.returns-in_ok-insert-in-None-clause-added
-returns-in_ok-insert-in-None-clause-added c =
+pub add_domain-requires : goal.add_domain-requires
+add_domain-requires c =
     let es = c.args.groups.now.entries in
     let q = c.as_str.result.now in
     let domain = c.as_str.ensures ∙ ap (λ (r : Row). domain_text r.domain) c.behind-row.view_is ∙ ap (λ (r : Row). domain_text r.domain) c.cookie.ensures in
-    let change = put_item_paths c.args.row.row c.args.row.number in
-    let key = c.in_ok-domain-in-None.domain in
-    ap texts_of c.in_ok-insert-in-None.ensures.entries
-    ∙ ap (λ m. texts_of (insert_entry string_eq m.entries key c.in_ok-domain-in-None.group)) c.get_mut.follows.holds-at-none
-    ∙ ap (λ v. texts_of (insert_entry string_eq es key v)) c.in_ok-domain-in-None.ensures.group
-    ∙ put_insert change q key es (c.in_ok-domain-in-None.ensures.domain ∙ sym domain) c.in-None.ensures.value
-    ∙ ap (λ t. put_at change t (texts_of es)) domain
+    record {
+      absent = ap (λ m. group_position (domain_text c.args.row.row.domain) (texts_of m.entries)) c.get_mut.follows.holds-at-none
+          ∙ ap (λ t. group_position t (texts_of es)) (sym domain) ∙ position_none q es c.in-None.ensures.value;
+    }
+
+pub returns-in-None-clause-added : goal.returns-in-None-clause-added
+returns-in-None-clause-added c =
+    on_ok_map c.add_domain.result
+    (λ added. added ∙ ap (λ m. put_items c.args.row.row c.args.row.number (texts_of m.entries)) c.get_mut.follows.holds-at-none)
+    c.add_domain.ensures.added
+
+pub returns-in-None-clause-unchanged : goal.returns-in-None-clause-unchanged
+returns-in-None-clause-unchanged c =
+    on_err_map c.add_domain.result (λ same. same ∙ ap (λ m. texts_of m.entries) c.get_mut.follows.holds-at-none) c.add_domain.ensures.unchanged

@@ -1,13 +1,13 @@
-use Rattle.std.proofs.Common.{◌∙◌, sym, ap, Some, []}
+use Rattle.std.proofs.Common.{◌∙◌, sym, ap, Some}
 use Rattle.std.specs.Prelude.{is_none}
-use Rattle.std.specs.String.{string_eq}
 use Rattle.std.specs.Map.{set_value}
-use Rattle.indexmap.specs.IndexMap.{insert_entry}
 use Rattle.cookie_parts.specs.Cookie.{Row}
 use Rattle.cookie_parts.specs.Domain.{domain_text}
+use Rattle.cookie_lookup.specs.SearchView.{group_position}
 use Rattle.cookie_rows.specs.GroupChanges.{texts_of, put_at, found}
-use Rattle.cookie_rows.specs.Items.{find_item_paths, put_item_paths, Item}
-use Rattle.cookie_rows.proofs.Maps.{at_text, put_set, same_set, put_insert, found_some, found_none}
+use Rattle.cookie_rows.specs.Items.{find_item_paths, put_item_paths, put_items, Item}
+use Rattle.cookie_rows.proofs.DomainMaps.{position_none}
+use Rattle.cookie_rows.proofs.Maps.{at_text, put_set, same_set, found_some, found_none}
 use Rattle.cookie_rows.proofs.Results.{on_ok_map, on_err_map, if_ok_map, either_way}
 use Rattle.cookie_rows.proofs.domains.put_row.Goals as goal
 
@@ -50,45 +50,47 @@ returns-in-Some-clause-memory c =
     (λ none. sym (found_some named q es c.in-Some.group.now c.in-Some.ensures.value ∙ ap (λ t. found named t (texts_of es)) domain) ∙ none)
     c.put.ensures.memory
 
-pub returns-in_err-row-in-None-clause-memory : goal.returns-in_err-row-in-None-clause-memory
-returns-in_err-row-in-None-clause-memory c =
+pub returns-in_err-new-in-None-clause-memory : goal.returns-in_err-new-in-None-clause-memory
+returns-in_err-new-in-None-clause-memory c =
     let es = c.args.groups.now.entries in
     let domain = c.as_str.ensures ∙ ap (λ (r : Row). domain_text r.domain) c.cookie.view_is in
     let named = find_item_paths c.args.cookie.path.text c.args.cookie.raw.name in
     either_way c.from_residual.result (sym (found_none named c.as_str.result.now es c.in-None.ensures.value ∙ ap (λ t. found named t (texts_of es)) domain))
 
-pub returns-in_err-domain-in-None-clause-memory : goal.returns-in_err-domain-in-None-clause-memory
-returns-in_err-domain-in-None-clause-memory c =
-    let es = c.args.groups.now.entries in
-    let domain = c.as_str.ensures ∙ ap (λ (r : Row). domain_text r.domain) c.cookie.view_is in
-    let named = find_item_paths c.args.cookie.path.text c.args.cookie.raw.name in
-    either_way c.from_residual-in_err-domain-in-None.result
-    (sym (found_none named c.as_str.result.now es c.in-None.ensures.value ∙ ap (λ t. found named t (texts_of es)) domain))
-
-pub returns-in_err-insert-in-None-clause-memory : goal.returns-in_err-insert-in-None-clause-memory
-returns-in_err-insert-in-None-clause-memory c =
-    let es = c.args.groups.now.entries in
-    let domain = c.as_str.ensures ∙ ap (λ (r : Row). domain_text r.domain) c.cookie.view_is in
-    let named = find_item_paths c.args.cookie.path.text c.args.cookie.raw.name in
-    either_way c.from_residual-in_err-insert-in-None.result
-    (sym (found_none named c.as_str.result.now es c.in-None.ensures.value ∙ ap (λ t. found named t (texts_of es)) domain))
-
-pub returns-in_ok-insert-in-None-clause-put : goal.returns-in_ok-insert-in-None-clause-put
-returns-in_ok-insert-in-None-clause-put c =
+pub add_domain-requires : goal.add_domain-requires
+add_domain-requires c =
     let es = c.args.groups.now.entries in
     let q = c.as_str.result.now in
     let domain = c.as_str.ensures ∙ ap (λ (r : Row). domain_text r.domain) c.cookie.view_is in
-    let change = put_item_paths c.args.cookie c.args.number in
-    let row = c.in_ok-row-in-None.ensures in
-    let key = c.in_ok-domain-in-None.domain in
-    ap texts_of c.in_ok-insert-in-None.ensures.entries
-    ∙ ap (λ m. texts_of (insert_entry string_eq m.entries key c.in_ok-domain-in-None.group)) c.get_mut.follows.holds-at-none
-    ∙ ap (λ v. texts_of (insert_entry string_eq es key v)) (c.in_ok-domain-in-None.ensures.group ∙ ap (λ (i : Item). put_item_paths i.row i.number []) row)
-    ∙ put_insert change q key es (c.in_ok-domain-in-None.ensures.domain ∙ ap (λ (i : Item). domain_text i.row.domain) row ∙ sym domain) c.in-None.ensures.value
-    ∙ ap (λ t. put_at change t (texts_of es)) domain
+    let row = c.in_ok-new-in-None.ensures in
+    record {
+      absent = ap (λ (i : Item). group_position (domain_text i.row.domain) (texts_of c.get_mut.follows.lender-at-none.entries)) row
+          ∙ ap (λ m. group_position (domain_text c.args.cookie.domain) (texts_of m.entries)) c.get_mut.follows.holds-at-none
+          ∙ ap (λ t. group_position t (texts_of es)) (sym domain) ∙ position_none q es c.in-None.ensures.value;
+    }
 
-pub returns-in_ok-insert-in-None-clause-is_new : goal.returns-in_ok-insert-in-None-clause-is_new
-returns-in_ok-insert-in-None-clause-is_new c =
+pub returns-in_err-add_domain-in-None-clause-memory : goal.returns-in_err-add_domain-in-None-clause-memory
+returns-in_err-add_domain-in-None-clause-memory c =
+    let es = c.args.groups.now.entries in
+    let domain = c.as_str.ensures ∙ ap (λ (r : Row). domain_text r.domain) c.cookie.view_is in
+    let named = find_item_paths c.args.cookie.path.text c.args.cookie.raw.name in
+    either_way c.from_residual-in_err-add_domain-in-None.result
+    (sym (found_none named c.as_str.result.now es c.in-None.ensures.value ∙ ap (λ t. found named t (texts_of es)) domain))
+
+pub returns-in_err-add_domain-in-None-clause-unchanged : goal.returns-in_err-add_domain-in-None-clause-unchanged
+returns-in_err-add_domain-in-None-clause-unchanged c =
+    either_way c.from_residual-in_err-add_domain-in-None.result
+    (c.in_err-add_domain-in-None.ensures.unchanged ∙ ap (λ m. texts_of m.entries) c.get_mut.follows.holds-at-none)
+
+pub returns-in_ok-add_domain-in-None-clause-put : goal.returns-in_ok-add_domain-in-None-clause-put
+returns-in_ok-add_domain-in-None-clause-put c =
+    let row = c.in_ok-new-in-None.ensures in
+    c.in_ok-add_domain-in-None.ensures.added
+    ∙ ap (λ m. put_items c.in_ok-new-in-None.field-0.row c.in_ok-new-in-None.field-0.number (texts_of m.entries)) c.get_mut.follows.holds-at-none
+    ∙ ap (λ (i : Item). put_items i.row i.number (texts_of c.args.groups.now.entries)) row
+
+pub returns-in_ok-add_domain-in-None-clause-is_new : goal.returns-in_ok-add_domain-in-None-clause-is_new
+returns-in_ok-add_domain-in-None-clause-is_new c =
     let es = c.args.groups.now.entries in
     let domain = c.as_str.ensures ∙ ap (λ (r : Row). domain_text r.domain) c.cookie.view_is in
     let named = find_item_paths c.args.cookie.path.text c.args.cookie.raw.name in

@@ -1,5 +1,5 @@
-use Rattle.std.proofs.Common.{◌≡◌, ◌∙◌, sym, ap, Some, None, position}
-use Rattle.cookie_rows.specs.Items.{Item, is_item_named}
+use Rattle.std.proofs.Common.{◌∙◌, sym, ap, Some}
+use Rattle.cookie_rows.specs.Items.{Item}
 use Rattle.cookie_rows.proofs.NamedItems.{row_at, no_row}
 use Rattle.cookie_rows.proofs.name_list.row_among.Goals as goal
 

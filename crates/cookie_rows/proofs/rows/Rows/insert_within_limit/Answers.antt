@@ -47,6 +47,10 @@ insert_row_within_limit-requires-clause-new c =
     ap (λ (i : Item). find_items (key_of i.row) gs) c.in_ok-row.ensures ∙ found_items n gs c.self.invariant key
     ∙ ap (λ (k : RowsInOrder). row_of key k.rows) c.self.view_is ∙ c.requires.new
 
+pub insert_row_within_limit-requires-clause-numbered : goal.insert_row_within_limit-requires-clause-numbered
+insert_row_within_limit-requires-clause-numbered c =
+    subst (λ (i : Item). AreItems i.number (texts_of c.self.inside.groups.entries)) (sym c.in_ok-row.ensures) c.self.invariant
+
 pub invariant_of-self-in-Some-limit : goal.invariant_of-self-in-Some-limit
 invariant_of-self-in-Some-limit c =
     let n = c.self.inside.created in

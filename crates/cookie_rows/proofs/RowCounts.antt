@@ -1,0 +1,140 @@
+-- How many rows there are after a row is stored and others are evicted.
+use Rattle.std.proofs.Common.{◌≡◌, ℕ, zero, suc, ◌+◌, ◌≤◌, Bool, List, [], ◌∷◌, ◌++◌, filter, length, map, take, slice_get, Some, None, refl, sym, ◌∙◌, ap, inl, inr, bytes_eq, arith, length-append}
+use Rattle.std.specs.Prelude.{String, string_bytes}
+use Rattle.std.specs.Map.{lookup, set_value}
+use Rattle.std.proofs.lemmas.Bool.{cases_Bool}
+use Rattle.std.proofs.lemmas.List.{length_push}
+use Rattle.std.proofs.lemmas.List.Folds.{flat_map-map}
+use Rattle.std.proofs.lemmas.List.Sorted.{length_permutation}
+use Rattle.cookie_parts.specs.Cookie.{Row}
+use Rattle.cookie_parts.specs.Domain.{domain_text}
+use Rattle.cookie_laws.specs.Rows.{key_of}
+use Rattle.cookie_lookup.specs.SearchView.{under}
+use Rattle.cookie_rows.specs.GroupChanges.{texts_of}
+use Rattle.cookie_rows.specs.Items.{Item, ItemGroups, ItemPaths, find_item_paths, find_items, joined, put_item, put_item_paths, put_items}
+use Rattle.cookie_rows.specs.Eviction.{filter_paths, moved_to_end_if}
+use Rattle.cookie_rows.specs.Least.{items_in_groups, items_in_paths, without_at}
+use Rattle.cookie_rows.proofs.Maps.{at_text}
+use Rattle.cookie_rows.proofs.StoredThenEvicted.{passing_kept, put_last}
+use Rattle.cookie_rows.proofs.WithoutAt.{rows_moved, rows_unless}
+
+-- the rows of the groups in front of one, and of that one, are no more than all
+pub count_so_far : (groups : List (List Item)) (n : ℕ) (xs : List Item) → slice_get groups n ≡ Some xs → length (joined (take n groups)) + length xs ≤ length (joined groups)
+count_so_far [] n xs there = absurd (cc)
+count_so_far (g ∷ groups) zero xs there = let same : g ≡ xs = cc in omega (arith, ap length same, length-append g (joined groups))
+count_so_far (g ∷ groups) (suc n) xs there = omega (arith, length-append g (joined (take n groups)), length-append g (joined groups), count_so_far groups n xs there)
+
+-- the rows of the groups of a domain without their paths
+pub count_joined : (ps : ItemPaths) → length (joined (map (λ p. p.1) ps)) ≡ length (items_in_paths ps)
+count_joined ps = ap length (flat_map-map (λ (items : List Item). items) (λ (p : List ℕ × List Item). p.1) ps)
+
+-- the number of rows of a domain
+abbrev pub path_count : ItemPaths → ℕ
+path_count ps = length (items_in_paths ps)
+
+-- of one group more
+count_cons : (text : List ℕ) (xs : List Item) (ps : ItemPaths) → path_count ((text, xs) ∷ ps) ≡ length xs + path_count ps
+count_cons text xs ps = length-append xs (items_in_paths ps)
+
+-- after a new row is stored
+pub count_put : (row : Row) (n : ℕ) (ps : ItemPaths) → find_item_paths row.path.text row.raw.name ps ≡ None → path_count (put_item_paths row n ps) ≡ path_count ps + 1
+count_put row n [] none = refl
+count_put row n (p ∷ ps) none = elim (cases_Bool (bytes_eq row.path.text p.0)) [
+  | inl e ↦
+      let more : length (put_item row n p.1) ≡ length p.1 + 1 = ap length (put_last row n p.1 (rw e at none)) ∙ length_push p.1 (record { row = row; number = n }) in
+      rw e (omega (arith, count_cons p.0 (put_item row n p.1) ps, count_cons p.0 p.1 ps, more))
+  | inr e ↦
+      let more = count_put row n ps (rw e at none) in
+      rw e (omega (arith, count_cons p.0 p.1 (put_item_paths row n ps), count_cons p.0 p.1 ps, more))
+]
+
+-- a group at the end
+count_last : (ps : ItemPaths) (p : List ℕ × List Item) → path_count (ps ++ p ∷ []) ≡ length p.1 + path_count ps
+count_last [] p = count_cons p.0 p.1 []
+count_last (q ∷ ps) p = omega (arith, count_cons q.0 q.1 (ps ++ p ∷ []), count_cons q.0 q.1 ps, count_last ps p)
+
+-- after a group is moved to the end
+pub count_moved : (alone : List Item → Bool) (text : List ℕ) (ps : ItemPaths) → path_count (moved_to_end_if alone text ps) ≡ path_count ps
+count_moved alone text [] = refl
+count_moved alone text (p ∷ ps) = elim (cases_Bool (bytes_eq text p.0)) [
+  | inl e ↦ elim (cases_Bool (alone p.1)) [
+    | inl a ↦ rw (e, a) (count_last ps p ∙ sym (count_cons p.0 p.1 ps))
+    | inr a ↦ rw (e, a) refl
+  ]
+  | inr e ↦ rw e (omega (arith, count_cons p.0 p.1 (moved_to_end_if alone text ps), count_cons p.0 p.1 ps, count_moved alone text ps))
+]
+
+-- a filter leaves no more
+fewer : (test : Item → Bool) (xs : List Item) → length (filter test xs) ≤ length xs
+fewer test [] = omega arith
+fewer test (x ∷ xs) = elim (cases_Bool (test x)) [ inl e ↦ rw e (omega (arith, fewer test xs)) | inr e ↦ rw e (omega (arith, fewer test xs)) ]
+
+count_filtered : (test : Item → Bool) (ps : ItemPaths) → path_count (filter_paths test ps) ≤ path_count ps
+count_filtered test [] = omega arith
+count_filtered test (p ∷ ps) =
+    let rest = filter_paths test ps in
+    let all : path_count (filter_paths test (p ∷ ps)) ≡ length (filter test p.1) + path_count rest
+    = ap path_count (passing_kept test p ps) ∙ ap length (rows_unless p.0 (filter test p.1) rest) ∙ length-append (filter test p.1) (items_in_paths rest) in
+    omega (arith, all, count_cons p.0 p.1 ps, fewer test p.1, count_filtered test ps)
+
+-- so when rows are evicted for a new one there is at most one more
+pub count_evicted : (row : Row) (n : ℕ) (ps : ItemPaths) (test : Item → Bool) → find_item_paths row.path.text row.raw.name ps ≡ None → path_count (filter_paths test (put_item_paths row n ps)) ≤ path_count ps + 1
+count_evicted row n ps test none = omega (arith, count_filtered test (put_item_paths row n ps), count_put row n ps none)
+
+-- without the row at a position
+pub count_without : (ps : ItemPaths) (place index : ℕ) (x : Item) → slice_get (under place ps) index ≡ Some x → path_count (without_at place index ps) + 1 ≡ path_count ps
+count_without ps place index x there =
+    omega (arith, length_permutation (items_in_paths ps) (x ∷ items_in_paths (without_at place index ps)) (rows_moved ps place index x there))
+
+-- the number of rows of all domains
+abbrev pub group_count : ItemGroups → ℕ
+group_count gs = length (items_in_groups gs)
+
+-- of one domain more
+groups_cons : (d : List ℕ) (ps : ItemPaths) (gs : ItemGroups) → group_count ((d, ps) ∷ gs) ≡ path_count ps + group_count gs
+groups_cons d ps gs = length-append (items_in_paths ps) (items_in_groups gs)
+
+-- a domain at the end
+groups_last : (gs : ItemGroups) (g : List ℕ × ItemPaths) → group_count (gs ++ g ∷ []) ≡ path_count g.1 + group_count gs
+groups_last [] g = groups_cons g.0 g.1 []
+groups_last (h ∷ gs) g = omega (arith, groups_cons h.0 h.1 (gs ++ g ∷ []), groups_cons h.0 h.1 gs, groups_last gs g)
+
+-- after a domain is moved to the end
+pub groups_moved : (alone : ItemPaths → Bool) (text : List ℕ) (gs : ItemGroups) → group_count (moved_to_end_if alone text gs) ≡ group_count gs
+groups_moved alone text [] = refl
+groups_moved alone text (g ∷ gs) = elim (cases_Bool (bytes_eq text g.0)) [
+  | inl e ↦ elim (cases_Bool (alone g.1)) [
+    | inl a ↦ rw (e, a) (groups_last gs g ∙ sym (groups_cons g.0 g.1 gs))
+    | inr a ↦ rw (e, a) refl
+  ]
+  | inr e ↦ rw e (omega (arith, groups_cons g.0 g.1 (moved_to_end_if alone text gs), groups_cons g.0 g.1 gs, groups_moved alone text gs))
+]
+
+-- after a new row is stored
+pub groups_put : (row : Row) (n : ℕ) (gs : ItemGroups) → find_items (key_of row) gs ≡ None → group_count (put_items row n gs) ≡ group_count gs + 1
+groups_put row n [] none = refl
+groups_put row n (g ∷ gs) none = elim (cases_Bool (bytes_eq (domain_text row.domain) g.0)) [
+  | inl e ↦ rw e (omega (arith, groups_cons g.0 (put_item_paths row n g.1) gs, groups_cons g.0 g.1 gs, count_put row n g.1 (rw e at none)))
+  | inr e ↦ rw e (omega (arith, groups_cons g.0 g.1 (put_items row n gs), groups_cons g.0 g.1 gs, groups_put row n gs (rw e at none)))
+]
+
+-- after the groups of a domain are written
+groups_set : {A : Type 0} (d : List ℕ) (es : List (String A × ItemPaths)) (old new : ItemPaths) → Some old ≡ lookup (at_text d) es
+    → group_count (texts_of (set_value (at_text d) es new)) + path_count old ≡ group_count (texts_of es) + path_count new
+groups_set d [] old new there = absurd (cc)
+groups_set d (e ∷ es) old new there = elim (cases_Bool (at_text d e.0)) [
+  | inl t ↦
+      let there' = rw t at there in
+      let same : old ≡ e.1 = cc in
+      let text = string_bytes e.0 in
+      rw t (omega (arith, groups_cons text new (texts_of es), groups_cons text e.1 (texts_of es), ap path_count same))
+  | inr t ↦
+      let there' = rw t at there in
+      let text = string_bytes e.0 in
+      rw t (omega (arith, groups_cons text e.1 (texts_of (set_value (at_text d) es new)), groups_cons text e.1 (texts_of es), groups_set d es old new there'))
+]
+
+-- after rows of a domain are evicted for a new one
+pub groups_evicted : {A : Type 0} (d : List ℕ) (es : List (String A × ItemPaths)) (old new : ItemPaths) (evicted : ℕ) → Some old ≡ lookup (at_text d) es → path_count new + evicted ≡ path_count old + 1
+    → group_count (texts_of (set_value (at_text d) es new)) + evicted ≡ group_count (texts_of es) + 1
+groups_evicted d es old new evicted there counts = omega (arith, groups_set d es old new there, counts)
