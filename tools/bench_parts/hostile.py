@@ -101,6 +101,15 @@ def convert(size):
     return Task(lambda _: '', lambda _: lines, arguments=('--convert',), most=1)
 
 
+ORDERS = ('creation', 'reverse')
+
+
+def removing(order, hosts, least, per_host):
+    """`per_host` is a function of n."""
+    return Family(f'n sets, and n removals in {order} order, {hosts}', least,
+                  lambda n: repeated(NOW, sets(n, per_host(n)) + removals(n, per_host(n), order)))
+
+
 # A time grows faster than n while the cookies fall out of the processor's caches, so n is small or large enough.
 LINEAR = [
     Family('get, URL of n slashes, 120 parent domains with a cookie each', 10_000,
@@ -118,6 +127,7 @@ LINEAR = [
     Family('set, n attributes', 10_000, lambda n: set_one(f'c=1{"; a=b" * n}')),
     Family('set, date of n words', 10_000, lambda n: set_one(f'c=1; Expires={"x " * n}3 Aug 2100 00:38:37')),
     Family('n lines of JSON by --convert', 5000, convert, has_peer=False),
+    *(removing(order, 'a host each', 10_000, lambda n: 1) for order in ORDERS),
 ]
 
 # For a strict store of the C library.
@@ -135,15 +145,8 @@ def colliding(program, least=100):
                   lambda n: repeated(NOW, ''.join(lines[:n]) + CLEAR))
 
 
-def removing(order, hosts, per_host):
-    """`per_host` is a function of n."""
-    return Family(f'n sets, and n removals in {order} order, {hosts}', 2500,
-                  lambda n: repeated(NOW, sets(n, per_host(n)) + removals(n, per_host(n), order)))
-
-
-# In creation order and in its reverse, by the number of hosts.
-REMOVALS = {hosts: [removing(order, hosts, per_host) for order in ('creation', 'reverse')]
-            for hosts, per_host in (('one host', lambda n: n), ('a host each', lambda n: 1))}
+# Of cookies of one host.
+REMOVALS = [removing(order, 'one host', 2500, lambda n: n) for order in ORDERS]
 AT_LIMIT = Family('set, host at its limit of n cookies', 1000, set_at_limit, has_peer=False)
 
 

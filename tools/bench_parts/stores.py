@@ -140,23 +140,21 @@ long, the exponent is that from n to 4n. `-` was not measured.'''
     return result
 
 
-def compare_orders(hosts, grown):
+def compare_orders(grown):
     """How many times as long removals in creation order take as those in reverse order."""
     (family, in_order), (_, reverse) = grown
     factors = [f'{number(times[-1] / reverse[name][-1])} ({name})' for name, times in in_order.items()
                if len(times) == len(reverse[name]) == 3]
-    cookies = f'{family.sizes()[-1]:,} cookies ({hosts})'
-    return f'With {cookies}, creation order took longer by a factor of {" and ".join(factors)}.'
+    return f'With {family.sizes()[-1]:,} cookies, creation order took longer by a factor of {" and ".join(factors)}.'
 
 
 def explained_table(meter, own, *peers):
-    pairs = {hosts: hostile.measure(meter, own, *peers, families=pair) for hosts, pair in hostile.REMOVALS.items()}
+    removed = hostile.measure(meter, own, *peers, families=hostile.REMOVALS)
     at_limit = hostile.measure(meter, own, *peers, families=[hostile.AT_LIMIT])
-    note = '''Milliseconds, as above. [DECISIONS.md](DECISIONS.md) says why: a removal keeps the order of its map, so it
-shifts the entries behind it, and a set at the limit looks at all cookies of the host. A removal in reverse order
-shifts nothing. ''' + ' '.join(compare_orders(*pair) for pair in pairs.items())
-    grown = [*(each for pair in pairs.values() for each in pair), *at_limit]
-    return growth_table('Growth that a decision explains', note, grown, own, *peers)
+    note = '''Milliseconds, as above. [DECISIONS.md](DECISIONS.md) says why: a removal shifts what lies behind it in the
+map of its host or path, and a set at the limit looks at all cookies of the host. A removal in reverse order shifts
+nothing. ''' + compare_orders(removed)
+    return growth_table('Growth that a decision explains', note, [*removed, *at_limit], own, *peers)
 
 
 def chart_panels(took, measured):

@@ -113,7 +113,7 @@ pub all_append : (P : RowPosition → Type 0) (xs ys : List RowPosition) → All
 all_append P [] ys a b = b
 all_append P (x ∷ xs) ys a b = (a.0, all_append P xs ys a.1 b)
 
-pub all_weaker : (P Q : RowPosition → Type 0) → ((x : RowPosition) → P x → Q x) → (xs : List RowPosition) → AllByRecursion P xs → AllByRecursion Q xs
+pub all_weaker : {X : Type 0} (P Q : X → Type 0) → ((x : X) → P x → Q x) → (xs : List X) → AllByRecursion P xs → AllByRecursion Q xs
 all_weaker P Q w [] a = tt
 all_weaker P Q w (x ∷ xs) a = (w x a.0, all_weaker P Q w xs a.1)
 

@@ -4,6 +4,7 @@ use Rattle.std.specs.Prelude.{◌≢◌}
 use Rattle.std.specs.List.{AllByRecursion, sum_by, list_any, flat_map}
 use Rattle.std.specs.List.Sorted.{IsSortedBy}
 use Rattle.std.proofs.lemmas.List.Sums.{sum_by-cons}
+use Rattle.std.proofs.lemmas.List.Sorted.{sum_by-IsPermutation}
 use Rattle.std.proofs.lemmas.Bool.Decides.{nat_tests}
 use Rattle.url.specs.Parts.{Parts}
 use Rattle.cookie_words.specs.Moments.{Moment}
@@ -16,6 +17,7 @@ use Rattle.cookie_lookup.specs.Groups.{PathGroups, DomainGroups, AreGroups, AreP
 use Rattle.cookie_lookup.specs.SearchView.{RowPosition, row_positions, path_positions, domain_positions, given_positions, at_domain, how_many_found, of_host}
 use Rattle.cookie_lookup.specs.Positions.{SamePositions}
 use Rattle.cookie_lookup.proofs.Cuts.{bool_cases}
+use Rattle.cookie_lookup.proofs.PermutedPositions.{permutation_from_sums}
 use Rattle.cookie_lookup.proofs.HostTexts.{related_differ}
 use Rattle.cookie_lookup.proofs.PathTexts.{path_differ}
 use Rattle.cookie_lookup.proofs.Order.{Ascends, ascends_append, all_append, all_weaker, is_position_before, position_before_tests, sorted_is}
@@ -38,7 +40,7 @@ row_later d p n y h = position_before_tests y (d, p, n) ∙ grind (arith, nat_te
 path_later : (d p : ℕ) (x y : RowPosition) → FromRow d p 0 x → FromPath d (p + 1) y → is_position_before y x ≡ false
 path_later d p x y h k = position_before_tests y x ∙ grind (arith, nat_tests, h.0, h.1, k.0, k.1)
 
-domain_later : (d : ℕ) (x y : RowPosition) → FromPath d 0 x → FromDomain (d + 1) y → is_position_before y x ≡ false
+pub domain_later : (d : ℕ) (x y : RowPosition) → FromPath d 0 x → FromDomain (d + 1) y → is_position_before y x ≡ false
 domain_later d x y h k = position_before_tests y x ∙ grind (arith, nat_tests, h.0, k)
 
 module _ (test : Row → Bool) where
@@ -56,14 +58,14 @@ module _ (test : Row → Bool) where
         | inr e ↦ rw e (rows_ascend d p (n + 1) rows)
       ]
 
-  paths_from : (d p : ℕ) (paths : PathGroups) → AllByRecursion (FromPath d p) (path_positions test d p paths)
+  pub paths_from : (d p : ℕ) (paths : PathGroups) → AllByRecursion (FromPath d p) (path_positions test d p paths)
   paths_from d p [] = tt
   paths_from d p (g ∷ gs) =
       all_append (FromPath d p) (row_positions test d p 0 g.1) (path_positions test d (p + 1) gs)
       (all_weaker (FromRow d p 0) (FromPath d p) (λ s h. (h.0, omega (arith, h.1))) (row_positions test d p 0 g.1) (rows_from d p 0 g.1))
       (all_weaker (FromPath d (p + 1)) (FromPath d p) (λ s h. (h.0, omega (arith, h.1))) (path_positions test d (p + 1) gs) (paths_from d (p + 1) gs))
 
-  paths_ascend : (d p : ℕ) (paths : PathGroups) → Ascends (path_positions test d p paths)
+  pub paths_ascend : (d p : ℕ) (paths : PathGroups) → Ascends (path_positions test d p paths)
   paths_ascend d p [] = tt
   paths_ascend d p (g ∷ gs) =
       ascends_append (FromRow d p 0) (FromPath d (p + 1)) (path_later d p) (row_positions test d p 0 g.1) (path_positions test d (p + 1) gs)
@@ -92,10 +94,6 @@ module _ (test : Row → Bool) where
   no_paths_pass d p [] a = refl
   no_paths_pass d p (g ∷ gs) a = rw (none_pass d p 0 g.1 a.0, no_paths_pass d (p + 1) gs a.1) refl
 
-all_rows : (P Q : Row → Type 0) → ((row : Row) → P row → Q row) → (rows : List Row) → AllByRecursion P rows → AllByRecursion Q rows
-all_rows P Q w [] a = tt
-all_rows P Q w (x ∷ xs) a = (w x a.0, all_rows P Q w xs a.1)
-
 fails : (b c : Bool) → (b ≡ true → c ≡ true) → c ≡ false → b ≡ false
 fails true c h k = absurd (cc (h refl))
 fails false c h k = refl
@@ -114,7 +112,7 @@ module _ (url : Parts) (now : Moment) (row_filter : AreCandidates url now) where
     missed_paths domain d [] a = tt
     missed_paths domain d (g ∷ gs) a = (
       λ none k. ap (sum_by f) (none_pass (is_given url now) d k 0 g.1
-          (all_rows (λ row. (domain_text row.domain ≡ domain) × (row.path.text ≡ g.0)) (λ row. is_given url now row ≡ false)
+          (all_weaker (λ row. (domain_text row.domain ≡ domain) × (row.path.text ≡ g.0)) (λ row. is_given url now row ≡ false)
           (λ row is. fails (is_given url now row) (list_any (bytes_eq row.path.text) (candidate_paths url.path)) (λ h. (row_filter row h).1) (subst (λ t. list_any (bytes_eq t) (candidate_paths url.path) ≡ false) (sym is.1) none)) g.1 a.0.1)),
       missed_paths domain d gs a.1,
     )
@@ -128,7 +126,7 @@ module _ (url : Parts) (now : Moment) (row_filter : AreCandidates url now) where
         → AllByRecursion (λ g. AllByRecursion (λ row. is_given url now row ≡ false) g.1) paths
     none_due host e domain none [] a = tt
     none_due host e domain none (g ∷ gs) a = (
-      all_rows (λ row. (domain_text row.domain ≡ domain) × (row.path.text ≡ g.0)) (λ row. is_given url now row ≡ false)
+      all_weaker (λ row. (domain_text row.domain ≡ domain) × (row.path.text ≡ g.0)) (λ row. is_given url now row ≡ false)
           (λ row is. fails (is_given url now row) (list_any (bytes_eq (domain_text row.domain)) (candidate_domains host)) (given_domain host e row) (subst (λ t. list_any (bytes_eq t) (candidate_domains host) ≡ false) (sym is.0) none)) g.1 a.0.1,
       none_due host e domain none gs a.1,
     )
@@ -145,12 +143,12 @@ module _ (url : Parts) (now : Moment) (row_filter : AreCandidates url now) where
         domains_agree (is_given url now) f (candidate_domains host) (candidate_paths url.path) groups (related_differ host) a.0
         (missed_domains host e groups a.1 (agree groups a.1)) (agree groups a.1)
 
-  -- what is found is sorted into what a walk gives
-  pub found_sorted : (host : List ℕ) → Some host ≡ host_of url → (groups : DomainGroups) → AreGroups groups → (unsorted sorted : List RowPosition)
-      → SamePositions unsorted (flat_map (at_domain (is_given url now) groups (candidate_paths url.path)) (candidate_domains host)) → IsPermutation unsorted sorted → IsSortedBy is_position_before sorted
-      → sorted ≡ given_positions url now groups
-  found_sorted host e groups a unsorted sorted u p up =
-      sorted_is unsorted sorted (given_positions url now groups) (λ f. u f ∙ same_sums f host (sym e) groups a) (domains_ascend (is_given url now) 0 groups) p up
+  -- what is found is what a walk gives, in any order
+  pub found_in_any_order : (host : List ℕ) → Some host ≡ host_of url → (groups : DomainGroups) → AreGroups groups → (positions : List RowPosition)
+      → SamePositions positions (flat_map (at_domain (is_given url now) groups (candidate_paths url.path)) (candidate_domains host))
+      → IsPermutation (given_positions url now groups) positions
+  found_in_any_order host e groups a positions same =
+      permutation_from_sums (given_positions url now groups) positions (λ f. sym (same f ∙ same_sums f host (sym e) groups a))
 
   -- without a host nothing is due
   none_given : None ≡ host_of url → (row : Row) → is_given url now row ≡ false
@@ -180,6 +178,13 @@ module _ (url : Parts) (now : Moment) (row_filter : AreCandidates url now) where
       nothing : (xs : List RowPosition) → sum_by (λ _. 1) xs ≡ 0 → xs ≡ []
       nothing [] z = refl
       nothing (x ∷ xs) z = absurd (omega (arith, z, sum_by-cons (λ (_ : RowPosition). 1) x xs))
+
+-- what is found in any order is sorted into what a walk gives
+pub found_sorted : (url : Parts) (now : Moment) (groups : DomainGroups) (unsorted sorted : List RowPosition)
+    → IsPermutation (given_positions url now groups) unsorted → IsPermutation unsorted sorted → IsSortedBy is_position_before sorted → sorted ≡ given_positions url now groups
+found_sorted url now groups unsorted sorted moved p up =
+    let all = given_positions url now groups in
+    sorted_is unsorted sorted all (λ f. sum_by-IsPermutation f all unsorted moved) (domains_ascend (is_given url now) 0 groups) p up
 
 -- what was added to none
 pub from_none : (old new more : List RowPosition) → SamePositions new (old ++ more) → old ≡ [] → SamePositions new more

@@ -1,5 +1,6 @@
 //! Finds the rows of a URL.
 ghost use Rattle.std.specs.List.{flat_map};
+ghost use Rattle.std.specs.List.Sorted.{IsPermutation};
 ghost use Rattle.std.specs.Prelude.{◌≡◌, ◌≢◌, ◌≤◌, ◌<◌, ◌+◌, ◌*◌, ◌^◌, [], ◌++◌, ◌∷◌, length, IfOk, OnErr, OnOk, Some};
 ghost use Rattle.cookie_words.specs.Moments.{moment_of};
 ghost use Rattle.cookie_laws.specs.Given.{is_given};
@@ -48,11 +49,13 @@ pub fn found<S: Search>(
         (how_many_pairs_found (S.view_of search.old).groups (candidate_paths url.now.path) (url_candidate_domains url.now) ≤ (S.view_of search.new).paths) }
     ensures memory { OnErr result (given_positions url.now (moment_of now) (S.view_of search.old).groups ≢ []) }
 {
-    found_by::<S, ByLookup>(alloc, search, url, now)
+    let mut positions = found_by::<S, ByLookup>(alloc, search, url, now)?;
+    positions.sort_unstable();
+    Ok(positions)
 }
 
-/// Returns the positions of the rows given for `url` at `now`, RFC 6265 5.4, in the order of the
-/// rows, as [`found`] does.
+/// Returns the positions of the rows given for `url` at `now`, RFC 6265 5.4, as [`found`] does, but
+/// in any order.
 ///
 /// Takes time proportional to the length of the URL, the number of stored domains and their
 /// lengths, and what is stored under the domains that are found. To that end it walks over the
@@ -70,7 +73,7 @@ pub fn found_listed<S: ListedSearch>(
 ) -> Result<Vec<(usize, usize, usize)>, AllocError>
     requires domains { (S.view_of search.old).domains ≡ 0 }
     requires paths { (S.view_of search.old).paths ≡ 0 }
-    ensures positions { IfOk result (λ positions. positions.items ≡ given_positions url.now (moment_of now) (S.view_of search.old).groups) }
+    ensures positions { IfOk result (λ positions. IsPermutation (given_positions url.now (moment_of now) (S.view_of search.old).groups) positions.items) }
     ensures groups { (S.view_of search.new).groups ≡ (S.view_of search.old).groups }
     ensures domains { (S.view_of search.new).domains ≤ most_domains url.now }
     ensures paths { (S.view_of search.new).paths
@@ -83,7 +86,7 @@ pub fn found_listed<S: ListedSearch>(
     found_by::<S, ByListing>(alloc, search, url, now)
 }
 
-// Finds the positions; `D` is how the domains are searched.
+// Finds the positions, in any order; `D` is how the domains are searched.
 fn found_by<S: Search, D: DomainSearch<S>>(
     alloc: Global,
     search: &mut S,
@@ -92,7 +95,7 @@ fn found_by<S: Search, D: DomainSearch<S>>(
 ) -> Result<Vec<(usize, usize, usize)>, AllocError>
     requires domains { (S.view_of search.old).domains ≡ 0 }
     requires paths { (S.view_of search.old).paths ≡ 0 }
-    ensures positions { IfOk result (λ positions. positions.items ≡ given_positions url.now (moment_of now) (S.view_of search.old).groups) }
+    ensures positions { IfOk result (λ positions. IsPermutation (given_positions url.now (moment_of now) (S.view_of search.old).groups) positions.items) }
     ensures groups { (S.view_of search.new).groups ≡ (S.view_of search.old).groups }
     ensures domains { (S.view_of search.new).domains ≤ most_domains url.now }
     ensures paths { (S.view_of search.new).paths
@@ -111,7 +114,6 @@ fn found_by<S: Search, D: DomainSearch<S>>(
         let _ = host.as_bytes();
         let _ = url.path().as_bytes();
         D::push_domains(search, host, url, now, &mut positions)?;
-        positions.sort_unstable();
     }
     Ok(positions)
 }

@@ -6,6 +6,7 @@ pub mod Bare
 pub mod BareGroups
 pub mod Built
 pub mod ByNumber
+pub mod ByPlace
 pub mod ChosenRank
 pub mod Copies
 pub mod Created
@@ -29,6 +30,8 @@ pub mod NamedScopes
 pub mod NumberedPuts
 pub mod NumberedTakes
 pub mod Ordered
+pub mod OrderedDomains
+pub mod PlacedDomains
 pub mod Places
 pub mod Positions
 pub mod Puts

@@ -80,11 +80,6 @@ items_under [] n = refl
 items_under (g ∷ gs) zero = refl
 items_under (g ∷ gs) (suc n) = items_under gs n
 
-pub under_none : {A X : Type 0} (es : List (String A × List X)) (n : ℕ) → None ≡ slice_get es n → [] ≡ under n (texts_of es)
-under_none [] n h = refl
-under_none (e ∷ es) zero h = absurd (cc)
-under_none (e ∷ es) (suc n) h = under_none es n h
-
 -- the name at a position
 pub text_is : {A X : Type 0} (es : List (String A × X)) (n : ℕ) (k : String A) (v : X) → slice_get es n ≡ Some (k, v) → Some (string_bytes k) ≡ slice_get (map (λ p. p.0) (texts_of es)) n
 text_is [] n k v h = absurd (omega (arith, slice_get_within [] n (k, v) h))

@@ -1,5 +1,6 @@
 -- What an unknown result implies.
-use Rattle.std.proofs.Common.{IfOk, IsOk, Result, Ok, Err, OnOk, OnErr}
+use Rattle.std.proofs.Common.{◌≡◌, IfOk, IsOk, Option, None, Some, Result, Ok, Err, OnOk, OnErr}
+use Rattle.std.specs.Option.{OnSome}
 
 -- what follows from what holds after success
 pub on_ok_map : {T E P Q : Type 0} (r : Result T E) → (P → Q) → OnOk r P → OnOk r Q
@@ -30,3 +31,8 @@ either_way (Err e) p = p
 pub ok_or_err : {T E P Q R : Type 0} (r : Result T E) → OnOk r P → OnErr r Q → (P → R) → (Q → R) → R
 ok_or_err (Ok x) p q f g = f p
 ok_or_err (Err e) p q f g = g q
+
+-- what holds at a value that is there
+pub known_some : {T P : Type 0} (o : Option T) {x : T} → o ≡ Some x → OnSome o P → P
+known_some None is h = absurd (cc)
+known_some (Some y) is h = h

@@ -10,3 +10,4 @@ pub mod SecureKeys
 pub mod Eviction
 pub mod Retained
 pub mod Least
+pub mod PlacedDomains

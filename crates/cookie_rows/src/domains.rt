@@ -1,6 +1,7 @@
 //! The groups of a store, by domain.
 ghost use Rattle.std.specs.Prelude.{◌≡◌, ◌≢◌, ◌+◌, ◌<◌, ℕ, true, ◌==◌, length, not, is_none, IfOk, None, OnErr, OnOk};
 ghost use Rattle.std.specs.Option.{option_copied};
+ghost use Rattle.ordered_map.specs.Entries.{entries};
 ghost use Rattle.cookie_words.specs.Moments.{moment_of};
 ghost use Rattle.cookie_parts.specs.Domain.{domain_text};
 ghost use Rattle.cookie_laws.specs.Rows.{key_at, key_of};
@@ -16,18 +17,18 @@ use crate::eviction_order::EvictionOrder;
 use crate::hashing::HashKey;
 use crate::paths::Paths;
 use cookie_parts::Cookie;
-use indexmap::IndexMap;
 use jiff::civil::DateTime;
+use ordered_map::OrderedMap;
 use std::alloc::{AllocError, Global};
 
 // Returns the row of this domain, path and name, if there is one.
 pub(crate) fn find_row<'a>(
-    groups: &'a IndexMap<String, Paths, HashKey>,
+    groups: &'a OrderedMap<Paths, HashKey>,
     domain: &str,
     path: &str,
     name: &str,
 ) -> Option<&'a Cookie<'static>>
-    ensures { option_copied result ≡ find_items (key_at domain.now path.now name.now) (texts_of groups.now.entries) }
+    ensures { option_copied result ≡ find_items (key_at domain.now path.now name.now) (texts_of (entries groups.now)) }
 {
     match groups.get(domain) {
         Some(group) => group.get(path, name),
@@ -36,25 +37,21 @@ pub(crate) fn find_row<'a>(
 }
 
 // Adds a group of this row alone: there is none of its domain.
-fn add_domain(
-    groups: &mut IndexMap<String, Paths, HashKey>,
-    row: BoxedCookie,
-) -> Result<(), AllocError>
-    requires absent { group_position (domain_text row.row.domain) (texts_of groups.old.entries) ≡ None }
-    ensures added { OnOk result (texts_of groups.new.entries ≡ put_items row.row row.number (texts_of groups.old.entries)) }
-    ensures unchanged { OnErr result (texts_of groups.new.entries ≡ texts_of groups.old.entries) }
+fn add_domain(groups: &mut OrderedMap<Paths, HashKey>, row: BoxedCookie) -> Result<(), AllocError>
+    requires absent { group_position (domain_text row.row.domain) (texts_of (entries groups.old)) ≡ None }
+    ensures added { OnOk result (texts_of (entries groups.new) ≡ put_items row.row row.number (texts_of (entries groups.old))) }
+    ensures unchanged { OnErr result (texts_of (entries groups.new) ≡ texts_of (entries groups.old)) }
 {
     let alloc = *groups.allocator();
     let domain = String::from_str(alloc, row.cookie().domain.as_str())?;
     let group = Paths::of_one(alloc, row)?;
-    groups.insert(domain, group)?;
-    Ok(())
+    groups.push(domain, group)
 }
 
 // Replaces the row of the cookie's key.
-pub(crate) fn replace_row(groups: &mut IndexMap<String, Paths, HashKey>, cookie: Cookie<'static>)
-    requires stored { find_items (key_of cookie) (texts_of groups.old.entries) ≢ None }
-    ensures { (number : ℕ) → texts_of groups.new.entries ≡ put_items cookie.entry number (texts_of groups.old.entries) }
+pub(crate) fn replace_row(groups: &mut OrderedMap<Paths, HashKey>, cookie: Cookie<'static>)
+    requires stored { find_items (key_of cookie) (texts_of (entries groups.old)) ≢ None }
+    ensures { (number : ℕ) → texts_of (entries groups.new) ≡ put_items cookie.entry number (texts_of (entries groups.old)) }
 {
     match groups.get_mut(cookie.domain.as_str()) {
         Some(group) => group.replace(cookie),
@@ -64,12 +61,12 @@ pub(crate) fn replace_row(groups: &mut IndexMap<String, Paths, HashKey>, cookie:
 
 // Adds the row to the group of its domain.
 pub(crate) fn add_row(
-    groups: &mut IndexMap<String, Paths, HashKey>,
+    groups: &mut OrderedMap<Paths, HashKey>,
     row: BoxedCookie,
 ) -> Result<(), AllocError>
-    requires new { find_items (key_of row.row) (texts_of groups.old.entries) ≡ None }
-    ensures added { OnOk result (texts_of groups.new.entries ≡ put_items row.row row.number (texts_of groups.old.entries)) }
-    ensures unchanged { OnErr result (texts_of groups.new.entries ≡ texts_of groups.old.entries) }
+    requires new { find_items (key_of row.row) (texts_of (entries groups.old)) ≡ None }
+    ensures added { OnOk result (texts_of (entries groups.new) ≡ put_items row.row row.number (texts_of (entries groups.old))) }
+    ensures unchanged { OnErr result (texts_of (entries groups.new) ≡ texts_of (entries groups.old)) }
 {
     let alloc = *groups.allocator();
     let hash_key = *groups.hasher();
@@ -83,14 +80,14 @@ pub(crate) fn add_row(
 // Returns whether the row is new.
 #[inline(always)]
 pub(crate) fn put_row(
-    groups: &mut IndexMap<String, Paths, HashKey>,
+    groups: &mut OrderedMap<Paths, HashKey>,
     cookie: Cookie<'static>,
     number: u64,
 ) -> Result<bool, AllocError>
-    ensures put { OnOk result (texts_of groups.new.entries ≡ put_items cookie.entry number (texts_of groups.old.entries)) }
-    ensures is_new { IfOk result (λ is_new. is_new ≡ is_none (find_items (key_of cookie.entry) (texts_of groups.old.entries))) }
-    ensures unchanged { OnErr result (texts_of groups.new.entries ≡ texts_of groups.old.entries) }
-    ensures memory { OnErr result (find_items (key_of cookie.entry) (texts_of groups.old.entries) ≡ None) }
+    ensures put { OnOk result (texts_of (entries groups.new) ≡ put_items cookie.entry number (texts_of (entries groups.old))) }
+    ensures is_new { IfOk result (λ is_new. is_new ≡ is_none (find_items (key_of cookie.entry) (texts_of (entries groups.old)))) }
+    ensures unchanged { OnErr result (texts_of (entries groups.new) ≡ texts_of (entries groups.old)) }
+    ensures memory { OnErr result (find_items (key_of cookie.entry) (texts_of (entries groups.old)) ≡ None) }
 {
     let alloc = *groups.allocator();
     let hash_key = *groups.hasher();
@@ -106,20 +103,20 @@ pub(crate) fn put_row(
 // Adds the row to the group of its domain, and evicts rows so that at most `limit` of the domain
 // are stored. Returns how many were evicted.
 pub(crate) fn insert_row_within_limit(
-    groups: &mut IndexMap<String, Paths, HashKey>,
+    groups: &mut OrderedMap<Paths, HashKey>,
     row: BoxedCookie,
     limit: usize,
     order: EvictionOrder,
     now: DateTime,
 ) -> Result<usize, AllocError>
     requires limit { 0 < limit }
-    requires numbered { AreItems row.number (texts_of groups.old.entries) }
-    requires new { find_items (key_of row.row) (texts_of groups.old.entries) ≡ None }
+    requires numbered { AreItems row.number (texts_of (entries groups.old)) }
+    requires new { find_items (key_of row.row) (texts_of (entries groups.old)) ≡ None }
     ensures inserted { OnOk result (InsertsInDomains limit order (moment_of now) row.row row.number
-        (texts_of groups.old.entries) (texts_of groups.new.entries)) }
-    ensures evicted { IfOk result (λ evicted. length (items_in_groups (texts_of groups.new.entries)) + evicted
-        ≡ length (items_in_groups (texts_of groups.old.entries)) + 1) }
-    ensures unchanged { OnErr result (texts_of groups.new.entries ≡ texts_of groups.old.entries) }
+        (texts_of (entries groups.old)) (texts_of (entries groups.new))) }
+    ensures evicted { IfOk result (λ evicted. length (items_in_groups (texts_of (entries groups.new))) + evicted
+        ≡ length (items_in_groups (texts_of (entries groups.old))) + 1) }
+    ensures unchanged { OnErr result (texts_of (entries groups.new) ≡ texts_of (entries groups.old)) }
 {
     let alloc = *groups.allocator();
     let hash_key = *groups.hasher();
@@ -143,21 +140,20 @@ pub(crate) fn insert_row_within_limit(
 }
 
 // Moves the group of this domain to the end, if it has a single row: all its old rows were evicted.
-fn move_domain_to_end(groups: &mut IndexMap<String, Paths, HashKey>, domain: &str)
-    ensures { texts_of groups.new.entries ≡ moved_to_end_if is_single_paths domain.now (texts_of groups.old.entries) }
+fn move_domain_to_end(groups: &mut OrderedMap<Paths, HashKey>, domain: &str)
+    ensures { texts_of (entries groups.new) ≡ moved_to_end_if is_single_paths domain.now (texts_of (entries groups.old)) }
 {
-    let Some((at, _, group)) = groups.get_full(domain) else {
+    let Some(group) = groups.get(domain) else {
         return;
     };
     if group.is_single() {
-        let last = groups.len() - 1;
-        groups.move_index(at, last);
+        groups.move_to_end(domain);
     }
 }
 
 // Expires the row of the cookie's key, if there is one.
-pub(crate) fn expire_row(groups: &mut IndexMap<String, Paths, HashKey>, cookie: &Cookie<'static>)
-    ensures { texts_of groups.new.entries ≡ expire_items (key_of cookie.now) (texts_of groups.old.entries) }
+pub(crate) fn expire_row(groups: &mut OrderedMap<Paths, HashKey>, cookie: &Cookie<'static>)
+    ensures { texts_of (entries groups.new) ≡ expire_items (key_of cookie.now) (texts_of (entries groups.old)) }
 {
     match groups.get_mut(cookie.domain.as_str()) {
         Some(group) => group.expire(cookie.path.as_str(), cookie.name()),
@@ -167,14 +163,14 @@ pub(crate) fn expire_row(groups: &mut IndexMap<String, Paths, HashKey>, cookie: 
 
 // Removes the row from its domain's group. Returns it, and whether the group is now empty.
 fn take_row(
-    groups: &mut IndexMap<String, Paths, HashKey>,
+    groups: &mut OrderedMap<Paths, HashKey>,
     domain: &str,
     path: &str,
     name: &str,
 ) -> (Option<Cookie<'static>>, bool)
-    ensures value { result.0 ≡ find_items (key_at domain.now path.now name.now) (texts_of groups.old.entries) }
-    ensures groups { texts_of groups.new.entries ≡ changed_at (remove_item_paths path.now name.now) domain.now (texts_of groups.old.entries) }
-    ensures is_empty { result.1 ≡ is_empty_at domain.now (texts_of groups.new.entries) }
+    ensures value { result.0 ≡ find_items (key_at domain.now path.now name.now) (texts_of (entries groups.old)) }
+    ensures groups { texts_of (entries groups.new) ≡ changed_at (remove_item_paths path.now name.now) domain.now (texts_of (entries groups.old)) }
+    ensures is_empty { result.1 ≡ is_empty_at domain.now (texts_of (entries groups.new)) }
 {
     match groups.get_mut(domain) {
         Some(group) => {
@@ -187,28 +183,28 @@ fn take_row(
 
 // Removes the row of this domain, path and name, and its domain's group if that is empty then.
 pub(crate) fn remove_row(
-    groups: &mut IndexMap<String, Paths, HashKey>,
+    groups: &mut OrderedMap<Paths, HashKey>,
     domain: &str,
     path: &str,
     name: &str,
 ) -> Option<Cookie<'static>>
-    ensures value { result ≡ find_items (key_at domain.now path.now name.now) (texts_of groups.old.entries) }
-    ensures removed { texts_of groups.new.entries ≡ remove_items (key_at domain.now path.now name.now) (texts_of groups.old.entries) }
+    ensures value { result ≡ find_items (key_at domain.now path.now name.now) (texts_of (entries groups.old)) }
+    ensures removed { texts_of (entries groups.new) ≡ remove_items (key_at domain.now path.now name.now) (texts_of (entries groups.old)) }
 {
     let (row, is_empty) = take_row(groups, domain, path, name);
     if is_empty {
-        groups.shift_remove(domain);
+        groups.remove(domain);
     }
     row
 }
 
 // Keeps the rows for which `keep` returns true, and drops empty groups.
 pub(crate) fn retain_groups<F: Fn(&Cookie<'_>, u64) -> bool>(
-    groups: &mut IndexMap<String, Paths, HashKey>,
+    groups: &mut OrderedMap<Paths, HashKey>,
     keep: &F,
 )
     requires { F.IsAlwaysCallable keep.now }
-    ensures { RetainsDomains (ReturnsFor (F.post keep.now)) (texts_of groups.old.entries) (texts_of groups.new.entries) }
+    ensures { RetainsDomains (ReturnsFor (F.post keep.now)) (texts_of (entries groups.old)) (texts_of (entries groups.new)) }
 {
     groups.retain(
         move |_domain: &String, group: &mut Paths| -> bool

@@ -2,6 +2,7 @@
 ghost use Rattle.std.specs.List.{flat_map};
 ghost use Rattle.std.specs.List.Sorted.{IsPermutation, IsSorted};
 ghost use Rattle.std.specs.Prelude.{◌≡◌, ◌≢◌, ℕ, [], map, None, IfOk, OnErr};
+ghost use Rattle.ordered_map.specs.Entries.{entries};
 ghost use Rattle.cookie_words.specs.Moments.{moment_of};
 ghost use Rattle.cookie_laws.specs.Contents.{contents_of};
 ghost use Rattle.cookie_laws.specs.Given.{given};
@@ -10,6 +11,7 @@ ghost use Rattle.cookie_lookup.specs.Groups.{flat};
 ghost use Rattle.cookie_rows.specs.GroupChanges.{texts_of};
 ghost use Rattle.cookie_rows.specs.HeaderItems.{item_order, items_at};
 ghost use Rattle.cookie_rows.specs.Items.{bare, groups_in_order, AreItems};
+ghost use Rattle.cookie_rows.specs.PlacedDomains.{by_position};
 
 use crate::boxed::BoxedCookie;
 use crate::hashing::HashKey;
@@ -17,8 +19,8 @@ use crate::map_search::{given_positions, item_at};
 use crate::paths::Paths;
 use cookie_lookup::laws;
 use cookie_parts::Cookie;
-use indexmap::IndexMap;
 use jiff::civil::DateTime;
+use ordered_map::OrderedMap;
 use std::alloc::{AllocError, Global};
 use std::cmp::Ordering;
 use url::Url;
@@ -26,17 +28,19 @@ use url::Url;
 /// Returns the rows given for the URL, in the order of RFC 6265 5.4 step 2. Allocates only if there
 /// is one.
 pub(crate) fn in_header_order<'a>(
-    groups: &'a IndexMap<String, Paths, HashKey>,
+    groups: &'a OrderedMap<Paths, HashKey>,
     alloc: Global,
     url: &Url,
     now: DateTime,
 ) -> Result<Vec<&'a Cookie<'static>>, AllocError>
-    requires { (n : ℕ) × AreItems n (texts_of groups.now.entries) }
+    requires { (n : ℕ) × AreItems n (texts_of (entries groups.now)) }
     ensures order { IfOk result (λ cookies. InHeaderOrder url.now (moment_of now)
-        (contents_of (groups_in_order (texts_of groups.now.entries)) None None) (map (λ c. c.now) cookies.items)) }
-    ensures memory { OnErr result (given url.now (moment_of now) (flat (bare (texts_of groups.now.entries))) ≢ []) }
+        (contents_of (groups_in_order (texts_of (entries groups.now))) None None) (map (λ c. c.now) cookies.items)) }
+    ensures memory { OnErr result (given url.now (moment_of now) (flat (bare (texts_of (entries groups.now)))) ≢ []) }
 {
+    // for the checker: the rows found are those given, in any order
     laws::rows_at_positions();
+    laws::rows_by_place();
     let (positions, _) = given_positions(groups, alloc, url, now)?;
     let mut items = items_at(groups, alloc, &positions)?;
     sort(&mut items);
@@ -45,11 +49,11 @@ pub(crate) fn in_header_order<'a>(
 
 // The rows at these positions, with their numbers.
 fn items_at<'a>(
-    groups: &'a IndexMap<String, Paths, HashKey>,
+    groups: &'a OrderedMap<Paths, HashKey>,
     alloc: Global,
     positions: &[(usize, usize, usize)],
 ) -> Result<Vec<&'a BoxedCookie>, AllocError>
-    ensures items { IfOk result (λ items. map (λ r. r.now) items.items ≡ flat_map (items_at (texts_of groups.now.entries)) positions.now) }
+    ensures items { IfOk result (λ items. map (λ r. r.now) items.items ≡ flat_map (items_at (by_position groups.now)) positions.now) }
     ensures memory { OnErr result (positions.now ≢ []) }
 {
     let mut items = Vec::with_capacity(alloc, positions.len())?;

@@ -7,10 +7,12 @@ ghost use Rattle.std.specs.Slice.Iter.{iter_rest};
 ghost use Rattle.cookie_parts.specs.Cookie.{Row};
 
 use crate::boxed::BoxedCookie;
+use crate::hashing::HashKey;
 use crate::names::Names;
 use crate::paths::Paths;
 use cookie_parts::Cookie;
 use jiff::civil::DateTime;
+use ordered_map::Values;
 use std::marker::Model;
 use std::slice;
 
@@ -18,23 +20,23 @@ use std::slice;
 #[derive(Drop)]
 struct Groups<'a> {
     paths: slice::Iter<'a, Names>,
-    domains: slice::Iter<'a, Paths>,
+    domains: Values<'a, Paths, HashKey>,
 }
 
 impl<'a> Model for Groups<'a> {
     ghost Value = { List (List Item) };
 
-    ghost view = { λ iter. iter_rest iter.paths ++ all_groups (iter_rest iter.domains) };
+    ghost view = { λ iter. iter_rest iter.paths ++ all_groups iter.domains };
 }
 
 impl<'a> Groups<'a> {
-    fn new(domains: &'a [Paths]) -> Groups<'a>
-        ensures { result ≡ all_groups domains.now }
+    fn new(domains: Values<'a, Paths, HashKey>) -> Groups<'a>
+        ensures { result ≡ all_groups domains.entry }
     {
         let none: &'a [Names] = &[];
         Groups {
             paths: none.iter(),
-            domains: domains.iter(),
+            domains,
         }
     }
 }
@@ -62,9 +64,9 @@ impl<'a> Iterator for Groups<'a> {
 }
 
 // Returns how many rows these domains have.
-pub(crate) fn count_rows(domains: &[Paths]) -> usize
-    requires few { length (joined (all_groups domains.now)) < 2 ^ 64 }
-    ensures { result ≡ length (joined (all_groups domains.now)) }
+pub(crate) fn count_rows(domains: Values<'_, Paths, HashKey>) -> usize
+    requires few { length (joined (all_groups domains)) < 2 ^ 64 }
+    ensures { result ≡ length (joined (all_groups domains.entry)) }
 {
     let mut count: usize = 0;
     for names in Groups::new(domains) {
@@ -88,8 +90,8 @@ impl<'a> Model for IterAny<'a> {
 
 impl<'a> IterAny<'a> {
     /// Returns an iterator over the rows of these domains.
-    pub(crate) fn new(domains: &'a [Paths]) -> IterAny<'a>
-        ensures { result ≡ rows_of (joined (all_groups domains.now)) }
+    pub(crate) fn new(domains: Values<'a, Paths, HashKey>) -> IterAny<'a>
+        ensures { result ≡ rows_of (joined (all_groups domains.entry)) }
     {
         let none: &'a [BoxedCookie] = &[];
         IterAny {

@@ -3,6 +3,7 @@ ghost use Rattle.std.specs.Prelude.{◌≡◌, ◌≢◌, ◌≤◌, ◌<◌, fa
 ghost use Rattle.std.specs.Fn.{FnReturnsAt};
 ghost use Rattle.std.specs.Iterator.{IsFinite};
 ghost use Rattle.std.specs.Option.{option_copied};
+ghost use Rattle.ordered_map.specs.Entries.{entries};
 ghost use Rattle.cookie_words.specs.Moments.{moment_of};
 ghost use Rattle.cookie_parts.specs.Cookie.{expired_row, is_expired, Row};
 ghost use Rattle.cookie_laws.specs.Contents.{contents_of, retained, rows_in_order, unexpired, HasCreationOrder, ReturnsTest};
@@ -19,7 +20,7 @@ ghost use Rattle.cookie_rows.specs.RequestCookies.{name_and_value};
 ghost use Rattle.cookie_rows.specs.Items.{AreItems, groups_in_order};
 
 use crate::boxed::BoxedCookie;
-use crate::copying::rehashed_table;
+use crate::copying::rehashed_map;
 use crate::domains::{
     add_row, expire_row, find_row, insert_row_within_limit, put_row, remove_row, replace_row,
     retain_groups,
@@ -35,8 +36,8 @@ use crate::secure_keys::Scope;
 use crate::secure_rows;
 use cookie_lookup::Lookups;
 use cookie_parts::{Cookie, Error};
-use indexmap::IndexMap;
 use jiff::civil::DateTime;
+use ordered_map::OrderedMap;
 use std::alloc::{AllocError, Global};
 use std::marker::Model;
 use url::Url;
@@ -48,7 +49,7 @@ use url::Url;
 /// position.
 #[derive(Drop)]
 pub struct Rows {
-    groups: IndexMap<String, Paths, HashKey>,
+    groups: OrderedMap<Paths, HashKey>,
     // The number of the next new row; all rows have smaller numbers.
     created: u64,
 }
@@ -56,9 +57,9 @@ pub struct Rows {
 impl Model for Rows {
     ghost Value = { RowsInOrder };
 
-    ghost view = { λ r. groups_in_order (texts_of r.groups.entries) };
+    ghost view = { λ r. groups_in_order (texts_of (entries r.groups)) };
 
-    ghost invariant = { λ r. AreItems r.created (texts_of r.groups.entries) };
+    ghost invariant = { λ r. AreItems r.created (texts_of (entries r.groups)) };
 }
 
 impl Clone for Rows {
@@ -75,7 +76,7 @@ impl Rows {
         ensures { result ≡ record { rows = []; created = [] } }
     {
         Rows {
-            groups: IndexMap::with_hasher(alloc.alloc, alloc.hash_key),
+            groups: OrderedMap::with_hasher(alloc.alloc, alloc.hash_key),
             created: 0,
         }
     }
@@ -135,7 +136,7 @@ impl Rows {
     pub fn iter(&self) -> IterAny<'_>
         ensures { result ≡ self.now.rows }
     {
-        IterAny::new(self.groups.values().as_slice())
+        IterAny::new(self.groups.values())
     }
 
     /// Returns an iterator over the rows that have not expired at `now`, in order.
@@ -271,8 +272,7 @@ impl Rows {
 
     /// Adds the cookie as a new row, the last one in creation order. With a limit, rows of its
     /// domain are evicted in the given order so that at most `limit` are stored (0 counts as 1).
-    /// Under `SecureLast`, a cookie that is not Secure needs room: see
-    /// [`is_full_of_secure`](Self::is_full_of_secure).
+    /// Under `SecureLast`, a cookie that is not Secure needs room: [`Self::is_full_of_secure`].
     ///
     /// # Errors
     ///
@@ -422,7 +422,7 @@ impl Rows {
     {
         // for the checker: all rows have different numbers below this one, so their count fits
         let _created = self.created;
-        count_rows(self.groups.values().as_slice())
+        count_rows(self.groups.values())
     }
 
     /// Returns how many rows have not expired at `now`. Allocates nothing.
@@ -457,7 +457,7 @@ impl Rows {
         ensures rows { IfOk result (λ rows. rows ≡ self.now) }
         ensures memory { OnErr result (self.now.rows ≢ []) }
     {
-        let groups = rehashed_table(&self.groups, alloc, hash_key)?;
+        let groups = rehashed_map(&self.groups, alloc, hash_key)?;
         Ok(Rows {
             groups,
             created: self.created,

@@ -1,5 +1,6 @@
 //! The Secure rows of one domain.
 ghost use Rattle.std.specs.Prelude.{◌≡◌, ◌≤◌, filter, length, nat_le};
+ghost use Rattle.ordered_map.specs.Entries.{entries};
 ghost use Rattle.cookie_words.specs.Moments.{moment_of};
 ghost use Rattle.cookie_rows.specs.Eviction.{count_secure, is_secure_item, paths_of};
 ghost use Rattle.cookie_rows.specs.GroupChanges.{texts_of};
@@ -7,17 +8,17 @@ ghost use Rattle.cookie_rows.specs.GroupChanges.{texts_of};
 use crate::boxed::BoxedCookie;
 use crate::hashing::HashKey;
 use crate::paths::Paths;
-use indexmap::IndexMap;
 use jiff::civil::DateTime;
+use ordered_map::OrderedMap;
 
 // Returns whether the domain has at least `limit` Secure rows that have not expired.
 pub(crate) fn is_full(
-    groups: &IndexMap<String, Paths, HashKey>,
+    groups: &OrderedMap<Paths, HashKey>,
     domain: &str,
     limit: usize,
     now: DateTime,
 ) -> bool
-    ensures { result ≡ nat_le limit (count_secure (moment_of now) (paths_of domain.now (texts_of groups.now.entries))) }
+    ensures { result ≡ nat_le limit (count_secure (moment_of now) (paths_of domain.now (texts_of (entries groups.now)))) }
 {
     match groups.get(domain) {
         Some(paths) => has_at_least(limit, paths, now),

@@ -29,6 +29,11 @@ BeginsConversion known old new =
 abbrev pub RunsOutForList : Option (List ℕ) → Type 0
 RunsOutForList known = (kept : RowsInOrder) × Migrates known kept × SerializesToRonList kept.rows (Err Store.Memory)
 
+-- why a list of rows with saved forms was not written
+abbrev pub list_fault : Error → ConvertFault
+list_fault Store.Io = Write
+list_fault error = Memory
+
 -- Unless a write failed, nothing was written. A read failed, memory ran out, or this line is the first invalid
 -- one; or all lines were read and a store was built, and memory ran out for its list.
 abbrev pub FailsToConvert : ConvertFault → SourceState → SourceState → SinkState → SinkState → Type 0

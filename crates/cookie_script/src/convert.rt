@@ -1,7 +1,7 @@
 //! Converts lines of JSON, as older programs save cookies, into a RON list.
-ghost use Rattle.std.specs.Prelude.{◌-◌, ◌^◌, ◌<◌, IfErr, OnOk};
+ghost use Rattle.std.specs.Prelude.{◌≡◌, ◌-◌, ◌^◌, ◌<◌, IfErr, OnOk};
 ghost use Rattle.std.specs.Io.KnownBytes.{IsAtEnd};
-ghost use Rattle.cookie_script.specs.Conversion.{Converts, FailsToConvert};
+ghost use Rattle.cookie_script.specs.Conversion.{list_fault, Converts, FailsToConvert};
 ghost use Rattle.cookie_script.specs.Errors.{CountsConvertFailure};
 ghost use Rattle.cookie_store.specs.Loading.{ReadsEachOnce};
 
@@ -32,8 +32,17 @@ pub fn convert<A: Into<StoreAlloc>, R: Source, W: Sink>(
     let store = migrate_lines(alloc, source)?;
     match ron::save_incl_expired_and_nonpersistent(&store, sink) {
         Ok(()) => Ok(()),
-        Err(Error::Io) => Err(ConvertFault::Write),
-        // Each row has a saved form, so this is out of memory.
-        Err(_) => Err(ConvertFault::Memory),
+        Err(error) => Err(list_fault(error)),
+    }
+}
+
+// Returns why a list was not written. Each row has a saved form, so without a failed write it is out
+// of memory.
+fn list_fault(error: Error) -> ConvertFault
+    ensures { result ≡ list_fault error }
+{
+    match error {
+        Error::Io => ConvertFault::Write,
+        _ => ConvertFault::Memory,
     }
 }

@@ -1,10 +1,11 @@
-use Rattle.std.proofs.Common.{length, arith, ap, ◌∙◌}
+use Rattle.std.proofs.Common.{length, arith, ap, sym, subst, ◌∙◌, IsPermutation}
+use Rattle.std.proofs.lemmas.List.Sorted.{IsPermutation-refl}
 use Rattle.cookie_words.specs.Moments.{moment_of}
 use Rattle.cookie_lookup.specs.SearchView.{how_many_pairs_found, of_host}
 use Rattle.cookie_lookup.specs.Candidates.{url_candidate_domains, candidate_paths}
 use Rattle.cookie_lookup.proofs.Bounds.{domains_most, paths_fit}
 use Rattle.cookie_lookup.proofs.Results.{either_way}
-use Rattle.cookie_lookup.proofs.Whole.{found_sorted, from_none, from_zero, host_from_zero, none_found, paths_bound, some_found}
+use Rattle.cookie_lookup.proofs.Whole.{found_in_any_order, from_none, from_zero, host_from_zero, none_found, paths_bound, some_found}
 use Rattle.cookie_lookup.proofs.finding.found_by.Goals.{in-Some+in_ok-push_domains, in_default}
 use Rattle.cookie_lookup.proofs.finding.found_by.Goals as goal
 
@@ -15,17 +16,17 @@ push_domains-requires-clause-paths g c =
     (omega (arith, c.as_bytes-in-Some.ensures.len, ap length (c.as_bytes-in-Some.ensures.value ∙ c.path.ensures.value)))
 
 pub returns-clause-positions : goal.returns-clause-positions
-returns-clause-positions g c = elim c.match-host_str.branch [
-  | in-Some+in_ok-push_domains w ↦
-      ap (λ v. v.items) w.positions-is
-      ∙ found_sorted c.args.url.now (moment_of c.args.now) (c.looked_up.ensures.given c.args.url.now (moment_of c.args.now)) w.in-Some.host.now w.in-Some.ensures
-      (g.S.Search.view_of c.args.search.now).groups (g.met.S.Search.are_groups c.args.search.now)
-      w.push_domains.new.positions.items w.sort_unstable.new.self.items (from_none c.new-positions.result.items w.push_domains.new.positions.items _ w.in_ok-push_domains.ensures.positions c.new-positions.ensures.items)
-      w.sort_unstable.ensures.permutation w.sort_unstable.ensures.sorted
-  | in_default w ↦
-      ap (λ v. v.items) w.positions-is ∙ c.new-positions.ensures.items
-      ∙ none_found c.args.url.now (moment_of c.args.now) (c.looked_up.ensures.given c.args.url.now (moment_of c.args.now)) w.in_default.ensures (g.S.Search.view_of c.args.search.now).groups
-]
+returns-clause-positions g c =
+    let groups = (g.S.Search.view_of c.args.search.now).groups in
+    let candidates = c.looked_up.ensures.given c.args.url.now (moment_of c.args.now) in
+    elim c.match-host_str.branch [
+      | in-Some+in_ok-push_domains w ↦
+          rw w.positions-is (found_in_any_order c.args.url.now (moment_of c.args.now) candidates w.in-Some.host.now w.in-Some.ensures groups (g.met.S.Search.are_groups c.args.search.now)
+          w.push_domains.new.positions.items (from_none c.new-positions.result.items w.push_domains.new.positions.items _ w.in_ok-push_domains.ensures.positions c.new-positions.ensures.items))
+      | in_default w ↦
+          rw (w.positions-is, c.new-positions.ensures.items)
+          (subst (IsPermutation _) (sym (none_found c.args.url.now (moment_of c.args.now) candidates w.in_default.ensures groups)) (IsPermutation-refl _))
+    ]
 
 pub returns-in_err-push_domains-clause-memory : goal.returns-in_err-push_domains-clause-memory
 returns-in_err-push_domains-clause-memory g c =

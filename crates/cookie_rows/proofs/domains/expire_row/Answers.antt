@@ -3,19 +3,21 @@ use Rattle.std.specs.Map.{set_value}
 use Rattle.cookie_parts.specs.Cookie.{Row}
 use Rattle.cookie_parts.specs.Domain.{domain_text}
 use Rattle.cookie_laws.specs.Rows.{key_of}
+use Rattle.ordered_map.specs.Entries.{entries}
 use Rattle.cookie_rows.specs.GroupChanges.{texts_of, changed_at}
 use Rattle.cookie_rows.specs.Items.{expire_item_paths}
 use Rattle.cookie_rows.proofs.Maps.{at_text, changed_set, changed_none}
+use Rattle.cookie_rows.proofs.Results.{known_some}
 use Rattle.cookie_rows.proofs.domains.expire_row.Goals as goal
 
 pub returns-in-Some : goal.returns-in-Some
 returns-in-Some c =
-    let es = c.args.groups.now.entries in
+    let es = entries c.args.groups.now in
     let q = c.as_str.result.now in
     let key = key_of c.args.cookie.now in
     let domain = c.as_str.ensures ∙ ap (λ (r : Row). domain_text r.domain) c.cookie.view_is in
     let path = c.as_str-in-Some.ensures ∙ ap (λ (r : Row). r.path.text) c.cookie.view_is in
-    ap texts_of (c.get_mut.follows.holds c.expire.new.self).0
+    ap texts_of (known_some c.get_mut.result c.in-Some.is (c.get_mut.follows.holds c.expire.new.self)).written
     ∙ ap (λ v. texts_of (set_value (at_text q) es v)) c.expire.ensures
     ∙ changed_set (expire_item_paths c.as_str-in-Some.result.now c.name.result.now) q es c.in-Some.group.now c.in-Some.ensures.value
     ∙ ap (λ t. changed_at (expire_item_paths c.as_str-in-Some.result.now c.name.result.now) t (texts_of es)) domain
@@ -24,9 +26,9 @@ returns-in-Some c =
 
 pub returns-in-None : goal.returns-in-None
 returns-in-None c =
-    let es = c.args.groups.now.entries in
+    let es = entries c.args.groups.now in
     let key = key_of c.args.cookie.now in
     let domain = c.as_str.ensures ∙ ap (λ (r : Row). domain_text r.domain) c.cookie.view_is in
-    ap (λ m. texts_of m.entries) c.get_mut.follows.holds-at-none
+    ap (λ m. texts_of (entries m)) c.get_mut.follows.holds-at-none
     ∙ changed_none (expire_item_paths key.path key.name) c.as_str.result.now es c.in-None.ensures.value
     ∙ ap (λ t. changed_at (expire_item_paths key.path key.name) t (texts_of es)) domain

@@ -6,6 +6,7 @@ use Rattle.cookie_words.specs.Moments.{Moment, moment_of}
 use Rattle.cookie_parts.specs.Cookie.{Row}
 use Rattle.cookie_parts.specs.Domain.{domain_text}
 use Rattle.cookie_lookup.specs.SearchView.{group_position}
+use Rattle.ordered_map.specs.Entries.{entries}
 use Rattle.cookie_rows.specs.GroupChanges.{found, texts_of}
 use Rattle.cookie_rows.specs.Items.{ItemPaths, find_item_paths, put_item_paths, put_items}
 use Rattle.cookie_rows.specs.Eviction.{class_of, InsertsInDomains, EvictsInPaths, IsFirstSurvivor, insert_in_paths, is_single_paths, moved_to_end_if, survives, ranks_of}
@@ -15,7 +16,7 @@ use Rattle.cookie_rows.proofs.DomainMaps.{paths_none, paths_some, position_none}
 use Rattle.cookie_rows.proofs.LeastEvicted.{count_ranks, numbered_of}
 use Rattle.cookie_rows.proofs.Maps.{at_text, found_some, put_set, same_set}
 use Rattle.cookie_rows.proofs.RowCounts.{count_put, groups_evicted, groups_moved, groups_put}
-use Rattle.cookie_rows.proofs.Results.{either_way}
+use Rattle.cookie_rows.proofs.Results.{either_way, known_some}
 use Rattle.cookie_rows.proofs.domains.insert_row_within_limit.Goals as goal
 
 -- there are fewer rows than the limit
@@ -53,35 +54,35 @@ module _ {A : Type 0} (limit : ℕ) (order : EvictionOrder) (now : Moment) (row 
 
 pub add_domain-requires : goal.add_domain-requires
 add_domain-requires c =
-    let es = c.args.groups.now.entries in
+    let es = entries c.args.groups.now in
     let domain = c.as_str.ensures ∙ ap (λ (r : Row). domain_text r.domain) c.behind-row.view_is ∙ ap (λ (r : Row). domain_text r.domain) c.cookie.ensures in
     record {
-      absent = ap (λ m. group_position (domain_text c.args.row.row.domain) (texts_of m.entries)) c.get_mut.follows.holds-at-none
+      absent = ap (λ m. group_position (domain_text c.args.row.row.domain) (texts_of (entries m))) c.get_mut.follows.holds-at-none
           ∙ ap (λ t. group_position t (texts_of es)) (sym domain) ∙ position_none c.as_str.result.now es c.in-None.ensures.value;
     }
 
 pub returns-in_err-add_domain-in-None-clause-unchanged : goal.returns-in_err-add_domain-in-None-clause-unchanged
 returns-in_err-add_domain-in-None-clause-unchanged c =
-    either_way c.from_residual.result (c.in_err-add_domain-in-None.ensures.unchanged ∙ ap (λ m. texts_of m.entries) c.get_mut.follows.holds-at-none)
+    either_way c.from_residual.result (c.in_err-add_domain-in-None.ensures.unchanged ∙ ap (λ m. texts_of (entries m)) c.get_mut.follows.holds-at-none)
 
 pub returns-in-None-clause-inserted : goal.returns-in-None-clause-inserted
 returns-in-None-clause-inserted c =
     let row = c.args.row.row in
-    let es = c.args.groups.now.entries in
+    let es = entries c.args.groups.now in
     let domain = c.as_str.ensures ∙ ap (λ (r : Row). domain_text r.domain) c.behind-row.view_is ∙ ap (λ (r : Row). domain_text r.domain) c.cookie.ensures in
     let none = subst (λ t. None ≡ lookup (at_text t) es) domain c.in-None.ensures.value in
     let room = subst (λ ps. length (ranks_of c.args.order (moment_of c.args.now) ps) < c.args.limit) (sym (paths_none (domain_text row.domain) es none)) c.requires.limit in
-    inl (room, c.in_ok-add_domain-in-None.ensures.added ∙ ap (λ m. put_items row c.args.row.number (texts_of m.entries)) c.get_mut.follows.holds-at-none)
+    inl (room, c.in_ok-add_domain-in-None.ensures.added ∙ ap (λ m. put_items row c.args.row.number (texts_of (entries m))) c.get_mut.follows.holds-at-none)
 
 pub returns-in-None-clause-evicted : goal.returns-in-None-clause-evicted
 returns-in-None-clause-evicted c =
     let row = c.args.row.row in
-    let added = c.in_ok-add_domain-in-None.ensures.added ∙ ap (λ m. put_items row c.args.row.number (texts_of m.entries)) c.get_mut.follows.holds-at-none in
-    omega (arith, ap (λ gs. length (items_in_groups gs)) added, groups_put row c.args.row.number (texts_of c.args.groups.now.entries) c.requires.new)
+    let added = c.in_ok-add_domain-in-None.ensures.added ∙ ap (λ m. put_items row c.args.row.number (texts_of (entries m))) c.get_mut.follows.holds-at-none in
+    omega (arith, ap (λ gs. length (items_in_groups gs)) added, groups_put row c.args.row.number (texts_of (entries c.args.groups.now)) c.requires.new)
 
 pub add-requires : goal.add-requires
 add-requires c =
-    let es = c.args.groups.now.entries in
+    let es = entries c.args.groups.now in
     let row = c.args.row.row in
     let named = find_item_paths row.path.text row.raw.name in
     let domain = c.as_str.ensures ∙ ap (λ (r : Row). domain_text r.domain) c.behind-row.view_is ∙ ap (λ (r : Row). domain_text r.domain) c.cookie.ensures in
@@ -90,16 +91,16 @@ add-requires c =
 pub returns-in_err-add-in-Some-clause-unchanged : goal.returns-in_err-add-in-Some-clause-unchanged
 returns-in_err-add-in-Some-clause-unchanged c =
     either_way c.from_residual-in_err-add-in-Some.result
-    (ap texts_of (c.get_mut.follows.holds c.add.new.self).0
-    ∙ same_set _ c.args.groups.now.entries c.add.new.self (ap Some c.in_err-add-in-Some.ensures.unchanged ∙ c.in-Some.ensures.value))
+    (ap texts_of (known_some c.get_mut.result c.in-Some.is (c.get_mut.follows.holds c.add.new.self)).written
+    ∙ same_set _ (entries c.args.groups.now) c.add.new.self (ap Some c.in_err-add-in-Some.ensures.unchanged ∙ c.in-Some.ensures.value))
 
 pub returns-then-has_fewer_than-clause-inserted : goal.returns-then-has_fewer_than-clause-inserted
 returns-then-has_fewer_than-clause-inserted c =
     let row = c.args.row.row in
-    let es = c.args.groups.now.entries in
+    let es = entries c.args.groups.now in
     let domain = c.as_str.ensures ∙ ap (λ (r : Row). domain_text r.domain) c.behind-row.view_is ∙ ap (λ (r : Row). domain_text r.domain) c.cookie.ensures in
     let there = subst (λ t. Some c.in-Some.group.now ≡ lookup (at_text t) es) domain c.in-Some.ensures.value in
-    let set = (c.get_mut.follows.holds c.add.new.self).0 ∙ ap (λ t. set_value (at_text t) es c.add.new.self) domain in
+    let set = (known_some c.get_mut.result c.in-Some.is (c.get_mut.follows.holds c.add.new.self)).written ∙ ap (λ t. set_value (at_text t) es c.add.new.self) domain in
     let fewer = is_fewer (length (items_in_paths c.in-Some.group.now)) c.args.limit (sym c.has_fewer_than.ensures ∙ c.if-has_fewer_than.true) in
     subst (InsertsInDomains c.args.limit c.args.order (moment_of c.args.now) row c.args.row.number (texts_of es)) (sym (ap texts_of set))
     (enters_room c.args.limit c.args.order (moment_of c.args.now) row c.args.row.number es c.in-Some.group.now c.add.new.self there fewer c.in_ok-add-in-Some.ensures.added)
@@ -107,10 +108,10 @@ returns-then-has_fewer_than-clause-inserted c =
 pub returns-then-has_fewer_than-clause-evicted : goal.returns-then-has_fewer_than-clause-evicted
 returns-then-has_fewer_than-clause-evicted c =
     let row = c.args.row.row in
-    let es = c.args.groups.now.entries in
+    let es = entries c.args.groups.now in
     let domain = c.as_str.ensures ∙ ap (λ (r : Row). domain_text r.domain) c.behind-row.view_is ∙ ap (λ (r : Row). domain_text r.domain) c.cookie.ensures in
     let there = subst (λ t. Some c.in-Some.group.now ≡ lookup (at_text t) es) domain c.in-Some.ensures.value in
-    let set = (c.get_mut.follows.holds c.add.new.self).0 ∙ ap (λ t. set_value (at_text t) es c.add.new.self) domain in
+    let set = (known_some c.get_mut.result c.in-Some.is (c.get_mut.follows.holds c.add.new.self)).written ∙ ap (λ t. set_value (at_text t) es c.add.new.self) domain in
     let named = find_item_paths row.path.text row.raw.name in
     let fresh = found_some named c.as_str.result.now es c.in-Some.group.now c.in-Some.ensures.value ∙ ap (λ t. found named t (texts_of es)) domain ∙ c.requires.new in
     let one = ap (λ ps. length (items_in_paths ps)) c.in_ok-add-in-Some.ensures.added ∙ count_put row c.args.row.number c.in-Some.group.now fresh in
@@ -118,7 +119,7 @@ returns-then-has_fewer_than-clause-evicted c =
 
 pub insert_at_limit-requires : goal.insert_at_limit-requires
 insert_at_limit-requires c =
-    let es = c.args.groups.now.entries in
+    let es = entries c.args.groups.now in
     let row = c.args.row.row in
     let named = find_item_paths row.path.text row.raw.name in
     let domain = c.as_str.ensures ∙ ap (λ (r : Row). domain_text r.domain) c.behind-row.view_is ∙ ap (λ (r : Row). domain_text r.domain) c.cookie.ensures in
@@ -133,38 +134,38 @@ insert_at_limit-requires c =
 pub returns-in_err-domain-in-Some-clause-unchanged : goal.returns-in_err-domain-in-Some-clause-unchanged
 returns-in_err-domain-in-Some-clause-unchanged c =
     either_way c.from_residual-in_err-domain-in-Some.result
-    (ap texts_of (c.get_mut.follows.holds c.in-Some.group.now).0 ∙ same_set _ c.args.groups.now.entries c.in-Some.group.now c.in-Some.ensures.value)
+    (ap texts_of (known_some c.get_mut.result c.in-Some.is (c.get_mut.follows.holds c.in-Some.group.now)).written ∙ same_set _ (entries c.args.groups.now) c.in-Some.group.now c.in-Some.ensures.value)
 
 pub returns-in_err-evicted-in-Some-clause-unchanged : goal.returns-in_err-evicted-in-Some-clause-unchanged
 returns-in_err-evicted-in-Some-clause-unchanged c =
     either_way c.from_residual-in_err-evicted-in-Some.result
-    (ap texts_of (c.get_mut.follows.holds c.insert_at_limit.new.self).0
-    ∙ same_set _ c.args.groups.now.entries c.insert_at_limit.new.self (ap Some c.in_err-evicted-in-Some.ensures.unchanged ∙ c.in-Some.ensures.value))
+    (ap texts_of (known_some c.get_mut.result c.in-Some.is (c.get_mut.follows.holds c.insert_at_limit.new.self)).written
+    ∙ same_set _ (entries c.args.groups.now) c.insert_at_limit.new.self (ap Some c.in_err-evicted-in-Some.ensures.unchanged ∙ c.in-Some.ensures.value))
 
 pub returns-clause-inserted : goal.returns-clause-inserted
 returns-clause-inserted c =
     let row = c.args.row.row in
-    let es = c.args.groups.now.entries in
+    let es = entries c.args.groups.now in
     let domain = c.as_str.ensures ∙ ap (λ (r : Row). domain_text r.domain) c.behind-row.view_is ∙ ap (λ (r : Row). domain_text r.domain) c.cookie.ensures in
     let there = subst (λ t. Some c.in-Some.group.now ≡ lookup (at_text t) es) domain c.in-Some.ensures.value in
     let new = c.insert_at_limit.new.self in
-    let set = (c.get_mut.follows.holds new).0 ∙ ap (λ t. set_value (at_text t) es new) domain in
+    let set = (known_some c.get_mut.result c.in-Some.is (c.get_mut.follows.holds new)).written ∙ ap (λ t. set_value (at_text t) es new) domain in
     let again = c.as_str-in-Some.ensures ∙ ap (λ (r : Row). domain_text r.domain) c.behind-row-in-Some.view_is ∙ ap (λ (r : Row). domain_text r.domain) c.cookie-in-Some.ensures in
     let copy = c.as_str-2.ensures.value ∙ c.in_ok-domain-in-Some.ensures.ok ∙ again in
     subst (InsertsInDomains c.args.limit c.args.order (moment_of c.args.now) row c.args.row.number (texts_of es))
     (sym (c.move_domain_to_end.ensures
-    ∙ ap (λ t. moved_to_end_if is_single_paths t (texts_of (c.get_mut.follows.lender new).entries)) copy
+    ∙ ap (λ t. moved_to_end_if is_single_paths t (texts_of (entries (c.get_mut.follows.lender new)))) copy
     ∙ ap (λ hs. moved_to_end_if is_single_paths (domain_text row.domain) (texts_of hs)) set))
     (enters_left c.args.limit c.args.order (moment_of c.args.now) row c.args.row.number es c.in-Some.group.now new there c.in_ok-evicted-in-Some.ensures.evicts)
 
 pub returns-clause-evicted : goal.returns-clause-evicted
 returns-clause-evicted c =
     let row = c.args.row.row in
-    let es = c.args.groups.now.entries in
+    let es = entries c.args.groups.now in
     let domain = c.as_str.ensures ∙ ap (λ (r : Row). domain_text r.domain) c.behind-row.view_is ∙ ap (λ (r : Row). domain_text r.domain) c.cookie.ensures in
     let there = subst (λ t. Some c.in-Some.group.now ≡ lookup (at_text t) es) domain c.in-Some.ensures.value in
     let new = c.insert_at_limit.new.self in
-    let set = (c.get_mut.follows.holds new).0 ∙ ap (λ t. set_value (at_text t) es new) domain in
-    let moved = ap (λ gs. length (items_in_groups gs)) c.move_domain_to_end.ensures ∙ groups_moved is_single_paths c.as_str-2.result.now (texts_of (c.get_mut.follows.lender new).entries) ∙ ap (λ hs. length (items_in_groups (texts_of hs))) set in
+    let set = (known_some c.get_mut.result c.in-Some.is (c.get_mut.follows.holds new)).written ∙ ap (λ t. set_value (at_text t) es new) domain in
+    let moved = ap (λ gs. length (items_in_groups gs)) c.move_domain_to_end.ensures ∙ groups_moved is_single_paths c.as_str-2.result.now (texts_of (entries (c.get_mut.follows.lender new))) ∙ ap (λ hs. length (items_in_groups (texts_of hs))) set in
     let all = groups_evicted (domain_text row.domain) es c.in-Some.group.now new c.in_ok-evicted-in-Some.evicted there c.in_ok-evicted-in-Some.ensures.evicted in
     omega (arith, moved, all)

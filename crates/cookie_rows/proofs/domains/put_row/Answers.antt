@@ -4,21 +4,22 @@ use Rattle.std.specs.Map.{set_value}
 use Rattle.cookie_parts.specs.Cookie.{Row}
 use Rattle.cookie_parts.specs.Domain.{domain_text}
 use Rattle.cookie_lookup.specs.SearchView.{group_position}
+use Rattle.ordered_map.specs.Entries.{entries}
 use Rattle.cookie_rows.specs.GroupChanges.{texts_of, put_at, found}
 use Rattle.cookie_rows.specs.Items.{find_item_paths, put_item_paths, put_items, Item}
 use Rattle.cookie_rows.proofs.DomainMaps.{position_none}
 use Rattle.cookie_rows.proofs.Maps.{at_text, put_set, same_set, found_some, found_none}
-use Rattle.cookie_rows.proofs.Results.{on_ok_map, on_err_map, if_ok_map, either_way}
+use Rattle.cookie_rows.proofs.Results.{either_way, if_ok_map, known_some, on_err_map, on_ok_map}
 use Rattle.cookie_rows.proofs.domains.put_row.Goals as goal
 
 pub returns-in-Some-clause-put : goal.returns-in-Some-clause-put
 returns-in-Some-clause-put c =
-    let es = c.args.groups.now.entries in
+    let es = entries c.args.groups.now in
     let q = c.as_str.result.now in
     let domain = c.as_str.ensures ∙ ap (λ (r : Row). domain_text r.domain) c.cookie.view_is in
     let change = put_item_paths c.args.cookie c.args.number in
     on_ok_map c.put.result
-    (λ new. ap texts_of (c.get_mut.follows.holds c.put.new.self).0
+    (λ new. ap texts_of (known_some c.get_mut.result c.in-Some.is (c.get_mut.follows.holds c.put.new.self)).written
     ∙ ap (λ v. texts_of (set_value (at_text q) es v)) new
     ∙ put_set change q es c.in-Some.group.now c.in-Some.ensures.value
     ∙ ap (λ t. put_at change t (texts_of es)) domain)
@@ -26,7 +27,7 @@ returns-in-Some-clause-put c =
 
 pub returns-in-Some-clause-is_new : goal.returns-in-Some-clause-is_new
 returns-in-Some-clause-is_new c =
-    let es = c.args.groups.now.entries in
+    let es = entries c.args.groups.now in
     let q = c.as_str.result.now in
     let domain = c.as_str.ensures ∙ ap (λ (r : Row). domain_text r.domain) c.cookie.view_is in
     let named = find_item_paths c.args.cookie.path.text c.args.cookie.raw.name in
@@ -37,12 +38,12 @@ returns-in-Some-clause-is_new c =
 pub returns-in-Some-clause-unchanged : goal.returns-in-Some-clause-unchanged
 returns-in-Some-clause-unchanged c =
     on_err_map c.put.result
-    (λ same. ap texts_of (c.get_mut.follows.holds c.put.new.self).0 ∙ same_set _ c.args.groups.now.entries c.put.new.self (ap Some same ∙ c.in-Some.ensures.value))
+    (λ same. ap texts_of (known_some c.get_mut.result c.in-Some.is (c.get_mut.follows.holds c.put.new.self)).written ∙ same_set _ (entries c.args.groups.now) c.put.new.self (ap Some same ∙ c.in-Some.ensures.value))
     c.put.ensures.unchanged
 
 pub returns-in-Some-clause-memory : goal.returns-in-Some-clause-memory
 returns-in-Some-clause-memory c =
-    let es = c.args.groups.now.entries in
+    let es = entries c.args.groups.now in
     let q = c.as_str.result.now in
     let domain = c.as_str.ensures ∙ ap (λ (r : Row). domain_text r.domain) c.cookie.view_is in
     let named = find_item_paths c.args.cookie.path.text c.args.cookie.raw.name in
@@ -52,26 +53,26 @@ returns-in-Some-clause-memory c =
 
 pub returns-in_err-new-in-None-clause-memory : goal.returns-in_err-new-in-None-clause-memory
 returns-in_err-new-in-None-clause-memory c =
-    let es = c.args.groups.now.entries in
+    let es = entries c.args.groups.now in
     let domain = c.as_str.ensures ∙ ap (λ (r : Row). domain_text r.domain) c.cookie.view_is in
     let named = find_item_paths c.args.cookie.path.text c.args.cookie.raw.name in
     either_way c.from_residual.result (sym (found_none named c.as_str.result.now es c.in-None.ensures.value ∙ ap (λ t. found named t (texts_of es)) domain))
 
 pub add_domain-requires : goal.add_domain-requires
 add_domain-requires c =
-    let es = c.args.groups.now.entries in
+    let es = entries c.args.groups.now in
     let q = c.as_str.result.now in
     let domain = c.as_str.ensures ∙ ap (λ (r : Row). domain_text r.domain) c.cookie.view_is in
     let row = c.in_ok-new-in-None.ensures in
     record {
-      absent = ap (λ (i : Item). group_position (domain_text i.row.domain) (texts_of c.get_mut.follows.lender-at-none.entries)) row
-          ∙ ap (λ m. group_position (domain_text c.args.cookie.domain) (texts_of m.entries)) c.get_mut.follows.holds-at-none
+      absent = ap (λ (i : Item). group_position (domain_text i.row.domain) (texts_of (entries c.get_mut.follows.lender-at-none))) row
+          ∙ ap (λ m. group_position (domain_text c.args.cookie.domain) (texts_of (entries m))) c.get_mut.follows.holds-at-none
           ∙ ap (λ t. group_position t (texts_of es)) (sym domain) ∙ position_none q es c.in-None.ensures.value;
     }
 
 pub returns-in_err-add_domain-in-None-clause-memory : goal.returns-in_err-add_domain-in-None-clause-memory
 returns-in_err-add_domain-in-None-clause-memory c =
-    let es = c.args.groups.now.entries in
+    let es = entries c.args.groups.now in
     let domain = c.as_str.ensures ∙ ap (λ (r : Row). domain_text r.domain) c.cookie.view_is in
     let named = find_item_paths c.args.cookie.path.text c.args.cookie.raw.name in
     either_way c.from_residual-in_err-add_domain-in-None.result
@@ -80,18 +81,18 @@ returns-in_err-add_domain-in-None-clause-memory c =
 pub returns-in_err-add_domain-in-None-clause-unchanged : goal.returns-in_err-add_domain-in-None-clause-unchanged
 returns-in_err-add_domain-in-None-clause-unchanged c =
     either_way c.from_residual-in_err-add_domain-in-None.result
-    (c.in_err-add_domain-in-None.ensures.unchanged ∙ ap (λ m. texts_of m.entries) c.get_mut.follows.holds-at-none)
+    (c.in_err-add_domain-in-None.ensures.unchanged ∙ ap (λ m. texts_of (entries m)) c.get_mut.follows.holds-at-none)
 
 pub returns-in_ok-add_domain-in-None-clause-put : goal.returns-in_ok-add_domain-in-None-clause-put
 returns-in_ok-add_domain-in-None-clause-put c =
     let row = c.in_ok-new-in-None.ensures in
     c.in_ok-add_domain-in-None.ensures.added
-    ∙ ap (λ m. put_items c.in_ok-new-in-None.field-0.row c.in_ok-new-in-None.field-0.number (texts_of m.entries)) c.get_mut.follows.holds-at-none
-    ∙ ap (λ (i : Item). put_items i.row i.number (texts_of c.args.groups.now.entries)) row
+    ∙ ap (λ m. put_items c.in_ok-new-in-None.field-0.row c.in_ok-new-in-None.field-0.number (texts_of (entries m))) c.get_mut.follows.holds-at-none
+    ∙ ap (λ (i : Item). put_items i.row i.number (texts_of (entries c.args.groups.now))) row
 
 pub returns-in_ok-add_domain-in-None-clause-is_new : goal.returns-in_ok-add_domain-in-None-clause-is_new
 returns-in_ok-add_domain-in-None-clause-is_new c =
-    let es = c.args.groups.now.entries in
+    let es = entries c.args.groups.now in
     let domain = c.as_str.ensures ∙ ap (λ (r : Row). domain_text r.domain) c.cookie.view_is in
     let named = find_item_paths c.args.cookie.path.text c.args.cookie.raw.name in
     ap is_none (found_none named c.as_str.result.now es c.in-None.ensures.value ∙ ap (λ t. found named t (texts_of es)) domain)

@@ -5,5 +5,5 @@ use Rattle.cookie_rows.proofs.iter.count_rows.Given as goal
 
 abbrev pub invariant-loop-names : goal.invariant-loop-names
 invariant-loop-names l = record {
-  counted : l.count + length (joined l.names-iterator) ≡ length (joined (all_groups l.domains));
+  counted : l.count + length (joined l.names-iterator) ≡ length (joined (all_groups l.fn.domains));
 }

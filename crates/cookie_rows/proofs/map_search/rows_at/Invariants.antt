@@ -1,9 +1,9 @@
 use Rattle.std.proofs.Common.{◌≡◌, map, take}
 use Rattle.std.specs.List.{flat_map}
 use Rattle.cookie_lookup.specs.SearchView.{rows_at}
-use Rattle.cookie_rows.specs.GroupChanges.{texts_of}
 use Rattle.cookie_rows.specs.Items.{bare}
+use Rattle.cookie_rows.specs.PlacedDomains.{by_position}
 use Rattle.cookie_rows.proofs.map_search.rows_at.Given as goal
 
 abbrev pub invariant-loop-row_position : goal.invariant-loop-row_position
-invariant-loop-row_position l = map (λ c. c.now) l.cookies.items ≡ flat_map (rows_at (bare (texts_of l.groups.entries))) (take l.row_position-index l.positions)
+invariant-loop-row_position l = map (λ c. c.now) l.cookies.items ≡ flat_map (rows_at (bare (by_position l.groups))) (take l.row_position-index l.positions)

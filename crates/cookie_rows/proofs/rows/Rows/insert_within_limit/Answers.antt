@@ -2,6 +2,7 @@ use Rattle.std.proofs.Common.{◌∙◌, ◌+◌, ◌<◌, ap, arith, inl, refl,
 use Rattle.cookie_words.specs.Moments.{moment_of}
 use Rattle.cookie_laws.specs.Contents.{contents_of, rows_in_order}
 use Rattle.cookie_laws.specs.Rows.{RowsInOrder, key_of, add_created, put, row_of}
+use Rattle.ordered_map.specs.Entries.{entries}
 use Rattle.cookie_rows.specs.GroupChanges.{texts_of}
 use Rattle.cookie_rows.specs.Items.{AreItems, Item, find_items, groups_in_order, put_items}
 use Rattle.cookie_rows.specs.Eviction.{HasRoom, InsertsInDomains, with_inserted}
@@ -13,7 +14,7 @@ use Rattle.cookie_rows.proofs.rows.Rows.insert_within_limit.Goals as goal
 pub add_row-requires : goal.add_row-requires
 add_row-requires c =
     let n = c.self.inside.created in
-    let gs = texts_of c.self.inside.groups.entries in
+    let gs = texts_of (entries c.self.inside.groups) in
     let key = key_of c.args.cookie in
     record {
       new = ap (λ (i : Item). find_items (key_of i.row) gs) c.in_ok-row.ensures ∙ found_items n gs c.self.invariant key
@@ -23,15 +24,15 @@ add_row-requires c =
 pub invariant_of-self-in-None : goal.invariant_of-self-in-None
 invariant_of-self-in-None c =
     let n = c.self.inside.created in
-    let gs = texts_of c.self.inside.groups.entries in
+    let gs = texts_of (entries c.self.inside.groups) in
     let added = c.in_ok-add_row-in-None.ensures.added ∙ ap (λ (i : Item). put_items i.row i.number gs) c.in_ok-row.ensures in
-    subst (λ m. AreItems m (texts_of c.add_row.new.groups.entries)) (sym c.in-Some.ensures.1)
+    subst (λ m. AreItems m (texts_of (entries c.add_row.new.groups))) (sym c.in-Some.ensures.1)
     (subst (AreItems (n + 1)) (sym added) (items_put n gs c.self.invariant c.args.cookie (n + 1) (inl refl)))
 
 pub returns-in_ok-add_row-in-None-clause-inserted : goal.returns-in_ok-add_row-in-None-clause-inserted
 returns-in_ok-add_row-in-None-clause-inserted c =
     let n = c.self.inside.created in
-    let gs = texts_of c.self.inside.groups.entries in
+    let gs = texts_of (entries c.self.inside.groups) in
     let row = c.args.cookie in
     rw c.in-None.is
     (ap groups_in_order (c.in_ok-add_row-in-None.ensures.added ∙ ap (λ (i : Item). put_items i.row i.number gs) c.in_ok-row.ensures)
@@ -42,21 +43,21 @@ returns-in_ok-add_row-in-None-clause-inserted c =
 pub insert_row_within_limit-requires-clause-new : goal.insert_row_within_limit-requires-clause-new
 insert_row_within_limit-requires-clause-new c =
     let n = c.self.inside.created in
-    let gs = texts_of c.self.inside.groups.entries in
+    let gs = texts_of (entries c.self.inside.groups) in
     let key = key_of c.args.cookie in
     ap (λ (i : Item). find_items (key_of i.row) gs) c.in_ok-row.ensures ∙ found_items n gs c.self.invariant key
     ∙ ap (λ (k : RowsInOrder). row_of key k.rows) c.self.view_is ∙ c.requires.new
 
 pub insert_row_within_limit-requires-clause-numbered : goal.insert_row_within_limit-requires-clause-numbered
 insert_row_within_limit-requires-clause-numbered c =
-    subst (λ (i : Item). AreItems i.number (texts_of c.self.inside.groups.entries)) (sym c.in_ok-row.ensures) c.self.invariant
+    subst (λ (i : Item). AreItems i.number (texts_of (entries c.self.inside.groups))) (sym c.in_ok-row.ensures) c.self.invariant
 
 pub invariant_of-self-in-Some-limit : goal.invariant_of-self-in-Some-limit
 invariant_of-self-in-Some-limit c =
     let n = c.self.inside.created in
-    let gs = texts_of c.self.inside.groups.entries in
+    let gs = texts_of (entries c.self.inside.groups) in
     let row = c.args.cookie in
-    let new = texts_of c.insert_row_within_limit.new.groups.entries in
+    let new = texts_of (entries c.insert_row_within_limit.new.groups) in
     let fresh = ap (λ (k : RowsInOrder). row_of (key_of row) k.rows) c.self.view_is ∙ c.requires.new in
     let live = rw c.in-Some-limit.is at c.requires.unexpired in
     let some : 0 < c.max.result = omega (arith, c.max.ensures) in
@@ -72,10 +73,10 @@ invariant_of-self-in-Some-limit c =
 pub returns-in_ok-insert_row_within_limit-in-Some-limit-clause-inserted : goal.returns-in_ok-insert_row_within_limit-in-Some-limit-clause-inserted
 returns-in_ok-insert_row_within_limit-in-Some-limit-clause-inserted c =
     let n = c.self.inside.created in
-    let gs = texts_of c.self.inside.groups.entries in
+    let gs = texts_of (entries c.self.inside.groups) in
     let row = c.args.cookie in
     let now = moment_of c.args.now in
-    let new = texts_of c.insert_row_within_limit.new.groups.entries in
+    let new = texts_of (entries c.insert_row_within_limit.new.groups) in
     let fresh = ap (λ (k : RowsInOrder). row_of (key_of row) k.rows) c.self.view_is ∙ c.requires.new in
     let live = rw c.in-Some-limit.is at c.requires.unexpired in
     let some : 0 < c.max.result = omega (arith, c.max.ensures) in

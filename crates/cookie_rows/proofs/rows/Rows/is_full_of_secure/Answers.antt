@@ -1,5 +1,6 @@
 use Rattle.std.proofs.Common.{ap, ◌∙◌}
 use Rattle.std.specs.Prelude.{nat_le, None, Some}
+use Rattle.ordered_map.specs.Entries.{entries}
 use Rattle.cookie_words.specs.Moments.{moment_of}
 use Rattle.cookie_parts.specs.Cookie.{Row}
 use Rattle.cookie_parts.specs.Domain.{domain_text}
@@ -13,7 +14,7 @@ use Rattle.cookie_rows.proofs.rows.Rows.is_full_of_secure.Goals as goal
 
 pub returns-in-Some : goal.returns-in-Some
 returns-in-Some c =
-    let gs = texts_of c.self.inside.groups.entries in
+    let gs = texts_of (entries c.self.inside.groups) in
     let now = moment_of c.args.now in
     let key = key_of c.args.cookie.now in
     let limit = c.in-Some.limit in

@@ -1,5 +1,6 @@
 use Rattle.std.proofs.Common.{◌∙◌, ◌+◌, ap, inl, inr, refl, subst, sym}
 use Rattle.std.specs.Prelude.{is_none}
+use Rattle.ordered_map.specs.Entries.{entries}
 use Rattle.cookie_laws.specs.Rows.{RowsInOrder, key_of, add_created, put, row_of}
 use Rattle.cookie_rows.specs.GroupChanges.{texts_of}
 use Rattle.cookie_rows.specs.Items.{AreItems, groups_in_order}
@@ -10,14 +11,14 @@ use Rattle.cookie_rows.proofs.rows.Rows.put.Goals as goal
 pub invariant_of-self-then-branch : goal.invariant_of-self-then-branch
 invariant_of-self-then-branch c =
     let n = c.self.inside.created in
-    let gs = texts_of c.self.inside.groups.entries in
-    subst (λ m. AreItems m (texts_of c.put_row.new.groups.entries)) (sym c.in-Some.ensures.1)
+    let gs = texts_of (entries c.self.inside.groups) in
+    subst (λ m. AreItems m (texts_of (entries c.put_row.new.groups))) (sym c.in-Some.ensures.1)
     (subst (AreItems (n + 1)) (sym c.in_ok-put_row.ensures.put) (items_put n gs c.self.invariant c.args.cookie (n + 1) (inl refl)))
 
 pub returns-then-branch-clause-put : goal.returns-then-branch-clause-put
 returns-then-branch-clause-put c =
     let n = c.self.inside.created in
-    let gs = texts_of c.self.inside.groups.entries in
+    let gs = texts_of (entries c.self.inside.groups) in
     ap groups_in_order c.in_ok-put_row.ensures.put
     ∙ kept_put n gs c.self.invariant c.args.cookie
     ∙ ap (λ (k : RowsInOrder). record { rows = put k.rows c.args.cookie; created = add_created k.created (key_of c.args.cookie) }) c.self.view_is
@@ -25,7 +26,7 @@ returns-then-branch-clause-put c =
 pub returns-else-branch-clause-put : goal.returns-else-branch-clause-put
 returns-else-branch-clause-put c =
     let n = c.self.inside.created in
-    let gs = texts_of c.self.inside.groups.entries in
+    let gs = texts_of (entries c.self.inside.groups) in
     ap groups_in_order c.in_ok-put_row.ensures.put
     ∙ kept_put n gs c.self.invariant c.args.cookie
     ∙ ap (λ (k : RowsInOrder). record { rows = put k.rows c.args.cookie; created = add_created k.created (key_of c.args.cookie) }) c.self.view_is
@@ -33,7 +34,7 @@ returns-else-branch-clause-put c =
 pub invariant_of-self-else-branch : goal.invariant_of-self-else-branch
 invariant_of-self-else-branch c =
     let n = c.self.inside.created in
-    let gs = texts_of c.self.inside.groups.entries in
+    let gs = texts_of (entries c.self.inside.groups) in
     subst (AreItems n) (sym c.in_ok-put_row.ensures.put)
     (items_put n gs c.self.invariant c.args.cookie n
     (inr (refl, λ none. let stored = sym (ap is_none none) ∙ sym c.in_ok-put_row.ensures.is_new ∙ c.if-branch.false in absurd (cc))))
@@ -41,7 +42,7 @@ invariant_of-self-else-branch c =
 pub returns-in_err-put_row-clause-memory : goal.returns-in_err-put_row-clause-memory
 returns-in_err-put_row-clause-memory c =
     let n = c.self.inside.created in
-    let gs = texts_of c.self.inside.groups.entries in
+    let gs = texts_of (entries c.self.inside.groups) in
     let key = key_of c.args.cookie in
     either_way c.from_residual.result
     (ap (λ (k : RowsInOrder). row_of key k.rows) (sym c.self.view_is) ∙ sym (found_items n gs c.self.invariant key) ∙ c.in_err-put_row.ensures.memory)

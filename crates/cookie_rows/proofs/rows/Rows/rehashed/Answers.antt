@@ -1,4 +1,5 @@
 use Rattle.std.proofs.Common.{◌∙◌, ap, subst, sym}
+use Rattle.ordered_map.specs.Entries.{entries}
 use Rattle.cookie_laws.specs.Rows.{RowsInOrder}
 use Rattle.cookie_rows.specs.GroupChanges.{texts_of}
 use Rattle.cookie_rows.specs.Items.{AreItems, groups_in_order}
@@ -9,7 +10,7 @@ use Rattle.cookie_rows.proofs.rows.Rows.rehashed.Goals as goal
 pub returns-in_err-groups-clause-memory : goal.returns-in_err-groups-clause-memory
 returns-in_err-groups-clause-memory c =
     either_way c.from_residual.result
-    (λ none. some_rows (texts_of c.self.inside.groups.entries) c.self.invariant.0 c.in_err-groups.ensures.memory (ap (λ (k : RowsInOrder). k.rows) c.self.view_is ∙ none))
+    (λ none. some_rows (texts_of (entries c.self.inside.groups)) c.self.invariant.0 c.in_err-groups.ensures.memory (ap (λ (k : RowsInOrder). k.rows) c.self.view_is ∙ none))
 
 pub invariant_of-result : goal.invariant_of-result
 invariant_of-result c = subst (AreItems c.self.inside.created) (sym c.in_ok-groups.ensures.texts) c.self.invariant

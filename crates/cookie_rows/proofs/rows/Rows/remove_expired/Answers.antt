@@ -1,4 +1,5 @@
 use Rattle.std.proofs.Common.{◌∙◌, None, ap, arith, length, rules}
+use Rattle.ordered_map.specs.Entries.{entries}
 use Rattle.cookie_words.specs.Moments.{moment_of}
 use Rattle.cookie_laws.specs.Contents.{contents_of, unexpired, rows_in_order}
 use Rattle.cookie_laws.specs.Rows.{RowsInOrder}
@@ -9,12 +10,12 @@ use Rattle.cookie_rows.proofs.rows.Rows.remove_expired.Goals as goal
 
 pub invariant_of-self : goal.invariant_of-self
 invariant_of-self c =
-    items_retained _ c.self.inside.created (texts_of c.self.inside.groups.entries) (texts_of c.retain_groups.new.groups.entries) c.self.invariant c.retain_groups.ensures
+    items_retained _ c.self.inside.created (texts_of (entries c.self.inside.groups)) (texts_of (entries c.retain_groups.new.groups)) c.self.invariant c.retain_groups.ensures
 
 pub returns-clause-rows : goal.returns-clause-rows
 returns-clause-rows c =
     let now = moment_of c.args.now in
-    kept_unexpired _ c.self.inside.created (texts_of c.self.inside.groups.entries) (texts_of c.retain_groups.new.groups.entries) c.self.invariant c.retain_groups.ensures
+    kept_unexpired _ c.self.inside.created (texts_of (entries c.self.inside.groups)) (texts_of (entries c.retain_groups.new.groups)) c.self.invariant c.retain_groups.ensures
     now (λ row result call. search rules)
     ∙ ap (λ (k : RowsInOrder). rows_in_order (unexpired now (contents_of k None None))) c.self.view_is
 

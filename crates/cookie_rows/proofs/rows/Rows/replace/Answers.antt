@@ -1,4 +1,5 @@
 use Rattle.std.proofs.Common.{◌∙◌, sym, ap, inr, refl, subst}
+use Rattle.ordered_map.specs.Entries.{entries}
 use Rattle.cookie_laws.specs.Rows.{RowsInOrder, key_of, add_created, put, row_of}
 use Rattle.cookie_rows.specs.GroupChanges.{texts_of}
 use Rattle.cookie_rows.specs.Items.{AreItems, groups_in_order}
@@ -10,13 +11,13 @@ replace_row-requires c =
     let key = key_of c.args.cookie in
     record {
       stored = λ none. c.requires.stored (ap (λ (k : RowsInOrder). row_of key k.rows) (sym c.self.view_is)
-          ∙ sym (found_items c.self.inside.created (texts_of c.self.inside.groups.entries) c.self.invariant key) ∙ none);
+          ∙ sym (found_items c.self.inside.created (texts_of (entries c.self.inside.groups)) c.self.invariant key) ∙ none);
     }
 
 pub invariant_of-self : goal.invariant_of-self
 invariant_of-self c =
     let n = c.self.inside.created in
-    let gs = texts_of c.self.inside.groups.entries in
+    let gs = texts_of (entries c.self.inside.groups) in
     let key = key_of c.args.cookie in
     subst (AreItems n) (sym (c.replace_row.ensures n))
     (items_put n gs c.self.invariant c.args.cookie n
@@ -25,7 +26,7 @@ invariant_of-self c =
 pub returns : goal.returns
 returns c =
     let n = c.self.inside.created in
-    let gs = texts_of c.self.inside.groups.entries in
+    let gs = texts_of (entries c.self.inside.groups) in
     ap groups_in_order (c.replace_row.ensures n)
     ∙ kept_put n gs c.self.invariant c.args.cookie
     ∙ ap (λ (k : RowsInOrder). record { rows = put k.rows c.args.cookie; created = add_created k.created (key_of c.args.cookie) }) c.self.view_is

@@ -1,5 +1,6 @@
 use Rattle.std.proofs.Common.{◌∙◌, None, ap, rules, subst}
 use Rattle.std.specs.Fn.{FnReturnsAt}
+use Rattle.ordered_map.specs.Entries.{entries}
 use Rattle.cookie_laws.specs.Contents.{contents_of, retained, rows_in_order}
 use Rattle.cookie_laws.specs.Rows.{RowsInOrder}
 use Rattle.cookie_rows.specs.GroupChanges.{texts_of}
@@ -8,10 +9,10 @@ use Rattle.cookie_rows.proofs.rows.Rows.retain.Goals as goal
 
 pub invariant_of-self : goal.invariant_of-self
 invariant_of-self g c =
-    items_retained _ c.self.inside.created (texts_of c.self.inside.groups.entries) (texts_of c.retain_groups.new.groups.entries) c.self.invariant c.retain_groups.ensures
+    items_retained _ c.self.inside.created (texts_of (entries c.self.inside.groups)) (texts_of (entries c.retain_groups.new.groups)) c.self.invariant c.retain_groups.ensures
 
 pub returns : goal.returns
 returns g c = λ test computes.
-    kept_retained _ c.self.inside.created (texts_of c.self.inside.groups.entries) (texts_of c.retain_groups.new.groups.entries) c.self.invariant c.retain_groups.ensures
+    kept_retained _ c.self.inside.created (texts_of (entries c.self.inside.groups)) (texts_of (entries c.retain_groups.new.groups)) c.self.invariant c.retain_groups.ensures
     test (λ row result call. computes row.row result (subst (λ x. FnReturnsAt g.F.Fn c.args.keep x result) call.1 (search rules)))
     ∙ ap (λ (k : RowsInOrder). rows_in_order (retained test (contents_of k None None))) c.self.view_is
