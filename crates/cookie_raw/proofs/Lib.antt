@@ -2,7 +2,6 @@ pub mod Ages
 pub mod AgesBack
 pub mod AsciiTexts
 pub mod DateForms
-pub mod DateMonths
 pub mod DateNumbers
 pub mod DateText
 pub mod DateTokens

@@ -187,19 +187,15 @@ fn day(token: &[u8]) -> Option<u32>
     Some(day)
 }
 
-// Whether the first three bytes of `token` are `name`, ignoring ASCII case.
-fn is_named(token: &[u8], name: &[u8]) -> bool
-    ensures { result ≡ str_eq_ignore_ascii_case (take 3 token.now) name.now }
-{
-    token[..token.len().min(3)].eq_ignore_ascii_case(name)
-}
-
 // Returns the index of the month whose name `token` begins with.
 fn month_index(token: &[u8]) -> Option<usize>
     ensures value { result ≡ position (str_eq_ignore_ascii_case (take 3 token.now)) month_names }
     ensures bound { IfSome result (λ index. index < 12) }
 {
-    MONTH_NAMES.iter().position(|name| is_named(token, name))
+    let start = token.get(..3)?;
+    MONTH_NAMES
+        .iter()
+        .position(|name| start.eq_ignore_ascii_case(name))
 }
 
 // Parses the `month`: 1 is January.

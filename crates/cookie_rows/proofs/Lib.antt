@@ -41,6 +41,7 @@ pub mod RemovedAt
 pub mod Results
 pub mod RetainedItems
 pub mod RowCounts
+pub mod RowLengths
 pub mod RowsInOrder
 pub mod SameOrder
 pub mod SecureRows

@@ -1,5 +1,5 @@
 -- A map from names to groups, changed at one name.
-use Rattle.std.proofs.Common.{◌≡◌, ℕ, ◌==◌, Bool, true, false, List, [], ◌∷◌, map, length, refl, ap, inl, inr, bytes_eq, Option, Some, None, arith}
+use Rattle.std.proofs.Common.{◌≡◌, ℕ, ◌==◌, Bool, true, false, List, [], ◌∷◌, ◌++◌, map, length, refl, ap, inl, inr, bytes_eq, Option, Some, None, arith}
 use Rattle.std.specs.Prelude.{string_bytes, String}
 use Rattle.std.specs.String.{string_eq}
 use Rattle.std.specs.Map.{lookup, set_value, remove_entry, values_of}
@@ -50,6 +50,15 @@ module _ {A X : Type 0} where
         | inl t ↦ let l' = rw t at l in absurd (cc)
         | inr t ↦ let l' = rw t at l in rw (same, t) (ap (λ xs. (string_bytes e.0, e.1) ∷ xs) (put_insert f q k es is l'))
       ]
+
+  -- the same in the words of a push
+  pub put_push : (f : List X → List X) (q : List ℕ) (k : String A) (es : List (String A × List X)) → string_bytes k ≡ q → None ≡ lookup (at_text q) es
+      → texts_of (es ++ (k, f []) ∷ []) ≡ put_at f q (texts_of es)
+  put_push f q k [] is l = ap (λ t. (t, f []) ∷ []) is
+  put_push f q k (e ∷ es) is l = elim (cases_Bool (at_text q e.0)) [
+    | inl t ↦ let l' = rw t at l in absurd (cc)
+    | inr t ↦ let l' = rw t at l in rw t (ap (λ xs. (string_bytes e.0, e.1) ∷ xs) (put_push f q k es is l'))
+  ]
 
   -- there is no group, so nothing is changed
   pub changed_none : (f : List X → List X) (q : List ℕ) (es : List (String A × List X)) → None ≡ lookup (at_text q) es → texts_of es ≡ changed_at f q (texts_of es)

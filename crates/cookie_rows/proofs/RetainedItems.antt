@@ -1,5 +1,5 @@
 -- What remains of rows in groups if those for which a closure returns false are removed.
-use Rattle.std.proofs.Common.{◌≡◌, ℕ, Bool, true, false, not, ◌||◌, List, [], ◌∷◌, ◌++◌, cond, length, map, refl, sym, ◌∙◌, ap, ap₂, subst, bytes_eq, arith, Some, None}
+use Rattle.std.proofs.Common.{◌≡◌, ℕ, ◌≤◌, Bool, true, false, not, ◌||◌, List, [], ◌∷◌, ◌++◌, cond, length, map, refl, sym, ◌∙◌, ap, ap₂, subst, bytes_eq, arith, Some, None}
 use Rattle.std.specs.Prelude.{if◌then◌else◌, ◌==◌, IsTrue, string_bytes, String}
 use Rattle.std.specs.List.{AllByRecursion, filter, flat_map, items_where_true, list_any}
 use Rattle.std.specs.List.Retain.{IsFiltered, ReturnsInTurn}
@@ -12,7 +12,7 @@ use Rattle.cookie_words.specs.Moments.{Moment}
 use Rattle.cookie_parts.specs.Cookie.{Row, is_expired}
 use Rattle.cookie_parts.specs.Hosts.{passes}
 use Rattle.cookie_laws.specs.Contents.{ReturnsTest, contents_of, has_expired, is_retained, retained, rows_in_order, unexpired}
-use Rattle.cookie_laws.specs.Rows.{Key, are_rows, differ, is_unexpired, key_at, key_of, row_of, same_key, same_key_equiv}
+use Rattle.cookie_laws.specs.Rows.{Key, RowsInOrder, are_rows, differ, is_unexpired, key_at, key_of, row_of, same_key, same_key_equiv}
 use Rattle.cookie_lookup.specs.Groups.{flat, flat_paths}
 use Rattle.cookie_rows.specs.GroupChanges.{texts_of, unless_empty}
 use Rattle.cookie_rows.specs.Items.{AreItems, AreNamed, Item, ItemGroups, ItemPaths, bare, bare_paths, groups_in_order, rows_of}
@@ -21,7 +21,8 @@ use Rattle.cookie_rows.specs.NameMaps.{names_differ, names_in}
 use Rattle.cookie_rows.specs.Retained.{RetainsDomains, RetainsGroups, RetainsItems, RetainsPaths}
 use Rattle.cookie_rows.proofs.ByNumber.{all_map}
 use Rattle.cookie_rows.proofs.FilteredGroups.{all_any, all_both, all_parts}
-use Rattle.cookie_rows.proofs.LeftItems.{each_any, each_key, each_map, has_expired_item, row_of_item}
+use Rattle.cookie_rows.proofs.LeftItems.{Each, each_any, each_key, each_map, has_expired_item, row_of_item}
+use Rattle.cookie_rows.proofs.RowCounts.{fewer}
 use Rattle.cookie_rows.proofs.UnexpiredItems.{items_left, kept_left}
 
 -- the calls that ran
@@ -307,14 +308,29 @@ module _ (returns : Item → Bool → Type 0) where
       gs hs (ap (differ same_key) (sym (keys_groups gs)) ∙ differs) h
 
 module _ (returns : Item → Bool → Type 0) (n : ℕ) (gs hs : ItemGroups) (a : AreItems n gs) (h : RetainsDomains returns gs hs) where
+  -- a test of keys tests the rows
+  each_row : (t : Key → Bool) → Each (λ d p x. t (key_of x.row) ≡ t (key_in x)) gs
+  each_row t = each_any (λ d p x. t (key_of x.row) ≡ t (key_in x)) (λ d p x. refl) gs
+
+  -- and the keys of their places
+  each_tested : (t : Key → Bool) → Each (λ d p x. t (key_at d p x.row.raw.name) ≡ t (key_in x)) gs
+  each_tested t =
+      each_map (λ d p x. key_of x.row ≡ key_at d p x.row.raw.name) (λ d p x. t (key_at d p x.row.raw.name) ≡ t (key_in x)) (λ d p x is. ap t (sym is)) gs (each_key gs a.0.1)
+
   -- what remains are groups of rows
   pub items_retained : AreItems n hs
   items_retained =
       let tested = groups_tested_by_key returns gs hs a.1 h in
       let t = tested.0 in
-      subst (AreItems n) (sym tested.1)
-      (items_left n gs a (λ x. t (key_in x)) (λ row. t (key_of row)) t (each_any (λ d p x. t (key_of x.row) ≡ t (key_in x)) (λ d p x. refl) gs)
-      (each_map (λ d p x. key_of x.row ≡ key_at d p x.row.raw.name) (λ d p x. t (key_at d p x.row.raw.name) ≡ t (key_in x)) (λ d p x is. ap t (sym is)) gs (each_key gs a.0.1)))
+      subst (AreItems n) (sym tested.1) (items_left n gs a (λ x. t (key_in x)) (λ row. t (key_of row)) t (each_row t) (each_tested t))
+
+  -- no more than before
+  pub fewer_retained : length (flat (bare hs)) ≤ length (flat (bare gs))
+  fewer_retained =
+      let tested = groups_tested_by_key returns gs hs a.1 h in
+      let t = tested.0 in
+      let left = ap groups_in_order tested.1 ∙ kept_left n gs a (λ x. t (key_in x)) (λ row. t (key_of row)) t (each_row t) (each_tested t) in
+      omega (arith, ap (λ (k : RowsInOrder). length k.rows) left, fewer (λ row. t (key_of row)) (flat (bare gs)))
 
   -- if the closure computes a test of rows, the store has the rows that pass it
   pub kept_retained : (test : Row → Bool) → ReturnsTest returns (λ x. test x.row) → groups_in_order hs ≡ rows_in_order (retained test (contents_of (groups_in_order gs) None None))

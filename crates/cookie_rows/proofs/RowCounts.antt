@@ -65,7 +65,7 @@ count_moved alone text (p ∷ ps) = elim (cases_Bool (bytes_eq text p.0)) [
 ]
 
 -- a filter leaves no more
-fewer : (test : Item → Bool) (xs : List Item) → length (filter test xs) ≤ length xs
+pub fewer : {T : Type 0} (test : T → Bool) (xs : List T) → length (filter test xs) ≤ length xs
 fewer test [] = omega arith
 fewer test (x ∷ xs) = elim (cases_Bool (test x)) [ inl e ↦ rw e (omega (arith, fewer test xs)) | inr e ↦ rw e (omega (arith, fewer test xs)) ]
 

@@ -7,9 +7,8 @@ use Rattle.std.proofs.lemmas.Bool.Decides.{nat_tests}
 use Rattle.std.proofs.lemmas.List.{length-map}
 use Rattle.std.proofs.lemmas.List.Elements.{filter-append}
 use Rattle.std.proofs.lemmas.Map.Steps.{length-le_from_distinct_below}
-use Rattle.cookie_words.specs.Moments.{Moment}
 use Rattle.cookie_parts.specs.Cookie.{Row}
-use Rattle.cookie_laws.specs.Rows.{Key, are_rows, differ, key_at, key_of, unexpired_rows}
+use Rattle.cookie_laws.specs.Rows.{Key, are_rows, differ, key_at, key_of}
 use Rattle.cookie_lookup.specs.Groups.{ArePaths, AreGroups, flat}
 use Rattle.cookie_rows.specs.Items.{AreItems, Item, ItemGroups, ItemPaths, bare, bare_paths, by_number, groups_in_order, creation_order, numbered, rows_of}
 use Rattle.cookie_rows.specs.Eviction.{is_filled, filter_paths, filter_groups}
@@ -73,11 +72,6 @@ module _ (test : Item → Bool) where
       (ap (differ bytes_eq) (all (filter_groups test gs)) ∙ after, filled_groups gs a.1)
 
 -- items that have not expired
-
--- there are no more rows that have not
-pub fewer_rows : (now : Moment) (rows : List Row) → length (unexpired_rows now rows) ≤ length rows
-fewer_rows now [] = omega arith
-fewer_rows now (row ∷ rows) = grind (arith, fewer_rows now rows)
 
 module _ (n : ℕ) (gs : ItemGroups) (a : AreItems n gs) where
   -- there are no more rows than numbers

@@ -6,6 +6,7 @@
 #![tactic(auto)]
 
 mod boxed;
+mod building;
 mod copying;
 mod domains;
 mod eviction_order;

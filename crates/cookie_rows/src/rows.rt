@@ -13,13 +13,14 @@ ghost use Rattle.cookie_laws.specs.Rows.{are_rows, changed, has_key, included, i
 ghost use Rattle.cookie_laws.specs.SecureLast.{is_full_of_secure};
 ghost use Rattle.cookie_lookup.specs.SearchView.{domains_found, paths_found};
 ghost use Rattle.cookie_lookup.specs.Candidates.{most_domains, most_paths};
-ghost use Rattle.cookie_rows.specs.Building.{Builds, BuildsAt, FailsFirst, FailsFirstAt, IsNewRow, TakesCookie, ReachesNewRow, ReachesNewRowAt};
+ghost use Rattle.cookie_rows.specs.Building.{Builds, FailsFirst, IsNewRow, TakesCookie, ReachesNewRow};
 ghost use Rattle.cookie_rows.specs.Eviction.{with_inserted, HasRoom};
 ghost use Rattle.cookie_rows.specs.GroupChanges.{texts_of};
 ghost use Rattle.cookie_rows.specs.RequestCookies.{name_and_value};
 ghost use Rattle.cookie_rows.specs.Items.{AreItems, groups_in_order};
 
 use crate::boxed::BoxedCookie;
+use crate::building::build;
 use crate::copying::rehashed_map;
 use crate::domains::{
     add_row, expire_row, find_row, insert_row_within_limit, put_row, remove_row, replace_row,
@@ -52,6 +53,8 @@ pub struct Rows {
     groups: OrderedMap<Paths, HashKey>,
     // The number of the next new row; all rows have smaller numbers.
     created: u64,
+    // The number of rows.
+    len: usize,
 }
 
 impl Model for Rows {
@@ -59,7 +62,8 @@ impl Model for Rows {
 
     ghost view = { λ r. groups_in_order (texts_of (entries r.groups)) };
 
-    ghost invariant = { λ r. AreItems r.created (texts_of (entries r.groups)) };
+    ghost invariant = { λ r. AreItems r.created (texts_of (entries r.groups))
+        × (r.len ≡ length (groups_in_order (texts_of (entries r.groups))).rows) };
 }
 
 impl Clone for Rows {
@@ -78,6 +82,7 @@ impl Rows {
         Rows {
             groups: OrderedMap::with_hasher(alloc.alloc, alloc.hash_key),
             created: 0,
+            len: 0,
         }
     }
 
@@ -299,12 +304,20 @@ impl Rows {
             None => {
                 add_row(&mut self.groups, row)?;
                 self.created = next;
+                self.len += 1;
                 Ok(())
             }
             Some(limit) => {
                 // a limit of 0 evicts the same rows as 1: all others of the domain
-                insert_row_within_limit(&mut self.groups, row, limit.max(1), order, now)?;
+                let evicted = insert_row_within_limit(
+                    &mut self.groups,
+                    row,
+                    limit.max(1),
+                    order,
+                    now,
+                )?;
                 self.created = next;
+                self.len = self.len + 1 - evicted;
                 Ok(())
             }
         }
@@ -349,6 +362,7 @@ impl Rows {
         };
         if put_row(&mut self.groups, cookie, self.created)? {
             self.created = next;
+            self.len += 1;
         }
         Ok(())
     }
@@ -385,7 +399,11 @@ impl Rows {
         ensures removed { let key = key_at domain.now path.now name.now in
             self.new ≡ record { rows = removed (has_key key) self.old.rows; created = removed (same_key key) self.old.created } }
     {
-        remove_row(&mut self.groups, domain, path, name)
+        let removed = remove_row(&mut self.groups, domain, path, name);
+        if removed.is_some() {
+            self.len -= 1;
+        }
+        removed
     }
 
     /// Removes the rows that have expired at `now`, RFC 6265 5.3, and returns how many. The others
@@ -394,12 +412,13 @@ impl Rows {
         ensures rows { self.new ≡ rows_in_order (unexpired (moment_of now) (contents_of self.old None None)) }
         ensures removed { result + length self.new.rows ≡ length self.old.rows }
     {
-        let before = self.len();
+        let before = self.len;
         let keep = move |cookie: &Cookie<'_>, _number: u64| -> bool
             ensures { result ≡ is_unexpired (moment_of now) cookie.now }
         { !cookie.is_expired(now) };
         retain_groups(&mut self.groups, &keep);
-        before - self.len()
+        self.len = count_rows(self.groups.values());
+        before - self.len
     }
 
     /// Keeps the rows for which `keep` returns true, in order and in creation order, and removes the
@@ -409,28 +428,29 @@ impl Rows {
         ensures { (test : Row → Bool) → ReturnsTest (FnReturnsAt F.Fn keep) test
             → self.new ≡ rows_in_order (retained test (contents_of self.old None None)) }
     {
+        // for the checker: no more rows remain than there are
+        let _len = self.len;
         let keep_row = move |cookie: &Cookie<'_>, _number: u64| -> bool
             requires { F.IsAlwaysCallable keep }
             ensures { FnReturnsAt F.Fn keep cookie.now result }
         { keep(&*cookie) };
         retain_groups(&mut self.groups, &keep_row);
+        self.len = count_rows(self.groups.values());
     }
 
     /// Returns how many rows there are.
     pub fn len(&self) -> usize
         ensures { result ≡ length self.now.rows }
     {
-        // for the checker: all rows have different numbers below this one, so their count fits
-        let _created = self.created;
-        count_rows(self.groups.values())
+        self.len
     }
 
     /// Returns how many rows have not expired at `now`. Allocates nothing.
     pub fn len_unexpired(&self, now: DateTime) -> usize
         ensures { result ≡ length (unexpired_rows (moment_of now) self.now.rows) }
     {
-        // for the checker: as in `len`, the count fits
-        let _created = self.created;
+        // for the checker: there are no more than all
+        let _len = self.len;
         self.iter_unexpired(now).count()
     }
 
@@ -461,6 +481,7 @@ impl Rows {
         Ok(Rows {
             groups,
             created: self.created,
+            len: self.len,
         })
     }
 
@@ -469,31 +490,6 @@ impl Rows {
         ensures { self.new ≡ record { rows = []; created = [] } }
     {
         self.groups.clear();
+        self.len = 0;
     }
-}
-
-// Builds the rows from the remaining cookies. Takes no item after an error of the iterator, or
-// after a cookie for which memory ran out.
-fn build<I: Iterator<Item = Result<Cookie<'static>, Error>>>(
-    alloc: StoreAlloc,
-    cookies: &mut I,
-    include_expired: bool,
-    now: DateTime,
-) -> Result<Rows, Error>
-    requires can { I.can_next cookies.old }
-    requires ends { IsFinite (I.remaining cookies.old) }
-    ensures built { IfOk result (λ rows. BuildsAt I.next_gives cookies.old cookies.new include_expired (moment_of now) rows) }
-    ensures failed { IfErr result (λ error.
-        ((error ≡ Error.Memory) × ReachesNewRowAt I.next_gives cookies.old cookies.new include_expired (moment_of now))
-        ⊎ FailsFirstAt I.next_gives cookies.old cookies.new error) }
-{
-    let mut built = Rows::new(alloc);
-    while let Some(item) = cookies.next() {
-        let cookie = item?;
-        match built.take(cookie, include_expired, now) {
-            Ok(()) => {}
-            Err(_) => return Err(Error::Memory),
-        }
-    }
-    Ok(built)
 }

@@ -1,6 +1,5 @@
 pub mod Around
 pub mod Ascending
-pub mod CallerLemmas
 pub mod ClosedViews
 pub mod Closing
 pub mod Found

@@ -1,15 +1,12 @@
-use Rattle.std.proofs.Common.{◌∙◌, sym, ap}
+use Rattle.std.proofs.Common.{◌∙◌, [], ◌∷◌, ◌++◌, sym, ap}
 use Rattle.std.specs.Map.{lookup}
-use Rattle.std.specs.String.{string_eq}
 use Rattle.cookie_parts.specs.Cookie.{Row}
 use Rattle.cookie_parts.specs.Domain.{domain_text}
-use Rattle.indexmap.specs.IndexMap.{insert_entry}
 use Rattle.ordered_map.specs.Entries.{entries, is_text}
-use Rattle.ordered_map.proofs.CallerLemmas.{push-insert_entry}
 use Rattle.cookie_rows.specs.GroupChanges.{texts_of}
 use Rattle.cookie_rows.specs.Items.{put_item_paths}
 use Rattle.cookie_rows.proofs.DomainMaps.{lookup_none}
-use Rattle.cookie_rows.proofs.Maps.{put_insert}
+use Rattle.cookie_rows.proofs.Maps.{put_push}
 use Rattle.cookie_rows.proofs.Results.{on_ok_map}
 use Rattle.cookie_rows.proofs.domains.add_domain.Goals as goal
 
@@ -25,9 +22,8 @@ returns-clause-added c =
     let row = c.args.row.row in
     let domain = c.in_ok-domain.ensures.ok ∙ c.as_str.ensures ∙ ap (λ (r : Row). domain_text r.domain) c.behind-row.view_is ∙ ap (λ (r : Row). domain_text r.domain) c.cookie.ensures in
     let absent = lookup_none (domain_text row.domain) es c.requires.absent in
-    let new = ap (λ t. lookup (is_text t) es) domain ∙ sym absent in
     on_ok_map c.push.result
-    (λ pushed. ap texts_of (pushed ∙ push-insert_entry c.in_ok-domain.domain c.in_ok-group.group es new)
-    ∙ ap (λ v. texts_of (insert_entry string_eq es c.in_ok-domain.domain v)) c.in_ok-group.ensures
-    ∙ put_insert (put_item_paths row c.args.row.number) (domain_text row.domain) c.in_ok-domain.domain es domain absent)
+    (λ pushed. ap texts_of pushed
+    ∙ ap (λ v. texts_of (es ++ (c.in_ok-domain.domain, v) ∷ [])) c.in_ok-group.ensures
+    ∙ put_push (put_item_paths row c.args.row.number) (domain_text row.domain) c.in_ok-domain.domain es domain absent)
     c.push.ensures.pushed

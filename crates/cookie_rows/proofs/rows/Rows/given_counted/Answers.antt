@@ -8,7 +8,7 @@ use Rattle.cookie_rows.proofs.rows.Rows.given_counted.Goals as goal
 pub returns-clause-has_creation_order : goal.returns-clause-has_creation_order
 returns-clause-has_creation_order c =
     subst (λ kept. HasCreationOrder (contents_of kept None None)) c.self.view_is
-    (created_once c.self.inside.created (texts_of (entries c.self.inside.groups)) c.self.invariant)
+    (created_once c.self.inside.created (texts_of (entries c.self.inside.groups)) c.self.invariant.0)
 
 pub returns-clause-paths : goal.returns-clause-paths
 returns-clause-paths c = rw (← c.self.view_is) (search rules)

@@ -21,5 +21,5 @@ returns-in-Some c =
     rw c.in-Some.is
     (c.is_full.ensures
     ∙ ap (λ d. nat_le limit (count_secure now (paths_of d gs))) (c.as_str.ensures ∙ ap (λ (r : Row). domain_text r.domain) c.cookie.view_is)
-    ∙ ap (nat_le limit) (secure_counted c.self.inside.created gs c.self.invariant now key)
+    ∙ ap (nat_le limit) (secure_counted c.self.inside.created gs c.self.invariant.0 now key)
     ∙ ap (λ (k : RowsInOrder). is_full_of_secure (contents_of k None (Some limit)) now key) c.self.view_is)

@@ -1,6 +1,6 @@
 use Rattle.std.proofs.Common.{◌∙◌, ap, sym, [], ◌∷◌, ◌++◌, Ok, map}
 use Rattle.std.proofs.lemmas.List.{map-append}
-use Rattle.cookie_rows.proofs.rows.build.Goals as goal
+use Rattle.cookie_rows.proofs.building.build.Goals as goal
 
 pub loop-item-preserved : goal.loop-item-preserved
 loop-item-preserved g c =

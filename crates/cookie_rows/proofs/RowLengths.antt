@@ -1,0 +1,132 @@
+-- How many rows there are after a change.
+use Rattle.std.proofs.Common.{◌≡◌, ℕ, ◌+◌, Bool, true, false, List, [], ◌∷◌, find, length, refl, sym, ◌∙◌, ap, inl, inr, None, Option, Some, arith, length-append}
+use Rattle.std.specs.Prelude.{◌≢◌, is_some, String}
+use Rattle.std.specs.List.{list_any}
+use Rattle.std.specs.Map.{values_of}
+use Rattle.std.proofs.lemmas.Bool.{cases_Bool}
+use Rattle.std.proofs.lemmas.List.{length-map}
+use Rattle.cookie_parts.specs.Cookie.{Row, expired_row}
+use Rattle.cookie_laws.specs.Rows.{Key, after_last, changed, has_key, in_domain, in_group, key_of, placed, put, removed, row_of}
+use Rattle.cookie_lookup.specs.Groups.{flat, flat_paths}
+use Rattle.cookie_rows.specs.GroupChanges.{texts_of}
+use Rattle.cookie_rows.specs.Items.{AreItems, Item, ItemGroups, ItemPaths, all_groups, bare, bare_paths, expire_items, find_items, joined, put_items, remove_items, rows_of}
+use Rattle.cookie_rows.specs.Least.{items_in_groups, items_in_paths}
+use Rattle.cookie_rows.proofs.AreItems.{found_items, kept_expired, kept_put, kept_removed}
+use Rattle.cookie_rows.proofs.Joined.{joined_is}
+
+-- items that pass a test
+
+module _ {T : Type 0} (test : T → Bool) where
+  -- if none is found, none passes
+  none_passes : (xs : List T) → find test xs ≡ None → list_any test xs ≡ false
+  none_passes [] none = refl
+  none_passes (x ∷ xs) none = elim (cases_Bool (test x)) [
+    | inl e ↦ let found = rw e at none in absurd (cc)
+    | inr e ↦ rw e (none_passes xs (rw e at none))
+  ]
+
+  -- if one is found, one passes
+  some_passes : (xs : List T) → find test xs ≢ None → list_any test xs ≡ true
+  some_passes [] some = absurd (some refl)
+  some_passes (x ∷ xs) some = elim (cases_Bool (test x)) [
+    | inl e ↦ rw e refl
+    | inr e ↦ rw e (some_passes xs (rw e at some))
+  ]
+
+  -- an item more after the last that passes
+  length-after_last : (xs : List T) (y : T) → length (after_last test xs y) ≡ length xs + 1
+  length-after_last [] y = refl
+  length-after_last (x ∷ xs) y = grind (arith, length-after_last xs y)
+
+  -- one that is changed
+  length-changed : (change : T → T) (xs : List T) → length (changed test change xs) ≡ length xs
+  length-changed change [] = refl
+  length-changed change (x ∷ xs) = grind (arith, length-changed change xs)
+
+  -- one that is removed
+  length-removed : (xs : List T) → list_any test xs ≡ true → length (removed test xs) + 1 ≡ length xs
+  length-removed [] some = absurd (cc)
+  length-removed (x ∷ xs) some = grind (arith, length-removed xs)
+
+  -- none that is removed
+  length-unremoved : (xs : List T) → list_any test xs ≡ false → length (removed test xs) ≡ length xs
+  length-unremoved [] none = refl
+  length-unremoved (x ∷ xs) none = grind (arith, length-unremoved xs)
+
+-- an option
+
+-- that is not some
+pub none_unless : {A : Type 0} (o : Option A) → is_some o ≡ false → o ≡ None
+none_unless None none = refl
+none_unless (Some x) none = absurd (cc)
+
+-- rows
+
+-- a new row is one more
+length-placed : (rows : List Row) (row : Row) → length (placed rows row) ≡ length rows + 1
+length-placed rows row = elim (cases_Bool (list_any (in_group (key_of row)) rows)) [
+  | inl e ↦ rw e (length-after_last (in_group (key_of row)) rows row)
+  | inr e ↦ rw e (length-after_last (in_domain (key_of row)) rows row)
+]
+
+-- so if there is none of its key
+length-new : (rows : List Row) (row : Row) → row_of (key_of row) rows ≡ None → length (put rows row) ≡ length rows + 1
+length-new rows row none = rw (none_passes (has_key (key_of row)) rows none) (length-placed rows row)
+
+-- a row that replaces another is not
+length-stored : (rows : List Row) (row : Row) → row_of (key_of row) rows ≢ None → length (put rows row) ≡ length rows
+length-stored rows row some = rw (some_passes (has_key (key_of row)) rows some) (length-changed (has_key (key_of row)) (λ _. row) rows)
+
+-- rows in groups
+
+-- the number of rows
+abbrev pub row_count : ItemGroups → ℕ
+row_count gs = length (flat (bare gs))
+
+module _ (n : ℕ) (gs : ItemGroups) (a : AreItems n gs) where
+  module _ (row : Row) where
+    -- after a row is stored
+    count_put : row_count (put_items row n gs) ≡ length (put (flat (bare gs)) row)
+    count_put = ap (λ k. length k.rows) (kept_put n gs a row)
+
+    -- a new one
+    pub count_new : find_items (key_of row) gs ≡ None → row_count (put_items row n gs) ≡ row_count gs + 1
+    count_new none = count_put ∙ length-new (flat (bare gs)) row (sym (found_items n gs a (key_of row)) ∙ none)
+
+    -- one that replaces another
+    pub count_stored : find_items (key_of row) gs ≢ None → row_count (put_items row n gs) ≡ row_count gs
+    count_stored some = count_put ∙ length-stored (flat (bare gs)) row (λ none. some (found_items n gs a (key_of row) ∙ none))
+
+  module _ (key : Key) where
+    -- after a row is expired
+    pub count_expired : row_count (expire_items key gs) ≡ row_count gs
+    count_expired = ap (λ k. length k.rows) (kept_expired n gs a key) ∙ length-changed (has_key key) expired_row (flat (bare gs))
+
+    -- after one is removed
+    pub count_removed : find_items key gs ≢ None → row_count (remove_items key gs) + 1 ≡ row_count gs
+    count_removed some =
+        let there = some_passes (has_key key) (flat (bare gs)) (λ none. some (found_items n gs a key ∙ none)) in
+        ap (λ k. length k.rows + 1) (kept_removed n gs a key) ∙ length-removed (has_key key) (flat (bare gs)) there
+
+    -- after none is
+    pub count_unremoved : find_items key gs ≡ None → row_count (remove_items key gs) ≡ row_count gs
+    count_unremoved none =
+        let absent = none_passes (has_key key) (flat (bare gs)) (sym (found_items n gs a key) ∙ none) in
+        ap (λ k. length k.rows) (kept_removed n gs a key) ∙ length-unremoved (has_key key) (flat (bare gs)) absent
+
+-- the rows of the groups of all domains
+pub count_all : {A : Type 0} (domains : List ItemPaths) (es : List (String A × ItemPaths)) → domains ≡ values_of es → length (joined (all_groups domains)) ≡ row_count (texts_of es)
+count_all domains es are =
+    ap (λ ds. length (joined (all_groups ds))) are ∙ sym (length-map (joined (all_groups (values_of es))) (λ (x : Item). x.row)) ∙ ap length (joined_is es)
+
+-- of a domain
+count_paths : (ps : ItemPaths) → length (items_in_paths ps) ≡ length (flat_paths (bare_paths ps))
+count_paths [] = refl
+count_paths (p ∷ ps) =
+    omega (arith, length-append p.1 (items_in_paths ps), length-append (rows_of p.1) (flat_paths (bare_paths ps)), length-map p.1 (λ (x : Item). x.row), count_paths ps)
+
+-- of groups
+pub count_items : (gs : ItemGroups) → length (items_in_groups gs) ≡ row_count gs
+count_items [] = refl
+count_items (g ∷ gs) =
+    omega (arith, length-append (items_in_paths g.1) (items_in_groups gs), length-append (flat_paths (bare_paths g.1)) (flat (bare gs)), count_paths g.1, count_items gs)
