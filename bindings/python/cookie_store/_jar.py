@@ -13,7 +13,7 @@ from ._files import Path, replace_file
 from ._formats import Format, Which
 from ._listing import Cookie
 from ._mapping import MappingJar
-from ._messages import header_for, insert_header, log_not_stored, name_of, receive
+from ._messages import header_for, insert_headers, log_not_stored, name_of, receive
 from ._status import CookieStoreError, Status
 from ._store import CookieStore
 from ._urls import target_of
@@ -91,15 +91,18 @@ class StoreJar(MappingJar):
     def extract_cookies(self, response: Any, request: urllib.request.Request) -> None:
         """Store the cookies of response, except rejected ones and headers that are not UTF-8."""
         target, now = target_of(request), self._set_policy_time()
-        for text in response.info().get_all('Set-Cookie', []):
-            if not self._has_policy or self._is_approved(text, request, now):
-                receive(self.store, target, from_wire(text), now)
-            else:
-                log_not_stored(target.host, name_of(from_wire(text)), 'rejected by the policy')
+        texts = response.info().get_all('Set-Cookie', [])
+        if self._has_policy:
+            texts = self._approved_texts(texts, target.host, request, now)
+        receive(self.store, target, map(from_wire, texts), now)
 
-    def _is_approved(self, text: str, request: urllib.request.Request, now: int) -> bool:
-        """Return whether the policy accepts the cookie of a header value."""
-        return all(self._policy.set_ok(cookie, request) for cookie in self._cookies_made([text], request, now))
+    def _approved_texts(self, texts: List[str], host: str, request: urllib.request.Request, now: int) -> Iterator[str]:
+        """Yield the header values whose cookies the policy accepts, and log the others."""
+        for text in texts:
+            if all(self._policy.set_ok(cookie, request) for cookie in self._cookies_made([text], request, now)):
+                yield text
+            else:
+                log_not_stored(host, name_of(from_wire(text)), 'rejected by the policy')
 
     def make_cookies(self, response: Any, request: urllib.request.Request) -> List[http.cookiejar.Cookie]:
         """Return the cookies of response that a store without a public suffix list accepts.
@@ -109,10 +112,10 @@ class StoreJar(MappingJar):
         return self._cookies_made(response.info().get_all('Set-Cookie', []), request, self._set_policy_time())
 
     def _cookies_made(self, texts: List[str], request: urllib.request.Request, now: int) -> List[http.cookiejar.Cookie]:
-        target = target_of(request)
+        url = target_of(request).url
         with CookieStore(strict=self.store.strict) as store:
-            for text in texts:
-                insert_header(store, target, from_wire(text), now)
+            for _ in insert_headers(store, url, map(from_wire, texts), now):
+                pass  # what is not stored is left out
             return [JarCookie(row) for row in unexpired(store)]
 
     def set_cookie(self, cookie: http.cookiejar.Cookie) -> None:
@@ -134,7 +137,7 @@ class StoreJar(MappingJar):
         elif self._has_policy and not self._policy.set_ok(cookie, request):
             log_not_stored(target.host, cookie.name, 'rejected by the policy')
         else:
-            receive(self.store, target, from_wire(text), now)
+            receive(self.store, target, [from_wire(text)], now)
 
     def __iter__(self) -> Iterator[http.cookiejar.Cookie]:
         return (JarCookie(row) for row in unexpired(self.store))

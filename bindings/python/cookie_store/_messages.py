@@ -3,9 +3,9 @@ from __future__ import annotations
 
 import logging
 import re
-from typing import Optional
+from typing import Iterable, Iterator, Optional, Tuple
 
-from ._status import CookieStoreError, Status, text_of
+from ._status import NOT_VALID, CookieStoreError, Status, text_of
 from ._store import CookieStore, Text
 from ._urls import Target
 
@@ -13,8 +13,6 @@ LOGGER = logging.getLogger('cookie_store')
 
 # What no header value may have: RFC 9110 5.5.
 _CONTROL = re.compile(r'[\x00-\x08\x0a-\x1f\x7f]')
-# The statuses of a host or a header value that a client takes and the store does not.
-_NOT_VALID = (Status.BAD_URL, Status.NOT_UTF8)
 
 
 def log_not_sent(host: str, name: str, reason: str) -> None:
@@ -47,7 +45,7 @@ def header_for(store: CookieStore, target: Target) -> str:
     try:
         header = store.header(target.url) or ''
     except CookieStoreError as error:
-        if error.status not in _NOT_VALID:
+        if error.status not in NOT_VALID:
             raise
         LOGGER.debug('no cookie is sent to host %r: %s', target.host, error)
         return ''
@@ -65,18 +63,32 @@ def _without_controls(header: str, host: str) -> str:
     return '; '.join(pairs)
 
 
-def insert_header(store: CookieStore, target: Target, header_value: Text, now: Optional[int] = None) -> Status:
-    """Insert the cookie of a Set-Cookie header, and return the status, also if the header or the host is not valid."""
-    try:
-        return store.parse(target.url, header_value, now)
-    except CookieStoreError as error:
-        if error.status not in _NOT_VALID:
-            raise
-        return error.status
+def insert_headers(store: CookieStore, url: str, header_values: Iterable[Text],
+                   now: Optional[int] = None) -> Iterator[Tuple[Text, Status]]:
+    """Insert the cookies of Set-Cookie headers, and yield each header value that is not stored, with the reason.
+
+    A reason may be that the header value or the URL is not valid.
+    """
+    if type(store) is CookieStore:
+        return store._parse_all(url, header_values, now)
+    return _parse_each(store, url, header_values, now)  # a subclass may have its own parse()
 
 
-def receive(store: CookieStore, target: Target, header_value: Text, now: Optional[int] = None) -> None:
-    """Insert the cookie of a Set-Cookie header. If it is not stored, the reason is logged."""
-    status = insert_header(store, target, header_value, now)
-    if not status.is_success:
+def _parse_each(store: CookieStore, url: str, header_values: Iterable[Text],
+                now: Optional[int]) -> Iterator[Tuple[Text, Status]]:
+    """Yield what CookieStore._parse_all() yields, by calls of parse()."""
+    for header_value in header_values:
+        try:
+            status = store.parse(url, header_value, now)
+        except CookieStoreError as error:
+            if error.status not in NOT_VALID:
+                raise
+            status = error.status
+        if not status.is_success:
+            yield header_value, status
+
+
+def receive(store: CookieStore, target: Target, header_values: Iterable[Text], now: Optional[int] = None) -> None:
+    """Insert the cookies of Set-Cookie headers. If one is not stored, the reason is logged."""
+    for header_value, status in insert_headers(store, target.url, header_values, now):
         log_not_stored(target.host, name_of(header_value), text_of(status))

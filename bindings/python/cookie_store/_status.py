@@ -158,6 +158,10 @@ def is_reply(number: int) -> bool:
     return number < 20 or number >= 40
 
 
+#: The statuses of a URL or a header value that a client takes and the store does not.
+NOT_VALID = (Status.BAD_URL, Status.NOT_UTF8)
+
+
 class CookieStoreError(Exception):
     """Raised when a call fails. The reason is in the attribute status, a Status."""
 

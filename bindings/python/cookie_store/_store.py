@@ -8,13 +8,13 @@ import os
 import threading
 import time
 import weakref
-from typing import Any, Callable, Dict, Iterator, List, Optional, Tuple, Type, Union
+from typing import Any, Callable, Dict, Iterable, Iterator, List, Optional, Tuple, Type, Union
 
 from ._files import Path
 from ._formats import NETSCAPE_LENIENT, Format, Which, option_of
 from ._library import LIBRARY, NONE_BY_DEFAULT, ROW, TOP_LEVEL, Row, Store
 from ._listing import Cookie, Listing, cookies_of
-from ._status import STATUSES, BadLine, BadRule, CookieStoreError, Status, check, is_reply
+from ._status import NOT_VALID, STATUSES, BadLine, BadRule, CookieStoreError, Status, check, is_reply
 
 Text = Union[str, bytes]
 # A public suffix list, and whether only the listed domains are public suffixes.
@@ -75,15 +75,14 @@ class CookieStore:
 
         If strict is true, it follows the rules of set_strict().
         """
-        self._store = Store()
-        self._at = ctypes.byref(self._store)
+        self._store = Store()  # ctypes passes it by reference
         self._lock = threading.Lock()
         self._suffixes: Optional[_Suffixes] = None
         self._buffer = ctypes.create_string_buffer(4096)
         self._cookies: Optional[List[Cookie]] = None  # what cookies() returns, until the store changes
         self._listing = Listing()
-        check(LIBRARY.cookie_store_new(self._at, *_random_key()))
-        self._finalizer = weakref.finalize(self, LIBRARY.cookie_store_free, self._at)
+        check(LIBRARY.cookie_store_new(self._store, *_random_key()))
+        self._finalizer = weakref.finalize(self, LIBRARY.cookie_store_free, self._store)
         # Another thread may still be in a call when the program ends.
         self._finalizer.atexit = False
         with _fork_lock:  # os.fork() holds it from its list of stores on
@@ -122,7 +121,7 @@ class CookieStore:
         rules, line = _suffix_list(path) if suffixes is None else _bytes(suffixes), ctypes.c_size_t()
         only_listed = bool(only_listed)
         with self._lock:
-            number = LIBRARY.cookie_store_set_suffix_list(self._at, rules, len(rules), only_listed, line)
+            number = LIBRARY.cookie_store_set_suffix_list(self._store, rules, len(rules), only_listed, line)
             if number == Status.BAD_RULE:
                 raise BadRule(line.value)
             check(number)
@@ -142,19 +141,19 @@ class CookieStore:
             raise CookieStoreError(Status.BAD_LIMIT)
         limit = min(limit, 2**64 - 1)
         with self._lock:
-            check(LIBRARY.cookie_store_set_domain_limit(self._at, limit))
+            check(LIBRARY.cookie_store_set_domain_limit(self._store, limit))
 
     @property
     def domain_limit(self) -> Optional[int]:
         """How many cookies a domain may have, or None without a limit and after close()."""
         with self._lock:
-            return int(LIBRARY.cookie_store_domain_limit(self._at)) or None
+            return int(LIBRARY.cookie_store_domain_limit(self._store)) or None
 
     @property
     def strict(self) -> bool:
         """Whether the store is strict, see set_strict(). False after close()."""
         with self._lock:
-            return bool(LIBRARY.cookie_store_is_strict(self._at))
+            return bool(LIBRARY.cookie_store_is_strict(self._store))
 
     def set_strict(self, strict: bool) -> None:
         """Set whether parse() inserts by the rules that the revision of RFC 6265 adds.
@@ -167,7 +166,7 @@ class CookieStore:
         """
         strict = bool(strict)
         with self._lock:
-            check(LIBRARY.cookie_store_set_strict(self._at, strict))
+            check(LIBRARY.cookie_store_set_strict(self._store, strict))
 
     def parse(self, url: Text, value: Text, now: Optional[int] = None) -> Status:
         """Parse a Set-Cookie header value received from url and insert the cookie.
@@ -178,10 +177,26 @@ class CookieStore:
         page, cookie, seconds = _bytes(url), _bytes(value), _seconds(now)
         with self._lock:
             self._cookies = None
-            number = LIBRARY.cookie_store_parse(self._at, page, len(page), cookie, len(cookie), seconds)
+            number = LIBRARY.cookie_store_parse(self._store, page, len(page), cookie, len(cookie), seconds)
         if not is_reply(number):
             check(number)
         return STATUSES.get(number) or Status(number)
+
+    def _parse_all(self, url: Text, values: Iterable[Text], now: Optional[int]) -> Iterator[Tuple[Text, Status]]:
+        """Parse header values as parse() does, and yield each one that is not stored, with the reason.
+
+        BAD_URL and NOT_UTF8 are reasons too, and not raised. All values are received at the same time.
+        """
+        page, seconds = _bytes(url), _seconds(now)
+        for value in values:
+            cookie = value if isinstance(value, bytes) else _bytes(value)
+            with self._lock:
+                self._cookies = None
+                number = LIBRARY.cookie_store_parse(self._store, page, len(page), cookie, len(cookie), seconds)
+            if number >= 10:
+                if not is_reply(number) and number not in NOT_VALID:
+                    check(number)
+                yield value, Status(number)
 
     def header(self, url: Text, now: Optional[int] = None, *, same_site: bool = True, top_level: bool = False,
                lax_by_default: bool = True) -> Optional[str]:
@@ -206,10 +221,10 @@ class CookieStore:
             flags = (TOP_LEVEL if top_level else 0) | (0 if lax_by_default else NONE_BY_DEFAULT)
             call, request = LIBRARY.cookie_store_header_cross_site, [flags]
         with self._lock:
-            number = call(self._at, page, len(page), seconds, *request, self._buffer, len(self._buffer), needed)
+            number = call(self._store, page, len(page), seconds, *request, self._buffer, len(self._buffer), needed)
             if number == Status.NO_ROOM:
                 self._buffer = ctypes.create_string_buffer(needed.value)
-                number = call(self._at, page, len(page), seconds, *request, self._buffer, len(self._buffer), needed)
+                number = call(self._store, page, len(page), seconds, *request, self._buffer, len(self._buffer), needed)
             check(number)
             return ctypes.string_at(self._buffer, needed.value).decode('utf-8') or None
 
@@ -221,7 +236,7 @@ class CookieStore:
         key = [_bytes(domain), _bytes(path), _bytes(name)]
         with self._lock:
             self._cookies = None
-            number = LIBRARY.cookie_store_remove(self._at, key[0], len(key[0]), key[1], len(key[1]), key[2], len(key[2]))
+            number = LIBRARY.cookie_store_remove(self._store, key[0], len(key[0]), key[1], len(key[1]), key[2], len(key[2]))
         if number != Status.NOT_FOUND:
             check(number)
         return bool(number == Status.OK)
@@ -234,14 +249,14 @@ class CookieStore:
         name, removed = _bytes(domain), ctypes.c_size_t()
         with self._lock:
             self._cookies = None
-            check(LIBRARY.cookie_store_remove_domain(self._at, name, len(name), removed))
+            check(LIBRARY.cookie_store_remove_domain(self._store, name, len(name), removed))
         return removed.value
 
     def clear(self) -> None:
         """Remove all cookies. The public suffix list and the limit stay, and a strict store stays strict."""
         with self._lock:
             self._cookies = None
-            check(LIBRARY.cookie_store_clear(self._at))
+            check(LIBRARY.cookie_store_clear(self._store))
 
     def remove_expired(self, now: Optional[int] = None) -> int:
         """Remove the cookies that have expired at now, and return how many.
@@ -252,13 +267,13 @@ class CookieStore:
         seconds, removed = _seconds(now), ctypes.c_size_t()
         with self._lock:
             self._cookies = None
-            check(LIBRARY.cookie_store_remove_expired(self._at, seconds, removed))
+            check(LIBRARY.cookie_store_remove_expired(self._store, seconds, removed))
         return removed.value
 
     def __len__(self) -> int:
         """Return the number of stored cookies, expired ones included."""
         with self._lock:
-            return int(LIBRARY.cookie_store_count(self._at))
+            return int(LIBRARY.cookie_store_count(self._store))
 
     def count_unexpired(self, now: Optional[int] = None) -> int:
         """Return the number of stored cookies that have not expired at now."""
@@ -292,7 +307,7 @@ class CookieStore:
     def _sizes(self, call: Any = LIBRARY.cookie_store_rows, *request: Any) -> Tuple[int, int]:
         """Return the number of cookies that a call writes, and the bytes of their strings."""
         rows, strings = ctypes.c_size_t(), ctypes.c_size_t()
-        number = call(self._at, *request, (Row * 1)(), 0, ctypes.create_string_buffer(1), 0, rows, strings)
+        number = call(self._store, *request, (Row * 1)(), 0, ctypes.create_string_buffer(1), 0, rows, strings)
         if number != Status.NO_ROOM:
             check(number)
         return rows.value, strings.value
@@ -301,7 +316,7 @@ class CookieStore:
         """Return the rows as a call writes them, and their strings."""
         count, length = self._sizes(call, *request)
         rows, strings = (Row * max(1, count))(), ctypes.create_string_buffer(max(1, length))
-        check(call(self._at, *request, rows, count, strings, length, ctypes.c_size_t(), ctypes.c_size_t()))
+        check(call(self._store, *request, rows, count, strings, length, ctypes.c_size_t(), ctypes.c_size_t()))
         return ctypes.string_at(rows, count * ROW.size), ctypes.string_at(strings, length)
 
     def dumps(self, format: Format = Format.JSON, which: Which = Which.PERSISTENT, now: Optional[int] = None) -> str:
@@ -346,7 +361,7 @@ class CookieStore:
             room = 4096 + copies * length + others * count
             while True:
                 out = ctypes.create_string_buffer(room)
-                number = LIBRARY.cookie_store_save(self._at, format, which, seconds, out, room, needed, left_out)
+                number = LIBRARY.cookie_store_save(self._store, format, which, seconds, out, room, needed, left_out)
                 if number != Status.NO_ROOM:
                     break
                 room = needed.value
@@ -387,8 +402,8 @@ class CookieStore:
         saved, which, seconds, store = _bytes(text), option_of(Which, which), _seconds(now), cls()
         room = saved.count(b'\n') + 1 if format == NETSCAPE_LENIENT else 1
         lines, malformed = (ctypes.c_size_t * room)(), ctypes.c_size_t()
-        LIBRARY.cookie_store_free(store._at)
-        number = LIBRARY.cookie_store_load(store._at, *_random_key(), format, which, saved, len(saved), seconds, lines, room,
+        LIBRARY.cookie_store_free(store._store)
+        number = LIBRARY.cookie_store_load(store._store, *_random_key(), format, which, saved, len(saved), seconds, lines, room,
                                            malformed)
         if number == Status.BAD_LINE:
             raise BadLine(lines[0])
@@ -416,7 +431,7 @@ class CookieStore:
             other._lock.acquire()
         try:
             self._cookies = None
-            check(LIBRARY.cookie_store_merge(self._at, other._at, seconds, left_out))
+            check(LIBRARY.cookie_store_merge(self._store, other._store, seconds, left_out))
         finally:
             other._lock.release()
             self._lock.release()
@@ -432,9 +447,9 @@ class CookieStore:
         cookies count as created in the order of the store.
         """
         store = type(self)()
-        LIBRARY.cookie_store_free(store._at)
+        LIBRARY.cookie_store_free(store._store)
         with self._lock:
-            check(LIBRARY.cookie_store_clone(self._at, store._at))
+            check(LIBRARY.cookie_store_clone(self._store, store._store))
             store._suffixes = self._suffixes
         return store
 

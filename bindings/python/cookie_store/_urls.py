@@ -50,7 +50,8 @@ def target_of(request: urllib.request.Request) -> Target:
     """
     url = request.get_full_url()
     if isinstance(request, urllib.request.Request):
-        request = urllib.request.Request(url)  # the scheme and host of the given one may be those of a proxy
+        # The scheme and host of the given one may be those of a proxy.
+        request = urllib.request.Request(url, origin_req_host=request.origin_req_host)
         host = _in_ascii(_PORT.sub('', request.host or ''))  # with a user it is not a host: urllib connects to it as it is
     else:
         host = _PORT.sub('', _USER.sub('', request.host))

@@ -65,8 +65,8 @@ class StoreCookieJar(AbstractCookieJar):
 
     def update_cookies_from_headers(self, headers: Iterable[str], response_url: yarl.URL) -> None:
         """Store the cookies of Set-Cookie headers, which newer versions of aiohttp pass."""
-        for header in headers:
-            receive(self.store, _target(response_url), header.encode('utf-8', 'surrogateescape'))
+        values = (header.encode('utf-8', 'surrogateescape') for header in headers)
+        receive(self.store, _target(response_url), values)
 
     def filter_cookies(self, request_url: yarl.URL) -> BaseCookie[str]:
         """Return the cookies of a request for request_url."""

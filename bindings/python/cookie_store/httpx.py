@@ -35,9 +35,8 @@ def use_store(client: Union[httpx.Client, httpx.AsyncClient], store: CookieStore
             request.headers['Cookie'] = header
 
     def after(response: httpx.Response) -> None:
-        for name, value in response.headers.raw:
-            if name.lower() == b'set-cookie':
-                receive(store, _target(response.request.url), value)
+        values = [value for name, value in response.headers.raw if name.lower() == b'set-cookie']
+        receive(store, _target(response.request.url), values)
 
     async def async_before(request: httpx.Request) -> None:
         before(request)

@@ -29,6 +29,13 @@ class NoCookies(http.cookiejar.CookiePolicy):
         return False
 
 
+class NoSession(CookieStore):
+    """A store that rejects session cookies."""
+
+    def parse(self, url, value, now=None):
+        return super().parse(url, value, now) if b'Max-Age' in value else Status.EXPIRED
+
+
 # Cookies for set_cookie, a URL with the Cookie header of its request, and a URL without one.
 TAKEN = [
     (python_cookie('a.example'), 'http://a.example/', 'a=1', 'http://b.a.example/'),
@@ -119,6 +126,19 @@ class JarTests(unittest.TestCase):
         jar.add_cookie_header(bad)
         self.assertIsNone(bad.get_header('Cookie'))
         self.assertEqual(len(jar), 1)
+
+    def test_closed(self):
+        jar = StoreJar()
+        jar.store.close()
+        with self.assertRaises(CookieStoreError) as raised:
+            jar.extract_cookies(Response('a=1'), urllib.request.Request(PAGE))
+        self.assertEqual(raised.exception.status, Status.NO_STORE)
+
+    def test_subclass(self):
+        """A jar calls the method parse() of a subclass for each header."""
+        jar = StoreJar(NoSession())
+        jar.extract_cookies(Response('a=1', 'b=2; Max-Age=60', 'v=\xff; Max-Age=60'), urllib.request.Request(PAGE))
+        self.assertEqual(sent(jar, PAGE), 'b=2')
 
     def test_bytes(self):
         """Strings of http.client, one byte a character, are sent as they were received."""
