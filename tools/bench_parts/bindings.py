@@ -7,6 +7,7 @@ change, and then after a change each time. Freeing what was loaded is not counte
 folder, from --archive; without it the library is proved and built first. Needs a C compiler.
 
 Exit status: 0; 1 if a call fails, or if http.cookiejar is ahead on an idle machine."""
+import gc
 import http.cookiejar
 import importlib
 import os
@@ -120,13 +121,16 @@ def measure_files(module, path, each):
     with open(path, encoding='utf-8') as file:
         text = file.read()
     netscape = module.Format.NETSCAPE
-    store, own, jar = module.CookieStore.loads(text, netscape, now=NOW), module.StoreJar(), http.cookiejar.MozillaCookieJar()
-    own.load(path)
-    jar.load(path)
-    calls = {'load': (lambda: module.CookieStore.loads(text, netscape, now=NOW), lambda: loaded(module.StoreJar(), path),
-                      lambda: loaded(http.cookiejar.MozillaCookieJar(), path)),
-             'save': (lambda: store.dumps(netscape, now=NOW), lambda: own.save(f'{path}.own'), lambda: jar.save(path))}
-    return {name: [measure_once(call) / LINES for call in row] for name, row in calls.items()}
+    # Python's collector walks every living object from time to time: as in a program that loads its jar first, there are few.
+    gc.collect()
+    gc.freeze()
+    loads = [lambda: module.CookieStore.loads(text, netscape, now=NOW), lambda: loaded(module.StoreJar(), path),
+             lambda: loaded(http.cookiejar.MozillaCookieJar(), path)]
+    took = {'load': [measure_once(call) / LINES for call in loads]}
+    store, own, jar = [call() for call in loads]
+    saves = [lambda: store.dumps(netscape, now=NOW), lambda: own.save(f'{path}.own'), lambda: jar.save(path)]
+    took['save'] = [measure_once(call) / LINES for call in saves]
+    return took
 
 
 def loaded(jar, path):

@@ -1,11 +1,12 @@
 """Inputs that a hostile server or page may choose, each at n, 4n and 16n, and how the time grows with n."""
 import math
+import random
 import subprocess
 from dataclasses import dataclass
 from typing import Callable
 
 from bench_parts.measure import Task, repeated
-from bench_parts.scripts import CLEAR, NOW, removals, saved_lines, sets
+from bench_parts.scripts import CLEAR, NOW, saved_lines
 
 TARGET = 0.1  # seconds that a run repeats the operation
 PATIENCE = 40.0  # seconds: a larger input is skipped if it may take longer
@@ -65,6 +66,33 @@ def get_beside_expired(size):
     return get(expired + later, 'http://h.com/')
 
 
+def paths_set(numbers):
+    """Sets a cookie of each path."""
+    return ''.join(f'set http://h.com/p{number}/ c=1\n' for number in numbers)
+
+
+def paths_removed(numbers):
+    return ''.join(f'remove h.com /p{number} c\n' for number in numbers)
+
+
+def names_set(numbers):
+    """Sets a cookie of each name."""
+    return set_each(f'c{number}=1' for number in numbers)
+
+
+def names_removed(numbers):
+    return ''.join(f'remove h.com / c{number}\n' for number in numbers)
+
+
+def hosts_set(numbers):
+    """Sets a cookie of each host."""
+    return ''.join(set_cookie('c=1', f'h{number}.com') for number in numbers)
+
+
+def hosts_removed(numbers):
+    return ''.join(f'remove h{number}.com / c\n' for number in numbers)
+
+
 def set_at_limit(limit):
     setup = NOW + set_each(f'c{number}=1' for number in range(limit))
     return Task(lambda count: setup, lambda count: setup + set_each(f'd{number}=1' for number in range(count)),
@@ -101,13 +129,36 @@ def convert(size):
     return Task(lambda _: '', lambda _: lines, arguments=('--convert',), most=1)
 
 
-ORDERS = ('creation', 'reverse')
+def in_creation(numbers):
+    return numbers
 
 
-def removing(order, hosts, least, per_host):
-    """`per_host` is a function of n."""
-    return Family(f'n sets, and n removals in {order} order, {hosts}', least,
-                  lambda n: repeated(NOW, sets(n, per_host(n)) + removals(n, per_host(n), order)))
+def in_reverse(numbers):
+    return numbers[::-1]
+
+
+def in_random(numbers):
+    return random.Random(1).sample(numbers, len(numbers))
+
+
+LEVELS = {'a host each': (hosts_set, hosts_removed), 'a path each': (paths_set, paths_removed), 'a name each': (names_set, names_removed)}
+ORDERS = {'creation': in_creation, 'reverse': in_reverse, 'random': in_random}
+
+
+def removing(order, level):
+    def operation(size):
+        stored, removed = LEVELS[level]
+        return repeated(NOW, stored(range(size)) + removed(ORDERS[order](range(size))))
+    return Family(f'n sets, {level}, and n removals in {order} order', 2500, operation)
+
+
+def setting_again(level):
+    """Removes and sets each cookie in turn, which moves it to the end."""
+    def operation(size):
+        stored, removed = LEVELS[level]
+        again = ''.join(removed([number]) + stored([number]) for number in in_random(range(size)))
+        return repeated(NOW, stored(range(size)) + again + CLEAR)
+    return Family(f'n sets, {level}, and each removed and set again', 2500, operation)
 
 
 # A time grows faster than n while the cookies fall out of the processor's caches, so n is small or large enough.
@@ -127,7 +178,9 @@ LINEAR = [
     Family('set, n attributes', 10_000, lambda n: set_one(f'c=1{"; a=b" * n}')),
     Family('set, date of n words', 10_000, lambda n: set_one(f'c=1; Expires={"x " * n}3 Aug 2100 00:38:37')),
     Family('n lines of JSON by --convert', 5000, convert, has_peer=False),
-    *(removing(order, 'a host each', 10_000, lambda n: 1) for order in ORDERS),
+    Family('set, host at its limit of n cookies', 1000, set_at_limit, has_peer=False),
+    *(removing(order, level) for level in LEVELS for order in ORDERS),
+    *(setting_again(level) for level in LEVELS),
 ]
 
 # For a strict store of the C library.
@@ -144,10 +197,6 @@ def colliding(program, least=100):
     return Family('n sets, names that collide under the fixed hash key', least,
                   lambda n: repeated(NOW, ''.join(lines[:n]) + CLEAR))
 
-
-# Of cookies of one host.
-REMOVALS = [removing(order, 'one host', 2500, lambda n: n) for order in ORDERS]
-AT_LIMIT = Family('set, host at its limit of n cookies', 1000, set_at_limit, has_peer=False)
 
 
 def grow(meter, programs, family):

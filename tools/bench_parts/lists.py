@@ -3,8 +3,8 @@ Usage: tools/bench lists [--lists FOLDER] COOKIES..
 
 Prints a table: for loading, and for saving what was loaded, microseconds of processor time and instructions per cookie,
 and for both together the bytes per cookie at the peak of resident memory, beside those of the Rust crate, with
-serde_json, and of Python's json, which makes no store. The programs are proved and built in a copy of the repository,
-in ten minutes.
+serde_json and with ron, and of Python's json, which makes no store. The programs are proved and built in a copy of the
+repository, in ten minutes.
 
 Exit status: 0; 1 if a program fails or is not proved, or saves another list, or if the Rust crate is ahead on an idle
 machine, or needs less memory by more than a sixth."""
@@ -164,11 +164,11 @@ def run(options):
                 own = {part: [found[f'{part}_{form}']] for part in SAVES}
                 cells = figures(own, folder, form, cookies)
                 print(row(cookies, form, 'cookie_store', cells), flush=True)
-                if form == 'json' and peer:
-                    others = {'load': [*peer.command, 'list.json'], 'both': [*peer.command, 'list.json', 'peer.json']}
-                    theirs = figures(others, folder, form, cookies)
+                if peer:
+                    load_list = [*peer.command, f'list.{form}']
+                    theirs = figures({'load': load_list, 'both': [*load_list, f'peer.{form}']}, folder, form, cookies)
                     print(row(cookies, form, programs.RUST, theirs), flush=True)
-                    behind += ahead(f'{cookies:,} cookies in JSON', cells, theirs)
+                    behind += ahead(f'{cookies:,} cookies in {form.upper()}', cells, theirs)
             times = [seconds / cookies * 1e6 for seconds in python(folder)]
             print(row(cookies, 'json', "Python's json", [*times, '-', '-', '-']), flush=True)
             if not is_same(folder, 'saved.json', 'python.json') or not is_same(folder, 'list.ron', 'saved.ron'):

@@ -54,8 +54,9 @@ def build(folder):
 
 def build_rust(folder):
     registry = os.listdir(REGISTRY) if os.path.isdir(REGISTRY) else []
-    if not any(name.startswith('cookie_store-') for name in registry):
-        raise Missing('librust-cookie-store-dev is not installed')
+    for crate, package in (('cookie_store', 'librust-cookie-store-dev'), ('ron', 'librust-ron-dev')):
+        if not any(name.startswith(f'{crate}-') for name in registry):
+            raise Missing(f'{package} is not installed')
     source = os.path.join(folder, 'rust')
     shutil.copytree(os.path.join(PEERS, 'rust'), source)
     run_compiler('cargo', 'build', '--release', '--offline', cwd=source)

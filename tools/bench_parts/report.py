@@ -127,7 +127,7 @@ On Debian:
 
 ```sh
 apt-get install cargo librust-cookie-store-dev librust-cookie-dev librust-publicsuffix-dev \\
-    golang-go valgrind time
+    librust-ron-dev golang-go valgrind time
 (cd crates/cookie_jar && rt run < stdin)    # builds the program
 tools/bench --write                         # on an idle machine
 ```

@@ -36,12 +36,9 @@ def saved_lines(count, is_one_key=False):
         f'"expires":{{"AtUtc":"2100-08-03T00:38:37Z"}}}}\n' for number, (host, name) in enumerate(keys))
 
 
-def removals(cookies, per_host, order='random'):
-    """Removes all cookies, in random order, in creation order or in its reverse."""
+def removals(cookies, per_host):
+    """Removes all cookies, in random order."""
     hosts = host_count(cookies, per_host)
     numbers = list(range(cookies))
-    if order == 'random':
-        random.Random(1).shuffle(numbers)
-    elif order == 'reverse':
-        numbers.reverse()
+    random.Random(1).shuffle(numbers)
     return ''.join(f'remove h{number % hosts}.com / c{number // hosts}\n' for number in numbers)

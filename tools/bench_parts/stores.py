@@ -20,7 +20,7 @@ from common import ARCHIVE
 OPTIONS = ['--program', '--archive', '--lists']
 SIZES = [(cookies, per_host) for per_host in (20, 1) for cookies in (20, 1000, 100_000)]
 TARGET = 0.2  # seconds that a run repeats an operation
-PARTS = ['times', 'memory', 'instructions', 'hostile', 'growth']
+PARTS = ['times', 'memory', 'instructions', 'hostile']
 NOTES = {
     'set': 'Microseconds to set a new cookie and to free it by `clear`.',
     'replace': 'Microseconds to set a cookie again.',
@@ -140,23 +140,6 @@ long, the exponent is that from n to 4n. `-` was not measured.'''
     return result
 
 
-def compare_orders(grown):
-    """How many times as long removals in creation order take as those in reverse order."""
-    (family, in_order), (_, reverse) = grown
-    factors = [f'{number(times[-1] / reverse[name][-1])} ({name})' for name, times in in_order.items()
-               if len(times) == len(reverse[name]) == 3]
-    return f'With {family.sizes()[-1]:,} cookies, creation order took longer by a factor of {" and ".join(factors)}.'
-
-
-def explained_table(meter, own, *peers):
-    removed = hostile.measure(meter, own, *peers, families=hostile.REMOVALS)
-    at_limit = hostile.measure(meter, own, *peers, families=[hostile.AT_LIMIT])
-    note = '''Milliseconds, as above. [DECISIONS.md](DECISIONS.md) says why: a removal shifts what lies behind it in the
-map of its host or path, and a set at the limit looks at all cookies of the host. A removal in reverse order shifts
-nothing. ''' + compare_orders(removed)
-    return growth_table('Growth that a decision explains', note, [*removed, *at_limit], own, *peers)
-
-
 def chart_panels(took, measured):
     """The bars of docs/speed.svg."""
     return [(f'{name}, {cookies:,} cookies stored',
@@ -178,8 +161,6 @@ def measure(meter, measured, parts, took):
         yield instruction_table(meter, without_go)
     if 'hostile' in parts:
         yield hostile_table(meter, *without_go)
-    if 'growth' in parts:
-        yield explained_table(meter, *without_go)
 
 
 def missing_tools():

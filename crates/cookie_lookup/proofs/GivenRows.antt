@@ -5,7 +5,7 @@ use Rattle.std.specs.List.{flat_map}
 use Rattle.std.proofs.lemmas.Bool.Decides.{nat_tests}
 use Rattle.std.proofs.lemmas.Grind.{flat_map-append}
 use Rattle.cookie_parts.specs.Cookie.{Row}
-use Rattle.cookie_lookup.specs.SearchView.{RowPosition, under, row_positions, path_positions, domain_positions, list_of, rows_at}
+use Rattle.cookie_lookup.specs.SearchView.{under, row_positions, path_positions, domain_positions, list_of, rows_at}
 use Rattle.cookie_lookup.specs.Groups.{DomainGroups, PathGroups, flat, flat_paths}
 use Rattle.cookie_lookup.proofs.Cuts.{bool_cases}
 
@@ -13,43 +13,38 @@ pub filter_append : (t : Row → Bool) (xs ys : List Row) → filter t (xs ++ ys
 filter_append t [] ys = refl
 filter_append t (x ∷ xs) ys = grind (arith, nat_tests, filter_append t xs ys)
 
--- the row at a position, if there is one, where these are the paths of each domain
-abbrev pub row_of : (ℕ → PathGroups) → RowPosition → List Row
-row_of paths_of s = list_of (slice_get (under s.1 (paths_of s.0)) s.2)
-
-module _ (test : Row → Bool) (paths_of : ℕ → PathGroups) where
-  of_rows : (d p n : ℕ) (R rows : List Row) → under p (paths_of d) ≡ R → ((k : ℕ) → slice_get R (n + k) ≡ slice_get rows k) → flat_map (row_of paths_of) (row_positions test d p n rows) ≡ filter test rows
+module _ (test : Row → Bool) (G : DomainGroups) where
+  of_rows : (d p n : ℕ) (R rows : List Row) → under p (under d G) ≡ R → ((k : ℕ) → slice_get R (n + k) ≡ slice_get rows k) → flat_map (rows_at G) (row_positions test d p n rows) ≡ filter test rows
   of_rows d p n R [] at same = refl
   of_rows d p n R (row ∷ rows) at same =
       let next = of_rows d p (n + 1) R rows at (λ k. let e : n + 1 + k ≡ n + suc k = omega arith in ap (slice_get R) e ∙ same (suc k)) in
       let z : n ≡ n + 0 = omega arith in
-      let here : row_of paths_of (d, p, n) ≡ row ∷ [] = ap (λ rs. list_of (slice_get rs n)) at ∙ ap (λ m. list_of (slice_get R m)) z ∙ ap list_of (same 0) in
+      let here : rows_at G (d, p, n) ≡ row ∷ [] = ap (λ rs. list_of (slice_get rs n)) at ∙ ap (λ m. list_of (slice_get R m)) z ∙ ap list_of (same 0) in
       elim (bool_cases (test row)) [
-        | inl e ↦ rw e (ap (λ xs. xs ++ flat_map (row_of paths_of) (row_positions test d p (n + 1) rows)) here ∙ ap (λ xs. row ∷ xs) next)
+        | inl e ↦ rw e (ap (λ xs. xs ++ flat_map (rows_at G) (row_positions test d p (n + 1) rows)) here ∙ ap (λ xs. row ∷ xs) next)
         | inr e ↦ rw e next
       ]
 
-  of_paths : (d p : ℕ) (P ps : PathGroups) → paths_of d ≡ P → ((k : ℕ) → under (p + k) P ≡ under k ps) → flat_map (row_of paths_of) (path_positions test d p ps) ≡ filter test (flat_paths ps)
+  of_paths : (d p : ℕ) (P ps : PathGroups) → under d G ≡ P → ((k : ℕ) → under (p + k) P ≡ under k ps) → flat_map (rows_at G) (path_positions test d p ps) ≡ filter test (flat_paths ps)
   of_paths d p P [] at same = refl
   of_paths d p P (g ∷ gs) at same =
       let z : p ≡ p + 0 = omega arith in
-      let here : under p (paths_of d) ≡ g.1 = ap (under p) at ∙ ap (λ m. under m P) z ∙ same 0 in
-      flat_map-append (row_of paths_of) (row_positions test d p 0 g.1) (path_positions test d (p + 1) gs)
-      ∙ ap (λ xs. xs ++ flat_map (row_of paths_of) (path_positions test d (p + 1) gs)) (of_rows d p 0 g.1 g.1 here (λ k. let e : 0 + k ≡ k = omega arith in ap (slice_get g.1) e))
+      let here : under p (under d G) ≡ g.1 = ap (under p) at ∙ ap (λ m. under m P) z ∙ same 0 in
+      flat_map-append (rows_at G) (row_positions test d p 0 g.1) (path_positions test d (p + 1) gs)
+      ∙ ap (λ xs. xs ++ flat_map (rows_at G) (path_positions test d (p + 1) gs)) (of_rows d p 0 g.1 g.1 here (λ k. let e : 0 + k ≡ k = omega arith in ap (slice_get g.1) e))
       ∙ ap (λ ys. filter test g.1 ++ ys) (of_paths d (p + 1) P gs at (λ k. let e : p + 1 + k ≡ p + suc k = omega arith in ap (λ m. under m P) e ∙ same (suc k)))
       ∙ sym (filter_append test g.1 (flat_paths gs))
 
-  pub of_domain : (d : ℕ) (paths : PathGroups) → paths_of d ≡ paths → flat_map (row_of paths_of) (path_positions test d 0 paths) ≡ filter test (flat_paths paths)
+  of_domain : (d : ℕ) (paths : PathGroups) → under d G ≡ paths → flat_map (rows_at G) (path_positions test d 0 paths) ≡ filter test (flat_paths paths)
   of_domain d paths at = of_paths d 0 paths paths at (λ k. let e : 0 + k ≡ k = omega arith in ap (λ m. under m paths) e)
 
-module _ (test : Row → Bool) (G : DomainGroups) where
   of_domains : (d : ℕ) (gs : DomainGroups) → ((k : ℕ) → under (d + k) G ≡ under k gs) → flat_map (rows_at G) (domain_positions test d gs) ≡ filter test (flat gs)
   of_domains d [] same = refl
   of_domains d (g ∷ gs) same =
       let z : d ≡ d + 0 = omega arith in
       let here : under d G ≡ g.1 = ap (λ m. under m G) z ∙ same 0 in
       flat_map-append (rows_at G) (path_positions test d 0 g.1) (domain_positions test (d + 1) gs)
-      ∙ ap (λ xs. xs ++ flat_map (rows_at G) (domain_positions test (d + 1) gs)) (of_domain test (λ n. under n G) d g.1 here)
+      ∙ ap (λ xs. xs ++ flat_map (rows_at G) (domain_positions test (d + 1) gs)) (of_domain d g.1 here)
       ∙ ap (λ ys. filter test (flat_paths g.1) ++ ys) (of_domains (d + 1) gs (λ k. let e : d + 1 + k ≡ d + suc k = omega arith in ap (λ m. under m G) e ∙ same (suc k)))
       ∙ sym (filter_append test (flat_paths g.1) (flat gs))
 

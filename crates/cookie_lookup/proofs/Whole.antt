@@ -20,7 +20,7 @@ use Rattle.cookie_lookup.proofs.Cuts.{bool_cases}
 use Rattle.cookie_lookup.proofs.PermutedPositions.{permutation_from_sums}
 use Rattle.cookie_lookup.proofs.HostTexts.{related_differ}
 use Rattle.cookie_lookup.proofs.PathTexts.{path_differ}
-use Rattle.cookie_lookup.proofs.Order.{Ascends, ascends_append, all_append, all_weaker, is_position_before, position_before_tests, sorted_is}
+use Rattle.cookie_lookup.proofs.Order.{Ascends, ascends_append, all_append, all_weaker, is_position_before, neither_before, position_before_tests, positions_order, sorted_is}
 use Rattle.cookie_lookup.proofs.Agree.{Missed, Agree, rows_sum, paths_sum, paths_agree, domains_agree}
 
 -- the walk ascends
@@ -40,7 +40,7 @@ row_later d p n y h = position_before_tests y (d, p, n) ∙ grind (arith, nat_te
 path_later : (d p : ℕ) (x y : RowPosition) → FromRow d p 0 x → FromPath d (p + 1) y → is_position_before y x ≡ false
 path_later d p x y h k = position_before_tests y x ∙ grind (arith, nat_tests, h.0, h.1, k.0, k.1)
 
-pub domain_later : (d : ℕ) (x y : RowPosition) → FromPath d 0 x → FromDomain (d + 1) y → is_position_before y x ≡ false
+domain_later : (d : ℕ) (x y : RowPosition) → FromPath d 0 x → FromDomain (d + 1) y → is_position_before y x ≡ false
 domain_later d x y h k = position_before_tests y x ∙ grind (arith, nat_tests, h.0, k)
 
 module _ (test : Row → Bool) where
@@ -50,7 +50,7 @@ module _ (test : Row → Bool) where
       let rest = all_weaker (FromRow d p (n + 1)) (FromRow d p n) (λ s h. (h.0, h.1, omega (arith, h.2))) (row_positions test d p (n + 1) rows) (rows_from d p (n + 1) rows) in
       elim (bool_cases (test row)) [ inl e ↦ rw e ((refl, refl, omega arith), rest) | inr e ↦ rw e rest ]
 
-  rows_ascend : (d p n : ℕ) (rows : List Row) → Ascends (row_positions test d p n rows)
+  rows_ascend : (d p n : ℕ) (rows : List Row) → Ascends is_position_before (row_positions test d p n rows)
   rows_ascend d p n [] = tt
   rows_ascend d p n (row ∷ rows) =
       elim (bool_cases (test row)) [
@@ -58,17 +58,17 @@ module _ (test : Row → Bool) where
         | inr e ↦ rw e (rows_ascend d p (n + 1) rows)
       ]
 
-  pub paths_from : (d p : ℕ) (paths : PathGroups) → AllByRecursion (FromPath d p) (path_positions test d p paths)
+  paths_from : (d p : ℕ) (paths : PathGroups) → AllByRecursion (FromPath d p) (path_positions test d p paths)
   paths_from d p [] = tt
   paths_from d p (g ∷ gs) =
       all_append (FromPath d p) (row_positions test d p 0 g.1) (path_positions test d (p + 1) gs)
       (all_weaker (FromRow d p 0) (FromPath d p) (λ s h. (h.0, omega (arith, h.1))) (row_positions test d p 0 g.1) (rows_from d p 0 g.1))
       (all_weaker (FromPath d (p + 1)) (FromPath d p) (λ s h. (h.0, omega (arith, h.1))) (path_positions test d (p + 1) gs) (paths_from d (p + 1) gs))
 
-  pub paths_ascend : (d p : ℕ) (paths : PathGroups) → Ascends (path_positions test d p paths)
+  paths_ascend : (d p : ℕ) (paths : PathGroups) → Ascends is_position_before (path_positions test d p paths)
   paths_ascend d p [] = tt
   paths_ascend d p (g ∷ gs) =
-      ascends_append (FromRow d p 0) (FromPath d (p + 1)) (path_later d p) (row_positions test d p 0 g.1) (path_positions test d (p + 1) gs)
+      ascends_append is_position_before (FromRow d p 0) (FromPath d (p + 1)) (path_later d p) (row_positions test d p 0 g.1) (path_positions test d (p + 1) gs)
       (rows_from d p 0 g.1) (paths_from d (p + 1) gs) (rows_ascend d p 0 g.1) (paths_ascend d (p + 1) gs)
 
   domains_from : (d : ℕ) (groups : DomainGroups) → AllByRecursion (FromDomain d) (domain_positions test d groups)
@@ -78,10 +78,10 @@ module _ (test : Row → Bool) where
       (all_weaker (FromPath d 0) (FromDomain d) (λ s h. omega (arith, h.0)) (path_positions test d 0 g.1) (paths_from d 0 g.1))
       (all_weaker (FromDomain (d + 1)) (FromDomain d) (λ s h. omega (arith, h)) (domain_positions test (d + 1) gs) (domains_from (d + 1) gs))
 
-  pub domains_ascend : (d : ℕ) (groups : DomainGroups) → Ascends (domain_positions test d groups)
+  pub domains_ascend : (d : ℕ) (groups : DomainGroups) → Ascends is_position_before (domain_positions test d groups)
   domains_ascend d [] = tt
   domains_ascend d (g ∷ gs) =
-      ascends_append (FromPath d 0) (FromDomain (d + 1)) (domain_later d) (path_positions test d 0 g.1) (domain_positions test (d + 1) gs)
+      ascends_append is_position_before (FromPath d 0) (FromDomain (d + 1)) (domain_later d) (path_positions test d 0 g.1) (domain_positions test (d + 1) gs)
       (paths_from d 0 g.1) (domains_from (d + 1) gs) (paths_ascend d 0 g.1) (domains_ascend (d + 1) gs)
 
   -- groups that are no candidates
@@ -184,7 +184,7 @@ pub found_sorted : (url : Parts) (now : Moment) (groups : DomainGroups) (unsorte
     → IsPermutation (given_positions url now groups) unsorted → IsPermutation unsorted sorted → IsSortedBy is_position_before sorted → sorted ≡ given_positions url now groups
 found_sorted url now groups unsorted sorted moved p up =
     let all = given_positions url now groups in
-    sorted_is unsorted sorted all (λ f. sum_by-IsPermutation f all unsorted moved) (domains_ascend (is_given url now) 0 groups) p up
+    sorted_is is_position_before positions_order neither_before unsorted sorted all (λ f. sum_by-IsPermutation f all unsorted moved) (domains_ascend (is_given url now) 0 groups) p up
 
 -- what was added to none
 pub from_none : (old new more : List RowPosition) → SamePositions new (old ++ more) → old ≡ [] → SamePositions new more

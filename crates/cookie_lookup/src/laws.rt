@@ -1,5 +1,6 @@
 //! Laws about the candidate domains and paths of a URL, and about the positions of the rows given
 //! for it.
+ghost use Rattle.std.specs.Cmp.{IsTotalOrder};
 ghost use Rattle.std.specs.Bool.{Decides};
 ghost use Rattle.std.specs.List.{flat_map, list_any};
 ghost use Rattle.std.specs.List.Sorted.{IsPermutation, IsSorted};
@@ -10,7 +11,7 @@ ghost use Rattle.cookie_parts.specs.Domain.{domain_text};
 ghost use Rattle.cookie_laws.specs.Given.{given, is_given};
 ghost use Rattle.cookie_laws.specs.Rows.{differ};
 ghost use Rattle.cookie_lookup.specs.Groups.{flat, AreGroups, DomainGroups};
-ghost use Rattle.cookie_lookup.specs.Positions.{groups_of, place_order, places_of, IsByPlace, PlacedGroups};
+ghost use Rattle.cookie_lookup.specs.Positions.{groups_in_order, groups_by_position, place_order, PlacedGroups};
 ghost use Rattle.cookie_lookup.specs.SearchView.{domains_found, given_positions, how_many_found, how_many_pairs_found, paths_found, rows_at, RowPosition};
 ghost use Rattle.cookie_lookup.specs.Candidates.{url_candidate_domains, dots, candidate_paths, candidate_domains, slashes, IsCandidatePath, IsCandidateDomain};
 ghost use Rattle.url.specs.Parts.{Parts};
@@ -48,21 +49,20 @@ pub fn rows_at_positions()
         → how_many_pairs_found groups (candidate_paths url.path) (url_candidate_domains url) ≡ paths_found url (flat groups) }
 {}
 
-/// Groups of domains in any order, each with its place in the order of the rows. Rows at positions
-/// that are sorted by these places are the given rows in that order; at positions in any order they
-/// are the same rows.
+/// Groups stored in any order: the domains, the paths of each and the rows of each path, each with
+/// its place. Rows at the positions found, sorted by place, are the given rows in the order of
+/// places; in any order they are the same rows.
 pub fn rows_by_place()
-    ensures groups { (by_place placed : PlacedGroups) → IsByPlace by_place placed → AreGroups (groups_of by_place) → AreGroups (groups_of placed) }
-    ensures sorted { (by_place placed : PlacedGroups) → IsByPlace by_place placed
-        → (url : Parts) (now : Moment) (positions : List RowPosition)
-        → IsPermutation (given_positions url now (groups_of placed)) positions → IsSorted (place_order (places_of placed)) positions
-        → flat_map (rows_at (groups_of placed)) positions ≡ given url now (flat (groups_of by_place)) }
-    ensures any_order { (by_place placed : PlacedGroups) → IsByPlace by_place placed
-        → (url : Parts) (now : Moment) (positions : List RowPosition)
-        → IsPermutation (given_positions url now (groups_of placed)) positions
-        → IsPermutation (given url now (flat (groups_of by_place))) (flat_map (rows_at (groups_of placed)) positions) }
-    ensures domains { (by_place placed : PlacedGroups) → IsByPlace by_place placed
-        → (url : Parts) → domains_found url (flat (groups_of placed)) ≡ domains_found url (flat (groups_of by_place)) }
-    ensures paths { (by_place placed : PlacedGroups) → IsByPlace by_place placed
-        → (url : Parts) → paths_found url (flat (groups_of placed)) ≡ paths_found url (flat (groups_of by_place)) }
+    ensures groups { (placed : PlacedGroups Row) → AreGroups (groups_in_order placed) → AreGroups (groups_by_position placed) }
+    ensures order { (placed : PlacedGroups Row) → IsTotalOrder (place_order placed) }
+    ensures sorted { (placed : PlacedGroups Row) (url : Parts) (now : Moment) (positions : List RowPosition)
+        → IsPermutation (given_positions url now (groups_by_position placed)) positions → IsSorted (place_order placed) positions
+        → flat_map (rows_at (groups_by_position placed)) positions ≡ given url now (flat (groups_in_order placed)) }
+    ensures any_order { (placed : PlacedGroups Row) (url : Parts) (now : Moment) (positions : List RowPosition)
+        → IsPermutation (given_positions url now (groups_by_position placed)) positions
+        → IsPermutation (given url now (flat (groups_in_order placed))) (flat_map (rows_at (groups_by_position placed)) positions) }
+    ensures domains { (placed : PlacedGroups Row) (url : Parts)
+        → domains_found url (flat (groups_by_position placed)) ≡ domains_found url (flat (groups_in_order placed)) }
+    ensures paths { (placed : PlacedGroups Row) (url : Parts)
+        → paths_found url (flat (groups_by_position placed)) ≡ paths_found url (flat (groups_in_order placed)) }
 {}

@@ -1,5 +1,6 @@
 mod Bools
 pub mod CharFronts
+pub mod Chars
 pub mod Digits
 pub mod EndsRead
 pub mod FieldFronts

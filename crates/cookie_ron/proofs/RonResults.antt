@@ -1,5 +1,5 @@
 -- The result of an input, by the list that it is read as.
-use Rattle.std.proofs.Common.{◌≡◌, ℕ, List, [], Option, Some, None, Result, Ok, Err, ◌⊎◌, inl, inr, refl, sym, subst}
+use Rattle.std.proofs.Common.{◌≡◌, ℕ, List, [], Option, Some, None, Result, Ok, Err, ◌⊎◌, inl, inr, refl}
 use Rattle.std.specs.Str.{chars}
 use Rattle.cookie_words.specs.Moments.{Moment}
 use Rattle.cookie_forms.specs.Saved.{Parts}
@@ -15,24 +15,24 @@ none_read : (s : List ℕ) (parts : List (Parts (List ℕ))) → list_at s ≡ N
 none_read s parts none is = let some = list_read s parts is in cc
 
 -- an input that is not a list
-pub says_none : (text s : List ℕ) (e : SavedError) → s ≡ chars text → (e ≡ ErrorCase.Memory) ⊎ ((e ≡ ErrorCase.Ron) × (list_at s ≡ None))
+pub says_none : (text : List ℕ) (e : SavedError) → (e ≡ ErrorCase.Memory) ⊎ ((e ≡ ErrorCase.Ron) × (list_at (chars text) ≡ None))
     → (e ≡ ErrorCase.Memory) ⊎ RonParsesTo text (Err e)
-says_none text s e same told = elim told [
+says_none text e told = elim told [
   | inl memory ↦ inl memory
-  | inr (ron, none) ↦ inr (inl (ron, λ parts is. none_read s parts none (subst (λ t. IsList parts t) (sym same) is)))
+  | inr (ron, none) ↦ inr (inl (ron, λ parts is. none_read (chars text) parts none is))
 ]
 
 -- a list whose expiries are valid times
-pub says_list : (text s : List ℕ) (parts : List (Parts (List ℕ))) (list : List (Parts Moment)) → s ≡ chars text → list_at s ≡ Some parts
+pub says_list : (text : List ℕ) (parts : List (Parts (List ℕ))) (list : List (Parts Moment)) → list_at (chars text) ≡ Some parts
     → all_with_parsed_expiry parts ≡ Some list → RonParsesTo text (Ok list)
-says_list text s parts list same read moments = (parts, subst (λ t. IsList parts t) same (list_front s parts read), moments)
+says_list text parts list read moments = (parts, list_front (chars text) parts read, moments)
 
 -- a list with an expiry that is not a valid time
-pub says_no_moment : (text s : List ℕ) (parts : List (Parts (List ℕ))) (e : SavedError) → s ≡ chars text → list_at s ≡ Some parts
+pub says_no_moment : (text : List ℕ) (parts : List (Parts (List ℕ))) (e : SavedError) → list_at (chars text) ≡ Some parts
     → (e ≡ ErrorCase.Memory) ⊎ ((e ≡ ErrorCase.Moment) × (all_with_parsed_expiry parts ≡ None)) → (e ≡ ErrorCase.Memory) ⊎ RonParsesTo text (Err e)
-says_no_moment text s parts e same read told = elim told [
+says_no_moment text parts e read told = elim told [
   | inl memory ↦ inl memory
-  | inr (moment, none) ↦ inr (inr (moment, parts, subst (λ t. IsList parts t) same (list_front s parts read), none))
+  | inr (moment, none) ↦ inr (inr (moment, parts, list_front (chars text) parts read, none))
 ]
 
 -- the empty input is not a list
@@ -40,7 +40,7 @@ pub empty_says_none : (text : List ℕ) → text ≡ [] → (ErrorCase.Ron ≡ E
 unfolding list_at chars
 empty_says_none text none =
     let unread : list_at (chars text) ≡ None = rw none refl in
-    says_none text (chars text) ErrorCase.Ron refl (inr (refl, unread))
+    says_none text ErrorCase.Ron (inr (refl, unread))
 
 -- every input has a result
 pub says : (text : List ℕ) → (outcome : Result (List (Parts Moment)) SavedError) × RonParsesTo text outcome

@@ -1,6 +1,5 @@
 -- Tokens with blanks before them.
-use Rattle.std.proofs.Math.Seq.{drop-cons}
-use Rattle.std.proofs.Common.{◌≡◌, ℕ, ◌<◌, length, drop, arith, List, [], ◌∷◌, ◌++◌, Bool, true, false, not, Option, Some, None, codes, ◌==◌, ◌&&◌, if◌then◌else◌, refl, sym, ap, ◌∙◌, inl, inr, true≢false}
+use Rattle.std.proofs.Common.{◌≡◌, ℕ, List, [], ◌∷◌, ◌++◌, Bool, true, false, not, Option, Some, None, codes, ◌==◌, ◌&&◌, if◌then◌else◌, refl, sym, ap, ◌∙◌, inl, inr, true≢false}
 use Rattle.std.specs.List.{list_all}
 use Rattle.std.proofs.lemmas.Bool.Decides.{Decides-eqb}
 use Rattle.std.proofs.lemmas.List.{append_assoc}
@@ -122,8 +121,3 @@ close_takes token solid apart = record {
         | inr behind_comma ↦ (here (λ r. token_at token r) (λ s. token_at token s) (sign_takes (codes ",") refl) (sign_takes token solid)).at front rest behind_comma
       ];
 }
-
--- a token that goes on after the end of the input
-pub behind_end : (token s : List ℕ) (i : ℕ) → i < length token → length s ≡ 0 → behind (drop i token) s ≡ None
-behind_end token [] i lt none = ap (λ t. behind t []) (drop-cons token i 0 lt)
-behind_end token (c ∷ s) i lt none = absurd (omega (arith, none))

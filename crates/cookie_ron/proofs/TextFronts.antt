@@ -1,13 +1,14 @@
 -- Quoted strings.
-use Rattle.std.proofs.Common.{◌≡◌, ℕ, zero, suc, ◌<◌, List, [], ◌∷◌, ◌++◌, length, flat_map, Option, Some, None, codes, length-append, refl, sym, ap, subst, ◌∙◌, arith}
+use Rattle.std.proofs.Common.{◌≡◌, ℕ, zero, suc, ◌<◌, List, [], ◌∷◌, ◌++◌, length, flat_map, Option, Some, None, option_and_then, false, ◌||◌, ◌==◌, codes, length-append, refl, sym, ap, subst, ◌∙◌, arith}
 use Rattle.std.specs.Char.{encode_utf8}
 use Rattle.std.specs.List.{AllZip}
-use Rattle.std.specs.Str.{encode_utf8_all}
+use Rattle.std.specs.Str.{encode_utf8_all, NonePass}
+use Rattle.std.proofs.lemmas.Bool.{or_parts}
 use Rattle.std.proofs.lemmas.Option.{option_and_then_some}
-use Rattle.std.proofs.lemmas.List.{append_assoc}
+use Rattle.std.proofs.lemmas.List.{append_assoc, append-nil}
 use Rattle.cookie_ron.specs.Grammar.{◌▸◌, Exactly, CharForm, CharForms, Text}
 use Rattle.cookie_ron.specs.RonInput.{behind, token_at, char_at, onto, chars_behind, chars_at, text_at}
-use Rattle.cookie_ron.proofs.Onto.{onto_both}
+use Rattle.cookie_ron.proofs.Onto.{onto_both, onto_none}
 use Rattle.cookie_ron.proofs.Fronts.{Front, Takes, joined, front_of, front_shorter, chain}
 use Rattle.cookie_ron.proofs.SignFronts.{behind_front, sign_front, sign_takes}
 use Rattle.cookie_ron.proofs.CharFronts.{map_some, char_front, char_takes}
@@ -44,6 +45,36 @@ chars_turn front text s rest c e is =
     ∙ ap (λ o. onto front (onto (encode_utf8 c) o)) (chars_fuel (length s) (suc (length rest)) rest (char_shorter s rest c e) (omega arith))
     ∙ onto_both front (encode_utf8 c) (chars_at (suc (length rest)) rest)
     ∙ ap (λ t. onto t (chars_at (suc (length rest)) rest)) (sym is)
+
+plain_char : (c : ℕ) (s : List ℕ) → ((c == 34) || (c == 92)) ≡ false → char_at (c ∷ s) ≡ Some (c, s)
+plain_char c s plain = let no = or_parts (c == 34) (c == 92) plain in rw (no.1, no.0) refl
+
+-- a run without a quote or a backslash has been read
+pub chars_run : (front run s text : List ℕ) → NonePass (λ c. (c == 34) || (c == 92)) run → text ≡ front ++ encode_utf8_all run
+    → onto front (chars_at (suc (length (run ++ s))) (run ++ s)) ≡ onto text (chars_at (suc (length s)) s)
+chars_run front [] s text plain is = ap (λ t. onto t (chars_at (suc (length s)) s)) (sym (is ∙ append-nil front))
+chars_run front (c ∷ run) s text plain is =
+    chars_turn front (front ++ encode_utf8 c) (c ∷ (run ++ s)) (run ++ s) c (plain_char c (run ++ s) plain.0) refl
+    ∙ chars_run (front ++ encode_utf8 c) run s text plain.1 (is ∙ sym (append_assoc front (encode_utf8 c) (encode_utf8_all run)))
+
+-- a string, when its first run has been read
+pub text_begins : (input first s cs text : List ℕ) → token_at (codes "\"") input ≡ Some first → first ≡ cs ++ s
+    → NonePass (λ c. (c == 34) || (c == 92)) cs → text ≡ encode_utf8_all cs → text_at input ≡ onto text (chars_at (suc (length s)) s)
+unfolding text_at
+text_begins input first s cs text quote is plain text_is =
+    ap (option_and_then (λ t. chars_at (suc (length t)) t)) quote
+    ∙ ap (λ t. chars_at (suc (length t)) t) is
+    ∙ onto_none (chars_at (suc (length (cs ++ s))) (cs ++ s))
+    ∙ chars_run [] cs s text plain text_is
+
+-- one more character and the run behind it have been read
+pub run_turn : (front between text s next rest cs : List ℕ) (c : ℕ) → char_at s ≡ Some (c, next) → between ≡ front ++ encode_utf8 c
+    → next ≡ cs ++ rest → NonePass (λ c. (c == 34) || (c == 92)) cs → text ≡ between ++ encode_utf8_all cs
+    → onto front (chars_at (suc (length s)) s) ≡ onto text (chars_at (suc (length rest)) rest)
+run_turn front between text s next rest cs c e between_is is plain text_is =
+    chars_turn front between s next c e between_is
+    ∙ ap (λ t. onto between (chars_at (suc (length t)) t)) is
+    ∙ chars_run between cs rest text plain text_is
 
 -- ---- the characters
 

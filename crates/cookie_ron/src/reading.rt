@@ -1,6 +1,6 @@
 //! Reads lists of saved cookies in RON.
 //!
-//! A parser takes the characters that are left, and returns what it read with the rest of them.
+//! A parser takes the input that is left, and returns what it read with the rest of the input.
 ghost use Rattle.std.specs.Prelude.{◌≡◌, ◌≢◌, ◌⊎◌, ℕ, List, [], None, Some, Ok, Err, IfOk, IfErr, IsOk, length, map, option_map, suc, string_bytes};
 ghost use Rattle.std.specs.Str.{chars};
 ghost use Rattle.cookie_forms.specs.Saved.{saved_view, domain_view, expiry_view};
@@ -10,9 +10,9 @@ ghost use Rattle.cookie_ron.specs.RonInput.{flag_at, argument_at, path_at, domai
 ghost use Rattle.cookie_ron.specs.ParsedRon.{RonParsesTo};
 
 use crate::texts::text_at;
-use crate::tokens::{close_at, drop_blanks, name_at, token_at};
+use crate::tokens::{close_at, is_at_end, name_at, token_at};
 use cookie_forms::{Saved, SavedDomain, SavedError, SavedExpiry, read_moment};
-use std::alloc::{AllocError, Global};
+use std::alloc::Global;
 
 // A saved cookie whose expiry is not parsed yet.
 #[derive(Drop)]
@@ -51,15 +51,7 @@ pub fn from_ron(alloc: Global, text: &str) -> Result<Vec<Saved>, SavedError>
     if text.is_empty() {
         return Err(SavedError::Ron);
     }
-    let input = chars_of(alloc, text)?;
-    with_parsed_expiries(alloc, list_at(alloc, &input)?)
-}
-
-// Collects the characters of a string.
-fn chars_of(alloc: Global, text: &str) -> Result<Vec<char>, AllocError>
-    ensures { IfOk result (λ list. list.items ≡ chars text.now) }
-{
-    text.chars().collect(alloc)
+    with_parsed_expiries(alloc, list_at(alloc, text)?)
 }
 
 // Parses the expiry of each cookie.
@@ -105,51 +97,52 @@ fn expiry_at(expires: &Option<String>) -> Result<SavedExpiry, SavedError>
 
 // Reads a whole list, up to the end of the input.
 #[tactic(auto, unfolding(crate::specs::RonInput::list_at))]
-fn list_at(alloc: Global, input: &[char]) -> Result<Vec<Entry>, SavedError>
-    ensures read { IfOk result (λ list. list_at input.now ≡ Some (map entry_view list.items)) }
+fn list_at(alloc: Global, input: &str) -> Result<Vec<Entry>, SavedError>
+    ensures read { IfOk result (λ list. list_at (chars input.now) ≡ Some (map entry_view list.items)) }
     ensures errors { IfErr result (λ e. (e ≡ SavedError.Memory)
-        ⊎ ((e ≡ SavedError.Ron) × (list_at input.now ≡ None))) }
-    ensures memory { list_at input.now ≡ Some [] → IsOk result }
+        ⊎ ((e ≡ SavedError.Ron) × (list_at (chars input.now) ≡ None))) }
+    ensures memory { list_at (chars input.now) ≡ Some [] → IsOk result }
 {
-    let (entries, rest) = cookies_at(alloc, token_at(b"[", input)?)?;
-    match drop_blanks(rest) {
-        [] => Ok(entries),
-        [_, ..] => Err(SavedError::Ron),
+    let (entries, rest) = cookies_at(alloc, token_at("[", input)?)?;
+    if is_at_end(rest) {
+        Ok(entries)
+    } else {
+        Err(SavedError::Ron)
     }
 }
 
 // Reads the cookies of a list, up to its closing bracket.
-fn cookies_at(alloc: Global, input: &[char]) -> Result<(Vec<Entry>, &[char]), SavedError>
-    ensures read { IfOk result (λ p. cookies_at (suc (length input.now)) input.now ≡ Some (map entry_view p.0.items, p.1.now)) }
+fn cookies_at(alloc: Global, input: &str) -> Result<(Vec<Entry>, &str), SavedError>
+    ensures read { IfOk result (λ p. cookies_at (suc (length (chars input.now))) (chars input.now) ≡ Some (map entry_view p.0.items, chars p.1.now)) }
     ensures errors { IfErr result (λ e. (e ≡ SavedError.Memory)
-        ⊎ ((e ≡ SavedError.Ron) × (cookies_at (suc (length input.now)) input.now ≡ None))) }
-    ensures memory { (rest : List ℕ) → cookies_at (suc (length input.now)) input.now ≡ Some ([], rest) → IsOk result }
+        ⊎ ((e ≡ SavedError.Ron) × (cookies_at (suc (length (chars input.now))) (chars input.now) ≡ None))) }
+    ensures memory { (rest : List ℕ) → cookies_at (suc (length (chars input.now))) (chars input.now) ≡ Some ([], rest) → IsOk result }
 {
     let mut entries = Vec::new(alloc);
     let mut rest = input;
     loop {
-        if let Ok(behind) = token_at(b"]", rest) {
+        if let Ok(behind) = token_at("]", rest) {
             return Ok((entries, behind));
         }
         let (entry, behind) = cookie_at(alloc, rest)?;
         entries.push(entry)?;
-        match token_at(b",", behind) {
+        match token_at(",", behind) {
             Ok(next) => rest = next,
-            Err(_) => return Ok((entries, token_at(b"]", behind)?)),
+            Err(_) => return Ok((entries, token_at("]", behind)?)),
         }
     }
 }
 
 // Reads a saved cookie.
 #[tactic(auto, unfolding(crate::specs::RonInput::cookie_at))]
-fn cookie_at(alloc: Global, input: &[char]) -> Result<(Entry, &[char]), SavedError>
-    ensures read { IfOk result (λ p. cookie_at input.now ≡ Some (entry_view p.0, p.1.now)) }
+fn cookie_at(alloc: Global, input: &str) -> Result<(Entry, &str), SavedError>
+    ensures read { IfOk result (λ p. cookie_at (chars input.now) ≡ Some (entry_view p.0, chars p.1.now)) }
     ensures errors { IfErr result (λ e. (e ≡ SavedError.Memory)
-        ⊎ ((e ≡ SavedError.Ron) × (cookie_at input.now ≡ None))) }
+        ⊎ ((e ≡ SavedError.Ron) × (cookie_at (chars input.now) ≡ None))) }
 {
-    let (raw_cookie, path, from_attr, rest) = first_fields_at(alloc, token_at(b"(", input)?)?;
-    let (domain, expires, rest) = last_fields_at(alloc, token_at(b",", rest)?)?;
-    let rest = close_at(b")", rest)?;
+    let (raw_cookie, path, from_attr, rest) = first_fields_at(alloc, token_at("(", input)?)?;
+    let (domain, expires, rest) = last_fields_at(alloc, token_at(",", rest)?)?;
+    let rest = close_at(")", rest)?;
     let entry = Entry {
         raw_cookie,
         path,
@@ -162,17 +155,14 @@ fn cookie_at(alloc: Global, input: &[char]) -> Result<(Entry, &[char]), SavedErr
 
 // Reads the fields `raw_cookie` and `path`.
 #[tactic(auto, unfolding(crate::specs::RonInput::first_fields_at))]
-fn first_fields_at(
-    alloc: Global,
-    input: &[char],
-) -> Result<(String, String, bool, &[char]), SavedError>
-    ensures read { IfOk result (λ p. first_fields_at input.now ≡ Some ((string_bytes p.0, (string_bytes p.1, p.2)), p.3.now)) }
+fn first_fields_at(alloc: Global, input: &str) -> Result<(String, String, bool, &str), SavedError>
+    ensures read { IfOk result (λ p. first_fields_at (chars input.now) ≡ Some ((string_bytes p.0, (string_bytes p.1, p.2)), chars p.3.now)) }
     ensures errors { IfErr result (λ e. (e ≡ SavedError.Memory)
-        ⊎ ((e ≡ SavedError.Ron) × (first_fields_at input.now ≡ None))) }
+        ⊎ ((e ≡ SavedError.Ron) × (first_fields_at (chars input.now) ≡ None))) }
 {
-    let (raw_cookie, rest) = text_at(alloc, name_at(b"raw_cookie", input)?)?;
-    let second = token_at(b",", rest)?;
-    let (path, from_attr, rest) = path_at(alloc, name_at(b"path", second)?)?;
+    let (raw_cookie, rest) = text_at(alloc, name_at("raw_cookie", input)?)?;
+    let second = token_at(",", rest)?;
+    let (path, from_attr, rest) = path_at(alloc, name_at("path", second)?)?;
     Ok((raw_cookie, path, from_attr, rest))
 }
 
@@ -180,86 +170,86 @@ fn first_fields_at(
 #[tactic(auto, unfolding(crate::specs::RonInput::last_fields_at))]
 fn last_fields_at(
     alloc: Global,
-    input: &[char],
-) -> Result<(SavedDomain, Option<String>, &[char]), SavedError>
-    ensures read { IfOk result (λ p. last_fields_at input.now ≡ Some ((domain_view p.0, option_map string_bytes p.1), p.2.now)) }
+    input: &str,
+) -> Result<(SavedDomain, Option<String>, &str), SavedError>
+    ensures read { IfOk result (λ p. last_fields_at (chars input.now) ≡ Some ((domain_view p.0, option_map string_bytes p.1), chars p.2.now)) }
     ensures errors { IfErr result (λ e. (e ≡ SavedError.Memory)
-        ⊎ ((e ≡ SavedError.Ron) × (last_fields_at input.now ≡ None))) }
+        ⊎ ((e ≡ SavedError.Ron) × (last_fields_at (chars input.now) ≡ None))) }
 {
-    let (domain, rest) = domain_at(alloc, name_at(b"domain", input)?)?;
-    let second = token_at(b",", rest)?;
-    let (expires, rest) = expiry_text_at(alloc, name_at(b"expires", second)?)?;
+    let (domain, rest) = domain_at(alloc, name_at("domain", input)?)?;
+    let second = token_at(",", rest)?;
+    let (expires, rest) = expiry_text_at(alloc, name_at("expires", second)?)?;
     Ok((domain, expires, rest))
 }
 
 // Reads a path, and whether a Path attribute set it.
 #[tactic(auto, unfolding(crate::specs::RonInput::path_at))]
-fn path_at(alloc: Global, input: &[char]) -> Result<(String, bool, &[char]), SavedError>
-    ensures read { IfOk result (λ p. path_at input.now ≡ Some ((string_bytes p.0, p.1), p.2.now)) }
+fn path_at(alloc: Global, input: &str) -> Result<(String, bool, &str), SavedError>
+    ensures read { IfOk result (λ p. path_at (chars input.now) ≡ Some ((string_bytes p.0, p.1), chars p.2.now)) }
     ensures errors { IfErr result (λ e. (e ≡ SavedError.Memory)
-        ⊎ ((e ≡ SavedError.Ron) × (path_at input.now ≡ None))) }
+        ⊎ ((e ≡ SavedError.Ron) × (path_at (chars input.now) ≡ None))) }
 {
-    let (path, rest) = text_at(alloc, token_at(b"(", input)?)?;
-    let (from_attr, rest) = flag_at(token_at(b",", rest)?)?;
-    Ok((path, from_attr, close_at(b")", rest)?))
+    let (path, rest) = text_at(alloc, token_at("(", input)?)?;
+    let (from_attr, rest) = flag_at(token_at(",", rest)?)?;
+    Ok((path, from_attr, close_at(")", rest)?))
 }
 
 // Reads `true` or `false`.
 #[tactic(auto, unfolding(crate::specs::RonInput::flag_at))]
-fn flag_at(input: &[char]) -> Result<(bool, &[char]), SavedError>
-    ensures read { IfOk result (λ p. flag_at input.now ≡ Some (p.0, p.1.now)) }
-    ensures errors { IfErr result (λ e. (e ≡ SavedError.Ron) × (flag_at input.now ≡ None)) }
+fn flag_at(input: &str) -> Result<(bool, &str), SavedError>
+    ensures read { IfOk result (λ p. flag_at (chars input.now) ≡ Some (p.0, chars p.1.now)) }
+    ensures errors { IfErr result (λ e. (e ≡ SavedError.Ron) × (flag_at (chars input.now) ≡ None)) }
 {
-    match token_at(b"true", input) {
+    match token_at("true", input) {
         Ok(rest) => Ok((true, rest)),
-        Err(_) => Ok((false, token_at(b"false", input)?)),
+        Err(_) => Ok((false, token_at("false", input)?)),
     }
 }
 
 // Reads a domain.
 #[tactic(auto, unfolding(crate::specs::RonInput::domain_at))]
-fn domain_at(alloc: Global, input: &[char]) -> Result<(SavedDomain, &[char]), SavedError>
-    ensures read { IfOk result (λ p. domain_at input.now ≡ Some (domain_view p.0, p.1.now)) }
+fn domain_at(alloc: Global, input: &str) -> Result<(SavedDomain, &str), SavedError>
+    ensures read { IfOk result (λ p. domain_at (chars input.now) ≡ Some (domain_view p.0, chars p.1.now)) }
     ensures errors { IfErr result (λ e. (e ≡ SavedError.Memory)
-        ⊎ ((e ≡ SavedError.Ron) × (domain_at input.now ≡ None))) }
+        ⊎ ((e ≡ SavedError.Ron) × (domain_at (chars input.now) ≡ None))) }
 {
-    if let Ok(rest) = token_at(b"HostOnly", input) {
+    if let Ok(rest) = token_at("HostOnly", input) {
         let (text, rest) = argument_at(alloc, rest)?;
         return Ok((SavedDomain::HostOnly(text), rest));
     }
-    if let Ok(rest) = token_at(b"Suffix", input) {
+    if let Ok(rest) = token_at("Suffix", input) {
         let (text, rest) = argument_at(alloc, rest)?;
         return Ok((SavedDomain::Suffix(text), rest));
     }
-    match token_at(b"NotPresent", input) {
+    match token_at("NotPresent", input) {
         Ok(rest) => Ok((SavedDomain::NotPresent, rest)),
-        Err(_) => Ok((SavedDomain::Empty, token_at(b"Empty", input)?)),
+        Err(_) => Ok((SavedDomain::Empty, token_at("Empty", input)?)),
     }
 }
 
 // Reads an expiry as a string, not parsed yet; `None` for `SessionEnd`.
 #[tactic(auto, unfolding(crate::specs::RonInput::expiry_text_at))]
-fn expiry_text_at(alloc: Global, input: &[char]) -> Result<(Option<String>, &[char]), SavedError>
-    ensures read { IfOk result (λ p. expiry_text_at input.now ≡ Some (option_map string_bytes p.0, p.1.now)) }
+fn expiry_text_at(alloc: Global, input: &str) -> Result<(Option<String>, &str), SavedError>
+    ensures read { IfOk result (λ p. expiry_text_at (chars input.now) ≡ Some (option_map string_bytes p.0, chars p.1.now)) }
     ensures errors { IfErr result (λ e. (e ≡ SavedError.Memory)
-        ⊎ ((e ≡ SavedError.Ron) × (expiry_text_at input.now ≡ None))) }
+        ⊎ ((e ≡ SavedError.Ron) × (expiry_text_at (chars input.now) ≡ None))) }
 {
-    match token_at(b"AtUtc", input) {
+    match token_at("AtUtc", input) {
         Ok(rest) => {
             let (text, rest) = argument_at(alloc, rest)?;
             Ok((Some(text), rest))
         }
-        Err(_) => Ok((None, token_at(b"SessionEnd", input)?)),
+        Err(_) => Ok((None, token_at("SessionEnd", input)?)),
     }
 }
 
 // Reads a string in parentheses.
 #[tactic(auto, unfolding(crate::specs::RonInput::argument_at))]
-fn argument_at(alloc: Global, input: &[char]) -> Result<(String, &[char]), SavedError>
-    ensures read { IfOk result (λ p. argument_at input.now ≡ Some (string_bytes p.0, p.1.now)) }
+fn argument_at(alloc: Global, input: &str) -> Result<(String, &str), SavedError>
+    ensures read { IfOk result (λ p. argument_at (chars input.now) ≡ Some (string_bytes p.0, chars p.1.now)) }
     ensures errors { IfErr result (λ e. (e ≡ SavedError.Memory)
-        ⊎ ((e ≡ SavedError.Ron) × (argument_at input.now ≡ None))) }
+        ⊎ ((e ≡ SavedError.Ron) × (argument_at (chars input.now) ≡ None))) }
 {
-    let (text, rest) = text_at(alloc, token_at(b"(", input)?)?;
-    Ok((text, close_at(b")", rest)?))
+    let (text, rest) = text_at(alloc, token_at("(", input)?)?;
+    Ok((text, close_at(")", rest)?))
 }

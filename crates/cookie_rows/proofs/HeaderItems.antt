@@ -12,7 +12,7 @@ use Rattle.std.proofs.lemmas.Cmp.{back_total, nat_cmp_total, on_total, then_tota
 use Rattle.std.proofs.lemmas.List.{get_or-map, length-map, map-append, nil_from_length}
 use Rattle.std.proofs.lemmas.List.Elements.{All-from_recursion, All-get_or}
 use Rattle.std.proofs.lemmas.List.Folds.{list_any-append}
-use Rattle.std.proofs.lemmas.List.Sorted.{All-permutation, IsPermutation-map, IsPermutation-trans, length_permutation, list_any-IsPermutation, ranks_by}
+use Rattle.std.proofs.lemmas.List.Sorted.{All-permutation, IsPermutation-map, IsPermutation-trans, length_permutation, ranks_by}
 use Rattle.std.proofs.lemmas.Option.{same_Some}
 use Rattle.url.specs.Parts.{Parts}
 use Rattle.cookie_words.specs.Moments.{Moment}
@@ -243,11 +243,6 @@ module _ (gs : ItemGroups) where
       (rows_known (under s.1 (under s.0 gs)) s.2 ∙ ap (λ rows. list_of (slice_get rows s.2)) (bare_rows s.0 s.1 gs))
       ∙ ap (λ rows. list_of (slice_get (under s.1 (under s.0 (bare gs))) s.2) ++ rows) (rows_at_positions positions)
 
--- a test passes at one of the lists if it does at one of all
-any_in_each : {A B : Type 0} (test : B → Bool) (f : A → List B) (xs : List A) → list_any test (flat_map f xs) ≡ list_any (λ x. list_any test (f x)) xs
-any_in_each test f [] = refl
-any_in_each test f (x ∷ xs) = list_any-append test (f x) (flat_map f xs) ∙ ap (λ b. list_any test (f x) || b) (any_in_each test f xs)
-
 module _ (gs : ItemGroups) where
   -- the two comparisons as tests
   in_tests : (l e m f : Bool) → is_lt (ordering_then (cond l Less (cond e Equal Greater)) (cond m Less (cond f Equal Greater))) ≡ (l || (e && m))
@@ -291,27 +286,18 @@ module _ (gs : ItemGroups) where
       (All-get_or (IsIn (numbered gs)) items (k + 1) d high among)
       (up k d low high))
 
-  -- an entry of the groups in another order is one of these
-  in_any_order : (others : ItemGroups) → IsPermutation gs others → (item : Item) → IsIn (numbered others) item → IsIn (numbered gs) item
-  in_any_order others moved item among =
-      let test = is_entry (entry_of item) in
-      let of_group : List ℕ × ItemPaths → List Entry = λ g. numbered_paths g.0 g.1 in
-      any_in_each test of_group gs
-      ∙ list_any-IsPermutation (λ g. list_any test (of_group g)) gs others moved
-      ∙ sym (any_in_each test of_group others) ∙ among
-
-  -- what is sorted of the rows that are given is in the order of the header, wherever their groups are
+  -- what is sorted of the rows that are given is in the order of the header, in whatever order the groups are stored
   pub sorted_in_order : (n : ℕ) → AreItems n gs → (url : Parts) (now : Moment)
-      → (others : ItemGroups) → IsPermutation gs others → AreGroups (bare others)
+      → (others : ItemGroups) → ((test : Entry → Bool) → list_any test (numbered gs) ≡ list_any test (numbered others)) → AreGroups (bare others)
       → (positions : List RowPosition) → IsPermutation (given url now (flat (bare gs))) (flat_map (rows_at (bare others)) positions)
       → (items sorted : List Item) → items ≡ flat_map (items_at others) positions
       → IsPermutation items sorted → IsSorted item_order sorted
       → InHeaderOrder url now (contents_of (groups_in_order gs) None None) (rows_of sorted)
-  sorted_in_order n are url now others moved of positions given_in_order items sorted found sorting up =
+  sorted_in_order n are url now others same of positions given_in_order items sorted found sorting up =
       let asked = given url now (flat (bare gs)) in
       let all : flat_map (rows_at (bare others)) positions ≡ rows_of items = sym (ap rows_of found ∙ rows_at_positions others positions) in
       let among = subst (AllByRecursion (IsIn (numbered gs))) (sym found)
-      (all_map (IsIn (numbered others)) (IsIn (numbered gs)) (in_any_order others moved) (flat_map (items_at others) positions) (all_in others of.1 positions)) in (
+      (all_map (IsIn (numbered others)) (IsIn (numbered gs)) (λ item is. same (is_entry (entry_of item)) ∙ is) (flat_map (items_at others) positions) (all_in others of.1 positions)) in (
         IsPermutation-trans asked (rows_of items) (rows_of sorted) (subst (IsPermutation asked) all given_in_order)
             (IsPermutation-map (λ (item : Item). item.row) items sorted sorting),
         rows_sorted n are sorted (All-permutation (IsIn (numbered gs)) items sorted sorting (All-from_recursion (IsIn (numbered gs)) items among)) up,

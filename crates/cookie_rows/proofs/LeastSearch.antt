@@ -1,20 +1,19 @@
 -- The row that is evicted first, among rows that are searched one after the other.
-use Rattle.std.proofs.Common.{◌≡◌, ℕ, zero, suc, ◌+◌, true, false, List, [], ◌∷◌, ◌++◌, length, map, take, slice_get, Option, Some, None, refl, sym, ◌∙◌, ap, subst, inl, inr, arith, append-nil, append_assoc}
+use Rattle.std.proofs.Common.{◌≡◌, ℕ, zero, suc, ◌+◌, ◌≤◌, true, false, List, [], ◌∷◌, ◌++◌, length, map, take, slice_get, Option, Some, None, refl, sym, ◌∙◌, ap, subst, inl, inr, arith, append-nil, append_assoc}
 use Rattle.std.specs.Prelude.{option_map}
 use Rattle.std.proofs.lemmas.Bool.{cases_Bool}
 use Rattle.std.proofs.lemmas.List.{take_more, length-take-le}
 use Rattle.std.proofs.lemmas.Option.{get_or_from_slice_get, slice_get_within}
-use Rattle.std.proofs.lemmas.List.Folds.{flat_map-map}
 use Rattle.cookie_words.specs.Moments.{Moment}
 use Rattle.cookie_rows.specs.declared.eviction_order.EvictionOrder.{EvictionOrder}
 use Rattle.cookie_rows.specs.declared.least.Least.{Least}
 use Rattle.cookie_rows.specs.Eviction.{EvictionRank, comes_before, rank_of}
 use Rattle.cookie_rows.specs.HeaderItems.{items_in}
-use Rattle.cookie_rows.specs.Items.{Item, ItemPaths, joined}
-use Rattle.cookie_rows.specs.Least.{IsLeast, IsLeastOfGroup, IsLeastOfGroups, NoneBefore, lesser}
+use Rattle.cookie_rows.specs.Items.{Item, joined}
+use Rattle.cookie_rows.specs.Least.{IsLeastOfGroup, IsLeastOfGroups, NoneBefore, lesser, stored_items}
+use Rattle.cookie_rows.specs.Stored.{StoredItems, StoredPaths}
 use Rattle.cookie_rows.proofs.ByNumber.{all_map}
 use Rattle.cookie_rows.proofs.Eviction.{all_joined}
-use Rattle.cookie_rows.proofs.Places.{items_under}
 use Rattle.cookie_rows.proofs.RankOrder.{not_before_itself, ranks_order}
 
 -- the last of a list is at the end
@@ -41,7 +40,7 @@ module _ (order : EvictionOrder) (now : Moment) where
 
   -- a search with one more row of a group
   group_more : (place : ℕ) (xs : List Item) (x : Item) (least : Option Least) → IsLeastOfGroup order now place xs least
-      → IsLeastOfGroup order now place (xs ++ x ∷ []) (lesser least (Some (record { place = place; at = length xs; rank = rank_of order now x })))
+      → IsLeastOfGroup order now place (xs ++ x ∷ []) (lesser least (Some (record { path = place; row = length xs; rank = rank_of order now x })))
   group_more place xs x None is =
       let none : NoneBefore order now (rank_of order now x) xs = subst (NoneBefore order now (rank_of order now x)) (sym is) tt in (
         refl,
@@ -60,7 +59,7 @@ module _ (order : EvictionOrder) (now : Moment) where
         | inr e ↦
             rw e (
               is.0,
-              in_front (rank_of order now) xs (x ∷ []) least.at least.rank is.1,
+              in_front (rank_of order now) xs (x ∷ []) least.row least.rank is.1,
               all_joined (λ item. comes_before (rank_of order now item) least.rank ≡ false) xs (x ∷ []) is.2 (e, tt),
             )
       ]
@@ -79,18 +78,18 @@ module _ (order : EvictionOrder) (now : Moment) where
   group_front (g ∷ groups) items (suc place) index rank is = group_front groups items place index rank is
 
   -- a position in the last group
-  group_last : (groups : List (List Item)) (items : List Item) (least : Least) → least.place ≡ length groups → option_map (rank_of order now) (slice_get items least.at) ≡ Some least.rank
-      → option_map (rank_of order now) (slice_get (items_in (slice_get (groups ++ items ∷ []) least.place)) least.at) ≡ Some least.rank
+  group_last : (groups : List (List Item)) (items : List Item) (least : Least) → least.path ≡ length groups → option_map (rank_of order now) (slice_get items least.row) ≡ Some least.rank
+      → option_map (rank_of order now) (slice_get (items_in (slice_get (groups ++ items ∷ []) least.path)) least.row) ≡ Some least.rank
   group_last groups items least place is =
-      ap (λ n. option_map (rank_of order now) (slice_get (items_in (slice_get (groups ++ items ∷ []) n)) least.at)) place
-      ∙ ap (λ g. option_map (rank_of order now) (slice_get (items_in g) least.at)) (at_end groups items) ∙ is
+      ap (λ n. option_map (rank_of order now) (slice_get (items_in (slice_get (groups ++ items ∷ []) n)) least.row)) place
+      ∙ ap (λ g. option_map (rank_of order now) (slice_get (items_in g) least.row)) (at_end groups items) ∙ is
 
   -- a search with one more group
   groups_more : (groups : List (List Item)) (items : List Item) (least other : Option Least) → IsLeastOfGroups order now groups least → IsLeastOfGroup order now (length groups) items other
       → IsLeastOfGroups order now (groups ++ items ∷ []) (lesser least other)
   groups_more groups items None None is found = joined_more groups items ∙ ap (λ xs. xs ++ items) is ∙ found
   groups_more groups items (Some least) None is found = (
-    group_front groups items least.place least.at least.rank is.0,
+    group_front groups items least.path least.row least.rank is.0,
     subst (NoneBefore order now least.rank) (sym (append-nil (joined groups)) ∙ ap (λ xs. joined groups ++ xs) (sym found) ∙ sym (joined_more groups items)) is.1,
   )
   groups_more groups items None (Some other) is found =
@@ -108,18 +107,11 @@ module _ (order : EvictionOrder) (now : Moment) where
             )
         | inr e ↦
             rw e (
-              group_front groups items least.place least.at least.rank is.0,
+              group_front groups items least.path least.row least.rank is.0,
               subst (NoneBefore order now least.rank) (sym (joined_more groups items))
                   (all_joined (λ item. comes_before (rank_of order now item) least.rank ≡ false) (joined groups) items is.1 (none_before other.rank least.rank items e found.2)),
             )
       ]
-
-  -- the least of the groups of a domain
-  pub least_of_paths : (paths : ItemPaths) (least : Least) → IsLeastOfGroups order now (map (λ p. p.1) paths) (Some least) → IsLeast order now least paths
-  least_of_paths paths least is = (
-    ap (λ (items : List Item). option_map (rank_of order now) (slice_get items least.at)) (sym (items_under paths least.place)) ∙ is.0,
-    subst (NoneBefore order now least.rank) (flat_map-map (λ (items : List Item). items) (λ (p : List ℕ × List Item). p.1) paths) is.1,
-  )
 
 -- a list up to one item more
 take_one : {T : Type 0} (xs : List T) (n : ℕ) (x : T) → slice_get xs n ≡ Some x → take (n + 1) xs ≡ take n xs ++ x ∷ []
@@ -132,10 +124,10 @@ length_before xs n x there = length-take-le n xs (omega (arith, slice_get_within
 module _ (order : EvictionOrder) (now : Moment) where
   -- the search of a group goes on
   pub group_step : (place : ℕ) (rows : List Item) (n : ℕ) (x : Item) (least : Option Least) → slice_get rows n ≡ Some x → IsLeastOfGroup order now place (take n rows) least
-      → IsLeastOfGroup order now place (take (n + 1) rows) (lesser least (Some (record { place = place; at = n; rank = rank_of order now x })))
+      → IsLeastOfGroup order now place (take (n + 1) rows) (lesser least (Some (record { path = place; row = n; rank = rank_of order now x })))
   group_step place rows n x least there is =
-      subst (λ xs. IsLeastOfGroup order now place xs (lesser least (Some (record { place = place; at = n; rank = rank_of order now x })))) (sym (take_one rows n x there))
-      (subst (λ m. IsLeastOfGroup order now place (take n rows ++ x ∷ []) (lesser least (Some (record { place = place; at = m; rank = rank_of order now x })))) (length_before rows n x there)
+      subst (λ xs. IsLeastOfGroup order now place xs (lesser least (Some (record { path = place; row = n; rank = rank_of order now x })))) (sym (take_one rows n x there))
+      (subst (λ m. IsLeastOfGroup order now place (take n rows ++ x ∷ []) (lesser least (Some (record { path = place; row = m; rank = rank_of order now x })))) (length_before rows n x there)
       (group_more order now place (take n rows) x least is))
 
   -- the search of all groups goes on
@@ -144,3 +136,16 @@ module _ (order : EvictionOrder) (now : Moment) where
   groups_step groups n items least other there is found =
       subst (λ gs. IsLeastOfGroups order now gs (lesser least other)) (sym (take_one groups n items there))
       (groups_more order now (take n groups) items least other is (subst (λ m. IsLeastOfGroup order now m items other) (sym (length_before groups n items there)) found))
+
+-- the rows of a domain at a position
+pub names_there : (paths : StoredPaths) (n : ℕ) (names : StoredItems) → Some names ≡ slice_get (map (λ p. p.1.1) paths) n
+    → slice_get (map (λ p. stored_items p.1.1) paths) n ≡ Some (stored_items names)
+names_there [] n names there = absurd (cc)
+names_there (p ∷ paths) zero names there = let same : p.1.1 ≡ names = cc in ap (λ (xs : StoredItems). Some (stored_items xs)) same
+names_there (p ∷ paths) (suc n) names there = names_there paths n names there
+
+-- a position at which there is nothing is past the end
+pub none_past : {T : Type 0} (xs : List T) (n : ℕ) → None ≡ slice_get xs n → length xs ≤ n
+none_past [] n none = omega arith
+none_past (x ∷ xs) zero none = absurd (cc)
+none_past (x ∷ xs) (suc n) none = omega (arith, none_past xs n none)

@@ -1,83 +1,85 @@
 -- A map from names to groups, changed at one name.
-use Rattle.std.proofs.Common.{◌≡◌, ℕ, ◌==◌, Bool, true, false, List, [], ◌∷◌, ◌++◌, map, length, refl, ap, inl, inr, bytes_eq, Option, Some, None, arith}
+use Rattle.std.proofs.Common.{◌≡◌, ℕ, ◌==◌, Bool, true, false, List, [], ◌∷◌, ◌++◌, map, length, refl, ap, ◌∙◌, inl, inr, bytes_eq, Option, Some, None, arith}
 use Rattle.std.specs.Prelude.{string_bytes, String}
-use Rattle.std.specs.String.{string_eq}
 use Rattle.std.specs.Map.{lookup, set_value, remove_entry, values_of}
-use Rattle.std.proofs.lemmas.Bool.{cases_Bool}
+use Rattle.std.specs.String.{string_eq}
 use Rattle.indexmap.specs.IndexMap.{insert_entry}
+use Rattle.std.proofs.lemmas.Bool.{cases_Bool}
 use Rattle.cookie_parts.specs.Cookie.{Row}
 use Rattle.cookie_laws.specs.Rows.{removed}
-use Rattle.cookie_rows.specs.GroupChanges.{texts_of, found, put_at, changed_at, is_empty_at, unless_empty, lessened_at}
+use Rattle.cookie_rows.specs.GroupChanges.{texts_by, found, put_at, changed_at, is_empty_at, unless_empty, lessened_at}
 
 -- the test of a key by a name
 abbrev pub at_text : {A : Type 0} → List ℕ → String A → Bool
 at_text q k = bytes_eq q (string_bytes k)
 
-module _ {A X : Type 0} where
+-- In this module `g` is what a value of the map has in order.
+module _ {A V X : Type 0} (g : V → List X) where
   -- a group that exists was changed, as in `put_at`
-  pub put_set : (f : List X → List X) (q : List ℕ) (es : List (String A × List X)) (v : List X) → Some v ≡ lookup (at_text q) es
-      → texts_of (set_value (at_text q) es (f v)) ≡ put_at f q (texts_of es)
-  put_set f q [] v l = absurd (cc)
-  put_set f q (e ∷ es) v l = elim (cases_Bool (at_text q e.0)) [
-    | inl t ↦ let l' = rw t at l in let same : v ≡ e.1 = cc in rw t (ap (λ x. (string_bytes e.0, f x) ∷ texts_of es) same)
-    | inr t ↦ let l' = rw t at l in rw t (ap (λ xs. (string_bytes e.0, e.1) ∷ xs) (put_set f q es v l'))
+  pub put_set : (f : List X → List X) (q : List ℕ) (es : List (String A × V)) (v w : V) → Some v ≡ lookup (at_text q) es → g w ≡ f (g v)
+      → texts_by g (set_value (at_text q) es w) ≡ put_at f q (texts_by g es)
+  put_set f q [] v w l is = absurd (cc)
+  put_set f q (e ∷ es) v w l is = elim (cases_Bool (at_text q e.0)) [
+    | inl t ↦ let l' = rw t at l in let same : v ≡ e.1 = cc in rw t (ap (λ x. (string_bytes e.0, x) ∷ texts_by g es) (is ∙ ap (λ u. f (g u)) same))
+    | inr t ↦ let l' = rw t at l in rw t (ap (λ xs. (string_bytes e.0, g e.1) ∷ xs) (put_set f q es v w l' is))
   ]
 
   -- as in `changed_at`
-  pub changed_set : (f : List X → List X) (q : List ℕ) (es : List (String A × List X)) (v : List X) → Some v ≡ lookup (at_text q) es
-      → texts_of (set_value (at_text q) es (f v)) ≡ changed_at f q (texts_of es)
-  changed_set f q [] v l = absurd (cc)
-  changed_set f q (e ∷ es) v l = elim (cases_Bool (at_text q e.0)) [
-    | inl t ↦ let l' = rw t at l in let same : v ≡ e.1 = cc in rw t (ap (λ x. (string_bytes e.0, f x) ∷ texts_of es) same)
-    | inr t ↦ let l' = rw t at l in rw t (ap (λ xs. (string_bytes e.0, e.1) ∷ xs) (changed_set f q es v l'))
+  pub changed_set : (f : List X → List X) (q : List ℕ) (es : List (String A × V)) (v w : V) → Some v ≡ lookup (at_text q) es → g w ≡ f (g v)
+      → texts_by g (set_value (at_text q) es w) ≡ changed_at f q (texts_by g es)
+  changed_set f q [] v w l is = absurd (cc)
+  changed_set f q (e ∷ es) v w l is = elim (cases_Bool (at_text q e.0)) [
+    | inl t ↦ let l' = rw t at l in let same : v ≡ e.1 = cc in rw t (ap (λ x. (string_bytes e.0, x) ∷ texts_by g es) (is ∙ ap (λ u. f (g u)) same))
+    | inr t ↦ let l' = rw t at l in rw t (ap (λ xs. (string_bytes e.0, g e.1) ∷ xs) (changed_set f q es v w l' is))
   ]
 
   -- what stood there was written again
-  pub same_set : (test : String A → Bool) (es : List (String A × List X)) (v : List X) → Some v ≡ lookup test es → texts_of (set_value test es v) ≡ texts_of es
-  same_set test [] v l = refl
-  same_set test (e ∷ es) v l = elim (cases_Bool (test e.0)) [
-    | inl t ↦ let l' = rw t at l in let same : v ≡ e.1 = cc in rw t (ap (λ x. (string_bytes e.0, x) ∷ texts_of es) same)
-    | inr t ↦ let l' = rw t at l in rw t (ap (λ xs. (string_bytes e.0, e.1) ∷ xs) (same_set test es v l'))
+  pub same_set : (test : String A → Bool) (es : List (String A × V)) (v w : V) → Some v ≡ lookup test es → g w ≡ g v
+      → texts_by g (set_value test es w) ≡ texts_by g es
+  same_set test [] v w l is = refl
+  same_set test (e ∷ es) v w l is = elim (cases_Bool (test e.0)) [
+    | inl t ↦ let l' = rw t at l in let same : v ≡ e.1 = cc in rw t (ap (λ x. (string_bytes e.0, x) ∷ texts_by g es) (is ∙ ap g same))
+    | inr t ↦ let l' = rw t at l in rw t (ap (λ xs. (string_bytes e.0, g e.1) ∷ xs) (same_set test es v w l' is))
   ]
 
-  -- a group was created from nothing and put last, as in `put_at`
-  pub put_insert : (f : List X → List X) (q : List ℕ) (k : String A) (es : List (String A × List X)) → string_bytes k ≡ q → None ≡ lookup (at_text q) es
-      → texts_of (insert_entry string_eq es k (f [])) ≡ put_at f q (texts_of es)
-  put_insert f q k [] is l = ap (λ t. (t, f []) ∷ []) is
-  put_insert f q k (e ∷ es) is l =
+  -- a group was created from nothing and inserted, as in `put_at`
+  pub put_insert : (f : List X → List X) (q : List ℕ) (k : String A) (es : List (String A × V)) (w : V) → string_bytes k ≡ q → None ≡ lookup (at_text q) es → g w ≡ f []
+      → texts_by g (insert_entry string_eq es k w) ≡ put_at f q (texts_by g es)
+  put_insert f q k [] w is l new = ap (λ t. (t, g w) ∷ []) is ∙ ap (λ x. (q, x) ∷ []) new
+  put_insert f q k (e ∷ es) w is l new =
       let same : string_eq k e.0 ≡ bytes_eq q (string_bytes e.0) = ap (λ t. bytes_eq t (string_bytes e.0)) is in
       elim (cases_Bool (at_text q e.0)) [
         | inl t ↦ let l' = rw t at l in absurd (cc)
-        | inr t ↦ let l' = rw t at l in rw (same, t) (ap (λ xs. (string_bytes e.0, e.1) ∷ xs) (put_insert f q k es is l'))
+        | inr t ↦ let l' = rw t at l in rw (same, t) (ap (λ xs. (string_bytes e.0, g e.1) ∷ xs) (put_insert f q k es w is l' new))
       ]
 
   -- the same in the words of a push
-  pub put_push : (f : List X → List X) (q : List ℕ) (k : String A) (es : List (String A × List X)) → string_bytes k ≡ q → None ≡ lookup (at_text q) es
-      → texts_of (es ++ (k, f []) ∷ []) ≡ put_at f q (texts_of es)
-  put_push f q k [] is l = ap (λ t. (t, f []) ∷ []) is
-  put_push f q k (e ∷ es) is l = elim (cases_Bool (at_text q e.0)) [
+  pub put_push : (f : List X → List X) (q : List ℕ) (k : String A) (es : List (String A × V)) (w : V) → string_bytes k ≡ q → None ≡ lookup (at_text q) es → g w ≡ f []
+      → texts_by g (es ++ (k, w) ∷ []) ≡ put_at f q (texts_by g es)
+  put_push f q k [] w is l new = ap (λ t. (t, g w) ∷ []) is ∙ ap (λ x. (q, x) ∷ []) new
+  put_push f q k (e ∷ es) w is l new = elim (cases_Bool (at_text q e.0)) [
     | inl t ↦ let l' = rw t at l in absurd (cc)
-    | inr t ↦ let l' = rw t at l in rw t (ap (λ xs. (string_bytes e.0, e.1) ∷ xs) (put_push f q k es is l'))
+    | inr t ↦ let l' = rw t at l in rw t (ap (λ xs. (string_bytes e.0, g e.1) ∷ xs) (put_push f q k es w is l' new))
   ]
 
   -- there is no group, so nothing is changed
-  pub changed_none : (f : List X → List X) (q : List ℕ) (es : List (String A × List X)) → None ≡ lookup (at_text q) es → texts_of es ≡ changed_at f q (texts_of es)
+  pub changed_none : (f : List X → List X) (q : List ℕ) (es : List (String A × V)) → None ≡ lookup (at_text q) es → texts_by g es ≡ changed_at f q (texts_by g es)
   changed_none f q [] l = refl
   changed_none f q (e ∷ es) l = elim (cases_Bool (at_text q e.0)) [
     | inl t ↦ let l' = rw t at l in absurd (cc)
-    | inr t ↦ let l' = rw t at l in rw t (ap (λ xs. (string_bytes e.0, e.1) ∷ xs) (changed_none f q es l'))
+    | inr t ↦ let l' = rw t at l in rw t (ap (λ xs. (string_bytes e.0, g e.1) ∷ xs) (changed_none f q es l'))
   ]
 
   -- what is found in a group that exists
-  pub found_some : (f : List X → Option Row) (q : List ℕ) (es : List (String A × List X)) (v : List X) → Some v ≡ lookup (at_text q) es → f v ≡ found f q (texts_of es)
+  pub found_some : (f : List X → Option Row) (q : List ℕ) (es : List (String A × V)) (v : V) → Some v ≡ lookup (at_text q) es → f (g v) ≡ found f q (texts_by g es)
   found_some f q [] v l = absurd (cc)
   found_some f q (e ∷ es) v l = elim (cases_Bool (at_text q e.0)) [
-    | inl t ↦ let l' = rw t at l in let same : v ≡ e.1 = cc in rw t (ap f same)
+    | inl t ↦ let l' = rw t at l in let same : v ≡ e.1 = cc in rw t (ap (λ u. f (g u)) same)
     | inr t ↦ let l' = rw t at l in rw t (found_some f q es v l')
   ]
 
   -- nothing is found without a group
-  pub found_none : (f : List X → Option Row) (q : List ℕ) (es : List (String A × List X)) → None ≡ lookup (at_text q) es → None ≡ found f q (texts_of es)
+  pub found_none : (f : List X → Option Row) (q : List ℕ) (es : List (String A × V)) → None ≡ lookup (at_text q) es → None ≡ found f q (texts_by g es)
   found_none f q [] l = refl
   found_none f q (e ∷ es) l = elim (cases_Bool (at_text q e.0)) [
     | inl t ↦ let l' = rw t at l in absurd (cc)
@@ -85,7 +87,7 @@ module _ {A X : Type 0} where
   ]
 
   -- what was written is what the map has
-  pub empty_set : (q : List ℕ) (es : List (String A × List X)) (v w : List X) → Some v ≡ lookup (at_text q) es → (length w == 0) ≡ is_empty_at q (texts_of (set_value (at_text q) es w))
+  pub empty_set : (q : List ℕ) (es : List (String A × V)) (v w : V) → Some v ≡ lookup (at_text q) es → (length (g w) == 0) ≡ is_empty_at q (texts_by g (set_value (at_text q) es w))
   empty_set q [] v w l = absurd (cc)
   empty_set q (e ∷ es) v w l = elim (cases_Bool (at_text q e.0)) [
     | inl t ↦ rw (t, t) refl
@@ -93,7 +95,7 @@ module _ {A X : Type 0} where
   ]
 
   -- without a group, no group is empty
-  pub empty_none : (q : List ℕ) (es : List (String A × List X)) → None ≡ lookup (at_text q) es → false ≡ is_empty_at q (texts_of es)
+  pub empty_none : (q : List ℕ) (es : List (String A × V)) → None ≡ lookup (at_text q) es → false ≡ is_empty_at q (texts_by g es)
   empty_none q [] l = refl
   empty_none q (e ∷ es) l = elim (cases_Bool (at_text q e.0)) [
     | inl t ↦ let l' = rw t at l in absurd (cc)
@@ -101,17 +103,17 @@ module _ {A X : Type 0} where
   ]
 
   -- an entry that was removed
-  pub texts_removed : (q : List ℕ) (es : List (String A × List X)) → texts_of (remove_entry (at_text q) es) ≡ removed (λ g. bytes_eq q g.0) (texts_of es)
+  pub texts_removed : (q : List ℕ) (es : List (String A × V)) → texts_by g (remove_entry (at_text q) es) ≡ removed (λ g. bytes_eq q g.0) (texts_by g es)
   texts_removed q [] = refl
   texts_removed q (e ∷ es) = elim (cases_Bool (at_text q e.0)) [
     | inl t ↦ rw t refl
-    | inr t ↦ rw t (ap (λ xs. (string_bytes e.0, e.1) ∷ xs) (texts_removed q es))
+    | inr t ↦ rw t (ap (λ xs. (string_bytes e.0, g e.1) ∷ xs) (texts_removed q es))
   ]
 
   -- the values of a map, without its keys
-  pub values_texts : (es : List (String A × X)) → values_of es ≡ map (λ g. g.1) (texts_of es)
+  pub values_texts : (es : List (String A × V)) → map g (values_of es) ≡ map (λ t. t.1) (texts_by g es)
   values_texts [] = refl
-  values_texts (e ∷ es) = ap (λ xs. e.1 ∷ xs) (values_texts es)
+  values_texts (e ∷ es) = ap (λ xs. g e.1 ∷ xs) (values_texts es)
 
 -- a changed group is dropped if it is empty
 

@@ -1,12 +1,10 @@
 -- A map of items under their names is a list of items.
-use Rattle.std.proofs.Common.{◌≡◌, ℕ, Bool, true, false, List, [], ◌∷◌, refl, sym, ◌∙◌, ap, subst, inl, inr, bytes_eq, Option, Some, None}
+use Rattle.std.proofs.Common.{◌≡◌, ℕ, Bool, true, false, List, [], ◌∷◌, ◌++◌, refl, sym, ◌∙◌, ap, subst, inl, inr, bytes_eq, Option, Some, None}
 use Rattle.std.specs.Prelude.{string_bytes, String, option_map}
-use Rattle.std.specs.String.{string_eq}
 use Rattle.std.specs.List.{AllByRecursion}
 use Rattle.std.specs.Map.{values_of, lookup, set_value, remove_entry}
 use Rattle.std.proofs.lemmas.Bool.{cases_Bool}
 use Rattle.std.proofs.lemmas.Slice.Eq.{bytes_eq-Decides}
-use Rattle.indexmap.specs.IndexMap.{insert_entry}
 use Rattle.cookie_parts.specs.Cookie.{Row, expired_row}
 use Rattle.cookie_rows.specs.GroupChanges.{row_named, texts_of}
 use Rattle.cookie_rows.specs.Items.{AreNamed, Item, expire_item, is_item_named, put_item, remove_item, rows_of}
@@ -56,25 +54,10 @@ module _ {A : Type 0} where
           let l' = rw f at l in rw (f, m) (ap (λ xs. e.1 ∷ xs) (put_set v es g.1 l'))
     ]
 
-    module _ (k : String A) (key : string_bytes k ≡ q) where
-      -- a row of the name came under it
-      pub named_insert : (es : List (String A × Item)) → AreNamed es → AreNamed (insert_entry string_eq es k (record { row = w; number = n }))
-      named_insert [] g = (key ∙ sym is, tt)
-      named_insert (e ∷ es) g = elim (cases_Bool (string_eq k e.0)) [
-        | inl t ↦ rw t (sym ((bytes_eq-Decides (string_bytes k) (string_bytes e.0)).0 t) ∙ key ∙ sym is, g.1)
-        | inr f ↦ rw f (g.0, named_insert es g.1)
-      ]
-
-      -- it is put last
-      pub put_insert : (es : List (String A × Item)) → AreNamed es → None ≡ lookup (at_text q) es → values_of (insert_entry string_eq es k (record { row = w; number = n })) ≡ put_item w n (values_of es)
-      put_insert [] g l = refl
-      put_insert (e ∷ es) g l =
-          let same : string_eq k e.0 ≡ at_text q e.0 = ap (λ t. bytes_eq t (string_bytes e.0)) key in
-          elim (cases_Bool (at_text q e.0)) [
-            | inl t ↦ let l' = rw t at l in absurd (cc)
-            | inr f ↦ let m : is_item_named w.raw.name e.1 ≡ false = ap (λ x. is_item_named x e.1) is ∙ same_test q e g.0 false f in
-                let l' = rw f at l in rw (same, f, m) (ap (λ xs. e.1 ∷ xs) (put_insert es g.1 l'))
-          ]
+  -- an item was put last under its name
+  pub named_push : (k : String A) (x : Item) (es : List (String A × Item)) → string_bytes k ≡ x.row.raw.name → AreNamed es → AreNamed (es ++ (k, x) ∷ [])
+  named_push k x [] key g = (key, tt)
+  named_push k x (e ∷ es) key g = (g.0, named_push k x es key g.1)
 
   module _ (q : List ℕ) where
     -- the row of the name expired

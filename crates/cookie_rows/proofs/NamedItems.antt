@@ -1,19 +1,18 @@
 -- A list of items, one for each name.
 use Rattle.std.proofs.Common.{◌≡◌, ℕ, Bool, true, false, List, [], ◌∷◌, ◌++◌, filter, get_or, set, Some, None, refl, sym, ap, subst, ◌∙◌, inl, inr, bytes_eq, append_assoc, arith}
 use Rattle.std.specs.Prelude.{option_map, string_bytes, String}
-use Rattle.std.specs.String.{string_eq}
 use Rattle.std.specs.List.{list_any, find, position}
-use Rattle.std.specs.Map.{values_of}
+use Rattle.std.specs.Map.{lookup, values_of}
 use Rattle.std.proofs.lemmas.Bool.{cases_Bool}
 use Rattle.std.proofs.lemmas.Bool.Decides.{nat_tests}
+use Rattle.std.proofs.lemmas.List.{map-append}
 use Rattle.std.proofs.lemmas.Slice.Eq.{bytes_eq-Decides}
-use Rattle.indexmap.specs.IndexMap.{insert_entry}
 use Rattle.cookie_parts.specs.Cookie.{Row}
 use Rattle.cookie_laws.specs.Rows.{changed}
 use Rattle.cookie_rows.specs.GroupChanges.{row_named}
 use Rattle.cookie_rows.specs.Items.{AreNamed, Item, expire_item, is_item_named, put_item, remove_item, rows_of}
 use Rattle.cookie_rows.specs.NameMaps.{names_differ, names_in}
-use Rattle.cookie_rows.proofs.Named.{named_insert, none_named, put_insert}
+use Rattle.cookie_rows.proofs.Named.{at_text, none_named}
 use Rattle.cookie_rows.proofs.Positions.{changed_there, found_at, none_found, passes}
 
 -- the row of a name is that of the item of the name
@@ -124,19 +123,21 @@ absent_ahead (x ∷ xs) ys y d =
     grind (arith, nat_tests, other, bytes_eq-Decides x.row.raw.name y.row.raw.name, bytes_eq-Decides y.row.raw.name x.row.raw.name) in
     rw flip (absent_ahead xs ys y rest)
 
--- the next row is inserted into a map under its name
+-- a new row is put last in a map under its name
+pub put_push : {A : Type 0} (k : String A) (x : Item) (es : List (String A × Item)) → row_named x.row.raw.name (rows_of (values_of es)) ≡ None
+    → values_of (es ++ (k, x) ∷ []) ≡ put_item x.row x.number (values_of es)
+put_push k x es none = map-append (λ e. e.1) es ((k, x) ∷ []) ∙ put_last x.row x.number (values_of es) none
+
+-- the next row
 
 module _ {A : Type 0} (es : List (String A × Item)) (left all : List Item) (x : Item) (k : String A) (named : AreNamed es)
     (key : string_bytes k ≡ x.row.raw.name) (whole : values_of es ++ x ∷ left ≡ all) (d : names_differ all ≡ true) where
-  moved : values_of (insert_entry string_eq es k x) ≡ put_item x.row x.number (values_of es)
-  moved =
-      put_insert x.row.raw.name x.row x.number refl k key es named
-      (none_named x.row.raw.name es named (absent_ahead (values_of es) left x (subst (λ items. names_differ items ≡ true) (sym whole) d)))
+  -- no row before it has its name
+  pub next_new : lookup (at_text (string_bytes k)) es ≡ None
+  next_new =
+      let none = absent_ahead (values_of es) left x (subst (λ items. names_differ items ≡ true) (sym whole) d) in
+      sym (none_named (string_bytes k) es named (ap (λ t. row_named t (rows_of (values_of es))) key ∙ none))
 
-  pub moved_rows : values_of (insert_entry string_eq es k x) ++ left ≡ all
-  moved_rows =
-      let absent = absent_ahead (values_of es) left x (subst (λ items. names_differ items ≡ true) (sym whole) d) in
-      ap (λ items. items ++ left) (moved ∙ sym (put_last x.row x.number (values_of es) absent)) ∙ append_assoc (values_of es) (x ∷ []) left ∙ whole
-
-  pub moved_named : AreNamed (insert_entry string_eq es k x)
-  moved_named = named_insert x.row.raw.name x.row x.number refl k key es named
+  -- it and the rows after it are those that were left
+  pub next_rows : values_of (es ++ (k, x) ∷ []) ++ left ≡ all
+  next_rows = ap (λ items. items ++ left) (map-append (λ e. e.1) es ((k, x) ∷ [])) ∙ append_assoc (values_of es) (x ∷ []) left ∙ whole

@@ -1,5 +1,5 @@
 -- What an unknown result implies.
-use Rattle.std.proofs.Common.{◌≡◌, IfOk, IsOk, Option, None, Some, Result, Ok, Err, OnOk, OnErr}
+use Rattle.std.proofs.Common.{◌≡◌, IfNone, IfOk, IsOk, Option, None, Some, Result, Ok, Err, OnOk, OnErr}
 use Rattle.std.specs.Option.{OnSome}
 
 -- what follows from what holds after success
@@ -31,6 +31,11 @@ either_way (Err e) p = p
 pub ok_or_err : {T E P Q R : Type 0} (r : Result T E) → OnOk r P → OnErr r Q → (P → R) → (Q → R) → R
 ok_or_err (Ok x) p q f g = f p
 ok_or_err (Err e) p q f g = g q
+
+-- what follows from a value and from none
+pub some_or_none : {T P Q R : Type 0} (o : Option T) → OnSome o P → IfNone o Q → (P → R) → (Q → R) → R
+some_or_none None p q f g = g q
+some_or_none (Some x) p q f g = f p
 
 -- what holds at a value that is there
 pub known_some : {T P : Type 0} (o : Option T) {x : T} → o ≡ Some x → OnSome o P → P

@@ -14,7 +14,7 @@ use Rattle.cookie_parts.specs.Hosts.{passes}
 use Rattle.cookie_laws.specs.Contents.{ReturnsTest, contents_of, has_expired, is_retained, retained, rows_in_order, unexpired}
 use Rattle.cookie_laws.specs.Rows.{Key, RowsInOrder, are_rows, differ, is_unexpired, key_at, key_of, row_of, same_key, same_key_equiv}
 use Rattle.cookie_lookup.specs.Groups.{flat, flat_paths}
-use Rattle.cookie_rows.specs.GroupChanges.{texts_of, unless_empty}
+use Rattle.cookie_rows.specs.GroupChanges.{texts_by, unless_empty}
 use Rattle.cookie_rows.specs.Items.{AreItems, AreNamed, Item, ItemGroups, ItemPaths, bare, bare_paths, groups_in_order, rows_of}
 use Rattle.cookie_rows.specs.Eviction.{filter_groups, filter_paths, is_filled}
 use Rattle.cookie_rows.specs.NameMaps.{names_differ, names_in}
@@ -78,21 +78,25 @@ module _ {A F : Type 0} (T : F → String A → Item → Bool → Item → F →
       name_left k true w rest own named = (own, named)
       name_left k false w rest own named = named
 
--- in a map of groups
-module _ {A X F : Type 0} (T : F → String A → List X → Bool → List X → F → Type 0) (Retains : List X → List X → Type 0) (f : F)
-    (says : (k : String A) (v : List X) (b : Bool) (w : List X) (g : F) → T f k v b w g → Retains v w × (b ≡ not (length w == 0)) × (g ≡ f)) where
-  pub texts_retained : (es left : List (String A × List X)) → RetainsPairs T f es left → RetainsGroups Retains (texts_of es) (texts_of left)
-  texts_retained [] left h = ap texts_of h
+-- in a map of groups, where `contents` is what a value of the map has in order
+module _ {A V X F : Type 0} (contents : V → List X) (T : F → String A → V → Bool → V → F → Type 0) (Retains : List X → List X → Type 0) (f : F)
+    (says : (k : String A) (v : V) (b : Bool) (w : V) (g : F) → T f k v b w g → Retains (contents v) (contents w) × (b ≡ not (length (contents w) == 0)) × (g ≡ f)) where
+  pub texts_retained : (es left : List (String A × V)) → RetainsPairs T f es left → RetainsGroups Retains (texts_by contents es) (texts_by contents left)
+  texts_retained [] left h = ap (texts_by contents) h
   texts_retained (e ∷ es) left h =
       let s = says e.0 e.1 h.0 h.1 h.2 h.4 in
       let rest = texts_retained es h.3 (subst (λ g. RetainsPairs T g es h.3) s.2 h.5) in
-      (h.1, texts_of h.3, s.0, rest, ap texts_of h.6 ∙ group_left e.0 h.0 h.1 h.3 s.1)
+      (contents h.1, texts_by contents h.3, s.0, rest, ap (texts_by contents) h.6 ∙ map_left e.0 h.0 h.1 h.3 ∙ group_left (string_bytes e.0) h.0 (contents h.1) (texts_by contents h.3) s.1)
     where
       -- what one result leaves
-      group_left : (k : String A) (b : Bool) (w : List X) (rest : List (String A × List X)) → b ≡ not (length w == 0)
-          → texts_of (cond b ((k, w) ∷ rest) rest) ≡ unless_empty (string_bytes k) w (texts_of rest)
-      group_left k b [] rest e = rw e refl
-      group_left k b (x ∷ xs) rest e =
+      map_left : (k : String A) (b : Bool) (w : V) (rest : List (String A × V)) → texts_by contents (cond b ((k, w) ∷ rest) rest) ≡ cond b ((string_bytes k, contents w) ∷ texts_by contents rest) (texts_by contents rest)
+      map_left k true w rest = refl
+      map_left k false w rest = refl
+
+      -- which is dropped if it is empty
+      group_left : (text : List ℕ) (b : Bool) (xs : List X) (rest : List (List ℕ × List X)) → b ≡ not (length xs == 0) → cond b ((text, xs) ∷ rest) rest ≡ unless_empty text xs rest
+      group_left text b [] rest e = rw e refl
+      group_left text b (x ∷ xs) rest e =
           let some : (length (x ∷ xs) == 0) ≡ false = grind (arith, nat_tests) in
           let stays : b ≡ true = e ∙ ap not some in
           rw stays refl

@@ -5,18 +5,15 @@ use Rattle.std.specs.Map.{lookup, set_value}
 use Rattle.std.proofs.lemmas.Bool.{cases_Bool}
 use Rattle.std.proofs.lemmas.List.{length_push}
 use Rattle.std.proofs.lemmas.List.Folds.{flat_map-map}
-use Rattle.std.proofs.lemmas.List.Sorted.{length_permutation}
 use Rattle.cookie_parts.specs.Cookie.{Row}
 use Rattle.cookie_parts.specs.Domain.{domain_text}
 use Rattle.cookie_laws.specs.Rows.{key_of}
-use Rattle.cookie_lookup.specs.SearchView.{under}
-use Rattle.cookie_rows.specs.GroupChanges.{texts_of}
+use Rattle.cookie_rows.specs.GroupChanges.{texts_by, unless_empty}
 use Rattle.cookie_rows.specs.Items.{Item, ItemGroups, ItemPaths, find_item_paths, find_items, joined, put_item, put_item_paths, put_items}
 use Rattle.cookie_rows.specs.Eviction.{filter_paths, moved_to_end_if}
-use Rattle.cookie_rows.specs.Least.{items_in_groups, items_in_paths, without_at}
+use Rattle.cookie_rows.specs.Least.{items_in_groups, items_in_paths}
 use Rattle.cookie_rows.proofs.Maps.{at_text}
 use Rattle.cookie_rows.proofs.StoredThenEvicted.{passing_kept, put_last}
-use Rattle.cookie_rows.proofs.WithoutAt.{rows_moved, rows_unless}
 
 -- the rows of the groups in front of one, and of that one, are no more than all
 pub count_so_far : (groups : List (List Item)) (n : ℕ) (xs : List Item) → slice_get groups n ≡ Some xs → length (joined (take n groups)) + length xs ≤ length (joined groups)
@@ -69,6 +66,11 @@ pub fewer : {T : Type 0} (test : T → Bool) (xs : List T) → length (filter te
 fewer test [] = omega arith
 fewer test (x ∷ xs) = elim (cases_Bool (test x)) [ inl e ↦ rw e (omega (arith, fewer test xs)) | inr e ↦ rw e (omega (arith, fewer test xs)) ]
 
+-- the rows of a group that may be empty, and of others
+pub rows_unless : (text : List ℕ) (xs : List Item) (ps : ItemPaths) → items_in_paths (unless_empty text xs ps) ≡ xs ++ items_in_paths ps
+rows_unless text [] ps = refl
+rows_unless text (x ∷ xs) ps = refl
+
 count_filtered : (test : Item → Bool) (ps : ItemPaths) → path_count (filter_paths test ps) ≤ path_count ps
 count_filtered test [] = omega arith
 count_filtered test (p ∷ ps) =
@@ -80,11 +82,6 @@ count_filtered test (p ∷ ps) =
 -- so when rows are evicted for a new one there is at most one more
 pub count_evicted : (row : Row) (n : ℕ) (ps : ItemPaths) (test : Item → Bool) → find_item_paths row.path.text row.raw.name ps ≡ None → path_count (filter_paths test (put_item_paths row n ps)) ≤ path_count ps + 1
 count_evicted row n ps test none = omega (arith, count_filtered test (put_item_paths row n ps), count_put row n ps none)
-
--- without the row at a position
-pub count_without : (ps : ItemPaths) (place index : ℕ) (x : Item) → slice_get (under place ps) index ≡ Some x → path_count (without_at place index ps) + 1 ≡ path_count ps
-count_without ps place index x there =
-    omega (arith, length_permutation (items_in_paths ps) (x ∷ items_in_paths (without_at place index ps)) (rows_moved ps place index x there))
 
 -- the number of rows of all domains
 abbrev pub group_count : ItemGroups → ℕ
@@ -118,23 +115,25 @@ groups_put row n (g ∷ gs) none = elim (cases_Bool (bytes_eq (domain_text row.d
   | inr e ↦ rw e (omega (arith, groups_cons g.0 g.1 (put_items row n gs), groups_cons g.0 g.1 gs, groups_put row n gs (rw e at none)))
 ]
 
--- after the groups of a domain are written
-groups_set : {A : Type 0} (d : List ℕ) (es : List (String A × ItemPaths)) (old new : ItemPaths) → Some old ≡ lookup (at_text d) es
-    → group_count (texts_of (set_value (at_text d) es new)) + path_count old ≡ group_count (texts_of es) + path_count new
-groups_set d [] old new there = absurd (cc)
-groups_set d (e ∷ es) old new there = elim (cases_Bool (at_text d e.0)) [
-  | inl t ↦
-      let there' = rw t at there in
-      let same : old ≡ e.1 = cc in
-      let text = string_bytes e.0 in
-      rw t (omega (arith, groups_cons text new (texts_of es), groups_cons text e.1 (texts_of es), ap path_count same))
-  | inr t ↦
-      let there' = rw t at there in
-      let text = string_bytes e.0 in
-      rw t (omega (arith, groups_cons text e.1 (texts_of (set_value (at_text d) es new)), groups_cons text e.1 (texts_of es), groups_set d es old new there'))
-]
+-- In this module `g` is what a value of the map has in order.
+module _ {A V : Type 0} (g : V → ItemPaths) (d : List ℕ) where
+  -- after the groups of a domain are written
+  groups_set : (es : List (String A × V)) (old new : V) → Some old ≡ lookup (at_text d) es
+      → group_count (texts_by g (set_value (at_text d) es new)) + path_count (g old) ≡ group_count (texts_by g es) + path_count (g new)
+  groups_set [] old new there = absurd (cc)
+  groups_set (e ∷ es) old new there = elim (cases_Bool (at_text d e.0)) [
+    | inl t ↦
+        let there' = rw t at there in
+        let same : old ≡ e.1 = cc in
+        let text = string_bytes e.0 in
+        rw t (omega (arith, groups_cons text (g new) (texts_by g es), groups_cons text (g e.1) (texts_by g es), ap (λ v. path_count (g v)) same))
+    | inr t ↦
+        let there' = rw t at there in
+        let text = string_bytes e.0 in
+        rw t (omega (arith, groups_cons text (g e.1) (texts_by g (set_value (at_text d) es new)), groups_cons text (g e.1) (texts_by g es), groups_set es old new there'))
+  ]
 
--- after rows of a domain are evicted for a new one
-pub groups_evicted : {A : Type 0} (d : List ℕ) (es : List (String A × ItemPaths)) (old new : ItemPaths) (evicted : ℕ) → Some old ≡ lookup (at_text d) es → path_count new + evicted ≡ path_count old + 1
-    → group_count (texts_of (set_value (at_text d) es new)) + evicted ≡ group_count (texts_of es) + 1
-groups_evicted d es old new evicted there counts = omega (arith, groups_set d es old new there, counts)
+  -- after rows of a domain are evicted for a new one
+  pub groups_evicted : (es : List (String A × V)) (old new : V) (evicted : ℕ) → Some old ≡ lookup (at_text d) es → path_count (g new) + evicted ≡ path_count (g old) + 1
+      → group_count (texts_by g (set_value (at_text d) es new)) + evicted ≡ group_count (texts_by g es) + 1
+  groups_evicted es old new evicted there counts = omega (arith, groups_set es old new there, counts)

@@ -1,16 +1,19 @@
 -- How many rows there are after a change.
-use Rattle.std.proofs.Common.{◌≡◌, ℕ, ◌+◌, Bool, true, false, List, [], ◌∷◌, find, length, refl, sym, ◌∙◌, ap, inl, inr, None, Option, Some, arith, length-append}
+use Rattle.std.proofs.Common.{◌≡◌, ℕ, ◌+◌, Bool, true, false, List, [], ◌∷◌, find, length, map, refl, sym, ◌∙◌, ap, inl, inr, None, Option, Some, arith, length-append}
 use Rattle.std.specs.Prelude.{◌≢◌, is_some, String}
 use Rattle.std.specs.List.{list_any}
 use Rattle.std.specs.Map.{values_of}
 use Rattle.std.proofs.lemmas.Bool.{cases_Bool}
 use Rattle.std.proofs.lemmas.List.{length-map}
+use Rattle.ordered_map.specs.Entries.{in_order}
 use Rattle.cookie_parts.specs.Cookie.{Row, expired_row}
 use Rattle.cookie_laws.specs.Rows.{Key, after_last, changed, has_key, in_domain, in_group, key_of, placed, put, removed, row_of}
 use Rattle.cookie_lookup.specs.Groups.{flat, flat_paths}
-use Rattle.cookie_rows.specs.GroupChanges.{texts_of}
-use Rattle.cookie_rows.specs.Items.{AreItems, Item, ItemGroups, ItemPaths, all_groups, bare, bare_paths, expire_items, find_items, joined, put_items, remove_items, rows_of}
+use Rattle.cookie_lookup.specs.Positions.{paths_in_order}
+use Rattle.cookie_rows.specs.GroupChanges.{texts_by}
+use Rattle.cookie_rows.specs.Items.{AreItems, Item, ItemGroups, ItemPaths, bare, bare_paths, expire_items, find_items, joined, put_items, remove_items, rows_of}
 use Rattle.cookie_rows.specs.Least.{items_in_groups, items_in_paths}
+use Rattle.cookie_rows.specs.Stored.{StoredPaths, all_stored}
 use Rattle.cookie_rows.proofs.AreItems.{found_items, kept_expired, kept_put, kept_removed}
 use Rattle.cookie_rows.proofs.Joined.{joined_is}
 
@@ -115,9 +118,10 @@ module _ (n : ℕ) (gs : ItemGroups) (a : AreItems n gs) where
         ap (λ k. length k.rows) (kept_removed n gs a key) ∙ length-unremoved (has_key key) (flat (bare gs)) absent
 
 -- the rows of the groups of all domains
-pub count_all : {A : Type 0} (domains : List ItemPaths) (es : List (String A × ItemPaths)) → domains ≡ values_of es → length (joined (all_groups domains)) ≡ row_count (texts_of es)
+pub count_all : {A : Type 0} (domains : List StoredPaths) (es : List (String A × StoredPaths)) → domains ≡ values_of es
+    → length (joined (map in_order (all_stored domains))) ≡ row_count (texts_by paths_in_order es)
 count_all domains es are =
-    ap (λ ds. length (joined (all_groups ds))) are ∙ sym (length-map (joined (all_groups (values_of es))) (λ (x : Item). x.row)) ∙ ap length (joined_is es)
+    ap (λ ds. length (joined (map in_order (all_stored ds)))) are ∙ sym (length-map (joined (map in_order (all_stored (values_of es)))) (λ (x : Item). x.row)) ∙ ap length (joined_is es)
 
 -- of a domain
 count_paths : (ps : ItemPaths) → length (items_in_paths ps) ≡ length (flat_paths (bare_paths ps))

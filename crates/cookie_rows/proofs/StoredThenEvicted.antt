@@ -1,27 +1,19 @@
 -- A row is inserted into groups from which others are evicted. It is stored before the others are evicted, so its
 -- groups are moved to the end if it is alone in them.
-use Rattle.std.proofs.Common.{◌≡◌, ℕ, zero, suc, ◌+◌, ◌-◌, ◌<◌, ◌==◌, Bool, true, false, cond, List, [], ◌∷◌, ◌++◌, length, map, filter, remove, insert, refl, sym, ◌∙◌, ap, subst, inl, inr, bytes_eq, slice_get, position, string_bytes, String, Option, Some, None, option_map, arith}
+use Rattle.std.proofs.Common.{◌≡◌, ℕ, ◌+◌, ◌<◌, ◌==◌, Bool, true, false, cond, List, [], ◌∷◌, ◌++◌, length, map, filter, refl, sym, ◌∙◌, ap, subst, inl, inr, bytes_eq, Option, None, arith}
 use Rattle.std.specs.List.{AllByRecursion, list_any}
-use Rattle.std.specs.Map.{keys_of, lookup}
-use Rattle.std.specs.Option.{option_map_or}
 use Rattle.std.proofs.lemmas.Bool.{cases_Bool}
 use Rattle.std.proofs.lemmas.Bool.Decides.{nat_tests}
-use Rattle.std.proofs.lemmas.List.{length_push, map-append}
-use Rattle.std.proofs.lemmas.List.Edits.{insert_end, length-remove}
-use Rattle.std.proofs.lemmas.Option.{slice_get_within}
+use Rattle.std.proofs.lemmas.List.{length_push}
 use Rattle.std.proofs.lemmas.Slice.Eq.{bytes_eq-Decides}
-use Rattle.indexmap.specs.IndexMap.{move_index}
 use Rattle.cookie_parts.specs.Cookie.{Row}
 use Rattle.cookie_parts.specs.Domain.{domain_text}
 use Rattle.cookie_laws.specs.Rows.{differ, key_of}
-use Rattle.cookie_lookup.specs.SearchView.{group_position}
-use Rattle.cookie_rows.specs.GroupChanges.{changed_at, found, is_named, unless_empty, lessened_at, put_at, row_named, texts_of}
+use Rattle.cookie_rows.specs.GroupChanges.{changed_at, found, is_named, unless_empty, lessened_at, put_at, row_named}
 use Rattle.cookie_rows.specs.Items.{Item, ItemGroups, ItemPaths, find_item_paths, find_items, put_item, put_item_paths, put_items, rows_of}
 use Rattle.cookie_rows.specs.Eviction.{insert_in_domains, insert_in_paths, is_filled, is_single, is_single_paths, filter_paths, moved_to_end_if}
-use Rattle.cookie_rows.proofs.Maps.{at_text}
 use Rattle.cookie_rows.proofs.Members.{absent}
 use Rattle.cookie_rows.proofs.NumberedPuts.{PathsDiffer, TextsDiffer}
-use Rattle.cookie_rows.proofs.Places.{place_is}
 
 -- a list that begins with something is not empty
 some_is : {T : Type 0} (x : T) (xs : List T) → (length (x ∷ xs) == 0) ≡ false
@@ -289,93 +281,3 @@ module _ (row : Row) (n : ℕ) where
         let any = at_any (λ xs. insert_in_paths test row n xs ≡ move_single_to_end (put_item_paths row n xs)) (λ xs. refl) (domain_text row.domain) gs in
         ap (moved_to_end_if is_single_paths (domain_text row.domain)) (changed_put move_single_to_end (put_item_paths row n) (insert_in_paths test row n) (domain_text row.domain) gs refl any)
         ∙ sym (put_items_left gs d none)
-
--- an entry is moved last
-
-module _ {T : Type 0} where
-  -- from this place
-  pub move_last : (xs : List T) (n : ℕ) (x : T) → slice_get xs n ≡ Some x → move_index xs n (length xs - 1) ≡ remove xs n ++ x ∷ []
-  move_last xs n x there =
-      let last : length xs - 1 ≡ length (remove xs n) = omega (arith, length-remove xs n (slice_get_within xs n x there)) in
-      ap (λ o. option_map_or (λ y. insert (remove xs n) (length xs - 1) y) o xs) there
-      ∙ ap (λ m. insert (remove xs n) m x) last
-      ∙ insert_end (remove xs n) x
-
-  -- from between these
-  pub move_last_between : (front back : List T) (x : T) → move_index (front ++ x ∷ back) (length front) (length (front ++ x ∷ back) - 1) ≡ front ++ back ++ x ∷ []
-  move_last_between front back x = move_last (front ++ x ∷ back) (length front) x (between front) ∙ ap (λ ys. ys ++ x ∷ []) (without front)
-    where
-      -- it is there
-      between : (ys : List T) → slice_get (ys ++ x ∷ back) (length ys) ≡ Some x
-      between [] = refl
-      between (y ∷ ys) = between ys
-
-      -- and without it there are the others
-      without : (ys : List T) → remove (ys ++ x ∷ back) (length ys) ≡ ys ++ back
-      without [] = refl
-      without (y ∷ ys) = ap (λ zs. y ∷ zs) (without ys)
-
--- a place further on is not the first
-not_first : (o : Option ℕ) → option_map suc o ≡ Some 0 → ⊥
-not_first None e = absurd (cc)
-not_first (Some m) e = absurd (grind arith)
-
--- and is one after the place where it was
-one_before : (o : Option ℕ) (n : ℕ) → option_map suc o ≡ Some (suc n) → o ≡ Some n
-one_before None n e = absurd (cc)
-one_before (Some m) n e = let same : m ≡ n = cc in ap Some same
-
-module _ {A X : Type 0} (alone : List X → Bool) (text : List ℕ) where
-  -- the first entry, if it has the name and is alone
-  moved_to_end_first : (e f : String A × List X) (es : List (String A × List X)) → e ≡ f → bytes_eq text (string_bytes f.0) ≡ true → alone e.1 ≡ true → texts_of (es ++ e ∷ []) ≡ moved_to_end_if alone text (texts_of (f ∷ es))
-  moved_to_end_first e f es same t a =
-      let a' : alone f.1 ≡ true = subst (λ (p : String A × List X). alone p.1 ≡ true) same a in
-      rw (t, a') (map-append (λ (p : String A × List X). (string_bytes p.0, p.1)) es (e ∷ []) ∙ ap (λ (p : String A × List X). texts_of es ++ (string_bytes p.0, p.1) ∷ []) same)
-
-  -- the first of the name, between these
-  moved_to_end_between : (front back : List (String A × List X)) (k : String A) (v : List X) → string_bytes k ≡ text → list_any (bytes_eq text) (map (λ g. g.0) (texts_of front)) ≡ false → alone v ≡ true
-      → texts_of (front ++ back ++ (k, v) ∷ []) ≡ moved_to_end_if alone text (texts_of (front ++ (k, v) ∷ back))
-  moved_to_end_between [] back k v is none a = moved_to_end_first (k, v) (k, v) back refl ((bytes_eq-Decides text (string_bytes k)).1 (sym is)) a
-  moved_to_end_between (e ∷ front) back k v is none a =
-      let other : bytes_eq text (string_bytes e.0) ≡ false = grind (arith, none) in
-      let rest : list_any (bytes_eq text) (map (λ g. g.0) (texts_of front)) ≡ false = grind (arith, none) in
-      rw other (ap (λ gs. (string_bytes e.0, e.1) ∷ gs) (moved_to_end_between front back k v is rest a))
-
-  -- so it is moved last
-  pub map_moved_to_end_between : (front back : List (String A × List X)) (k : String A) (v : List X) → string_bytes k ≡ text → list_any (bytes_eq text) (map (λ g. g.0) (texts_of front)) ≡ false → alone v ≡ true
-      → texts_of (move_index (front ++ (k, v) ∷ back) (length front) (length (front ++ (k, v) ∷ back) - 1)) ≡ moved_to_end_if alone text (texts_of (front ++ (k, v) ∷ back))
-  map_moved_to_end_between front back k v is none a = ap texts_of (move_last_between front back (k, v)) ∙ moved_to_end_between front back k v is none a
-
-  -- the first of the name, at this position
-  moved_to_end_at : (es : List (String A × List X)) (n : ℕ) (k : String A) (v : List X) → slice_get es n ≡ Some (k, v) → group_position text (texts_of es) ≡ Some n → alone v ≡ true
-      → texts_of (remove es n ++ (k, v) ∷ []) ≡ moved_to_end_if alone text (texts_of es)
-  moved_to_end_at [] n k v there place a = absurd (cc)
-  moved_to_end_at (e ∷ es) zero k v there place a = elim (cases_Bool (bytes_eq text (string_bytes e.0))) [
-    | inl t ↦ let same : (k, v) ≡ e = cc in moved_to_end_first (k, v) e es same t a
-    | inr t ↦ let place' = rw t at place in absurd (not_first (group_position text (texts_of es)) place')
-  ]
-  moved_to_end_at (e ∷ es) (suc n) k v there place a = elim (cases_Bool (bytes_eq text (string_bytes e.0))) [
-    | inl t ↦ let place' = rw t at place in absurd (cc)
-    | inr t ↦ let place' = rw t at place in rw t (ap (λ gs. (string_bytes e.0, e.1) ∷ gs) (moved_to_end_at es n k v there (one_before (group_position text (texts_of es)) n place') a))
-  ]
-
-  -- so it is moved last
-  pub map_moved_to_end : (es : List (String A × List X)) (n : ℕ) (k : String A) (v : List X) → slice_get es n ≡ Some (k, v) → Some n ≡ position (at_text text) (keys_of es) → alone v ≡ true
-      → texts_of (move_index es n (length es - 1)) ≡ moved_to_end_if alone text (texts_of es)
-  map_moved_to_end es n k v there place a = ap texts_of (move_last es n (k, v) there) ∙ moved_to_end_at es n k v there (sym (place ∙ place_is text es)) a
-
-  -- the entry of the name is not alone, and is unchanged
-  pub map_stays : (es : List (String A × List X)) (v : List X) → Some v ≡ lookup (at_text text) es → alone v ≡ false → moved_to_end_if alone text (texts_of es) ≡ texts_of es
-  map_stays [] v l a = refl
-  map_stays (e ∷ es) v l a = elim (cases_Bool (at_text text e.0)) [
-    | inl t ↦ let l' = rw t at l in let same : e.1 ≡ v = cc in let a' : alone e.1 ≡ false = ap alone same ∙ a in rw (t, a') refl
-    | inr t ↦ let l' = rw t at l in rw t (ap (λ gs. (string_bytes e.0, e.1) ∷ gs) (map_stays es v l' a))
-  ]
-
-  -- there is none, and all are unchanged
-  pub map_stays_none : (es : List (String A × List X)) → None ≡ lookup (at_text text) es → moved_to_end_if alone text (texts_of es) ≡ texts_of es
-  map_stays_none [] l = refl
-  map_stays_none (e ∷ es) l = elim (cases_Bool (at_text text e.0)) [
-    | inl t ↦ let l' = rw t at l in absurd (cc)
-    | inr t ↦ let l' = rw t at l in rw t (ap (λ gs. (string_bytes e.0, e.1) ∷ gs) (map_stays_none es l'))
-  ]

@@ -2,9 +2,13 @@
 use Rattle.std.specs.Prelude.{ℕ, Bool, false, ◌==◌, List, [], ◌∷◌, length, map, string_bytes, String, bytes_eq, find, Option, None, if◌then◌else◌}
 use Rattle.cookie_parts.specs.Cookie.{Row}
 
+-- the entries of a map, with their keys as lists of bytes, and `g` of their values
+abbrev pub texts_by : {A V X : Type 0} → (V → X) → List (String A × V) → List (List ℕ × X)
+texts_by g es = map (λ e. (string_bytes e.0, g e.1)) es
+
 -- the entries of a map, with their keys as lists of bytes
 abbrev pub texts_of : {A X : Type 0} → List (String A × X) → List (List ℕ × X)
-texts_of es = map (λ e. (string_bytes e.0, e.1)) es
+texts_of es = texts_by (λ x. x) es
 
 -- the row has this name
 abbrev pub is_named : List ℕ → Row → Bool

@@ -28,10 +28,6 @@ AreNamed es = AllByRecursion (λ e. string_bytes e.0 ≡ e.1.row.raw.name) es
 abbrev pub joined : List (List Item) → List Item
 joined groups = flat_map (λ items. items) groups
 
--- the groups of all domains, one domain after the other
-abbrev pub all_groups : List ItemPaths → List (List Item)
-all_groups domains = flat_map (λ paths. map (λ p. p.1) paths) domains
-
 -- the same without numbers
 
 -- the rows of a group

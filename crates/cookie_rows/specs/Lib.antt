@@ -10,4 +10,6 @@ pub mod SecureKeys
 pub mod Eviction
 pub mod Retained
 pub mod Least
-pub mod PlacedDomains
+pub mod Stored
+pub mod Copies
+pub mod LevelIters

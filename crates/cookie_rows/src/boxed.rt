@@ -1,6 +1,7 @@
 //! A numbered cookie in a box. Maps of rows reserve room ahead; with boxes they reserve it for
 //! pointers only.
 ghost use Rattle.std.specs.Prelude.{◌≡◌, ◌++◌, map, IfOk, OnOk};
+ghost use Rattle.ordered_map.specs.Entries.{in_order};
 ghost use Rattle.cookie_words.specs.Moments.{moment_of};
 ghost use Rattle.cookie_parts.specs.Cookie.{expired_row};
 ghost use Rattle.cookie_rows.specs.Eviction.{rank_of};
@@ -8,6 +9,7 @@ ghost use Rattle.cookie_rows.specs.Eviction.{rank_of};
 use crate::copying::Rehash;
 use crate::eviction_order::EvictionOrder;
 use crate::hashing::HashKey;
+use crate::names::Names;
 use cookie_parts::Cookie;
 use jiff::civil::DateTime;
 use std::alloc::{AllocError, Global};
@@ -57,6 +59,8 @@ impl Clone for BoxedCookie {
 }
 
 impl Rehash for BoxedCookie {
+    ghost is_copy = { λ boxed copy. copy ≡ boxed };
+
     fn rehashed(&self, _alloc: Global, _hash_key: HashKey) -> Result<BoxedCookie, AllocError> {
         self.clone()
     }
@@ -124,13 +128,13 @@ impl BoxedCookie {
 // Appends each row's place in eviction order to `ranks`.
 pub(crate) fn push_ranks(
     ranks: &mut Vec<(u8, u64)>,
-    rows: &[BoxedCookie],
+    names: &Names,
     order: EvictionOrder,
     now: DateTime,
 ) -> Result<(), AllocError>
-    ensures { OnOk result (ranks.new.items ≡ ranks.old.items ++ map (rank_of order (moment_of now)) rows.now) }
+    ensures { OnOk result (ranks.new.items ≡ ranks.old.items ++ map (rank_of order (moment_of now)) (in_order names.now)) }
 {
-    for row in rows {
+    for row in names.rows() {
         ranks.push(row.rank(order, now))?;
     }
     Ok(())

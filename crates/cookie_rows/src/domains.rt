@@ -1,16 +1,17 @@
 //! The groups of a store, by domain.
 ghost use Rattle.std.specs.Prelude.{◌≡◌, ◌≢◌, ◌+◌, ◌<◌, ℕ, true, ◌==◌, length, not, is_none, IfOk, None, OnErr, OnOk};
 ghost use Rattle.std.specs.Option.{option_copied};
-ghost use Rattle.ordered_map.specs.Entries.{entries};
 ghost use Rattle.cookie_words.specs.Moments.{moment_of};
 ghost use Rattle.cookie_parts.specs.Domain.{domain_text};
 ghost use Rattle.cookie_laws.specs.Rows.{key_at, key_of};
 ghost use Rattle.cookie_lookup.specs.SearchView.{group_position};
-ghost use Rattle.cookie_rows.specs.GroupChanges.{changed_at, is_empty_at, texts_of};
+ghost use Rattle.cookie_lookup.specs.Positions.{paths_in_order};
+ghost use Rattle.cookie_rows.specs.GroupChanges.{changed_at, is_empty_at};
 ghost use Rattle.cookie_rows.specs.Items.{expire_items, find_items, put_items, remove_item_paths, remove_items, AreItems};
 ghost use Rattle.cookie_rows.specs.Eviction.{is_single_paths, moved_to_end_if, InsertsInDomains};
 ghost use Rattle.cookie_rows.specs.Least.{items_in_groups};
 ghost use Rattle.cookie_rows.specs.Retained.{RetainsDomains, RetainsPaths, ReturnsFor};
+ghost use Rattle.cookie_rows.specs.Stored.{domains_in};
 
 use crate::boxed::BoxedCookie;
 use crate::eviction_order::EvictionOrder;
@@ -28,7 +29,7 @@ pub(crate) fn find_row<'a>(
     path: &str,
     name: &str,
 ) -> Option<&'a Cookie<'static>>
-    ensures { option_copied result ≡ find_items (key_at domain.now path.now name.now) (texts_of (entries groups.now)) }
+    ensures { option_copied result ≡ find_items (key_at domain.now path.now name.now) (domains_in groups.now) }
 {
     match groups.get(domain) {
         Some(group) => group.get(path, name),
@@ -38,9 +39,9 @@ pub(crate) fn find_row<'a>(
 
 // Adds a group of this row alone: there is none of its domain.
 fn add_domain(groups: &mut OrderedMap<Paths, HashKey>, row: BoxedCookie) -> Result<(), AllocError>
-    requires absent { group_position (domain_text row.row.domain) (texts_of (entries groups.old)) ≡ None }
-    ensures added { OnOk result (texts_of (entries groups.new) ≡ put_items row.row row.number (texts_of (entries groups.old))) }
-    ensures unchanged { OnErr result (texts_of (entries groups.new) ≡ texts_of (entries groups.old)) }
+    requires absent { group_position (domain_text row.row.domain) (domains_in groups.old) ≡ None }
+    ensures added { OnOk result (domains_in groups.new ≡ put_items row.row row.number (domains_in groups.old)) }
+    ensures unchanged { OnErr result (domains_in groups.new ≡ domains_in groups.old) }
 {
     let alloc = *groups.allocator();
     let domain = String::from_str(alloc, row.cookie().domain.as_str())?;
@@ -50,8 +51,8 @@ fn add_domain(groups: &mut OrderedMap<Paths, HashKey>, row: BoxedCookie) -> Resu
 
 // Replaces the row of the cookie's key.
 pub(crate) fn replace_row(groups: &mut OrderedMap<Paths, HashKey>, cookie: Cookie<'static>)
-    requires stored { find_items (key_of cookie) (texts_of (entries groups.old)) ≢ None }
-    ensures { (number : ℕ) → texts_of (entries groups.new) ≡ put_items cookie.entry number (texts_of (entries groups.old)) }
+    requires stored { find_items (key_of cookie) (domains_in groups.old) ≢ None }
+    ensures { (number : ℕ) → domains_in groups.new ≡ put_items cookie.entry number (domains_in groups.old) }
 {
     match groups.get_mut(cookie.domain.as_str()) {
         Some(group) => group.replace(cookie),
@@ -64,9 +65,9 @@ pub(crate) fn add_row(
     groups: &mut OrderedMap<Paths, HashKey>,
     row: BoxedCookie,
 ) -> Result<(), AllocError>
-    requires new { find_items (key_of row.row) (texts_of (entries groups.old)) ≡ None }
-    ensures added { OnOk result (texts_of (entries groups.new) ≡ put_items row.row row.number (texts_of (entries groups.old))) }
-    ensures unchanged { OnErr result (texts_of (entries groups.new) ≡ texts_of (entries groups.old)) }
+    requires new { find_items (key_of row.row) (domains_in groups.old) ≡ None }
+    ensures added { OnOk result (domains_in groups.new ≡ put_items row.row row.number (domains_in groups.old)) }
+    ensures unchanged { OnErr result (domains_in groups.new ≡ domains_in groups.old) }
 {
     let alloc = *groups.allocator();
     let hash_key = *groups.hasher();
@@ -84,10 +85,10 @@ pub(crate) fn put_row(
     cookie: Cookie<'static>,
     number: u64,
 ) -> Result<bool, AllocError>
-    ensures put { OnOk result (texts_of (entries groups.new) ≡ put_items cookie.entry number (texts_of (entries groups.old))) }
-    ensures is_new { IfOk result (λ is_new. is_new ≡ is_none (find_items (key_of cookie.entry) (texts_of (entries groups.old)))) }
-    ensures unchanged { OnErr result (texts_of (entries groups.new) ≡ texts_of (entries groups.old)) }
-    ensures memory { OnErr result (find_items (key_of cookie.entry) (texts_of (entries groups.old)) ≡ None) }
+    ensures put { OnOk result (domains_in groups.new ≡ put_items cookie.entry number (domains_in groups.old)) }
+    ensures is_new { IfOk result (λ is_new. is_new ≡ is_none (find_items (key_of cookie.entry) (domains_in groups.old))) }
+    ensures unchanged { OnErr result (domains_in groups.new ≡ domains_in groups.old) }
+    ensures memory { OnErr result (find_items (key_of cookie.entry) (domains_in groups.old) ≡ None) }
 {
     let alloc = *groups.allocator();
     let hash_key = *groups.hasher();
@@ -110,13 +111,13 @@ pub(crate) fn insert_row_within_limit(
     now: DateTime,
 ) -> Result<usize, AllocError>
     requires limit { 0 < limit }
-    requires numbered { AreItems row.number (texts_of (entries groups.old)) }
-    requires new { find_items (key_of row.row) (texts_of (entries groups.old)) ≡ None }
+    requires numbered { AreItems row.number (domains_in groups.old) }
+    requires new { find_items (key_of row.row) (domains_in groups.old) ≡ None }
     ensures inserted { OnOk result (InsertsInDomains limit order (moment_of now) row.row row.number
-        (texts_of (entries groups.old)) (texts_of (entries groups.new))) }
-    ensures evicted { IfOk result (λ evicted. length (items_in_groups (texts_of (entries groups.new))) + evicted
-        ≡ length (items_in_groups (texts_of (entries groups.old))) + 1) }
-    ensures unchanged { OnErr result (texts_of (entries groups.new) ≡ texts_of (entries groups.old)) }
+        (domains_in groups.old) (domains_in groups.new)) }
+    ensures evicted { IfOk result (λ evicted. length (items_in_groups (domains_in groups.new)) + evicted
+        ≡ length (items_in_groups (domains_in groups.old)) + 1) }
+    ensures unchanged { OnErr result (domains_in groups.new ≡ domains_in groups.old) }
 {
     let alloc = *groups.allocator();
     let hash_key = *groups.hasher();
@@ -141,7 +142,7 @@ pub(crate) fn insert_row_within_limit(
 
 // Moves the group of this domain to the end, if it has a single row: all its old rows were evicted.
 fn move_domain_to_end(groups: &mut OrderedMap<Paths, HashKey>, domain: &str)
-    ensures { texts_of (entries groups.new) ≡ moved_to_end_if is_single_paths domain.now (texts_of (entries groups.old)) }
+    ensures { domains_in groups.new ≡ moved_to_end_if is_single_paths domain.now (domains_in groups.old) }
 {
     let Some(group) = groups.get(domain) else {
         return;
@@ -153,7 +154,7 @@ fn move_domain_to_end(groups: &mut OrderedMap<Paths, HashKey>, domain: &str)
 
 // Expires the row of the cookie's key, if there is one.
 pub(crate) fn expire_row(groups: &mut OrderedMap<Paths, HashKey>, cookie: &Cookie<'static>)
-    ensures { texts_of (entries groups.new) ≡ expire_items (key_of cookie.now) (texts_of (entries groups.old)) }
+    ensures { domains_in groups.new ≡ expire_items (key_of cookie.now) (domains_in groups.old) }
 {
     match groups.get_mut(cookie.domain.as_str()) {
         Some(group) => group.expire(cookie.path.as_str(), cookie.name()),
@@ -168,9 +169,9 @@ fn take_row(
     path: &str,
     name: &str,
 ) -> (Option<Cookie<'static>>, bool)
-    ensures value { result.0 ≡ find_items (key_at domain.now path.now name.now) (texts_of (entries groups.old)) }
-    ensures groups { texts_of (entries groups.new) ≡ changed_at (remove_item_paths path.now name.now) domain.now (texts_of (entries groups.old)) }
-    ensures is_empty { result.1 ≡ is_empty_at domain.now (texts_of (entries groups.new)) }
+    ensures value { result.0 ≡ find_items (key_at domain.now path.now name.now) (domains_in groups.old) }
+    ensures groups { domains_in groups.new ≡ changed_at (remove_item_paths path.now name.now) domain.now (domains_in groups.old) }
+    ensures is_empty { result.1 ≡ is_empty_at domain.now (domains_in groups.new) }
 {
     match groups.get_mut(domain) {
         Some(group) => {
@@ -188,8 +189,8 @@ pub(crate) fn remove_row(
     path: &str,
     name: &str,
 ) -> Option<Cookie<'static>>
-    ensures value { result ≡ find_items (key_at domain.now path.now name.now) (texts_of (entries groups.old)) }
-    ensures removed { texts_of (entries groups.new) ≡ remove_items (key_at domain.now path.now name.now) (texts_of (entries groups.old)) }
+    ensures value { result ≡ find_items (key_at domain.now path.now name.now) (domains_in groups.old) }
+    ensures removed { domains_in groups.new ≡ remove_items (key_at domain.now path.now name.now) (domains_in groups.old) }
 {
     let (row, is_empty) = take_row(groups, domain, path, name);
     if is_empty {
@@ -204,12 +205,12 @@ pub(crate) fn retain_groups<F: Fn(&Cookie<'_>, u64) -> bool>(
     keep: &F,
 )
     requires { F.IsAlwaysCallable keep.now }
-    ensures { RetainsDomains (ReturnsFor (F.post keep.now)) (texts_of (entries groups.old)) (texts_of (entries groups.new)) }
+    ensures { RetainsDomains (ReturnsFor (F.post keep.now)) (domains_in groups.old) (domains_in groups.new) }
 {
     groups.retain(
         move |_domain: &String, group: &mut Paths| -> bool
             requires { F.IsAlwaysCallable keep.now }
-            ensures { (RetainsPaths (ReturnsFor (F.post keep.entry.now)) group.old group.new) × (result ≡ not (length group.new == 0)) }
+            ensures { (RetainsPaths (ReturnsFor (F.post keep.entry.now)) (paths_in_order group.old) (paths_in_order group.new)) × (result ≡ not (length (paths_in_order group.new) == 0)) }
         {
             group.retain(keep);
             !group.is_empty()

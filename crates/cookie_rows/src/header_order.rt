@@ -2,20 +2,19 @@
 ghost use Rattle.std.specs.List.{flat_map};
 ghost use Rattle.std.specs.List.Sorted.{IsPermutation, IsSorted};
 ghost use Rattle.std.specs.Prelude.{◌≡◌, ◌≢◌, ℕ, [], map, None, IfOk, OnErr};
-ghost use Rattle.ordered_map.specs.Entries.{entries};
 ghost use Rattle.cookie_words.specs.Moments.{moment_of};
 ghost use Rattle.cookie_laws.specs.Contents.{contents_of};
 ghost use Rattle.cookie_laws.specs.Given.{given};
 ghost use Rattle.cookie_laws.specs.Header.{InHeaderOrder};
 ghost use Rattle.cookie_lookup.specs.Groups.{flat};
-ghost use Rattle.cookie_rows.specs.GroupChanges.{texts_of};
+ghost use Rattle.cookie_lookup.specs.Positions.{groups_by_position};
 ghost use Rattle.cookie_rows.specs.HeaderItems.{item_order, items_at};
 ghost use Rattle.cookie_rows.specs.Items.{bare, groups_in_order, AreItems};
-ghost use Rattle.cookie_rows.specs.PlacedDomains.{by_position};
+ghost use Rattle.cookie_rows.specs.Stored.{domains_in, stored_in};
 
 use crate::boxed::BoxedCookie;
 use crate::hashing::HashKey;
-use crate::map_search::{given_positions, item_at};
+use crate::map_search::{given_positions, row_at};
 use crate::paths::Paths;
 use cookie_lookup::laws;
 use cookie_parts::Cookie;
@@ -33,10 +32,10 @@ pub(crate) fn in_header_order<'a>(
     url: &Url,
     now: DateTime,
 ) -> Result<Vec<&'a Cookie<'static>>, AllocError>
-    requires { (n : ℕ) × AreItems n (texts_of (entries groups.now)) }
+    requires { (n : ℕ) × AreItems n (domains_in groups.now) }
     ensures order { IfOk result (λ cookies. InHeaderOrder url.now (moment_of now)
-        (contents_of (groups_in_order (texts_of (entries groups.now))) None None) (map (λ c. c.now) cookies.items)) }
-    ensures memory { OnErr result (given url.now (moment_of now) (flat (bare (texts_of (entries groups.now)))) ≢ []) }
+        (contents_of (groups_in_order (domains_in groups.now)) None None) (map (λ c. c.now) cookies.items)) }
+    ensures memory { OnErr result (given url.now (moment_of now) (flat (bare (domains_in groups.now))) ≢ []) }
 {
     // for the checker: the rows found are those given, in any order
     laws::rows_at_positions();
@@ -53,12 +52,12 @@ fn items_at<'a>(
     alloc: Global,
     positions: &[(usize, usize, usize)],
 ) -> Result<Vec<&'a BoxedCookie>, AllocError>
-    ensures items { IfOk result (λ items. map (λ r. r.now) items.items ≡ flat_map (items_at (by_position groups.now)) positions.now) }
+    ensures items { IfOk result (λ items. map (λ r. r.now) items.items ≡ flat_map (items_at (groups_by_position (stored_in groups.now))) positions.now) }
     ensures memory { OnErr result (positions.now ≢ []) }
 {
     let mut items = Vec::with_capacity(alloc, positions.len())?;
     for row_position in positions {
-        if let Some(item) = item_at(groups, row_position.0, row_position.1, row_position.2) {
+        if let Some(item) = row_at(groups, *row_position) {
             items.push(item)?;
         }
     }

@@ -1,41 +1,41 @@
 //! Iterators over the cookies of a store.
-ghost use Rattle.std.specs.Prelude.{◌≡◌, ◌<◌, ◌^◌, length, ◌++◌, List};
+ghost use Rattle.std.specs.Prelude.{◌≡◌, ◌<◌, ◌^◌, length, map, ◌++◌, List};
+ghost use Rattle.ordered_map.specs.Entries.{in_order};
 ghost use Rattle.cookie_words.specs.Moments.{moment_of};
 ghost use Rattle.cookie_laws.specs.Rows.{unexpired_rows};
-ghost use Rattle.cookie_rows.specs.Items.{all_groups, joined, rows_of, Item};
-ghost use Rattle.std.specs.Slice.Iter.{iter_rest};
+ghost use Rattle.cookie_rows.specs.Items.{joined, rows_of};
+ghost use Rattle.cookie_rows.specs.Stored.{all_stored, StoredItems};
 ghost use Rattle.cookie_parts.specs.Cookie.{Row};
 
 use crate::boxed::BoxedCookie;
 use crate::hashing::HashKey;
+use crate::level_iter::LevelIter;
 use crate::names::Names;
 use crate::paths::Paths;
 use cookie_parts::Cookie;
 use jiff::civil::DateTime;
 use ordered_map::Values;
 use std::marker::Model;
-use std::slice;
 
 /// An iterator over the groups of rows of one domain and path, in order.
 #[derive(Drop)]
 struct Groups<'a> {
-    paths: slice::Iter<'a, Names>,
+    paths: LevelIter<'a, Names>,
     domains: Values<'a, Paths, HashKey>,
 }
 
 impl<'a> Model for Groups<'a> {
-    ghost Value = { List (List Item) };
+    ghost Value = { List StoredItems };
 
-    ghost view = { λ iter. iter_rest iter.paths ++ all_groups iter.domains };
+    ghost view = { λ iter. iter.paths ++ all_stored iter.domains };
 }
 
 impl<'a> Groups<'a> {
     fn new(domains: Values<'a, Paths, HashKey>) -> Groups<'a>
-        ensures { result ≡ all_groups domains.entry }
+        ensures { result ≡ all_stored domains.entry }
     {
-        let none: &'a [Names] = &[];
         Groups {
-            paths: none.iter(),
+            paths: LevelIter::of_list(&[]),
             domains,
         }
     }
@@ -56,7 +56,7 @@ impl<'a> Iterator for Groups<'a> {
                 return Some(group);
             }
             match self.domains.next() {
-                Some(domain) => self.paths = domain.groups().iter(),
+                Some(domain) => self.paths = domain.groups(),
                 None => return None,
             }
         }
@@ -65,12 +65,12 @@ impl<'a> Iterator for Groups<'a> {
 
 // Returns how many rows these domains have.
 pub(crate) fn count_rows(domains: Values<'_, Paths, HashKey>) -> usize
-    requires few { length (joined (all_groups domains)) < 2 ^ 64 }
-    ensures { result ≡ length (joined (all_groups domains.entry)) }
+    requires few { length (joined (map in_order (all_stored domains))) < 2 ^ 64 }
+    ensures { result ≡ length (joined (map in_order (all_stored domains.entry))) }
 {
     let mut count: usize = 0;
     for names in Groups::new(domains) {
-        count += names.rows().len();
+        count += names.len();
     }
     count
 }
@@ -78,24 +78,23 @@ pub(crate) fn count_rows(domains: Values<'_, Paths, HashKey>) -> usize
 /// An iterator over all cookies of a store, expired or not, in the order of the store.
 #[derive(Drop)]
 pub struct IterAny<'a> {
-    rows: slice::Iter<'a, BoxedCookie>,
+    rows: LevelIter<'a, BoxedCookie>,
     groups: Groups<'a>,
 }
 
 impl<'a> Model for IterAny<'a> {
     ghost Value = { List Row };
 
-    ghost view = { λ iter. rows_of (iter_rest iter.rows ++ joined iter.groups) };
+    ghost view = { λ iter. rows_of (iter.rows ++ joined (map in_order iter.groups)) };
 }
 
 impl<'a> IterAny<'a> {
     /// Returns an iterator over the rows of these domains.
     pub(crate) fn new(domains: Values<'a, Paths, HashKey>) -> IterAny<'a>
-        ensures { result ≡ rows_of (joined (all_groups domains.entry)) }
+        ensures { result ≡ rows_of (joined (map in_order (all_stored domains.entry))) }
     {
-        let none: &'a [BoxedCookie] = &[];
         IterAny {
-            rows: none.iter(),
+            rows: LevelIter::of_list(&[]),
             groups: Groups::new(domains),
         }
     }
@@ -116,7 +115,7 @@ impl<'a> Iterator for IterAny<'a> {
                 return Some(row.cookie());
             }
             match self.groups.next() {
-                Some(group) => self.rows = group.rows().iter(),
+                Some(group) => self.rows = group.rows(),
                 None => return None,
             }
         }

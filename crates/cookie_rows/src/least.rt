@@ -1,45 +1,44 @@
 //! The row of a domain that is evicted first.
-ghost use Rattle.std.specs.Prelude.{◌≡◌};
+ghost use Rattle.std.specs.Prelude.{◌≡◌, map};
 ghost use Rattle.cookie_words.specs.Moments.{moment_of};
-ghost use Rattle.cookie_rows.specs.Least.{lesser, IsLeastOfGroup, IsLeastOfGroups};
+ghost use Rattle.cookie_rows.specs.Least.{lesser, stored_items, IsLeastOfGroup, IsLeastOfGroups};
 
-use crate::boxed::BoxedCookie;
 use crate::eviction_order::EvictionOrder;
 use crate::names::Names;
+use crate::paths::Paths;
 use jiff::civil::DateTime;
 
 /// A row's position, of its path and among the rows of that, and its place in eviction order.
 #[derive(Clone, Copy)]
 pub(crate) struct Least {
-    pub(crate) place: usize,
-    pub(crate) at: usize,
+    pub(crate) path: usize,
+    pub(crate) row: usize,
     pub(crate) rank: (u8, u64),
 }
 
-// Returns the row of these groups that is evicted first.
-pub(crate) fn least_of(groups: &[Names], order: EvictionOrder, now: DateTime) -> Option<Least>
-    ensures { IsLeastOfGroups order (moment_of now) groups.now result }
+// Returns the row of this domain that is evicted first.
+pub(crate) fn least_of(paths: &Paths, order: EvictionOrder, now: DateTime) -> Option<Least>
+    ensures { IsLeastOfGroups order (moment_of now) (map (λ p. stored_items p.1.1) paths.now) result }
 {
     let mut least = None;
-    for (place, names) in groups.iter().enumerate() {
-        least = lesser(least, least_in(place, names.rows(), order, now));
+    for path in 0..paths.len() {
+        if let Some((_, _, names)) = paths.at(path) {
+            least = lesser(least, least_in(path, names, order, now));
+        }
     }
     least
 }
 
 // Returns the row of this group that is evicted first.
-fn least_in(
-    place: usize,
-    rows: &[BoxedCookie],
-    order: EvictionOrder,
-    now: DateTime,
-) -> Option<Least>
-    ensures { IsLeastOfGroup order (moment_of now) place rows.now result }
+fn least_in(path: usize, names: &Names, order: EvictionOrder, now: DateTime) -> Option<Least>
+    ensures { IsLeastOfGroup order (moment_of now) path (stored_items names.now) result }
 {
     let mut least = None;
-    for (at, row) in rows.iter().enumerate() {
-        let rank = row.rank(order, now);
-        least = lesser(least, Some(Least { place, at, rank }));
+    for row in 0..names.len() {
+        if let Some((_, item)) = names.at(row) {
+            let rank = item.rank(order, now);
+            least = lesser(least, Some(Least { path, row, rank }));
+        }
     }
     least
 }

@@ -1,18 +1,18 @@
 //! The rows of one domain and path, in a list.
-ghost use Rattle.std.specs.Prelude.{◌≡◌, ◌≢◌, [], ◌≤◌, ◌<◌, ℕ, IsTrue, IfOk, IfSome, None, OnErr, OnOk, length, map, position, string_bytes};
-ghost use Rattle.std.specs.List.{remove};
+ghost use Rattle.std.specs.Prelude.{◌≡◌, ◌≢◌, [], ◌≤◌, ◌<◌, ℕ, IsTrue, IfOk, IfSome, None, OnErr, OnOk, Some, length, map, position, slice_get, string_bytes};
 ghost use Rattle.std.specs.Option.{option_copied};
 ghost use Rattle.std.specs.Map.{values_of};
-ghost use Rattle.indexmap.specs.IndexMap.{spare};
+ghost use Rattle.ordered_map.specs.Entries.{entries};
 ghost use Rattle.cookie_rows.specs.GroupChanges.{row_named};
-ghost use Rattle.cookie_rows.specs.Items.{AreNamed, expire_item, is_item_named, put_item, remove_item, rows_of};
+ghost use Rattle.cookie_rows.specs.Items.{AreNamed, expire_item, is_item_named, put_item, remove_item, rows_of, Item};
+ghost use Rattle.cookie_rows.specs.Least.{TakesOut};
 ghost use Rattle.cookie_rows.specs.NameMaps.{names_differ, names_in};
 ghost use Rattle.cookie_rows.specs.Retained.{RetainsItems, ReturnsFor};
 
 use crate::boxed::BoxedCookie;
 use crate::hashing::HashKey;
 use cookie_parts::Cookie;
-use indexmap::IndexMap;
+use ordered_map::OrderedMap;
 use std::alloc::{AllocError, Global};
 
 /// The most rows of a list. To search 32 rows takes about as long as a lookup in a table, which has a
@@ -86,13 +86,14 @@ pub(crate) fn remove_among(rows: &mut Vec<BoxedCookie>, name: &str) -> Option<Co
 }
 
 // Removes the row at a position. The others keep their order.
-pub(crate) fn remove_at_among(rows: &mut Vec<BoxedCookie>, at: usize)
+pub(crate) fn remove_at_among(rows: &mut Vec<BoxedCookie>, position: usize)
     requires differ { IsTrue (names_differ rows.old.items) }
-    requires within { at < length rows.old.items }
-    ensures removed { rows.new.items ≡ remove rows.old.items at }
+    ensures removed { (item : Item) → slice_get rows.old.items position ≡ Some item → TakesOut item rows.old.items rows.new.items }
     ensures differ { IsTrue (names_differ rows.new.items) }
 {
-    rows.remove(at);
+    if position < rows.len() {
+        rows.remove(position);
+    }
 }
 
 // Keeps the rows for which `keep` returns true.
@@ -126,33 +127,33 @@ pub(crate) fn table_for(
     alloc: Global,
     hash_key: HashKey,
     rows: &[BoxedCookie],
-) -> Result<(Box<IndexMap<String, BoxedCookie, HashKey>>, Vec<String>), AllocError>
-    ensures empty { IfOk result (λ created. created.0.value.entries ≡ []) }
-    ensures room { IfOk result (λ created. length rows.now < spare created.0.value) }
+) -> Result<(Box<OrderedMap<BoxedCookie, HashKey>>, Vec<String>), AllocError>
+    ensures empty { IfOk result (λ created. entries created.0.value ≡ []) }
+    ensures room { IfOk result (λ created. length rows.now < created.0.value.room) }
     ensures names { IfOk result (λ created. map string_bytes created.1.items ≡ names_in rows.now) }
 {
     let names = names_of(alloc, rows)?;
-    let table = IndexMap::with_capacity_and_hasher(alloc, rows.len() + 1, hash_key)?;
+    let table = OrderedMap::with_capacity_and_hasher(alloc, rows.len() + 1, hash_key)?;
     Ok((Box::new(alloc, table)?, names))
 }
 
 // Moves the rows into the empty table, each under its name.
 pub(crate) fn fill_table(
-    table: &mut IndexMap<String, BoxedCookie, HashKey>,
+    table: &mut OrderedMap<BoxedCookie, HashKey>,
     names: Vec<String>,
     rows: Vec<BoxedCookie>,
 )
-    requires empty { table.old.entries ≡ [] }
-    requires room { length rows.items ≤ spare table.old }
+    requires empty { entries table.old ≡ [] }
+    requires room { length rows.items ≤ table.old.room }
     requires names { map string_bytes names.items ≡ names_in rows.items }
     requires differ { IsTrue (names_differ rows.items) }
-    ensures rows { values_of table.new.entries ≡ rows.items }
-    ensures named { AreNamed table.new.entries }
+    ensures rows { values_of (entries table.new) ≡ rows.items }
+    ensures named { AreNamed (entries table.new) }
 {
     let mut names = names.into_iter();
     for row in rows {
         if let Some(name) = names.next() {
-            table.insert(name, row).unwrap();
+            table.push(name, row).unwrap();
         }
     }
 }

@@ -1,23 +1,31 @@
 //! The rows of one domain and path, by name.
-ghost use Rattle.std.specs.Prelude.{◌≡◌, ◌≢◌, ◌<◌, ◌+◌, ◌^◌, ◌∷◌, [], ◌==◌, ℕ, length, option_map, slice_get, None, IfOk, IfSome, OnErr, OnOk, ◌≤◌, List, IsTrue, vec_capacity};
+ghost use Rattle.std.specs.Prelude.{◌≡◌, ◌≢◌, ◌<◌, ◌+◌, ◌^◌, ◌∷◌, [], ◌==◌, ℕ, length, map, option_map, slice_get, slice_index_or, None, Some, IfOk, IfSome, IsTrue, OnErr, OnOk, ◌≤◌, vec_capacity};
 ghost use Rattle.std.specs.Map.{values_of};
-ghost use Rattle.std.specs.List.{remove};
+ghost use Rattle.ordered_map.specs.Entries.{entries, in_order};
 ghost use Rattle.std.specs.Option.{option_copied};
 ghost use Rattle.cookie_rows.specs.GroupChanges.{row_named};
 ghost use Rattle.cookie_rows.specs.Items.{AreNamed, expire_item, put_item, remove_item, rows_of, Item};
-ghost use Rattle.cookie_rows.specs.NameMaps.{items_of, names_differ, HasNames};
+ghost use Rattle.cookie_rows.specs.Least.{TakesOut};
+ghost use Rattle.cookie_rows.specs.NameMaps.{items_of, names_differ, stored_rows, HasNames};
+ghost use Rattle.cookie_rows.specs.Stored.{StoredItems, placed_rows};
+ghost use Rattle.cookie_lookup.specs.Positions.{entry_order};
 ghost use Rattle.cookie_rows.specs.Retained.{RetainsItems, ReturnsFor};
 
 use crate::boxed::BoxedCookie;
-use crate::copying::{Rehash, rehashed_table};
+use crate::copying::{Rehash, rehashed_map};
 use crate::hashing::HashKey;
+use crate::level_iter::LevelIter;
 use crate::name_list::{
     MOST_LISTED, expire_among, fill_table, push_row, remove_among, remove_at_among, replace_among,
     retain_among, row_among, table_for,
 };
+use crate::name_table::{
+    add_in, expire_in, remove_at_in, remove_in, replace_in, retain_in, row_in,
+};
 use cookie_parts::Cookie;
-use indexmap::IndexMap;
+use ordered_map::OrderedMap;
 use std::alloc::{AllocError, Global};
+use std::cmp::Ordering;
 use std::marker::Model;
 use std::{mem, slice};
 
@@ -28,7 +36,7 @@ pub(crate) enum NameMap {
     Empty,
     Single(BoxedCookie),
     List(Box<Vec<BoxedCookie>>),
-    Table(Box<IndexMap<String, BoxedCookie, HashKey>>),
+    Table(Box<OrderedMap<BoxedCookie, HashKey>>),
 }
 
 /// The rows of one domain and path, by name.
@@ -38,14 +46,16 @@ pub(crate) struct Names {
 }
 
 impl Model for Names {
-    ghost Value = { List Item };
+    ghost Value = { StoredItems };
 
-    ghost view = { λ names. items_of names.rows };
+    ghost view = { λ names. stored_rows names.rows };
 
     ghost invariant = { λ names. HasNames names.rows };
 }
 
 impl Rehash for Names {
+    ghost is_copy = { λ names copy. in_order copy ≡ in_order names };
+
     fn rehashed(&self, alloc: Global, hash_key: HashKey) -> Result<Names, AllocError> {
         Ok(Names {
             rows: rehashed(&self.rows, alloc, hash_key)?,
@@ -56,54 +66,99 @@ impl Rehash for Names {
 impl Names {
     // Returns the group of this row alone.
     pub(crate) fn of_one(row: BoxedCookie) -> Names
-        ensures { result ≡ row ∷ [] }
+        ensures { in_order result ≡ row ∷ [] }
     {
         Names {
             rows: NameMap::Single(row),
         }
     }
 
-    // Whether there are no rows.
-    pub(crate) fn is_empty(&self) -> bool
-        ensures { result ≡ (length self.now == 0) }
-    {
-        self.rows().len() == 0
-    }
-
-    // The rows, in order.
-    pub(crate) fn rows(&self) -> &[BoxedCookie]
-        ensures { result.now ≡ self.now }
+    // The number of rows.
+    pub(crate) fn len(&self) -> usize
+        ensures stored { result ≡ length self.now }
+        ensures in_order { result ≡ length (in_order self.now) }
+        ensures small { result < 2 ^ 63 }
     {
         match &self.rows {
-            NameMap::Empty => &[],
-            NameMap::Single(row) => slice::from_ref(row),
-            NameMap::List(rows) => rows.as_ref().as_slice(),
-            NameMap::Table(rows) => rows.values().as_slice(),
+            NameMap::Empty => 0,
+            NameMap::Single(_) => 1,
+            NameMap::List(rows) => rows.len(),
+            NameMap::Table(rows) => rows.len(),
         }
     }
 
-    // The row at a position, with its number.
-    pub(crate) fn item(&self, at: usize) -> Option<&BoxedCookie>
-        ensures item { option_map (λ r. r.now) result ≡ slice_get self.now at }
-        ensures room { IfSome result (λ _. at + 1 < 2 ^ 64) }
+    // Whether there are no rows.
+    pub(crate) fn is_empty(&self) -> bool
+        ensures { result ≡ (length (in_order self.now) == 0) }
     {
-        self.rows().get(at)
+        self.len() == 0
+    }
+
+    // The rows, in order.
+    pub(crate) fn rows(&self) -> LevelIter<'_, BoxedCookie>
+        ensures { result ≡ in_order self.now }
+    {
+        match &self.rows {
+            NameMap::Empty => LevelIter::of_list(&[]),
+            NameMap::Single(row) => LevelIter::of_list(slice::from_ref(row)),
+            NameMap::List(rows) => LevelIter::of_list(rows.as_ref()),
+            NameMap::Table(rows) => LevelIter::of_table(rows.values()),
+        }
+    }
+
+    // The row at a position, with its place in the order of the rows.
+    pub(crate) fn at(&self, position: usize) -> Option<(usize, &BoxedCookie)>
+        ensures place { option_map (λ found. found.0) result ≡ slice_get (map (λ i. i.0) self.now) position }
+        ensures item { option_map (λ found. found.1.now) result ≡ slice_get (map (λ i. i.1) self.now) position }
+    {
+        match &self.rows {
+            NameMap::Empty => None,
+            NameMap::Single(row) => { if position == 0 { Some((0, row)) } else { None } }
+            NameMap::List(rows) => match rows.get(position) {
+                Some(row) => Some((position, row)),
+                None => None,
+            },
+            NameMap::Table(rows) => match rows.at(position) {
+                Some((place, _, row)) => Some((place, row)),
+                None => None,
+            },
+        }
+    }
+
+    // Compares two rows at positions by their places. For the checker, equal places are compared by
+    // position; there are none.
+    pub(crate) fn compare(&self, a: usize, b: usize) -> Ordering
+        ensures { result ≡ entry_order (placed_rows self.now) a b }
+    {
+        self.place(a).cmp(&self.place(b)).then(a.cmp(&b))
+    }
+
+    // The place of the row at a position.
+    fn place(&self, position: usize) -> usize
+        ensures { result ≡ slice_index_or (map (λ i. i.0) self.now) position 0 }
+    {
+        match self.at(position) {
+            Some((place, _)) => place,
+            None => 0,
+        }
     }
 
     // The row at a position.
-    pub(crate) fn row(&self, at: usize) -> Option<&Cookie<'static>>
-        ensures cookie { option_map (λ c. c.now) result ≡ slice_get (rows_of self.now) at }
-        ensures room { IfSome result (λ _. at + 1 < 2 ^ 64) }
+    pub(crate) fn row(&self, position: usize) -> Option<&Cookie<'static>>
+        ensures cookie { option_map (λ c. c.now) result ≡ slice_get (map (λ i. i.1.row) self.now) position }
+        ensures room { IfSome result (λ _. position + 1 < 2 ^ 64) }
     {
-        match self.item(at) {
-            Some(row) => Some(row.cookie()),
+        // for the checker: positions are small
+        let _len = self.len();
+        match self.at(position) {
+            Some((_, row)) => Some(row.cookie()),
             None => None,
         }
     }
 
     // The row of this name, if there is one.
     pub(crate) fn get(&self, name: &str) -> Option<&Cookie<'static>>
-        ensures { option_copied result ≡ row_named name.now (rows_of self.now) }
+        ensures { option_copied result ≡ row_named name.now (rows_of (in_order self.now)) }
     {
         match &self.rows {
             NameMap::Empty => None,
@@ -115,8 +170,8 @@ impl Names {
 
     // Replaces the row of the cookie's name.
     pub(crate) fn replace(&mut self, cookie: Cookie<'static>)
-        requires stored { row_named cookie.raw.name (rows_of self.old) ≢ None }
-        ensures { (number : ℕ) → self.new ≡ put_item cookie.entry number self.old }
+        requires stored { row_named cookie.raw.name (rows_of (in_order self.old)) ≢ None }
+        ensures { (number : ℕ) → in_order self.new ≡ put_item cookie.entry number (in_order self.old) }
     {
         replace_row(&mut self.rows, cookie);
     }
@@ -128,9 +183,9 @@ impl Names {
         hash_key: HashKey,
         row: BoxedCookie,
     ) -> Result<(), AllocError>
-        requires new { row_named row.row.raw.name (rows_of self.old) ≡ None }
-        ensures added { OnOk result (self.new ≡ put_item row.row row.number self.old) }
-        ensures unchanged { OnErr result (self.new ≡ self.old) }
+        requires new { row_named row.row.raw.name (rows_of (in_order self.old)) ≡ None }
+        ensures added { OnOk result (in_order self.new ≡ put_item row.row row.number (in_order self.old)) }
+        ensures unchanged { OnErr result (in_order self.new ≡ in_order self.old) }
     {
         let rows = mem::replace(&mut self.rows, NameMap::Empty);
         let (rows, outcome) = with_row(rows, alloc, hash_key, row);
@@ -141,22 +196,22 @@ impl Names {
     // Keeps the rows for which `keep` returns true.
     pub(crate) fn retain<F: Fn(&Cookie<'_>, u64) -> bool>(&mut self, keep: &F)
         requires { F.IsAlwaysCallable keep.now }
-        ensures { RetainsItems (ReturnsFor (F.post keep.now)) self.old self.new }
+        ensures { RetainsItems (ReturnsFor (F.post keep.now)) (in_order self.old) (in_order self.new) }
     {
         retain_rows(&mut self.rows, keep);
     }
 
     // Expires the row of this name.
     pub(crate) fn expire(&mut self, name: &str)
-        ensures { self.new ≡ expire_item name.now self.old }
+        ensures { in_order self.new ≡ expire_item name.now (in_order self.old) }
     {
         expire_row(&mut self.rows, name)
     }
 
     // Removes the row of this name. The others keep their order.
     pub(crate) fn remove(&mut self, name: &str) -> Option<Cookie<'static>>
-        ensures value { result ≡ row_named name.now (rows_of self.old) }
-        ensures removed { self.new ≡ remove_item name.now self.old }
+        ensures value { result ≡ row_named name.now (rows_of (in_order self.old)) }
+        ensures removed { in_order self.new ≡ remove_item name.now (in_order self.old) }
     {
         let (rows, row) = without_row(mem::replace(&mut self.rows, NameMap::Empty), name);
         self.rows = rows;
@@ -164,11 +219,10 @@ impl Names {
     }
 
     // Removes the row at a position. The others keep their order.
-    pub(crate) fn remove_at(&mut self, at: usize)
-        requires within { at < length self.old }
-        ensures { self.new ≡ remove self.old at }
+    pub(crate) fn remove_at(&mut self, position: usize)
+        ensures { (item : Item) → slice_get (map (λ i. i.1) self.old) position ≡ Some item → TakesOut item (in_order self.old) (in_order self.new) }
     {
-        remove_row_at(&mut self.rows, at);
+        remove_row_at(&mut self.rows, position);
     }
 }
 
@@ -184,20 +238,6 @@ fn single_of<'a>(row: &'a BoxedCookie, name: &str) -> Option<&'a Cookie<'static>
     }
 }
 
-// The row of this name in a table.
-fn row_in<'a>(
-    rows: &'a IndexMap<String, BoxedCookie, HashKey>,
-    name: &str,
-) -> Option<&'a Cookie<'static>>
-    requires named { AreNamed rows.now.entries }
-    ensures { option_copied result ≡ row_named name.now (rows_of (values_of rows.now.entries)) }
-{
-    match rows.get(name) {
-        Some(row) => Some(row.cookie()),
-        None => None,
-    }
-}
-
 // A copy of the rows, hashed by this key.
 fn rehashed(rows: &NameMap, alloc: Global, hash_key: HashKey) -> Result<NameMap, AllocError>
     requires named { HasNames rows.now }
@@ -209,7 +249,7 @@ fn rehashed(rows: &NameMap, alloc: Global, hash_key: HashKey) -> Result<NameMap,
         NameMap::Single(row) => Ok(NameMap::Single(row.clone()?)),
         NameMap::List(rows) => Ok(NameMap::List(rows.clone()?)),
         NameMap::Table(rows) => {
-            let copies = rehashed_table(rows, alloc, hash_key)?;
+            let copies = rehashed_map(rows, alloc, hash_key)?;
             Ok(NameMap::Table(Box::new(alloc, copies)?))
         }
     }
@@ -227,19 +267,6 @@ fn replace_row(rows: &mut NameMap, cookie: Cookie<'static>)
         NameMap::Single(row) => row.set(cookie),
         NameMap::List(rows) => replace_among(rows.as_mut(), cookie),
         NameMap::Table(rows) => replace_in(rows.as_mut(), cookie),
-    }
-}
-
-// Replaces the row of the cookie's name in a table.
-fn replace_in(rows: &mut IndexMap<String, BoxedCookie, HashKey>, cookie: Cookie<'static>)
-    requires named { AreNamed rows.old.entries }
-    requires stored { row_named cookie.raw.name (rows_of (values_of rows.old.entries)) ≢ None }
-    ensures put { (number : ℕ) → values_of rows.new.entries ≡ put_item cookie.entry number (values_of rows.old.entries) }
-    ensures named { AreNamed rows.new.entries }
-{
-    match rows.get_mut(cookie.name()) {
-        Some(row) => row.set(cookie),
-        None => {}
     }
 }
 
@@ -337,23 +364,6 @@ fn with_next(
     }
 }
 
-// Adds the row at the end of a table.
-fn add_in(
-    rows: &mut IndexMap<String, BoxedCookie, HashKey>,
-    alloc: Global,
-    row: BoxedCookie,
-) -> Result<(), AllocError>
-    requires named { AreNamed rows.old.entries }
-    requires new { row_named row.row.raw.name (rows_of (values_of rows.old.entries)) ≡ None }
-    ensures added { OnOk result (values_of rows.new.entries ≡ put_item row.row row.number (values_of rows.old.entries)) }
-    ensures unchanged { OnErr result (values_of rows.new.entries ≡ values_of rows.old.entries) }
-    ensures named { AreNamed rows.new.entries }
-{
-    let name = String::from_str(alloc, row.cookie().name())?;
-    rows.insert(name, row)?;
-    Ok(())
-}
-
 // Keeps the rows for which `keep` returns true.
 fn retain_rows<F: Fn(&Cookie<'_>, u64) -> bool>(rows: &mut NameMap, keep: &F)
     requires callable { F.IsAlwaysCallable keep.now }
@@ -373,24 +383,6 @@ fn retain_rows<F: Fn(&Cookie<'_>, u64) -> bool>(rows: &mut NameMap, keep: &F)
     }
 }
 
-// Keeps the rows of a table for which `keep` returns true.
-fn retain_in<F: Fn(&Cookie<'_>, u64) -> bool>(
-    rows: &mut IndexMap<String, BoxedCookie, HashKey>,
-    keep: &F,
-)
-    requires callable { F.IsAlwaysCallable keep.now }
-    requires named { AreNamed rows.old.entries }
-    ensures retained { RetainsItems (ReturnsFor (F.post keep.now)) (values_of rows.old.entries) (values_of rows.new.entries) }
-    ensures named { AreNamed rows.new.entries }
-{
-    rows.retain(
-        move |_name: &String, row: &mut BoxedCookie| -> bool
-            requires { F.IsAlwaysCallable keep.now }
-            ensures { (ReturnsFor (F.post keep.entry.now) row.old result) × (row.new ≡ row.old) }
-        { keep(row.cookie(), row.number()) },
-    );
-}
-
 // Expires the row of this name.
 fn expire_row(rows: &mut NameMap, name: &str)
     requires named { HasNames rows.old }
@@ -406,18 +398,6 @@ fn expire_row(rows: &mut NameMap, name: &str)
         }
         NameMap::List(rows) => expire_among(rows.as_mut(), name),
         NameMap::Table(rows) => expire_in(rows.as_mut(), name),
-    }
-}
-
-// Expires the row of this name in a table.
-fn expire_in(rows: &mut IndexMap<String, BoxedCookie, HashKey>, name: &str)
-    requires named { AreNamed rows.old.entries }
-    ensures expired_row { values_of rows.new.entries ≡ expire_item name.now (values_of rows.old.entries) }
-    ensures named { AreNamed rows.new.entries }
-{
-    match rows.get_mut(name) {
-        Some(row) => row.expire(),
-        None => {}
     }
 }
 
@@ -448,42 +428,20 @@ fn without_row(rows: NameMap, name: &str) -> (NameMap, Option<Cookie<'static>>)
     }
 }
 
-// Removes the row of this name from a table. The others keep their order.
-fn remove_in(
-    rows: &mut IndexMap<String, BoxedCookie, HashKey>,
-    name: &str,
-) -> Option<Cookie<'static>>
-    requires named { AreNamed rows.old.entries }
-    ensures value { result ≡ row_named name.now (rows_of (values_of rows.old.entries)) }
-    ensures removed { values_of rows.new.entries ≡ remove_item name.now (values_of rows.old.entries) }
-    ensures named { AreNamed rows.new.entries }
-{
-    match rows.shift_remove(name) {
-        Some(row) => Some(row.into_cookie()),
-        None => None,
-    }
-}
-
 // Removes the row at a position.
-fn remove_row_at(rows: &mut NameMap, at: usize)
+fn remove_row_at(rows: &mut NameMap, position: usize)
     requires named { HasNames rows.old }
-    requires within { at < length (items_of rows.old) }
-    ensures removed { items_of rows.new ≡ remove (items_of rows.old) at }
+    ensures removed { (item : Item) → slice_get (map (λ i. i.1) (stored_rows rows.old)) position ≡ Some item → TakesOut item (items_of rows.old) (items_of rows.new) }
     ensures named { HasNames rows.new }
 {
     match rows {
         NameMap::Empty => {}
-        NameMap::Single(_) => *rows = NameMap::Empty,
-        NameMap::List(rows) => remove_at_among(rows.as_mut(), at),
-        NameMap::Table(rows) => remove_at_in(rows.as_mut(), at),
+        NameMap::Single(_) => {
+            if position == 0 {
+                *rows = NameMap::Empty;
+            }
+        }
+        NameMap::List(rows) => remove_at_among(rows.as_mut(), position),
+        NameMap::Table(rows) => remove_at_in(rows.as_mut(), position),
     }
-}
-
-// Removes the row at a position of a table. The others keep their order.
-fn remove_at_in(rows: &mut IndexMap<String, BoxedCookie, HashKey>, at: usize)
-    requires named { AreNamed rows.old.entries }
-    ensures removed { values_of rows.new.entries ≡ remove (values_of rows.old.entries) at }
-    ensures named { AreNamed rows.new.entries }
-{
-    rows.shift_remove_index(at);
 }

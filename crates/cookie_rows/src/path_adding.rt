@@ -1,7 +1,7 @@
 //! A row is added to the groups of a domain.
 ghost use Rattle.std.specs.Prelude.{◌≡◌, ◌∷◌, [], ◌≤◌, string_bytes, None, IfOk, OnErr, OnOk, bytes_eq, false};
 ghost use Rattle.std.specs.String.{string_eq};
-ghost use Rattle.indexmap.specs.IndexMap.{spare};
+ghost use Rattle.ordered_map.specs.Entries.{entries, in_order};
 ghost use Rattle.cookie_rows.specs.PathMaps.{groups_of};
 ghost use Rattle.cookie_rows.specs.Items.{find_item_paths, put_item_paths};
 
@@ -10,7 +10,7 @@ use crate::hashing::HashKey;
 use crate::names::Names;
 use crate::path_table::add_in;
 use crate::paths::PathMap;
-use indexmap::IndexMap;
+use ordered_map::OrderedMap;
 use std::alloc::{AllocError, Global};
 
 // Adds the row at the end of its path's group. Returns the groups unchanged if out of memory.
@@ -53,8 +53,8 @@ fn with_second(
     row: BoxedCookie,
 ) -> (PathMap, Result<(), AllocError>)
     requires other { bytes_eq row.row.path.text (string_bytes first) ≡ false }
-    ensures added { OnOk result.1 (groups_of result.0 ≡ (string_bytes first, names) ∷ (row.row.path.text, row ∷ []) ∷ []) }
-    ensures unchanged { OnErr result.1 (groups_of result.0 ≡ (string_bytes first, names) ∷ []) }
+    ensures added { OnOk result.1 (groups_of result.0 ≡ (string_bytes first, in_order names) ∷ (row.row.path.text, row ∷ []) ∷ []) }
+    ensures unchanged { OnErr result.1 (groups_of result.0 ≡ (string_bytes first, in_order names) ∷ []) }
 {
     match table_for(alloc, hash_key, &row) {
         Ok((table, path)) => (pair(table, first, names, path, row), Ok(())),
@@ -67,30 +67,30 @@ fn table_for(
     alloc: Global,
     hash_key: HashKey,
     row: &BoxedCookie,
-) -> Result<(Box<IndexMap<String, Names, HashKey>>, String), AllocError>
-    ensures empty { IfOk result (λ created. created.0.value.entries ≡ []) }
-    ensures room { IfOk result (λ created. 2 ≤ spare created.0.value) }
+) -> Result<(Box<OrderedMap<Names, HashKey>>, String), AllocError>
+    ensures empty { IfOk result (λ created. entries created.0.value ≡ []) }
+    ensures room { IfOk result (λ created. 2 ≤ created.0.value.room) }
     ensures path { IfOk result (λ created. string_bytes created.1 ≡ row.now.row.path.text) }
 {
     let path = String::from_str(alloc, row.cookie().path.as_str())?;
-    let table = IndexMap::with_capacity_and_hasher(alloc, 2, hash_key)?;
+    let table = OrderedMap::with_capacity_and_hasher(alloc, 2, hash_key)?;
     Ok((Box::new(alloc, table)?, path))
 }
 
 // Returns a table of a group, and of a second one with a single row.
 fn pair(
-    mut table: Box<IndexMap<String, Names, HashKey>>,
+    mut table: Box<OrderedMap<Names, HashKey>>,
     first: String,
     names: Names,
     path: String,
     row: BoxedCookie,
 ) -> PathMap
-    requires empty { table.value.entries ≡ [] }
-    requires room { 2 ≤ spare table.value }
+    requires empty { entries table.value ≡ [] }
+    requires room { 2 ≤ table.value.room }
     requires differ { string_eq path first ≡ false }
-    ensures { groups_of result ≡ (string_bytes first, names) ∷ (string_bytes path, row ∷ []) ∷ [] }
+    ensures { groups_of result ≡ (string_bytes first, in_order names) ∷ (string_bytes path, row ∷ []) ∷ [] }
 {
-    table.insert(first, names).unwrap();
-    table.insert(path, Names::of_one(row)).unwrap();
+    table.push(first, names).unwrap();
+    table.push(path, Names::of_one(row)).unwrap();
     PathMap::Table(table)
 }

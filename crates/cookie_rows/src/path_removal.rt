@@ -1,10 +1,12 @@
 //! A row is expired in the groups of a domain, or removed from them.
-ghost use Rattle.std.specs.Prelude.{◌≡◌, ◌∷◌, [], string_bytes};
-ghost use Rattle.cookie_rows.specs.PathMaps.{groups_of};
-ghost use Rattle.cookie_rows.specs.Items.{expire_item_paths, find_item_paths, remove_item_paths};
+ghost use Rattle.std.specs.Prelude.{◌≡◌, ◌∷◌, [], string_bytes, List, Some, ℕ};
+ghost use Rattle.ordered_map.specs.Entries.{in_order};
+ghost use Rattle.cookie_rows.specs.PathMaps.{groups_of, stored_groups};
+ghost use Rattle.cookie_rows.specs.Items.{expire_item_paths, find_item_paths, remove_item_paths, Item};
+ghost use Rattle.cookie_rows.specs.Least.{stored_at, RemovesAt};
 
 use crate::names::Names;
-use crate::path_table::{expire_in, remove_in};
+use crate::path_table::{expire_in, remove_at_in, remove_in};
 use crate::paths::PathMap;
 use cookie_parts::Cookie;
 
@@ -55,8 +57,8 @@ fn without_named(
     path: &str,
     name: &str,
 ) -> (PathMap, Option<Cookie<'static>>)
-    ensures value { result.1 ≡ find_item_paths path.now name.now ((string_bytes own, names) ∷ []) }
-    ensures removed { groups_of result.0 ≡ remove_item_paths path.now name.now ((string_bytes own, names) ∷ []) }
+    ensures value { result.1 ≡ find_item_paths path.now name.now ((string_bytes own, in_order names) ∷ []) }
+    ensures removed { groups_of result.0 ≡ remove_item_paths path.now name.now ((string_bytes own, in_order names) ∷ []) }
 {
     if own.as_str() != path {
         return (PathMap::Single(own, names), None);
@@ -66,5 +68,31 @@ fn without_named(
         (PathMap::Empty, row)
     } else {
         (PathMap::Single(own, names), row)
+    }
+}
+
+// Removes the row at a position, and its group if it was the last row there. Returns the remaining
+// groups.
+pub(crate) fn without_row_at(groups: PathMap, path: usize, row: usize) -> PathMap
+    ensures { (text : List ℕ) (item : Item) → stored_at (stored_groups groups) path row ≡ Some (text, item)
+        → RemovesAt item (groups_of groups) (groups_of result) }
+{
+    match groups {
+        PathMap::Empty => PathMap::Empty,
+        PathMap::Single(own, mut names) => {
+            if path != 0 {
+                return PathMap::Single(own, names);
+            }
+            names.remove_at(row);
+            if names.is_empty() {
+                PathMap::Empty
+            } else {
+                PathMap::Single(own, names)
+            }
+        }
+        PathMap::Table(mut table) => {
+            remove_at_in(table.as_mut(), path, row);
+            PathMap::Table(table)
+        }
     }
 }

@@ -1,28 +1,33 @@
 //! The rows of one domain, by path.
-ghost use Rattle.std.specs.Prelude.{◌≡◌, [], ◌==◌, ◌+◌, ◌^◌, ◌<◌, ◌≤◌, is_none, length, map, nat_lt, option_map, slice_get, None, IfNone, IfOk, IfSome, OnErr, OnOk, ℕ, true, ◌≢◌};
+ghost use Rattle.std.specs.Prelude.{◌≡◌, ◌≢◌, [], ◌==◌, ◌+◌, ◌^◌, ◌<◌, ◌≤◌, bytes_eq, is_none, length, map, nat_lt, option_map, slice_get, slice_index_or, List, None, Some, IfNone, IfOk, IfSome, OnErr, OnOk, ℕ};
+ghost use Rattle.std.specs.Map.{lookup};
 ghost use Rattle.std.specs.Option.{option_copied};
+ghost use Rattle.ordered_map.specs.Entries.{in_order};
 ghost use Rattle.cookie_words.specs.Moments.{moment_of};
 ghost use Rattle.cookie_lookup.specs.SearchView.{group_position, under};
-ghost use Rattle.cookie_rows.specs.PathMaps.{groups_of};
-ghost use Rattle.cookie_rows.specs.HeaderItems.{items_in};
-ghost use Rattle.cookie_rows.specs.Items.{expire_item_paths, find_item_paths, put_item_paths, remove_item_paths, ItemPaths};
-ghost use Rattle.cookie_rows.specs.Eviction.{is_single, is_single_paths, filter_paths, moved_to_end_if, survives, rank_of, ranks_of, comes_before, EvictsInPaths, IsFirstSurvivor};
-ghost use Rattle.cookie_rows.specs.Least.{items_in_paths, without_at, AreNumbered, IsLeast};
+ghost use Rattle.cookie_lookup.specs.Positions.{paths_in_order, paths_order};
+ghost use Rattle.cookie_rows.specs.PathMaps.{groups_of, stored_groups};
+ghost use Rattle.cookie_rows.specs.Items.{expire_item_paths, find_item_paths, put_item_paths, remove_item_paths, Item};
+ghost use Rattle.cookie_rows.specs.Eviction.{is_single, is_single_paths, filter_paths, moved_to_end_if, survives, rank_of, ranks_of, EvictsInPaths, IsFirstSurvivor};
+ghost use Rattle.cookie_rows.specs.Least.{items_in_paths, stored_at, AreNumbered, RemovesAt, RemovesLeast};
 ghost use Rattle.cookie_rows.specs.Retained.{RetainsPaths, ReturnsFor};
+ghost use Rattle.cookie_rows.specs.Stored.{StoredPaths, placed_paths};
 
 use crate::boxed::{BoxedCookie, push_ranks};
-use crate::copying::{Rehash, rehashed_table};
+use crate::copying::{Rehash, rehashed_map};
 use crate::eviction_order::EvictionOrder;
 use crate::hashing::HashKey;
-use crate::least::{Least, least_of};
+use crate::least::least_of;
+use crate::level_iter::LevelIter;
 use crate::names::Names;
 use crate::path_adding::with_row;
-use crate::path_removal::{with_expired, without_row};
-use crate::path_table::{found_in, move_to_end_in, remove_at_in, replace_in, retain_in, text_in};
+use crate::path_removal::{with_expired, without_row, without_row_at};
+use crate::path_table::{found_in, move_to_end_in, replace_in, retain_in};
 use cookie_parts::Cookie;
-use indexmap::IndexMap;
 use jiff::civil::DateTime;
+use ordered_map::OrderedMap;
 use std::alloc::{AllocError, Global};
+use std::cmp::Ordering;
 use std::marker::Model;
 use std::{mem, slice};
 
@@ -31,7 +36,7 @@ use std::{mem, slice};
 pub(crate) enum PathMap {
     Empty,
     Single(String, Names),
-    Table(Box<IndexMap<String, Names, HashKey>>),
+    Table(Box<OrderedMap<Names, HashKey>>),
 }
 
 /// The rows of one domain, by path.
@@ -41,12 +46,14 @@ pub(crate) struct Paths {
 }
 
 impl Model for Paths {
-    ghost Value = { ItemPaths };
+    ghost Value = { StoredPaths };
 
-    ghost view = { λ paths. groups_of paths.groups };
+    ghost view = { λ paths. stored_groups paths.groups };
 }
 
 impl Rehash for Paths {
+    ghost is_copy = { λ paths copy. paths_in_order copy ≡ paths_in_order paths };
+
     fn rehashed(&self, alloc: Global, hash_key: HashKey) -> Result<Paths, AllocError> {
         Ok(Paths {
             groups: rehashed(&self.groups, alloc, hash_key)?,
@@ -57,7 +64,7 @@ impl Rehash for Paths {
 impl Paths {
     // Returns the groups of this row alone.
     pub(crate) fn of_one(alloc: Global, row: BoxedCookie) -> Result<Paths, AllocError>
-        ensures { IfOk result (λ paths. paths ≡ put_item_paths row.row row.number []) }
+        ensures { IfOk result (λ paths. paths_in_order paths ≡ put_item_paths row.row row.number []) }
     {
         let path = String::from_str(alloc, row.cookie().path.as_str())?;
         Ok(Paths {
@@ -65,28 +72,42 @@ impl Paths {
         })
     }
 
+    // The number of paths.
+    pub(crate) fn len(&self) -> usize
+        ensures stored { result ≡ length self.now }
+        ensures in_order { result ≡ length (paths_in_order self.now) }
+        ensures small { result < 2 ^ 63 }
+    {
+        match &self.groups {
+            PathMap::Empty => 0,
+            PathMap::Single(_, _) => 1,
+            PathMap::Table(groups) => groups.len(),
+        }
+    }
+
     // Whether there are no groups.
     pub(crate) fn is_empty(&self) -> bool
-        ensures { result ≡ (length self.now == 0) }
+        ensures { result ≡ (length (paths_in_order self.now) == 0) }
     {
-        self.groups().len() == 0
+        self.len() == 0
     }
 
     // The groups, in order.
-    pub(crate) fn groups(&self) -> &[Names]
-        ensures { result.now ≡ map (λ g. g.1) self.now }
+    pub(crate) fn groups(&self) -> LevelIter<'_, Names>
+        ensures { result ≡ map (λ p. p.1) (in_order self.now) }
     {
         match &self.groups {
-            PathMap::Empty => &[],
-            PathMap::Single(_, names) => slice::from_ref(names),
-            PathMap::Table(groups) => groups.values().as_slice(),
+            PathMap::Empty => LevelIter::of_list(&[]),
+            PathMap::Single(_, names) => LevelIter::of_list(slice::from_ref(names)),
+            PathMap::Table(groups) => LevelIter::of_table(groups.values()),
         }
     }
 
     // The group of this path, and its position.
     pub(crate) fn find(&self, path: &str) -> Option<(usize, &Names)>
-        ensures place { option_map (λ found. found.0) result ≡ group_position path.now self.now }
-        ensures names { IfSome result (λ found. found.1.now ≡ under found.0 self.now) }
+        ensures position { option_map (λ found. found.0) result ≡ group_position path.now (map (λ p. p.1) self.now) }
+        ensures names { IfSome result (λ found. found.1.now ≡ under found.0 (map (λ p. p.1) self.now)) }
+        ensures in_order { option_map (λ found. in_order found.1.now) result ≡ lookup (bytes_eq path.now) (paths_in_order self.now) }
     {
         match &self.groups {
             PathMap::Empty => None,
@@ -101,43 +122,53 @@ impl Paths {
         }
     }
 
-    // The group at a position.
-    pub(crate) fn at(&self, place: usize) -> Option<&Names>
-        ensures { items_in (option_map (λ names. names.now) result) ≡ under place self.now }
-    {
-        match self.groups().get(place) {
-            Some(names) => Some(names),
-            None => None,
-        }
-    }
-
-    // The number of paths.
-    pub(crate) fn count(&self) -> usize
-        ensures { result ≡ length self.now }
-    {
-        self.groups().len()
-    }
-
-    // The path at a position.
-    pub(crate) fn text(&self, place: usize) -> Option<&str>
-        ensures { option_map (λ text. text.now) result ≡ slice_get (map (λ p. p.0) self.now) place }
+    // The path and the group at a position, with its place in the order of the groups.
+    pub(crate) fn at(&self, position: usize) -> Option<(usize, &str, &Names)>
+        ensures place { option_map (λ found. found.0) result ≡ slice_get (map (λ p. p.0) self.now) position }
+        ensures path { option_map (λ found. found.1.now) result ≡ slice_get (map (λ p. p.1.0) self.now) position }
+        ensures names { option_map (λ found. found.2.now) result ≡ slice_get (map (λ p. p.1.1) self.now) position }
     {
         match &self.groups {
             PathMap::Empty => None,
-            PathMap::Single(path, _) => {
-                if place == 0 {
-                    Some(path.as_str())
+            PathMap::Single(path, names) => {
+                if position == 0 {
+                    Some((0, path.as_str(), names))
                 } else {
                     None
                 }
             }
-            PathMap::Table(groups) => text_in(groups.as_ref(), place),
+            PathMap::Table(groups) => groups.at(position),
+        }
+    }
+
+    // Compares two rows, each at the positions of its path and of itself, by their places. For the
+    // checker, equal places are compared by position; there are none.
+    pub(crate) fn compare(&self, a: (usize, usize), b: (usize, usize)) -> Ordering
+        ensures { result ≡ paths_order (placed_paths self.now) a b }
+    {
+        if a.0 != b.0 {
+            let places = self.place(a.0).cmp(&self.place(b.0));
+            return places.then(a.0.cmp(&b.0));
+        }
+        match self.at(a.0) {
+            Some((_, _, names)) => names.compare(a.1, b.1),
+            None => a.1.cmp(&b.1),
+        }
+    }
+
+    // The place of the path at a position.
+    fn place(&self, position: usize) -> usize
+        ensures { result ≡ slice_index_or (map (λ p. p.0) self.now) position 0 }
+    {
+        match self.at(position) {
+            Some((place, _, _)) => place,
+            None => 0,
         }
     }
 
     // The row of this path and name, if there is one.
     pub(crate) fn get(&self, path: &str, name: &str) -> Option<&Cookie<'static>>
-        ensures { option_copied result ≡ find_item_paths path.now name.now self.now }
+        ensures { option_copied result ≡ find_item_paths path.now name.now (paths_in_order self.now) }
     {
         match self.find(path) {
             Some((_, group)) => group.get(name),
@@ -147,8 +178,8 @@ impl Paths {
 
     // Replaces the row of the cookie's path and name.
     pub(crate) fn replace(&mut self, cookie: Cookie<'static>)
-        requires stored { find_item_paths cookie.path.text cookie.raw.name self.old ≢ None }
-        ensures { (number : ℕ) → self.new ≡ put_item_paths cookie.entry number self.old }
+        requires stored { find_item_paths cookie.path.text cookie.raw.name (paths_in_order self.old) ≢ None }
+        ensures { (number : ℕ) → paths_in_order self.new ≡ put_item_paths cookie.entry number (paths_in_order self.old) }
     {
         replace_path(&mut self.groups, cookie);
     }
@@ -160,9 +191,9 @@ impl Paths {
         hash_key: HashKey,
         row: BoxedCookie,
     ) -> Result<(), AllocError>
-        requires new { find_item_paths row.row.path.text row.row.raw.name self.old ≡ None }
-        ensures added { OnOk result (self.new ≡ put_item_paths row.row row.number self.old) }
-        ensures unchanged { OnErr result (self.new ≡ self.old) }
+        requires new { find_item_paths row.row.path.text row.row.raw.name (paths_in_order self.old) ≡ None }
+        ensures added { OnOk result (paths_in_order self.new ≡ put_item_paths row.row row.number (paths_in_order self.old)) }
+        ensures unchanged { OnErr result (paths_in_order self.new ≡ paths_in_order self.old) }
     {
         let groups = mem::replace(&mut self.groups, PathMap::Empty);
         let (groups, outcome) = with_row(groups, alloc, hash_key, row);
@@ -180,10 +211,10 @@ impl Paths {
         cookie: Cookie<'static>,
         number: u64,
     ) -> Result<bool, AllocError>
-        ensures put { OnOk result (self.new ≡ put_item_paths cookie.entry number self.old) }
-        ensures is_new { IfOk result (λ is_new. is_new ≡ is_none (find_item_paths cookie.entry.path.text cookie.entry.raw.name self.old)) }
-        ensures unchanged { OnErr result (self.new ≡ self.old) }
-        ensures memory { OnErr result (find_item_paths cookie.entry.path.text cookie.entry.raw.name self.old ≡ None) }
+        ensures put { OnOk result (paths_in_order self.new ≡ put_item_paths cookie.entry number (paths_in_order self.old)) }
+        ensures is_new { IfOk result (λ is_new. is_new ≡ is_none (find_item_paths cookie.entry.path.text cookie.entry.raw.name (paths_in_order self.old))) }
+        ensures unchanged { OnErr result (paths_in_order self.new ≡ paths_in_order self.old) }
+        ensures memory { OnErr result (find_item_paths cookie.entry.path.text cookie.entry.raw.name (paths_in_order self.old) ≡ None) }
     {
         if self.get(cookie.path.as_str(), cookie.name()).is_some() {
             self.replace(cookie);
@@ -195,7 +226,7 @@ impl Paths {
 
     // Whether there are fewer rows than `limit`.
     pub(crate) fn has_fewer_than(&self, limit: usize) -> bool
-        ensures { result ≡ nat_lt (length (items_in_paths self.now)) limit }
+        ensures { result ≡ nat_lt (length (items_in_paths (paths_in_order self.now))) limit }
     {
         match self.room(limit) {
             Some(room) => room > 0,
@@ -205,26 +236,24 @@ impl Paths {
 
     // How many rows can be added so that there are at most `limit`. `None` if there are more now.
     fn room(&self, limit: usize) -> Option<usize>
-        ensures room { IfSome result (λ room. length (items_in_paths self.now) + room ≡ limit) }
-        ensures none { IfNone result (limit < length (items_in_paths self.now)) }
+        ensures room { IfSome result (λ room. length (items_in_paths (paths_in_order self.now)) + room ≡ limit) }
+        ensures none { IfNone result (limit < length (items_in_paths (paths_in_order self.now))) }
     {
         let mut room = limit;
-        let groups = self.groups();
-        for names in groups {
-            room = room.checked_sub(names.rows().len())?;
+        for names in self.groups() {
+            room = room.checked_sub(names.len())?;
         }
         Some(room)
     }
 
     // The number of rows.
-    fn len(&self) -> usize
-        requires few { length (items_in_paths self.now) < 2 ^ 64 }
-        ensures { result ≡ length (items_in_paths self.now) }
+    fn row_count(&self) -> usize
+        requires few { length (items_in_paths (paths_in_order self.now)) < 2 ^ 64 }
+        ensures { result ≡ length (items_in_paths (paths_in_order self.now)) }
     {
         let mut count: usize = 0;
-        let groups = self.groups();
-        for names in groups {
-            count += names.rows().len();
+        for names in self.groups() {
+            count += names.len();
         }
         count
     }
@@ -241,12 +270,12 @@ impl Paths {
         now: DateTime,
     ) -> Result<usize, AllocError>
         requires limit { 0 < limit }
-        requires full { limit ≤ length (items_in_paths self.old) }
-        requires numbered { AreNumbered self.old }
-        requires new { find_item_paths row.row.path.text row.row.raw.name self.old ≡ None }
-        ensures evicts { OnOk result (EvictsInPaths limit order (moment_of now) row.row row.number self.old self.new) }
-        ensures evicted { IfOk result (λ evicted. length (items_in_paths self.new) + evicted ≡ length (items_in_paths self.old) + 1) }
-        ensures unchanged { OnErr result (self.new ≡ self.old) }
+        requires full { limit ≤ length (items_in_paths (paths_in_order self.old)) }
+        requires numbered { AreNumbered (put_item_paths row.row row.number (paths_in_order self.old)) }
+        requires new { find_item_paths row.row.path.text row.row.raw.name (paths_in_order self.old) ≡ None }
+        ensures evicts { OnOk result (EvictsInPaths limit order (moment_of now) row.row row.number (paths_in_order self.old) (paths_in_order self.new)) }
+        ensures evicted { IfOk result (λ evicted. length (items_in_paths (paths_in_order self.new)) + evicted ≡ length (items_in_paths (paths_in_order self.old)) + 1) }
+        ensures unchanged { OnErr result (paths_in_order self.new ≡ paths_in_order self.old) }
     {
         let path = String::from_str(alloc, row.cookie().path.as_str())?;
         let evicted = self.add_and_evict(alloc, hash_key, row, limit, order, now)?;
@@ -265,64 +294,41 @@ impl Paths {
         now: DateTime,
     ) -> Result<usize, AllocError>
         requires limit { 0 < limit }
-        requires full { limit ≤ length (items_in_paths self.old) }
-        requires numbered { AreNumbered self.old }
-        requires new { find_item_paths row.row.path.text row.row.raw.name self.old ≡ None }
-        ensures evicts { OnOk result (EvictsInPaths limit order (moment_of now) row.row row.number self.old
-            (moved_to_end_if is_single row.row.path.text self.new)) }
-        ensures evicted { IfOk result (λ evicted. length (items_in_paths self.new) + evicted ≡ length (items_in_paths self.old) + 1) }
-        ensures unchanged { OnErr result (self.new ≡ self.old) }
+        requires full { limit ≤ length (items_in_paths (paths_in_order self.old)) }
+        requires numbered { AreNumbered (put_item_paths row.row row.number (paths_in_order self.old)) }
+        requires new { find_item_paths row.row.path.text row.row.raw.name (paths_in_order self.old) ≡ None }
+        ensures evicts { OnOk result (EvictsInPaths limit order (moment_of now) row.row row.number (paths_in_order self.old)
+            (moved_to_end_if is_single row.row.path.text (paths_in_order self.new))) }
+        ensures evicted { IfOk result (λ evicted. length (items_in_paths (paths_in_order self.new)) + evicted ≡ length (items_in_paths (paths_in_order self.old)) + 1) }
+        ensures unchanged { OnErr result (paths_in_order self.new ≡ paths_in_order self.old) }
     {
-        if let Some(least) = self.only_evicted(&row, limit, order, now) {
+        if self.room(limit).is_some() {
             self.add(alloc, hash_key, row)?;
-            self.remove_at(least.place, least.at);
+            self.remove_least(order, now);
             return Ok(1);
         }
         let (first, count) = self.first_survivor(alloc, &row, limit, order, now)?;
         self.add(alloc, hash_key, row)?;
         self.evict_before(first, order, now);
-        Ok(count - self.len())
+        Ok(count - self.row_count())
     }
 
-    // The one row that is evicted for this new row, if there are `limit` rows and the new one is
-    // not the first in eviction order.
-    fn only_evicted(
-        &self,
-        row: &BoxedCookie,
-        limit: usize,
-        order: EvictionOrder,
-        now: DateTime,
-    ) -> Option<Least>
-        ensures count { IfSome result (λ _. length (items_in_paths self.now) ≡ limit) }
-        ensures least { IfSome result (λ least. IsLeast order (moment_of now) least self.now) }
-        ensures before { IfSome result (λ least. comes_before least.rank (rank_of order (moment_of now) row.now) ≡ true) }
+    // Removes the row that is evicted first, and its group if it was the last row there.
+    fn remove_least(&mut self, order: EvictionOrder, now: DateTime)
+        ensures { RemovesLeast order (moment_of now) (paths_in_order self.old) (paths_in_order self.new) }
     {
-        if self.room(limit)? > 0 {
-            return None;
-        }
-        let least = least_of(self.groups(), order, now)?;
-        if least.rank < row.rank(order, now) {
-            Some(least)
-        } else {
-            None
+        if let Some(least) = least_of(self, order, now) {
+            self.remove_at(least.path, least.row);
         }
     }
 
     // Removes the row at a position, and its group if it was the last row there.
-    fn remove_at(&mut self, place: usize, at: usize)
-        requires within { at < length (under place self.old) }
-        ensures { self.new ≡ without_at place at self.old }
+    fn remove_at(&mut self, path: usize, row: usize)
+        ensures { (text : List ℕ) (item : Item) → stored_at self.old path row ≡ Some (text, item)
+            → RemovesAt item (paths_in_order self.old) (paths_in_order self.new) }
     {
-        match &mut self.groups {
-            PathMap::Empty => {}
-            PathMap::Single(_, names) => {
-                names.remove_at(at);
-                if names.is_empty() {
-                    self.groups = PathMap::Empty;
-                }
-            }
-            PathMap::Table(groups) => remove_at_in(groups.as_mut(), place, at),
-        }
+        let groups = mem::replace(&mut self.groups, PathMap::Empty);
+        self.groups = without_row_at(groups, path, row);
     }
 
     // Returns the place in eviction order of the first row that survives once this new row is
@@ -336,9 +342,9 @@ impl Paths {
         now: DateTime,
     ) -> Result<((u8, u64), usize), AllocError>
         requires limit { 0 < limit }
-        requires full { limit ≤ length (items_in_paths self.now) }
-        ensures first { IfOk result (λ found. IsFirstSurvivor limit order (moment_of now) (rank_of order (moment_of now) row.now) self.now found.0) }
-        ensures count { IfOk result (λ found. found.1 ≡ length (items_in_paths self.now) + 1) }
+        requires full { limit ≤ length (items_in_paths (paths_in_order self.now)) }
+        ensures first { IfOk result (λ found. IsFirstSurvivor limit order (moment_of now) (rank_of order (moment_of now) row.now) (paths_in_order self.now) found.0) }
+        ensures count { IfOk result (λ found. found.1 ≡ length (items_in_paths (paths_in_order self.now)) + 1) }
     {
         let mut ranks = self.ranks(alloc, order, now)?;
         ranks.push(row.rank(order, now))?;
@@ -355,12 +361,11 @@ impl Paths {
         order: EvictionOrder,
         now: DateTime,
     ) -> Result<Vec<(u8, u64)>, AllocError>
-        ensures { IfOk result (λ ranks. ranks.items ≡ ranks_of order (moment_of now) self.now) }
+        ensures { IfOk result (λ ranks. ranks.items ≡ ranks_of order (moment_of now) (paths_in_order self.now)) }
     {
         let mut ranks = Vec::new(alloc);
-        let groups = self.groups();
-        for names in groups {
-            push_ranks(&mut ranks, names.rows(), order, now)?;
+        for names in self.groups() {
+            push_ranks(&mut ranks, names, order, now)?;
         }
         Ok(ranks)
     }
@@ -368,7 +373,7 @@ impl Paths {
     // Keeps the rows for which `keep` returns true, and drops empty groups.
     pub(crate) fn retain<F: Fn(&Cookie<'_>, u64) -> bool>(&mut self, keep: &F)
         requires { F.IsAlwaysCallable keep.now }
-        ensures { RetainsPaths (ReturnsFor (F.post keep.now)) self.old self.new }
+        ensures { RetainsPaths (ReturnsFor (F.post keep.now)) (paths_in_order self.old) (paths_in_order self.new) }
     {
         match &mut self.groups {
             PathMap::Empty => {}
@@ -384,7 +389,7 @@ impl Paths {
 
     // Keeps the rows that do not come before `first` in eviction order, and drops empty groups.
     fn evict_before(&mut self, first: (u8, u64), order: EvictionOrder, now: DateTime)
-        ensures { self.new ≡ filter_paths (survives order (moment_of now) first) self.old }
+        ensures { paths_in_order self.new ≡ filter_paths (survives order (moment_of now) first) (paths_in_order self.old) }
     {
         let keep = move |cookie: &Cookie<'_>, number: u64| -> bool
             ensures { result ≡ survives order (moment_of now) first (record { row = cookie.now; number = number }) }
@@ -394,17 +399,17 @@ impl Paths {
 
     // Whether there is exactly one row.
     pub(crate) fn is_single(&self) -> bool
-        ensures { result ≡ is_single_paths self.now }
+        ensures { result ≡ is_single_paths (paths_in_order self.now) }
     {
-        match self.groups() {
-            [names] => names.rows().len() == 1,
+        match (self.len(), self.at(0)) {
+            (1, Some((_, _, names))) => names.len() == 1,
             _ => false,
         }
     }
 
     // Expires the row of this path and name.
     pub(crate) fn expire(&mut self, path: &str, name: &str)
-        ensures { self.new ≡ expire_item_paths path.now name.now self.old }
+        ensures { paths_in_order self.new ≡ expire_item_paths path.now name.now (paths_in_order self.old) }
     {
         let groups = mem::replace(&mut self.groups, PathMap::Empty);
         self.groups = with_expired(groups, path, name);
@@ -412,8 +417,8 @@ impl Paths {
 
     // Removes the row of this path and name. The others keep their order.
     pub(crate) fn remove(&mut self, path: &str, name: &str) -> Option<Cookie<'static>>
-        ensures value { result ≡ find_item_paths path.now name.now self.old }
-        ensures removed { self.new ≡ remove_item_paths path.now name.now self.old }
+        ensures value { result ≡ find_item_paths path.now name.now (paths_in_order self.old) }
+        ensures removed { paths_in_order self.new ≡ remove_item_paths path.now name.now (paths_in_order self.old) }
     {
         let groups = mem::replace(&mut self.groups, PathMap::Empty);
         let (groups, row) = without_row(groups, path, name);
@@ -433,7 +438,7 @@ fn rehashed(groups: &PathMap, alloc: Global, hash_key: HashKey) -> Result<PathMa
             names.rehashed(alloc, hash_key)?,
         )),
         PathMap::Table(groups) => {
-            let copies = rehashed_table(groups, alloc, hash_key)?;
+            let copies = rehashed_map(groups, alloc, hash_key)?;
             Ok(PathMap::Table(Box::new(alloc, copies)?))
         }
     }

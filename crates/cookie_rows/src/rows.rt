@@ -3,7 +3,6 @@ ghost use Rattle.std.specs.Prelude.{◌≡◌, ◌≢◌, ◌≤◌, ◌<◌, fa
 ghost use Rattle.std.specs.Fn.{FnReturnsAt};
 ghost use Rattle.std.specs.Iterator.{IsFinite};
 ghost use Rattle.std.specs.Option.{option_copied};
-ghost use Rattle.ordered_map.specs.Entries.{entries};
 ghost use Rattle.cookie_words.specs.Moments.{moment_of};
 ghost use Rattle.cookie_parts.specs.Cookie.{expired_row, is_expired, Row};
 ghost use Rattle.cookie_laws.specs.Contents.{contents_of, retained, rows_in_order, unexpired, HasCreationOrder, ReturnsTest};
@@ -15,9 +14,9 @@ ghost use Rattle.cookie_lookup.specs.SearchView.{domains_found, paths_found};
 ghost use Rattle.cookie_lookup.specs.Candidates.{most_domains, most_paths};
 ghost use Rattle.cookie_rows.specs.Building.{Builds, FailsFirst, IsNewRow, TakesCookie, ReachesNewRow};
 ghost use Rattle.cookie_rows.specs.Eviction.{with_inserted, HasRoom};
-ghost use Rattle.cookie_rows.specs.GroupChanges.{texts_of};
 ghost use Rattle.cookie_rows.specs.RequestCookies.{name_and_value};
 ghost use Rattle.cookie_rows.specs.Items.{AreItems, groups_in_order};
+ghost use Rattle.cookie_rows.specs.Stored.{domains_in};
 
 use crate::boxed::BoxedCookie;
 use crate::building::build;
@@ -60,10 +59,10 @@ pub struct Rows {
 impl Model for Rows {
     ghost Value = { RowsInOrder };
 
-    ghost view = { λ r. groups_in_order (texts_of (entries r.groups)) };
+    ghost view = { λ r. groups_in_order (domains_in r.groups) };
 
-    ghost invariant = { λ r. AreItems r.created (texts_of (entries r.groups))
-        × (r.len ≡ length (groups_in_order (texts_of (entries r.groups))).rows) };
+    ghost invariant = { λ r. AreItems r.created (domains_in r.groups)
+        × (r.len ≡ length (groups_in_order (domains_in r.groups)).rows) };
 }
 
 impl Clone for Rows {

@@ -9,21 +9,21 @@ use Rattle.std.proofs.lemmas.Bool.{ltb-false}
 use Rattle.std.proofs.lemmas.List.{get_or_read, length-append, length-map}
 use Rattle.std.proofs.lemmas.Option.{none-some, same_Some, slice_get_within}
 use Rattle.indexmap.specs.IndexMap.{set_value_at}
-use Rattle.ordered_map.specs.Entries.{Placing, entry_of}
-use Rattle.ordered_map.specs.Layout.{at_position, entries_of, placing_of, placings, places, gap_position, IsStored}
+use Rattle.ordered_map.specs.Entries.{in_order}
+use Rattle.ordered_map.specs.Layout.{at_position, by_position, gap_position, key_value, places, IsStored}
 use Rattle.ordered_map.specs.declared.gaps.Placed.{Placed}
 use Rattle.ordered_map.proofs.Closing.{Closing, all_taken, closed, closed_filter, closing_entry, closing_gap, flat_map_filter}
 use Rattle.ordered_map.proofs.Pieces.{at_position_past, at_within, map_at_positions}
-use Rattle.ordered_map.proofs.Views.{length_in_order}
+use Rattle.ordered_map.proofs.Views.{length_at_positions, sorted}
 
 abbrev pub Stored : Type 0 → Type 0
 Stored V = List (String Global × Placed V)
 
 module _ {V : Type 0} where
   -- a write of a place changes neither keys nor values
-  pub same_entries : (es : Stored V) (at k : ℕ) (p w : Placed V) → slice_get (values_of es) at ≡ Some p → w.value ≡ p.value → map entry_of (placings (set_value_at es at w)) ≡ map entry_of (placings es)
+  pub same_entries : (es : Stored V) (at k : ℕ) (p w : Placed V) → slice_get (values_of es) at ≡ Some p → w.value ≡ p.value → map key_value (set_value_at es at w) ≡ map key_value es
   same_entries [] at k p w is same = absurd (none-some p is)
-  same_entries (e ∷ es) zero k p w is same = let v : w.value ≡ e.1.value = same ∙ ap (λ (q : Placed V). q.value) (sym (same_Some e.1 p is)) in ap (λ x. (e.0, x) ∷ map entry_of (placings es)) v
+  same_entries (e ∷ es) zero k p w is same = let v : w.value ≡ e.1.value = same ∙ ap (λ (q : Placed V). q.value) (sym (same_Some e.1 p is)) in ap (λ x. (e.0, x) ∷ map key_value es) v
   same_entries (e ∷ es) (suc at) k p w is same = ap (λ l. (e.0, e.1.value) ∷ l) (same_entries es at k p w is same)
 
   pub same_keys : (es : Stored V) (at : ℕ) (w : Placed V) → keys_of (set_value_at es at w) ≡ keys_of es
@@ -31,13 +31,13 @@ module _ {V : Type 0} where
   same_keys (e ∷ es) zero w = refl
   same_keys (e ∷ es) (suc at) w = ap (λ l. e.0 ∷ l) (same_keys es at w)
 
-  pub new_places : (es : Stored V) (at : ℕ) (w : Placed V) → places (placings (set_value_at es at w)) ≡ set (places (placings es)) at w.place
+  pub new_places : (es : Stored V) (at : ℕ) (w : Placed V) → places (set_value_at es at w) ≡ set (places es) at w.place
   new_places [] at w = refl
   new_places (e ∷ es) zero w = refl
   new_places (e ∷ es) (suc at) w = ap (λ l. e.1.place ∷ l) (new_places es at w)
 
-  pub length_places : (es : Stored V) → length (places (placings es)) ≡ length es
-  length_places es = length-map (placings es) (λ (p : Placing V). p.place) ∙ length-map es placing_of
+  pub length_places : (es : Stored V) → length (places es) ≡ length es
+  length_places es = length-map es (λ e. e.1.place)
 
   no_value : (es : Stored V) (j : ℕ) → None ≡ slice_get (values_of es) j → length es ≤ j
   no_value [] j is = omega arith
@@ -46,14 +46,14 @@ module _ {V : Type 0} where
 
   -- the first i places are gone through, and k of them were no gaps
   pub record ClosingEntries (es₀ : Stored V) (O₀ : List ℕ) (es : Stored V) (O : List ℕ) (k i : ℕ) : Type 0 where
-    pub closing : Closing (places (placings es₀)) O₀ (places (placings es)) O k i
-    pub same : map entry_of (placings es) ≡ map entry_of (placings es₀)
+    pub closing : Closing (places es₀) O₀ (places es) O k i
+    pub same : map key_value es ≡ map key_value es₀
     pub keys : keys_of es ≡ keys_of es₀
 
   module _ (es₀ : Stored V) (O₀ : List ℕ) (h : IsStored es₀ O₀) (es : Stored V) (O : List ℕ) (k i : ℕ) (s : ClosingEntries es₀ O₀ es O k i) where
     pub closing_gap_entries : i < length O → length es ≤ get_or O i gap_position → ClosingEntries es₀ O₀ es O k (i + 1)
     closing_gap_entries l past = record {
-      closing = closing_gap (places (placings es₀)) O₀ h.ordered (places (placings es)) O k i s.closing l (omega (arith, s.closing.long, length_places es));
+      closing = closing_gap (places es₀) O₀ h.ordered (places es) O k i s.closing l (omega (arith, s.closing.long, length_places es));
       same = s.same;
       keys = s.keys;
     }
@@ -63,9 +63,9 @@ module _ {V : Type 0} where
     closing_entry_entries p l is =
         let at = get_or O i gap_position in
         let w : Placed V = record { place = k; value = p.value } in
-        let below : at < length (places (placings es₀)) = omega (arith, s.closing.long, length_places es, slice_get_within (values_of es) at p is, length-map es (λ (e : String Global × Placed V). e.1)) in
+        let below : at < length (places es₀) = omega (arith, s.closing.long, length_places es, slice_get_within (values_of es) at p is, length-map es (λ (e : String Global × Placed V). e.1)) in
         record {
-          closing = subst (λ L. Closing (places (placings es₀)) O₀ L (set O k at) (k + 1) (i + 1)) (sym (new_places es at w)) (closing_entry (places (placings es₀)) O₀ h.ordered (places (placings es)) O k i s.closing l below);
+          closing = subst (λ L. Closing (places es₀) O₀ L (set O k at) (k + 1) (i + 1)) (sym (new_places es at w)) (closing_entry (places es₀) O₀ h.ordered (places es) O k i s.closing l below);
           same = same_entries es at k p w is refl ∙ s.same;
           keys = same_keys es at w ∙ s.keys;
         }
@@ -95,26 +95,28 @@ module _ {V : Type 0} where
     module _ (all : length O₀ ≤ i) where
       pub closed_stored : IsStored es (take k O)
       closed_stored = record {
-        ordered = closed (places (placings es₀)) O₀ h.ordered (places (placings es)) O k i s.closing all;
+        ordered = closed (places es₀) O₀ h.ordered (places es) O k i s.closing all;
         distinct = subst (IsDistinct string_eq) (sym s.keys) h.distinct;
       }
 
-      pub closed_entries : entries_of es (take k O) ≡ entries_of es₀ O₀
+      pub closed_entries : in_order (by_position es) ≡ in_order (by_position es₀)
       closed_entries =
-          let n = length (places (placings es₀)) in
-          let pairs = map entry_of (placings es₀) in
-          map_at_positions entry_of (placings es) (take k O)
+          let n = length (places es₀) in
+          let pairs = map key_value es₀ in
+          sym (sorted es (take k O) closed_stored)
+          ∙ map_at_positions key_value es (take k O)
           ∙ ap (λ l. flat_map (at_position l) (take k O)) s.same
-          ∙ ap (flat_map (at_position pairs)) (closed_filter (places (placings es₀)) O₀ h.ordered (places (placings es)) O k i s.closing all)
-          ∙ flat_map_filter (at_position pairs) (λ j. ltb j n) (λ j no. at_position_past pairs j (omega (arith, ltb-false j n no, length_places es₀, length-map (placings es₀) entry_of, length-map es₀ placing_of))) O₀
-          ∙ sym (map_at_positions entry_of (placings es₀) O₀)
+          ∙ ap (flat_map (at_position pairs)) (closed_filter (places es₀) O₀ h.ordered (places es) O k i s.closing all)
+          ∙ flat_map_filter (at_position pairs) (λ j. ltb j n) (λ j no. at_position_past pairs j (omega (arith, ltb-false j n no, length_places es₀, length-map es₀ key_value))) O₀
+          ∙ sym (map_at_positions key_value es₀ O₀)
+          ∙ sorted es₀ O₀ h
 
       pub closed_length : length (take k O) ≡ length es
-      closed_length = sym (ones (take k O) (λ j l. omega (arith, all_taken (places (placings es₀)) O₀ h.ordered (places (placings es)) O k i s.closing all j l, length_places es, length-map es placing_of))) ∙ length_in_order es (take k O) closed_stored
+      closed_length = sym (ones (take k O) (λ j l. omega (arith, all_taken (places es₀) O₀ h.ordered (places es) O k i s.closing all j l, length_places es))) ∙ length_at_positions es (take k O) closed_stored
         where
-          piece : (j : ℕ) → j < length (placings es) → length (at_position (placings es) j) ≡ 1
-          piece j l = let w = at_within (placings es) j l in ap (λ o. length (option_to_list o)) w.1
+          piece : (j : ℕ) → j < length es → length (at_position es j) ≡ 1
+          piece j l = let w = at_within es j l in ap (λ o. length (option_to_list o)) w.1
 
-          ones : (ks : List ℕ) → ((j : ℕ) → j < length ks → get_or ks j gap_position < length (placings es)) → length (flat_map (at_position (placings es)) ks) ≡ length ks
+          ones : (ks : List ℕ) → ((j : ℕ) → j < length ks → get_or ks j gap_position < length es) → length (flat_map (at_position es) ks) ≡ length ks
           ones [] h = refl
-          ones (k ∷ ks) h = length-append (at_position (placings es) k) (flat_map (at_position (placings es)) ks) ∙ omega (arith, piece k (h 0 (omega arith)), ones ks (λ j l. h (suc j) (omega arith)))
+          ones (k ∷ ks) h = length-append (at_position es k) (flat_map (at_position es) ks) ∙ omega (arith, piece k (h 0 (omega arith)), ones ks (λ j l. h (suc j) (omega arith)))

@@ -35,15 +35,6 @@ pub record Closing (L₀ O₀ L O : List ℕ) (k i : ℕ) : Type 0 where
   pub earlier : (j : ℕ) → j < k → get_or L₀ (get_or O j gap_position) gap_position < i
 
 module _ (L₀ O₀ : List ℕ) (h : IsOrdered L₀ O₀) where
-  pub closing_none : Closing L₀ O₀ L₀ O₀ 0 0
-  closing_none = record {
-    filtered = record { front = refl; rest = refl; behind = omega arith; within = omega arith; long = refl };
-    long = refl;
-    taken = λ j l. absurd (omega arith);
-    moved = λ j l. absurd (omega arith);
-    earlier = λ j l. absurd (omega arith);
-  }
-
   module _ (L O : List ℕ) (k i : ℕ) (s : Closing L₀ O₀ L O k i) (l : i < length O) where
     pub closing_gap : length L₀ ≤ get_or O i gap_position → Closing L₀ O₀ L O k (i + 1)
     closing_gap past = record {
@@ -96,9 +87,6 @@ module _ (L₀ O₀ : List ℕ) (h : IsOrdered L₀ O₀) where
   module _ (L O : List ℕ) (k i : ℕ) (s : Closing L₀ O₀ L O k i) (all : length O₀ ≤ i) where
     pub closed_filter : take k O ≡ filter (λ j. ltb j (length L₀)) O₀
     closed_filter = FiltersInPlace-all s.filtered all
-
-    k_within : k ≤ length O
-    k_within = omega (arith, s.filtered.behind, s.filtered.within, s.filtered.long)
 
     kept_at : (j : ℕ) → j < k → get_or (take k O) j gap_position ≡ get_or O j gap_position
     kept_at j l = get_or-take k O j gap_position l

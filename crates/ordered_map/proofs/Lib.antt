@@ -1,5 +1,5 @@
 pub mod Around
-pub mod Ascending
+pub mod ByPlace
 pub mod ClosedViews
 pub mod Closing
 pub mod Found

@@ -104,3 +104,12 @@ map_at_positions {X = X} f xs (k ∷ ks) =
 
     one : map f (at_position xs k) ≡ at_position (map f xs) k
     one = by (slice_get xs k) ∙ ap option_to_list (sym (slice_get-map f xs k))
+
+-- there are no more entries than positions
+pub fewer_entries : {X : Type 0} (xs : List X) (ks : List ℕ) → length (flat_map (at_position xs) ks) ≤ length ks
+fewer_entries xs [] = omega arith
+fewer_entries {X = X} xs (j ∷ ks) = by (slice_get xs j) (fewer_entries xs ks)
+  where
+    by : (o : Option X) → length (flat_map (at_position xs) ks) ≤ length ks → length (option_to_list o ++ flat_map (at_position xs) ks) ≤ suc (length ks)
+    by None h = omega arith
+    by (Some x) h = omega arith

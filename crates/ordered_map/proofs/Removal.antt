@@ -6,10 +6,10 @@ use Rattle.std.proofs.lemmas.Bool.{cases_eq, cases_lt}
 use Rattle.std.proofs.lemmas.List.{append-nil, length-map, length-set, length-take, length_push, map_push}
 use Rattle.std.proofs.lemmas.List.Concat.{flat_map-append}
 use Rattle.std.proofs.lemmas.Option.{get_or_from_slice_get, slice_get_within}
-use Rattle.ordered_map.specs.Layout.{at_position, in_order, gap_position, IsOrdered}
-use Rattle.ordered_map.proofs.Around.{after, before, place_of_position, place_within, position_at_place}
+use Rattle.ordered_map.specs.Layout.{at_position, at_positions, gap_position, IsOrdered}
+use Rattle.ordered_map.proofs.Around.{after, before, place_of_position, position_at_place}
 use Rattle.ordered_map.proofs.Numbers.{last_apart, not_last, now_gap, now_moved, now_same, other_position, pushed, removed, without}
-use Rattle.ordered_map.proofs.Pieces.{at_position_here, at_position_past, at_within, flat_map_at, flat_map_same, get_or_map_at, same_after, same_before, slice_get_append, slice_get_push, slice_get_set_other, slice_get_set_same, slice_get_take}
+use Rattle.ordered_map.proofs.Pieces.{at_position_here, at_position_past, at_within, flat_map_same, get_or_map_at, same_after, same_before, slice_get_append, slice_get_push, slice_get_set_other, slice_get_set_same, slice_get_take}
 
 -- the last element takes the position of the one that is removed
 module _ {X : Type 0} (xs : List X) (at n : ℕ) (last d : X) (long : length xs ≡ suc n) (within : at < suc n) (is : slice_get xs n ≡ Some last) where
@@ -42,8 +42,8 @@ module _ {X : Type 0} (place : X → ℕ) (xs : List X) (order : List ℕ) (h : 
         at_position_past (xs ++ x ∷ []) _ (omega (arith, length_push xs x)) ∙ sym (at_position_past xs _ past))
         (cases_lt (get_or order k gap_position) (length xs))
 
-    pub pushed_in_order : in_order (xs ++ x ∷ []) (order ++ length xs ∷ []) ≡ in_order xs order ++ x ∷ []
-    pushed_in_order =
+    pub pushed_at_positions : at_positions (xs ++ x ∷ []) (order ++ length xs ∷ []) ≡ at_positions xs order ++ x ∷ []
+    pushed_at_positions =
         flat_map-append (at_position (xs ++ x ∷ [])) order (length xs ∷ [])
         ∙ (λ i. flat_map_same (at_position (xs ++ x ∷ [])) (at_position xs) gap_position order order refl same_old i ++ (append-nil (at_position (xs ++ x ∷ []) (length xs)) ∙ at_position_here (xs ++ x ∷ []) (length xs) x (slice_get_push xs x)) i)
 
@@ -104,9 +104,9 @@ module _ {X : Type 0} (place : X → ℕ) (xs : List X) (order : List ℕ) (h : 
     left_length = length-set (set order (get_or (map place xs) n gap_position) at) (get_or (map place xs) at gap_position) gap_position ∙ length-set order (get_or (map place xs) n gap_position) at
 
     -- before the place, there, and after
-    pub removed_before : in_order ys (take (place x) (set (set order (place last) at) (place x) gap_position)) ≡ before place xs order h at x here
+    pub removed_before : at_positions ys (take (place x) (set (set order (place last) at) (place x) gap_position)) ≡ before place xs order h at x here
     removed_before =
-        sym (λ i. in_order ys (take (place_is i) (left_is i)))
+        sym (λ i. at_positions ys (take (place_is i) (left_is i)))
         ∙ same_before (at_position ys) (at_position xs) gap_position Without order left_length (get_or (map place xs) at gap_position) same_left
         ∙ ap (λ q. flat_map (at_position xs) (take q order)) place_is
 
@@ -116,32 +116,19 @@ module _ {X : Type 0} (place : X → ℕ) (xs : List X) (order : List ℕ) (h : 
         ∙ ap (at_position ys) (now_gap (map place xs) (map place ys) order h at n long_places short_places within moved_place other_places)
         ∙ at_position_past ys gap_position (omega (arith, h.fits, long_places))
 
-    pub removed_after : in_order ys (drop (suc (place x)) (set (set order (place last) at) (place x) gap_position)) ≡ after place xs order h at x here
+    pub removed_after : at_positions ys (drop (suc (place x)) (set (set order (place last) at) (place x) gap_position)) ≡ after place xs order h at x here
     removed_after =
-        sym (λ i. in_order ys (drop (suc (place_is i)) (left_is i)))
+        sym (λ i. at_positions ys (drop (suc (place_is i)) (left_is i)))
         ∙ same_after (at_position ys) (at_position xs) gap_position Without order left_length (get_or (map place xs) at gap_position) same_left
         ∙ ap (λ q. flat_map (at_position xs) (drop (suc q) order)) place_is
-
-    -- the others keep their order
-    pub removed_in_order : in_order ys (set (set order (place last) at) (place x) gap_position) ≡ before place xs order h at x here ++ after place xs order h at x here
-    removed_in_order =
-        let long : length (set (set order (place last) at) (place x) gap_position) ≡ length order = length-set (set order (place last) at) (place x) gap_position ∙ length-set order (place last) at in
-        flat_map_at (at_position ys) gap_position (set (set order (place last) at) (place x) gap_position) (place x) (omega (arith, long, place_within place xs order h at x here))
-        ∙ (λ i. removed_before i ++ (removed_here i ++ removed_after i))
 
   -- one is changed, at its position and its place
   module _ (ys : List X) (at : ℕ) (x y : X) (here : slice_get xs at ≡ Some x) (now : slice_get ys at ≡ Some y) (others : (j : ℕ) → j ≢ at → slice_get ys j ≡ slice_get xs j) where
     same_others : (k : ℕ) → k ≢ place x → at_position ys (get_or order k gap_position) ≡ at_position xs (get_or order k gap_position)
     same_others k ne = ap option_to_list (others (get_or order k gap_position) (λ is. ne (sym (place_of_position place xs order h k x (ap (slice_get xs) is ∙ here)))))
 
-    pub changed_before : in_order ys (take (place x) order) ≡ before place xs order h at x here
+    pub changed_before : at_positions ys (take (place x) order) ≡ before place xs order h at x here
     changed_before = same_before (at_position ys) (at_position xs) gap_position order order refl (place x) same_others
 
-    pub changed_here : at_position ys (get_or order (place x) gap_position) ≡ y ∷ []
-    changed_here = ap (at_position ys) (position_at_place place xs order h at x here) ∙ at_position_here ys at y now
-
-    pub changed_after : in_order ys (drop (suc (place x)) order) ≡ after place xs order h at x here
+    pub changed_after : at_positions ys (drop (suc (place x)) order) ≡ after place xs order h at x here
     changed_after = same_after (at_position ys) (at_position xs) gap_position order order refl (place x) same_others
-
-    pub changed_in_order : in_order ys order ≡ before place xs order h at x here ++ y ∷ after place xs order h at x here
-    changed_in_order = flat_map_at (at_position ys) gap_position order (place x) (place_within place xs order h at x here) ∙ (λ i. changed_before i ++ (changed_here i ++ changed_after i))

@@ -5,12 +5,13 @@ use Rattle.std.specs.Option.{option_to_list}
 use Rattle.std.specs.declared.alloc.Global.{Global}
 use Rattle.std.proofs.lemmas.List.{append-nil, append_assoc, drop_all, take_all}
 use Rattle.std.proofs.lemmas.List.Elements.{All-cons, All-nil}
-use Rattle.ordered_map.specs.Entries.{Placing, entry_of}
-use Rattle.ordered_map.specs.Layout.{entries_of, placings, gap_position}
-use Rattle.ordered_map.specs.Retained.{entries_at, RetainsTo}
+use Rattle.ordered_map.specs.Entries.{in_order}
+use Rattle.ordered_map.specs.Layout.{by_position, entries_at, entries_of, gap_position, key_value, IsStored}
+use Rattle.ordered_map.specs.Retained.{RetainsTo}
 use Rattle.ordered_map.specs.declared.gaps.Placed.{Placed}
 use Rattle.ordered_map.proofs.PlaceViews.{entries_drop, entries_take}
 use Rattle.ordered_map.proofs.Retaining.{folds_from_retains, pairs_from_retains, retains_append}
+use Rattle.ordered_map.proofs.Views.{sorted}
 
 module _ {F V : Type 0} (T : F → String Global → V → Bool → V → F → Type 0) where
   -- `keep` was called at the entries of the first i places, and the others are as they were
@@ -32,16 +33,16 @@ module _ {F V : Type 0} (T : F → String Global → V → Bool → V → F → 
         (retains_append T f₀ f g s.done (entries_of es (take i order)) (entries_at es order i) (entries_at es' order' i) s.kept here);
   }
 
-  pub so_far_all : (f₀ f : F) (all : List (String Global × V)) (es : List (String Global × Placed V)) (order : List ℕ) (i : ℕ) → RetainsSoFar f₀ all es order i f → length order ≤ i → RetainsPairs T f₀ all (entries_of es order)
-  so_far_all f₀ f all es order i s past =
+  pub so_far_all : (f₀ f : F) (all : List (String Global × V)) (es : List (String Global × Placed V)) (order : List ℕ) (i : ℕ) → IsStored es order → RetainsSoFar f₀ all es order i f → length order ≤ i → RetainsPairs T f₀ all (in_order (by_position es))
+  so_far_all f₀ f all es order i h s past =
       let whole : all ≡ s.done = s.rest ∙ ap (λ r. s.done ++ entries_of es r) (drop_all i order past) ∙ append-nil s.done in
-      let kept : entries_of es (take i order) ≡ entries_of es order = ap (entries_of es) (take_all i order past) in
-      subst (λ l. RetainsPairs T f₀ l (entries_of es order)) (sym whole) (subst (RetainsPairs T f₀ s.done) kept (pairs_from_retains T f₀ f s.done (entries_of es (take i order)) s.kept))
+      let kept : entries_of es (take i order) ≡ in_order (by_position es) = ap (entries_of es) (take_all i order past) ∙ sorted es order h in
+      subst (λ l. RetainsPairs T f₀ l (in_order (by_position es))) (sym whole) (subst (RetainsPairs T f₀ s.done) kept (pairs_from_retains T f₀ f s.done (entries_of es (take i order)) s.kept))
 
   pub so_far_callable : (Q : F → String Global → V → Type 0) (f₀ f : F) (all : List (String Global × V)) (es : List (String Global × Placed V)) (order : List ℕ) (i : ℕ) → RetainsSoFar f₀ all es order i f → i < length order
       → CallableOnEachPair T Q f₀ all → All (λ e. Q f e.0 e.1) (entries_at es order i)
-  so_far_callable Q f₀ f all es order i s l c = by (slice_get (placings es) (get_or order i gap_position)) (s.rest ∙ ap (λ r. s.done ++ r) (entries_drop es order i l))
+  so_far_callable Q f₀ f all es order i s l c = by (slice_get es (get_or order i gap_position)) (s.rest ∙ ap (λ r. s.done ++ r) (entries_drop es order i l))
     where
-      by : (o : Option (Placing V)) → all ≡ s.done ++ (map entry_of (option_to_list o ++ []) ++ entries_of es (drop (i + 1) order)) → All (λ e. Q f e.0 e.1) (map entry_of (option_to_list o ++ []))
+      by : (o : Option (String Global × Placed V)) → all ≡ s.done ++ (map key_value (option_to_list o ++ []) ++ entries_of es (drop (i + 1) order)) → All (λ e. Q f e.0 e.1) (map key_value (option_to_list o ++ []))
       by None e = All-nil (λ e. Q f e.0 e.1)
-      by (Some x) e = All-cons (λ e. Q f e.0 e.1) (entry_of x) [] (c.at s.done (entries_of es (drop (i + 1) order)) f x.key x.value e (folds_from_retains T f₀ f s.done (entries_of es (take i order)) s.kept)) (All-nil (λ e. Q f e.0 e.1))
+      by (Some x) e = All-cons (λ e. Q f e.0 e.1) (key_value x) [] (c.at s.done (entries_of es (drop (i + 1) order)) f x.0 x.1.value e (folds_from_retains T f₀ f s.done (entries_of es (take i order)) s.kept)) (All-nil (λ e. Q f e.0 e.1))

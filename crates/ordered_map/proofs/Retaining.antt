@@ -24,6 +24,3 @@ module _ {F K X : Type 0} (T : F → K → X → Bool → X → F → Type 0) wh
 
   pub retains_one : (f g : F) (k : K) (v : X) (b : Bool) (w : X) (xs ys : List (K × X)) → T f k v b w g → xs ≡ (k, v) ∷ [] → ys ≡ cond b ((k, w) ∷ []) [] → RetainsTo T f xs ys g
   retains_one f g k v b w xs ys t is after = subst (λ l. RetainsTo T f l ys g) (sym is) (b, w, g, [], t, (refl, refl), after)
-
-  pub retains_none : (f : F) (xs ys : List (K × X)) → xs ≡ [] → ys ≡ [] → RetainsTo T f xs ys f
-  retains_none f xs ys is after = subst (λ l. RetainsTo T f l ys f) (sym is) (after, refl)

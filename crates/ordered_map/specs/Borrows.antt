@@ -1,5 +1,5 @@
 -- What an `OrderedMap` is after a `&mut` into it.
-use Rattle.std.specs.Prelude.{◌≡◌, ℕ, List, Option}
+use Rattle.std.specs.Prelude.{◌≡◌, ℕ, List, map, Option}
 use Rattle.std.specs.Borrow.{Fml, RattleType, MutBor, LendsSo}
 use Rattle.std.specs.Map.{set_value}
 use Rattle.std.specs.Option.{OnSome}
@@ -11,6 +11,8 @@ use Rattle.ordered_map.specs.contracts.map.OrderedMap.{the_row}
 -- the entry of the key has the value w, and nothing else changed
 pub record WritesValue {V S : Type 0} (text : List ℕ) (old : Ordered V S) (w : V) (new : Ordered V S) : Type 0 where
   pub written : entries new ≡ set_value (is_text text) (entries old) w
+  pub places : map (λ p. p.0) new.by_position ≡ map (λ p. p.0) old.by_position
+  pub by_position : map (λ p. p.1) new.by_position ≡ set_value (is_text text) (map (λ p. p.1) old.by_position) w
   pub hasher : new.hasher ≡ old.hasher
   pub room : new.room ≡ old.room
 

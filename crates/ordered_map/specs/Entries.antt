@@ -1,22 +1,28 @@
 -- What contracts see of an `OrderedMap`.
-use Rattle.std.specs.Prelude.{◌≡◌, ℕ, Bool, List, map, string_bytes, String, bytes_eq, IsPermutation, ◌++◌}
+use Rattle.std.specs.Prelude.{ℕ, Bool, List, [], ◌∷◌, ◌++◌, if◌then◌else◌, map, nat_le, slice_get, string_bytes, String, bytes_eq}
 use Rattle.std.specs.List.{IsDistinct}
-use Rattle.std.specs.List.Sorted.{IsStrictlyIncreasing}
-use Rattle.std.specs.Map.{lookup_entry, remove_entry}
-use Rattle.std.specs.Option.{option_to_list}
+use Rattle.std.specs.Map.{keys_of, lookup_entry, remove_entry}
+use Rattle.std.specs.Option.{option_map, option_to_list, unwrap_or}
 use Rattle.std.specs.String.{string_eq}
 use Rattle.std.specs.declared.alloc.Global.{Global}
 
--- an entry, and its place in the order of insertion
-pub record Placing (V : Type 0) : Type 0 where
-  pub place : ℕ
-  pub key : String Global
-  pub value : V
+-- an element with its place, before the first one whose place is not less
+abbrev pub insert_by_place : {X : Type 0} → ℕ × X → List (ℕ × X) → List (ℕ × X)
+insert_by_place x [] = x ∷ []
+insert_by_place x (y ∷ ys) = if nat_le x.0 y.0 then x ∷ y ∷ ys else y ∷ insert_by_place x ys
 
--- the entries in the order of insertion, the same entries by position, the hasher, and how many entries can be added with no memory
+-- sorted by their places; of equal places the one that stands first comes first
+abbrev pub by_place : {X : Type 0} → List (ℕ × X) → List (ℕ × X)
+by_place [] = []
+by_place (x ∷ xs) = insert_by_place x (by_place xs)
+
+-- in the order of their places, without them
+abbrev pub in_order : {X : Type 0} → List (ℕ × X) → List X
+in_order xs = map (λ x. x.1) (by_place xs)
+
+-- the entries by position, each with its place in the order of insertion, the hasher, and how many entries can be added with no memory
 pub record Ordered (V S : Type 0) : Type 0 where
-  pub in_order : List (Placing V)
-  pub by_position : List (Placing V)
+  pub by_position : List (ℕ × (String Global × V))
   pub hasher : S
   pub room : ℕ
 
@@ -24,24 +30,18 @@ pub record Ordered (V S : Type 0) : Type 0 where
 abbrev pub is_text : List ℕ → String Global → Bool
 is_text text key = bytes_eq text (string_bytes key)
 
--- the key and the value of an entry
-abbrev pub entry_of : {V : Type 0} → Placing V → String Global × V
-entry_of placing = (placing.key, placing.value)
-
 -- the keys with their values, in the order of insertion
 abbrev pub entries : {V S : Type 0} → Ordered V S → List (String Global × V)
-entries m = map entry_of m.in_order
+entries m = in_order m.by_position
 
--- the entries, their places and their positions are the same
-pub record IsUnchanged {V S : Type 0} (old new : Ordered V S) : Type 0 where
-  pub in_order : new.in_order ≡ old.in_order
-  pub by_position : new.by_position ≡ old.by_position
+-- the string that is the key at a position; empty past the end
+abbrev pub text_at : {V S : Type 0} → Ordered V S → ℕ → List ℕ
+text_at m position = unwrap_or (option_map (λ p. string_bytes p.1.0) (slice_get m.by_position position)) []
 
--- places ascend in the order of insertion, the entries by position are the same, and their keys differ
-pub record IsPlaced {V S : Type 0} (m : Ordered V S) : Type 0 where
-  pub ascending : IsStrictlyIncreasing (map (λ p. p.place) m.in_order)
-  pub same : IsPermutation m.in_order m.by_position
-  pub distinct : IsDistinct string_eq (map (λ p. p.key) m.by_position)
+-- the keys differ, in the order of insertion and by position
+pub record HasDistinctKeys {V S : Type 0} (m : Ordered V S) : Type 0 where
+  pub in_order : IsDistinct string_eq (keys_of (entries m))
+  pub by_position : IsDistinct string_eq (map (λ p. p.1.0) m.by_position)
 
 -- the entry whose key passes the test is last
 abbrev pub moved_to_end : {K V : Type 0} → (K → Bool) → List (K × V) → List (K × V)

@@ -1,7 +1,8 @@
-//! Entries with their places, and the closing of gaps between the places.
-ghost use Rattle.std.specs.Prelude.{◌≡◌, ◌<◌, ◌≤◌, vec_capacity, vec_len};
+//! Entries with their places, and the gaps between the places.
+ghost use Rattle.std.specs.Prelude.{◌≡◌, ◌<◌, ◌≤◌, option_map, slice_get, vec_capacity, vec_len, IfNone, IfSome};
 ghost use Rattle.indexmap.specs.IndexMap.{hasher_of, index_map_len, spare};
-ghost use Rattle.ordered_map.specs.Layout.{entries_of, IsStored};
+ghost use Rattle.ordered_map.specs.Entries.{in_order};
+ghost use Rattle.ordered_map.specs.Layout.{by_position, IsStored, LeavesGap};
 
 use indexmap::IndexMap;
 use std::hash::BuildHasher;
@@ -16,6 +17,37 @@ pub(crate) struct Placed<V> {
     pub(crate) value: V,
 }
 
+/// Removes the entry at this position, and leaves a gap at its place. The last entry moves to the
+/// position.
+pub(crate) fn swap_remove_placed<V: Drop, S: BuildHasher>(
+    entries: &mut IndexMap<String, Placed<V>, S>,
+    order: &mut Vec<usize>,
+    position: usize,
+) -> Option<Placed<V>>
+    requires { IsStored entries.old.entries order.old.items }
+    ensures stored { IsStored entries.new.entries order.new.items }
+    ensures removed { result ≡ option_map (λ e. e.1) (slice_get entries.old.entries position) }
+    ensures gap { IfSome result (λ p. LeavesGap p.place entries.old.entries order.old.items entries.new.entries order.new.items) }
+    ensures unchanged { IfNone result (entries.new.entries ≡ entries.old.entries) }
+    ensures places { vec_len order.new ≡ vec_len order.old }
+    ensures capacity { vec_capacity order.new ≡ vec_capacity order.old }
+    ensures len { index_map_len entries.new ≤ index_map_len entries.old }
+    ensures spare { spare entries.old ≤ spare entries.new }
+    ensures hasher { hasher_of entries.new ≡ hasher_of entries.old }
+{
+    let Some((_, last)) = entries.last() else {
+        return None;
+    };
+    let last_place = last.place;
+    let Some((_, removed)) = entries.swap_remove_index(position) else {
+        return None;
+    };
+    // the last entry has the position of the removed one now
+    order[last_place] = position;
+    order[removed.place] = GAP;
+    Some(removed)
+}
+
 /// Closes the gaps if more than half of the places are gaps.
 pub(crate) fn close_many_gaps<V, S: BuildHasher>(
     entries: &mut IndexMap<String, Placed<V>, S>,
@@ -23,7 +55,7 @@ pub(crate) fn close_many_gaps<V, S: BuildHasher>(
 )
     requires { IsStored entries.old.entries order.old.items }
     ensures stored { IsStored entries.new.entries order.new.items }
-    ensures entries { entries_of entries.new.entries order.new.items ≡ entries_of entries.old.entries order.old.items }
+    ensures entries { in_order (by_position entries.new.entries) ≡ in_order (by_position entries.old.entries) }
     ensures shorter { vec_len order.new ≤ vec_len order.old }
     ensures capacity { vec_capacity order.new ≡ vec_capacity order.old }
     ensures len { index_map_len entries.new ≡ index_map_len entries.old }
@@ -43,7 +75,7 @@ pub(crate) fn free_place<V, S: BuildHasher>(
     requires stored { IsStored entries.old.entries order.old.items }
     requires gap { index_map_len entries.old < vec_len order.old }
     ensures stored { IsStored entries.new.entries order.new.items }
-    ensures entries { entries_of entries.new.entries order.new.items ≡ entries_of entries.old.entries order.old.items }
+    ensures entries { in_order (by_position entries.new.entries) ≡ in_order (by_position entries.old.entries) }
     ensures free { vec_len order.new < vec_capacity order.new }
     ensures shorter { vec_len order.new ≤ vec_len order.old }
     ensures capacity { vec_capacity order.new ≡ vec_capacity order.old }
@@ -63,7 +95,7 @@ pub(crate) fn close_gaps<V, S: BuildHasher>(
 )
     requires { IsStored entries.old.entries order.old.items }
     ensures stored { IsStored entries.new.entries order.new.items }
-    ensures entries { entries_of entries.new.entries order.new.items ≡ entries_of entries.old.entries order.old.items }
+    ensures entries { in_order (by_position entries.new.entries) ≡ in_order (by_position entries.old.entries) }
     ensures closed { vec_len order.new ≡ index_map_len entries.new }
     ensures shorter { vec_len order.new ≤ vec_len order.old }
     ensures capacity { vec_capacity order.new ≡ vec_capacity order.old }

@@ -1,13 +1,13 @@
 //! Values by string, in the order of insertion.
-ghost use Rattle.std.specs.Prelude.{◌≡◌, ◌==◌, ◌+◌, ◌^◌, ◌<◌, ◌≤◌, ◌++◌, ◌∷◌, [], length, map, option_map, position, slice_get, string_bytes, None, IfOk, IsOk, OnErr, OnOk};
+ghost use Rattle.std.specs.Prelude.{◌≡◌, ◌==◌, ◌+◌, ◌^◌, ◌<◌, ◌≤◌, ◌++◌, ◌∷◌, [], length, map, option_map, position, slice_get, string_bytes, None, IfNone, IfOk, IsOk, OnErr, OnOk, OnSome};
 ghost use Rattle.std.specs.Map.{lookup, remove_entry, values_of};
 ghost use Rattle.std.specs.Map.Calls.{CallableOnEachPair, CalledAtPair, RetainsPairs, TakesPair};
 ghost use Rattle.std.specs.Borrow.{sem};
 ghost use Rattle.std.specs.Option.{option_copied, option_copied_mut};
-ghost use Rattle.ordered_map.specs.Entries.{entries, is_text, moved_to_end, IsPlaced, IsUnchanged};
+ghost use Rattle.ordered_map.specs.Entries.{entries, is_text, moved_to_end, text_at, HasDistinctKeys};
 ghost use Rattle.ordered_map.specs.Borrows.{lends_value};
 
-use crate::gaps::{GAP, Placed, close_many_gaps, free_place};
+use crate::gaps::{GAP, Placed, close_many_gaps, free_place, swap_remove_placed};
 use crate::iter::{Iter, Values};
 use crate::retain::retain_place;
 use indexmap::IndexMap;
@@ -31,11 +31,10 @@ impl<V, S: BuildHasher> Model for OrderedMap<V, S> {
 
     ghost Value = { Ordered V S };
 
-    ghost use Rattle.ordered_map.specs.Layout.{in_order, placings, room_of, IsWhole};
+    ghost use Rattle.ordered_map.specs.Layout.{by_position, room_of, IsWhole};
 
     ghost view = { λ m. record {
-      in_order = in_order (placings m.entries.entries) m.order.items;
-      by_position = placings m.entries.entries;
+      by_position = by_position m.entries.entries;
       hasher = hasher_of m.entries;
       room = room_of (spare m.entries) (vec_capacity m.order - vec_len m.order) (index_map_len m.entries);
     } };
@@ -71,7 +70,7 @@ impl<V, S: BuildHasher> OrderedMap<V, S> {
     pub fn len(&self) -> usize
         ensures len { result ≡ length (entries self.now) }
         ensures small { result < 2 ^ 63 }
-        ensures placed { IsPlaced self.now }
+        ensures distinct { HasDistinctKeys self.now }
     {
         self.entries.len()
     }
@@ -109,17 +108,17 @@ impl<V, S: BuildHasher> OrderedMap<V, S> {
 
     /// Returns the position of this key. It stays the same until an entry is removed.
     pub fn position(&self, key: &str) -> Option<usize>
-        ensures position { result ≡ position (is_text key.now) (map (λ p. p.key) self.now.by_position) }
-        ensures placed { IsPlaced self.now }
+        ensures position { result ≡ position (is_text key.now) (map (λ p. p.1.0) self.now.by_position) }
+        ensures distinct { HasDistinctKeys self.now }
     {
         self.entries.get_index_of(key)
     }
 
     /// Returns the place, the key and the value of the entry at this position.
     pub fn at(&self, position: usize) -> Option<(usize, &str, &V)>
-        ensures place { option_map (λ found. found.0) result ≡ option_map (λ p. p.place) (slice_get self.now.by_position position) }
-        ensures key { option_map (λ found. found.1.now) result ≡ option_map (λ p. string_bytes p.key) (slice_get self.now.by_position position) }
-        ensures value { option_map (λ found. found.2.now) result ≡ option_map (λ p. p.value) (slice_get self.now.by_position position) }
+        ensures place { option_map (λ found. found.0) result ≡ option_map (λ p. p.0) (slice_get self.now.by_position position) }
+        ensures key { option_map (λ found. found.1.now) result ≡ option_map (λ p. string_bytes p.1.0) (slice_get self.now.by_position position) }
+        ensures value { option_map (λ found. found.2.now) result ≡ option_map (λ p. p.1.1) (slice_get self.now.by_position position) }
     {
         match self.entries.get_index(position) {
             Some((key, placed)) => Some((placed.place, key.as_str(), &placed.value)),
@@ -132,7 +131,18 @@ impl<V, S: BuildHasher> OrderedMap<V, S> {
         ensures* writes_back { sem 𝓛 (lends_value V.row S.row S.Hasher.row S.BuildHasher S.Hasher.Hasher self.entry key.now result) }
         ensures value { option_copied_mut result ≡ lookup (is_text key.now) (entries self.old) }
     {
-        match self.entries.get_mut(key) {
+        match self.position(key) {
+            Some(position) => self.at_mut(position),
+            None => None,
+        }
+    }
+
+    /// Returns the value of the entry at this position, to write.
+    pub fn at_mut(&mut self, position: usize) -> Option<&mut V>
+        ensures* writes_back { sem 𝓛 (lends_value V.row S.row S.Hasher.row S.BuildHasher S.Hasher.Hasher self.entry (text_at self.old position) result) }
+        ensures value { option_copied_mut result ≡ option_map (λ p. p.1.1) (slice_get self.old.by_position position) }
+    {
+        match self.entries.get_index_mut(position) {
             Some(placed) => Some(&mut placed.value),
             None => None,
         }
@@ -144,7 +154,7 @@ impl<V: Drop, S: BuildHasher> OrderedMap<V, S> {
     pub fn push(&mut self, key: String, value: V) -> Result<(), AllocError>
         requires new { lookup (is_text (string_bytes key)) (entries self.old) ≡ None }
         ensures pushed { OnOk result (entries self.new ≡ entries self.old ++ (key, value) ∷ []) }
-        ensures unchanged { OnErr result (IsUnchanged self.old self.new) }
+        ensures unchanged { OnErr result (self.new.by_position ≡ self.old.by_position) }
         ensures hasher { self.new.hasher ≡ self.old.hasher }
         ensures succeeds { 0 < self.old.room → IsOk result }
         ensures room { self.old.room ≤ self.new.room + 1 }
@@ -176,16 +186,24 @@ impl<V: Drop, S: BuildHasher> OrderedMap<V, S> {
         ensures hasher { self.new.hasher ≡ self.old.hasher }
         ensures room { self.old.room ≤ self.new.room }
     {
-        let Some((_, last)) = self.entries.last() else {
+        match self.position(key) {
+            Some(position) => self.remove_at(position),
+            None => None,
+        }
+    }
+
+    /// Removes the entry at this position, and returns its value. The others keep their order.
+    /// Takes amortized constant time, and allocates nothing.
+    pub fn remove_at(&mut self, position: usize) -> Option<V>
+        ensures value { result ≡ option_map (λ p. p.1.1) (slice_get self.old.by_position position) }
+        ensures removed { OnSome result (entries self.new ≡ remove_entry (is_text (text_at self.old position)) (entries self.old)) }
+        ensures unchanged { IfNone result (self.new.by_position ≡ self.old.by_position) }
+        ensures hasher { self.new.hasher ≡ self.old.hasher }
+        ensures room { self.old.room ≤ self.new.room }
+    {
+        let Some(removed) = swap_remove_placed(&mut self.entries, &mut self.order, position) else {
             return None;
         };
-        let last_place = last.place;
-        let Some((position, _, removed)) = self.entries.swap_remove_full(key) else {
-            return None;
-        };
-        // the last entry took the position of the removed one
-        self.order[last_place] = position;
-        self.order[removed.place] = GAP;
         close_many_gaps(&mut self.entries, &mut self.order);
         Some(removed.value)
     }

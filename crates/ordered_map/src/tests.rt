@@ -71,6 +71,18 @@ fn writes_a_value(rt: HostRuntime) -> Result<(), Fail> {
 }
 
 #[test]
+fn writes_a_value_by_position(rt: HostRuntime) -> Result<(), Fail> {
+    let mut map = five(rt.alloc())?;
+    map.move_to_end("b");
+    if let Some(value) = map.at_mut(1) {
+        *value = 20;
+    }
+    assert!(rt; map.at_mut(5).is_none());
+    assert_eq!(rt; shown(&map)?.as_str(), "a=1 c=3 d=4 e=5 b=20 ");
+    Ok(())
+}
+
+#[test]
 fn removes_in_order(rt: HostRuntime) -> Result<(), Fail> {
     let mut map = five(rt.alloc())?;
     assert_eq!(rt; map.remove("b"), Some(2));
@@ -84,6 +96,17 @@ fn removes_in_order(rt: HostRuntime) -> Result<(), Fail> {
     assert!(rt; map.is_empty());
     add(&mut map, "b", 7)?;
     assert_eq!(rt; shown(&map)?.as_str(), "b=7 ");
+    Ok(())
+}
+
+#[test]
+fn removes_by_position(rt: HostRuntime) -> Result<(), Fail> {
+    let mut map = five(rt.alloc())?;
+    assert_eq!(rt; map.remove_at(1), Some(2));
+    assert_eq!(rt; map.remove_at(4), None);
+    // the last entry moved to the position of the removed one, and not in the order
+    assert_eq!(rt; map.position("e"), Some(1));
+    assert_eq!(rt; shown(&map)?.as_str(), "a=1 c=3 d=4 e=5 ");
     Ok(())
 }
 

@@ -1,8 +1,10 @@
 //! Runs the lines `set URL HEADER`, `get URL`, `remove DOMAIN PATH NAME` and `clear` of a script over the Rust crate
 //! `cookie_store`: a peer for tools/bench. The crate reads the system's clock, so `now` lines are skipped.
 //!
-//! With an argument it loads the JSON list in that file instead, and with a second one saves it in that file.
+//! With an argument it loads the list in that file instead, in RON if its name ends in `.ron`, else in JSON, and with a
+//! second one saves it in that file.
 use cookie_store::CookieStore;
+use ron::ser::PrettyConfig;
 use std::io::{self, BufRead, BufReader, BufWriter, Write};
 use std::{env, fs};
 use url::Url;
@@ -58,11 +60,36 @@ fn run(store: &mut CookieStore, line: &str, out: &mut impl Write) -> io::Result<
     }
 }
 
-/// Loads the JSON list in a file, and saves it in another if one is named.
+/// The error of a list in RON.
+fn ron_error(error: ron::Error) -> io::Error {
+    io::Error::new(io::ErrorKind::InvalidData, error)
+}
+
+/// Parses a list in RON, or in JSON.
+fn parse_list(text: &str, is_ron: bool) -> io::Result<CookieStore> {
+    if is_ron {
+        ron::from_str(text).map_err(ron_error)
+    } else {
+        Ok(serde_json::from_str(text)?)
+    }
+}
+
+/// Formats a list in RON, or in JSON.
+fn format_list(store: &CookieStore, is_ron: bool) -> io::Result<String> {
+    if is_ron {
+        ron::ser::to_string_pretty(store, PrettyConfig::default()).map_err(ron_error)
+    } else {
+        Ok(serde_json::to_string_pretty(store)?)
+    }
+}
+
+/// Loads the list in a file, in RON if its name ends in `.ron`, else in JSON, and saves it in another if
+/// one is named.
 fn convert(input: &str, output: Option<&String>) -> io::Result<()> {
-    let store: CookieStore = serde_json::from_str(&fs::read_to_string(input)?)?;
+    let is_ron = input.ends_with(".ron");
+    let store = parse_list(&fs::read_to_string(input)?, is_ron)?;
     match output {
-        Some(output) => fs::write(output, serde_json::to_string_pretty(&store)? + "\n"),
+        Some(output) => fs::write(output, format_list(&store, is_ron)? + "\n"),
         None => Ok(()),
     }
 }

@@ -1,10 +1,13 @@
-use Rattle.cookie_lookup.specs.Positions.{groups_of}
-use Rattle.cookie_lookup.proofs.GroupsInAnyOrder.{groups_in_any_order, moved_groups, rows_in_any_order, same_domains, same_paths}
-use Rattle.cookie_lookup.proofs.RowsByPlace.{rows_sorted_by_place}
+use Rattle.cookie_lookup.proofs.GroupsInOrder.{rows_in_any_order, same_domains, same_paths, still_groups}
+use Rattle.cookie_lookup.proofs.PlaceOrder.{places_exact}
+use Rattle.cookie_lookup.proofs.RowsInOrder.{rows_sorted_by_place}
 use Rattle.cookie_lookup.proofs.laws.rows_by_place.Goals as goal
 
 pub returns-clause-groups : goal.returns-clause-groups
-returns-clause-groups c = λ by_place placed is are. groups_in_any_order (groups_of by_place) (groups_of placed) (moved_groups by_place placed is) are
+returns-clause-groups c = still_groups
+
+pub returns-clause-order : goal.returns-clause-order
+returns-clause-order c = λ placed. (places_exact placed).total
 
 pub returns-clause-sorted : goal.returns-clause-sorted
 returns-clause-sorted c = rows_sorted_by_place

@@ -1,4 +1,4 @@
-use Rattle.std.proofs.Common.{◌≡◌, length, map, ◌∙◌, arith}
+use Rattle.std.proofs.Common.{◌≡◌, length, map, arith}
 use Rattle.std.proofs.lemmas.Bool.Decides.{nat_tests}
 use Rattle.std.proofs.lemmas.List.{nil_from_length}
 use Rattle.std.proofs.lemmas.Result.{IfOk-weaker, IfErr-weaker, err_from_is_err_and}
@@ -9,22 +9,22 @@ use Rattle.cookie_ron.proofs.reading.from_ron.Goals as goal
 
 pub returns-in_err-list_at-clause-errors : goal.returns-in_err-list_at-clause-errors
 returns-in_err-list_at-clause-errors c =
-    let fault = err_from_is_err_and c.from_residual-in_err-list_at.result c.from_residual-in_err-list_at.ensures.1 in
+    let fault = err_from_is_err_and c.from_residual.result c.from_residual.ensures.1 in
     rw (fault.1, fault.2)
-    (says_none c.args.text.now c.deref.result.now c.in_err-list_at.field-0.0 (c.deref.ensures.value ∙ c.in_ok-input.ensures) c.in_err-list_at.ensures.errors)
+    (says_none c.args.text.now c.in_err-list_at.field-0.0 c.in_err-list_at.ensures.errors)
 
 pub returns-clause-list : goal.returns-clause-list
 returns-clause-list c =
     IfOk-weaker c.with_parsed_expiries.result _ _
-    (λ list moments. says_list c.args.text.now c.deref.result.now (map entry_view c.in_ok-list_at.field-0.items) (map saved_view list.items)
-    (c.deref.ensures.value ∙ c.in_ok-input.ensures) c.in_ok-list_at.ensures.read moments)
+    (λ list moments. says_list c.args.text.now (map entry_view c.in_ok-list_at.field-0.items) (map saved_view list.items)
+    c.in_ok-list_at.ensures.read moments)
     c.with_parsed_expiries.ensures.read
 
 pub returns-clause-errors : goal.returns-clause-errors
 returns-clause-errors c =
     IfErr-weaker c.with_parsed_expiries.result _ _
-    (λ e told. says_no_moment c.args.text.now c.deref.result.now (map entry_view c.in_ok-list_at.field-0.items) e
-    (c.deref.ensures.value ∙ c.in_ok-input.ensures) c.in_ok-list_at.ensures.read told)
+    (λ e told. says_no_moment c.args.text.now (map entry_view c.in_ok-list_at.field-0.items) e
+    c.in_ok-list_at.ensures.read told)
     c.with_parsed_expiries.ensures.errors
 
 pub returns-then-is_empty-clause-errors : goal.returns-then-is_empty-clause-errors

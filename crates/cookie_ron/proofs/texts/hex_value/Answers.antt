@@ -1,8 +1,7 @@
 -- One more digit: the digits so far are hexadecimal, and the value is sixteen times the last one plus the digit.
-use Rattle.std.proofs.Common.{◌≡◌, ◌+◌, ◌*◌, take, true, ap, subst, sym, ◌∙◌, arith}
+use Rattle.std.proofs.Common.{◌≡◌, ◌+◌, ◌*◌, get_or, take, true, ap, subst, sym, ◌∙◌, arith}
 use Rattle.std.specs.Str.Parse.{digits_value}
 use Rattle.std.specs.Char.{is_ascii_hexdigit, digit_value}
-use Rattle.std.proofs.lemmas.List.{get_or_read}
 use Rattle.std.proofs.lemmas.Int.Digits.{digits_value_more}
 use Rattle.cookie_ron.proofs.Digits.{all_more}
 use Rattle.cookie_ron.proofs.Powers.{power_more, power_below, is_hex}
@@ -18,8 +17,8 @@ pub loop-digit-preserved : goal.loop-digit-preserved
 loop-digit-preserved c =
     let i = c.loop-digit.digit-index in
     let more = digits_value_more 16 c.args.digits.now i c.loop-digit-test.true in
-    let read = get_or_read c.args.digits.now i c.digit-item.result c.loop-digit-test.true c.digit-item.is 0 in
-    let hex = subst (λ d. is_ascii_hexdigit d ≡ true) read (is_hex c.digit-item.result c.in_ok-value.ensures.value.0) in
+    let read : c.from.result ≡ get_or c.args.digits.now i 0 = c.from.ensures in
+    let hex = subst (λ d. is_ascii_hexdigit d ≡ true) read (is_hex c.from.result c.in_ok-value.ensures.value.0) in
     record {
       digits = all_more is_ascii_hexdigit c.args.digits.now i c.loop-digit-test.true c.loop-digit.invariant.digits hex;
       value =

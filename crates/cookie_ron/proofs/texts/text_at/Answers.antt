@@ -1,19 +1,31 @@
-use Rattle.std.proofs.Common.{suc, length, string_bytes, sym, ap, ◌∙◌}
-use Rattle.cookie_ron.specs.RonInput.{onto, chars_at}
-use Rattle.cookie_ron.proofs.Onto.{onto_none}
-use Rattle.cookie_ron.proofs.TextFronts.{chars_turn, char_shorter}
+use Rattle.std.proofs.Common.{◌++◌, length, length-append, string_bytes, sym, ap, ◌∙◌, arith, rules}
+use Rattle.std.specs.Str.{chars, encode_utf8_all}
+use Rattle.cookie_ron.proofs.TextFronts.{char_shorter, run_turn, text_begins}
 use Rattle.cookie_ron.proofs.texts.text_at.Goals as goal
 
 pub loop-c-init : goal.loop-c-init
 loop-c-init c =
-    let all = chars_at (suc (length c.in_ok-rest.rest.now)) c.in_ok-rest.rest.now in
-    onto_none all ∙ ap (λ text. onto text all) (sym c.new-text.ensures.bytes)
+    let run = c.in_ok-rest.ensures in (
+      search rules,
+      text_begins (chars c.args.input.now) (chars c.in_ok-first.first.now) (chars c.in_ok-rest.rest.now) run.0 _ c.in_ok-first.ensures.read run.2 run.3
+          (run.1 ∙ ap (λ t. t ++ encode_utf8_all run.0) c.new-text.ensures.bytes),
+    )
 
 pub loop-c-smaller : goal.loop-c-smaller
-loop-c-smaller c = char_shorter c.loop-c.rest.now c.in-Some.next.now c.in-Some.c (sym c.in-Some.ensures)
+loop-c-smaller c =
+    let run = c.in_ok-rest-in-Some.ensures in
+    omega (
+      arith,
+      char_shorter (chars c.loop-c.rest.now) (chars c.in-Some.next.now) c.in-Some.c (sym c.in-Some.ensures),
+      ap length run.2,
+      length-append run.0 (chars c.in_ok-rest-in-Some.rest.now),
+    )
 
 pub loop-c-preserved : goal.loop-c-preserved
 loop-c-preserved c =
-    c.loop-c.invariant
-    ∙ chars_turn (string_bytes c.loop-c.text) (string_bytes c.push.new.self) c.loop-c.rest.now c.in-Some.next.now c.in-Some.c (sym c.in-Some.ensures)
-    c.in_ok-push-in-Some.ensures.bytes
+    let run = c.in_ok-rest-in-Some.ensures in (
+      search rules,
+      c.loop-c.invariant.1
+          ∙ run_turn (string_bytes c.loop-c.text) _ _ (chars c.loop-c.rest.now) (chars c.in-Some.next.now) (chars c.in_ok-rest-in-Some.rest.now) run.0
+          c.in-Some.c (sym c.in-Some.ensures) c.in_ok-push-in-Some.ensures.bytes run.2 run.3 run.1,
+    )

@@ -1,10 +1,7 @@
 -- The copied and the remaining entries are all entries.
-use Rattle.std.proofs.Common.{◌≡◌, ◌++◌}
 use Rattle.ordered_map.specs.Entries.{entries}
-use Rattle.cookie_rows.specs.GroupChanges.{texts_of}
+use Rattle.cookie_rows.proofs.Copies.{CopiedSoFar}
 use Rattle.cookie_rows.proofs.copying.rehashed_map.Given as goal
 
 abbrev pub invariant-loop-text : goal.invariant-loop-text
-invariant-loop-text g l = record {
-  copied : texts_of (entries l.copy) ++ texts_of l.text-iterator ≡ texts_of l.initial.text-iterator;
-}
+invariant-loop-text g l = record { copied : CopiedSoFar g.V.Rehash.is_copy l.initial.text-iterator l.text-iterator (entries l.copy) }

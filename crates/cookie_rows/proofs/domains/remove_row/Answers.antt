@@ -1,8 +1,10 @@
 use Rattle.std.proofs.Common.{◌≡◌, ◌∙◌, sym, ap, bytes_eq, true, false}
 use Rattle.cookie_laws.specs.Rows.{removed}
 use Rattle.ordered_map.specs.Entries.{entries}
-use Rattle.cookie_rows.specs.GroupChanges.{texts_of, is_empty_at, changed_at}
+use Rattle.cookie_lookup.specs.Positions.{paths_in_order}
+use Rattle.cookie_rows.specs.GroupChanges.{texts_by, is_empty_at, changed_at}
 use Rattle.cookie_rows.specs.Items.{remove_item_paths}
+use Rattle.cookie_rows.specs.Stored.{domains_in}
 use Rattle.cookie_rows.proofs.Maps.{texts_removed, lessened_some, lessened_none}
 use Rattle.cookie_rows.proofs.domains.remove_row.Goals as goal
 
@@ -10,15 +12,15 @@ pub returns-then-is_empty-clause-removed : goal.returns-then-is_empty-clause-rem
 returns-then-is_empty-clause-removed c =
     let q = c.args.domain.now in
     let change = remove_item_paths c.args.path.now c.args.name.now in
-    let gs = texts_of (entries c.args.groups.now) in
+    let gs = domains_in c.args.groups.now in
     let empty : is_empty_at q (changed_at change q gs) ≡ true = ap (is_empty_at q) (sym c.take_row-row.ensures.groups) ∙ sym c.take_row-row.ensures.is_empty ∙ c.if-is_empty.true in
-    ap texts_of c.remove.ensures.removed ∙ texts_removed q (entries c.take_row-row.new.groups)
+    ap (texts_by paths_in_order) c.remove.ensures.removed ∙ texts_removed paths_in_order q (entries c.take_row-row.new.groups)
     ∙ ap (removed (λ g. bytes_eq q g.0)) c.take_row-row.ensures.groups ∙ lessened_none change q gs empty
 
 pub returns-else-is_empty-clause-removed : goal.returns-else-is_empty-clause-removed
 returns-else-is_empty-clause-removed c =
     let q = c.args.domain.now in
     let change = remove_item_paths c.args.path.now c.args.name.now in
-    let gs = texts_of (entries c.args.groups.now) in
+    let gs = domains_in c.args.groups.now in
     let some : is_empty_at q (changed_at change q gs) ≡ false = ap (is_empty_at q) (sym c.take_row-row.ensures.groups) ∙ sym c.take_row-row.ensures.is_empty ∙ c.if-is_empty.false in
     c.take_row-row.ensures.groups ∙ lessened_some change q gs some

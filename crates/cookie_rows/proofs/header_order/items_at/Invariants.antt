@@ -1,9 +1,10 @@
 -- The rows at the positions that were passed.
 use Rattle.std.proofs.Common.{◌≡◌, map, take}
 use Rattle.std.specs.List.{flat_map}
+use Rattle.cookie_lookup.specs.Positions.{groups_by_position}
 use Rattle.cookie_rows.specs.HeaderItems.{items_at}
-use Rattle.cookie_rows.specs.PlacedDomains.{by_position}
+use Rattle.cookie_rows.specs.Stored.{stored_in}
 use Rattle.cookie_rows.proofs.header_order.items_at.Given as goal
 
 abbrev pub invariant-loop-row_position : goal.invariant-loop-row_position
-invariant-loop-row_position l = map (λ r. r.now) l.items.items ≡ flat_map (items_at (by_position l.groups)) (take l.row_position-index l.positions)
+invariant-loop-row_position l = map (λ r. r.now) l.items.items ≡ flat_map (items_at (groups_by_position (stored_in l.groups))) (take l.row_position-index l.positions)

@@ -1,24 +1,24 @@
-use Rattle.std.proofs.Common.{◌≡◌, ◌+◌, ◌∙◌, ap, length, refl, subst, sym, take, Some}
-use Rattle.std.specs.Prelude.{slice_get}
-use Rattle.std.proofs.lemmas.List.{take_all}
-use Rattle.std.proofs.lemmas.Option.{slice_get_read}
+use Rattle.std.proofs.Common.{◌+◌, ◌∙◌, Some, ap, arith, subst, sym, take}
+use Rattle.std.proofs.lemmas.List.{length-map}
 use Rattle.cookie_words.specs.Moments.{moment_of}
 use Rattle.cookie_rows.specs.Eviction.{EvictionRank}
-use Rattle.cookie_rows.specs.Least.{IsLeastOfGroup, lesser}
-use Rattle.cookie_rows.proofs.LeastSearch.{group_step}
+use Rattle.cookie_rows.specs.Least.{IsLeastOfGroup, lesser, stored_items}
+use Rattle.cookie_rows.proofs.LeastSearch.{group_step, none_past}
+use Rattle.cookie_rows.proofs.least.least_in.Goals.{in-Some, in_default}
 use Rattle.cookie_rows.proofs.least.least_in.Goals as goal
 
-pub loop-at-preserved : goal.loop-at-preserved
-loop-at-preserved c =
+pub loop-row-preserved : goal.loop-row-preserved
+loop-row-preserved c =
+    let order = c.args.order in
     let now = moment_of c.args.now in
-    let rows = c.args.rows.now in
-    let row = c.index-rows-at.result in
-    let there : slice_get rows c.loop-at.at ≡ Some row = slice_get_read rows (length rows) c.loop-at.at row refl c.loop-at-test.true c.index-rows-at.is in
-    let is = c.lesser-least.ensures ∙ ap (λ (rank : EvictionRank). lesser c.loop-at.least (Some (record { place = c.args.place; at = c.loop-at.at; rank = rank }))) c.rank-rank.ensures in
-    subst (IsLeastOfGroup c.args.order now c.args.place (take (c.loop-at.at + 1) rows)) (sym is)
-    (group_step c.args.order now c.args.place rows c.loop-at.at row c.loop-at.least there c.loop-at.invariant)
-
-pub returns : goal.returns
-returns c =
-    subst (λ xs. IsLeastOfGroup c.args.order (moment_of c.args.now) c.args.place xs c.loop-at.least)
-    (take_all c.loop-at.at c.args.rows.now c.loop-at-test.false) c.loop-at.invariant
+    let names = c.args.names.now in
+    let n = c.loop-row.row in
+    elim c.match-at.branch [
+      | in-Some w ↦
+          let least = c.loop-row.least in
+          let found = w.least-is ∙ w.lesser-least.ensures ∙ ap (λ (rank : EvictionRank). lesser least (Some (record { path = c.args.path; row = n; rank = rank }))) w.rank-rank.ensures in
+          subst (IsLeastOfGroup order now c.args.path (take (n + 1) (stored_items names))) (sym found)
+          (group_step order now c.args.path (stored_items names) n w.in-Some.item.now least (sym w.in-Some.ensures.item) c.loop-row.invariant)
+      | in_default w ↦
+          absurd (omega (arith, none_past (stored_items names) n w.in_default.ensures.item, length-map names (λ i. i.1), c.len-row-end.ensures.stored, c.loop-row-test.true))
+    ]

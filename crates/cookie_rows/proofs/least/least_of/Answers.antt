@@ -1,23 +1,23 @@
-use Rattle.std.proofs.Common.{◌≡◌, ◌+◌, length, refl, subst, sym, take, Some}
-use Rattle.std.specs.Prelude.{slice_get}
-use Rattle.std.proofs.lemmas.List.{take_all}
-use Rattle.std.proofs.lemmas.Option.{slice_get_read}
+use Rattle.std.proofs.Common.{◌+◌, ◌∙◌, arith, map, subst, sym, take}
+use Rattle.std.proofs.lemmas.List.{length-map}
 use Rattle.cookie_words.specs.Moments.{moment_of}
-use Rattle.cookie_rows.specs.Least.{IsLeastOfGroup, IsLeastOfGroups}
-use Rattle.cookie_rows.proofs.LeastSearch.{groups_step}
+use Rattle.cookie_rows.specs.Least.{IsLeastOfGroups, stored_items}
+use Rattle.cookie_rows.proofs.LeastSearch.{groups_step, names_there, none_past}
+use Rattle.cookie_rows.proofs.least.least_of.Goals.{in-Some, in_default}
 use Rattle.cookie_rows.proofs.least.least_of.Goals as goal
 
-pub loop-place-preserved : goal.loop-place-preserved
-loop-place-preserved c =
+pub loop-path-preserved : goal.loop-path-preserved
+loop-path-preserved c =
+    let order = c.args.order in
     let now = moment_of c.args.now in
-    let groups = c.args.groups.now in
-    let names = c.index-groups-place.result in
-    let there : slice_get groups c.loop-place.place ≡ Some names = slice_get_read groups (length groups) c.loop-place.place names refl c.loop-place-test.true c.index-groups-place.is in
-    let found = subst (λ rows. IsLeastOfGroup c.args.order now c.loop-place.place rows c.least_in.result) c.rows.ensures c.least_in.ensures in
-    subst (IsLeastOfGroups c.args.order now (take (c.loop-place.place + 1) groups)) (sym c.lesser-least.ensures)
-    (groups_step c.args.order now groups c.loop-place.place names c.loop-place.least c.least_in.result there c.loop-place.invariant found)
-
-pub returns : goal.returns
-returns c =
-    subst (λ gs. IsLeastOfGroups c.args.order (moment_of c.args.now) gs c.loop-place.least)
-    (take_all c.loop-place.place c.args.groups.now c.loop-place-test.false) c.loop-place.invariant
+    let paths = c.args.paths.now in
+    let groups = map (λ p. stored_items p.1.1) paths in
+    let n = c.loop-path.path in
+    elim c.match-at.branch [
+      | in-Some w ↦
+          let names = w.in-Some.names.now in
+          subst (IsLeastOfGroups order now (take (n + 1) groups)) (sym (w.least-is ∙ w.lesser-least.ensures))
+          (groups_step order now groups n (stored_items names) c.loop-path.least w.least_in.result (names_there paths n names w.in-Some.ensures.names) c.loop-path.invariant w.least_in.ensures)
+      | in_default w ↦
+          absurd (omega (arith, none_past (map (λ p. p.1.1) paths) n w.in_default.ensures.names, length-map paths (λ p. p.1.1), c.len-path-end.ensures.stored, c.loop-path-test.true))
+    ]

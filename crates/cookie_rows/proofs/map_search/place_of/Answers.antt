@@ -1,4 +1,4 @@
-use Rattle.cookie_rows.proofs.PlacedDomains.{no_place_at, place_at}
+use Rattle.cookie_rows.proofs.StoredPositions.{no_place_at, place_at}
 use Rattle.cookie_rows.proofs.map_search.place_of.Goals as goal
 
 pub returns-in-Some : goal.returns-in-Some

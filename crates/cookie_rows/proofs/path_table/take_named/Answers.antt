@@ -1,35 +1,34 @@
 use Rattle.std.proofs.Common.{◌∙◌, sym, ap}
-use Rattle.std.specs.Map.{set_value}
-use Rattle.cookie_rows.specs.GroupChanges.{texts_of, is_empty_at, row_named}
+use Rattle.ordered_map.specs.Entries.{entries, in_order}
+use Rattle.cookie_rows.specs.GroupChanges.{texts_by, is_empty_at, row_named}
 use Rattle.cookie_rows.specs.Items.{remove_item, rows_of}
-use Rattle.cookie_rows.proofs.Maps.{at_text, changed_set, changed_none, found_some, found_none, empty_set, empty_none}
+use Rattle.cookie_rows.specs.Stored.{paths_in}
+use Rattle.cookie_rows.proofs.Maps.{changed_set, changed_none, found_some, found_none, empty_set, empty_none}
+use Rattle.cookie_rows.proofs.Results.{known_some}
 use Rattle.cookie_rows.proofs.path_table.take_named.Goals as goal
 
 pub returns-in-Some-clause-value : goal.returns-in-Some-clause-value
 returns-in-Some-clause-value c =
-    c.remove-row.ensures.value ∙ found_some (λ items. row_named c.args.name.now (rows_of items)) c.args.path.now c.args.groups.now.entries c.in-Some.group.now c.in-Some.ensures.value
+    c.remove-row.ensures.value ∙ found_some in_order (λ items. row_named c.args.name.now (rows_of items)) c.args.path.now (entries c.args.groups.now) c.in-Some.group.now c.in-Some.ensures.value
 
 pub returns-in-Some-clause-groups : goal.returns-in-Some-clause-groups
 returns-in-Some-clause-groups c =
-    let es = c.args.groups.now.entries in
-    ap texts_of (c.get_mut.follows.holds c.remove-row.new.self).0
-    ∙ ap (λ v. texts_of (set_value (at_text c.args.path.now) es v)) c.remove-row.ensures.removed
-    ∙ changed_set (remove_item c.args.name.now) c.args.path.now es c.in-Some.group.now c.in-Some.ensures.value
+    ap (texts_by in_order) (known_some c.get_mut.result c.in-Some.is (c.get_mut.follows.holds c.remove-row.new.self)).written
+    ∙ changed_set in_order (remove_item c.args.name.now) c.args.path.now (entries c.args.groups.now) c.in-Some.group.now c.remove-row.new.self c.in-Some.ensures.value c.remove-row.ensures.removed
 
 pub returns-in-Some-clause-is_empty : goal.returns-in-Some-clause-is_empty
 returns-in-Some-clause-is_empty c =
-    let es = c.args.groups.now.entries in
     c.is_empty.ensures
-    ∙ empty_set c.args.path.now es c.in-Some.group.now c.remove-row.new.self c.in-Some.ensures.value
-    ∙ ap (λ fs. is_empty_at c.args.path.now (texts_of fs)) (sym (c.get_mut.follows.holds c.remove-row.new.self).0)
+    ∙ empty_set in_order c.args.path.now (entries c.args.groups.now) c.in-Some.group.now c.remove-row.new.self c.in-Some.ensures.value
+    ∙ ap (λ fs. is_empty_at c.args.path.now (texts_by in_order fs)) (sym (known_some c.get_mut.result c.in-Some.is (c.get_mut.follows.holds c.remove-row.new.self)).written)
 
 pub returns-in-None-clause-value : goal.returns-in-None-clause-value
-returns-in-None-clause-value c = found_none (λ items. row_named c.args.name.now (rows_of items)) c.args.path.now c.args.groups.now.entries c.in-None.ensures.value
+returns-in-None-clause-value c = found_none in_order (λ items. row_named c.args.name.now (rows_of items)) c.args.path.now (entries c.args.groups.now) c.in-None.ensures.value
 
 pub returns-in-None-clause-groups : goal.returns-in-None-clause-groups
 returns-in-None-clause-groups c =
-    ap (λ m. texts_of m.entries) c.get_mut.follows.holds-at-none ∙ changed_none (remove_item c.args.name.now) c.args.path.now c.args.groups.now.entries c.in-None.ensures.value
+    ap paths_in c.get_mut.follows.holds-at-none ∙ changed_none in_order (remove_item c.args.name.now) c.args.path.now (entries c.args.groups.now) c.in-None.ensures.value
 
 pub returns-in-None-clause-is_empty : goal.returns-in-None-clause-is_empty
 returns-in-None-clause-is_empty c =
-    empty_none c.args.path.now c.args.groups.now.entries c.in-None.ensures.value ∙ ap (λ m. is_empty_at c.args.path.now (texts_of m.entries)) (sym c.get_mut.follows.holds-at-none)
+    empty_none in_order c.args.path.now (entries c.args.groups.now) c.in-None.ensures.value ∙ ap (λ m. is_empty_at c.args.path.now (paths_in m)) (sym c.get_mut.follows.holds-at-none)

@@ -1,6 +1,6 @@
 use Rattle.std.proofs.Common.{vec_capacity, vec_len, ℕ, List, length, sym, ap, subst, ◌∙◌, arith}
 use Rattle.indexmap.specs.IndexMap.{hasher_of, spare}
-use Rattle.ordered_map.specs.Layout.{entries_of, IsStored}
+use Rattle.ordered_map.specs.Layout.{IsStored}
 use Rattle.ordered_map.proofs.ClosedViews.{closed_entries, closed_length, closed_stored, step_entry, step_gap}
 use Rattle.ordered_map.proofs.gaps.close_gaps.Goals as goal
 use Rattle.ordered_map.proofs.gaps.close_gaps.Goals.{in-Some, in_default}
@@ -36,8 +36,7 @@ returns-clause-stored g c =
 
 pub returns-clause-entries : goal.returns-clause-entries
 returns-clause-entries g c =
-    ap (entries_of c.loop-place.entries.entries) c.truncate.ensures.items
-    ∙ closed_entries c.args.entries.now.entries c.args.order.now.items c.requires c.loop-place.entries.entries c.loop-place.order.items c.loop-place.next_place c.loop-place.place c.loop-place.invariant.closing (omega (arith, c.loop-place.invariant.end))
+    closed_entries c.args.entries.now.entries c.args.order.now.items c.requires c.loop-place.entries.entries c.loop-place.order.items c.loop-place.next_place c.loop-place.place c.loop-place.invariant.closing (omega (arith, c.loop-place.invariant.end))
 
 pub returns-clause-closed : goal.returns-clause-closed
 returns-clause-closed g c =

@@ -1,21 +1,30 @@
-use Rattle.std.proofs.Common.{◌<◌, ◌≤◌, ◌∙◌, ap, arith, length, refl, sym}
-use Rattle.std.specs.Prelude.{slice_get}
-use Rattle.std.proofs.lemmas.Bool.Decides.{nat_tests}
-use Rattle.std.proofs.lemmas.Option.{slice_get_past, slice_get_read}
-use Rattle.cookie_rows.specs.HeaderItems.{items_in}
-use Rattle.cookie_rows.proofs.Places.{items_under}
+use Rattle.std.proofs.Common.{◌∙◌, ap, map, sym}
+use Rattle.std.specs.Prelude.{option_map, slice_get, string_bytes}
+use Rattle.std.proofs.lemmas.Option.{slice_get-map}
+use Rattle.std.proofs.lemmas.Simd.{map-map}
+use Rattle.cookie_rows.specs.PathMaps.{stored_groups}
+use Rattle.cookie_rows.proofs.StoredAt.{place_there}
 use Rattle.cookie_rows.proofs.paths.Paths.at.Goals as goal
 
-pub returns-in-Some : goal.returns-in-Some
-returns-in-Some c =
-    let groups = c.groups.result.now in
-    let within : c.args.place < length groups = grind (arith, nat_tests, c.in-Some.ensures.lookup.0) in
-    let there = slice_get_read groups (length groups) c.args.place c.in-Some.names.now refl within c.in-Some.ensures.lookup.1 in
-    ap (λ o. items_in o) (sym there ∙ ap (λ xs. slice_get xs c.args.place) c.groups.ensures) ∙ items_under c.args.self.now c.args.place
+pub returns-in-Table-clause-place : goal.returns-in-Table-clause-place
+returns-in-Table-clause-place c =
+    let at = c.args.position in
+    c.at.ensures.place ∙ ap (λ m. option_map (λ p. p.0) (slice_get m.by_position at)) c.deref.ensures
+    ∙ place_there (λ e. (string_bytes e.0, e.1)) c.in-Table.groups.value.by_position at
+    ∙ ap (λ s. slice_get (map (λ p. p.0) s) at) (ap stored_groups (sym c.in-Table.is) ∙ c.self.view_is)
 
-pub returns-in-None : goal.returns-in-None
-returns-in-None c =
-    let groups = c.groups.result.now in
-    let past : length groups ≤ c.args.place = grind (arith, nat_tests, c.in-None.ensures.lookup.0) in
-    ap (λ o. items_in o) (sym (slice_get_past groups c.args.place past) ∙ ap (λ xs. slice_get xs c.args.place) c.groups.ensures)
-    ∙ items_under c.args.self.now c.args.place
+pub returns-in-Table-clause-path : goal.returns-in-Table-clause-path
+returns-in-Table-clause-path c =
+    let at = c.args.position in
+    let ps = c.in-Table.groups.value.by_position in
+    c.at.ensures.key ∙ ap (λ m. option_map (λ p. string_bytes p.1.0) (slice_get m.by_position at)) c.deref.ensures
+    ∙ sym (slice_get-map (λ p. string_bytes p.1.0) ps at) ∙ ap (λ ts. slice_get ts at) (sym (map-map (λ p. p.1.0) (λ e. (e.0, (string_bytes e.1.0, e.1.1))) ps))
+    ∙ ap (λ s. slice_get (map (λ p. p.1.0) s) at) (ap stored_groups (sym c.in-Table.is) ∙ c.self.view_is)
+
+pub returns-in-Table-clause-names : goal.returns-in-Table-clause-names
+returns-in-Table-clause-names c =
+    let at = c.args.position in
+    let ps = c.in-Table.groups.value.by_position in
+    c.at.ensures.value ∙ ap (λ m. option_map (λ p. p.1.1) (slice_get m.by_position at)) c.deref.ensures
+    ∙ sym (slice_get-map (λ p. p.1.1) ps at) ∙ ap (λ vs. slice_get vs at) (sym (map-map (λ p. p.1.1) (λ e. (e.0, (string_bytes e.1.0, e.1.1))) ps))
+    ∙ ap (λ s. slice_get (map (λ p. p.1.1) s) at) (ap stored_groups (sym c.in-Table.is) ∙ c.self.view_is)

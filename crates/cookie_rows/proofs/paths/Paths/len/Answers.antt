@@ -1,20 +1,18 @@
-use Rattle.std.proofs.Common.{◌≡◌, ◌∙◌, ap, arith, length, refl, Some}
-use Rattle.std.specs.Prelude.{slice_get}
-use Rattle.std.proofs.lemmas.List.{take_all}
-use Rattle.std.proofs.lemmas.Option.{slice_get_read}
-use Rattle.cookie_rows.specs.Items.{joined}
-use Rattle.cookie_rows.proofs.RowCounts.{count_joined, count_so_far}
+use Rattle.std.proofs.Common.{◌∙◌, ap, length, sym}
+use Rattle.std.specs.Prelude.{string_bytes}
+use Rattle.std.proofs.lemmas.List.{length-map}
+use Rattle.ordered_map.specs.Entries.{entries, in_order}
+use Rattle.cookie_rows.specs.declared.paths.PathMap.TheVariants as Groups
+use Rattle.cookie_rows.proofs.StoredOrder.{in_order_length, shown_groups}
 use Rattle.cookie_rows.proofs.paths.Paths.len.Goals as goal
 
-pub overflow_add-count : goal.overflow_add-count
-overflow_add-count c =
-    let groups = c.groups-groups.result.now in
-    let names = c.names-item.result in
-    let there : slice_get groups c.loop-names.names-index ≡ Some names = slice_get_read groups (length groups) c.loop-names.names-index names refl c.loop-names-test.true c.names-item.is in
-    omega (arith, c.loop-names.invariant, count_so_far groups c.loop-names.names-index names there, ap length c.rows.ensures, ap (λ gs. length (joined gs)) c.groups-groups.ensures, count_joined c.args.self.now, c.requires.few)
+pub returns-in-Table-clause-in_order : goal.returns-in-Table-clause-in_order
+returns-in-Table-clause-in_order c =
+    c.len.ensures.len ∙ ap (λ m. length (entries m)) c.deref.ensures
+    ∙ sym (length-map (entries c.in-Table.groups.value) (λ e. (string_bytes e.0, in_order e.1)))
+    ∙ ap length (shown_groups c.self.inside.groups (Groups.Table c.in-Table.groups) c.args.self.now c.in-Table.is c.self.view_is)
 
-pub returns : goal.returns
-returns c =
-    c.loop-names.invariant
-    ∙ ap (λ gs. length (joined gs)) (take_all c.loop-names.names-index c.groups-groups.result.now c.loop-names-test.false ∙ c.groups-groups.ensures)
-    ∙ count_joined c.args.self.now
+pub returns-in-Table-clause-stored : goal.returns-in-Table-clause-stored
+returns-in-Table-clause-stored c =
+    let now = c.args.self.now in
+    returns-in-Table-clause-in_order c ∙ length-map (in_order now) (λ p. (p.0, in_order p.1)) ∙ in_order_length now

@@ -1,20 +1,26 @@
-use Rattle.std.proofs.Common.{◌≡◌, ◌∙◌, ◌∷◌, ◌++◌, [], ap, map, refl}
+use Rattle.std.proofs.Common.{◌∙◌, List, ap, append-nil, append_assoc, map, sym, ◌++◌}
 use Rattle.std.specs.List.{flat_map}
-use Rattle.std.proofs.lemmas.List.{take_all}
-use Rattle.cookie_words.specs.Moments.{Moment, moment_of}
-use Rattle.cookie_rows.specs.Items.{ItemPaths}
-use Rattle.cookie_rows.specs.Eviction.{rank_of, ranks_of}
-use Rattle.cookie_rows.specs.declared.eviction_order.EvictionOrder.{EvictionOrder}
+use Rattle.ordered_map.specs.Entries.{in_order}
+use Rattle.cookie_words.specs.Moments.{moment_of}
+use Rattle.cookie_rows.specs.Eviction.{EvictionRank, rank_of}
+use Rattle.cookie_rows.specs.Stored.{StoredItems}
+use Rattle.cookie_rows.proofs.StoredPaths.{each_path}
 use Rattle.cookie_rows.proofs.paths.Paths.ranks.Goals as goal
 
--- the ranks of groups without their paths
-without_paths : (order : EvictionOrder) (now : Moment) (ps : ItemPaths) → flat_map (map (rank_of order now)) (map (λ p. p.1) ps) ≡ ranks_of order now ps
-without_paths order now [] = refl
-without_paths order now (p ∷ ps) = ap (λ ts. map (rank_of order now) p.1 ++ ts) (without_paths order now ps)
+pub loop-names-preserved : goal.loop-names-preserved
+loop-names-preserved c =
+    let ranks : StoredItems → List EvictionRank = λ items. map (rank_of c.args.order (moment_of c.args.now)) (in_order items) in
+    let before = c.loop-names.ranks.items in
+    record {
+      pushed = ap (λ ts. ts ++ flat_map ranks c.next.new.self) c.in_ok-push_ranks.ensures
+          ∙ append_assoc before (ranks c.in-Some.names.now) (flat_map ranks c.next.new.self)
+          ∙ ap (λ gs. before ++ flat_map ranks gs) (sym c.in-Some.ensures.steps) ∙ c.loop-names.invariant.pushed;
+    }
 
 pub returns : goal.returns
 returns c =
-    let now = moment_of c.args.now in
-    c.loop-names.invariant
-    ∙ ap (flat_map (map (rank_of c.args.order now))) (take_all c.loop-names.names-index c.groups-groups.result.now c.loop-names-test.false ∙ c.groups-groups.ensures)
-    ∙ without_paths c.args.order now c.args.self.now
+    let rank = rank_of c.args.order (moment_of c.args.now) in
+    let ranks : StoredItems → List EvictionRank = λ items. map rank (in_order items) in
+    let pushed = c.loop-names.ranks.items in
+    sym (append-nil pushed) ∙ ap (λ gs. pushed ++ flat_map ranks gs) (sym c.in-None.ensures.steps.0) ∙ c.loop-names.invariant.pushed
+    ∙ ap (flat_map ranks) (c.into_iter-names-iterator.ensures.into_iter_gives ∙ c.groups-names-items.ensures) ∙ each_path (map rank) (in_order c.args.self.now)

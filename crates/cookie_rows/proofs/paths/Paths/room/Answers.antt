@@ -1,23 +1,26 @@
-use Rattle.std.proofs.Common.{◌≡◌, ◌<◌, ◌≤◌, ◌∙◌, ap, arith, length, refl, Some}
-use Rattle.std.specs.Prelude.{slice_get}
-use Rattle.std.proofs.lemmas.List.{take_all}
-use Rattle.std.proofs.lemmas.Option.{slice_get_read}
-use Rattle.cookie_rows.specs.Items.{joined}
+use Rattle.std.proofs.Common.{◌<◌, ◌≤◌, ◌∙◌, ap, arith, length, length-append}
+use Rattle.std.specs.List.{flat_map}
+use Rattle.ordered_map.specs.Entries.{in_order}
+use Rattle.cookie_lookup.specs.Positions.{paths_in_order}
 use Rattle.cookie_rows.specs.Least.{items_in_paths}
-use Rattle.cookie_rows.proofs.RowCounts.{count_joined, count_so_far}
+use Rattle.cookie_rows.proofs.StoredPaths.{each_path}
 use Rattle.cookie_rows.proofs.paths.Paths.room.Goals as goal
+
+pub loop-names-preserved : goal.loop-names-preserved
+loop-names-preserved c =
+    let next = ap (λ gs. length (flat_map in_order gs)) c.in-Some.ensures.steps ∙ length-append (in_order c.in-Some.names.now) (flat_map in_order c.next.new.self) in
+    record { room = omega (arith, next, c.loop-names.invariant.room, c.len.ensures.in_order, c.in_ok-room.ensures) }
 
 pub returns-in_err-room-clause-none : goal.returns-in_err-room-clause-none
 returns-in_err-room-clause-none c =
-    let groups = c.groups-groups.result.now in
-    let names = c.names-item.result in
-    let there : slice_get groups c.loop-names.names-index ≡ Some names = slice_get_read groups (length groups) c.loop-names.names-index names refl c.loop-names-test.true c.names-item.is in
-    let more = λ (less : length c.rows.result.now ≤ c.loop-names.room). c.in_err-room.ensures less in
-    let past : c.args.limit < length (items_in_paths c.args.self.now)
-    = omega (arith, more, c.loop-names.invariant, count_so_far groups c.loop-names.names-index names there, ap length c.rows.ensures, ap (λ gs. length (joined gs)) c.groups-groups.ensures, count_joined c.args.self.now) in
+    let more = λ (less : c.len.result ≤ c.loop-names.room). c.in_err-room.ensures less in
+    let next = ap (λ gs. length (flat_map in_order gs)) c.in-Some.ensures.steps ∙ length-append (in_order c.in-Some.names.now) (flat_map in_order c.next.new.self) in
+    let all = ap (λ gs. length (flat_map in_order gs)) (c.into_iter-names-iterator.ensures.into_iter_gives ∙ c.groups-names-items.ensures) ∙ ap length (each_path (λ xs. xs) (in_order c.args.self.now)) in
+    let past : c.args.limit < length (items_in_paths (paths_in_order c.args.self.now)) = omega (arith, more, next, all, c.loop-names.invariant.room, c.len.ensures.in_order) in
     rw c.from_residual.ensures past
 
 pub returns-clause-room : goal.returns-clause-room
 returns-clause-room c =
-    let all = ap (λ gs. length (joined gs)) (take_all c.loop-names.names-index c.groups-groups.result.now c.loop-names-test.false ∙ c.groups-groups.ensures) in
-    omega (arith, all, count_joined c.args.self.now, c.loop-names.invariant)
+    let none = ap (λ gs. length (flat_map in_order gs)) c.in-None.ensures.steps.0 in
+    let all = ap (λ gs. length (flat_map in_order gs)) (c.into_iter-names-iterator.ensures.into_iter_gives ∙ c.groups-names-items.ensures) ∙ ap length (each_path (λ xs. xs) (in_order c.args.self.now)) in
+    omega (arith, none, all, c.loop-names.invariant.room)

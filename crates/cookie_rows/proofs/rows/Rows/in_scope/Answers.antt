@@ -1,7 +1,6 @@
 use Rattle.std.proofs.Common.{◌∙◌, ap, List, ℕ}
-use Rattle.ordered_map.specs.Entries.{entries}
 use Rattle.cookie_laws.specs.Rows.{RowsInOrder, key_at, row_of}
-use Rattle.cookie_rows.specs.GroupChanges.{texts_of}
+use Rattle.cookie_rows.specs.Stored.{domains_in}
 use Rattle.cookie_rows.proofs.AreItems.{found_items}
 use Rattle.cookie_rows.proofs.rows.Rows.in_scope.Goals as goal
 
@@ -11,7 +10,7 @@ returns-clause-row c =
     let name = c.args.name.now in
     let rows = c.args.self.now.rows in
     let key = key_at c.domain.result.now c.path.result.now name in
-    c.find_row.ensures ∙ found_items c.self.inside.created (texts_of (entries c.self.inside.groups)) c.self.invariant.0 key
+    c.find_row.ensures ∙ found_items c.self.inside.created (domains_in c.self.inside.groups) c.self.invariant.0 key
     ∙ ap (λ (kept : RowsInOrder). row_of key kept.rows) c.self.view_is
     ∙ ap (λ (domain : List ℕ). row_of (key_at domain c.path.result.now name) rows) c.domain.ensures
     ∙ ap (λ (path : List ℕ). row_of (key_at scope.domain path name) rows) c.path.ensures

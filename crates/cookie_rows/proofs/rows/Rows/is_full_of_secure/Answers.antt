@@ -1,6 +1,5 @@
 use Rattle.std.proofs.Common.{ap, ◌∙◌}
 use Rattle.std.specs.Prelude.{nat_le, None, Some}
-use Rattle.ordered_map.specs.Entries.{entries}
 use Rattle.cookie_words.specs.Moments.{moment_of}
 use Rattle.cookie_parts.specs.Cookie.{Row}
 use Rattle.cookie_parts.specs.Domain.{domain_text}
@@ -8,13 +7,13 @@ use Rattle.cookie_laws.specs.Contents.{contents_of}
 use Rattle.cookie_laws.specs.Rows.{RowsInOrder, key_of}
 use Rattle.cookie_laws.specs.SecureLast.{is_full_of_secure}
 use Rattle.cookie_rows.specs.Eviction.{count_secure, paths_of}
-use Rattle.cookie_rows.specs.GroupChanges.{texts_of}
+use Rattle.cookie_rows.specs.Stored.{domains_in}
 use Rattle.cookie_rows.proofs.SecureRows.{secure_counted}
 use Rattle.cookie_rows.proofs.rows.Rows.is_full_of_secure.Goals as goal
 
 pub returns-in-Some : goal.returns-in-Some
 returns-in-Some c =
-    let gs = texts_of (entries c.self.inside.groups) in
+    let gs = domains_in c.self.inside.groups in
     let now = moment_of c.args.now in
     let key = key_of c.args.cookie.now in
     let limit = c.in-Some.limit in

@@ -1,8 +1,9 @@
-use Rattle.std.proofs.Common.{refl, sym, subst, ◌∙◌, arith}
+use Rattle.std.proofs.Common.{refl, ap, sym, subst, ◌∙◌, arith}
 use Rattle.std.specs.Map.Calls.{CallableOnEachPair, CalledAtPair, RetainsPairs, TakesPair}
-use Rattle.ordered_map.specs.Entries.{entries}
-use Rattle.ordered_map.specs.Layout.{entries_of}
+use Rattle.ordered_map.specs.Entries.{entries, in_order}
+use Rattle.ordered_map.specs.Layout.{by_position}
 use Rattle.ordered_map.proofs.RetainedViews.{so_far_all, so_far_callable, so_far_more, so_far_none}
+use Rattle.ordered_map.proofs.Views.{sorted}
 use Rattle.ordered_map.proofs.map.OrderedMap.retain.Goals as goal
 
 pub loop-place-init : goal.loop-place-init
@@ -21,7 +22,7 @@ pub retain_place-requires-clause-callable : goal.retain_place-requires-clause-ca
 retain_place-requires-clause-callable g c =
     so_far_callable (CalledAtPair g.F.FnMut) (TakesPair g.F.FnMut) c.args.keep c.loop-place.keep _ c.loop-place.self-inside.entries.entries c.loop-place.self-inside.order.items c.loop-place.place c.loop-place.invariant.so_far
     (omega (arith, c.loop-place.invariant.end, c.loop-place.invariant.places))
-    (subst (λ m. CallableOnEachPair (CalledAtPair g.F.FnMut) (TakesPair g.F.FnMut) c.args.keep (entries m)) (sym c.self.view_is) c.requires)
+    (subst (CallableOnEachPair (CalledAtPair g.F.FnMut) (TakesPair g.F.FnMut) c.args.keep) (sym (sorted _ _ c.self.invariant.stored ∙ ap entries c.self.view_is)) c.requires)
 
 pub loop-place-preserved : goal.loop-place-preserved
 loop-place-preserved g c = record {
@@ -38,6 +39,7 @@ loop-place-preserved g c = record {
 
 pub returns-clause-retained : goal.returns-clause-retained
 returns-clause-retained g c =
-    let kept = so_far_all (CalledAtPair g.F.FnMut) c.args.keep c.loop-place.keep _ c.loop-place.self-inside.entries.entries c.loop-place.self-inside.order.items c.loop-place.place c.loop-place.invariant.so_far (omega (arith, c.loop-place.invariant.end, c.loop-place.invariant.places)) in
-    subst (λ m. RetainsPairs (CalledAtPair g.F.FnMut) c.args.keep (entries m) (entries_of c.close_many_gaps.new.entries.entries c.close_many_gaps.new.order.items)) c.self.view_is
-    (subst (RetainsPairs (CalledAtPair g.F.FnMut) c.args.keep (entries_of c.self.inside.entries.entries c.self.inside.order.items)) (sym c.close_many_gaps.ensures.entries) kept)
+    let own = c.self.inside in
+    let kept = so_far_all (CalledAtPair g.F.FnMut) c.args.keep c.loop-place.keep _ c.loop-place.self-inside.entries.entries c.loop-place.self-inside.order.items c.loop-place.place c.loop-place.invariant.stored c.loop-place.invariant.so_far (omega (arith, c.loop-place.invariant.end, c.loop-place.invariant.places)) in
+    subst (RetainsPairs (CalledAtPair g.F.FnMut) c.args.keep (entries c.args.self.now)) (sym c.close_many_gaps.ensures.entries)
+    (subst (λ l. RetainsPairs (CalledAtPair g.F.FnMut) c.args.keep l (in_order (by_position c.loop-place.self-inside.entries.entries))) (sorted own.entries.entries own.order.items c.self.invariant.stored ∙ ap entries c.self.view_is) kept)
