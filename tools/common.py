@@ -35,6 +35,11 @@ def read(path):
         return file.read()
 
 
+def first_match(pattern, text, flags=0):
+    """The first match of a pattern that the text must have."""
+    return re.search(pattern, text, flags) or stop(f'no match of {pattern}')
+
+
 def write(path, text):
     with open(path, 'w', encoding='utf-8') as file:
         file.write(text)
@@ -42,7 +47,7 @@ def write(path, text):
 
 def anchors(text):
     """The anchors that Markdown gives the headings of a document, in their order."""
-    known = {}
+    known: dict[str, int] = {}
     for heading in re.findall(r'^#+ (.*)', re.sub(r'^ *```.*?^ *```$', '', text, flags=re.M | re.S), re.M):
         heading = re.sub(r'\[([^\]]*)\]\([^)]*\)', r'\1', heading)
         name = re.sub(r'[^\w -]', '', heading.lower()).replace(' ', '-')
@@ -57,7 +62,7 @@ def crates():
 
 def line_of(crate):
     """The line of crates.txt that names a crate."""
-    return re.search(rf'^{crate}\b.*', read(f'{ROOT}/crates.txt'), re.M)[0]
+    return first_match(rf'^{crate}\b.*', read(f'{ROOT}/crates.txt'), re.M)[0]
 
 
 def below(crate):

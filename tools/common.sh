@@ -58,6 +58,15 @@ report() {
     [ "$failed" = 0 ]
 }
 
+# Prints the commit's tree and the toolchain. Fails if a file is not as in the commit.
+identity() {
+    local tree
+    tree=$(git rev-parse 'HEAD^{tree}') && [ -z "$(git status --porcelain)" ] && echo "$tree $(rt version)"
+}
+
+# exported LIBRARY: prints the symbols that a shared library exports, with their version, one a line.
+exported() { nm -D --defined-only --with-symbol-versions "$1" | awk '$2 != "A" { print $3 }' | LC_ALL=C sort; }
+
 # Prints the names in crates.txt, lowest first.
 crates() { sed 's/#.*//; s/[ :].*//; /^$/d' crates.txt; }
 
@@ -78,9 +87,8 @@ copy_sources() {
 # with_compiler FUNCTION: calls FUNCTION COMPILER.. with a C compiler of the machine, and if that fails with the toolchain's,
 # which has no C library.
 with_compiler() {
-    local own
-    own=$(dirname "$(rt doc)")/toolchain/bin/clang
-    { "$1" clang || "$1" cc || "$1" "$own" -fuse-ld=lld -nostdlib; } > "$temp/log" 2>&1 || stop "no C compiler succeeds" "$temp/log"
+    { "$1" clang || "$1" cc || "$1" "$(dirname "$(rt doc)")/toolchain/bin/clang" -fuse-ld=lld -nostdlib; } > "$temp/log" 2>&1 ||
+        stop 'no C compiler succeeds' "$temp/log"
 }
 
 # compile_fail_allocation COMPILER..: compiles tools/fail_allocation.c into $temp/fail_allocation.so.

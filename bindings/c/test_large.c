@@ -1,13 +1,16 @@
 /* Calls each function of cookie_store.h once with large input and compares what it returns and writes: a value of 4 KB, a URL
    of 3 KB, a header of 100 KB, the longest values of a strict store, 60 cookies for a request, 6,000 cookies, lists of 400 KB
-   and more, a file of 2 MB with 5,000 lines. Failures are reported on standard error. The last line is 'test_large: N passed, M
-   failed'. */
+   and more, a file of 2 MB with 5,000 lines, lists nested a million deep. The calls may use STACK bytes of the stack, and NESTED
+   for the last of these. Failures are reported on standard error. The last line is 'test_large: N passed, M failed'. */
+#define _XOPEN_SOURCE 600 /* pthread_attr_setstack */
 #include "test.h"
+#include <pthread.h>
 #include <stdarg.h>
 
 enum {
     VALUE = 4096, PAIR = 4096, ATTRIBUTE = 1024, URL = 3072, HEADER = 100 << 10, REQUEST = 60, HOSTS = 100,
-    STORED = HOSTS * REQUEST, RULES = 30000, LINES = 5000, LINE_VALUE = 400, EACH_MALFORMED = 10, KEY = 1 << 20, ROOM = 4 << 20
+    STORED = HOSTS * REQUEST, RULES = 30000, LINES = 5000, LINE_VALUE = 400, EACH_MALFORMED = 10, KEY = 1 << 20, ROOM = 4 << 20,
+    DEEP = 1 << 20, STACK = 40 << 10, NESTED = 144 << 10, PAINTED = 1 << 20, PAINT = 0xa5
 };
 
 static char out[ROOM], wanted[ROOM], input[ROOM];
@@ -384,7 +387,30 @@ static void test_malformed(void) {
     cookie_store_free(&store);
 }
 
-int main(void) {
+/* What opens a list or a value again and again is not a list of cookies. */
+static void *test_nested(void *unused) {
+    static const struct {
+        const char *name, *before, *each;
+        enum cookie_store_format format;
+        enum cookie_store_status status;
+    } cases[] = {
+        {"nested lists in JSON", "", "[", COOKIE_STORE_JSON, COOKIE_STORE_BAD_JSON},
+        {"nested objects in JSON", "[", "{\"a\":", COOKIE_STORE_JSON, COOKIE_STORE_BAD_JSON},
+        {"nested lists in RON", "", "[", COOKIE_STORE_RON, COOKIE_STORE_BAD_RON},
+        {"nested structs in RON", "[", "(a:", COOKIE_STORE_RON, COOKIE_STORE_BAD_RON},
+    };
+    for (size_t at = 0; at < sizeof cases / sizeof *cases; at++) {
+        cookie_store store = COOKIE_STORE_INIT;
+        input_len = 0;
+        append(input, &input_len, "%s", cases[at].before);
+        while (input_len < DEEP) append(input, &input_len, "%s", cases[at].each);
+        equal(cases[at].name, load_input(&store, cases[at].format, COOKIE_STORE_ALL), cases[at].status);
+        cookie_store_free(&store);
+    }
+    return unused;
+}
+
+static void *run_tests(void *unused) {
     test_long_strings();
     test_strict();
     test_request();
@@ -394,5 +420,25 @@ int main(void) {
     test_lists();
     test_netscape();
     test_malformed();
+    return unused;
+}
+
+/* The tests use at most `most` bytes of a stack: what is above the paint that is left. */
+static void uses_stack(const char *name, void *(*tests)(void *), size_t most) {
+    static _Alignas(4096) unsigned char stack[PAINTED];
+    size_t painted = 0;
+    pthread_attr_t attributes;
+    pthread_t thread;
+    memset(stack, PAINT, sizeof stack);
+    equal("a stack", pthread_attr_init(&attributes) || pthread_attr_setstack(&attributes, stack, sizeof stack), 0);
+    equal("a thread", pthread_create(&thread, &attributes, tests, NULL) || pthread_join(thread, NULL), 0);
+    while (painted < sizeof stack && stack[painted] == PAINT) painted++;
+    printf("%s: %zu bytes of stack\n", name, sizeof stack - painted);
+    equal(name, sizeof stack - painted <= most, true);
+}
+
+int main(void) {
+    uses_stack("calls with large input", run_tests, STACK);
+    uses_stack("nested lists", test_nested, NESTED);
     return report("test_large");
 }

@@ -52,11 +52,11 @@ def in_repository():
 
 
 def metadata():
-    """Return the version, that of tools/install, and the file METADATA."""
+    """Return the version and the file METADATA."""
     if not in_repository():
         text = read(HERE, 'PKG-INFO')
         return re.search(rb'^Version: (\S+)', text, re.M)[1].decode(), text
-    version = re.search(rb'^version=(\S+)', read(ROOT, 'tools', 'install'), re.M)[1].decode()
+    version = read(ROOT, 'VERSION').decode().strip()
     return version, METADATA.format(version=version, description=read(HERE, 'README.md').decode()).encode()
 
 

@@ -97,5 +97,6 @@ def run(options):
         for shape in SHAPES:
             paths = [found[names[shape, way]] for way in WAYS]
             counts, times = [instructions([path]) / REPEATS for path in paths], [microseconds(path) for path in paths]
-            print(f'{shape}: {counts[0]:,.0f} instructions and {times[0]:.2f} us by hand, {counts[1]:,.0f} and {times[1]:.2f} us by cookie_header;'
+            print(f'{shape}: {counts[0]:,.0f} instructions and {times[0]:.2f} us by hand,'
+                  f' {counts[1]:,.0f} and {times[1]:.2f} us by cookie_header;'
                   f' {counts[1] / counts[0]:.2f} and {times[1] / times[0]:.2f} times that')

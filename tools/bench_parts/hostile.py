@@ -201,7 +201,7 @@ def colliding(program, least=100):
 
 def grow(meter, programs, family):
     """The seconds at n, 4n and 16n by program name: fewer if the next may take longer than PATIENCE."""
-    took = {program.name: [] for program in programs}
+    took: dict[str, list[float]] = {program.name: [] for program in programs}
     for size in family.sizes():
         patient = [program for program in programs if 16 * max(took[program.name], default=0) < PATIENCE]
         for name, seconds in meter.time(patient, family.task(size), TARGET).items():

@@ -23,7 +23,7 @@ def main():
         word, rest = line.rstrip('\n').split(' ', 1)
         if word == 'set':
             url, header = rest.split(' ', 1)
-            jar.extract_cookies(Response([header]), urllib.request.Request(url))
+            jar.extract_cookies(Response([header]), urllib.request.Request(url))  # type: ignore[arg-type]
         elif word == 'get':
             request = urllib.request.Request(rest)
             jar.add_cookie_header(request)

@@ -1,6 +1,5 @@
 """Measures programs that run a script: processor time, peak memory, instructions, cookies given."""
 import os
-import re
 import shutil
 import subprocess
 import tempfile
@@ -8,7 +7,7 @@ from contextlib import contextmanager
 from dataclasses import dataclass
 from typing import Callable
 
-from common import processor_seconds, stop
+from common import first_match, processor_seconds, stop
 
 GNU_TIME = '/usr/bin/time'
 RUNS = 5
@@ -49,7 +48,7 @@ def instructions(command, **options):
     """The instructions of one run of a command, by callgrind."""
     done = subprocess.run(['valgrind', '--tool=callgrind', '--callgrind-out-file=/dev/null', *command],
                           stdout=subprocess.DEVNULL, stderr=subprocess.PIPE, check=True, **options)
-    return int(re.search(rb'Collected : (\d+)', done.stderr)[1])
+    return int(first_match(rb'Collected : (\d+)', done.stderr)[1])
 
 
 class Series:
@@ -57,11 +56,12 @@ class Series:
 
     def __init__(self, program, task, count, paths):
         self.program, self.task, self.count, self.paths = program, task, count, paths
-        self.best, self.spent = [float('inf')] * 2, 0.0
+        self.best: list[float] = [float('inf')] * 2
+        self.spent = 0.0
 
     def run(self):
         took = [seconds(self.program, path, self.task.arguments) for path in self.paths]
-        self.best = [*map(min, self.best, took)]
+        self.best = [min(times) for times in zip(self.best, took)]
         self.spent += sum(took)
 
     def is_long(self, target):

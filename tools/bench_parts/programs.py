@@ -1,13 +1,12 @@
 """The program and its peers, which are built into a temporary folder."""
 import os
 import platform
-import re
 import shutil
 import subprocess
 import sys
 
 from bench_parts.measure import Program
-from common import ARCHIVE, ROOT, c_compiler, compile_c, install, stop
+from common import ARCHIVE, ROOT, c_compiler, compile_c, first_match, install, stop
 
 PEERS = os.path.join(ROOT, 'tools', 'peers')
 REGISTRY = '/usr/share/cargo/registry'
@@ -61,7 +60,7 @@ def build_rust(folder):
     shutil.copytree(os.path.join(PEERS, 'rust'), source)
     run_compiler('cargo', 'build', '--release', '--offline', cwd=source)
     with open(os.path.join(source, 'Cargo.lock')) as lock:
-        version = re.search(r'name = "cookie_store"\nversion = "(.*)"', lock.read())[1]
+        version = first_match(r'name = "cookie_store"\nversion = "(.*)"', lock.read())[1]
     version = f'cookie_store {version} with preserve_order, LTO, {output("rustc", "--version", cwd=source)}'
     return Program(RUST, (os.path.join(source, 'target', 'release', 'peer'),), version)
 

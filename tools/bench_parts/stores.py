@@ -189,7 +189,8 @@ def run(options):
     own, load = programs.own(options.program), os.getloadavg()[0]
     with tempfile.TemporaryDirectory() as folder:
         peers, missing = programs.build(folder)
-        measured, took = [own, *peers], {}
+        measured = [own, *peers]
+        took: dict = {}
         document = Document(report.circumstances(measured, load), [*report.busy(load), *missing, *missing_tools()])
         print(document.text(), flush=True)
         for each in measure(Meter(folder), measured, [options.only] if options.only else PARTS, took):

@@ -66,6 +66,12 @@ test_example() {
     fi
 }
 
+# The program of README.md, linked by the commands that README.md shows for a static library, needs no shared one.
+links_statically() {
+    grep -A 1 '^lib=\$(pkg-config' bindings/c/README.md > "$temp/static.sh" && (cd "$temp" && bash -e static.sh) &&
+        ! ldd "$temp/example" | grep cookie_store && prints_example "$temp/example"
+}
+
 # After a URL that fails, fetch.c has replaced the file, which its owner alone can read; a malformed file stays.
 replaces_file() {
     local folder=$temp/cookies status
@@ -106,9 +112,22 @@ test_fetch() {
 
 # Two releases are the same bytes, also with another umask and at another time, which a wheel has in steps of two seconds.
 releases() {
-    tools/release "$temp/first" && sleep 2 && (umask 077 && tools/release "$temp/second") &&
+    tools/release --unchecked "$temp/first" && sleep 2 && (umask 077 && tools/release --unchecked "$temp/second") &&
         diff -r "$temp/first" "$temp/second" && (cd "$temp/first" && sha256sum -c SHA256SUMS && tar -xzf ./*.tar.gz)
 }
+
+# MANIFEST has each file of the release with its sum, and the toolchain that built it.
+lists_files() {
+    (cd "$temp"/first/*/ && grep -Fx "toolchain $(rt version)" MANIFEST &&
+        sed '1,/^$/d' MANIFEST | sha256sum --quiet -c && diff <(sed '1,/^$/d' MANIFEST | sed 's/^[0-9a-f]*  //') \
+        <(find . -type f ! -path ./MANIFEST | LC_ALL=C sort))
+}
+
+# Without --unchecked a release needs the full check of the commit to have passed.
+needs_check() (
+    git clone -q . "$temp/clone" && cd "$temp/clone" || exit
+    ! tools/release "$temp/third" && [ ! -e "$temp/third" ] && mkdir out && identity > out/full_check && tools/release "$temp/third"
+)
 
 # The first commands of the release's INSTALL compile and run the program of README.md, as README.md says, with nothing else
 # installed.
@@ -135,6 +154,7 @@ else
     skips 'manual pages' 'there is no mandoc'
 fi
 try 'manual page and header' tools/bindings_parts/manual.py || true
+try 'ABI and header' tools/bindings_parts/abi.py || true
 if [ -z "$cc" ]; then
     skips 'programs of C' 'there is no compiler of C with its headers'
     return
@@ -162,6 +182,7 @@ if ! has pkg-config; then
     return
 fi
 try version has_version || true
+if has cc; then try 'README.md, static' links_statically || true; fi
 if ! pkg-config --exists 'libcurl >= 7.88'; then
     skips fetch.c 'there is no header of libcurl 7.88 or later'
 elif ! has openssl || ! has cc; then
@@ -172,5 +193,7 @@ fi
 if ! git rev-parse HEAD > "$temp/why" 2>&1; then
     skips release 'this is no git repository'
 elif try release releases; then
+    try MANIFEST lists_files || true
+    try 'release without the full check' needs_check || true
     if has cc; then try INSTALL uses_release || true; else skips INSTALL 'there is no cc'; fi
 fi

@@ -1,4 +1,4 @@
-# shellcheck shell=bash
+# shellcheck shell=bash disable=SC2154
 # Tests the Go package, and the code and the commands that bindings/go/README.md quotes. tools/bindings sources it.
 
 # Tests a copy: Go's cache goes by the folder of a package, and does not notice that the library is in another one than before.

@@ -14,9 +14,14 @@ def read(path):
         return file.read()
 
 
+def read_header():
+    """The header without comments."""
+    return re.sub(r'/\*.*?\*/', '', read('bindings/c/cookie_store.h'), flags=re.S)
+
+
 def section(page, name):
     """The lines under a heading."""
-    text = re.search(rf'^\.SH {name}\n(.*?)(?=^\.SH |\Z)', page, re.S | re.M)[1]
+    [text] = re.findall(rf'^\.SH {name}\n(.*?)(?=^\.SH |\Z)', page, re.S | re.M)
     return text.replace('\\-', '-').replace('\\e', '\\').rstrip().split('\n')
 
 
@@ -39,12 +44,13 @@ def same(what, page, wanted):
 
 def main():
     page = read('docs/cookie_store.3')
-    header = re.sub(r'/\*.*?\*/', '', read('bindings/c/cookie_store.h'), flags=re.S)
-    program = re.search(r'```c\n(.*?)\n```', read('bindings/c/README.md'), re.S)[1].split('\n')
+    header = read_header()
+    program = re.findall(r'```c\n(.*?)\n```', read('bindings/c/README.md'), re.S)[0].split('\n')
     functions = declarations(header)
-    names = sorted(re.search(r'\w+(?=\()', function)[0] for function in functions)
+    names = sorted(re.findall(r'\w+(?=\()', function)[0] for function in functions)
     texts = dict(re.findall(r'case COOKIE_STORE_(\w+): return "(.*)";', header))
-    numbers = re.findall(r'COOKIE_STORE_(\w+) = (\d+)', re.search(r'enum cookie_store_status \{(.*?)\}', header, re.S)[1])
+    [values] = re.findall(r'enum cookie_store_status \{(.*?)\}', header, re.S)
+    numbers = re.findall(r'COOKIE_STORE_(\w+) = (\d+)', values)
     statuses = [f'{int(number):2}  {name:23}  {texts.get(name)}' for name, number in numbers]
     version = '.'.join(re.findall(r'#define COOKIE_STORE_VERSION_\w+ (\d+)', header))
     tags = [line[4:-3] for line in section(page, 'DESCRIPTION') if re.fullmatch(r'\.BR cookie_store_\w+ \(\)', line)]
@@ -58,4 +64,5 @@ def main():
     sys.exit(not all(passed))
 
 
-main()
+if __name__ == '__main__':
+    main()

@@ -35,6 +35,7 @@ import tempfile
 import threading
 import time
 import urllib.parse
+from typing import Any
 
 SECONDS = 120  # the longest that a run may take
 
@@ -99,8 +100,20 @@ class Recorder:
         self.file.close()
 
 
+class Server(http.server.ThreadingHTTPServer):
+    """A server on 127.0.0.1, whose `lines` are those of the requests that it receives."""
+    daemon_threads = True
+
+    def __init__(self, context):
+        super().__init__(('127.0.0.1', 0), Handler)
+        self.context = context
+        self.lines: list[bytes] = []
+
+
 class Handler(http.server.BaseHTTPRequestHandler):
     protocol_version = 'HTTP/1.1'
+    server: Server
+    rfile: Any
 
     def setup(self):
         super().setup()
@@ -174,9 +187,7 @@ def is_replaced(file, before):
 
 
 def start_server(context=None):
-    """Starts a server on 127.0.0.1, whose `lines` are those of the requests that it receives."""
-    server = http.server.ThreadingHTTPServer(('127.0.0.1', 0), Handler)
-    server.daemon_threads, server.context, server.lines = True, context, []
+    server = Server(context)
     threading.Thread(target=server.serve_forever, daemon=True).start()
     return server
 

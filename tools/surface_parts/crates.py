@@ -96,7 +96,7 @@ class Crates:
 
     def surface(self, crate):
         """The public items of a crate."""
-        found = {}
+        found: dict[str, Public] = {}
         self.visit(self.root_of(crate), '', found, ())
         return list(found.values())
 

@@ -4,7 +4,7 @@ Headings link to the source; signatures are without contracts. Links between com
 if what they name is not public. A heading in a comment becomes bold text."""
 import re
 
-from common import anchors
+from common import anchors, first_match
 from surface_parts.crates import Module
 
 WITHOUT = ('Drop', 'Model')  # traits that a user does not call
@@ -149,7 +149,7 @@ class Page:
         return self.by_path.get(parent(public.path))
 
     def module_of(self, item):
-        crate, _, path = re.fullmatch(r'crates/(\w+)/(src)/(.*)\.rt', item.file).groups()
+        crate, path = first_match(r'^crates/(\w+)/src/(.*)\.rt$', item.file).groups()
         return self.crates.module(crate, tuple(path.split('/')) if path != 'lib' else ())
 
     def comment(self, text, module, owner=None):

@@ -3,6 +3,8 @@ import re
 import textwrap
 from dataclasses import dataclass, field
 
+from common import first_match
+
 TOKEN = re.compile(r'''(?P<blank> \s+ | //[^\n]* | /\*.*?\*/)
     | b?r?"(?:\\.|[^"\\])*" | r\#".*?"\# | b?'(?:\\.[^']*|[^'\\])'
     | '?\w+ | -> | :: | => | \S''', re.VERBOSE | re.DOTALL)
@@ -83,7 +85,9 @@ class Reader:
     """Goes through the tokens of a file."""
 
     def __init__(self, text):
-        self.source, self.tokens, self.docs, lines = text, [], {}, []
+        self.source, self.docs = text, {}
+        self.tokens: list[re.Match] = []
+        lines: list[str] = []
         for found in TOKEN.finditer(text):
             if not found['blank']:
                 self.docs[len(self.tokens)], lines = lines, []
@@ -235,7 +239,7 @@ class Reader:
         generics = re.match(r'<(?:[^<>]|<[^<>]*>)*>', words)
         trait, _, of_type = normal(words[generics.end() if generics else 0:]).rpartition(' for ')
         self.take()
-        name = re.match(r"(?:&('\w+ )?(mut )?)*([\w:]+)", of_type)[3].split('::')[-1]
+        name = first_match(r"^(?:&('\w+ )?(mut )?)*([\w:]+)", of_type)[3].split('::')[-1]
         return Item('impl', name, 0, head=re.sub(r'^(\w+::)+', '', trait), of_type=of_type, items=self.items())
 
     def type(self, kind):
