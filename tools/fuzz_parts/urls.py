@@ -1,11 +1,12 @@
 """Compares the hosts that the store and libcurl's URL parser find in random URLs.
-Usage: tools/fuzz urls [--count N] [--seed N] [--archive FILE]
+Usage: tools/fuzz urls [--count N] [--seconds N] [--seed N] [--archive FILE]
 
 A client must not find another host in a URL than the store, or it sends a host the cookies of another one. The URLs are built
 to provoke that: backslashes, `@`, `%`, dots, numbers, ports, brackets, control bytes, characters beyond ASCII, missing slashes,
 odd schemes. Libcurl's host is CURLUPART_HOST, with all that CURLOPT_URL and a redirect let pass. The store's host is the domain
-of a host-only cookie that the URL sets. A URL in which they differ, though both accept it, is printed with the two hosts. Each
-URL that libcurl accepts is also compared as libcurl writes it, without user and password.
+of a host-only cookie that the URL sets. A URL in which they differ, though both accept it, is printed with the two hosts, and as an
+entry of the corpus, tools/fuzz_parts/corpus/urls.txt. Each URL that libcurl accepts is also compared as libcurl writes it, without
+user and password.
 
 Hosts are compared ignoring case, and addresses as inet_aton and inet_pton read them: 127.1 and 127.0.0.1 are the same. Both
 convert hosts to ASCII; libcurl does since 7.88, and before that each host beyond ASCII counts as different. URLs with other
@@ -16,12 +17,13 @@ of libcurl the tool prints that it is skipped. The same seed makes the same URLs
 last line is 'fuzz urls: N URLs, passed'.
 
 Exit status: 0; 1 if a host differs; 2 for a wrong argument."""
-import os
 import random
-import subprocess
 import tempfile
 
-from common import ARCHIVE, Parser, c_compiler, compile_c, install, stop
+from common import Parser, stop
+from fuzz_parts import corpus_files
+from fuzz_parts.corpus_files import stop_unless_built
+from fuzz_parts.library import add_archive, compile_part, feed, reason_to_skip, until
 
 SCHEMES = ['http', 'https', 'ws', 'wss', 'ftp', 'HTTP', 'hTTpS', 'ftps', 'foo', 'file', 'mailto', 'a+b', 'http\u017f', 'h ttp', '']
 COMPARED = 5  # the first ones, which half the URLs have
@@ -70,37 +72,40 @@ def url(rng):
     return encoded
 
 
-def reason_to_skip():
-    """What this machine lacks, or None."""
-    compiler = c_compiler()
-    if not compiler:
-        return 'there is no C compiler'
-    done = subprocess.run([compiler, '-fsyntax-only', '-x', 'c', '-'], input=b'#include <curl/curl.h>\n', capture_output=True)
-    return 'there is no header of libcurl' if done.returncode else None
+def compare(given, folder, archive):
+    """Prints how many hosts the store and libcurl find in URLs. Returns the number of URLs, and a line for each one in which they
+    differ, with the hosts."""
+    program = compile_part('urls', folder, archive, '-lcurl')
+    status, printed, errors = feed([program], (each + b'\0' for each in given), folder)
+    if status not in (0, 1) or errors:
+        stop(f'urls: status {status}: {errors.decode()}')
+    *lines, as_given, as_written = printed.decode('ascii').splitlines()
+    print(as_given, as_written, sep='\n', flush=True)
+    return int(as_given.split(' ')[2]), lines
+
+
+def url_of(line):
+    """The URL of a line that `compare` returns."""
+    return line.split(' ')[0].encode().decode('unicode_escape').encode('latin-1')
 
 
 def run(words):
     parser = Parser(__doc__, 'tools/fuzz urls')
     parser.add_argument('--count', type=int, default=500_000, help='how many URLs, by default 500000')
+    parser.add_argument('--seconds', type=float, help='how long it runs, instead of --count')
     parser.add_argument('--seed', type=int, default=1, help='by default 1')
-    parser.add_argument('--archive', metavar='FILE', default=ARCHIVE, help='another build of the C library (COOKIE_STORE_ARCHIVE)')
+    add_archive(parser)
     options = parser.parse_args(words)
-    if not os.path.isfile(options.archive):
-        stop(f'{options.archive} is not built: run tools/install --archive-only after rt ci')
-    reason = reason_to_skip()
+    stop_unless_built(options.archive)
+    reason = reason_to_skip('curl/curl.h')
     if reason:
         print(f'fuzz urls: skipped: {reason}')
         return
     rng = random.Random(options.seed)
+    steps = until(options.seconds) if options.seconds else range(options.count)
     with tempfile.TemporaryDirectory() as folder:
-        install(folder, os.path.realpath(options.archive))
-        program = compile_c(f'{folder}/urls', '-std=gnu11', 'tools/fuzz_parts/urls.c', '-I', f'{folder}/include',
-                            f'{folder}/lib/libcookie_store.a', '-lcurl')
-        with open(f'{folder}/input', 'wb') as out:
-            for _ in range(options.count):
-                out.write(url(rng) + b'\0')
-        with open(f'{folder}/input', 'rb') as given:
-            done = subprocess.run([program], stdin=given)
-    if done.returncode:
-        stop(f'the hosts differ in URLs of seed {options.seed}' if done.returncode == 1 else f'status {done.returncode}')
-    print(f'fuzz urls: {options.count} URLs, passed')
+        tried, lines = compare((url(rng) for _ in steps), folder, options.archive)
+    if lines:
+        print(*lines, sep='\n')
+        corpus_files.stop_with(f'the hosts differ in URLs of seed {options.seed}', 'urls', *map(url_of, lines))
+    print(f'fuzz urls: {tried} URLs, passed')
