@@ -19,13 +19,13 @@
  *                                  &needed);
  *     if (status == COOKIE_STORE_OK && needed > 0) printf("Cookie: %.*s\n", (int)needed, header);
  *
- *     // Save the persistent cookies: first ask for the length, then write.
- *     status = cookie_store_save(&store, COOKIE_STORE_JSON, COOKIE_STORE_PERSISTENT, time(NULL),
+ *     // Save the cookies, session cookies included: first ask for the length, then write.
+ *     status = cookie_store_save(&store, COOKIE_STORE_JSON, COOKIE_STORE_UNEXPIRED, time(NULL),
  *                                header, 0, &needed, &left_out);
  *     if (status == COOKIE_STORE_NO_ROOM) {
  *         char *list = malloc(needed);
  *         if (!list) abort();
- *         status = cookie_store_save(&store, COOKIE_STORE_JSON, COOKIE_STORE_PERSISTENT,
+ *         status = cookie_store_save(&store, COOKIE_STORE_JSON, COOKIE_STORE_UNEXPIRED,
  *                                    time(NULL), list, needed, &needed, &left_out);
  *         if (status == COOKIE_STORE_OK) fwrite(list, 1, needed, file);
  *         free(list);
@@ -547,7 +547,7 @@ enum cookie_store_format {
 enum cookie_store_which {
     /* All cookies. */
     COOKIE_STORE_ALL = 0,
-    /* Those that have not expired, session cookies included. */
+    /* Those that have not expired, session cookies included. A login is usually one. */
     COOKIE_STORE_UNEXPIRED = 1,
     /* Those that have not expired, without session cookies. */
     COOKIE_STORE_PERSISTENT = 2

@@ -88,7 +88,7 @@ static void load(cookie_store *store, const char *path) {
     free(list);
 }
 
-/* Saves the persistent cookies. */
+/* Saves the cookies that have not expired: a login is usually a session cookie. */
 static void save(cookie_store *store, const char *path) {
     size_t room, left_out, needed = 4096;
     char *list = NULL;
@@ -96,7 +96,7 @@ static void save(cookie_store *store, const char *path) {
     do {
         room = needed;
         list = checked(realloc(list, room));
-        status = cookie_store_save(store, COOKIE_STORE_JSON, COOKIE_STORE_PERSISTENT, time(NULL), list, room, &needed, &left_out);
+        status = cookie_store_save(store, COOKIE_STORE_JSON, COOKIE_STORE_UNEXPIRED, time(NULL), list, room, &needed, &left_out);
     } while (status == COOKIE_STORE_NO_ROOM);
     check(status, path);
     write_file(path, list, needed);

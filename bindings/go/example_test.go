@@ -100,7 +100,7 @@ func ExampleLoad() {
 		log.Fatal(err)
 	}
 	var file bytes.Buffer
-	if err := jar.Save(&file, cookiestore.Netscape, cookiestore.PersistentCookies); err != nil {
+	if err := jar.Save(&file, cookiestore.Netscape, cookiestore.UnexpiredCookies); err != nil {
 		log.Fatal(err)
 	}
 	fmt.Print(file.String())

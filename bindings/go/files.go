@@ -19,7 +19,7 @@ const (
 	Netscape Format = C.COOKIE_STORE_NETSCAPE // a cookies.txt file, as curl and wget read and write it; it has no SameSite
 )
 
-// Which is a choice of the cookies to save or to load.
+// Which is a choice of the cookies to save or to load. A login is usually a session cookie.
 type Which int
 
 const (

@@ -11,6 +11,7 @@ import hashlib
 import io
 import os
 import re
+import shutil
 import subprocess
 import sys
 import sysconfig
@@ -79,10 +80,15 @@ def library():
         return read(named)
     if not in_repository():
         sys.exit('cookie_store: COOKIE_STORE_LIBRARY must name the C library')
+    if shutil.which('rt') is None:
+        sys.exit('cookie_store: the C library is built by the toolchain, and rt is not on the path: name a built library by '
+                 'COOKIE_STORE_LIBRARY=FILE, or install the wheel of the release archive')
     # These would have the files written elsewhere.
     variables = {name: value for name, value in os.environ.items() if name not in ('DESTDIR', 'PYTHONDIR')}
     with tempfile.TemporaryDirectory() as folder:
-        subprocess.run([os.path.join(ROOT, 'tools', 'install'), folder], check=True, stdout=sys.stderr, env=variables)
+        install = [os.path.join(ROOT, 'tools', 'install'), folder]
+        if subprocess.run(install, check=False, stdout=sys.stderr, env=variables).returncode:
+            sys.exit('cookie_store: the C library is not built: see the messages of tools/install above')
         return read(folder, 'lib', LIBRARY)
 
 

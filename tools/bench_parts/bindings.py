@@ -1,31 +1,38 @@
-"""Times a call from C and from Python, and files of cookies, beside Python's http.cookiejar, in a minute.
+"""Times a call from C, Python and Node, files of cookies, and requests of clients, beside Python's http.cookiejar and tough-cookie.
 Usage: tools/bench bindings [--archive FILE]
 
 Prints microseconds of processor time a call, the least of three runs, and how many times as long http.cookiejar takes as
 StoreJar, and of files as CookieStore and StoreJar. A StoreJar counts unexpired cookies only, and is iterated over again without a
-change, and then after a change each time. Freeing what was loaded is not counted. The library is installed in a temporary
+change, and then after a change each time. Freeing what was loaded is not counted. Requests of requests and httpx, if they are
+installed, are those of a session or a client with a store, and of one without. The library is installed in a temporary
 folder, from --archive; without it the library is proved and built first. Needs a C compiler.
 
-Exit status: 0; 1 if a call fails, or if http.cookiejar is ahead on an idle machine."""
+Then it prints the same of Node's CookieStore and CookieJar, and how many times as long tough-cookie takes: for cookies of hosts
+with 20 each, and for one host whose cookies have a path each. Needs Node with its headers, and tough-cookie.
+
+Exit status: 0; 1 if a call fails, if a request has other cookies without a store, or if a peer is ahead on an idle machine."""
 import gc
 import http.cookiejar
 import importlib
+import json
 import os
+import shutil
 import subprocess
 import sys
 import tempfile
 import time
 import urllib.request
 
-from bench_parts import report
+from bench_parts import clients, report
 from bench_parts.jar import Response
-from common import compile_c, install, stop
+from common import ROOT, compile_c, install, stop
 
 OPTIONS = ['--archive']
 HOSTS, EACH = 50, 20
 NOW = 1767225600  # 2026-01-01T00:00:00
 SECONDS = 0.2  # that a run takes
 LINES = 100_000  # of a cookies.txt file
+NODE_COOKIES = [1000, 100_000]
 HEADERS = [f'c{number}=value{number}; Path=/; Max-Age=86400' for number in range(EACH)]
 
 
@@ -138,6 +145,38 @@ def loaded(jar, path):
     return jar
 
 
+def measure_node(folder, prefix):
+    """Pairs of a number of cookies and the times of Node, by jar and call; none if Node or its headers are missing."""
+    package = shutil.copytree(f'{ROOT}/bindings/node', f'{folder}/node', ignore=shutil.ignore_patterns('*.node'))
+    environment = {**os.environ, 'PKG_CONFIG_PATH': f'{prefix}/lib/pkgconfig', 'NODE_PATH': '/usr/share/nodejs'}
+    environment.pop('COOKIE_STORE_ARCHIVE', None)
+    if not shutil.which('node') or subprocess.run(['node', f'{package}/build.js'], env=environment).returncode:
+        print('Node is not measured: it is not there, or the package is not built.')
+        return []
+    command = ['node', 'tools/bench_parts/calls.js', package, str(SECONDS), *map(str, NODE_COOKIES)]
+    printed = subprocess.run(command, cwd=ROOT, env=environment, check=True, stdout=subprocess.PIPE, text=True).stdout
+    return list(zip(NODE_COOKIES, map(json.loads, printed.splitlines())))
+
+
+def print_node(number, times):
+    """Prints the table of Node for a number of cookies, and returns what is behind tough-cookie."""
+    behind, peer = [], times.get('tough-cookie')
+    heads = ['CookieStore', 'CookieJar', 'tough-cookie']
+    print(f'Node, {number:,} cookies, microseconds'.ljust(38) + ''.join(head.rjust(15) for head in heads) + 'ratios'.rjust(20))
+    rows = [('set', 'set a cookie'), ('set_domain', 'set a cookie with Domain'), ('get_many', 'header, 20 cookies a host'),
+            ('get_path', 'header, 1 cookie of all of a host')]
+    for key, name in rows:
+        own, ratios = [times[jar][key] for jar in ('CookieStore', 'CookieJar')], []
+        if peer:
+            ratios = [peer[key] / took for took in own]
+            for jar, ratio in zip(heads, ratios):
+                behind += report.behind(f'{jar} of Node, {name}', 'tough-cookie', ratio)
+        took = [f'{each * 1e6:.2f}' for each in own] + [f'{peer[key] * 1e6:.2f}' if peer else '-']
+        compared = ', '.join(f'{ratio:.1f}' for ratio in ratios) or '-'
+        print(name.ljust(38) + ''.join(each.rjust(15) for each in took) + compared.rjust(20))
+    return behind
+
+
 def print_calls(columns):
     """Prints the table of calls, and returns what is behind http.cookiejar."""
     behind = []
@@ -177,4 +216,8 @@ def run(options):
         jars = [measure_jar(jar) for jar in (module.StoreJar, http.cookiejar.CookieJar)]
         columns = [measure_c(program), measure_store(module), *jars]
         files = {each: measure_files(module, f'{folder}/cookies.txt', each) for each in (EACH, 1)}
-    report.exit_after([*print_calls(columns), *print_files(files)], load)
+        requests = list(clients.measure_clients(module, measure))
+        behind = [*print_calls(columns), *print_files(files), *clients.print_clients(requests)]
+        for number, times in measure_node(folder, prefix):
+            behind += print_node(number, times)
+    report.exit_after(behind, load)

@@ -198,7 +198,6 @@ def colliding(program, least=100):
                   lambda n: repeated(NOW, ''.join(lines[:n]) + CLEAR))
 
 
-
 def grow(meter, programs, family):
     """The seconds at n, 4n and 16n by program name: fewer if the next may take longer than PATIENCE."""
     took: dict[str, list[float]] = {program.name: [] for program in programs}

@@ -133,7 +133,7 @@ needs_check() (
 # installed.
 uses_release() {
     (cd "$temp"/first/*/ && ls python/cookie_store-*.whl share/man/man3/cookie_store.3 bindings/go/go.mod bindings/rust/Cargo.toml &&
-        sed '/^To install/,$d' INSTALL | sed -n 's/^    //p' > "$temp/install.sh" &&
+        quoted sh INSTALL > "$temp/install.sh" &&
         env -u PKG_CONFIG_PATH -u LD_LIBRARY_PATH bash -e "$temp/install.sh" > "$temp/printed") &&
         quoted text bindings/c/README.md | diff "$temp/printed" - &&
         quoted sh bindings/c/README.md | diff - <(tail -n 2 "$temp/install.sh")

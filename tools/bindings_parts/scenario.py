@@ -3,8 +3,9 @@
 Usage: tools/bindings_parts/scenario.py COMMAND..
 
 COMMAND is a program with the arguments `FILE URL..`. It loads the cookies of FILE, if there is such a file, gets each URL,
-follows redirects, prints the body of each last response on a line, and saves the persistent cookies to FILE, also if a URL
-fails. It is run three times. FILE must then be a new file, alone in its folder, that its owner alone can read.
+follows redirects, prints the body of each last response on a line, and saves the cookies that have not expired to FILE, session
+cookies included, also if a URL fails. It is run three times. FILE must then be a new file, alone in its folder, that its owner
+alone can read.
 
 The program finds the server by http_proxy and https_proxy, and trusts its certificate by SSL_CERT_FILE. The server is a proxy
 that answers for every host itself. Then it is run without a proxy against two servers, one as localhost and one as 127.0.0.1:
@@ -54,15 +55,15 @@ FIRST_RUN = [
     ('http://shop.test/set?c=wide%3D5%3B+Domain%3Dshop.test%3B+Max-Age%3D3600', 'visit=1; session=4'),
 ]
 SECOND_RUN = [
-    ('http://shop.test/echo', 'visit=1; wide=5'),
-    ('https://shop.test/echo', 'visit=1; token=2; wide=5'),
+    ('http://shop.test/echo', 'visit=1; session=4; wide=5'),
+    ('https://shop.test/echo', 'visit=1; token=2; session=4; wide=5'),
     ('https://deep.shop.test/echo', 'wide=5'),
-    ('https://shop.test/set?c=visit%3D%3B+Max-Age%3D0', 'visit=1; token=2; wide=5'),
-    ('https://shop.test/echo', 'token=2; wide=5'),
-    ('http://shop.test/set?c=last%3D7%3B+Max-Age%3D3600', 'wide=5'),
+    ('https://shop.test/set?c=visit%3D%3B+Max-Age%3D0', 'visit=1; token=2; session=4; wide=5'),
+    ('https://shop.test/echo', 'token=2; session=4; wide=5'),
+    ('http://shop.test/set?c=last%3D7%3B+Max-Age%3D3600', 'session=4; wide=5'),
     ('http://shop.test/fail', None),
 ]
-THIRD_RUN = [('http://shop.test/echo', 'wide=5; last=7')]
+THIRD_RUN = [('http://shop.test/echo', 'session=4; wide=5; last=7')]
 
 # URLs, absolute and relative, of which one parser may find the host `localhost` and another one `127.0.0.1`.
 AMBIGUOUS = [

@@ -1,4 +1,4 @@
-// Fetch gets URLs with the cookies of a file, prints the bodies, and saves the persistent cookies.
+// Fetch gets URLs with the cookies of a file, prints the bodies, and saves the unexpired cookies.
 //
 //	fetch FILE URL..
 package main
@@ -80,7 +80,7 @@ func save(jar *cookiestore.Jar, name string) error {
 	}
 	defer os.Remove(file.Name()) // fails once it is renamed
 	defer file.Close()
-	if err := jar.Save(file, cookiestore.JSON, cookiestore.PersistentCookies); err != nil {
+	if err := jar.Save(file, cookiestore.JSON, cookiestore.UnexpiredCookies); err != nil {
 		return err
 	}
 	if err := file.Sync(); err != nil {

@@ -8,10 +8,11 @@ import (
 	"testing"
 )
 
-// The file is replaced by one that only its owner can read, also if a URL cannot be fetched.
+// The file is replaced by one that only its owner can read, also if a URL cannot be fetched. It has session cookies too.
 func TestFileIsReplaced(t *testing.T) {
 	server := httptest.NewServer(http.HandlerFunc(func(w http.ResponseWriter, r *http.Request) {
 		w.Header().Set("Set-Cookie", "visits=1; Max-Age=3600")
+		w.Header().Add("Set-Cookie", "session=2")
 	}))
 	defer server.Close()
 	name := filepath.Join(t.TempDir(), "cookies.json")
@@ -27,8 +28,8 @@ func TestFileIsReplaced(t *testing.T) {
 		t.Errorf("mode %v, want 0600 and another file than before", saved.Mode())
 	}
 	jar, err := load(name)
-	if err != nil || jar.Len() != 1 {
-		t.Errorf("the file has not the one cookie: %v", err)
+	if err != nil || jar.Len() != 2 {
+		t.Fatalf("the file has not the two cookies: %v", err)
 	}
 
 	if err := run(name, []string{server.URL, "http://127.0.0.1:0/"}); err == nil {

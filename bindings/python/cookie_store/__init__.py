@@ -6,20 +6,27 @@
         store.parse('http://example.com/foo/bar', 'cookie1=value1')
         print(store.header('http://example.com/foo/x'))
 
-Class CookieStore is the store of cookie_store.h. Class StoreJar is a http.cookiejar.CookieJar over
-a CookieStore, for urllib.request and requests. With a store
+Class CookieStore is the store of cookie_store.h. CookieStore.open(path) and store.save(path) keep its
+cookies in a file, session cookies such as logins included. Class StoreJar is a
+http.cookiejar.CookieJar over a CookieStore, for urllib.request and requests. With a store
 
     cookie_store.requests.use_store() sends its header with each request of a requests.Session,
     cookie_store.httpx.use_store() does so for a httpx.Client or httpx.AsyncClient, and
-    cookie_store.aiohttp.StoreCookieJar is a cookie jar for an aiohttp.ClientSession.
+    cookie_store.aiohttp.StoreCookieJar is a cookie jar for an aiohttp.ClientSession,
+    cookie_store.scrapy.StoreCookiesMiddleware is a middleware for Scrapy, and
+    cookie_store.mitmproxy.StoreAddon is an addon for mitmproxy.
 
-These three modules are imported by their names. Each needs the package that it is named after.
+These five modules are imported by their names. Each needs the package that it is named after.
 
-Cookies that these clients do not store or send are logged at level DEBUG by the logger cookie_store,
+cookie_store.browsers reads and writes the cookies of Selenium, Playwright and extensions of browsers,
+and reads those of Firefox. It needs no other package.
+
+Cookies that these modules do not store or send are logged at level DEBUG by the logger cookie_store,
 with the host, the name and the reason, and without the value.
 
-String arguments are str, or bytes in UTF-8. Times are whole seconds since 1970-01-01T00:00:00 UTC.
-An argument `now` that is None stands for the current time.
+String arguments are str, or bytes in UTF-8. Times are seconds since 1970-01-01T00:00:00 UTC, as
+time.time() returns them: of an argument `now` a fraction is ignored, and None stands for the current
+time.
 
 Threads may share stores and jars. os.fork() waits until no thread is in a call of a store, so that
 the child may use its copies of them. No call may be made in a signal handler.
@@ -37,5 +44,6 @@ from ._listing import Cookie
 from ._status import BadLine, BadRule, CookieStoreError, NoDomain, NoMemory, Status
 from ._store import CookieStore
 
+__version__ = '0.1.0'
 __all__ = ['BadLine', 'BadRule', 'Cookie', 'CookieStore', 'CookieStoreError', 'Format', 'NoDomain', 'NoMemory', 'Status',
            'StoreJar', 'Which', 'replace_file']

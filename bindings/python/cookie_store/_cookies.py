@@ -6,14 +6,19 @@ import http.cookiejar
 import http.cookies
 import re
 import time
-from typing import Any, Dict, List, Optional, Tuple
+from typing import Any, Dict, Iterable, List, Mapping, Optional
 
-from ._formats import Format, Which
+from . import _listing
+from ._arguments import Text
+from ._library import SAME_SITES
 from ._listing import Cookie
-from ._messages import log_not_saved, log_not_stored
-from ._status import CookieStoreError, NoDomain, Status, text_of
-from ._store import CookieStore, Text
+from ._log import log_not_stored
+from ._status import NOT_VALID, CookieStoreError, NoDomain, Status, text_of
+from ._store import CookieStore
 from ._urls import is_plain_host
+
+# The attributes of a cookie of requests, unless others are passed.
+_HTTP_ONLY: Mapping[str, Any] = {'HttpOnly': None}
 
 # A path that needs no escaping in a URL.
 _PLAIN_PATH = re.compile(r"/[-a-zA-Z0-9_~!$&'()*+,;=:@/]*")
@@ -31,10 +36,12 @@ def from_wire(text: str) -> Text:
         return text
 
 
-def _decoded(text: str) -> str:
-    """Return what a string of http.client stands for."""
-    encoded = from_wire(text)
-    return encoded if isinstance(encoded, str) else encoded.decode('utf-8', 'replace')
+def decoded(text: str) -> str:
+    """Return what a string of a cookie stands for: itself, unless it is one of http.client in UTF-8."""
+    try:
+        return text if text.isascii() else text.encode('latin-1').decode('utf-8')
+    except UnicodeError:
+        return text
 
 
 def to_wire(text: str) -> str:
@@ -64,20 +71,22 @@ class JarCookie(http.cookiejar.Cookie):
             self._rest['SameSite'] = same_site
 
 
-def unexpired(store: CookieStore) -> List[Cookie]:
-    """Return the cookies of a store that have not expired."""
-    now = int(time.time())
-    return [row for row in store.cookies() if row.expires is None or row.expires > now]
+def unexpired(rows: Iterable[Cookie]) -> List[Cookie]:
+    """Return those of the cookies that have not expired, at the current time."""
+    return _listing.unexpired(rows, int(time.time()))
 
 
-def new_cookie(name: str, value: str, *, domain: str = '', path: str = '/', secure: bool = False, expires: Optional[int] = None,
-               rest: Optional[Dict[str, Any]] = None, version: int = 0, port: Optional[str] = None, discard: bool = True,
-               comment: Optional[str] = None, comment_url: Optional[str] = None,
-               rfc2109: bool = False) -> http.cookiejar.Cookie:
-    """Return a cookie as requests.cookies.create_cookie() does: it is HttpOnly unless rest says otherwise."""
-    attributes: Dict[str, Any] = {'HttpOnly': None} if rest is None else rest
-    return http.cookiejar.Cookie(version, name, value, port, bool(port), domain, bool(domain), domain.startswith('.'), path,
-                                 bool(path), secure, expires, discard, comment, comment_url, attributes, rfc2109)
+def new_cookie(name: str, value: str, *, domain: str = '', domain_specified: Optional[bool] = None, path: str = '/',
+               secure: bool = False, expires: Optional[int] = None, rest: Optional[Mapping[str, Any]] = _HTTP_ONLY,
+               version: int = 0, port: Optional[str] = None, discard: bool = True, comment: Optional[str] = None,
+               comment_url: Optional[str] = None, rfc2109: bool = False) -> http.cookiejar.Cookie:
+    """Return a cookie as requests.cookies.create_cookie() does: it is HttpOnly unless rest is passed.
+
+    It is host-only if domain_specified is false.
+    """
+    is_specified = bool(domain) if domain_specified is None else domain_specified
+    return http.cookiejar.Cookie(version, name, value, port, bool(port), domain, is_specified, domain.startswith('.'), path,
+                                 bool(path), secure, expires, discard, comment, comment_url, dict(rest or {}), rfc2109)
 
 
 def cookie_of_morsel(morsel: http.cookies.Morsel[str]) -> http.cookiejar.Cookie:
@@ -88,7 +97,7 @@ def cookie_of_morsel(morsel: http.cookies.Morsel[str]) -> http.cookiejar.Cookie:
     elif morsel['expires']:
         expires = int(email.utils.parsedate_to_datetime(morsel['expires']).timestamp())
     return new_cookie(morsel.key, morsel.value, domain=morsel['domain'], path=morsel['path'], secure=bool(morsel['secure']),
-                      expires=expires, rest={'HttpOnly': None} if morsel['httponly'] else {})
+                      expires=expires, rest={'HttpOnly': bool(morsel['httponly']), 'SameSite': morsel['samesite']})
 
 
 def _host(cookie: http.cookiejar.Cookie) -> str:
@@ -97,10 +106,10 @@ def _host(cookie: http.cookiejar.Cookie) -> str:
     '.local' is removed if it is known to be appended: from a cookie that the store returned, from
     localhost, and from an address in brackets.
     """
-    domain = cookie.domain[1:] if cookie.domain.startswith('.') else cookie.domain
-    own = getattr(cookie, 'store_domain', None)
-    if own is not None and domain in (own, own + '.local'):
-        return str(own)
+    domain = decoded(cookie.domain[1:] if cookie.domain.startswith('.') else cookie.domain)
+    own = decoded(getattr(cookie, 'store_domain', ''))
+    if own and domain in (own, own + '.local'):
+        return own
     is_bare = domain == 'localhost.local' or domain.endswith('].local')
     return domain[:-len('.local')] if is_bare else domain
 
@@ -114,31 +123,37 @@ def _is_path_attribute(path: str, is_strict: bool) -> bool:
             and not (is_strict and len(path.encode('utf-8', 'surrogatepass')) > _LONGEST_PATH))
 
 
+def _flags(cookie: http.cookiejar.Cookie) -> List[str]:
+    """Return HttpOnly and SameSite of a cookie. http.cookiejar has them among the nonstandard attributes, HttpOnly with None."""
+    rest = {str(name).lower(): value for name, value in (getattr(cookie, '_rest', None) or {}).items()}
+    flags = [] if rest.get('httponly', False) in (False, '') else ['HttpOnly']
+    same_site = str(rest.get('samesite') or '').capitalize()
+    if same_site in SAME_SITES:
+        flags.append(f'SameSite={same_site}')
+    return flags
+
+
 def set_cookie_text(cookie: http.cookiejar.Cookie, has_path: bool, now: int, is_strict: bool) -> str:
     """Return a Set-Cookie header value for this cookie, with or without its path.
 
     Raises CookieStoreError with status PARSE if no header value can express the cookie.
     """
+    name, value = decoded(cookie.name), '' if cookie.value is None else decoded(f'{cookie.value}')
     domain = _host(cookie) if cookie.domain_specified or cookie.domain.startswith('.') else ''
-    path = cookie.path if has_path else ''
-    is_same_path = not path or _is_path_attribute(_decoded(path), is_strict)
-    if not is_same_path or '=' in cookie.name or ';' in f'{cookie.name}{cookie.value}{domain}':
+    path = decoded(cookie.path) if has_path else ''
+    is_same_path = not path or _is_path_attribute(path, is_strict)
+    if not is_same_path or '=' in name or ';' in f'{name}{value}{domain}':
         raise CookieStoreError(Status.PARSE)
-    words = [f'{cookie.name}={"" if cookie.value is None else cookie.value}']
+    words = [f'{name}={value}']
     if domain:
         words.append(f'Domain={domain}')
     if has_path:
         words.append(f'Path={path}')
     if cookie.expires is not None:
-        words.append(f'Max-Age={cookie.expires - now}')
+        words.append(f'Max-Age={int(cookie.expires) - now}')
     if cookie.secure:
         words.append('Secure')
-    if any(cookie.has_nonstandard_attr(name) for name in ('HttpOnly', 'HTTPOnly', 'httponly')):
-        words.append('HttpOnly')
-    same_site = cookie.get_nonstandard_attr('SameSite')
-    if same_site in ('Strict', 'Lax', 'None'):
-        words.append(f'SameSite={same_site}')
-    return '; '.join(words)
+    return '; '.join([*words, *_flags(cookie)])
 
 
 def insert(store: CookieStore, cookie: http.cookiejar.Cookie) -> Status:
@@ -151,7 +166,26 @@ def insert(store: CookieStore, cookie: http.cookiejar.Cookie) -> Status:
     has_path = cookie.path_specified or not _PLAIN_PATH.fullmatch(cookie.path)
     path = '/' if has_path or cookie.path == '/' else cookie.path + '/'
     text = set_cookie_text(cookie, has_path, now, store.strict)
-    return store.parse(from_wire(f'https://{host}{path}'), from_wire(text), now)
+    return store.parse(f'https://{host}{path}', text, now)
+
+
+def insert_all(store: CookieStore, cookies: Iterable[http.cookiejar.Cookie]) -> None:
+    """Insert the cookies that a client has already. Those that the store rejects are logged.
+
+    Raises NoDomain, and inserts none, if one has no domain.
+    """
+    cookies = list(cookies)
+    if not all(cookie.domain for cookie in cookies):
+        raise NoDomain()
+    for cookie in cookies:
+        try:
+            status = insert(store, cookie)
+        except CookieStoreError as error:
+            if error.status not in (*NOT_VALID, Status.PARSE):
+                raise
+            status = error.status
+        if not status.is_success:
+            log_not_stored(cookie.domain, cookie.name, text_of(status))
 
 
 def reason_of(store: CookieStore, row: Cookie, now: int) -> str:
@@ -159,7 +193,8 @@ def reason_of(store: CookieStore, row: Cookie, now: int) -> str:
     domain, path, name, value, expires, host_only, _, secure, http_only, _ = row
     if not (_PLAIN_HOST.fullmatch(domain) and _is_path_attribute(path, store.strict) and name == name.strip() and value == value.strip()):
         return 'no header value can express it'
-    text = (f'{name}={value}; Path={path}{"" if host_only else "; Domain=" + domain}{"" if expires is None else f"; Max-Age={expires - now}"}'
+    text = (f'{name}={value}; Path={path}{"" if host_only else "; Domain=" + domain}'
+            f'{"" if expires is None else f"; Max-Age={expires - now}"}'
             f'{"; Secure" if secure else ""}{"; HttpOnly" if http_only else ""}')
     try:
         status = store.parse(f'https://{domain}/', text, now)
@@ -167,17 +202,3 @@ def reason_of(store: CookieStore, row: Cookie, now: int) -> str:
         status = error.status
     # A host may be written in several ways, as 0:0:0:0:0:0:0:1, and a cookie has the shortest.
     return text_of(Status.DOMAIN_MISMATCH if status < 10 else status)
-
-
-def _key(row: Cookie) -> Tuple[str, str, str]:
-    """Return what is unique to a cookie of a cookies.txt file, in which domains are in lower case."""
-    return row.domain.lower(), row.path, row.name
-
-
-def log_left_out(rows: List[Cookie], text: str) -> None:
-    """Log those of the cookies that the store left out of a cookies.txt file."""
-    with CookieStore.loads(text, Format.NETSCAPE, Which.ALL) as saved:
-        keys = {_key(row) for row in saved.cookies()}
-    for row in rows:
-        if _key(row) not in keys:
-            log_not_saved(row.domain, row.name, text_of(Status.UNREPRESENTABLE))

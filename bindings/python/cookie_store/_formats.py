@@ -3,8 +3,10 @@ from __future__ import annotations
 
 import enum
 import operator
+import os
 from typing import Type, TypeVar
 
+from ._files import Path
 from ._status import CookieStoreError, Status
 
 
@@ -22,6 +24,8 @@ class Format(enum.IntEnum):
 
 #: The number of a cookies.txt file without what is malformed or cannot be represented.
 NETSCAPE_LENIENT = 3
+
+_BY_SUFFIX = {'': Format.JSON, '.json': Format.JSON, '.ron': Format.RON, '.txt': Format.NETSCAPE}
 
 
 class Which(enum.IntEnum):
@@ -45,3 +49,12 @@ def option_of(kind: Type[_Option], number: int) -> _Option:
         return kind(operator.index(number))
     except ValueError:
         raise CookieStoreError(Status.BAD_OPTION) from None
+
+
+def format_of(path: Path) -> Format:
+    """Return the format that the suffix of a file stands for, in upper or lower case. Raises ValueError for an unknown suffix."""
+    name = os.fsdecode(path)
+    suffix = os.path.splitext(name)[1].lower()
+    if suffix not in _BY_SUFFIX:
+        raise ValueError(f'{name}: no format has the suffix {suffix}: name the file .json, .ron, or .txt for a cookies.txt file')
+    return _BY_SUFFIX[suffix]

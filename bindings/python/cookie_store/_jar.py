@@ -6,22 +6,30 @@ import os
 import threading
 import time
 import urllib.request
-from typing import Any, Dict, Iterator, List, Optional
+from typing import Any, Dict, Iterable, Iterator, List, Optional
 
-from ._cookies import JarCookie, from_wire, insert, log_left_out, reason_of, set_cookie_text, to_wire, unexpired
+from ._cookies import JarCookie, decoded, from_wire, insert, reason_of, set_cookie_text, to_wire, unexpired
 from ._files import Path, replace_file
-from ._formats import Format, Which
+from ._formats import Format, Which, format_of
 from ._listing import Cookie
+from ._log import log_not_stored, name_of
 from ._mapping import MappingJar
-from ._messages import header_for, insert_headers, log_not_stored, name_of, receive
+from ._messages import header_for
 from ._status import CookieStoreError, Status
-from ._store import CookieStore
+from ._store import CookieStore, StoreLike, store_of
 from ._urls import target_of
 
 
 def _which_unexpired(ignore_discard: bool) -> Which:
     """Return which of the cookies that have not expired are loaded or saved."""
     return Which.UNEXPIRED if ignore_discard else Which.PERSISTENT
+
+
+def _store_domains(domain: str) -> List[str]:
+    """Return the domains in a store that a domain of a jar may stand for: '.local' is appended to one without a dot."""
+    own = decoded(domain[1:] if domain.startswith('.') else domain)
+    bare = own[:-len('.local')]
+    return [own, bare] if own.endswith('.local') and '.' not in bare else [own]
 
 
 class StoreJar(MappingJar):
@@ -50,11 +58,17 @@ class StoreJar(MappingJar):
     #: The file of load() and save() without a filename.
     filename: Optional[Path] = None
 
-    def __init__(self, store: Optional[CookieStore] = None, policy: Optional[http.cookiejar.CookiePolicy] = None) -> None:
-        """Create a jar over this store, or over a new one."""
+    def __init__(self, store: Optional[StoreLike] = None, policy: Optional[http.cookiejar.CookiePolicy] = None) -> None:
+        """Create a jar over this store, or over a new one.
+
+        Another jar stands for its store, and the name of a file for CookieStore.open(): that of a
+        cookies.txt file is then the attribute filename too.
+        """
         super().__init__(policy)
-        self.store = CookieStore() if store is None else store
+        self.store = CookieStore() if store is None else store_of(store)
         self._has_policy = policy is not None
+        if isinstance(store, (str, bytes, os.PathLike)) and format_of(store) is Format.NETSCAPE:
+            self.filename = store
 
     def set_policy(self, policy: http.cookiejar.CookiePolicy) -> None:
         """Set the policy that is asked besides the store from now on."""
@@ -68,17 +82,18 @@ class StoreJar(MappingJar):
         """
         if request.has_header('Cookie'):
             return
-        header = to_wire(header_for(self.store, target_of(request)))
-        if self._has_policy:
-            header = self._approved(header, request)
+        target = target_of(request)
+        header = to_wire(header_for(self.store, target))
+        if header and self._has_policy:
+            header = self._approved(header, target.url, request)
         if header:
             request.add_unredirected_header('Cookie', header)
 
-    def _approved(self, header: str, request: urllib.request.Request) -> str:
-        """Return the cookies of a header that the policy accepts. No name or value has a ';'."""
+    def _approved(self, header: str, url: str, request: urllib.request.Request) -> str:
+        """Return the cookies of a header for a URL that the policy accepts. No name or value has a ';'."""
         self._set_policy_time()
         policy = self._policy
-        approved = {f'{cookie.name}={cookie.value}' for cookie in self
+        approved = {f'{cookie.name}={cookie.value}' for cookie in map(JarCookie, self.store.cookies_for(url))
                     if policy.domain_return_ok(cookie.domain, request) and policy.path_return_ok(cookie.path, request)
                     and policy.return_ok(cookie, request)}
         return '; '.join(pair for pair in header.split('; ') if pair in approved)
@@ -94,7 +109,7 @@ class StoreJar(MappingJar):
         texts = response.info().get_all('Set-Cookie', [])
         if self._has_policy:
             texts = self._approved_texts(texts, target.host, request, now)
-        receive(self.store, target, map(from_wire, texts), now)
+        self.store._receive(target.host, target.url, map(from_wire, texts), now)
 
     def _approved_texts(self, texts: List[str], host: str, request: urllib.request.Request, now: int) -> Iterator[str]:
         """Yield the header values whose cookies the policy accepts, and log the others."""
@@ -114,7 +129,7 @@ class StoreJar(MappingJar):
     def _cookies_made(self, texts: List[str], request: urllib.request.Request, now: int) -> List[http.cookiejar.Cookie]:
         url = target_of(request).url
         with CookieStore(strict=self.store.strict) as store:
-            for _ in insert_headers(store, url, map(from_wire, texts), now):
+            for _ in store._parse_all(url, map(from_wire, texts), now):
                 pass  # what is not stored is left out
             return [JarCookie(row) for row in unexpired(store)]
 
@@ -131,13 +146,13 @@ class StoreJar(MappingJar):
     def set_cookie_if_ok(self, cookie: http.cookiejar.Cookie, request: urllib.request.Request) -> None:
         """Set a cookie that has not expired, if a response to request may set it."""
         target, now = target_of(request), self._set_policy_time()
-        text = set_cookie_text(cookie, True, now, self.store.strict)
+        text = to_wire(set_cookie_text(cookie, True, now, self.store.strict))
         if not any(made.domain == cookie.domain for made in self._cookies_made([text], request, now)):
             log_not_stored(target.host, cookie.name, 'a response from the host may not set it')
         elif self._has_policy and not self._policy.set_ok(cookie, request):
             log_not_stored(target.host, cookie.name, 'rejected by the policy')
         else:
-            receive(self.store, target, [from_wire(text)], now)
+            self.store._receive(target.host, target.url, [from_wire(text)], now)
 
     def __iter__(self) -> Iterator[http.cookiejar.Cookie]:
         return (JarCookie(row) for row in unexpired(self.store))
@@ -145,28 +160,39 @@ class StoreJar(MappingJar):
     def __len__(self) -> int:
         return self.store.count_unexpired()
 
+    def _with_name(self, name: str) -> Iterable[http.cookiejar.Cookie]:
+        return (JarCookie(row) for row in unexpired(self.store._named(decoded(name))))
+
     def clear(self, domain: Optional[str] = None, path: Optional[str] = None, name: Optional[str] = None) -> None:
         """Remove all cookies, or those of a domain, of a domain and path, or one by its name.
 
-        With arguments, expired cookies are left out. Raises KeyError if no cookie matches, and
-        ValueError if name or path is passed without the arguments before it.
+        The domain of a domain cookie has a leading dot. Without one it is found too, unless no name is
+        passed and host-only cookies match: then these alone are removed. Raises KeyError if no cookie
+        matches, and ValueError if name or path is passed without the arguments before it.
         """
         if domain is None:
             if path is not None or name is not None:
                 raise ValueError('a path or a name is of a domain')
             self.store.clear()
             return
-        if path is None and name is not None:
+        if name is None:
+            is_found = self._remove(self._rows_at(domain, path)) > 0
+        elif path is None:
             raise ValueError('a name is of a domain and a path')
-        gone = [row for row in unexpired(self.store) if JarCookie(row).domain == domain
-                and path in (None, to_wire(row.path)) and name in (None, to_wire(row.name))]
-        if not gone:
+        else:
+            is_found = any(self.store.remove(each, decoded(path), decoded(name)) for each in _store_domains(domain))
+        if not is_found:
             raise KeyError(next(word for word in (name, path, domain) if word is not None))
-        self._remove(gone)
 
-    def _remove(self, rows: List[Cookie]) -> None:
-        for row in rows:
-            self.store.remove(row.domain, row.path, row.name)
+    def _rows_at(self, domain: str, path: Optional[str]) -> List[Cookie]:
+        """Return the cookies that the jar has with this domain and path, or else those that the store has with it."""
+        wanted = None if path is None else decoded(path)
+        rows = [row for row in unexpired(self.store) if wanted in (None, row.path)]
+        return [row for row in rows if JarCookie(row).domain == domain] or [row for row in rows if row.domain == decoded(domain)]
+
+    def _remove(self, rows: List[Cookie]) -> int:
+        """Remove cookies, and return how many."""
+        return sum(self.store.remove(row.domain, row.path, row.name) for row in rows)
 
     def clear_session_cookies(self) -> None:
         """Remove all session cookies."""
@@ -238,7 +264,7 @@ class StoreJar(MappingJar):
         which = Which.ALL if ignore_expires else _which_unexpired(ignore_discard)
         text, left_out = self.store.dumps_lenient(which, now)
         if left_out:
-            log_left_out([row for row in self.store.cookies() if is_chosen(row.expires)], text)
+            self.store._log_left_out([row for row in self.store.cookies() if is_chosen(row.expires)], text)
         if ignore_discard or not ignore_expires:
             return text
         first, *lines, last = text.split('\n')

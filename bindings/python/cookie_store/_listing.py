@@ -2,7 +2,7 @@
 from __future__ import annotations
 
 import bisect
-from typing import List, NamedTuple, Optional, Tuple
+from typing import Dict, Iterable, List, NamedTuple, Optional, Tuple
 
 from ._library import ROW, SAME_SITES
 
@@ -23,6 +23,11 @@ class Cookie(NamedTuple):
     http_only: bool
     #: 'Strict', 'Lax' or 'None', or None without a SameSite attribute.
     same_site: Optional[str]
+
+
+def unexpired(cookies: Iterable[Cookie], now: int) -> List[Cookie]:
+    """Return those of the cookies that have not expired."""
+    return [cookie for cookie in cookies if cookie.expires is None or cookie.expires > now]
 
 
 def _decoded(cookie: Cookie) -> Cookie:
@@ -71,6 +76,7 @@ class Listing:
         self._rows, self._strings = b'', b''
         self._cookies: List[Cookie] = []
         self._ends: List[int] = []  # where the strings of each cookie end
+        self._by_name: Optional[Dict[str, List[Cookie]]] = None
 
     def read(self, rows: bytes, strings: bytes) -> List[Cookie]:
         """Return the cookies of the rows and strings that the library writes.
@@ -85,8 +91,16 @@ class Listing:
         moved = len(strings) - len(self._strings)
         self._cookies[front:kept] = cookies
         self._ends = [*self._ends[:front], *(begin + end for end in ends), *(end + moved for end in self._ends[kept:])]
-        self._rows, self._strings = rows, strings
+        self._rows, self._strings, self._by_name = rows, strings, None
         return self._cookies
+
+    def named(self, name: str) -> List[Cookie]:
+        """Return the cookies with this name. Those that were read are indexed by their names once."""
+        if self._by_name is None:
+            self._by_name = {}
+            for cookie in self._cookies:
+                self._by_name.setdefault(cookie.name, []).append(cookie)
+        return list(self._by_name.get(name, ()))
 
     def _end(self, count: int) -> int:
         """Return where the strings of the first cookies end."""

@@ -8,7 +8,7 @@ import http.cookies
 import sys
 from typing import Any, Dict, Iterable, Iterator, List, Mapping, Optional, Tuple, Union
 
-from ._cookies import cookie_of_morsel, new_cookie
+from ._cookies import cookie_of_morsel, decoded, new_cookie, to_wire
 
 Value = Union[str, None, 'http.cookies.Morsel[str]']
 
@@ -19,6 +19,14 @@ def _conflict(name: str) -> RuntimeError:
     kind = RuntimeError if module is None else module.CookieConflictError
     error: RuntimeError = kind(f'several cookies have the name {name!r}: pass domain or path')
     return error
+
+
+def _at(cookies: Iterable[http.cookiejar.Cookie], domain: Optional[str], path: Optional[str]) -> Iterator[http.cookiejar.Cookie]:
+    """Yield those of the cookies with this domain and this path. None stands for any."""
+    wire_path = None if path is None else to_wire(decoded(path))
+    for cookie in cookies:
+        if domain in (None, cookie.domain, getattr(cookie, 'store_domain', None)) and wire_path in (None, cookie.path):
+            yield cookie
 
 
 class MappingJar(http.cookiejar.CookieJar):
@@ -33,17 +41,16 @@ class MappingJar(http.cookiejar.CookieJar):
         """Return the policy of the jar."""
         return self._policy
 
-    def _named(self, name: str, domain: Optional[str], path: Optional[str]) -> Iterator[http.cookiejar.Cookie]:
-        return (cookie for cookie in self._of(domain, path) if cookie.name == name)
+    def _with_name(self, name: str) -> Iterable[http.cookiejar.Cookie]:
+        """Return the cookies with this name."""
+        raise NotImplementedError
 
-    def _of(self, domain: Optional[str], path: Optional[str]) -> Iterator[http.cookiejar.Cookie]:
-        for cookie in self:
-            domains = None, cookie.domain, getattr(cookie, 'store_domain', None)
-            if domain in domains and path in (None, cookie.path):
-                yield cookie
+    def _named(self, name: str, domain: Optional[str] = None, path: Optional[str] = None) -> List[http.cookiejar.Cookie]:
+        """Return the cookies with this name, and if they are passed with this domain and this path."""
+        return list(_at(self._with_name(name), domain, path))
 
     def _value(self, name: str, domain: Optional[str] = None, path: Optional[str] = None) -> Optional[str]:
-        cookies = list(self._named(name, domain, path))
+        cookies = self._named(name, domain, path)
         if not cookies:
             raise KeyError(name)
         if len(cookies) > 1:
@@ -65,8 +72,10 @@ class MappingJar(http.cookiejar.CookieJar):
         """Set a cookie and return it. If value is None, remove the cookies with this name instead.
 
         The attributes are those of requests.cookies.create_cookie(): domain, path, secure, expires,
-        rest and so on. Without a domain requests would send the cookie to every host; here the
-        error is NoDomain, a ValueError. value may also be a Morsel, which has its own attributes.
+        rest and so on; with domain_specified=False the cookie is host-only. rest has the others, such as
+        {'HttpOnly': False, 'SameSite': 'Lax'}. Without a domain requests would send the cookie to every
+        host; here the error is NoDomain, a ValueError. value may also be a Morsel, which has its own
+        attributes.
         """
         if value is None:
             self._remove_named(name, attributes.get('domain'), attributes.get('path'))
@@ -79,9 +88,9 @@ class MappingJar(http.cookiejar.CookieJar):
         return cookie
 
     def _remove_named(self, name: str, domain: Optional[str], path: Optional[str]) -> None:
-        for cookie in list(self._named(name, domain, path)):
-            with contextlib.suppress(KeyError):  # it has expired since, or another thread removed it
-                self.clear(cookie.domain, cookie.path, cookie.name)
+        for cookie in self._named(name, domain, path):
+            with contextlib.suppress(KeyError):  # another thread removed it
+                self.clear(getattr(cookie, 'store_domain', cookie.domain), cookie.path, cookie.name)
 
     def pop(self, name: str, *default: Optional[str]) -> Optional[str]:
         """Remove the cookie with this name and return its value, or default if there is none."""
@@ -129,7 +138,7 @@ class MappingJar(http.cookiejar.CookieJar):
 
     def get_dict(self, domain: Optional[str] = None, path: Optional[str] = None) -> Dict[str, Optional[str]]:
         """Return the values of the cookies by their names. Of several with one name the last one counts."""
-        return {cookie.name: cookie.value for cookie in self._of(domain, path)}
+        return {cookie.name: cookie.value for cookie in _at(self, domain, path)}
 
     def list_domains(self) -> List[str]:
         """Return the domains of the cookies, each once."""
@@ -144,7 +153,7 @@ class MappingJar(http.cookiejar.CookieJar):
         return len(self.list_domains()) > 1
 
     def __contains__(self, name: object) -> bool:
-        return any(cookie.name == name for cookie in self)
+        return isinstance(name, str) and len(self._named(name)) > 0
 
     def __getitem__(self, name: str) -> Optional[str]:
         return self._value(name)

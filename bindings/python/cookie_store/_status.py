@@ -165,11 +165,17 @@ NOT_VALID = (Status.BAD_URL, Status.NOT_UTF8)
 class CookieStoreError(Exception):
     """Raised when a call fails. The reason is in the attribute status, a Status."""
 
+    #: The file that CookieStore.open() could not load, or None.
+    filename: Optional[str] = None
+
     def __init__(self, status: Status) -> None:
         super().__init__(status)
         self.status = status
 
     def __str__(self) -> str:
+        return self._text() if self.filename is None else f'{self.filename}: {self._text()}'
+
+    def _text(self) -> str:
         return text_of(self.status)
 
 
@@ -184,7 +190,7 @@ class BadRule(CookieStoreError):
         super().__init__(Status.BAD_RULE)
         self.args, self.line = (line,), line
 
-    def __str__(self) -> str:
+    def _text(self) -> str:
         return f'{text_of(self.status)} (line {self.line})'
 
 
@@ -195,7 +201,7 @@ class BadLine(CookieStoreError):
         super().__init__(Status.BAD_LINE)
         self.args, self.line = (line,), line
 
-    def __str__(self) -> str:
+    def _text(self) -> str:
         return f'{text_of(self.status)} (line {self.line})'
 
 
@@ -206,7 +212,7 @@ class NoDomain(CookieStoreError, ValueError):
         super().__init__(Status.BAD_URL)
         self.args = ()
 
-    def __str__(self) -> str:
+    def _text(self) -> str:
         return 'a cookie needs the domain that it is sent to: pass domain='
 
 

@@ -2,63 +2,39 @@
 from __future__ import annotations
 
 import ctypes
-import errno
-import operator
 import os
-import threading
-import time
-import weakref
-from typing import Any, Callable, Dict, Iterable, Iterator, List, Optional, Tuple, Type, Union
+import re
+from typing import Any, Callable, Dict, Iterable, Iterator, List, Optional, Protocol, Tuple, Type, Union
 
+from . import _fork
+from ._arguments import Text, Time, bytes_of, seconds_of
 from ._files import Path
-from ._formats import NETSCAPE_LENIENT, Format, Which, option_of
-from ._library import LIBRARY, NONE_BY_DEFAULT, ROW, TOP_LEVEL, Row, Store
-from ._listing import Cookie, Listing, cookies_of
-from ._status import NOT_VALID, STATUSES, BadLine, BadRule, CookieStoreError, Status, check, is_reply
+from ._formats import Format, Which
+from ._handle import Suffixes
+from ._library import LIBRARY, NONE_BY_DEFAULT, ROW, TOP_LEVEL
+from ._listing import Cookie, cookies_of
+from ._log import log_not_stored, name_of
+from ._saved import SavedStore
+from ._status import NOT_VALID, STATUSES, CookieStoreError, Status, check, is_reply, text_of
 
-Text = Union[str, bytes]
-# A public suffix list, and whether only the listed domains are public suffixes.
-_Suffixes = Tuple[bytes, bool]
 # What a pickle of a store has: its class, list, strictness, public suffix list and limit.
-_State = Tuple[Type['CookieStore'], str, bool, Optional[_Suffixes], Optional[int]]
+_State = Tuple[Type['CookieStore'], str, bool, Optional[Suffixes], Optional[int]]
 
-#: The public suffix list of Debian's package publicsuffix.
-SYSTEM_SUFFIXES = '/usr/share/publicsuffix/public_suffix_list.dat'
+# The numbers of the statuses of a cookie that is stored: comparing numbers takes a fraction of the time.
+_STORED = frozenset((int(Status.INSERTED), int(Status.UPDATED)))
 
-
-def _bytes(text: Text) -> bytes:
-    """Return a string argument as bytes. A lone surrogate becomes bytes that are not UTF-8."""
-    if isinstance(text, bytes):
-        return text
-    if isinstance(text, str):
-        return text.encode('utf-8', 'surrogatepass')
-    raise TypeError(f'expected str or bytes, not {type(text).__name__}')
+# Where the authority of a URL is, with a user and a port.
+_AUTHORITY = re.compile(r'[a-zA-Z][-+.a-zA-Z0-9]*://([^/?#]*)')
 
 
-def _suffix_list(path: Optional[Path]) -> bytes:
-    """Return the public suffix list of a file, or that of the system."""
-    if path is None and not os.path.exists(SYSTEM_SUFFIXES):
-        words = 'no public suffix list: install the package publicsuffix, or pass suffixes or path'
-        raise FileNotFoundError(errno.ENOENT, words, SYSTEM_SUFFIXES)
-    with open(SYSTEM_SUFFIXES if path is None else path, 'rb') as file:
-        return file.read()
+def _host_of(url: Text) -> str:
+    """Return the host of a URL for the log, valid or not, without a user and a path, which may be secret."""
+    text = url if isinstance(url, str) else url.decode('utf-8', 'backslashreplace')
+    authority = _AUTHORITY.match(text)
+    return re.sub(r':[0-9]*$', '', authority[1].rpartition('@')[2]) if authority else ''
 
 
-def _random_key() -> Tuple[bytes, int]:
-    """Return a random hash key and its length."""
-    return os.urandom(16), 16
-
-
-def _seconds(now: Optional[int]) -> int:
-    if now is None:
-        return int(time.time())
-    now = operator.index(now)
-    if not -2**63 <= now < 2**63:
-        raise CookieStoreError(Status.BAD_TIME)
-    return now
-
-
-class CookieStore:
+class CookieStore(SavedStore):
     """A cookie store.
 
     Threads may share a store: a lock lets one call at a time in. Its hash tables use a random key.
@@ -75,106 +51,20 @@ class CookieStore:
 
         If strict is true, it follows the rules of set_strict().
         """
-        self._store = Store()  # ctypes passes it by reference
-        self._lock = threading.Lock()
-        self._suffixes: Optional[_Suffixes] = None
+        super().__init__(strict=strict)
         self._buffer = ctypes.create_string_buffer(4096)
-        self._cookies: Optional[List[Cookie]] = None  # what cookies() returns, until the store changes
-        self._listing = Listing()
-        check(LIBRARY.cookie_store_new(self._store, *_random_key()))
-        self._finalizer = weakref.finalize(self, LIBRARY.cookie_store_free, self._store)
-        # Another thread may still be in a call when the program ends.
-        self._finalizer.atexit = False
-        with _fork_lock:  # os.fork() holds it from its list of stores on
-            _stores.add(self)
-        if strict:
-            self.set_strict(True)
 
-    def close(self) -> None:
-        """Free the store. From then on len() is 0, and other calls raise NO_STORE."""
-        with self._lock:
-            self._cookies = None
-            self._finalizer()
+    def __repr__(self) -> str:
+        """Return the class and the number of cookies, without a cookie: values may be secret."""
+        return f'<{type(self).__name__} of {len(self)} cookies>'
 
-    def __enter__(self) -> CookieStore:
-        return self
-
-    def __exit__(self, *_: object) -> None:
-        self.close()
-
-    def set_suffix_list(self, suffixes: Optional[Text] = None, *, path: Optional[Path] = None, only_listed: bool = False) -> None:
-        """Set the public suffix list: domains such as co.uk, for all of which no server may set a cookie.
-
-            store.set_suffix_list()                 # that of the system: Debian's package publicsuffix
-            store.set_suffix_list(path='list.dat')  # a file
-            store.set_suffix_list('com\nco.uk\n')   # a string
-
-        The list is in the format of publicsuffix.org. A domain that no rule matches is a public
-        suffix if it has one label, as by the rule *, which is added to the list unless only_listed is
-        true. Stored cookies stay.
-
-        Raises TypeError if both suffixes and path are passed, OSError if the file cannot be read, BadRule
-        with the number of the first line that cannot be a rule, and NO_RULES for a list without rules.
-        """
-        if suffixes is not None and path is not None:
-            raise TypeError('set_suffix_list() takes suffixes or path, not both')
-        rules, line = _suffix_list(path) if suffixes is None else _bytes(suffixes), ctypes.c_size_t()
-        only_listed = bool(only_listed)
-        with self._lock:
-            number = LIBRARY.cookie_store_set_suffix_list(self._store, rules, len(rules), only_listed, line)
-            if number == Status.BAD_RULE:
-                raise BadRule(line.value)
-            check(number)
-            self._suffixes = rules, only_listed
-
-    def set_domain_limit(self, limit: int) -> None:
-        """Limit each domain to at most limit cookies.
-
-        From now on, before a cookie is inserted, cookies of its domain are evicted until it fits:
-        first the expired ones, then the others, both in creation order. A strict store evicts Secure
-        cookies that have not expired last.
-
-        Raises BAD_LIMIT if limit is less than 1.
-        """
-        limit = operator.index(limit)
-        if limit < 0:
-            raise CookieStoreError(Status.BAD_LIMIT)
-        limit = min(limit, 2**64 - 1)
-        with self._lock:
-            check(LIBRARY.cookie_store_set_domain_limit(self._store, limit))
-
-    @property
-    def domain_limit(self) -> Optional[int]:
-        """How many cookies a domain may have, or None without a limit and after close()."""
-        with self._lock:
-            return int(LIBRARY.cookie_store_domain_limit(self._store)) or None
-
-    @property
-    def strict(self) -> bool:
-        """Whether the store is strict, see set_strict(). False after close()."""
-        with self._lock:
-            return bool(LIBRARY.cookie_store_is_strict(self._store))
-
-    def set_strict(self, strict: bool) -> None:
-        """Set whether parse() inserts by the rules that the revision of RFC 6265 adds.
-
-        Browsers follow them. A strict store rejects more cookies, as class Status lists, ignores
-        attributes whose value is longer than 1,024 bytes, and lets a cookie expire at most 400 days
-        after it was received. With a public suffix list, the domain of a cookie may not be above the
-        site of the host that sets it. Stored cookies stay. docs/STRICT.md has the rules, and which
-        ones are left out.
-        """
-        strict = bool(strict)
-        with self._lock:
-            check(LIBRARY.cookie_store_set_strict(self._store, strict))
-
-    def parse(self, url: Text, value: Text, now: Optional[int] = None) -> Status:
+    def parse(self, url: Text, value: Text, now: Optional[Time] = None) -> Status:
         """Parse a Set-Cookie header value received from url and insert the cookie.
 
         Return INSERTED, UPDATED or EXPIRED_EXISTING, or the reason why the cookie was rejected,
         such as DOMAIN_MISMATCH. Raises BAD_URL.
         """
-        page, cookie, seconds = _bytes(url), _bytes(value), _seconds(now)
+        page, cookie, seconds = bytes_of(url), bytes_of(value), seconds_of(now)
         with self._lock:
             self._cookies = None
             number = LIBRARY.cookie_store_parse(self._store, page, len(page), cookie, len(cookie), seconds)
@@ -182,23 +72,59 @@ class CookieStore:
             check(number)
         return STATUSES.get(number) or Status(number)
 
-    def _parse_all(self, url: Text, values: Iterable[Text], now: Optional[int]) -> Iterator[Tuple[Text, Status]]:
-        """Parse header values as parse() does, and yield each one that is not stored, with the reason.
+    def receive(self, url: Text, header_values: Optional[Iterable[Text]], now: Optional[Time] = None) -> int:
+        """Insert the cookies of the Set-Cookie headers of a response from url, and return how many are stored.
 
-        BAD_URL and NOT_UTF8 are reasons too, and not raised. All values are received at the same time.
+            store.receive(url, response.headers.get_all('Set-Cookie'))
+
+        These are new or replace a stored one. A cookie that parse() would reject is left out and logged, and
+        so is one whose header value is not UTF-8, and all if url is not a valid URL. If header_values is None
+        there are none. Raises TypeError if it is a str or bytes: that is one header value.
         """
-        page, seconds = _bytes(url), _seconds(now)
-        for value in values:
-            cookie = value if isinstance(value, bytes) else _bytes(value)
+        if isinstance(header_values, (str, bytes)):
+            raise TypeError('expected a list of header values, not one: pass [header_value]')
+        return self._receive(_host_of(url), url, () if header_values is None else header_values, now)
+
+    def _receive(self, host: str, url: Text, header_values: Iterable[Text], now: Optional[Time] = None) -> int:
+        """Insert as receive() does. The host is that of the log."""
+        count = 0
+        for header_value, number in self._parse_all(url, header_values, now):
+            if number in _STORED:
+                count += 1
+            elif number >= 10:
+                log_not_stored(host, name_of(header_value), text_of(Status(number)))
+        return count
+
+    def _parse_all(self, url: Text, header_values: Iterable[Text], now: Optional[Time]) -> Iterator[Tuple[Text, int]]:
+        """Parse header values as parse() does, and yield each one with the number of its status. All are received at one time.
+
+        BAD_URL and NOT_UTF8 are statuses too, and not raised.
+        """
+        if type(self).parse is not CookieStore.parse:
+            yield from self._parse_each(url, header_values, now)
+            return
+        page, seconds = bytes_of(url), seconds_of(now)
+        for value in header_values:
+            cookie = value if isinstance(value, bytes) else bytes_of(value)
             with self._lock:
                 self._cookies = None
                 number = LIBRARY.cookie_store_parse(self._store, page, len(page), cookie, len(cookie), seconds)
-            if number >= 10:
-                if not is_reply(number) and number not in NOT_VALID:
-                    check(number)
-                yield value, Status(number)
+            if number >= 20 and not is_reply(number) and number not in NOT_VALID:
+                check(number)
+            yield value, number
 
-    def header(self, url: Text, now: Optional[int] = None, *, same_site: bool = True, top_level: bool = False,
+    def _parse_each(self, url: Text, header_values: Iterable[Text], now: Optional[Time]) -> Iterator[Tuple[Text, int]]:
+        """Yield what _parse_all() yields, by calls of the method parse() of a subclass."""
+        for header_value in header_values:
+            try:
+                status = self.parse(url, header_value, now)
+            except CookieStoreError as error:
+                if error.status not in NOT_VALID:
+                    raise
+                status = error.status
+            yield header_value, int(status)
+
+    def header(self, url: Text, now: Optional[Time] = None, *, same_site: bool = True, top_level: bool = False,
                lax_by_default: bool = True) -> Optional[str]:
         """Return the value of the Cookie header of a request for url, or None if none is to be sent.
 
@@ -215,7 +141,7 @@ class CookieStore:
 
         Raises BAD_URL.
         """
-        page, seconds, needed = _bytes(url), _seconds(now), ctypes.c_size_t()
+        page, seconds, needed = bytes_of(url), seconds_of(now), ctypes.c_size_t()
         call, request = LIBRARY.cookie_store_header, []
         if not same_site:
             flags = (TOP_LEVEL if top_level else 0) | (0 if lax_by_default else NONE_BY_DEFAULT)
@@ -233,7 +159,7 @@ class CookieStore:
 
         The domain is without a leading dot. Return False if there is no such cookie.
         """
-        key = [_bytes(domain), _bytes(path), _bytes(name)]
+        key = [bytes_of(domain), bytes_of(path), bytes_of(name)]
         with self._lock:
             self._cookies = None
             number = LIBRARY.cookie_store_remove(self._store, key[0], len(key[0]), key[1], len(key[1]), key[2], len(key[2]))
@@ -246,7 +172,7 @@ class CookieStore:
 
         The domain is without a leading dot. The others keep their order.
         """
-        name, removed = _bytes(domain), ctypes.c_size_t()
+        name, removed = bytes_of(domain), ctypes.c_size_t()
         with self._lock:
             self._cookies = None
             check(LIBRARY.cookie_store_remove_domain(self._store, name, len(name), removed))
@@ -258,26 +184,21 @@ class CookieStore:
             self._cookies = None
             check(LIBRARY.cookie_store_clear(self._store))
 
-    def remove_expired(self, now: Optional[int] = None) -> int:
+    def remove_expired(self, now: Optional[Time] = None) -> int:
         """Remove the cookies that have expired at now, and return how many.
 
         The others keep their order. For now and later times header() returns the same cookies as
         before: it never returns an expired one.
         """
-        seconds, removed = _seconds(now), ctypes.c_size_t()
+        seconds, removed = seconds_of(now), ctypes.c_size_t()
         with self._lock:
             self._cookies = None
             check(LIBRARY.cookie_store_remove_expired(self._store, seconds, removed))
         return removed.value
 
-    def __len__(self) -> int:
-        """Return the number of stored cookies, expired ones included."""
-        with self._lock:
-            return int(LIBRARY.cookie_store_count(self._store))
-
-    def count_unexpired(self, now: Optional[int] = None) -> int:
+    def count_unexpired(self, now: Optional[Time] = None) -> int:
         """Return the number of stored cookies that have not expired at now."""
-        seconds = _seconds(now)
+        seconds = seconds_of(now)
         with self._lock:
             rows, _ = self._read_rows()
         return sum(1 for row in ROW.iter_unpack(rows) if not row[5] or row[4] > seconds)
@@ -285,137 +206,20 @@ class CookieStore:
     def __iter__(self) -> Iterator[Cookie]:
         return iter(self.cookies())
 
-    def cookies(self) -> List[Cookie]:
-        """Return a list of all cookies, expired ones included, in the order of the store.
-
-        The store keeps the cookies of the list until it changes, so that the next call is faster.
-        """
-        with self._lock:
-            if self._cookies is None:
-                self._cookies = self._listing.read(*self._read_rows())
-            return list(self._cookies)
-
-    def cookies_for(self, url: Text, now: Optional[int] = None) -> List[Cookie]:
+    def cookies_for(self, url: Text, now: Optional[Time] = None) -> List[Cookie]:
         """Return a list of the cookies of a request for url, in the order of header().
 
         Raises BAD_URL.
         """
-        page, seconds = _bytes(url), _seconds(now)
+        page, seconds = bytes_of(url), seconds_of(now)
         with self._lock:
             return cookies_of(*self._read_rows(LIBRARY.cookie_store_cookies_for, page, len(page), seconds))[0]
 
-    def _sizes(self, call: Any = LIBRARY.cookie_store_rows, *request: Any) -> Tuple[int, int]:
-        """Return the number of cookies that a call writes, and the bytes of their strings."""
-        rows, strings = ctypes.c_size_t(), ctypes.c_size_t()
-        number = call(self._store, *request, (Row * 1)(), 0, ctypes.create_string_buffer(1), 0, rows, strings)
-        if number != Status.NO_ROOM:
-            check(number)
-        return rows.value, strings.value
-
-    def _read_rows(self, call: Any = LIBRARY.cookie_store_rows, *request: Any) -> Tuple[bytes, bytes]:
-        """Return the rows as a call writes them, and their strings."""
-        count, length = self._sizes(call, *request)
-        rows, strings = (Row * max(1, count))(), ctypes.create_string_buffer(max(1, length))
-        check(call(self._store, *request, rows, count, strings, length, ctypes.c_size_t(), ctypes.c_size_t()))
-        return ctypes.string_at(rows, count * ROW.size), ctypes.string_at(strings, length)
-
-    def dumps(self, format: Format = Format.JSON, which: Which = Which.PERSISTENT, now: Optional[int] = None) -> str:
-        """Return the cookies in a format, in the order of the store, followed by a line feed.
-
-            store.dumps()                                  # the persistent cookies, in JSON
-            store.dumps(which=Which.UNEXPIRED)             # session cookies too, such as most logins
-            store.dumps(Format.NETSCAPE, Which.UNEXPIRED)  # the same, as a cookies.txt file
-
-        Which cookies have expired is decided at now. In JSON and RON, a cookie that was received with
-        SameSite=None and without Secure is Secure in the store that is loaded from the list. A cookies.txt
-        file has no SameSite.
-
-        Raises, in the order in which they are checked:
-        BAD_OPTION -- format or which is not valid
-        NO_STORE, BAD_TIME -- as any method
-        BAD_EXPIRY -- a cookie to save in JSON or RON expires before the year 0
-        UNREPRESENTABLE -- a cookies.txt file cannot represent a cookie to save: it has a control
-            character, it expires before 1970, its domain is empty, begins with a dot, a space, `#` or `$`,
-            or reads as another, as `localhost.local` does, its path is empty, TRUE or FALSE, or has a
-            quotation mark at an end, or, in a loaded store, its name or value is not one that a header
-            value has
-        """
-        return self._save(option_of(Format, format), which, now)[0]
-
-    def dumps_lenient(self, which: Which = Which.PERSISTENT, now: Optional[int] = None) -> Tuple[str, int]:
-        """Return a cookies.txt file without the cookies that it cannot represent, and the number of these.
-
-        All else is as in dumps() with Format.NETSCAPE. Raises BAD_OPTION.
-        """
-        return self._save(NETSCAPE_LENIENT, which, now)
-
-    def _save(self, format: int, which: Which, now: Optional[int]) -> Tuple[str, int]:
-        """Return the cookies in a format, and the number of those that NETSCAPE_LENIENT leaves out."""
-        which, seconds = option_of(Which, which), _seconds(now)
-        needed, left_out = ctypes.c_size_t(), ctypes.c_size_t()
-        # A cookie takes at most this many copies of its strings and this many other bytes. With many escaped characters it may
-        # take more: then the cookies are written twice.
-        copies, others = (2, 512) if format in (Format.JSON, Format.RON) else (1, 40)
-        with self._lock:
-            count, length = self._sizes()
-            room = 4096 + copies * length + others * count
-            while True:
-                out = ctypes.create_string_buffer(room)
-                number = LIBRARY.cookie_store_save(self._store, format, which, seconds, out, room, needed, left_out)
-                if number != Status.NO_ROOM:
-                    break
-                room = needed.value
-        check(number)
-        return str(memoryview(out)[:needed.value], 'utf-8'), left_out.value
-
-    @classmethod
-    def loads(cls, text: Text, format: Format = Format.JSON, which: Which = Which.UNEXPIRED, now: Optional[int] = None, *,
-              strict: bool = False) -> CookieStore:
-        """Return a new store with cookies in a format, as dumps() writes it.
-
-        Which cookies have expired is decided at now. The store has no public suffix list and no limit. If
-        strict is true, it follows the rules of set_strict() from then on. In a cookies.txt file, has_path
-        is true for all cookies.
-
-        Raises, in the order in which they are checked:
-        BAD_OPTION -- format or which is not valid
-        BAD_TIME, NOT_UTF8 -- as any method
-        BAD_JSON, BAD_SHAPE, BAD_RON -- text is not a list of cookies in this format
-        BAD_EXPIRY -- an expiry of a list is not a date and time
-        PARSE -- the string of a cookie of a list is not a cookie
-        BAD_LINE -- a line of a cookies.txt file is malformed: BadLine, with the number of the first one
-        """
-        return cls._load(text, option_of(Format, format), which, now, strict)[0]
-
-    @classmethod
-    def loads_lenient(cls, text: Text, which: Which = Which.UNEXPIRED, now: Optional[int] = None, *,
-                      strict: bool = False) -> Tuple[CookieStore, List[int]]:
-        """Return a new store with cookies of a cookies.txt file, and the numbers of its malformed lines, from 1.
-
-        These lines are left out. All else is as in loads() with Format.NETSCAPE. Raises BAD_OPTION.
-        """
-        return cls._load(text, NETSCAPE_LENIENT, which, now, strict)
-
-    @classmethod
-    def _load(cls, text: Text, format: int, which: Which, now: Optional[int], strict: bool) -> Tuple[CookieStore, List[int]]:
-        """Return a new store with cookies in a format, and the numbers of the lines that NETSCAPE_LENIENT leaves out."""
-        saved, which, seconds, store = _bytes(text), option_of(Which, which), _seconds(now), cls()
-        room = saved.count(b'\n') + 1 if format == NETSCAPE_LENIENT else 1
-        lines, malformed = (ctypes.c_size_t * room)(), ctypes.c_size_t()
-        LIBRARY.cookie_store_free(store._store)
-        number = LIBRARY.cookie_store_load(store._store, *_random_key(), format, which, saved, len(saved), seconds, lines, room,
-                                           malformed)
-        if number == Status.BAD_LINE:
-            raise BadLine(lines[0])
-        check(number)
-        if strict:
-            store.set_strict(True)
-        return store, lines[:malformed.value]
-
-    def merge(self, other: CookieStore, now: Optional[int] = None) -> int:
+    def merge(self, other: StoreLike, now: Optional[Time] = None) -> int:
         """Insert the cookies of another store, each as if its own domain had sent it, and return how many are left out.
 
-            store.merge(CookieStore.loads(text))  # adds the cookies of a list
+            store.merge('cookies.json')           # adds the cookies of a file, see open()
+            store.merge(CookieStore.loads(text))  # adds those of a list
 
         Left out are cookies that parse() would reject, and those whose domain is not the host of a URL.
         A domain cookie of a public suffix on the list of this store becomes host-only. An expired cookie
@@ -423,17 +227,17 @@ class CookieStore:
 
         If it raises NoMemory, some of the cookies are inserted.
         """
-        if other is self:
+        source, seconds, left_out = store_of(other), seconds_of(now), ctypes.c_size_t()
+        if source is self:
             return 0
-        seconds, left_out = _seconds(now), ctypes.c_size_t()
-        with _fork_lock:  # as os.fork() does before it waits for stores, so that neither waits for the other
+        with _fork.LOCK:
             self._lock.acquire()
-            other._lock.acquire()
+            source._lock.acquire()
         try:
             self._cookies = None
-            check(LIBRARY.cookie_store_merge(self._store, other._store, seconds, left_out))
+            check(LIBRARY.cookie_store_merge(self._store, source._store, seconds, left_out))
         finally:
-            other._lock.release()
+            source._lock.release()
             self._lock.release()
         return left_out.value
 
@@ -466,7 +270,7 @@ class CookieStore:
         return type(self), self.dumps(Format.RON, Which.ALL), self.strict, self._suffixes, self.domain_limit
 
 
-def _restore(cls: Type[CookieStore], text: str, strict: bool, suffixes: Optional[_Suffixes],
+def _restore(cls: Type[CookieStore], text: str, strict: bool, suffixes: Optional[Suffixes],
              limit: Optional[int]) -> CookieStore:
     store = cls.loads(text, Format.RON, Which.ALL, strict=strict)
     if suffixes is not None:
@@ -477,24 +281,20 @@ def _restore(cls: Type[CookieStore], text: str, strict: bool, suffixes: Optional
     return store
 
 
-# A child of os.fork() has only the thread that called it. While that thread holds the locks of all stores, no other thread is
-# in a call, which the child would find half done.
-_fork_lock = threading.Lock()
-_stores: weakref.WeakSet[CookieStore] = weakref.WeakSet()
-_held: List[threading.Lock] = []
+class HasStore(Protocol):
+    """A jar over a store."""
+    store: CookieStore
 
 
-def _before_fork() -> None:
-    _fork_lock.acquire()
-    for store in list(_stores):
-        store._lock.acquire()
-        _held.append(store._lock)
+#: What stands for a store: a store, a jar over one, or the name of a file that CookieStore.open() reads.
+StoreLike = Union[CookieStore, HasStore, Path]
 
 
-def _after_fork() -> None:
-    while _held:
-        _held.pop().release()
-    _fork_lock.release()
-
-
-os.register_at_fork(before=_before_fork, after_in_parent=_after_fork, after_in_child=_after_fork)
+def store_of(given: StoreLike) -> CookieStore:
+    """Return the store that an argument stands for."""
+    store = getattr(given, 'store', given)
+    if isinstance(store, CookieStore):
+        return store
+    if isinstance(store, (str, bytes, os.PathLike)):
+        return CookieStore.open(store)
+    raise TypeError(f'expected a CookieStore, a StoreJar or the name of a file, not {type(given).__name__}')

@@ -10,8 +10,9 @@ from aiohttp.abc import AbstractCookieJar
 
 from ._cookies import unexpired
 from ._listing import Cookie
-from ._messages import header_for, log_not_sent, receive
-from ._store import CookieStore
+from ._log import log_not_sent
+from ._messages import header_for
+from ._store import StoreLike, store_of
 from ._urls import Target, target_of_parts
 
 
@@ -34,16 +35,21 @@ class StoreCookieJar(AbstractCookieJar):
 
         async with aiohttp.ClientSession(cookie_jar=StoreCookieJar(CookieStore())) as session:
 
-    The store decides which cookies of a response are stored and which are sent with a request.
+    The store decides which cookies of a response are stored and which are sent with a request. A
+    StoreJar stands for its store, and the name of a file for CookieStore.open().
+
     aiohttp sorts the cookies of a request by their names, and sends one of each name: that with
     the longest path. Cookies that http.cookies does not allow are not sent, such as those with a
     `[` in the name. Before version 3.12 aiohttp passes the cookies of a response through
     http.cookies, which also drops those that are not ASCII, and all but one of a name.
     """
 
-    def __init__(self, store: CookieStore) -> None:
+    def __init__(self, store: StoreLike) -> None:
         super().__init__()
-        self.store = store
+        self.store = store_of(store)
+
+    def __repr__(self) -> str:
+        return f'<{type(self).__name__} over {self.store!r}>'
 
     @property
     def quote_cookie(self) -> bool:
@@ -57,7 +63,7 @@ class StoreCookieJar(AbstractCookieJar):
         Raises ValueError without response_url.
         """
         if not response_url.host:
-            raise ValueError('a cookie needs the URL of its response: pass response_url')
+            raise ValueError('a cookie needs the host that it is sent to: pass response_url, or set it in the store')
         own: BaseCookie[str] = SimpleCookie()
         for name, value in cookies.items() if isinstance(cookies, Mapping) else cookies:
             own[name] = value
@@ -65,8 +71,8 @@ class StoreCookieJar(AbstractCookieJar):
 
     def update_cookies_from_headers(self, headers: Iterable[str], response_url: yarl.URL) -> None:
         """Store the cookies of Set-Cookie headers, which newer versions of aiohttp pass."""
-        values = (header.encode('utf-8', 'surrogateescape') for header in headers)
-        receive(self.store, _target(response_url), values)
+        target, values = _target(response_url), (header.encode('utf-8', 'surrogateescape') for header in headers)
+        self.store._receive(target.host, target.url, values)
 
     def filter_cookies(self, request_url: yarl.URL) -> BaseCookie[str]:
         """Return the cookies of a request for request_url."""

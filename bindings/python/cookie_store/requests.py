@@ -15,23 +15,32 @@ from requests.sessions import Session, merge_hooks, merge_setting
 from requests.structures import CaseInsensitiveDict
 from requests.utils import get_netrc_auth
 
+from ._cookies import insert_all
 from ._jar import StoreJar
-from ._store import CookieStore
+from ._store import StoreLike
 
 _Cookies = Union[http.cookiejar.CookieJar, Mapping[str, str], None]  # of a request
 
 
-def use_store(session: Session, store: CookieStore) -> None:
-    """Let a session store the cookies of responses in this store, and send its Cookie header.
+def use_store(session: Session, store: StoreLike) -> StoreSession:
+    """Let a session store the cookies of responses in this store, and send its Cookie header. Return the session.
 
-        session = requests.Session()
-        use_store(session, CookieStore())
+        session = use_store(requests.Session(), CookieStore())
 
-    session.cookies is then a StoreJar over the store, in place of the jar that it was, and the session
-    a StoreSession. Its adapters stay, and others may be mounted.
+    session.cookies is then a StoreJar over the store, and the session a StoreSession. The cookies that
+    the session has, unless they are those of another store, are inserted into the store: one without a
+    domain raises NoDomain, and one that the store rejects is logged. The adapters stay, and others may be
+    mounted. A StoreJar is then session.cookies itself, and the name of a file stands for
+    CookieStore.open().
     """
-    session.cookies = StoreJar(store)  # type: ignore[assignment]
+    if not isinstance(session, Session):
+        raise TypeError(f'expected a requests.Session, not {type(session).__name__}')
+    jar = store if isinstance(store, StoreJar) else StoreJar(store)
+    if not isinstance(session.cookies, StoreJar):
+        insert_all(jar.store, merge_cookies(RequestsCookieJar(), session.cookies))
+    session.cookies = jar  # type: ignore[assignment]
     session.__class__ = _class_with_store(type(session))  # type: ignore[arg-type]
+    return cast(StoreSession, session)
 
 
 class _RequestJar(http.cookiejar.CookieJar):
@@ -97,6 +106,7 @@ class StoreSession(Session):
 
     A session of another class gets a subclass of both.
     """
+    cookies: StoreJar  # type: ignore[assignment]
     _session_class: Optional[Type[Session]] = None  # the other class
 
     def prepare_request(self, request: Request) -> PreparedRequest:

@@ -7,23 +7,13 @@ import sys
 
 import requests
 
-from cookie_store import CookieStore, CookieStoreError, replace_file
+from cookie_store import CookieStore, CookieStoreError
 from cookie_store.requests import use_store
-
-
-def load(path):
-    """Return a store with the cookies of a file, if there is one."""
-    try:
-        with open(path, encoding='utf-8') as file:
-            return CookieStore.loads(file.read())
-    except FileNotFoundError:
-        return CookieStore()
 
 
 def fetch(store, urls):
     """Print the body of each response after redirects."""
-    with requests.Session() as session:
-        use_store(session, store)
+    with use_store(requests.Session(), store) as session:
         for url in urls:
             response = session.get(url, timeout=30, verify=os.environ.get('SSL_CERT_FILE', True))
             response.raise_for_status()
@@ -35,12 +25,12 @@ def main():
         sys.exit('usage: fetch.py FILE URL..')
     path, *urls = sys.argv[1:]
     try:
-        store = load(path)
+        store = CookieStore.open(path)
         try:
             fetch(store, urls)
         finally:
-            replace_file(path, store.dumps())
-    except (OSError, CookieStoreError) as error:  # of the network or the file, or of its content
+            store.save(path)  # session cookies too: a login is usually one
+    except (OSError, ValueError, CookieStoreError) as error:  # of the network, or of the file
         sys.exit(f'fetch.py: {error}')
 
 

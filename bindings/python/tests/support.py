@@ -13,10 +13,11 @@ import urllib.parse
 import urllib.request
 from unittest import mock
 
-from cookie_store import StoreJar
+from cookie_store import CookieStore, StoreJar
 
 PAGE = 'http://a.example/d/page'
 NOW = 1767225600  # 2026-01-01T00:00:00
+FIRST, LAST = -377705116800, 253402300799  # the years -9999 and 9999
 SECONDS = 20  # the longest that a test waits for a client or a thread
 
 
@@ -64,11 +65,27 @@ def jar_of(*texts, url=PAGE):
     return jar
 
 
+def jar_with(kind, cookies):
+    """Return a jar of a class with cookies, each a name, a value, a domain and a path."""
+    jar = kind()
+    for name, value, domain, path in cookies:
+        jar.set(name, value, domain=domain, path=path)
+    return jar
+
+
 def sent(jar, url):
     """Return the Cookie header that a jar adds to a request for the URL."""
     request = urllib.request.Request(url)
     jar.add_cookie_header(request)
     return request.get_header('Cookie')
+
+
+def filled(*texts, url=PAGE, now=NOW):
+    """Return a store with the cookies of these header values."""
+    store = CookieStore()
+    for text in texts:
+        store.parse(url, text, now)
+    return store
 
 
 def names(store):
@@ -129,7 +146,11 @@ class Page(http.server.BaseHTTPRequestHandler):
 
 
 class Echo(http.server.BaseHTTPRequestHandler):
-    """Sends the Cookie header back, and records it. `?c=VALUE` sets a cookie, `?to=URL` redirects."""
+    """Sends the Cookie header back, and records it. `?c=VALUE` sets a cookie, `?to=URL` redirects, by the status `?code=NUMBER`."""
+
+    def do_POST(self):
+        self.rfile.read(int(self.headers['Content-Length']))
+        self.do_GET()
 
     def do_GET(self):
         url = urllib.parse.urlsplit(self.path)
@@ -138,7 +159,7 @@ class Echo(http.server.BaseHTTPRequestHandler):
         self.server.visits.append((self.headers['Host'].rsplit(':', 1)[0], url.path, cookie))
         self.server.headers.append(self.headers)
         body = (cookie or '').encode('latin-1')
-        self.send_response(302 if 'to' in arguments else 200)
+        self.send_response(int(arguments.get('code', ['302'])[0]) if 'to' in arguments else 200)
         for text in arguments.get('c', []):
             self.send_header('Set-Cookie', text)
         for text in arguments.get('to', []):
@@ -149,6 +170,11 @@ class Echo(http.server.BaseHTTPRequestHandler):
 
     def log_message(self, *_):
         pass
+
+
+def sorted_cookies(visits):
+    """Return the visits with sorted cookies: without a store clients send cookies of equal paths in the order of their domains."""
+    return [(host, path, cookie and sorted(cookie.split('; '))) for host, path, cookie in visits]
 
 
 def query(url, **arguments):

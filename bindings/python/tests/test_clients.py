@@ -1,11 +1,14 @@
 """Tests of clients that follow the redirects of a server, which records the cookies that it receives."""
 import asyncio
 import copy
+import pathlib
 import pickle
+import tempfile
 import unittest
 import urllib.request
 
-from support import LEFT, SECONDS, VISITS, Echo, in_threads, jar_of, keys, query, resolve_to_server, start_server
+from clients import run_fetch
+from support import LEFT, SECONDS, VISITS, in_threads, jar_of, keys, sorted_cookies, start_server
 
 from cookie_store import CookieStore, NoDomain, StoreJar
 
@@ -28,6 +31,10 @@ try:
     from cookie_store.aiohttp import StoreCookieJar
 except ImportError:
     aiohttp = None
+try:
+    import webtest
+except ImportError:
+    webtest = None
 
 
 class ServerTests(unittest.TestCase):
@@ -74,6 +81,19 @@ class UrllibTests(ServerTests):
 
 
 @unittest.skipIf(requests is None, 'requests is not installed')
+class FetchTests(ServerTests):
+
+    def test_login(self):
+        """examples/fetch.py has the session cookie of its first run in the second one, in each format."""
+        with tempfile.TemporaryDirectory() as folder:
+            for name in ('cookies.json', 'cookies.txt', 'cookies'):
+                for _ in range(2):
+                    run_fetch(pathlib.Path(folder, name), self.url('127.0.0.1', '/own/login'))
+                self.assertEqual([cookie for _, _, cookie in self.server.visits], [None, 'login=1'], name)
+                self.server.visits.clear()
+
+
+@unittest.skipIf(requests is None, 'requests is not installed')
 class RequestsTests(ServerTests):
 
     def setUp(self):
@@ -87,7 +107,8 @@ class RequestsTests(ServerTests):
         self.session.cookies = jar = StoreJar()
         answer = self.session.get(self.begin, timeout=SECONDS)
         self.assertEqual(answer.status_code, 200)
-        self.assert_followed(jar)
+        self.assertEqual(sorted_cookies(self.server.visits), sorted_cookies(VISITS))
+        self.assertEqual(keys(jar), LEFT)
 
     def test_use_store(self):
         """The store's header is sent, also if http.cookiejar would choose other cookies."""
@@ -134,6 +155,7 @@ class RequestsTests(ServerTests):
 class HttpxTests(ServerTests):
 
     def test_client(self):
+        """The store's header is sent, also if http.cookiejar would choose other cookies."""
         store = CookieStore()
         with httpx.Client(follow_redirects=True, trust_env=False, timeout=SECONDS) as client:
             use_in_client(client, store)
@@ -141,23 +163,8 @@ class HttpxTests(ServerTests):
             self.assert_followed(StoreJar(store))
             self.server.visits.clear()
             store.parse(self.url('localhost', '/'), 's=1; Secure')
-            client.get(self.url('localhost', '/own/x'), headers={'Cookie': 'own=1'})
-            store.clear()
-            client.get(self.url('localhost', '/none'), headers={'Cookie': 'own=1'})
-            self.assertEqual(self.server.visits, [('localhost', '/own/x', 'c=3; s=1'), ('localhost', '/none', None)])
-            self.assertEqual(len(client.cookies), 0)
-
-    def test_later_changes(self):
-        """A host-only cookie goes to no other host, whatever is assigned to the client later."""
-        resolve_to_server(self)
-        server = start_server(self, Echo)
-        for name, value in [('event_hooks', {}), ('cookies', {}), ('cookies', None), ('headers', {'Cookie': 'own=1'})]:
-            with httpx.Client(trust_env=False, timeout=SECONDS) as client:
-                use_in_client(client, CookieStore())
-                setattr(client, name, value)
-                client.get(query(f'http://a.example:{server.server_port}/x', c='only=1'))
-                client.get(f'http://b.a.example:{server.server_port}/x')
-            self.assertNotIn('only', server.visits.pop()[2] or '', name)
+            client.get(self.url('localhost', '/own/x'))
+            self.assertEqual(self.server.visits, [('localhost', '/own/x', 'c=3; s=1')])
 
     def test_async_client(self):
         store = CookieStore()
@@ -208,6 +215,15 @@ class AiohttpTests(ServerTests):
 
         self.run_with_jar(work)
 
+    def test_cookies_without_a_host(self):
+        """aiohttp would send them to every host."""
+        async def work(jar, session):
+            with self.assertRaisesRegex(ValueError, 'host'):
+                aiohttp.ClientSession(cookies={'mine': '1'}, cookie_jar=jar, connector=session.connector, connector_owner=False)
+            self.assertEqual(len(jar), 0)
+
+        self.run_with_jar(work)
+
     def test_jar(self):
         async def work(jar, _):
             url = yarl.URL('https://a.example/d/page')
@@ -235,6 +251,29 @@ class AiohttpTests(ServerTests):
             self.assertEqual(len(jar), 0)
 
         self.run_with_jar(work)
+
+
+@unittest.skipIf(webtest is None, 'webtest is not installed')
+class WebTestTests(unittest.TestCase):
+    """The jar of a webtest.TestApp, which sets cookies without other attributes."""
+
+    @staticmethod
+    def application(environ, start_response):
+        body = environ.get('HTTP_COOKIE', '').encode('latin-1')
+        cookies = [('Set-Cookie', 'session=1; Path=/')] if environ['PATH_INFO'] == '/login' else []
+        start_response('200 OK', [('Content-Type', 'text/plain'), ('Content-Length', str(len(body))), *cookies])
+        return [body]
+
+    def test_jar(self):
+        """The jar does what the one of webtest does."""
+        for jar in (None, StoreJar()):
+            app = webtest.TestApp(self.application, cookiejar=jar)
+            app.get('/login')
+            app.set_cookie('theme', 'dark')
+            self.assertEqual(sorted(app.get('/').text.split('; ')), ['session=1', 'theme="dark"'], jar)
+            self.assertEqual(app.cookies, {'session': '1', 'theme': '"dark"'}, jar)
+            app.reset()
+            self.assertEqual(app.get('/').text, '', jar)
 
 
 if __name__ == '__main__':

@@ -19,7 +19,7 @@ import unittest
 import urllib.request
 from unittest import mock
 
-from support import names
+from support import names, sent
 
 from cookie_store import BadLine, CookieStore, CookieStoreError, Format, Status, StoreJar, Which
 
@@ -234,9 +234,9 @@ class FileTests(unittest.TestCase):
                           ('c=3; SameSite=None; Max-Age=3600', NOW - 3600), ('d=4; Secure', None)]:
             jar.store.parse(f'https://{HOST}/', text, now)
         first, *lines, last = jar.store.dumps(Format.NETSCAPE, Which.ALL).split('\n')
-        for words, names in zip(FLAGS, ['b', 'abd', 'bc', 'abcd']):
+        for words, saved in zip(FLAGS, ['b', 'abd', 'bc', 'abcd']):
             jar.save(self.path, *words)
-            wanted = [line for line, name in zip(lines, 'abcd') if name in names]
+            wanted = [line for line, name in zip(lines, 'abcd') if name in saved]
             self.assertEqual(self.read().split('\n'), [first, *wanted, last], words)
 
     def test_domain_of_a_list_that_is_no_field_is_left_out(self):
@@ -313,6 +313,25 @@ class FileTests(unittest.TestCase):
         again.load(self.path, ignore_discard=True, ignore_expires=True)
         self.assertEqual(sorted((cookie.domain, cookie.path, cookie.name, cookie.value, cookie.secure) for cookie in again),
                          sorted((cookie.domain, cookie.path, cookie.name, cookie.value, cookie.secure) for cookie in jar))
+
+    def test_localhost_of_python(self):
+        """Python's jars write `localhost.local` for `localhost`, and their cookies are sent to it, loaded or copied."""
+        request = urllib.request.Request('http://localhost/d/page')
+        for kind in (http.cookiejar.MozillaCookieJar, http.cookiejar.LWPCookieJar):
+            theirs, jar = kind(), StoreJar()
+            for text in ('a=1', 'b=2; Path=/; Max-Age=3600'):
+                theirs.extract_cookies(Response(text), request)
+            theirs.save(self.path, ignore_discard=True)
+            self.assertIn('localhost.local', self.read())
+            if kind is http.cookiejar.MozillaCookieJar:
+                jar.load(self.path, ignore_discard=True)
+                store = CookieStore.open(self.path)
+            else:
+                jar.update(theirs)
+                store = jar.store.copy()
+            for header in (sent(jar, request.full_url), store.header(request.full_url)):
+                self.assertEqual(header, 'a=1; b=2', kind)
+            self.assertEqual((jar.get('a', domain='localhost'), jar.get('a', domain='localhost.local')), ('1', '1'), kind)
 
     def test_curl(self):
         """curl's files are loaded, and it sends the cookies of ours."""

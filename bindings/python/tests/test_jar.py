@@ -6,10 +6,12 @@ import itertools
 import time
 import unittest
 import urllib.request
+from unittest import mock
 
 from support import PAGE, SECONDS, Response, jar_of, keys, python_cookie, sent
 
 from cookie_store import CookieStore, CookieStoreError, Status, StoreJar
+from cookie_store._library import LIBRARY
 
 
 class NoCookies(http.cookiejar.CookiePolicy):
@@ -150,6 +152,23 @@ class JarTests(unittest.TestCase):
         jar.clear('a.example', '/d', 'n')
         self.assertEqual(len(jar), 0)
 
+    def test_strings(self):
+        """A string of a program stands for itself, and a cookie that is returned has those of http.client."""
+        rows = [('n', '\u20ac', '/d'), ('n', '\xfc', '/d'), ('\u20ac', '\xfc', '/\u0117'), ('\xfc', '\u20ac', '/\xe9'),
+                ('\u65e5', 'a', '/\u672c')]
+        for name, value, path in rows:
+            jar, other = StoreJar(), StoreJar()
+            jar.set(name, value, domain='a.example', path=path)
+            self.assertEqual([row[:4] for row in jar.store], [('a.example', path, name, value)])
+            wire = value.encode().decode('latin-1')
+            self.assertEqual((jar[name], jar.get(name, path=path), name in jar, jar.get_dict(path=path)),
+                             (wire, wire, True, {next(iter(jar)).name: wire}), (name, value))
+            other.update(jar)
+            self.assertEqual(other.store.cookies(), jar.store.cookies())
+            other.clear('a.example', path, name)
+            jar.clear('.a.example', path)
+            self.assertEqual((len(jar), len(other)), (0, 0), (name, value))
+
     def test_make_cookies(self):
         jar = StoreJar()
         response = Response('a=1', 'b=2; Domain=b.example', 'c=3; Path=/', 'd=4', 'd=; Max-Age=0')
@@ -189,19 +208,54 @@ class JarTests(unittest.TestCase):
     def test_clear(self):
         texts = ['a=1', 'b=2', 'c=3; Path=/', 'd=4; Domain=a.example', 'e=5; Max-Age=0']
         rows = [((), ''), (('a.example',), 'd'), (('.a.example',), 'abc'), (('a.example', '/d'), 'cd'),
-                (('a.example', '/d', 'b'), 'acd')]
+                (('a.example', '/d', 'b'), 'acd'), (('.a.example', '/d', 'd'), 'abc'), (('a.example', '/d', 'd'), 'abc')]
         for words, wanted in rows:
             jar = jar_of(*texts)
             jar.clear(*words)
             self.assertEqual(''.join(sorted(cookie.name for cookie in jar)), wanted, words)
+        for words in [('a.example',), ('a.example', '/')]:
+            jar = jar_of('d=4; Domain=a.example; Path=/', 'e=5; Domain=example; Path=/')
+            jar.clear(*words)
+            self.assertEqual(jar.keys(), ['e'], words)
         jar = jar_of(*texts)
-        for words in [('b.example',), ('a.example', '/x'), ('a.example', '/d', 'e'), ('.a.example', '/d', 'a')]:
+        for words in [('b.example',), ('a.example', '/x'), ('a.example', '/d', 'e'), ('.b.example', '/d', 'a')]:
             with self.subTest(words), self.assertRaises(KeyError):
                 jar.clear(*words)
         for words in [(None, '/d'), (None, None, 'a'), ('a.example', None, 'a')]:
             with self.subTest(words), self.assertRaises(ValueError):
                 jar.clear(*words)
         self.assertEqual(len(jar), 4)
+
+    def test_clear_without_a_dot(self):
+        """A host without a dot is found with '.local' and without, and a host of '.local' by its own name."""
+        for url, domains in [('http://web/', ['web', 'web.local', '.web.local']), ('http://vm.local/', ['vm.local', '.vm.local'])]:
+            for domain in domains:
+                jar = jar_of('a=1', url=url)
+                jar.clear(domain, '/', 'a')
+                self.assertEqual(len(jar), 0, domain)
+
+    def test_clear_reads_no_cookies(self):
+        """One cookie is removed by one call of the library, however many there are."""
+        jar = jar_of(*(f'c{number}=1' for number in range(100)))
+        cookies = list(jar)
+        with mock.patch.object(CookieStore, '_read_rows', side_effect=AssertionError('cookies are read')), \
+                mock.patch.object(LIBRARY, 'cookie_store_remove', side_effect=LIBRARY.cookie_store_remove) as remove:
+            for cookie in cookies:
+                jar.clear(cookie.domain, cookie.path, cookie.name)
+        self.assertEqual((remove.call_count, len(jar)), (100, 0))
+
+    def test_attributes(self):
+        """HttpOnly and SameSite are nonstandard attributes, whose names and values ignore case."""
+        rows = [(None, (False, None)), ({}, (False, None)), ({'HttpOnly': None}, (True, None)), ({'httponly': True}, (True, None)),
+                ({'HttpOnly': False}, (False, None)), ({'HttpOnly': ''}, (False, None)), ({'HttpOnly': 'None'}, (True, None)),
+                ({'HttpOnly': False, 'SameSite': 'lax'}, (False, 'Lax')), ({'samesite': 'STRICT'}, (False, 'Strict')),
+                ({'SameSite': 'none'}, (False, 'None')), ({'SameSite': None}, (False, None)), ({'SameSite': 'other'}, (False, None)),
+                ({'SameSite': 'Lax; Domain=example'}, (False, None)), ({'other': 1}, (False, None))]
+        for rest, wanted in rows:
+            jar = StoreJar()
+            jar.set_cookie(python_cookie('a.example', rest=rest))
+            jar.set('b', '2', domain='a.example', rest=rest)
+            self.assertEqual([(row.http_only, row.same_site) for row in jar.store], [wanted] * 2, rest)
 
     def test_clear_some(self):
         jar = jar_of('a=1', 'b=2; Max-Age=3600', 'c=3', 'c=3; Max-Age=0')
@@ -229,7 +283,8 @@ class JarTests(unittest.TestCase):
         self.assertEqual((sent(jar, PAGE), sent(jar, 'http://b.example/')), ('b=2; a=1', None))
         self.assertEqual(len(jar.copy()), 2)
         jar.extract_cookies(Response('a=1; Path=/; Max-Age=0'), urllib.request.Request(PAGE))
-        self.assertEqual(sent(jar, PAGE), 'b=2')
+        with mock.patch.object(CookieStore, 'cookies', side_effect=AssertionError('all cookies are read')):
+            self.assertEqual(sent(jar, PAGE), 'b=2')
 
 
 if __name__ == '__main__':

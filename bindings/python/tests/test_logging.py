@@ -9,13 +9,11 @@ import tempfile
 import unittest
 import urllib.request
 
-from clients import CLIENTS, aiohttp, httpx
+from clients import CLIENTS, aiohttp
 from support import Echo, Response, jar_of, python_cookie, query, resolve_to_server, start_server
 
 from cookie_store import CookieStore, StoreJar
 
-if httpx is not None:
-    from cookie_store.httpx import use_store as use_in_client
 if aiohttp is not None:
     import yarl
 
@@ -138,17 +136,10 @@ class LoggingTests(unittest.TestCase):
                        "cookie 'secure' is not sent to host 'a.example': http.cookies does not allow it"):
             jar.filter_cookies(url)
 
-    @unittest.skipIf(httpx is None, 'httpx is not installed')
-    def test_not_sent_by_httpx(self):
-        with httpx.Client(transport=httpx.MockTransport(lambda _: httpx.Response(200))) as client:
-            use_in_client(client, CookieStore())
-            with self.logs("cookie 'a' is not sent to host 'a.example': it is not of the store",
-                           "cookie 'b' is not sent to host 'a.example': it is not of the store"):
-                client.get('http://a.example/', headers={'Cookie': 'a=VALUE; b=VALUE'})
-
     def test_loaded_files(self):
         lines = ['a.example\tFALSE\t/\tFALSE\t0\ta\tVALUE', 'a.example\tFALSE\t/\tFALSE\t0\t__Secure-b\tVALUE',
-                 '1.2.3.300\tFALSE\t/\tFALSE\t0\tc\tVALUE', 'a b\tFALSE\t/\tFALSE\t0\td\tVALUE', '0:0:0:0:0:0:0:1\tFALSE\t/\tFALSE\t0\te\tVALUE']
+                 '1.2.3.300\tFALSE\t/\tFALSE\t0\tc\tVALUE', 'a b\tFALSE\t/\tFALSE\t0\td\tVALUE',
+                 '0:0:0:0:0:0:0:1\tFALSE\t/\tFALSE\t0\te\tVALUE']
         self.path.write_text('\n'.join(lines) + '\n', encoding='utf-8')
         with self.logs("cookie '__Secure-b' of host 'a.example' is not stored: lacks what the prefix of its name demands",
                        "cookie 'c' of host '1.2.3.300' is not stored: not a valid URL",

@@ -1,10 +1,13 @@
 """Tests of StoreJar as a requests.cookies.RequestsCookieJar, which passes the same tests."""
-import copy
 import http.cookies
 import pickle
 import unittest
+from unittest import mock
+
+from support import jar_with
 
 from cookie_store import CookieStore, NoDomain, StoreJar
+from cookie_store._cookies import JarCookie
 
 try:
     from requests.cookies import CookieConflictError, RequestsCookieJar
@@ -45,18 +48,11 @@ CHANGES = [
     ('pop, a default', lambda jar: jar.pop('c', None), '123'),
     ('del', lambda jar: jar.__delitem__('b'), '1'),
     ('del, no such name', lambda jar: jar.__delitem__('c'), '123'),
-    ('update, a jar', lambda jar: jar.update(filled(type(jar), [('c', '4', A, '/'), ('a', '5', A, '/')])), '2345'),
+    ('update, a jar', lambda jar: jar.update(jar_with(type(jar), [('c', '4', A, '/'), ('a', '5', A, '/')])), '2345'),
     ('update, Morsels', lambda jar: jar.update({'c': morsel('c=4; Domain=a.example; Path=/')}), '1234'),
     ('update, pairs', lambda jar: jar.update([('c', morsel('c=4; Domain=a.example; Max-Age=60; Secure'))]), '1234'),
     ('update, expired', lambda jar: jar.update({'c': morsel('c=4; Domain=a.example; Max-Age=-1')}), '123'),
 ]
-
-
-def filled(kind, cookies):
-    jar = kind()
-    for name, value, domain, path in cookies:
-        jar.set(name, value, domain=domain, path=path)
-    return jar
 
 
 def morsel(text):
@@ -68,7 +64,7 @@ class MappingTests(unittest.TestCase):
     def jars(self):
         """Yield a jar of each class."""
         for kind in filter(None, (StoreJar, RequestsCookieJar)):
-            yield filled(kind, [('a', '1', A, '/'), ('b', '2', A, '/d'), ('b', '3', B, '/')])
+            yield jar_with(kind, [('a', '1', A, '/'), ('b', '2', A, '/d'), ('b', '3', B, '/')])
 
     def test_returns(self):
         for name, call, wanted in RETURNS:
@@ -111,8 +107,44 @@ class MappingTests(unittest.TestCase):
         self.assertEqual((cookie.name, cookie.value), ('a', '1'))
         self.assertEqual(list(jar.store), [(A, '/d', 'a', '1', 4102444800, False, True, True, False, 'Lax')])
         self.assertIsNone(jar.store.header(f'https://{A}/d', same_site=False))
-        jar.set('a', morsel('a=2; Domain=b.example; Path=/; HttpOnly; Expires=Fri, 01 Jan 2100 00:00:00 GMT'))
-        self.assertEqual(jar.store.cookies()[1], (B, '/', 'a', '2', 4102444800, False, True, False, True, None))
+        jar.set('a', morsel('a=2; Domain=b.example; Path=/; HttpOnly; SameSite=strict; Expires=Fri, 01 Jan 2100 00:00:00 GMT'))
+        self.assertEqual(jar.store.cookies()[1], (B, '/', 'a', '2', 4102444800, False, True, False, True, 'Strict'))
+
+    def test_host_only(self):
+        rows = [({}, False), ({'domain_specified': True}, False), ({'domain_specified': None}, False),
+                ({'domain_specified': False}, True)]
+        for words, wanted in rows:
+            jar = StoreJar()
+            cookie = jar.set('a', '1', domain=A, **words)
+            self.assertEqual((cookie.domain_specified, [row.host_only for row in jar.store]), (not wanted, [wanted]), words)
+
+    def test_a_dict_is_made_in_one_pass(self):
+        """All cookies are read once and indexed by their names once, however many there are."""
+        jar = jar_with(StoreJar, [(f'c{number}', str(number), A, '/') for number in range(100)])
+        with mock.patch.object(CookieStore, '_read_rows', autospec=True, side_effect=CookieStore._read_rows) as rows, \
+                mock.patch.object(JarCookie, '__init__', autospec=True, side_effect=JarCookie.__init__) as made:
+            self.assertEqual(dict(jar), {f'c{number}': str(number) for number in range(100)})
+        self.assertEqual((rows.call_count, made.call_count), (1, 200))
+        jar.set('c0', 'other', domain=A)
+        self.assertEqual((jar['c0'], jar.get('c100')), ('other', None))
+        jar.set('c0', None)
+        self.assertNotIn('c0', jar)
+
+    def test_local_hosts(self):
+        """The domain vm.local of a jar is that of the hosts vm and vm.local."""
+        for domain, left in [('vm', ['vm.local']), ('vm.local', [])]:
+            jar = StoreJar()
+            for host in ('vm', 'vm.local'):
+                jar.store.parse(f'http://{host}/', 'a=1')
+            self.assertEqual(jar.list_domains(), ['vm.local'])
+            jar.set('a', None, domain=domain)
+            self.assertEqual([row.domain for row in jar.store], left, domain)
+
+    def test_expired_cookies_are_not_found(self):
+        jar = jar_with(StoreJar, [('a', '1', A, '/')])
+        jar.store.parse(f'http://{A}/', 'b=2; Max-Age=60', 0)
+        jar.store.parse(f'http://{A}/x/y', 'a=3; Max-Age=60', 0)
+        self.assertEqual((jar['a'], jar.get('b'), 'b' in jar, 1 in jar), ('1', None, False, False))
 
     def test_domains(self):
         """A domain cookie is found with and without the leading dot, and a host without a dot with and without .local."""
@@ -123,45 +155,7 @@ class MappingTests(unittest.TestCase):
                 ('b', '.localhost', None)]
         for name, domain, wanted in rows:
             self.assertEqual(jar.get(name, domain=domain), wanted, domain)
-        self.assertFalse(filled(StoreJar, [('a', '1', A, '/'), ('b', '2', A, '/')]).multiple_domains())
-
-
-class CopyTests(unittest.TestCase):
-    """Copies and pickles of stores and jars."""
-
-    WAYS = [('copy()', lambda one: one.copy()), ('copy', copy.copy), ('deepcopy', copy.deepcopy),
-            ('pickle', lambda one: pickle.loads(pickle.dumps(one)))]
-
-    def test_store(self):
-        store = CookieStore(strict=True)
-        store.set_suffix_list('example\n')
-        store.set_domain_limit(2)
-        for text in ('a=1', 'b=gr\u00fcn; Max-Age=60'):
-            store.parse(f'https://{A}/', text)
-        for name, make in self.WAYS:
-            other = make(store)
-            self.assertEqual((other.cookies(), other.strict, other.domain_limit), (store.cookies(), True, 2), name)
-            statuses = [other.parse(f'http://{A}/', text).name for text in ('c=3; Secure', 'c=3; Domain=example', 'c=3')]
-            self.assertEqual(statuses, ['INSECURE_URL', 'PUBLIC_SUFFIX', 'INSERTED'], name)
-            self.assertEqual((other.header(f'https://{A}/'), len(store)), ('b=gr\u00fcn; c=3', 2), name)
-
-    def test_jar(self):
-        jar = filled(StoreJar, [('a', '1', A, '/')])
-        jar.filename = 'cookies.txt'
-        for name, make in self.WAYS:
-            other = make(jar)
-            other.set('b', '2', domain=A)
-            self.assertEqual((other.get_dict(), other.filename), ({'a': '1', 'b': '2'}, 'cookies.txt'), name)
-            self.assertEqual(jar.get_dict(), {'a': '1'}, name)
-            self.assertEqual(vars(other).keys(), vars(jar).keys(), name)
-
-    def test_cookies(self):
-        """The cookies of a jar are ordinary objects, and changing one changes neither the jar nor the next one."""
-        jar = filled(StoreJar, [('a', '1', A, '/')])
-        for name, make in self.WAYS[1:]:
-            cookie = make(next(iter(jar)))
-            cookie.value = '2'
-            self.assertEqual((repr(cookie), jar['a']), (repr(next(iter(jar))).replace("value='1'", "value='2'"), '1'), name)
+        self.assertFalse(jar_with(StoreJar, [('a', '1', A, '/'), ('b', '2', A, '/')]).multiple_domains())
 
 
 if __name__ == '__main__':

@@ -47,7 +47,7 @@ class ReadmeTests(unittest.TestCase):
 
         pathlib.Path('list.dat').write_text('co.uk\n')
         patches = [mock.patch('socket.getaddrinfo', resolve), mock.patch.dict(os.environ, no_proxy='*'),
-                   mock.patch('cookie_store._store.SYSTEM_SUFFIXES', 'list.dat')]
+                   mock.patch('cookie_store._handle.SYSTEM_SUFFIXES', 'list.dat')]
         with contextlib.suppress(ImportError):
             import aiohttp
             patches.append(mock.patch('aiohttp.connector.DefaultResolver', aiohttp.ThreadedResolver))

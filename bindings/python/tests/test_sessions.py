@@ -4,7 +4,7 @@ import pickle
 import unittest
 import unittest.mock
 
-from support import SECONDS, Echo, make_certificate, query, resolve_to_server, server_context, start_server
+from support import SECONDS, Echo, make_certificate, query, resolve_to_server, server_context, sorted_cookies, start_server
 
 from cookie_store import CookieStore, StoreJar
 
@@ -109,6 +109,10 @@ SAME = [
     ('cookies.set', lambda session, url: (session.cookies.set('new', '2', domain='a.example', path='/'),
                                           session.get(url('a.example', '/x')))),
     ('cookies.clear', lambda session, url: (session.cookies.clear(), session.get(url('a.example', '/x')))),
+    ('cookies.clear, a domain', lambda session, url: (session.cookies.clear('a.example'), session.get(url('a.example', '/here/x')),
+                                                      session.get(url('b.example', '/x')))),
+    ('cookies.clear, one', lambda session, url: (session.cookies.clear('a.example', '/', 'stored'),
+                                                 session.get(url('a.example', '/here/x')))),
     ('other cookies', lambda session, url: (setattr(session, 'cookies', jar_of('other', 'a.example')),
                                             session.get(url('a.example', '/x')))),
     ('authentication', lambda session, url: session.get(url('a.example', '/x'), auth=CookieSigner())),
@@ -140,11 +144,6 @@ def by_hand(url):
     request.prepare_url(url, None)
     request.prepare_headers({})
     return request
-
-
-def sorted_cookies(visits):
-    """Without a store requests sends cookies of equal paths in the order of their domains."""
-    return [(host, path, cookie and sorted(cookie.split('; '))) for host, path, cookie in visits]
 
 
 @unittest.skipIf(requests is None, 'requests is not installed')

@@ -1,6 +1,6 @@
 """Tests of CookieStore: tables list the calls with their statuses."""
-import copy
 import gc
+import math
 import os
 import pathlib
 import pickle
@@ -9,13 +9,12 @@ import time
 import unittest
 from unittest import mock
 
-from support import NOW, PAGE, SECONDS, in_threads, names
+from support import FIRST, LAST, NOW, PAGE, SECONDS, filled, in_threads, names
 
 from cookie_store import BadRule, Cookie, CookieStore, CookieStoreError, Format, Status, Which
+from cookie_store._handle import SYSTEM_SUFFIXES
 from cookie_store._library import LIBRARY
-from cookie_store._store import SYSTEM_SUFFIXES
 
-FIRST, LAST = -377705116800, 253402300799  # the years -9999 and 9999
 SECURE_PAGE = 'https://a.example/d/page'
 
 # Set one after the other in one store, with a public suffix list of the one rule `example`.
@@ -84,14 +83,6 @@ CROSS_SITE = [
     ({'same_site': True}, 'nuls'),
 ]
 
-# Which cookies are saved or loaded at a time: of `a`, which expires at NOW + 60, the session cookie `b`, and `c`, which expires
-# at NOW + 90.
-SELECTIONS = [
-    (Which.ALL, NOW, 'abc'), (Which.ALL, NOW + 60, 'abc'), (Which.ALL, NOW + 90, 'abc'),
-    (Which.UNEXPIRED, NOW, 'abc'), (Which.UNEXPIRED, NOW + 60, 'bc'), (Which.UNEXPIRED, NOW + 90, 'b'),
-    (Which.PERSISTENT, NOW, 'ac'), (Which.PERSISTENT, NOW + 60, 'c'), (Which.PERSISTENT, NOW + 90, ''),
-]
-
 JSON = '[{"raw_cookie":"%s","path":["/",false],"domain":{"HostOnly":"a.example"},"expires":%s}]'
 RON = '[(raw_cookie: "%s", path: ("/", false), domain: HostOnly("a.example"), expires: %s)]'
 
@@ -105,6 +96,8 @@ RAISES = [
     ('parse, before the years', lambda store: store.parse(PAGE, 'a=1', FIRST - 1), Status.BAD_TIME),
     ('parse, after the years', lambda store: store.parse(PAGE, 'a=1', LAST + 1), Status.BAD_TIME),
     ('parse, a time of more than 64 bits', lambda store: store.parse(PAGE, 'a=1', 2**64), Status.BAD_TIME),
+    *((f'parse, {now}', lambda store, now=now: store.parse(PAGE, 'a=1', now), Status.BAD_TIME)
+      for now in (math.nan, math.inf, -math.inf, 1e300)),
     ('header, no URL', lambda store: store.header('no url'), Status.BAD_URL),
     ('header, not UTF-8', lambda store: store.header(b'\xff'), Status.NOT_UTF8),
     ('header, after the years', lambda store: store.header(PAGE, LAST + 1), Status.BAD_TIME),
@@ -171,14 +164,6 @@ CLOSED = [
 ]
 
 
-def filled(*texts, url=PAGE, now=NOW):
-    """Return a store with these cookies."""
-    store = CookieStore()
-    for text in texts:
-        store.parse(url, text, now)
-    return store
-
-
 class StoreTests(unittest.TestCase):
     """Tests of each method of CookieStore."""
 
@@ -222,8 +207,8 @@ class StoreTests(unittest.TestCase):
 
     def test_types(self):
         with CookieStore() as store:
-            for name, call in [('float', lambda: store.parse(PAGE, 'a=1', 1.5)), ('None', lambda: store.parse(PAGE, None)),
-                               ('number', lambda: store.header(1))]:
+            for name, call in [('a time', lambda: store.parse(PAGE, 'a=1', '1')), ('None', lambda: store.parse(PAGE, None)),
+                               ('number', lambda: store.header(1)), ('another store', lambda: store.merge(1))]:
                 with self.subTest(name), self.assertRaises((TypeError, AttributeError)):
                     call()
 
@@ -286,7 +271,7 @@ class StoreTests(unittest.TestCase):
         self.assert_suffixes(store, 'PUBLIC_SUFFIX', 'INSERTED', 'INSERTED')
 
     def test_no_suffixes_of_the_system(self):
-        with mock.patch('cookie_store._store.SYSTEM_SUFFIXES', '/none/list.dat'):
+        with mock.patch('cookie_store._handle.SYSTEM_SUFFIXES', '/none/list.dat'):
             with self.assertRaisesRegex(FileNotFoundError, 'publicsuffix.*/none/list.dat'):
                 CookieStore().set_suffix_list()
 
@@ -421,53 +406,6 @@ class StoreTests(unittest.TestCase):
         self.assertEqual('; '.join(f'{row.name}={row.value}' for row in store), wanted)
         self.assertEqual(CookieStore.loads(store.dumps(which=Which.ALL, now=NOW), now=NOW).header(PAGE, NOW), wanted)
 
-    def test_many_cookies_are_saved_by_one_call(self):
-        store = CookieStore()
-        for number in range(1000):
-            store.parse(PAGE, f'name{number}=value of the cookie {number}; Path=/a/{number}', NOW)
-        for form in Format:
-            with mock.patch.object(LIBRARY, 'cookie_store_save', side_effect=LIBRARY.cookie_store_save) as save:
-                self.assertEqual(len(CookieStore.loads(store.dumps(form, Which.ALL, NOW), form)), 1000, form)
-            save.assert_called_once()
-
-    def test_escaped_characters(self):
-        """A list that is longer than expected is written twice."""
-        store = filled('a=' + '\x01' * 4000)
-        with mock.patch.object(LIBRARY, 'cookie_store_save', side_effect=LIBRARY.cookie_store_save) as save:
-            self.assertEqual(CookieStore.loads(store.dumps(which=Which.ALL, now=NOW), now=NOW).cookies(), store.cookies())
-        self.assertEqual(save.call_count, 2)
-
-    def test_selections(self):
-        store = filled('a=1; Max-Age=60', 'b=2', 'c=3; Max-Age=90')
-        for form in Format:
-            whole = store.dumps(form, Which.ALL, NOW)
-            self.assertTrue(whole.endswith('\n'), form)
-            for which, now, wanted in SELECTIONS:
-                text = store.dumps(form, which, now)
-                self.assertEqual(names(CookieStore.loads(text, form, Which.ALL, now)), wanted, (form, which, now))
-                self.assertEqual(store.dumps(int(form), int(which), now), text, (form, which, now))
-                self.assertEqual(names(CookieStore.loads(whole, form, which, now)), wanted, (form, which, now))
-        for form in (Format.JSON, Format.RON):
-            self.assertEqual(CookieStore.loads(store.dumps(form, Which.ALL, NOW), form, now=NOW).cookies(), store.cookies(), form)
-
-    def test_lenient_selections(self):
-        store = filled('a=1; Max-Age=60', 'b=2', 'c=3; Max-Age=90')
-        whole = store.dumps(Format.NETSCAPE, Which.ALL, NOW)
-        for which, now, wanted in SELECTIONS:
-            text, left_out = store.dumps_lenient(which, now)
-            self.assertEqual((names(CookieStore.loads(text, Format.NETSCAPE, Which.ALL)), left_out), (wanted, 0), (which, now))
-            loaded, malformed = CookieStore.loads_lenient(whole, which, now)
-            self.assertEqual((names(loaded), malformed), (wanted, []), (which, now))
-
-    def test_default_selections(self):
-        """Persistent cookies are saved, and session cookies are loaded too. The format is JSON."""
-        store = filled('a=1; Max-Age=60', 'b=2', 'c=3; Max-Age=90')
-        self.assertEqual(store.dumps(now=NOW), store.dumps(Format.JSON, Which.PERSISTENT, NOW))
-        self.assertEqual(store.dumps_lenient(now=NOW), store.dumps_lenient(Which.PERSISTENT, NOW))
-        text, lines = store.dumps(which=Which.ALL, now=NOW), store.dumps(Format.NETSCAPE, Which.ALL, NOW)
-        self.assertEqual(names(CookieStore.loads(text, now=NOW + 60)), 'bc')
-        self.assertEqual(names(CookieStore.loads_lenient(lines, now=NOW + 60)[0]), 'bc')
-
     def test_expiry_of_a_list(self):
         early = filled('a=1; Max-Age=1', now=FIRST)
         for form in (Format.JSON, Format.RON):
@@ -481,47 +419,19 @@ class StoreTests(unittest.TestCase):
         self.assertLess(abs(store.cookies()[0].expires - time.time() - 3600), SECONDS)
         self.assertEqual(len(CookieStore.loads(store.dumps())), 1)
 
-    def test_copy(self):
-        store = filled('a=1; Max-Age=1', 'b=2')
-        store.set_suffix_list('example\n')
-        other = store.copy()
-        self.assertEqual(other.cookies(), store.cookies())
-        self.assertIs(other.parse(PAGE, 'c=3; Domain=example'), Status.PUBLIC_SUFFIX)
-        other.clear()
-        self.assertEqual(len(store), 2)
+    def test_fractions(self):
+        """A cookie that expires in a second has expired from that second on, and not before."""
+        store = filled('a=1; Max-Age=60')
+        for now, wanted in [(NOW + 59.999, 'a=1'), (NOW + 60.0, None), (NOW + 60.5, None), (-0.5, 'a=1')]:
+            self.assertEqual((store.header(PAGE, now), store.copy().remove_expired(now)), (wanted, int(wanted is None)), now)
+        store.parse(PAGE, 'b=2; Max-Age=60', NOW + 0.9)
+        self.assertEqual(store.cookies()[1].expires, NOW + 60)
 
-    def test_merge(self):
-        store, other = filled('a=1', 'b=2; Path=/'), filled('b=3; Path=/', '__Host-c=4', 'd=5; Domain=a.example')
-        store.set_suffix_list('a.example\n')
-        self.assertEqual(store.merge(other, NOW), 0)
-        self.assertEqual([(row.name, row.value, row.host_only) for row in store],
-                         [('a', '1', True), ('__Host-c', '4', True), ('d', '5', True), ('b', '3', True)])
-        strict = CookieStore(strict=True)
-        self.assertEqual(strict.merge(other, NOW), 1)
-        self.assertEqual([row.name for row in strict], ['b', 'd'])
-        self.assertEqual(strict.merge(CookieStore.loads('a b\tFALSE\t/\tFALSE\t0\tc\t3\n', Format.NETSCAPE), NOW), 1)
-        self.assertEqual(len(other), 3)
-        self.assertEqual((strict.merge(strict, NOW), len(strict)), (0, 2))
-        other.close()
-        with self.assertRaises(CookieStoreError) as caught:
-            store.merge(other, NOW)
-        self.assertIs(caught.exception.status, Status.NO_STORE)
-
-    def test_copy_is_whole(self):
-        """What no saved list has survives a copy; a pickle has what a list has."""
-        store = filled('a=1; Path=/x', 'b=2; Path=/y', 'c=3; Path=/x')
-        store.parse('http://b.example/', 'n=1; SameSite=None', NOW)
-        store.set_domain_limit(2)
-        for make in (CookieStore.copy, copy.copy, copy.deepcopy):
-            other = make(store)
-            self.assertEqual(other.cookies(), store.cookies())
-            self.assertEqual([(row.secure, row.same_site) for row in other if row.name == 'n'], [(False, 'None')])
-            # The limit evicts in creation order, which is not that of the store.
-            other.parse(PAGE, 'd=4; Path=/z', NOW)
-            self.assertEqual(names(other), 'cdn')
-        pickled = pickle.loads(pickle.dumps(store))
-        self.assertEqual([row.secure for row in pickled if row.name == 'n'], [True])
-        self.assertEqual(len(filled('a=1; Max-Age=1', now=FIRST).copy()), 1)
+    def test_repr(self):
+        store = filled('secret=1', 'b=2')
+        self.assertEqual(repr(store), '<CookieStore of 2 cookies>')
+        store.close()
+        self.assertEqual(repr(store), '<CookieStore of 0 cookies>')
 
     def test_cookies_for(self):
         store = filled('b=2; Path=/; HttpOnly', 'gr\u00fcn=1; Max-Age=60', 'c=3')
@@ -533,7 +443,8 @@ class StoreTests(unittest.TestCase):
                 self.assertLessEqual(set(cookies), set(store.cookies()))
         self.assertEqual([row.name for row in store.cookies_for(SECURE_PAGE, NOW)], ['gr\u00fcn', 'c', 's', 'b'])
         self.assertEqual(store.cookies_for(PAGE.encode())[-1].name, 'b')
-        for status, url, now in [(Status.BAD_URL, 'no url', NOW), (Status.BAD_TIME, 'no url', LAST + 1), (Status.NOT_UTF8, b'\xff', LAST + 1)]:
+        for status, url, now in [(Status.BAD_URL, 'no url', NOW), (Status.BAD_TIME, 'no url', LAST + 1),
+                                 (Status.NOT_UTF8, b'\xff', LAST + 1)]:
             self.assert_raises(status.name, status, store.cookies_for, url, now)
 
     def test_threads(self):

@@ -38,7 +38,7 @@ impl Format {
 pub enum Which {
     /// The persistent cookies that have not expired.
     Persistent,
-    /// The cookies that have not expired, session cookies included.
+    /// The cookies that have not expired, session cookies included. A login is usually one.
     Unexpired,
     /// All cookies.
     All,
@@ -71,9 +71,14 @@ impl CookieStore {
     /// store.parse("session=1", "https://example.com/", now)?;
     /// store.parse("lasting=2; Max-Age=60", "https://example.com/", now)?;
     ///
-    /// let list = store.to_text(Format::Json, Which::Persistent, now)?;
-    /// let store = CookieStore::from_text(&list, Format::Json, Which::Unexpired, now)?;
-    /// assert_eq!(store.cookie_header("https://example.com/", now)?.as_deref(), Some("lasting=2"));
+    /// for (which, wanted) in [
+    ///     (Which::Unexpired, "session=1; lasting=2"),
+    ///     (Which::Persistent, "lasting=2"),
+    /// ] {
+    ///     let list = store.to_text(Format::Json, which, now)?;
+    ///     let loaded = CookieStore::from_text(&list, Format::Json, Which::Unexpired, now)?;
+    ///     assert_eq!(loaded.cookie_header("https://example.com/", now)?.as_deref(), Some(wanted));
+    /// }
     /// # Ok::<(), pulleymaroon::Error>(())
     /// ```
     ///

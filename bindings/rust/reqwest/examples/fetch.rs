@@ -1,4 +1,4 @@
-//! Gets each URL and prints the body. The persistent cookies are kept in FILE, a list in JSON.
+//! Gets each URL and prints the body. The unexpired cookies are kept in FILE, a list in JSON.
 
 use std::error::Error;
 use std::fs::{self, OpenOptions};
@@ -21,7 +21,7 @@ fn main() -> Result<(), Box<dyn Error>> {
     let fetched = arguments.try_for_each(|url| print_body(&client, &url));
     // After an error too, the cookies that were received are saved.
     let now = SystemTime::now();
-    let list = store.lock().to_text(Format::Json, Which::Persistent, now)?;
+    let list = store.lock().to_text(Format::Json, Which::Unexpired, now)?;
     save(Path::new(&file), &list)?;
     Ok(fetched?)
 }
