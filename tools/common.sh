@@ -93,3 +93,6 @@ with_compiler() {
 
 # compile_fail_allocation COMPILER..: compiles tools/fail_allocation.c into $temp/fail_allocation.so.
 compile_fail_allocation() { "$@" -O2 -shared -fPIC -nostdlib -o "$temp/fail_allocation.so" tools/fail_allocation.c; }
+
+# quoted LANGUAGE FILE: the first program of that language that a Markdown file quotes.
+quoted() { awk -v begin="\`\`\`$1" '$0 == "```" { if (quotes) exit } quotes; $0 == begin { quotes = 1 }' "$2"; }

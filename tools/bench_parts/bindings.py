@@ -8,7 +8,8 @@ installed, are those of a session or a client with a store, and of one without. 
 folder, from --archive; without it the library is proved and built first. Needs a C compiler.
 
 Then it prints the same of Node's CookieStore and CookieJar, and how many times as long tough-cookie takes: for cookies of hosts
-with 20 each, and for one host whose cookies have a path each. Needs Node with its headers, and tough-cookie.
+with 20 each, and for one host whose cookies have a path each. That is left out without Node and its headers, and the ratios without
+tough-cookie.
 
 Exit status: 0; 1 if a call fails, if a request has other cookies without a store, or if a peer is ahead on an idle machine."""
 import gc

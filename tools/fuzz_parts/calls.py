@@ -2,7 +2,7 @@
 Usage: tools/fuzz calls [--seconds N] [--seed N] [--archive FILE]
 
 A case has up to 60 calls over three handles; each function that the header declares is called, with any strings, times, numbers of
-formats and lengths of buffers. In most calls one allocation fails, or all from one on.
+formats and lengths of buffers. In half of the calls one allocation is to fail, or all from one on.
 
 - A call returns a status that the comment of the function lists: NO_MEMORY only if an allocation failed, NO_STORE and HAS_STORE
   exactly if a handle is empty or is not, BAD_TIME only for a time out of range, which is an error.

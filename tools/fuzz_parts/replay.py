@@ -1,8 +1,7 @@
 """Replays the corpus, tools/fuzz_parts/corpus, through the checks of the fuzzers.
 Usage: tools/fuzz replay [--archive FILE]
 
-A file of the corpus has the entries of a kind: a comment that says what an entry is about, and below it a line with a literal of
-Python: bytes, or a dict or list of them. A fuzzer that fails prints its input in this form.
+A file of the corpus has the entries of a kind, in the form that corpus_files.py reads. A fuzzer that fails prints its input in this form.
 
 kind           what checks it
 scripts        tools/fuzz scripts: the script, under the public suffix list `rules` and the limit `limit`, if it has them

@@ -75,7 +75,7 @@ function contextOf(sameSiteContext) {
   return context;
 }
 
-/** Returns whether a cookie lacks what the prefix of its name demands. */
+/** Returns whether a cookie lacks what the prefix of its name demands, which counts in this case alone, as in tough-cookie. */
 function breaksPrefix({ key, secure, domain, hostOnly, path }) {
   if (key.startsWith('__Secure-')) return !secure;
   return key.startsWith('__Host-') && !(secure && (hostOnly || !domain) && path === '/');

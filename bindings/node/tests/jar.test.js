@@ -73,7 +73,7 @@ test('tough-cookie does the same', { skip: !tough && 'there is no tough-cookie' 
   compare(SCRIPTS, (calls) => run(new tough.CookieJar(), calls));
 });
 
-// Each row of the table 'What differs' that a call shows: tough-cookie's result, and ours.
+// What differs, by the table of the page 'Moving from tough-cookie', where a call shows it: tough-cookie's result, and ours.
 const DIFFERENCES = [
   [[['set', 'a=1; Secure', 'https://localhost/'], ['get', 'http://localhost/']], '', 'a=1'],
   [[['set', 'a=1', 'http://a.example/'], ['get', 'http://b\\@a.example/']], '', 'rejected'],

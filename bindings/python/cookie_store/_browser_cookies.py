@@ -21,7 +21,7 @@ _NAME, _VALUE, _PATH = (re.compile(form) for form in (r'[^=;\ud800-\udfff]+', r'
 _LATEST = 253402300799  # 9999-12-31T23:59:59
 
 
-def store_of(cookies: Iterable[Mapping[str, Any]], expiry: str) -> CookieStore:
+def store_from(cookies: Iterable[Mapping[str, Any]], expiry: str) -> CookieStore:
     """Return a store with the cookies of a browser, whose expiry is in the field of this name.
 
     Those that it cannot have are logged. Raises BAD_SHAPE if one of them is not a mapping.

@@ -28,7 +28,7 @@ import tempfile
 import urllib.parse
 from typing import Any, Dict, Iterable, Iterator, List, Mapping, Tuple
 
-from ._browser_cookies import accepted, fields_of, store_of
+from ._browser_cookies import accepted, fields_of, store_from
 from ._files import Path
 from ._listing import Cookie
 from ._store import CookieStore
@@ -50,7 +50,7 @@ def from_selenium(cookies: Iterable[Mapping[str, Any]]) -> CookieStore:
 
     The driver of Chromium returns SameSite=Lax for a cookie without SameSite.
     """
-    return store_of(cookies, 'expiry')
+    return store_from(cookies, 'expiry')
 
 
 def to_selenium(store: CookieStore, url: str) -> List[Dict[str, Any]]:
@@ -82,7 +82,7 @@ def _without_none(fields: Dict[str, Any]) -> Dict[str, Any]:
 
 def from_playwright(state: Mapping[str, Any]) -> CookieStore:
     """Return a store with the cookies of a storage state: context.storage_state(), or its file read as JSON."""
-    return store_of(state['cookies'], 'expires')
+    return store_from(state['cookies'], 'expires')
 
 
 def to_playwright(store: CookieStore) -> Dict[str, Any]:
@@ -100,7 +100,7 @@ def from_extension(cookies: Iterable[Mapping[str, Any]]) -> CookieStore:
         with open('exported.json', encoding='utf-8') as file:
             store = from_extension(json.load(file))
     """
-    return store_of(cookies, 'expirationDate')
+    return store_from(cookies, 'expirationDate')
 
 
 def to_extension(store: CookieStore, url: str) -> List[Dict[str, Any]]:
@@ -130,7 +130,7 @@ def from_firefox(path: Path, origin_attributes: str = '') -> CookieStore:
         with contextlib.closing(sqlite3.connect(copy)) as database:
             database.row_factory = sqlite3.Row
             database.text_factory = lambda text: text.decode('utf-8', 'surrogateescape')  # what is not UTF-8 is left out later
-            return store_of(map(dict, database.execute(_FIREFOX_ROWS, [origin_attributes])), 'expiry')
+            return store_from(map(dict, database.execute(_FIREFOX_ROWS, [origin_attributes])), 'expiry')
 
 
 def _copied(path: str, folder: str) -> str:

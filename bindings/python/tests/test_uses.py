@@ -1,4 +1,4 @@
-"""Runs the programs of docs/USES.md. A comment at the end of a line is what it must print. A proxy stands for example.com."""
+"""Runs the programs of docs/USES.md. A comment behind a print, `cookies` or `curl` is what it must print. A proxy stands for example.com."""
 import http.server
 import importlib.util
 import json
