@@ -1,6 +1,7 @@
 """What the Python tools share: the repository's files, the parser of arguments, compiling, copying and processor time."""
 import argparse
 import os
+import platform
 import re
 import resource
 import shutil
@@ -98,6 +99,29 @@ def install(prefix, archive=None):
     variables = {**os.environ, **({'COOKIE_STORE_ARCHIVE': archive} if archive else {})}
     if subprocess.run([f'{TOOLS}/install', prefix], env=variables, stdout=subprocess.DEVNULL).returncode:
         stop('the library is not installed')
+
+
+def output(*command, cwd=ROOT):
+    """What a command prints, or '' if it is missing or fails."""
+    try:
+        done = subprocess.run(command, cwd=cwd, stdout=subprocess.PIPE, stderr=subprocess.DEVNULL, text=True)
+    except OSError:
+        return ''
+    return done.stdout.strip() if done.returncode == 0 else ''
+
+
+def machine():
+    """The processor's name and the number of processors."""
+    with open('/proc/cpuinfo') as lines:
+        models = [line.split(':')[1].strip() for line in lines if line.startswith('model name')]
+    return f'{models[0] if models else platform.machine()}, {os.cpu_count()} processors'
+
+
+def commit():
+    """The commit, and whether other files than those that are written from figures differ from it."""
+    written = ('docs/FIGURES.md', 'docs/speed.svg', 'docs/figures.csv')
+    changed = output('git', 'status', '--porcelain', '--', '.', *(f':!{path}' for path in written))
+    return f'{output("git", "rev-parse", "--short", "HEAD")}, {"with uncommitted changes" if changed else "clean"}'
 
 
 def timed(command, **options):

@@ -6,20 +6,11 @@ import subprocess
 import sys
 
 from bench_parts.measure import Program
-from common import ARCHIVE, ROOT, c_compiler, compile_c, first_match, install, stop
+from common import ARCHIVE, ROOT, c_compiler, compile_c, first_match, install, output, stop
 
 PEERS = os.path.join(ROOT, 'tools', 'peers')
 REGISTRY = '/usr/share/cargo/registry'
 OWN, RUST, GO = 'cookie_jar', 'Rust crate', 'Go'
-
-
-def output(*command, cwd=ROOT):
-    """What a command prints, or '' if it is missing or fails."""
-    try:
-        done = subprocess.run(command, cwd=cwd, stdout=subprocess.PIPE, stderr=subprocess.DEVNULL, text=True)
-    except OSError:
-        return ''
-    return done.stdout.strip() if done.returncode == 0 else ''
 
 
 def own(path):

@@ -7,8 +7,7 @@ import textwrap
 from dataclasses import dataclass, field
 
 from bench_parts.others import BEHIND, MINUTES
-from bench_parts.programs import output
-from common import ROOT
+from common import ROOT, commit, machine, output
 
 IDLE = 0.5  # the greatest load average of an idle machine
 SLOWEST = 0.95  # the least ratio to a peer that is not behind it, since figures differ by some percent from run to run
@@ -56,7 +55,9 @@ def number(value):
 def ratio(peer, own):
     """The peer's figure divided by ours; a figure may be 0 or less if it is below what can be measured."""
     value = peer / own if own > 0 else None
-    return f'{value:.2f}' if value is not None and value < 1 else number(value)
+    if value is None or value >= 1:
+        return number(value)
+    return f'{value:.2f}' if value >= 0.1 else f'{value:#.2g}'
 
 
 def behind(figure, peer, value):
@@ -75,17 +76,6 @@ def exit_after(warnings, load):
     for warning in warnings:
         print(warning)
     sys.exit(fails(warnings, load))
-
-
-def machine():
-    with open('/proc/cpuinfo') as lines:
-        models = [line.split(':')[1].strip() for line in lines if line.startswith('model name')]
-    return f'{models[0] if models else platform.machine()}, {os.cpu_count()} processors'
-
-
-def commit():
-    changed = output('git', 'status', '--porcelain', '--', '.', ':!docs/FIGURES.md', ':!docs/speed.svg')
-    return f'{output("git", "rev-parse", "--short", "HEAD")}, {"with uncommitted changes" if changed else "clean"}'
 
 
 def busy(load):
@@ -118,6 +108,9 @@ scripts.
 - A ratio is the peer's figure divided by ours: above 1, ours is faster or smaller.
 - All figures are of one run on one machine. Compare the ratios, not the times, with those of
   another.
+- [figures.csv](figures.csv) has the ratios of each run, one a line, without the commas of numbers
+  and names. `tools/bench --write` appends them. If one fell by more than a tenth since the last run
+  on such a machine (processor, and number of them), nothing is written, unless `--accept` is given.
 '''
 
 REPEAT = '''

@@ -1,21 +1,23 @@
 """Measures cookie_jar beside the Rust crate cookie_store and Go's net/http/cookiejar, in fifteen minutes.
-Usage: tools/bench [stores] [--write | --only PART]
+Usage: tools/bench [stores] [--write [--accept] | --only PART]
 
 Prints the time of a set, a replaced cookie, a get and a removal, bytes and instructions, and how the time of
 hostile inputs grows. A peer that cannot be built is left out, and a line says so. --write runs the other commands
-too, and writes docs/FIGURES.md before the first of them and after each.
+too, and writes docs/FIGURES.md before the first of them and after each. It appends the ratios to docs/figures.csv. If one is
+below nine tenths of the last one there of the same table, row and peer on a machine of the same kind, it prints both and
+writes nothing, unless --accept is given.
 
-Exit status: 0; 1 if the time of a hostile input grows faster than linearly, if a peer is ahead on an idle machine, or if
-a program fails."""
+Exit status: 0; 1 if the time of a hostile input grows faster than linearly, if a peer is ahead on an idle machine, if
+a ratio fell so that nothing was written, or if a program fails; 2 for a wrong argument."""
 import os
 import sys
 import tempfile
 
-from bench_parts import hostile, others, programs, report
+from bench_parts import history, hostile, others, programs, report
 from bench_parts.measure import Meter, Task, has_gnu_time, has_valgrind, repeated
 from bench_parts.report import Document, Table, number, ratio
 from bench_parts.scripts import CLEAR, NOW, gets, removals, sets
-from common import ARCHIVE
+from common import ARCHIVE, stop
 
 OPTIONS = ['--program', '--archive', '--lists']
 SIZES = [(cookies, per_host) for per_host in (20, 1) for cookies in (20, 1000, 100_000)]
@@ -173,7 +175,20 @@ def missing_tools():
 def add_arguments(parser):
     group = parser.add_mutually_exclusive_group()
     group.add_argument('--only', choices=PARTS, help='measure this part alone')
-    group.add_argument('--write', action='store_true', help='write docs/FIGURES.md and docs/speed.svg')
+    group.add_argument('--write', action='store_true', help='write docs/FIGURES.md and docs/speed.svg, and append to docs/figures.csv')
+    parser.add_argument('--accept', action='store_true', help='write them also if a ratio fell')
+    parser.set_defaults(wrong=parser.error)
+
+
+def publish(document, panels, accept):
+    """Writes the document and the chart, and appends the ratios, unless one fell and that is not accepted."""
+    fallen = list(history.fallen(document.markdown()))
+    print(*fallen, sep='\n', end='\n' if fallen else '')
+    if fallen and not accept:
+        stop('nothing is written: --accept writes the figures as they are')
+    report.write_chart(panels)
+    document.write()
+    history.append(document.markdown())
 
 
 def add_others(document, variables):
@@ -186,6 +201,8 @@ def add_others(document, variables):
 
 
 def run(options):
+    if options.accept and not options.write:
+        options.wrong('--accept is for --write')
     own, load = programs.own(options.program), os.getloadavg()[0]
     with tempfile.TemporaryDirectory() as folder:
         peers, missing = programs.build(folder)
@@ -197,8 +214,7 @@ def run(options):
             print(each.text(), flush=True)
             document.tables.append(each)
     if options.write:
-        report.write_chart(chart_panels(took, measured))
-        document.write()
+        publish(document, chart_panels(took, measured), options.accept)
         add_others(document, others.environment(options.program, options.archive or ARCHIVE, options.lists))
     behind = [warning for each in document.tables for warning in each.behind]
     sys.exit(any(each.warnings for each in document.tables) or report.fails(behind, load))
