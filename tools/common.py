@@ -1,4 +1,4 @@
-"""What the Python tools share: the repository's files, the parser of arguments, compiling, copying and processor time."""
+"""What the Python tools share: the repository's files, the parser of arguments, compiling, copying, processor time, machine and commit."""
 import argparse
 import os
 import platform
@@ -119,7 +119,7 @@ def machine():
 
 def commit():
     """The commit, and whether other files than those that are written from figures differ from it."""
-    written = ('docs/FIGURES.md', 'docs/speed.svg', 'docs/figures.csv')
+    written = ('docs/FIGURES.md', 'docs/speed.svg', 'docs/figures.csv', 'CONTRIBUTING.md')
     changed = output('git', 'status', '--porcelain', '--', '.', *(f':!{path}' for path in written))
     return f'{output("git", "rev-parse", "--short", "HEAD")}, {"with uncommitted changes" if changed else "clean"}'
 
