@@ -260,6 +260,33 @@ static napi_value cookies(napi_env env, napi_callback_info info) {
     return self == NULL ? NULL : cookies_of(env, self, NULL, 0);
 }
 
+/* Returns the expiry of the first cookie, or null. */
+static napi_value first_expiry(napi_env env, struct store *self) {
+    struct listing list;
+    napi_value result = NULL;
+    enum cookie_store_status status = list_rows(self, NULL, 0, &list);
+    if (status != COOKIE_STORE_OK) fail(env, status, 0);
+    else if (list.count > 0 && list.rows->persistent) result = number(env, (double)list.rows->expires);
+    else napi_get_null(env, &result);
+    free_listing(&list);
+    return result;
+}
+
+/* expiryOf(value, now): inserts a cookie into a store that has no other, and returns its expiry, or null. */
+static napi_value expiry_of(napi_env env, napi_callback_info info) {
+    static const char url[] = "http://a/";
+    napi_value args[2];
+    struct text value;
+    int64_t now;
+    struct store *self = receiver(env, info, args, COUNT(args));
+    if (self == NULL || !read_time(env, args[1], &now) || !read_texts(env, args, (const char *[]){"value"}, &value, 1))
+        return NULL;
+    enum cookie_store_status status =
+        cookie_store_parse(&self->handle, url, sizeof url - 1, value.bytes, value.length, now);
+    free_texts(&value, 1);
+    return status >= 20 && status < 40 ? fail(env, status, 0) : first_expiry(env, self);
+}
+
 /* cookiesFor(url, now): those of a request. */
 static napi_value cookies_for(napi_env env, napi_callback_info info) {
     napi_value args[2], result;
@@ -450,9 +477,9 @@ NAPI_MODULE_INIT() {
         METHOD("close", close_store), METHOD("copyTo", copy_to), METHOD("setSuffixList", set_suffix_list),
         METHOD("setDomainLimit", set_domain_limit), METHOD("domainLimit", domain_limit), METHOD("setStrict", set_strict),
         METHOD("isStrict", is_strict), METHOD("count", count), METHOD("parse", parse), METHOD("header", header),
-        METHOD("cookies", cookies), METHOD("cookiesFor", cookies_for), METHOD("remove", remove_cookie),
-        METHOD("removeDomain", remove_domain), METHOD("removeExpired", remove_expired), METHOD("clear", clear),
-        METHOD("merge", merge), METHOD("save", save), METHOD("load", load),
+        METHOD("cookies", cookies), METHOD("expiryOf", expiry_of), METHOD("cookiesFor", cookies_for),
+        METHOD("remove", remove_cookie), METHOD("removeDomain", remove_domain), METHOD("removeExpired", remove_expired),
+        METHOD("clear", clear), METHOD("merge", merge), METHOD("save", save), METHOD("load", load),
     };
     napi_value store;
     if (napi_define_class(env, "Store", NAPI_AUTO_LENGTH, construct, NULL, COUNT(methods), methods, &store) != napi_ok)

@@ -12,9 +12,15 @@ const dates = new Store();
 
 /** Returns the Date of a cookie-date, RFC 6265 5.1.1, or null. The library reads it, as that of a cookie. */
 function parseDate(text) {
-  dates.parse('http://a/', `a=; Expires=${String(text).split(';', 1)[0]}`, FIRST);
-  const [, , , , expires] = dates.cookies();
+  const date = String(text);
+  const expires = dates.expiryOf(`a=; Expires=${date.slice(0, endOfPart(date, 0))}`, FIRST);
   return expires === null ? null : new Date(expires * 1000);
+}
+
+/** Returns the index of the next semicolon, or the length. */
+function endOfPart(text, begin) {
+  const end = text.indexOf(';', begin);
+  return end < 0 ? text.length : end;
 }
 
 function isSet(value) {
@@ -28,18 +34,19 @@ function timeOf(expires) {
   return isText ? parseDate(expires)?.getTime() ?? Infinity : Infinity;
 }
 
-/** Returns a string without white space around it, as the library reads names: U+0085 counts too. */
-function trimmed(text) {
-  let begin = 0;
-  let end = text.length;
-  while (begin < end && isSpace(text.charCodeAt(begin))) begin++;
-  while (begin < end && isSpace(text.charCodeAt(end - 1))) end--;
-  return text.slice(begin, end);
+/** Returns the part of a string from `begin` to `end` without white space around it, as the library reads names: U+0085 counts
+ * too. */
+function trimmed(text, begin = 0, end = text.length) {
+  let first = begin;
+  let last = end;
+  while (first < last && isSpace(text.charCodeAt(first))) first++;
+  while (first < last && isSpace(text.charCodeAt(last - 1))) last--;
+  return text.slice(first, last);
 }
 
 function isSpace(code) {
   if (code > 0x20 && code < 0x7f) return false;
-  return code === 0x85 || String.fromCharCode(code).trim() === '';
+  return code === 0x20 || code === 0x85 || String.fromCharCode(code).trim() === '';
 }
 
 /** A cookie with the properties and methods of tough-cookie's. */
@@ -59,39 +66,15 @@ class Cookie {
   lastAccessed = null;
   sameSite = undefined;
 
-  constructor(properties) {
+  /** `creation` is that of a cookie whose properties have none, by default the current time. */
+  constructor(properties, creation) {
     if (properties) Object.assign(this, properties);
-    this.creation ??= new Date();
+    this.creation ??= creation ?? new Date();
   }
 
   /** Returns the cookie of a Set-Cookie header value, or undefined. */
   static parse(text) {
-    const [pair, ...attributes] = String(text).split(';');
-    const equals = pair.indexOf('=');
-    const key = trimmed(pair.slice(0, Math.max(equals, 0)));
-    if (key === '' || CONTROL.test(pair)) return undefined;
-    const cookie = new Cookie();
-    cookie.key = key;
-    cookie.value = trimmed(pair.slice(equals + 1));
-    for (const attribute of attributes) cookie.#setAttribute(trimmed(attribute));
-    return cookie;
-  }
-
-  #setAttribute(attribute) {
-    const equals = attribute.indexOf('=');
-    const name = trimmed(equals < 0 ? attribute : attribute.slice(0, equals)).toLowerCase();
-    const value = equals < 0 ? '' : trimmed(attribute.slice(equals + 1));
-    switch (name) {
-      case '': return;
-      case 'expires': this.expires = parseDate(value) ?? this.expires; return;
-      case 'max-age': if (/^-?[0-9]+$/.test(value)) this.maxAge = Number(value); return;
-      case 'domain': this.domain = value.replace(/^\./, '').toLowerCase() || this.domain; return;
-      case 'path': this.path = value.startsWith('/') ? value : null; return;
-      case 'secure': this.secure = true; return;
-      case 'httponly': this.httpOnly = true; return;
-      case 'samesite': this.sameSite = /^(strict|lax|none)$/i.test(value) ? value.toLowerCase() : undefined; return;
-      default: (this.extensions ??= []).push(attribute);
-    }
+    return parseCookie(String(text));
   }
 
   /** Returns a cookie as a jar returns it. */
@@ -212,10 +195,45 @@ class Cookie {
 
 const UNSET = new Cookie();
 
+/** Returns the cookie of a Set-Cookie header value, or undefined. */
+function parseCookie(header, creation) {
+  let end = endOfPart(header, 0);
+  const pair = header.slice(0, end);
+  const equals = pair.indexOf('=');
+  const key = trimmed(pair, 0, Math.max(equals, 0));
+  if (key === '' || CONTROL.test(pair)) return undefined;
+  const cookie = new Cookie(undefined, creation);
+  cookie.key = key;
+  cookie.value = trimmed(pair, equals + 1);
+  while (end < header.length) {
+    const begin = end + 1;
+    end = endOfPart(header, begin);
+    setAttribute(cookie, trimmed(header, begin, end));
+  }
+  return cookie;
+}
+
+function setAttribute(cookie, attribute) {
+  const equals = attribute.indexOf('=');
+  const name = trimmed(attribute, 0, equals < 0 ? attribute.length : equals).toLowerCase();
+  const value = equals < 0 ? '' : trimmed(attribute, equals + 1);
+  switch (name) {
+    case '': return;
+    case 'expires': cookie.expires = parseDate(value) ?? cookie.expires; return;
+    case 'max-age': if (/^-?[0-9]+$/.test(value)) cookie.maxAge = Number(value); return;
+    case 'domain': cookie.domain = value.replace(/^\./, '').toLowerCase() || cookie.domain; return;
+    case 'path': cookie.path = value.startsWith('/') ? value : null; return;
+    case 'secure': cookie.secure = true; return;
+    case 'httponly': cookie.httpOnly = true; return;
+    case 'samesite': cookie.sameSite = /^(strict|lax|none)$/i.test(value) ? value.toLowerCase() : undefined; return;
+    default: (cookie.extensions ??= []).push(attribute);
+  }
+}
+
 /** Returns whether the parts of a cookie do not run into each other in a header value. */
 function isSeparable({ key, value, domain, path, sameSite, extensions }) {
   const text = [key, value, domain, path, sameSite, ...(extensions ?? [])].join('');
   return key !== '' && !key.includes('=') && key === trimmed(key) && !CONTROL.test(text) && !text.includes(';');
 }
 
-module.exports = { CONTROL, Cookie, FIRST, isSeparable };
+module.exports = { CONTROL, Cookie, FIRST, isSeparable, parseCookie };

@@ -1,6 +1,6 @@
 'use strict';
 const fs = require('node:fs');
-const { Cookie, FIRST, isSeparable } = require('./cookie');
+const { Cookie, FIRST, isSeparable, parseCookie } = require('./cookie');
 const { CookieStoreError, isRejection, typeError } = require('./errors');
 const { deserialize, serialize } = require('./serialized');
 const { CookieStore, SYSTEM_SUFFIX_FILE, hrefOf, preventCloning } = require('./store');
@@ -16,9 +16,13 @@ function publicSuffixes() {
   return systemList;
 }
 
+async function promised(args, call) {
+  return call(...args);
+}
+
 /** Returns what a call returns: to the callback that is the last argument, or by a promise. */
 function asynchronous(args, call) {
-  if (typeof args.at(-1) !== 'function') return new Promise((resolve) => resolve(call(...args)));
+  if (typeof args.at(-1) !== 'function') return promised(args, call);
   const callback = args.pop();
   let result;
   try {
@@ -31,8 +35,15 @@ function asynchronous(args, call) {
   return undefined;
 }
 
-/** Returns a URL as browsers read it, with its host in ASCII, or as it is if they do not. */
+let lastAscii = ''; // a response sets several cookies from one URL
+
+/** Returns a URL as it is if it is ASCII, else as browsers read it, with its host in ASCII, or as it is if they do not. */
 function asciiOf(address) {
+  if (address === lastAscii) return address;
+  if (!/[^\0-\x7f]/.test(address)) {
+    lastAscii = address;
+    return address;
+  }
   try {
     return new URL(address).href;
   } catch {
@@ -43,9 +54,9 @@ function asciiOf(address) {
 /** Returns the URL by which the store takes a request. If `secure` is set, it replaces what the scheme is; `http` is false for
  * a script, which may not set HttpOnly cookies. */
 function addressOf(url, secure, http) {
-  let address = hrefOf(url);
-  if (typeof address !== 'string') return address;
-  if (/[^\0-\x7f]/.test(address)) address = asciiOf(address);
+  const href = hrefOf(url);
+  if (typeof href !== 'string') return href;
+  const address = asciiOf(href);
   if (http && secure === undefined && address.startsWith('http')) return address;
   const scheme = /^(?:http|ws)(s?):/i.exec(address);
   if (scheme === null) return address;
@@ -53,7 +64,7 @@ function addressOf(url, secure, http) {
   return `${http ? 'http' : 'ws'}${end}${address.slice(scheme[0].length)}`;
 }
 
-let last = { address: '', host: '', path: '/' }; // a response sets several cookies from one URL
+let last = { address: '', host: '', path: '/' };
 
 /** Returns the host of a URL and the default path of its cookies, RFC 6265 5.1.4. What is not a URL has no host. */
 function placeOf(address) {
@@ -132,7 +143,7 @@ class CookieJar {
     if (loose) throw new CookieStoreError('BAD_OPTION');
     if (typeof cookie !== 'string' && !isCookie(cookie)) throw typeError('cookie must be a string or a Cookie');
     const time = new Date(now ?? Date.now());
-    const received = typeof cookie === 'string' ? Cookie.parse(cookie) : cookie;
+    const received = typeof cookie === 'string' ? parseCookie(cookie, time) : cookie;
     const address = addressOf(url, secure, http);
     const code = this.#insert(received, cookie, address, context, time);
     if (code === undefined) return accepted(received, address, time);

@@ -49,6 +49,7 @@ const SCRIPTS = [
   [[['set', '__Host-a=1; Secure; Path=/', 'https://a.example/'], ['get', 'https://a.example/']], '__Host-a=1'],
   [[['set', 'a=1; Domain=b.example', 'http://a.example/', { ignoreError: true }], ['get', 'http://a.example/']], ''],
   [[['set', 'a=1', 'http://bücher.example/'], ['get', 'http://xn--bcher-kva.example/']], 'a=1'],
+  [[['set', 'a=1', 'http://bücher.example/'], ['set', 'b=2', 'http://bücher.example/'], ['get', 'http://bücher.example/']], 'a=1; b=2'],
 ];
 
 /** Runs a script with a jar, at one time. */
@@ -253,6 +254,7 @@ const COOKIES = [
     'a=1; Domain=a.example; Path=/x; Secure; HttpOnly; SameSite=Lax; Priority=High'],
   ['a=1=2; Path=x; Max-Age=x; Domain=', String, 'a=1=2'],
   ['a=1;; b', (cookie) => cookie.extensions, ['b']],
+  ['a=1;', String, 'a=1'],
   ['a="1"', (cookie) => cookie.cookieString(), 'a="1"'],
   ['a=', (cookie) => cookie.cookieString(), 'a='],
   ['a=1; Domain=B\u00fccher.example', (cookie) => cookie.cdomain(), 'xn--bcher-kva.example'],
@@ -270,14 +272,14 @@ const COOKIES = [
     return cookie.toJSON().maxAge;
   }, '-Infinity'],
   ['a=1', (cookie) => {
-    cookie.setExpires('Thu, 01 Jan 1970 00:01:00 GMT');
+    cookie.setExpires('Thu, 01 Jan 1970 00:01:00 GMT; Path=/');
     return cookie.expires.getTime();
   }, 60000],
 ];
 
 test('a Cookie has the properties and methods of tough-cookie', () => {
   compare(COOKIES, (text, call) => call(Cookie.parse(text)));
-  compare([['a'], [''], ['=1'], ['a\0=1'], [' =1']].map((row) => [...row, undefined]), (text) => Cookie.parse(text));
+  compare([['a'], [''], ['=1'], ['a\0=1'], [' =1'], ['a; b=1']].map((row) => [...row, undefined]), (text) => Cookie.parse(text));
   compare([
     ['Thu, 01 Jan 1970 00:00:00 GMT', 0],
     ['never', Infinity],
