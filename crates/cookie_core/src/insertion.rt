@@ -18,7 +18,7 @@ ghost use Rattle.cookie_core.specs.Insertions.{as_stored, store_in, stored_in, I
 
 use crate::secure::with_cookie;
 use crate::{CookieStore, InsertResult};
-use cookie_laws::kept_by_calls;
+use cookie_laws::preserved_by_calls;
 use cookie_parts::{Cookie, CookieDomain, CookieError, CookieResult, StoreAction};
 use cookie_psl::List;
 use cookie_raw::RawCookie;
@@ -133,7 +133,7 @@ impl CookieStore {
     {
         self.secure = with_cookie(self.secure.take(), &self.rows, &cookie);
         // for the checker: what the index says of the cookie and the rows, it says of the rows after
-        kept_by_calls();
+        preserved_by_calls();
         let cookie = as_stored(self.alloc, cookie, acceptance.is_host_only);
         store_row(
             &mut self.rows,

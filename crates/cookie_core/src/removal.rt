@@ -8,7 +8,7 @@ ghost use Rattle.cookie_laws.specs.Rows.{key_at};
 ghost use Rattle.cookie_laws.specs.Runs.{step, Clear, Remove, Removed};
 
 use crate::CookieStore;
-use cookie_laws::kept_by_calls;
+use cookie_laws::preserved_by_calls;
 use cookie_parts::Cookie;
 use jiff::civil::DateTime;
 
@@ -22,7 +22,7 @@ impl CookieStore {
         ensures store { self.new ≡ (step (Remove (key_at domain.now path.now name.now)) self.old).store }
     {
         // for the checker: what the index says of the rows, it says of the remaining ones
-        kept_by_calls();
+        preserved_by_calls();
         self.rows.remove(domain, path, name)
     }
 

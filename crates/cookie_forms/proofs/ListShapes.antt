@@ -12,7 +12,7 @@ use Rattle.cookie_forms.specs.Saved.{Parts}
 use Rattle.cookie_forms.specs.Shape.{HasShape, HasListShape}
 use Rattle.cookie_forms.specs.FromJson.{parts_in, all_parts_in, all_with_parsed_expiry, list_at}
 use Rattle.cookie_forms.specs.declared.error.SavedError.TheVariants as ErrorCase
-use Rattle.cookie_forms.proofs.Shapes.{items_in, parts_read, parts_shaped, read_of, refused_by}
+use Rattle.cookie_forms.proofs.Shapes.{items_in, parts_read, parts_shaped, read_of, rejected_by}
 use Rattle.cookie_forms.proofs.TreesPlain.{first_false, second_false}
 
 -- the items as a list
@@ -66,4 +66,4 @@ list_read_shaped d qs e =
 
 pub list_shapeless_rejected : (d : Data) → ((ps : List (Parts (List ℕ))) → ¬ HasListShape d ps) → list_at d ≡ Err ErrorCase.Shape
 list_shapeless_rejected d none =
-    refused_by (has_float d) all_with_parsed_expiry (option_and_then all_parts_in (as_array d)) (λ ps plain e. none ps (list_shaped d ps plain e))
+    rejected_by (has_float d) all_with_parsed_expiry (option_and_then all_parts_in (as_array d)) (λ ps plain e. none ps (list_shaped d ps plain e))

@@ -28,13 +28,6 @@ ItemsRead depth first now list =
     × ((more : json.Items) (rest : List Token) (ds : Items) → items (value depth) n now ≡ Some (more, rest) → of_items more ≡ Some ds
     → (all : json.Items) × (whole : Items) × (items (value depth) (length first) first ≡ Some (all, rest)) × (of_items all ≡ Some whole) × Follow list ds whole)
 
-none_before : (o : Option (List (Parts Moment))) → o ≡ option_map (λ rest. [] ++ rest) o
-none_before None = refl
-none_before (Some list) = refl
-
-pub no_item_read : (depth : ℕ) (first : List Token) → ItemsRead depth first first []
-no_item_read depth first = (length first, omega arith, λ more rest ds e f. (more, ds, e, f, (refl, none_before (all_in ds))))
-
 with_item : (j : json.Json) (d : Data) (more : json.Items) (ds : Items) → of_json j ≡ Some d → of_items more ≡ Some ds → of_items (json.item j more) ≡ Some (item d ds)
 with_item j d more ds e f = rw (e, f) refl
 
@@ -58,8 +51,8 @@ item_is_read depth first now r tree list saved so_far going here is =
       omega arith,
       λ more rest ds e f.
           let j = here.0 in
-          let turn = items_more (value depth) n now r j (omega arith) going here.1 ∙ ap (parse_map (json.item j)) e in
-          let all = so_far.2 (json.item j more) rest (item tree ds) turn (with_item j tree more ds here.2 f) in
+          let step = items_more (value depth) n now r j (omega arith) going here.1 ∙ ap (parse_map (json.item j)) e in
+          let all = so_far.2 (json.item j more) rest (item tree ds) step (with_item j tree more ds here.2 f) in
           (all.0, all.1, all.2, all.3, one_more tree ds all.1 list saved is all.4),
     )
 

@@ -121,8 +121,8 @@ member_is_read depth first now s r k tree old new so_far key here then =
       omega arith,
       λ more rest e.
           let j = here.0 in
-          let turn = members_more (value depth) n k now s r j (omega arith) key here.1 ∙ ap (parse_map (json.member k j)) e in
-          let all = so_far.3 (json.member k j more) rest turn in
+          let step = members_more (value depth) n k now s r j (omega arith) key here.1 ∙ ap (parse_map (json.member k j)) e in
+          let all = so_far.3 (json.member k j more) rest step in
           (all.0, all.1, all.2 ∙ with_member k j tree more ms here.2),
       then ms so_far.4,
     )

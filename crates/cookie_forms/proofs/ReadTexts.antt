@@ -84,11 +84,11 @@ whole_list (Some list) text old new e last found =
 some_read : (text : List ℕ) (tree : Data) → read text ≡ Some tree → text ≢ []
 some_read text tree e = λ h. let never : None ≡ Some tree = sym no_text ∙ ap read (sym h) ∙ e in cc
 
-refused_alike : {A B : Type 0} (r : Result A SavedError) (text : List ℕ) (of_text of_tree : Result B SavedError) → of_text ≡ of_tree → text ≢ []
+rejected_alike : {A B : Type 0} (r : Result A SavedError) (text : List ℕ) (of_text of_tree : Result B SavedError) → of_text ≡ of_tree → text ≢ []
     → IfErr r (λ e. (e ≡ ErrorCase.Memory) ⊎ (of_tree ≡ Err e)) → IfErr r (λ e. (of_text ≡ Err e) ⊎ ((e ≡ ErrorCase.Memory) × (text ≢ [])))
-refused_alike (Ok a) text of_text of_tree same some refused = tt
-refused_alike (Err e) text of_text of_tree same some (inl memory) = inr (memory, some)
-refused_alike (Err e) text of_text of_tree same some (inr is) = inl (same ∙ is)
+rejected_alike (Ok a) text of_text of_tree same some rejected = tt
+rejected_alike (Err e) text of_text of_tree same some (inl memory) = inr (memory, some)
+rejected_alike (Err e) text of_text of_tree same some (inr is) = inl (same ∙ is)
 
 failed_alike : {A B : Type 0} (r : Result A SavedError) (text : List ℕ) (of_text : Result B SavedError) (f : SavedError) → r ≡ Err f
     → (read text ≡ None → of_text ≡ Err ErrorCase.Json) → ((f ≡ ErrorCase.Json) × (read text ≡ None)) ⊎ ((f ≡ ErrorCase.Memory) × (text ≢ []))
@@ -112,13 +112,13 @@ saved_of r (Err e) text is unparsed saved = rw (unparsed e refl) tt
 saved_of (Err e) (Ok tree) text is unparsed saved = tt
 saved_of (Ok a) (Ok tree) text is unparsed saved = saved_of_tree text (view tree) is.0 ∙ saved tree refl
 
-pub saved_refused : (r : Result Saved SavedError) (parsed : Result Value SavedError) (text : List ℕ) → Parsed text parsed
+pub saved_rejected : (r : Result Saved SavedError) (parsed : Result Value SavedError) (text : List ℕ) → Parsed text parsed
     → ((e : SavedError) → parsed ≡ Err e → r ≡ Err e)
     → ((tree : Value) → parsed ≡ Ok tree → IfErr r (λ e. (e ≡ ErrorCase.Memory) ⊎ (saved_at (view tree) ≡ Err e)))
     → IfErr r (λ e. (saved_in text ≡ Err e) ⊎ ((e ≡ ErrorCase.Memory) × (text ≢ [])))
-saved_refused r (Ok tree) text is unparsed refused =
-    refused_alike r text (saved_in text) (saved_at (view tree)) (saved_of_tree text (view tree) is.0) (some_read text (view tree) is.0) (refused tree refl)
-saved_refused r (Err f) text is unparsed refused =
+saved_rejected r (Ok tree) text is unparsed rejected =
+    rejected_alike r text (saved_in text) (saved_at (view tree)) (saved_of_tree text (view tree) is.0) (some_read text (view tree) is.0) (rejected tree refl)
+saved_rejected r (Err f) text is unparsed rejected =
     failed_alike r text (saved_in text) f (unparsed f refl) (λ e. ap (λ o. elim o [ None ↦ Err ErrorCase.Json | Some t ↦ saved_at t ]) e) is.1
 
 pub list_of : (r : Result (Vec Saved Global) SavedError) (parsed : Result Value SavedError) (text : List ℕ) → Parsed text parsed
@@ -129,11 +129,11 @@ list_of r (Err e) text is unparsed saved = rw (unparsed e refl) tt
 list_of (Err e) (Ok tree) text is unparsed saved = tt
 list_of (Ok a) (Ok tree) text is unparsed saved = list_of_tree text (view tree) is.0 ∙ saved tree refl
 
-pub list_refused : (r : Result (Vec Saved Global) SavedError) (parsed : Result Value SavedError) (text : List ℕ) → Parsed text parsed
+pub list_rejected : (r : Result (Vec Saved Global) SavedError) (parsed : Result Value SavedError) (text : List ℕ) → Parsed text parsed
     → ((e : SavedError) → parsed ≡ Err e → r ≡ Err e)
     → ((tree : Value) → parsed ≡ Ok tree → IfErr r (λ e. (e ≡ ErrorCase.Memory) ⊎ (list_at (view tree) ≡ Err e)))
     → IfErr r (λ e. (list_in text ≡ Err e) ⊎ ((e ≡ ErrorCase.Memory) × (text ≢ [])))
-list_refused r (Ok tree) text is unparsed refused =
-    refused_alike r text (list_in text) (list_at (view tree)) (list_of_tree text (view tree) is.0) (some_read text (view tree) is.0) (refused tree refl)
-list_refused r (Err f) text is unparsed refused =
+list_rejected r (Ok tree) text is unparsed rejected =
+    rejected_alike r text (list_in text) (list_at (view tree)) (list_of_tree text (view tree) is.0) (some_read text (view tree) is.0) (rejected tree refl)
+list_rejected r (Err f) text is unparsed rejected =
     failed_alike r text (list_in text) f (unparsed f refl) (λ e. ap (λ o. elim o [ None ↦ Err ErrorCase.Json | Some t ↦ list_at t ]) e) is.1

@@ -151,23 +151,23 @@ parts_shaped d p plain e =
 
 -- ---- what is read, and what is an error
 
-answered : {B : Type 0} (r : Option B) (e : SavedError) (b : B) → ok_or r e ≡ Ok b → r ≡ Some b
-answered None e b h = cc
-answered (Some c) e b h = cc
+ok_or_ok : {B : Type 0} (r : Option B) (e : SavedError) (b : B) → ok_or r e ≡ Ok b → r ≡ Some b
+ok_or_ok None e b h = cc
+ok_or_ok (Some c) e b h = cc
 
 -- what was read has the shape and no float
 pub read_of : {A B : Type 0} (has : Bool) (read : A → Option B) (o : Option A) (b : B)
     → (if has then Err ErrorCase.Shape else then_read read o) ≡ Ok b → (a : A) × (has ≡ false) × (o ≡ Some a) × (read a ≡ Some b)
 read_of true read o b e = cc
 read_of false read None b e = cc
-read_of false read (Some a) b e = (a, refl, refl, answered (read a) ErrorCase.Moment b e)
+read_of false read (Some a) b e = (a, refl, refl, ok_or_ok (read a) ErrorCase.Moment b e)
 
 -- if nothing has the shape, or there is a float, the error is `Shape`
-pub refused_by : {A B : Type 0} (has : Bool) (read : A → Option B) (o : Option A) → ((a : A) → has ≡ false → ¬ (o ≡ Some a))
+pub rejected_by : {A B : Type 0} (has : Bool) (read : A → Option B) (o : Option A) → ((a : A) → has ≡ false → ¬ (o ≡ Some a))
     → (if has then Err ErrorCase.Shape else then_read read o) ≡ Err ErrorCase.Shape
-refused_by true read o none = refl
-refused_by false read None none = refl
-refused_by false read (Some a) none = absurd (none a refl refl)
+rejected_by true read o none = refl
+rejected_by false read None none = refl
+rejected_by false read (Some a) none = absurd (none a refl refl)
 
 pub shape_read : (d : Data) (p : Parts (List ℕ)) → HasShape d p → saved_at d ≡ ok_or (with_parsed_expiry p) ErrorCase.Moment
 shape_read d p h = rw (h.4, parts_read d p h) refl
@@ -178,4 +178,4 @@ read_shaped d q e =
     (r.0, parts_shaped d r.0 r.1 r.2, r.3)
 
 pub shapeless_rejected : (d : Data) → ((p : Parts (List ℕ)) → ¬ HasShape d p) → saved_at d ≡ Err ErrorCase.Shape
-shapeless_rejected d none = refused_by (has_float d) with_parsed_expiry (parts_in d) (λ p plain e. none p (parts_shaped d p plain e))
+shapeless_rejected d none = rejected_by (has_float d) with_parsed_expiry (parts_in d) (λ p plain e. none p (parts_shaped d p plain e))

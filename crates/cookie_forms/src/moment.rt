@@ -23,11 +23,11 @@ pub fn moment_text(alloc: Global, moment: DateTime) -> Result<String, SavedError
     if moment.year() < 0 {
         return Err(SavedError::Moment);
     }
-    Ok(written(alloc, moment)?)
+    Ok(format_moment(alloc, moment)?)
 }
 
 // Formats a time from the year 0 on.
-pub(crate) fn written(alloc: Global, moment: DateTime) -> Result<String, AllocError>
+pub(crate) fn format_moment(alloc: Global, moment: DateTime) -> Result<String, AllocError>
     requires { pos 0 ≤ℤ moment.date.year }
     ensures { IfOk result (λ text. string_bytes text ≡ moment_text (moment_of moment)) }
 {

@@ -45,7 +45,7 @@ pub fn list_to_value(alloc: Global, list: &[Saved]) -> Result<Value, SavedError>
     Ok(Value::Array(values_of(alloc, list)?))
 }
 
-/// Whether any expiry in the list is before the year 0.
+/// Returns whether any expiry in the list is before the year 0.
 pub fn any_early(list: &[Saved]) -> bool
     ensures { result ≡ list_any is_early (map saved_view list.now) }
 {
@@ -115,7 +115,7 @@ fn expiry_to_value(alloc: Global, expires: SavedExpiry) -> Result<Value, AllocEr
 {
     match expires {
         SavedExpiry::AtUtc(moment) => {
-            let text = moment::written(alloc, moment)?;
+            let text = moment::format_moment(alloc, moment)?;
             json!(in alloc; {"AtUtc": text.as_str()})
         }
         SavedExpiry::SessionEnd => json!(in alloc; "SessionEnd"),

@@ -2,7 +2,7 @@
 ghost use Rattle.std.specs.Prelude.{◌≡◌, ◌==◌, IfOk};
 ghost use Rattle.std.specs.Char.{is_ascii_digit, is_ascii_hexdigit};
 ghost use Rattle.std.specs.List.{after_last, before_first, list_all, list_any};
-ghost use Rattle.cookie_inputs.specs.Urls.{after_scheme, authority_in, ends_authority, ends_in_number_and_dot, has_host_scheme, has_plain_host, host_end, host_in, is_control_or_space, is_converted, is_decimal_if_number, is_digit_or_dot, is_number, is_plain_authority, is_plain_file, is_plain_host, is_unambiguous, names_host, scheme_of, unambiguous_url};
+ghost use Rattle.cookie_inputs.specs.Urls.{after_scheme, authority_in, ends_in_number_and_dot, has_host_scheme, has_plain_host, host_end, host_in, is_control_or_space, is_converted, is_decimal_if_number, is_digit_or_dot, is_number, is_plain_authority, is_plain_file, is_plain_host, is_unambiguous, names_host, scheme_of, unambiguous_url};
 
 use cookie_parts::utils::parse_url;
 use std::alloc::{AllocError, Global};

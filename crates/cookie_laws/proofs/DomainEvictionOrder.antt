@@ -152,7 +152,7 @@ module _ (store : Contents) (now : Moment) (new first later : Key) (has : HasCre
       let comes : comes_first p q keys ≡ true =
       first-filtered p q (same_domain new) (same_key-passes (same_domain new) first true first-near) store.created
       (made_before first later prefix between back store.created is has.1) in
-      let turn : comes_first p q (eviction_order now store.rows keys) ≡ true =
+      let first_comes : comes_first p q (eviction_order now store.rows keys) ≡ true =
       ⊎_elim (λ over.
       first-before p q (filter expired_row keys) (filter (λ key. not (expired_row key)) keys)
       (first-filtered p q expired_row (same_key-passes expired_row first true over) keys comes))
@@ -162,4 +162,4 @@ module _ (store : Contents) (now : Moment) (new first later : Key) (has : HasCre
       (first-filtered p q (λ key. not (expired_row key))
       (same_key-passes (λ key. not (expired_row key)) first true (ap not live)) keys comes))
       (cases_Bool (expired_row first)) in
-      over_limit-first store.limit now store.rows keys first later turn leaves
+      over_limit-first store.limit now store.rows keys first later first_comes leaves

@@ -9,7 +9,6 @@ pub mod DifferentKeys
 pub mod DomainEvictionOrder
 pub mod EvictedKeys
 pub mod Filtered
-pub mod FoundRows
 pub mod HeaderOrder
 pub mod LimitedRows
 pub mod PreservedByCalls
@@ -17,6 +16,7 @@ pub mod RebuiltRows
 pub mod ReceivedCookies
 pub mod RelatedCalls
 pub mod Removals
+pub mod RowsByKey
 pub mod RowsOfKeys
 pub mod RowsThatPass
 pub mod RunsOfKeys

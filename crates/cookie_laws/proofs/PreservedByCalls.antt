@@ -11,7 +11,7 @@ use Rattle.cookie_laws.specs.Runs.{Call, Set, Insert, Remove, Clear, step, store
 
 -- what holds without rows, and is kept by the outcome of an admitted cookie and by a removal
 module _ (P : Contents → Type 0)
-    (answers : (store : Contents) (cookie : Row) (url : Parts) (now : Moment) → P store
+    (outcome_keeps : (store : Contents) (cookie : Row) (url : Parts) (now : Moment) → P store
     → P (store_by (reply_at (row_of (key_of cookie) store.rows) cookie url now) store cookie now))
     (removes : (key : Key) (store : Contents) → P store
     → P (record store { rows = removed (has_key key) store.rows; created = removed (same_key key) store.created }))
@@ -20,7 +20,7 @@ module _ (P : Contents → Type 0)
   outcome_after_checks-keeps : (cookie_result : Result Row CookieError) (url : Parts) (now : Moment) (store : Contents) → P store
       → P (outcome_after_checks cookie_result url now store).store
   outcome_after_checks-keeps (Err rejection) url now store held = held
-  outcome_after_checks-keeps (Ok cookie) url now store held = answers store cookie url now held
+  outcome_after_checks-keeps (Ok cookie) url now store held = outcome_keeps store cookie url now held
 
   -- after a received cookie
   accept-keeps : (store : Contents) (cookie : Row) (url : Parts) (now : Moment) → P store → P (accept store cookie url now).store

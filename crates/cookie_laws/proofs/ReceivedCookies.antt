@@ -12,7 +12,7 @@ use Rattle.cookie_laws.specs.Acceptance.{IsPut, admitted, is_listed, received, I
 use Rattle.cookie_laws.specs.Contents.{Contents}
 use Rattle.cookie_laws.specs.Rows.{Key, changed, has_key, is_unexpired, key_of, row_of, same_key}
 use Rattle.cookie_laws.proofs.ConfinedRows.{IfOk_at, MayBeReceived, admitted-MayBeReceived, own_host}
-use Rattle.cookie_laws.proofs.SingleInsertions.{accept-row_expired, accept-ends, accept-guarded, accept-live, accept-other_key, accept-other_row, accept-put, refused-put}
+use Rattle.cookie_laws.proofs.SingleInsertions.{accept-row_expired, accept-ends, accept-guarded, accept-live, accept-other_key, accept-other_row, accept-put, rejected-put}
 
 -- an admitted host-only cookie is for its URL's host
 admitted-host : (suffixes : Option RuleList) (url : Parts) (cookie inserted : Row) → admitted suffixes url cookie ≡ Ok inserted → inserted.domain ≡ HostOnly (domain_text inserted.domain)
@@ -27,7 +27,7 @@ module _ (store : Contents) (url : Parts) (now : Moment) where
       → (cookie : Row) × (inserted : Row) × (cookie_result ≡ Ok cookie) × (admitted store.suffixes url cookie ≡ Ok inserted)
       × (row_of (key_of cookie) (received store cookie_result url now).store.rows ≡ Some inserted)
       × (is_listed store.suffixes inserted.domain ≡ true → (inserted.domain ≡ HostOnly (domain_text inserted.domain)) × (host_of url ≡ Some (domain_text inserted.domain)))
-  received-put (Err rejection) was_put = absurd (refused-put rejection was_put)
+  received-put (Err rejection) was_put = absurd (rejected-put rejection was_put)
   received-put (Ok cookie) was_put =
       let (inserted, enters, found, own) = accept-put store cookie url now was_put in (
         cookie,

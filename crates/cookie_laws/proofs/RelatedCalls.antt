@@ -97,15 +97,15 @@ same_given url now calls store =
 -- so does its order in the header
 pub same_header : (url : Parts) (now : Moment) (calls : List Call) (store : Contents) (cookies : List Row)
     → InHeaderOrder url now (store_after calls store) cookies → InHeaderOrder url now (store_after (calls_related_to url calls) store) cookies
-same_header url now calls store cookies asked =
+same_header url now calls store cookies ordered =
     let IsRelated : Row → Type 0 = λ row. is_key_related url (key_of row) ≡ true in
     let after = store_after calls store in
     let alone = store_after (calls_related_to url calls) store in
     let created = ap (λ passing. passing.created) (same_stores (related_calls url) calls store) in
     let related = All-from_recursion IsRelated (given url now after.rows) (all_related url now after.rows) in (
-      subst (λ rows. IsPermutation rows cookies) (same_given url now calls store) asked.0,
+      subst (λ rows. IsPermutation rows cookies) (same_given url now calls store) ordered.0,
       same_order (is_key_related url) after.created alone.created created cookies
-          (All-permutation IsRelated (given url now after.rows) cookies asked.0 related) asked.1,
+          (All-permutation IsRelated (given url now after.rows) cookies ordered.0 related) ordered.1,
     )
 
 -- so do the replies to them

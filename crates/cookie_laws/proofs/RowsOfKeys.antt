@@ -12,7 +12,7 @@ passing test rows = filter (λ row. test (key_of row)) rows
 
 -- a row of a key passes as the key does
 pub has_key-passes : (test : Key → Bool) (key : Key) (expected : Bool) → test key ≡ expected → (row : Row) → has_key key row ≡ true → test (key_of row) ≡ expected
-has_key-passes test key expected told row same = ap test (sym (same_key-true key (key_of row) same)) ∙ told
+has_key-passes test key expected holds row same = ap test (sym (same_key-true key (key_of row) same)) ∙ holds
 
 -- the row of a key that passes is among the rows that do
 pub row_of-passing : (test : Key → Bool) (key : Key) (rows : List Row) → test key ≡ true → row_of key (passing test rows) ≡ row_of key rows

@@ -1,5 +1,5 @@
--- What a test says of the raw cookie and the key of each row, it says after a call.
-use Rattle.std.proofs.Common.{◌≡◌, Bool, true, not, filter, Option, Result, Ok, Err, subst}
+-- If every row passes a test of its raw cookie and its key, every row passes it after a call.
+use Rattle.std.proofs.Common.{◌≡◌, Bool, true, not, filter, Option, Result, Ok, Err}
 use Rattle.std.specs.Prelude.{IfOk}
 use Rattle.std.specs.List.{All}
 use Rattle.std.proofs.lemmas.Bool.{cond_both}

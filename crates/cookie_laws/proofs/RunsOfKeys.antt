@@ -52,10 +52,10 @@ step-kept {test} {keeps} h (Insert cookie url now) store kept =
     (sym (h.calls (Insert cookie url now) (key_of cookie) refl) ∙ kept))
 step-kept {test} {keeps} h (Remove key) store kept =
     let here : test key ≡ true = sym (h.calls (Remove key) key refl) ∙ kept in
-    let told = row_of-passing test key store.rows here in
+    let row = row_of-passing test key store.rows here in
     let rows = removed-passing test key store.rows here in
     let created = unmade-passing test key store.created here in
-    λ i. record { reply = Removed (told i); store = record store { rows = sym rows i; created = sym created i } }
+    λ i. record { reply = Removed (row i); store = record store { rows = sym rows i; created = sym created i } }
 step-kept {test} {keeps} h Clear store kept = refl
 
 -- a call that is not kept changes nothing among them
@@ -99,8 +99,8 @@ replies_to-kept {test} {keeps} h (call ∷ calls) store =
     let after = step call store in
     let later = replies_to-kept h calls after.store in
     cond_pair (keeps call) (after.reply ∷ replies_to keeps calls after.store) (replies_to keeps calls after.store) (call ∷ kept_calls) kept_calls
-    (λ told zs. told ≡ replies zs (passing_store test store))
-    (λ kept. ap (λ told. after.reply ∷ told) later ∙ ap (λ next. next.reply ∷ replies kept_calls next.store) (sym (step-kept h call store kept)))
+    (λ others zs. others ≡ replies zs (passing_store test store))
+    (λ kept. ap (λ others. after.reply ∷ others) later ∙ ap (λ next. next.reply ∷ replies kept_calls next.store) (sym (step-kept h call store kept)))
     (λ lost. later ∙ ap (replies kept_calls) (step-lost h call store lost))
 
 -- if all calls are kept, so are all replies
@@ -113,7 +113,7 @@ replies_to-all keeps (call ∷ calls) store =
     cond_both (keeps call) (call ∷ kept_calls) kept_calls
     (λ zs. replies_to keeps zs store ≡ replies zs store)
     (λ kept. cond-true (keeps call) (after.reply ∷ replies_to keeps kept_calls after.store) _ kept
-    ∙ ap (λ told. after.reply ∷ told) (replies_to-all keeps calls after.store))
+    ∙ ap (λ others. after.reply ∷ others) (replies_to-all keeps calls after.store))
     (λ lost. replies_to-all keeps calls store)
 
 -- the rows that pass are the same after all calls and after those that are kept

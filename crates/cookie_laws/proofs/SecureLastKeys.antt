@@ -20,7 +20,7 @@ use Rattle.cookie_laws.specs.SecureLast.{accept_secure_last, evicted_by, evicted
 use Rattle.cookie_laws.proofs.AcceptanceOfKeys.{HasKey, admitted-HasKey}
 use Rattle.cookie_laws.proofs.DomainEvictionOrder.{none-passing}
 use Rattle.cookie_laws.proofs.Filtered.{filter-all, none-append, none-filter, none-take}
-use Rattle.cookie_laws.proofs.FoundRows.{find-none}
+use Rattle.cookie_laws.proofs.RowsByKey.{find-none}
 use Rattle.cookie_laws.proofs.LimitedRows.{found-any, reply_at-new}
 use Rattle.cookie_laws.proofs.Removals.{all_removed, all_removed-prefix, removed_from, removed_from-without, row_of-all_removed, store_after-append, store_after-removals}
 

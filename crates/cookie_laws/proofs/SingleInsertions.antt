@@ -15,7 +15,7 @@ use Rattle.cookie_laws.specs.Contents.{Contents, evicted, without}
 use Rattle.cookie_laws.specs.Rows.{Key, changed, has_key, is_unexpired, key_of, row_of, same_key, same_key-true}
 use Rattle.cookie_laws.specs.Acceptance.{Outcome, IsPut, by_scheme, is_listed, by_list, by_domain, admitted, put_action, reply_at, store_by, outcome_by, outcome_after_checks, accept}
 use Rattle.cookie_laws.proofs.AcceptanceOfKeys.{HasKey, admitted-HasKey}
-use Rattle.cookie_laws.proofs.FoundRows.{row_of-expired_row, row_of-expired_other, row_of-leaves, row_of-put, row_of-put_other, row_of-stays}
+use Rattle.cookie_laws.proofs.RowsByKey.{row_of-expired_row, row_of-expired_other, row_of-leaves, row_of-put, row_of-put_other, row_of-stays}
 
 -- a row whose domain is on the list, if there is one, is for that host alone
 abbrev IsOwnIfListed : Option RuleList → Row → Type 0
@@ -66,8 +66,8 @@ row_of-store_by reply store cookie now (inr again) =
     ap (λ r. row_of (key_of cookie) (store_by r store cookie now).rows) again ∙ row_of-put store.rows cookie
 
 -- an error is no such reply
-pub refused-put : (rejection : CookieError) → IsPut (Err rejection) → ⊥
-refused-put rejection h = ⊎_elim (λ new. grind (arith, new)) (λ again. grind (arith, again)) h
+pub rejected-put : (rejection : CookieError) → IsPut (Err rejection) → ⊥
+rejected-put rejection h = ⊎_elim (λ new. grind (arith, new)) (λ again. grind (arith, again)) h
 
 -- the admitted cookie, and what holds of it once it is stored
 abbrev IsStoredAsOwn : Option RuleList → Key → Result Row CookieError → List Row → Type 0
@@ -76,7 +76,7 @@ IsStoredAsOwn suffixes key cookie_result rows = (cookie : Row) × (cookie_result
 -- a cookie of the key that is stored is the row of that key
 outcome_after_checks-put : (key : Key) (cookie_result : Result Row CookieError) (url : Parts) (now : Moment) (store : Contents) → HasKey key cookie_result → MakesOwn store.suffixes cookie_result → IsPut (outcome_after_checks cookie_result url now store).reply
     → IsStoredAsOwn store.suffixes key cookie_result (outcome_after_checks cookie_result url now store).store.rows
-outcome_after_checks-put key (Err rejection) url now store same own was_put = absurd (refused-put rejection was_put)
+outcome_after_checks-put key (Err rejection) url now store same own was_put = absurd (rejected-put rejection was_put)
 outcome_after_checks-put key (Ok cookie) url now store same own was_put =
     let reply = reply_at (row_of (key_of cookie) store.rows) cookie url now in
     let found : row_of key (store_by reply store cookie now).rows ≡ Some cookie =

@@ -21,7 +21,7 @@ passing_store test store = record store { rows = passing test store.rows; create
 
 -- a key passes as the same key does
 pub same_key-passes : (test : Key → Bool) (key : Key) (expected : Bool) → test key ≡ expected → (other : Key) → same_key key other ≡ true → test other ≡ expected
-same_key-passes test key expected told other same = ap test (sym (same_key-true key other same)) ∙ told
+same_key-passes test key expected holds other same = ap test (sym (same_key-true key other same)) ∙ holds
 
 -- a key removed that passes
 pub unmade-passing : (test : Key → Bool) (key : Key) (created : List Key) → test key ≡ true → filter test (removed (same_key key) created) ≡ removed (same_key key) (filter test created)

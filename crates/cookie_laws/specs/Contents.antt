@@ -29,7 +29,7 @@ rows_in_order store = record { rows = store.rows; created = store.created }
 
 -- a store with these rows, a public suffix list and a limit, both optional
 abbrev pub contents_of : RowsInOrder → Option RuleList → Option ℕ → Contents
-contents_of kept suffixes limit = record { rows = kept.rows; created = kept.created; suffixes = suffixes; limit = limit }
+contents_of ordered suffixes limit = record { rows = ordered.rows; created = ordered.created; suffixes = suffixes; limit = limit }
 
 -- the row of the key exists and has expired
 abbrev pub has_expired : Moment → List Row → Key → Bool

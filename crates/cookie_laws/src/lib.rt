@@ -98,7 +98,7 @@ pub fn confined()
 /// A cookie that is stored is the row of its key. If its domain is a listed public suffix, it is a
 /// host-only cookie for the host it came from. In this law and the next two `cookie_result` is
 /// the result of creating the cookie, a cookie or an error; `insert` takes the cookie.
-pub fn listed_is_for_its_host()
+pub fn listed_is_host_only()
     ensures { (store : Contents) (cookie_result : Result Row CookieError) (url : Parts) (now : Moment)
         → IsPut (received store cookie_result url now).reply → (cookie : Row) × (inserted : Row)
         × (cookie_result ≡ Ok cookie) × (admitted store.suffixes url cookie ≡ Ok inserted)
@@ -189,9 +189,9 @@ pub fn evictions_are_removals()
         → row_of key (store_after (removals (evicted_secure_last store now new)) store).rows ≡ row_of key store.rows }
 {}
 
-/// What a test says of the raw cookie and the key of each row, and of a cookie that is inserted, it
-/// says of each row after the insertion, in either order of eviction, and after a removal.
-pub fn kept_by_calls()
+/// If every row and a cookie that is inserted pass a test of the raw cookie and the key, every row
+/// passes it after the insertion, in either order of eviction. So it does after a removal.
+pub fn preserved_by_calls()
     ensures inserted { (test : Raw → Key → Bool) (store : Contents) (cookie : Row) (url : Parts) (now : Moment)
         → test cookie.raw (key_of cookie) ≡ true → All (λ row. test row.raw (key_of row) ≡ true) store.rows
         → All (λ row. test row.raw (key_of row) ≡ true) (accept store cookie url now).store.rows }

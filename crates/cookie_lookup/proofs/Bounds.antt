@@ -10,8 +10,8 @@ use Rattle.cookie_parts.specs.Hosts.{host_of}
 use Rattle.cookie_lookup.specs.Groups.{PathGroups, DomainGroups, flat_paths, flat, HasDomainAndPath, Filled, ArePaths, AreGroups}
 use Rattle.cookie_lookup.specs.SearchView.{group_position, how_many_found, domains_found, has_domain}
 use Rattle.cookie_lookup.specs.Candidates.{url_candidate_domains, dots, slashes, most_domains}
-use Rattle.cookie_lookup.proofs.Cuts.{bool_cases}
-use Rattle.cookie_lookup.proofs.PathTexts.{any_append}
+use Rattle.cookie_lookup.proofs.CandidateCuts.{bool_cases}
+use Rattle.cookie_lookup.proofs.CandidatePaths.{any_append}
 
 -- a count in a string is at most its length, so the numbers of lookups stay below 2 ^ 128
 pub counted : {T : Type 0} (p : T → Bool) (text : List T) → count_by p text ≤ length text

@@ -12,11 +12,11 @@ use Rattle.cookie_laws.specs.Rows.{differ}
 use Rattle.cookie_lookup.specs.Groups.{PathGroups, DomainGroups, flat_paths, flat, HasDomainAndPath, Filled, ArePaths, AreGroups}
 use Rattle.cookie_lookup.specs.SearchView.{group_position, under, how_many_found, how_many_paths, paths_at_domain, how_many_pairs_found, has_domain_and_path, of_host, paths_found}
 use Rattle.cookie_lookup.specs.Candidates.{url_candidate_domains, candidate_paths, candidate_domains}
-use Rattle.cookie_lookup.proofs.Agree.{value, value_at, position_value, sum_alike}
+use Rattle.cookie_lookup.proofs.LookupsAgree.{value, value_at, position_value, sum_alike}
 use Rattle.cookie_lookup.proofs.Bounds.{counted, counts_alike, some_later}
-use Rattle.cookie_lookup.proofs.Cuts.{bool_cases}
+use Rattle.cookie_lookup.proofs.CandidateCuts.{bool_cases}
 use Rattle.cookie_lookup.proofs.Listed.{no_place, shared_all}
-use Rattle.cookie_lookup.proofs.PathTexts.{any_append}
+use Rattle.cookie_lookup.proofs.CandidatePaths.{any_append}
 
 -- no more are found than there are
 

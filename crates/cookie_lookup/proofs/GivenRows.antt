@@ -7,7 +7,7 @@ use Rattle.std.proofs.lemmas.Grind.{flat_map-append}
 use Rattle.cookie_parts.specs.Cookie.{Row}
 use Rattle.cookie_lookup.specs.SearchView.{under, row_positions, path_positions, domain_positions, list_of, rows_at}
 use Rattle.cookie_lookup.specs.Groups.{DomainGroups, PathGroups, flat, flat_paths}
-use Rattle.cookie_lookup.proofs.Cuts.{bool_cases}
+use Rattle.cookie_lookup.proofs.CandidateCuts.{bool_cases}
 
 pub filter_append : (t : Row → Bool) (xs ys : List Row) → filter t (xs ++ ys) ≡ filter t xs ++ filter t ys
 filter_append t [] ys = refl

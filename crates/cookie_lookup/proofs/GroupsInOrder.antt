@@ -15,9 +15,9 @@ use Rattle.cookie_lookup.specs.Groups.{flat, flat_paths, AreGroups, ArePaths, Do
 use Rattle.ordered_map.specs.Entries.{by_place, in_order}
 use Rattle.cookie_lookup.specs.Positions.{groups_in_order, groups_by_position, paths_in_order, paths_by_position, without_places, Placed, PlacedGroups, PlacedPaths}
 use Rattle.cookie_lookup.specs.SearchView.{domains_found, given_positions, has_domain, has_domain_and_path, paths_found, rows_at, RowPosition}
-use Rattle.cookie_lookup.proofs.Agree.{sum_alike}
+use Rattle.cookie_lookup.proofs.LookupsAgree.{sum_alike}
 use Rattle.cookie_lookup.proofs.Bounds.{counts_alike}
-use Rattle.cookie_lookup.proofs.Cuts.{bool_cases}
+use Rattle.cookie_lookup.proofs.CandidateCuts.{bool_cases}
 use Rattle.cookie_lookup.proofs.Exchanges.{all_in_any_order, differ_in_any_order, flat_map_in_any_order}
 use Rattle.cookie_lookup.proofs.GivenRows.{rows_given}
 use Rattle.cookie_lookup.proofs.SortedByPlace.{by_place_moved}

@@ -11,11 +11,11 @@ use Rattle.cookie_laws.specs.Rows.{differ}
 use Rattle.cookie_lookup.specs.Groups.{PathGroups, DomainGroups, ArePaths, AreGroups}
 use Rattle.cookie_lookup.specs.SearchView.{RowPosition, group_position, under, at_domain, at_path, how_many_found}
 use Rattle.cookie_lookup.specs.Positions.{SamePositions}
-use Rattle.cookie_lookup.proofs.Agree.{sum_flat, sum_alike}
+use Rattle.cookie_lookup.proofs.LookupsAgree.{sum_flat, sum_alike}
 use Rattle.cookie_lookup.specs.Candidates.{candidate_paths, slashes}
-use Rattle.cookie_lookup.proofs.Cuts.{bool_cases}
-use Rattle.cookie_lookup.proofs.PathTexts.{length_paths, path_differ}
-use Rattle.cookie_lookup.proofs.Positions.{drop_at, some_given}
+use Rattle.cookie_lookup.proofs.CandidateCuts.{bool_cases}
+use Rattle.cookie_lookup.proofs.CandidatePaths.{length_paths, path_differ}
+use Rattle.cookie_lookup.proofs.LookupResults.{drop_at, some_given}
 
 no_sum : (ts : List (List ℕ)) → sum_by (λ _. 0) ts ≡ 0
 no_sum [] = refl
@@ -203,13 +203,6 @@ module _ (p : List ℕ → Bool) (ks : List (List ℕ)) where
     | inr x ↦ absurd (omega (arith, x.0, below))
   ]
 
-  pub filter_end : (n : ℕ) → n ≡ length ks → filter p (drop n ks) ≡ []
-  filter_end n e = ap (λ m. filter p (drop m ks)) e ∙ none ks
-    where
-      none : (ks : List (List ℕ)) → filter p (drop (length ks) ks) ≡ []
-      none [] = refl
-      none (k ∷ ks) = none ks
-
 pub length_texts : {X : Type 0} (gs : List (List ℕ × X)) → length (map (λ g. g.0) gs) ≡ length gs
 length_texts [] = refl
 length_texts (g ∷ gs) = omega (arith, length_texts gs)
@@ -219,9 +212,6 @@ pub listed_most : (path : List ℕ) (ks : List (List ℕ)) → differ bytes_eq k
 listed_most path ks k = omega (arith, shared_most (candidate_paths path) ks (path_differ path) k, length_paths path)
 
 -- positions in any order
-
-pub same_positions_of_equal : (xs ys : List RowPosition) → xs ≡ ys → SamePositions xs ys
-same_positions_of_equal xs ys e = λ f. ap (sum_by f) e
 
 pub same_after : (new old xs ys : List RowPosition) → new ≡ old ++ xs → SamePositions xs ys → SamePositions new (old ++ ys)
 same_after new old xs ys e same = λ f. ap (sum_by f) e ∙ sum_by-append f old xs ∙ ap (λ n. sum_by f old + n) (same f) ∙ sym (sum_by-append f old ys)

@@ -6,8 +6,8 @@ use Rattle.std.proofs.lemmas.List.Sums.{sum_by-cons}
 use Rattle.std.proofs.lemmas.List.Sorted.{IsPermutation-refl, IsPermutation-sym, IsPermutation-trans, IsPermutation-cons, IsPermutation-middle, sum_by-IsPermutation}
 use Rattle.cookie_lookup.specs.SearchView.{RowPosition}
 use Rattle.cookie_lookup.specs.Positions.{SamePositions}
-use Rattle.cookie_lookup.proofs.Cuts.{bool_cases}
-use Rattle.cookie_lookup.proofs.Order.{is_position_before, neither_before, position_before_tests}
+use Rattle.cookie_lookup.proofs.CandidateCuts.{bool_cases}
+use Rattle.cookie_lookup.proofs.PositionOrder.{is_position_before, neither_before, position_before_tests}
 
 -- 1 for this position, 0 for any other
 abbrev one_for : RowPosition → RowPosition → ℕ

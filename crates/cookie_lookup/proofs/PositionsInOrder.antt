@@ -6,9 +6,9 @@ use Rattle.std.proofs.lemmas.List.Sorted.{IsPermutation-append, IsPermutation-re
 use Rattle.cookie_parts.specs.Cookie.{Row}
 use Rattle.cookie_lookup.specs.Positions.{entry_order, groups_by_position, paths_by_position, place_order, without_places, Placed, PlacedGroups, PlacedPaths}
 use Rattle.cookie_lookup.specs.SearchView.{RowPosition, domain_positions, path_positions, row_positions, under}
-use Rattle.cookie_lookup.proofs.Cuts.{bool_cases}
+use Rattle.cookie_lookup.proofs.CandidateCuts.{bool_cases}
 use Rattle.cookie_lookup.proofs.Exchanges.{flat_map_in_any_order}
-use Rattle.cookie_lookup.proofs.Order.{all_append, all_weaker, ascends_append, Ascends}
+use Rattle.cookie_lookup.proofs.PositionOrder.{all_append, all_weaker, ascends_append, Ascends}
 use Rattle.cookie_lookup.proofs.PlaceOrder.{entry_itself}
 use Rattle.cookie_lookup.proofs.SortedByPlace.{ordered, ordered_at, ordered_moved, ordered_rise, stored, IsContentAt, RiseBy}
 

@@ -13,10 +13,10 @@ use Rattle.cookie_parts.specs.Domain.{DomainValue, domain_text, domain_matches}
 use Rattle.cookie_parts.specs.Hosts.{host_of, covers, is_host_name, is_http_scheme, is_secure}
 use Rattle.cookie_parts.specs.Path.{covers_path, is_absolute, path_matches, CoversPath}
 use Rattle.cookie_laws.specs.Given.{is_given}
-use Rattle.cookie_lookup.specs.RowFilter.{is_given_under, is_host, is_name, is_of_host, kind_is_for, AgreesUnder}
+use Rattle.cookie_lookup.specs.RowFilter.{is_given_under, is_host, is_name, covers_host, kind_matches, AgreesUnder}
 use Rattle.cookie_lookup.specs.Candidates.{IsCandidatePath, IsCandidateDomain}
-use Rattle.cookie_lookup.proofs.CoveringTexts.{covers_it}
-use Rattle.cookie_lookup.proofs.Cuts.{bool_cases}
+use Rattle.cookie_lookup.proofs.CoveringPaths.{covers_it}
+use Rattle.cookie_lookup.proofs.CandidateCuts.{bool_cases}
 
 -- a candidate domain is the host if and only if it is as long
 same_length : (host text : List ℕ) → IsCandidateDomain host text → bytes_eq text host ≡ eqb (length text) (length host)
@@ -31,8 +31,8 @@ same_length host text related = elim related [
 ]
 
 -- 5.1.3: and it covers the host if it is the host, or the host is a name
-covers_host : (host text : List ℕ) → IsCandidateDomain host text → covers text host ≡ (eqb (length text) (length host) || is_host_name host)
-covers_host host text related = rw (← same_length host text related) (either (bytes_eq text host) (ends_with nat_eq host (46 ∷ text)) (is_host_name host) (where_not related))
+covers_candidate : (host text : List ℕ) → IsCandidateDomain host text → covers text host ≡ (eqb (length text) (length host) || is_host_name host)
+covers_candidate host text related = rw (← same_length host text related) (either (bytes_eq text host) (ends_with nat_eq host (46 ∷ text)) (is_host_name host) (where_not related))
   where
     either : (same ends name : Bool) → (same ≡ true) ⊎ (ends ≡ true) → (same || ends && name) ≡ (same || name)
     either same ends name (inl e) = rw e refl
@@ -44,10 +44,10 @@ covers_host host text related = rw (← same_length host text related) (either (
 
 module _ (url : Parts) (host text : List ℕ) (here : Some host ≡ host_of url) (related : IsCandidateDomain host text) where
   kinds : (domain : DomainValue) → domain_text domain ≡ text
-      → kind_is_for (is_host text host) (is_of_host text host) domain
+      → kind_matches (is_host text host) (covers_host text host) domain
       ≡ (domain_matches domain url && is_name (domain_text domain))
   kinds (Domain.HostOnly d) e = rw (← here, e, same_length host text related) (grind (arith, nat_tests))
-  kinds (Domain.Suffix d) e = rw (← here, e, covers_host host text related) (grind (arith, nat_tests))
+  kinds (Domain.Suffix d) e = rw (← here, e, covers_candidate host text related) (grind (arith, nat_tests))
   kinds Domain.NotPresent e = rw (← here) refl
   kinds Domain.Empty e = rw (← here) refl
 
@@ -78,10 +78,10 @@ module _ (ended secure http : Bool) where
 -- so the tests left decide whether the row is given
 pub candidates_given : (url : Parts) (now : Moment) (host text : List ℕ) → Some host ≡ host_of url → IsCandidateDomain host text
     → ((path request : List ℕ) → CoversPath path request → IsTrue (covers_path path request))
-    → AgreesUnder text (is_given_under (is_host text host) (is_of_host text host) url now) (is_given url now) url.path
+    → AgreesUnder text (is_given_under (is_host text host) (covers_host text host) url now) (is_given url now) url.path
 candidates_given url now host text here related match row of path =
     let covered : covers_path row.path.text url.path ≡ true = match row.path.text url.path (covers_it url.path row.path.text path) in
     let path_is : path_matches row.path.text url ≡ true = rw (can_be_a_base url row.path.text path, covered) refl in
     other_order (is_expired now row) (not (is_secure_only row.raw) || is_secure url) (not (is_http_only row.raw) || is_http_scheme url)
-    (kind_is_for (is_host text host) (is_of_host text host) row.domain) (domain_matches row.domain url) (path_matches row.path.text url) (is_name (domain_text row.domain))
+    (kind_matches (is_host text host) (covers_host text host) row.domain) (domain_matches row.domain url) (path_matches row.path.text url) (is_name (domain_text row.domain))
     (is_absolute row.path.text) (kinds url host text here related row.domain of) path_is path.0

@@ -7,7 +7,7 @@ use Rattle.std.proofs.lemmas.Bool.Decides.{nat_tests}
 use Rattle.std.proofs.lemmas.List.Sorted.{IsPermutation-cons, IsPermutation-map, IsPermutation-middle, IsPermutation-refl, IsPermutation-trans}
 use Rattle.ordered_map.specs.Entries.{by_place, in_order, insert_by_place}
 use Rattle.cookie_lookup.specs.Positions.{entry_order, nth_place}
-use Rattle.cookie_lookup.proofs.Cuts.{bool_cases}
+use Rattle.cookie_lookup.proofs.CandidateCuts.{bool_cases}
 use Rattle.cookie_lookup.proofs.Exchanges.{all_in_any_order}
 
 -- the entries are the same

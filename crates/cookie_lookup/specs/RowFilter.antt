@@ -18,22 +18,22 @@ abbrev pub is_host : List ℕ → List ℕ → Bool
 is_host text host = is_name text && (length text == length host)
 
 -- 5.1.3, of a candidate domain: it covers the host, and is neither empty nor `.`
-abbrev pub is_of_host : List ℕ → List ℕ → Bool
-is_of_host text host = is_name text && ((length text == length host) || is_host_name host)
+abbrev pub covers_host : List ℕ → List ℕ → Bool
+covers_host text host = is_name text && ((length text == length host) || is_host_name host)
 
 -- a domain of this kind matches the host; `host_only` and `suffix` are that for the two kinds with
 -- a string
-abbrev pub kind_is_for : Bool → Bool → DomainValue → Bool
-kind_is_for host_only suffix (Domain.HostOnly d) = host_only
-kind_is_for host_only suffix (Domain.Suffix d) = suffix
-kind_is_for host_only suffix Domain.NotPresent = false
-kind_is_for host_only suffix Domain.Empty = false
+abbrev pub kind_matches : Bool → Bool → DomainValue → Bool
+kind_matches host_only suffix (Domain.HostOnly d) = host_only
+kind_matches host_only suffix (Domain.Suffix d) = suffix
+kind_matches host_only suffix Domain.NotPresent = false
+kind_matches host_only suffix Domain.Empty = false
 
 -- 5.4: the domain matches the host, the cookie has not expired, a Secure cookie has a secure URL,
 -- and an HttpOnly cookie an HTTP URL
 abbrev pub is_given_under : Bool → Bool → Parts → Moment → Row → Bool
 is_given_under host_only suffix url now row =
-    kind_is_for host_only suffix row.domain && not (is_expired now row)
+    kind_matches host_only suffix row.domain && not (is_expired now row)
     && (not (is_secure_only row.raw) || is_secure url) && (not (is_http_only row.raw) || is_http_scheme url)
 
 -- two tests agree on each row of this domain whose path is a candidate path of the request path

@@ -3,7 +3,7 @@
 ghost use Rattle.std.specs.Prelude.{◌≡◌, Some};
 ghost use Rattle.cookie_words.specs.Moments.{moment_of};
 ghost use Rattle.cookie_laws.specs.Given.{is_given};
-ghost use Rattle.cookie_lookup.specs.RowFilter.{is_given_under, is_host, is_name, is_of_host, kind_is_for, AgreesUnder};
+ghost use Rattle.cookie_lookup.specs.RowFilter.{is_given_under, is_host, is_name, covers_host, kind_matches, AgreesUnder};
 ghost use Rattle.cookie_lookup.specs.Candidates.{IsCandidateDomain};
 ghost use Rattle.cookie_parts.specs.Hosts.{host_of, is_host_name};
 ghost use Rattle.cookie_parts.specs.Views.{domain_value};
@@ -50,7 +50,7 @@ impl<'a> RowFilter<'a> {
             url,
             time,
             host_only: is_host(text, host),
-            suffix: is_of_host(text, host, host_is_name),
+            suffix: covers_host(text, host, host_is_name),
         }
     }
 
@@ -58,15 +58,15 @@ impl<'a> RowFilter<'a> {
     pub(crate) fn gives(&self, cookie: &Cookie<'static>) -> bool
         ensures { result ≡ is_given_under self.now.host_only self.now.suffix self.now.url.now (moment_of self.now.time) cookie.now }
     {
-        self.is_for(&cookie.domain)
+        self.kind_matches(&cookie.domain)
             && !cookie.is_expired(self.time)
             && (!cookie.is_secure() || is_secure(self.url))
             && (!cookie.is_http_only() || is_http_scheme(self.url))
     }
 
     // Whether a domain of this kind matches the host.
-    fn is_for(&self, domain: &CookieDomain) -> bool
-        ensures { result ≡ kind_is_for self.now.host_only self.now.suffix (domain_value domain.now) }
+    fn kind_matches(&self, domain: &CookieDomain) -> bool
+        ensures { result ≡ kind_matches self.now.host_only self.now.suffix (domain_value domain.now) }
     {
         match domain {
             CookieDomain::HostOnly(_) => self.host_only,
@@ -84,9 +84,9 @@ fn is_host(text: &str, host: &str) -> bool
 }
 
 // Whether a domain cookie of the candidate domain matches the host.
-fn is_of_host(text: &str, host: &str, host_is_name: bool) -> bool
+fn covers_host(text: &str, host: &str, host_is_name: bool) -> bool
     requires { host_is_name ≡ is_host_name host.now }
-    ensures { result ≡ is_of_host text.now host.now }
+    ensures { result ≡ covers_host text.now host.now }
 {
     is_name(text) && (text.len() == host.len() || host_is_name)
 }

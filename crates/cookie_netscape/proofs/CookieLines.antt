@@ -15,7 +15,7 @@ use Rattle.cookie_netscape.specs.declared.writing.SessionExpiry.{SessionExpiry}
 use Rattle.cookie_netscape.proofs.FieldsBack.{cookie_back, fields_read, first_byte, first_is_field, fits_line, last_fields_read, middle_are_fields, middle_fields}
 use Rattle.cookie_netscape.proofs.HeaderLines.{by_fields}
 use Rattle.cookie_netscape.proofs.JoinedFields.{IsField, Lacks, field_lacks, joined_lacks}
-use Rattle.cookie_netscape.proofs.WholeLines.{IsNoSpace, empty_value, last_byte, last_is_no_space, last_of_second, no_space, some_value}
+use Rattle.cookie_netscape.proofs.TrimmedLines.{IsNoSpace, empty_value, last_byte, last_is_no_space, last_of_second, no_space, some_value}
 
 -- the other way round
 differs : (a b : ℕ) → (a == b) ≡ false → (b == a) ≡ false

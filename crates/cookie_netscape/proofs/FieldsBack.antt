@@ -1,16 +1,16 @@
 -- The fields of a cookie that the format can represent, read back.
-use Rattle.std.proofs.Common.{◌≡◌, ℕ, ◌==◌, ◌-◌, Bool, true, false, List, [], ◌∷◌, ◌++◌, length, map, take, codes, nat_eq, Option, Some, None, is_some, option_map, refl, sym, ap, ◌∙◌}
+use Rattle.std.proofs.Common.{◌≡◌, ℕ, ◌==◌, ◌-◌, Bool, true, false, List, [], ◌∷◌, length, map, codes, nat_eq, Option, Some, None, is_some, option_map, refl, sym, ap, ◌∙◌}
 use Rattle.std.specs.Char.{is_ascii_control, to_ascii_lowercase}
 use Rattle.std.specs.List.{AllByRecursion, ends_with, join_with_byte, starts_with}
-use Rattle.std.proofs.lemmas.Bool.{and_from, and_left, and_parts, both_ways, cond-false, cond-true, eq-eqb, false≢true, ne_eqb, not-true, or_parts}
+use Rattle.std.proofs.lemmas.Bool.{and_parts, cond-false, cond-true, false≢true, not-true, or_parts}
 use Rattle.cookie_words.specs.Steps.{◌>>=◌}
 use Rattle.cookie_words.specs.Strings.{pieces, without_dot}
 use Rattle.cookie_parts.specs.Cookie.{Row, is_http_only, is_secure_only}
 use Rattle.cookie_parts.specs.Domain.{DomainValue, HostOnly, Suffix, NotPresent, Empty as EmptyDomain, domain_text}
 use Rattle.cookie_parts.specs.Expiry.{Expiry}
 use Rattle.cookie_parts.specs.Path.{from_attribute}
-use Rattle.cookie_netscape.specs.HostFields.{host_from, is_own_host, plain_host, written_host}
-use Rattle.cookie_netscape.specs.Lines.{Fields, after_quote, are_fields, before_quote, cookie_from, domain_of, expiry_at, expiry_from, fields_from, fields_of, flag_from, is_domain_field, is_path_field, non_empty_path, path_from, row_from, row_of, with_name}
+use Rattle.cookie_netscape.specs.HostFields.{host_from, is_representable_host, plain_host, written_host}
+use Rattle.cookie_netscape.specs.Lines.{Fields, after_quote, are_fields, before_quote, cookie_from, domain_of, expiry_at, expiry_from, fields_from, fields_of, flag_from, is_domain_field, is_path_field, non_empty_path, path_from, row_from, fields_row, with_name}
 use Rattle.cookie_netscape.specs.Written.{as_written, domain_field, expiry_field, expiry_second, flag_text, has_subdomains, is_representable}
 use Rattle.cookie_netscape.specs.declared.writing.SessionExpiry.{SessionExpiry}
 use Rattle.cookie_netscape.proofs.HostsBack.{host_back, plain_back}
@@ -20,7 +20,7 @@ use Rattle.cookie_netscape.proofs.SecondsBack.{expiry_back, expiry_is_field}
 -- what the format requires of a cookie
 pub record FitsLine (row : Row) : Type 0 where
   pub host_is_field : is_domain_field (written_host (domain_text row.domain)) ≡ true
-  pub host_is_own : is_own_host (domain_text row.domain) ≡ true
+  pub host_is_representable : is_representable_host (domain_text row.domain) ≡ true
   pub path_is_field : is_path_field row.path.text ≡ true
   pub has_name : (length row.raw.name == 0) ≡ false
   pub name_is_field : IsField row.raw.name
@@ -41,7 +41,7 @@ fits_line row fits =
     let value_end = and_parts _ _ at_value.1 in
     record {
       host_is_field = at_path.0;
-      host_is_own = at_own.1;
+      host_is_representable = at_own.1;
       path_is_field = at_path.1;
       has_name = not-true _ (and_parts _ _ name.0).0;
       name_is_field = not-true _ name_end.1;
@@ -189,7 +189,7 @@ row_of_fields : (is_http_only : Bool) (fields : Fields) (has_subdomains is_secur
     → flag_from fields.subdomains ≡ Some has_subdomains → flag_from fields.secure ≡ Some is_secure
     → expiry_from fields.expiry ≡ Some expires
     → are_fields (plain_host (without_dot fields.domain)) (path_from fields.path) fields.name fields.value ≡ true
-    → row_from is_http_only fields ≡ Some (row_of is_http_only fields has_subdomains is_secure expires)
+    → row_from is_http_only fields ≡ Some (fields_row is_http_only fields has_subdomains is_secure expires)
 unfolding row_from
 row_of_fields is_http_only fields has_subdomains is_secure expires subdomains secure expiry fits =
     next_step (flag_from fields.subdomains) has_subdomains _ subdomains
@@ -222,12 +222,12 @@ written_row session row fits =
     row_of_fields (is_http_only row.raw) (written_fields session row) (has_subdomains row.domain) (is_secure_only row.raw)
     (expiry_at (expiry_second row.expires))
     (flag_back (has_subdomains row.domain)) (flag_back (is_secure_only row.raw)) (expiry_back session row.expires)
-    (ap (λ text. are_fields text (path_from row.path.text) row.raw.name row.raw.value) (ap plain_host host ∙ plain_back (domain_text row.domain) fit.host_is_own)
+    (ap (λ text. are_fields text (path_from row.path.text) row.raw.name row.raw.value) (ap plain_host host ∙ plain_back (domain_text row.domain) fit.host_is_representable)
     ∙ ap (λ text. are_fields (written_host (domain_text row.domain)) text row.raw.name row.raw.value) path ∙ own_fields row fits)
     ∙ ap (λ text. Some (record (as_written row) {
       domain = domain_of (has_subdomains row.domain) (map to_ascii_lowercase text);
       path = from_attribute (path_from row.path.text);
-    })) (ap host_from host ∙ host_back (domain_text row.domain) fit.host_is_own)
+    })) (ap host_from host ∙ host_back (domain_text row.domain) fit.host_is_representable)
     ∙ ap (λ text. Some (record (as_written row) { path = from_attribute text })) path
 
 -- the fields of a cookie read back

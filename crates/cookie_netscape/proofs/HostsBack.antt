@@ -1,10 +1,10 @@
 -- A written host, read back.
-use Rattle.std.proofs.Common.{◌≡◌, ℕ, ◌==◌, ◌&&◌, true, false, List, [], ◌∷◌, ◌++◌, codes, nat_eq, bytes_eq, refl, sym, ap, ◌∙◌, ⊎_elim}
+use Rattle.std.proofs.Common.{◌≡◌, ℕ, ◌==◌, ◌&&◌, true, false, List, [], ◌∷◌, codes, nat_eq, refl, sym, ap, ◌∙◌, ⊎_elim}
 use Rattle.std.specs.List.{ends_with}
 use Rattle.std.proofs.lemmas.Bool.{and_parts, cases_Bool, cond-false, cond-true, eqb-true, not-true}
 use Rattle.std.proofs.lemmas.Slice.Eq.{bytes_eq-Decides}
-use Rattle.cookie_netscape.specs.HostFields.{bracketed, cut_by, host_from, is_bare_address, is_own_host, plain_host, written_host}
-use Rattle.cookie_netscape.proofs.HostTexts.{front_of}
+use Rattle.cookie_netscape.specs.HostFields.{bracketed, cut_by, host_from, is_bare_address, is_representable_host, plain_host, written_host}
+use Rattle.cookie_netscape.proofs.HostEnds.{front_of}
 
 -- an IPv6 address gets the brackets that it had
 address_back : (b : ℕ) (rest : List ℕ) → (b == 91) ≡ true → ends_with nat_eq rest (codes "]") ≡ true
@@ -23,9 +23,9 @@ brackets_back (b ∷ rest) none =
     (cases_Bool ((b == 91) && ends_with nat_eq rest (codes "]") && is_bare_address (cut_by 1 rest)))
 
 -- nothing is dropped behind a written host
-pub plain_back : (host : List ℕ) → is_own_host host ≡ true → plain_host (written_host host) ≡ written_host host
+pub plain_back : (host : List ℕ) → is_representable_host host ≡ true → plain_host (written_host host) ≡ written_host host
 plain_back host own = (bytes_eq-Decides _ _).0 (and_parts _ _ own).1
 
 -- a written host is read as the host
-pub host_back : (host : List ℕ) → is_own_host host ≡ true → host_from (written_host host) ≡ host
+pub host_back : (host : List ℕ) → is_representable_host host ≡ true → host_from (written_host host) ≡ host
 host_back host own = ap bracketed (plain_back host own) ∙ brackets_back host (not-true _ (and_parts _ _ own).0)

@@ -23,7 +23,7 @@ use Rattle.cookie_netscape.specs.Written.{expiry_field, expiry_second, second_of
 use Rattle.cookie_netscape.specs.declared.writing.SessionExpiry.{SessionExpiry}
 use Rattle.cookie_netscape.specs.declared.writing.SessionExpiry.TheVariants.{Zero, Empty}
 use Rattle.cookie_netscape.proofs.JoinedFields.{IsField}
-use Rattle.cookie_netscape.proofs.Numbers.{are_digits, no_dot, seconds_without_dot, whole_of_digits}
+use Rattle.cookie_netscape.proofs.SecondsRead.{are_digits, no_dot, seconds_without_dot, whole_of_digits}
 use Rattle.cookie_netscape.proofs.Seconds.{no_nanos, same_nanos, second_of_cut}
 
 -- a digit is not a control character

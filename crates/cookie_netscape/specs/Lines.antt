@@ -159,8 +159,8 @@ abbrev pub domain_of : Bool → List ℕ → DomainValue
 domain_of has_subdomains domain = if has_subdomains then Suffix domain else HostOnly domain
 
 -- the cookie of fields whose flags and expiry are these
-abbrev pub row_of : Bool → Fields → Bool → Bool → Expiry → Row
-row_of is_http_only fields has_subdomains is_secure expires = record {
+abbrev pub fields_row : Bool → Fields → Bool → Bool → Expiry → Row
+fields_row is_http_only fields has_subdomains is_secure expires = record {
   raw = raw_of fields.name fields.value is_secure is_http_only;
   domain = domain_of has_subdomains (domain_from fields.domain);
   path = from_attribute (path_from fields.path);
@@ -178,7 +178,7 @@ row_from is_http_only fields = do
   has_subdomains ← flag_from fields.subdomains
   is_secure ← flag_from fields.secure
   expires ← expiry_from fields.expiry
-  if_are_fields fields (row_of is_http_only fields has_subdomains is_secure expires)
+  if_are_fields fields (fields_row is_http_only fields has_subdomains is_secure expires)
 
 -- a name that is missing with its `=` is written as the value
 abbrev pub with_name : Fields → Fields
@@ -204,9 +204,9 @@ fields_cookie text =
     if starts_with nat_eq text (codes "#HttpOnly_") then option_map Some (cookie_from true (drop 10 text))
     else (if is_skipped text then Some None else option_map Some (cookie_from false text))
 
--- the header value behind `Set-Cookie:`, ignoring case
-unfoldable pub header_value : List ℕ → Option (List ℕ)
-header_value text =
+-- the header value after `Set-Cookie:`, ignoring case
+unfoldable pub set_cookie_value : List ℕ → Option (List ℕ)
+set_cookie_value text =
     if list_any is_colon text && str_eq_ignore_ascii_case (before_first is_colon text) (codes "Set-Cookie")
     then Some (after_first is_colon text) else None
 
@@ -234,14 +234,14 @@ abbrev pub if_header_fields : Raw → List ℕ → Option Row
 if_header_fields raw domain =
     if are_fields (plain_host domain) (header_path raw.path) raw.name raw.value then Some (header_row raw domain) else None
 
--- the cookie of a header that has a Domain attribute, and no Max-Age, since a file does not say from when that counts
+-- the cookie of a header that has a Domain attribute, and no Max-Age, since a file does not record the time from which that counts
 abbrev pub row_of_header : Raw → Option Row
 row_of_header raw = if is_none raw.max_age then option_and_then (if_header_fields raw) raw.domain else None
 
 -- the cookie of what begins with `Set-Cookie:`, a header
 unfoldable pub header_cookie : List ℕ → Option Row
 header_cookie text = do
-  value ← header_value text
+  value ← set_cookie_value text
   raw ← result_ok (reading value)
   row_of_header raw
 

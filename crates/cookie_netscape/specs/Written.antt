@@ -8,7 +8,7 @@ use Rattle.cookie_parts.specs.Cookie.{Row, is_http_only, is_secure_only}
 use Rattle.cookie_parts.specs.Domain.{DomainValue, Suffix, domain_text}
 use Rattle.cookie_parts.specs.Expiry.{Expiry, AtUtc, SessionEnd}
 use Rattle.cookie_parts.specs.Path.{from_attribute}
-use Rattle.cookie_netscape.specs.HostFields.{is_own_host, written_host}
+use Rattle.cookie_netscape.specs.HostFields.{is_representable_host, written_host}
 use Rattle.cookie_netscape.specs.Lines.{are_fields, domain_of, expiry_at, raw_of}
 use Rattle.cookie_netscape.specs.declared.writing.SessionExpiry.{SessionExpiry}
 use Rattle.cookie_netscape.specs.declared.writing.SessionExpiry.TheVariants.{Zero, Empty}
@@ -27,7 +27,7 @@ is_from_epoch SessionEnd = true
 abbrev pub is_representable : Row → Bool
 is_representable row =
     are_fields (written_host (domain_text row.domain)) row.path.text row.raw.name row.raw.value
-    && is_own_host (domain_text row.domain) && is_from_epoch row.expires
+    && is_representable_host (domain_text row.domain) && is_from_epoch row.expires
 
 -- the number, or 0 if it is negative
 abbrev pub not_negative : ℤ → ℕ
@@ -52,7 +52,7 @@ flag_text is_set = if is_set then codes "TRUE" else codes "FALSE"
 abbrev pub domain_field : DomainValue → List ℕ
 domain_field domain = if has_subdomains domain then 46 ∷ written_host (domain_text domain) else written_host (domain_text domain)
 
--- what stands for the expiry of a session cookie
+-- the expiry field of a session cookie
 abbrev pub session_text : SessionExpiry → List ℕ
 session_text Zero = codes "0"
 session_text Empty = []
@@ -86,7 +86,7 @@ header_line = codes "# Netscape HTTP Cookie File"
 abbrev pub written_text : List Row → List ℕ
 written_text rows = header_line ++ flat_map (λ row. 10 ∷ line_of row) rows
 
--- what a line says of a cookie: no attribute but Secure and HttpOnly, the domain in lower case, the path as if a Path attribute had
+-- a cookie as it reads back from its line: no attribute but Secure and HttpOnly, the domain in lower case, the path as if a Path attribute had
 -- set it, and an expiry in whole seconds, at most the latest
 abbrev pub as_written : Row → Row
 as_written row = record {

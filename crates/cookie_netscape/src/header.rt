@@ -3,7 +3,7 @@ ghost use Rattle.std.specs.Prelude.{◌≡◌, IfErr, IfOk, IsSome, option_map};
 ghost use Rattle.std.specs.Option.{option_copied};
 ghost use Rattle.cookie_parts.specs.Views.{expiry_value};
 ghost use Rattle.cookie_raw.specs.Views.{expires_value};
-ghost use Rattle.cookie_netscape.specs.Lines.{header_cookie, header_expiry, header_path, header_value, row_of_header};
+ghost use Rattle.cookie_netscape.specs.Lines.{header_cookie, header_expiry, header_path, set_cookie_value, row_of_header};
 ghost use Rattle.cookie_netscape.specs.Views.{entry_row};
 
 use crate::entry::Entry;
@@ -21,7 +21,7 @@ pub(crate) fn read_header(alloc: Global, text: &str) -> Result<Option<Cookie<'st
     ensures cookie { IfOk result (λ cookie. cookie ≡ header_cookie text.now) }
     ensures error { IfErr result (λ error. IsSome (header_cookie text.now)) }
 {
-    let Some(value) = header_value(text) else {
+    let Some(value) = set_cookie_value(text) else {
         return Ok(None);
     };
     let Ok(raw) = RawCookie::parse(value) else {
@@ -34,9 +34,9 @@ pub(crate) fn read_header(alloc: Global, text: &str) -> Result<Option<Cookie<'st
 }
 
 // The header value of a line that begins with `Set-Cookie:`, ignoring case.
-#[tactic(auto, unfolding(crate::specs::Lines::header_value))]
-fn header_value(text: &str) -> Option<&str>
-    ensures { option_copied result ≡ header_value text.now }
+#[tactic(auto, unfolding(crate::specs::Lines::set_cookie_value))]
+fn set_cookie_value(text: &str) -> Option<&str>
+    ensures { option_copied result ≡ set_cookie_value text.now }
 {
     match text.split_once(':') {
         Some((name, value)) if name.eq_ignore_ascii_case("Set-Cookie") => Some(value),

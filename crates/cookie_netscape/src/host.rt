@@ -1,7 +1,7 @@
 //! The host that the domain field of a line names.
 ghost use Rattle.std.specs.Prelude.{◌≡◌, ◌≢◌, ◌∷◌, ◌++◌, [], ℕ, List, IfOk, MatchOption, map, string_bytes};
 ghost use Rattle.std.specs.Char.{to_ascii_lowercase};
-ghost use Rattle.cookie_netscape.specs.HostFields.{domain_from, gets_local, host_from, is_bare_address, is_own_host, is_port, plain_host, without_local, without_port, written_host};
+ghost use Rattle.cookie_netscape.specs.HostFields.{domain_from, is_localhost_or_ipv6, host_from, is_bare_address, is_representable_host, is_port, plain_host, without_local, without_port, written_host};
 ghost use Rattle.cookie_netscape.specs.Views.{host_view};
 
 use cookie_words::{is_digits, without_dot};
@@ -16,7 +16,7 @@ pub(crate) struct Host<'a> {
 }
 
 /// Returns the domain that the domain field of a line names, in lower case (ASCII), an IPv6 address
-/// with brackets. [`from_text`](crate::from_text) says what is dropped of a field.
+/// with brackets. See [`from_text`](crate::from_text) for what is dropped from a field.
 ///
 /// The field is not tested: a line with it may be malformed.
 pub fn read_domain(alloc: Global, field: &str) -> Result<String, AllocError>
@@ -39,7 +39,7 @@ pub(crate) fn read_host(field: &str) -> Host<'_>
 
 impl<'a> Host<'a> {
     /// Returns the host with its brackets, in lower case.
-    #[tactic(auto, using(crate::proofs::HostTexts::lower_brackets))]
+    #[tactic(auto, using(crate::proofs::HostEnds::lower_brackets))]
     #[inline(always)]
     pub(crate) fn to_ascii_lowercase(&self, alloc: Global) -> Result<String, AllocError>
         ensures { IfOk result (λ host. string_bytes host ≡ map to_ascii_lowercase (host_view self.now)) }
@@ -69,29 +69,29 @@ pub(crate) fn written_host(host: &str) -> &str
     }
 }
 
-/// Returns whether what is written of the host reads back as the host.
-pub(crate) fn is_own_host(host: &str) -> bool
-    ensures { result ≡ is_own_host host.now }
+/// Returns whether a line can hold the host: whether it reads back as it was written.
+pub(crate) fn is_representable_host(host: &str) -> bool
+    ensures { result ≡ is_representable_host host.now }
 {
     let written = written_host(host);
     !is_bare_address(host) && plain_host(written) == written
 }
 
-// What stands between brackets.
+// Returns what is between the brackets, or `None` if the host has none.
 fn without_brackets(host: &str) -> Option<&str>
     ensures { MatchOption result ((inner : List ℕ) → host.now ≢ 91 ∷ inner ++ 93 ∷ []) (λ inner. host.now ≡ 91 ∷ inner.now ++ 93 ∷ []) }
 {
     host.strip_prefix("[")?.strip_suffix("]")
 }
 
-// The host without what wget and Python write behind it.
+// The host without what wget and Python write after it.
 fn plain_host(field: &str) -> &str
     ensures { result.now ≡ plain_host field.now }
 {
     without_local(without_port(field))
 }
 
-// The host without the port that wget writes behind it.
+// The host without the port that wget writes after it.
 #[tactic(auto, unfolding(crate::specs::HostFields::without_port))]
 fn without_port(host: &str) -> &str
     ensures { result.now ≡ without_port host.now }
@@ -108,19 +108,19 @@ fn is_port(digits: &str) -> bool
     !digits.is_empty() && is_digits(digits)
 }
 
-// The host without the `.local` that Python writes behind `localhost` and an IPv6 address.
+// The host without the `.local` that Python writes after `localhost` and an IPv6 address.
 #[tactic(auto, unfolding(crate::specs::HostFields::without_local))]
 fn without_local(host: &str) -> &str
     ensures { result.now ≡ without_local host.now }
 {
     match host.strip_suffix(".local") {
-        Some(name) if gets_local(name) => name,
+        Some(name) if is_localhost_or_ipv6(name) => name,
         _ => host,
     }
 }
 
-fn gets_local(host: &str) -> bool
-    ensures { result ≡ gets_local host.now }
+fn is_localhost_or_ipv6(host: &str) -> bool
+    ensures { result ≡ is_localhost_or_ipv6 host.now }
 {
     host.eq_ignore_ascii_case("localhost") || host.starts_with('[')
 }

@@ -15,7 +15,7 @@ ghost use Rattle.cookie_netscape.specs.declared.error.NetscapeError.{NetscapeErr
 
 use cookie_words::moments_round_trip;
 
-/// What is written reads back as the same cookies, but for what a line does not say: see the
+/// Written cookies read back as the same cookies, except for what a line does not hold: see the
 /// definition `as_written`. The same holds with a line feed after the last line.
 pub fn written_reads_back()
     ensures text { (rows : List Row) → IsTrue (list_all is_representable rows)
@@ -24,7 +24,7 @@ pub fn written_reads_back()
         → rows_in_file (written_text rows ++ 10 ∷ []) ≡ Some (map as_written rows) }
 {}
 
-/// The line that [`push_line`](crate::push_line) writes reads back in the same way. White space behind a line,
+/// The line that [`push_line`](crate::push_line) writes reads back in the same way. White space after a line,
 /// such as its line end, changes nothing.
 pub fn line_reads_back()
     ensures line { (session : SessionExpiry) → (row : Row) → IsTrue (is_representable row)
@@ -45,8 +45,9 @@ pub fn reads_line_by_line()
         → FailsAtLine error (length before + 1) line → FailsToRead error text }
 {}
 
-/// The expiry that a line says of a cookie is its own, cut to whole seconds, if it is from
-/// 1970-01-01T00:00:01 to 9999-12-31T23:59:59; `cut` is the time without its fraction of a second.
+/// The expiry that is read from a cookie's line is that of the cookie, cut to whole seconds, if it
+/// is from 1970-01-01T00:00:01 to 9999-12-31T23:59:59; `cut` is the time without its fraction of a
+/// second.
 pub fn keeps_expiry()
     ensures { (time cut : DateTime) → moment_of cut ≡ record (moment_of time) { nanosecond = 0 }
         → pos 1_000_000_000 ≤ℤ nanoseconds (moment_of cut) → nanoseconds (moment_of cut) ≤ℤ nanoseconds latest

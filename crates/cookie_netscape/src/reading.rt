@@ -34,7 +34,7 @@ enum Line<'a> {
 ///
 /// | field | |
 /// |---|---|
-/// | domain | one dot before it is dropped, and so is a port behind it; an IPv6 address has brackets or none; `.local` is dropped behind `localhost` and behind an IPv6 address in brackets; the rest is not empty, begins with neither a dot, a space, `#` nor `$`, and is read in lower case (ASCII); otherwise it is not tested |
+/// | domain | a leading dot and a port at the end are dropped; an IPv6 address has brackets or none; `.local` is dropped after `localhost` and after an IPv6 address in brackets; the rest is not empty, begins with neither a dot, a space, `#` nor `$`, and is read in lower case (ASCII); otherwise it is not tested |
 /// | subdomains | TRUE for a domain cookie, FALSE for a host-only cookie, ignoring case |
 /// | path | without the quotation marks around it; a line may leave this field out, or empty, if it is `/` |
 /// | secure | TRUE or FALSE, ignoring case |
@@ -43,12 +43,12 @@ enum Line<'a> {
 /// | value | has no `;`, and no space at either end; a line may leave this field out if it is empty |
 ///
 /// No field has a control character. A cookie whose path does not begin with `/` matches no URL. A byte order mark is
-/// not dropped: a comment behind it is malformed, and a domain begins with it.
+/// not dropped: a comment after it is malformed, and a domain begins with it.
 ///
 /// A line without such fields that begins with `Set-Cookie:`, ignoring case, is read as a header: a domain cookie of
-/// its Domain attribute, with the path `/` if it has none that begins with `/`. A port behind the domain is dropped,
+/// its Domain attribute, with the path `/` if it has none that begins with `/`. A port after the domain is dropped,
 /// which libcurl keeps. It is malformed without Domain, since it names no host, and with Max-Age, since a file does
-/// not say from when that counts.
+/// not record the time from which that counts.
 ///
 /// # Errors
 ///

@@ -7,7 +7,7 @@ ghost use Rattle.cookie_parts.specs.Views.{domain_value, expiry_value};
 ghost use Rattle.cookie_netscape.specs.Written.{domain_field, expiry_field, expiry_second, flag_text, has_subdomains, header_line, is_from_epoch, is_representable, line_in, line_of, second_of};
 
 use crate::fields::are_fields;
-use crate::host::{is_own_host, written_host};
+use crate::host::{is_representable_host, written_host};
 use cookie_parts::{Cookie, CookieDomain, CookieExpiration};
 use cookie_words::epoch;
 use itoa::Buffer;
@@ -27,7 +27,7 @@ pub fn is_representable(cookie: &Cookie<'_>) -> bool
         cookie.path.as_str(),
         cookie.name(),
         cookie.value(),
-    ) && is_own_host(domain)
+    ) && is_representable_host(domain)
         && is_from_epoch(cookie.expires)
 }
 

@@ -57,7 +57,7 @@ labels_from-bad (first ∷ texts) (suc k) text within at bad =
     rw later (before_bad (label_from first))
 
 -- what makes a part malformed makes the whole malformed
-pub ParsesOrMemory-err : {T U V W : Type 0} (seen : T → U) (view : V → W) (fault : LineError) (part : Option U) (whole : Option W)
-    → ParsesOrMemory seen (Err fault) part → (part ≡ None → whole ≡ None) → ParsesOrMemory view (Err fault) whole
-ParsesOrMemory-err seen view Bad part whole given bad = bad given
-ParsesOrMemory-err seen view Memory part whole given bad = tt
+pub ParsesOrMemory-err : {T U V W : Type 0} (part_view : T → U) (view : V → W) (fault : LineError) (part : Option U) (whole : Option W)
+    → ParsesOrMemory part_view (Err fault) part → (part ≡ None → whole ≡ None) → ParsesOrMemory view (Err fault) whole
+ParsesOrMemory-err part_view view Bad part whole given bad = bad given
+ParsesOrMemory-err part_view view Memory part whole given bad = tt

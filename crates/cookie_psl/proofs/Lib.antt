@@ -2,7 +2,7 @@ pub mod AddedRules
 pub mod AddedTree
 pub mod BareLabels
 pub mod CopiedTree
-pub mod Counts
+pub mod GreaterCounts
 pub mod FinalDot
 pub mod FirstSpace
 pub mod LabelsCut

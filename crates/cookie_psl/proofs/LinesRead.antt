@@ -32,9 +32,9 @@ rule_in_front rule rules None = refl
 rule_in_front rule rules (Some last) = refl
 
 -- a line before others, with one more line at the end
-line_before : (number : ℕ) (said : Option (Option Rule)) (more longer : Result RuleList ℕ) (rules : RuleList) (read : Option Rule)
-    → with_line number said more ≡ Ok rules → ((rest : RuleList) → more ≡ Ok rest → longer ≡ Ok (then_rule rest read))
-    → with_line number said longer ≡ Ok (then_rule rules read)
+line_before : (number : ℕ) (parsed : Option (Option Rule)) (more longer : Result RuleList ℕ) (rules : RuleList) (read : Option Rule)
+    → with_line number parsed more ≡ Ok rules → ((rest : RuleList) → more ≡ Ok rest → longer ≡ Ok (then_rule rest read))
+    → with_line number parsed longer ≡ Ok (then_rule rules read)
 line_before number None more longer rules read e next = absurd (false≢true (ap is_ok e))
 line_before number (Some None) more longer rules read e next = next rules e
 line_before number (Some (Some rule)) (Ok rest) longer rules read e next =
@@ -50,15 +50,15 @@ last_line number (Some rule) = refl
 pub rules_of-push : (number : ℕ) (before : List (List ℕ)) (line : List ℕ) (rules : RuleList) (read : Option Rule)
     → rules_of number before ≡ Ok rules → line_rule line ≡ Some read → rules_of number (before ++ line ∷ []) ≡ Ok (then_rule rules read)
 rules_of-push number [] line rules read e h =
-    ap (λ said. with_line number said (Ok [])) h ∙ last_line number read ∙ ap (then_read read) e
+    ap (λ parsed. with_line number parsed (Ok [])) h ∙ last_line number read ∙ ap (then_read read) e
 rules_of-push number (first ∷ before) line rules read e h =
     line_before number (line_rule first) (rules_of (number + 1) before) (rules_of (number + 1) (before ++ line ∷ [])) rules read e
     (λ rest good. rules_of-push (number + 1) before line rest read good h)
 
 -- a line before a malformed one
-line_before_bad : (number bad : ℕ) (said : Option (Option Rule)) (more longer : Result RuleList ℕ) (rules : RuleList)
-    → with_line number said more ≡ Ok rules → ((rest : RuleList) → more ≡ Ok rest → longer ≡ Err bad)
-    → with_line number said longer ≡ Err bad
+line_before_bad : (number bad : ℕ) (parsed : Option (Option Rule)) (more longer : Result RuleList ℕ) (rules : RuleList)
+    → with_line number parsed more ≡ Ok rules → ((rest : RuleList) → more ≡ Ok rest → longer ≡ Err bad)
+    → with_line number parsed longer ≡ Err bad
 line_before_bad number bad None more longer rules e next = absurd (false≢true (ap is_ok e))
 line_before_bad number bad (Some None) more longer rules e next = next rules e
 line_before_bad number bad (Some (Some rule)) (Ok rest) longer rules e next = ap (with_line number (Some (Some rule))) (next rest refl)
@@ -68,7 +68,7 @@ line_before_bad number bad (Some (Some rule)) (Err other) longer rules e next = 
 pub rules_of-bad : (number : ℕ) (before after : List (List ℕ)) (line : List ℕ) (rules : RuleList)
     → rules_of number before ≡ Ok rules → line_rule line ≡ None → rules_of number (before ++ line ∷ after) ≡ Err (number + length before)
 rules_of-bad number [] after line rules e h =
-    ap (λ said. with_line number said (rules_of (number + 1) after)) h ∙ ap (λ n. Err n) (omega arith)
+    ap (λ parsed. with_line number parsed (rules_of (number + 1) after)) h ∙ ap (λ n. Err n) (omega arith)
 rules_of-bad number (first ∷ before) after line rules e h =
     line_before_bad number (number + length (first ∷ before)) (line_rule first) (rules_of (number + 1) before) (rules_of (number + 1) (before ++ line ∷ after)) rules e
     (λ rest good. rules_of-bad (number + 1) before after line rest good h ∙ ap (λ n. Err n) (omega arith))
@@ -136,7 +136,7 @@ bad_next walked place line lines rules so_far more next good bad =
     ∙ ap (λ numbered. Err (numbered.0 + 1)) (sym here)
 
 -- the error for a line that was not added
-pub not_taken : (error : ListError) (said : Option (Option Rule)) (number : ℕ) (old new : RuleList) (expected : Result RuleList ℕ)
-    → AddsLine {T = ⊤} (Err error) said number old new → (said ≡ None → expected ≡ Err number) → ParsesList (Err error) expected
-not_taken (BadRule line) said number old new expected (bad, e) first = first bad ∙ ap (λ n. Err n) (sym e)
-not_taken Memory said number old new expected h first = tt
+pub not_added : (error : ListError) (parsed : Option (Option Rule)) (number : ℕ) (old new : RuleList) (expected : Result RuleList ℕ)
+    → AddsLine {T = ⊤} (Err error) parsed number old new → (parsed ≡ None → expected ≡ Err number) → ParsesList (Err error) expected
+not_added (BadRule line) parsed number old new expected (bad, e) first = first bad ∙ ap (λ n. Err n) (sym e)
+not_added Memory parsed number old new expected h first = tt

@@ -4,7 +4,7 @@ use Rattle.std.specs.Bool.{beq}
 use Rattle.std.proofs.lemmas.Bool.{and_parts}
 use Rattle.cookie_psl.specs.Rules.{RuleList, fits, matches, greater, count_if, longest}
 use Rattle.cookie_psl.specs.Tree.{with_label, ends_here}
-use Rattle.cookie_psl.proofs.Counts.{greater-assoc, greater-more}
+use Rattle.cookie_psl.proofs.GreaterCounts.{greater-assoc, greater-more}
 
 -- of joined lists it is the greater of both
 pub longest-append : (is_exception : Bool) (a b : RuleList) (domain : List (List ℕ)) →

@@ -18,7 +18,7 @@ use Rattle.cookie_psl.specs.Tree.{label_rules, tree_rules, with_label, ends_here
 use Rattle.cookie_psl.specs.declared.tree.Node.{Node}
 use Rattle.cookie_psl.specs.declared.tree.Node.TheOpen.{Node-F}
 use Rattle.cookie_psl.specs.declared.tree.Node.TheViews.{out-Node}
-use Rattle.cookie_psl.proofs.Counts.{greater-none, greater-more}
+use Rattle.cookie_psl.proofs.GreaterCounts.{greater-none, greater-more}
 use Rattle.cookie_psl.proofs.LongestRules.{longest-append, longest-with_label, longest-with_label-none, longest-ends_here, longest-le, greater-le}
 use Rattle.cookie_psl.proofs.TreeRules.{any_rules, level_rules, rules_out}
 

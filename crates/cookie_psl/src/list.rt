@@ -7,7 +7,7 @@ ghost use Rattle.cookie_psl.specs.Rules.{default_rule, labels_of, prevailing, re
 ghost use Rattle.cookie_psl.specs.Views.{suffix_value};
 
 use crate::reading::{LineError, read_line};
-use crate::suffix::{bare, prevailing_count, registrable_by, suffix_by};
+use crate::suffix::{prevailing_count, registrable_by, suffix_by, without_final_dot};
 use crate::tree::Node;
 use crate::{ListError, Suffix, tree};
 use std::alloc::{AllocError, Global};
@@ -66,7 +66,7 @@ impl List {
     {
         let mut list = List::new(alloc);
         for (index, line) in text.split('\n').enumerate() {
-            list.take(alloc, line, index + 1)?;
+            list.add_line(alloc, line, index + 1)?;
         }
         Ok(list)
     }
@@ -114,13 +114,13 @@ impl List {
         ensures count { result.0 ≡ (prevailing self.now (labels_of (without_final_dot domain.now))).count }
         ensures is_known { result.1 ≡ (prevailing self.now (labels_of (without_final_dot domain.now))).is_known }
     {
-        let exception = tree::longest(&self.root, true, bare(domain));
-        let rule = tree::longest(&self.root, false, bare(domain));
+        let exception = tree::longest(&self.root, true, without_final_dot(domain));
+        let rule = tree::longest(&self.root, false, without_final_dot(domain));
         prevailing_count(exception, rule)
     }
 
     // Adds the rule of line `number`, if it has one.
-    fn take(&mut self, alloc: Global, line: &str, number: usize) -> Result<(), ListError>
+    fn add_line(&mut self, alloc: Global, line: &str, number: usize) -> Result<(), ListError>
         ensures { AddsLine result (line_rule line.now) number self.old self.new }
     {
         match read_line(alloc, line) {

@@ -35,7 +35,7 @@ pub(crate) fn suffix_by(domain: &str, count: usize, is_known: bool) -> Option<Su
         → is_known ≡ (prevailing rules (labels_of (without_final_dot domain.now))).is_known → option_map suffix_value result ≡ suffix_of rules domain.now }
     ensures slice { IfSome result (λ suffix. HasSubslice domain.now (suffix_value suffix).text) }
 {
-    if bare(domain).is_empty() {
+    if without_final_dot(domain).is_empty() {
         return None;
     }
     Some(Suffix {
@@ -56,7 +56,7 @@ pub(crate) fn registrable_by(domain: &str, count: usize) -> Option<&str>
 }
 
 /// Returns the domain without one trailing dot.
-pub(crate) fn bare(domain: &str) -> &str
+pub(crate) fn without_final_dot(domain: &str) -> &str
     ensures { result.now ≡ without_final_dot domain.now }
 {
     domain.strip_suffix('.').unwrap_or(domain)
@@ -81,7 +81,7 @@ fn from_labels(domain: &str, count: usize) -> &str
     ensures value { result.now ≡ ending count domain.now }
     ensures slice { HasSubslice domain.now result.now }
 {
-    let start = labels_start(bare(domain), count);
+    let start = labels_start(without_final_dot(domain), count);
     &domain[start..]
 }
 

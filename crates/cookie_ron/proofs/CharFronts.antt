@@ -1,5 +1,5 @@
 -- Characters of strings: an escape is read exactly if the grammar has one there.
-use Rattle.std.proofs.Common.{◌≡◌, ◌≢◌, ℕ, zero, suc, ◌+◌, ◌*◌, ◌<◌, ◌≤◌, List, [], ◌∷◌, ◌++◌, length, take, drop, Bool, true, false, not, Option, Some, None, option_map, option_and_then, ◌==◌, ◌&&◌, if◌then◌else◌, nat_le, get_or, cond, ltb, length-append, length-drop, add-one, refl, sym, ap, subst, ◌∙◌, inl, inr, arith}
+use Rattle.std.proofs.Common.{◌≡◌, ◌≢◌, ℕ, zero, suc, ◌+◌, ◌*◌, ◌<◌, ◌≤◌, List, [], ◌∷◌, ◌++◌, length, take, drop, Bool, true, false, Option, Some, None, option_map, option_and_then, ◌==◌, ◌&&◌, if◌then◌else◌, nat_le, get_or, cond, ltb, length-append, length-drop, add-one, refl, sym, ap, subst, ◌∙◌, inl, inr, arith}
 use lib.Utf8.{scalar}
 use Rattle.std.specs.Char.{digit_value, is_ascii_hexdigit, IsScalar}
 use Rattle.std.specs.List.{list_all, position_or_len}
@@ -85,10 +85,6 @@ pub no_second_digit : (c d : ℕ) (rest : List ℕ) → ¬ (digit_value d < 16) 
 no_second_digit c d rest other = not_two c d rest (and_right (is_ascii_hexdigit c) (is_ascii_hexdigit d && true) (and_left (is_ascii_hexdigit d) true (not_hex d other)))
 
 -- ---- braces
-
-opposite : (b : Bool) → not (not b) ≡ b
-opposite true = refl
-opposite false = refl
 
 brace_sound : (s : List ℕ) (end : ℕ) → brace_in s ≡ Some end → s ≡ take end s ++ 125 ∷ drop (end + 1) s
 unfolding brace_in
@@ -231,16 +227,16 @@ code_sound (h ∷ s) rest c e =
     option_and_then_some _ (in_braces s) (c, rest) open_is.1 (λ braced braced_is e1.
     let end = map_some (λ i. (take i s, drop (i + 1) s)) (brace_in s) braced braced_is in
     let code = map_some (λ v. (v, braced.1)) (code_of braced.0) (c, rest) e1 in
-    let told = code_of_sound braced.0 c (code.1 ∙ ap (λ q. Some q.0) code.2) in (
+    let sound = code_of_sound braced.0 c (code.1 ∙ ap (λ q. Some q.0) code.2) in (
       braced.0,
       ap (λ x. x ∷ s) (is_same h 123 open_is.0)
           ∙ ap (λ t. 123 ∷ t) (brace_sound s end.0 end.1)
           ∙ ap (λ q. 123 ∷ (q.0 ++ 125 ∷ q.1)) end.2
           ∙ ap (λ q. 123 ∷ (braced.0 ++ 125 ∷ q.1)) code.2,
-      told.0,
-      told.1,
-      told.2,
-      told.3,
+      sound.0,
+      sound.1,
+      sound.2,
+      sound.3,
     ))
 
 code_complete : (digits rest : List ℕ) (c : ℕ) → 1 ≤ length digits → length digits ≤ 6 → HasHexValue c digits → IsScalar c
@@ -329,7 +325,7 @@ no_letter letter other c none is = not_same letter other (λ same. none_some c (
 
 pub char_takes : (c : ℕ) → Takes (CharForm c) char_at (λ rest. (c, rest))
 char_takes c = record {
-  at = λ front rest stands. elim stands [
+  at = λ front rest form. elim form [
     | inl (is, no_quote, no_escape) ↦
         ap (λ f. char_at (f ++ rest)) is ∙ rw (not_same c 92 no_escape, not_same c 34 no_quote) refl
     | inr (inl (letter, is, by)) ↦

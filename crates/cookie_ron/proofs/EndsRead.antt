@@ -16,8 +16,8 @@ pub end_read : (front : List (Parts Moment)) (p : Parts (List ℕ)) (ps : List (
 end_read front p ps q e = rw e (moved front q (all_with_parsed_expiry ps))
 
 -- an expiry that is not valid
-pub end_refused : (front : List (Parts Moment)) (p : Parts (List ℕ)) (ps : List (Parts (List ℕ))) → with_parsed_expiry p ≡ None
+pub end_rejected : (front : List (Parts Moment)) (p : Parts (List ℕ)) (ps : List (Parts (List ℕ))) → with_parsed_expiry p ≡ None
     → option_map (λ rest. front ++ rest) (all_with_parsed_expiry (p ∷ ps)) ≡ None
-end_refused front p ps e = rw e refl
+end_rejected front p ps e = rw e refl
 
-pub ruleset end_steps = (end_read, end_refused)
+pub ruleset end_steps = (end_read, end_rejected)

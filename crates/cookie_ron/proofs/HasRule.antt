@@ -12,13 +12,13 @@ use Rattle.cookie_ron.specs.Grammar.{◌▸◌, Exactly, Token, Close, is_blank}
 -- the bytes are UTF-8, and their characters are of the rule
 pub record HasRule (P : List ℕ → Type 0) (bs : List ℕ) : Type 0 where
   pub utf8 : IsUtf8 bs
-  pub says : P (chars bs)
+  pub matches : P (chars bs)
 
 -- a sequence of two rules
 pub both : {P Q : List ℕ → Type 0} {xs ys : List ℕ} → HasRule P xs → HasRule Q ys → HasRule (P ▸ Q) (xs ++ ys)
 both {xs = xs} {ys = ys} p q = record {
   utf8 = IsUtf8-append xs ys p.utf8 q.utf8;
-  says = (chars xs, chars ys, chars-append xs ys p.utf8, p.says, q.says);
+  matches = (chars xs, chars ys, chars-append xs ys p.utf8, p.matches, q.matches);
 }
 
 below : (x : ℕ) → is_ascii x ≡ true → x < 128
@@ -38,18 +38,18 @@ pub ascii_chars : (bs : List ℕ) → list_all is_ascii bs ≡ true → chars bs
 ascii_chars bs h = chars-IsAscii bs (all_below bs h)
 
 pub just : (text : List ℕ) → list_all is_ascii text ≡ true → HasRule (Exactly text) text
-just text h = record { utf8 = ascii_utf8 text h; says = ascii_chars text h }
+just text h = record { utf8 = ascii_utf8 text h; matches = ascii_chars text h }
 
 pub token : (blanks text : List ℕ) → list_all is_blank blanks ≡ true → list_all is_ascii (blanks ++ text) ≡ true
     → HasRule (Token text) (blanks ++ text)
 token blanks text b h = record {
   utf8 = ascii_utf8 (blanks ++ text) h;
-  says = (blanks, text, ascii_chars (blanks ++ text) h, b, refl);
+  matches = (blanks, text, ascii_chars (blanks ++ text) h, b, refl);
 }
 
 pub close : {text bs : List ℕ} → HasRule (Token text) bs → HasRule (Close text) bs
-close s = record { utf8 = s.utf8; says = inl s.says }
+close s = record { utf8 = s.utf8; matches = inl s.matches }
 
 -- a closing token with a comma before it
 pub close_comma : {text bs : List ℕ} → HasRule (Token (codes ",") ▸ Token text) bs → HasRule (Close text) bs
-close_comma s = record { utf8 = s.utf8; says = inr s.says }
+close_comma s = record { utf8 = s.utf8; matches = inr s.matches }

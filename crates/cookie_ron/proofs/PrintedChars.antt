@@ -26,7 +26,7 @@ short c letter low is =
     let all_low : list_all is_ascii (codes "\\" ++ letter ∷ []) ≡ true = rw low refl in
     record {
       utf8 = ascii_utf8 (codes "\\" ++ letter ∷ []) all_low;
-      says = inr (inl (letter, ascii_chars (codes "\\" ++ letter ∷ []) all_low, is));
+      matches = inr (inl (letter, ascii_chars (codes "\\" ++ letter ∷ []) all_low, is));
     }
 
 -- a quote or a backslash
@@ -45,7 +45,7 @@ lettered c d letter h low is = subst (λ x. HasRule (CharForm x) (codes "\\" ++ 
 plain : (c : ℕ) → IsScalar c → ((c == 34) || (c == 92)) ≡ false → HasRule (CharForm c) (encode_utf8 c)
 plain c s h = record {
   utf8 = IsUtf8-encode c s;
-  says = inl (
+  matches = inl (
     chars_past_char (encode_utf8 c) [] c (IsUtf8-encode c s) (sym (append-nil _)) ∙ ap (λ cs. c ∷ cs) chars-nil,
     not_from_Decides (c == 34) (Decides-eqb c 34) (both_false (c == 34) (c == 92) h).0,
     not_from_Decides (c == 92) (Decides-eqb c 92) (both_false (c == 34) (c == 92) h).1,
@@ -76,7 +76,7 @@ numbered c ds s all some few is =
     let low : list_all is_ascii (ds ++ codes "}") ≡ true = rw (list_all-append is_ascii ds (codes "}"), low_digits ds hex) refl in
     record {
       utf8 = ascii_utf8 (codes "\\u{" ++ ds ++ codes "}") low;
-      says = inr (inr (inr (ds, ascii_chars (codes "\\u{" ++ ds ++ codes "}") low, some, few, (hex, is), s)));
+      matches = inr (inr (inr (ds, ascii_chars (codes "\\u{" ++ ds ++ codes "}") low, some, few, (hex, is), s)));
     }
 
 control_below : (c : ℕ) → is_control c ≡ true → c < 256
@@ -103,17 +103,17 @@ char_form c s =
     plain c s not_escaped)))))
 
 pub char_forms : (cs : List ℕ) → all_scalars cs ≡ true → HasRule (CharForms cs) (flat_map printed_char cs)
-char_forms [] h = record { utf8 = IsUtf8-nil; says = ([], chars-nil, tt) }
+char_forms [] h = record { utf8 = IsUtf8-nil; matches = ([], chars-nil, tt) }
 char_forms (c ∷ cs) h =
     let each = both_true _ (all_scalars cs) h in
     let one = char_form c each.0 in
     let others = char_forms cs each.1 in
     record {
       utf8 = IsUtf8-append (printed_char c) (flat_map printed_char cs) one.utf8 others.utf8;
-      says = (
-        chars (printed_char c) ∷ others.says.0,
-        chars-append (printed_char c) (flat_map printed_char cs) one.utf8 ∙ ap (λ s. chars (printed_char c) ++ s) others.says.1,
-        (one.says, others.says.2),
+      matches = (
+        chars (printed_char c) ∷ others.matches.0,
+        chars-append (printed_char c) (flat_map printed_char cs) one.utf8 ∙ ap (λ s. chars (printed_char c) ++ s) others.matches.1,
+        (one.matches, others.matches.2),
       );
     }
 
@@ -122,6 +122,6 @@ pub text_in_quotes : (blanks text : List ℕ) → list_all is_blank blanks ≡ t
     → HasRule (Text text) (blanks ++ quoted text)
 text_in_quotes blanks text b low u =
     let whole = both (token blanks (codes "\"") b low) (both (char_forms (chars text) (scalars-chars text u)) (just (codes "\"") refl)) in
-    let said : HasRule (Text text) ((blanks ++ codes "\"") ++ (flat_map printed_char (chars text) ++ codes "\"")) =
-    record { utf8 = whole.utf8; says = (chars text, sym (encodes-chars text u), whole.says) } in
-    subst (HasRule (Text text)) (append_assoc blanks (codes "\"") (flat_map printed_char (chars text) ++ codes "\"")) said
+    let quoted_rule : HasRule (Text text) ((blanks ++ codes "\"") ++ (flat_map printed_char (chars text) ++ codes "\"")) =
+    record { utf8 = whole.utf8; matches = (chars text, sym (encodes-chars text u), whole.matches) } in
+    subst (HasRule (Text text)) (append_assoc blanks (codes "\"") (flat_map printed_char (chars text) ++ codes "\"")) quoted_rule

@@ -29,9 +29,9 @@ in_row a b c d = simp append_assoc
 
 path_pair : (text : List ℕ) (b : Bool) → IsUtf8 text → HasRule (PathPair text b) (codes " " ++ printed_path text b)
 path_pair text b u =
-    let said : HasRule (PathPair text b) (codes " (" ++ (quoted text ++ (codes "," ++ ((codes " " ++ printed_flag b) ++ codes ")")))) =
+    let pair_rule : HasRule (PathPair text b) (codes " (" ++ (quoted text ++ (codes "," ++ ((codes " " ++ printed_flag b) ++ codes ")")))) =
     both (token (codes " ") (codes "(") refl refl) (both (text_in_quotes [] text refl refl u) (both (token [] (codes ",") refl refl) (both (flag b) (close (token [] (codes ")") refl refl))))) in
-    subst (λ s. HasRule (PathPair text b) (codes " (" ++ s)) (sym (in_row (quoted text) (codes ", ") (printed_flag b) (codes ")"))) said
+    subst (λ s. HasRule (PathPair text b) (codes " (" ++ s)) (sym (in_row (quoted text) (codes ", ") (printed_flag b) (codes ")"))) pair_rule
 
 domain : (d : SavedDomain) → HasRule (DomainForm (domain_view d)) (codes " " ++ printed_domain (domain_view d))
 domain (Kind.HostOnly text) = both (token (codes " ") (codes "HostOnly") refl refl) (argument (string_bytes text) (IsUtf8-string_bytes text))
@@ -96,20 +96,20 @@ cookies s (t ∷ list) =
     (both (cookie s) (both (token [] (codes ",") refl refl) (cookies t list)))
 
 no_blanks : HasRule Blanks []
-no_blanks = record { utf8 = IsUtf8-nil; says = rw chars-nil refl }
+no_blanks = record { utf8 = IsUtf8-nil; matches = rw chars-nil refl }
 
 line_feed : HasRule Blanks (10 ∷ [])
-line_feed = record { utf8 = ascii_utf8 (10 ∷ []) refl; says = rw (ascii_chars (10 ∷ []) refl) refl }
+line_feed = record { utf8 = ascii_utf8 (10 ∷ []) refl; matches = rw (ascii_chars (10 ∷ []) refl) refl }
 
 -- a printed list, blanks after it allowed; the strings of saved cookies are UTF-8
-said : (list : List Saved) {blanks : List ℕ} → HasRule Blanks blanks → HasRule (IsList (parts list)) (printed_list (parts list) ++ blanks)
-said [] blanks = both (token [] (codes "[") refl refl) (both (token [] (codes "]") refl refl) blanks)
-said (s ∷ list) blanks = both (token [] (codes "[") refl refl) (both (cookies s list) blanks)
+list_rule : (list : List Saved) {blanks : List ℕ} → HasRule Blanks blanks → HasRule (IsList (parts list)) (printed_list (parts list) ++ blanks)
+list_rule [] blanks = both (token [] (codes "[") refl refl) (both (token [] (codes "]") refl refl) blanks)
+list_rule (s ∷ list) blanks = both (token [] (codes "[") refl refl) (both (cookies s list) blanks)
 
 pub printed_is_list : (list : List Saved) → IsList (map with_expiry_text (map saved_view list)) (chars (printed_list (map with_expiry_text (map saved_view list))))
-printed_is_list list = subst (λ text. IsList (parts list) (chars text)) (append-nil _) (said list no_blanks).says
+printed_is_list list = subst (λ text. IsList (parts list) (chars text)) (append-nil _) (list_rule list no_blanks).matches
 
 -- the same with a line feed after it
 pub line_is_list : (list : List Saved)
     → IsList (map with_expiry_text (map saved_view list)) (chars (printed_list (map with_expiry_text (map saved_view list)) ++ 10 ∷ []))
-line_is_list list = (said list line_feed).says
+line_is_list list = (list_rule list line_feed).matches

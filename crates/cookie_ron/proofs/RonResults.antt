@@ -15,36 +15,36 @@ none_read : (s : List ℕ) (parts : List (Parts (List ℕ))) → list_at s ≡ N
 none_read s parts none is = let some = list_read s parts is in cc
 
 -- an input that is not a list
-pub says_none : (text : List ℕ) (e : SavedError) → (e ≡ ErrorCase.Memory) ⊎ ((e ≡ ErrorCase.Ron) × (list_at (chars text) ≡ None))
+pub ron_error : (text : List ℕ) (e : SavedError) → (e ≡ ErrorCase.Memory) ⊎ ((e ≡ ErrorCase.Ron) × (list_at (chars text) ≡ None))
     → (e ≡ ErrorCase.Memory) ⊎ RonParsesTo text (Err e)
-says_none text e told = elim told [
+ron_error text e errors = elim errors [
   | inl memory ↦ inl memory
   | inr (ron, none) ↦ inr (inl (ron, λ parts is. none_read (chars text) parts none is))
 ]
 
 -- a list whose expiries are valid times
-pub says_list : (text : List ℕ) (parts : List (Parts (List ℕ))) (list : List (Parts Moment)) → list_at (chars text) ≡ Some parts
+pub list_result : (text : List ℕ) (parts : List (Parts (List ℕ))) (list : List (Parts Moment)) → list_at (chars text) ≡ Some parts
     → all_with_parsed_expiry parts ≡ Some list → RonParsesTo text (Ok list)
-says_list text parts list read moments = (parts, list_front (chars text) parts read, moments)
+list_result text parts list read moments = (parts, list_front (chars text) parts read, moments)
 
 -- a list with an expiry that is not a valid time
-pub says_no_moment : (text : List ℕ) (parts : List (Parts (List ℕ))) (e : SavedError) → list_at (chars text) ≡ Some parts
+pub moment_error : (text : List ℕ) (parts : List (Parts (List ℕ))) (e : SavedError) → list_at (chars text) ≡ Some parts
     → (e ≡ ErrorCase.Memory) ⊎ ((e ≡ ErrorCase.Moment) × (all_with_parsed_expiry parts ≡ None)) → (e ≡ ErrorCase.Memory) ⊎ RonParsesTo text (Err e)
-says_no_moment text parts e read told = elim told [
+moment_error text parts e read errors = elim errors [
   | inl memory ↦ inl memory
   | inr (moment, none) ↦ inr (inr (moment, parts, list_front (chars text) parts read, none))
 ]
 
 -- the empty input is not a list
-pub empty_says_none : (text : List ℕ) → text ≡ [] → (ErrorCase.Ron ≡ ErrorCase.Memory) ⊎ RonParsesTo text (Err ErrorCase.Ron)
+pub empty_is_ron_error : (text : List ℕ) → text ≡ [] → (ErrorCase.Ron ≡ ErrorCase.Memory) ⊎ RonParsesTo text (Err ErrorCase.Ron)
 unfolding list_at chars
-empty_says_none text none =
+empty_is_ron_error text none =
     let unread : list_at (chars text) ≡ None = rw none refl in
-    says_none text ErrorCase.Ron (inr (refl, unread))
+    ron_error text ErrorCase.Ron (inr (refl, unread))
 
 -- every input has a result
-pub says : (text : List ℕ) → (outcome : Result (List (Parts Moment)) SavedError) × RonParsesTo text outcome
-says text = by_list (list_at (chars text)) refl
+pub result_of : (text : List ℕ) → (outcome : Result (List (Parts Moment)) SavedError) × RonParsesTo text outcome
+result_of text = by_list (list_at (chars text)) refl
   where
     by_list : (read : Option (List (Parts (List ℕ)))) → list_at (chars text) ≡ read → (outcome : Result (List (Parts Moment)) SavedError) × RonParsesTo text outcome
     by_list None e = (Err ErrorCase.Ron, inl (refl, λ parts is. none_read (chars text) parts e is))

@@ -1,4 +1,4 @@
-pub mod Entries
+pub mod Views
 pub mod Grammar
 pub mod Printed
 pub mod RonInput

@@ -5,7 +5,7 @@ ghost use Rattle.std.specs.Prelude.{◌≡◌, ◌≢◌, ◌⊎◌, ℕ, List, 
 ghost use Rattle.std.specs.Str.{chars};
 ghost use Rattle.cookie_forms.specs.Saved.{saved_view, domain_view, expiry_view};
 ghost use Rattle.cookie_forms.specs.FromJson.{parsed_expiry, with_parsed_expiry, all_with_parsed_expiry};
-ghost use Rattle.cookie_ron.specs.Entries.{entry_view};
+ghost use Rattle.cookie_ron.specs.Views.{entry_view};
 ghost use Rattle.cookie_ron.specs.RonInput.{flag_at, argument_at, path_at, domain_at, expiry_text_at, first_fields_at, last_fields_at, cookie_at, cookies_at, list_at};
 ghost use Rattle.cookie_ron.specs.ParsedRon.{RonParsesTo};
 

@@ -5,7 +5,7 @@ use Rattle.std.proofs.lemmas.Bool.{cases_lt}
 use Rattle.std.proofs.lemmas.List.{get_or_past, length-map}
 use Rattle.std.proofs.lemmas.Option.{slice_get_within}
 use Rattle.ordered_map.specs.Layout.{at_position, gap_position, IsOrdered}
-use Rattle.ordered_map.proofs.Pieces.{get_or_map_at}
+use Rattle.ordered_map.proofs.FlatMaps.{get_or_map_at}
 
 module _ {X : Type 0} (place : X → ℕ) (xs : List X) (order : List ℕ) (h : IsOrdered (map place xs) order) where
   -- an entry's place holds its position

@@ -13,7 +13,7 @@ use Rattle.ordered_map.specs.Entries.{by_place, in_order, insert_by_place, is_te
 use Rattle.ordered_map.specs.Layout.{at_position, at_positions, gap_position, IsOrdered}
 use Rattle.ordered_map.proofs.Around.{place_of_position, place_within, position_at_place}
 use Rattle.ordered_map.proofs.Found.{is_key_test}
-use Rattle.ordered_map.proofs.Pieces.{all_at_position, all_flat_map, at_position_here, at_position_past, at_within, flat_map_at, flat_map_same, same_after, same_before}
+use Rattle.ordered_map.proofs.FlatMaps.{all_at_position, all_flat_map, at_position_here, at_position_past, at_within, flat_map_at, flat_map_same, same_after, same_before}
 
 -- an element's place, and the element without it
 abbrev pub place_of : {X : Type 0} → ℕ × X → ℕ

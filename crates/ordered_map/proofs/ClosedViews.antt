@@ -13,8 +13,8 @@ use Rattle.ordered_map.specs.Entries.{in_order}
 use Rattle.ordered_map.specs.Layout.{at_position, by_position, gap_position, key_value, places, IsStored}
 use Rattle.ordered_map.specs.declared.gaps.Placed.{Placed}
 use Rattle.ordered_map.proofs.Closing.{Closing, all_taken, closed, closed_filter, closing_entry, closing_gap, flat_map_filter}
-use Rattle.ordered_map.proofs.Pieces.{at_position_past, at_within, map_at_positions}
-use Rattle.ordered_map.proofs.Views.{length_at_positions, sorted}
+use Rattle.ordered_map.proofs.FlatMaps.{at_position_past, at_within, map_at_positions}
+use Rattle.ordered_map.proofs.MapViews.{length_at_positions, sorted}
 
 abbrev pub Stored : Type 0 → Type 0
 Stored V = List (String Global × Placed V)

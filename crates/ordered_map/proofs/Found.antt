@@ -10,7 +10,7 @@ use Rattle.std.proofs.lemmas.Option.{get_or_from_slice_get, same_Some, slice_get
 use Rattle.std.proofs.lemmas.Slice.Eq.{bytes_eq-Decides}
 use Rattle.indexmap.proofs.MapLemmas.{Found-position}
 use Rattle.ordered_map.specs.Entries.{is_text}
-use Rattle.ordered_map.proofs.Pieces.{at_within}
+use Rattle.ordered_map.proofs.FlatMaps.{at_within}
 
 -- keys that are the same string are equal, and others are not
 pub is_key_test : (text : List ℕ) → IsKeyTest string_eq (is_text text)

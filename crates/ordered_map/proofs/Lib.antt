@@ -2,12 +2,12 @@ pub mod Around
 pub mod ByPlace
 pub mod ClosedViews
 pub mod Closing
+pub mod FlatMaps
 pub mod Found
+pub mod MapViews
 pub mod Moved
-pub mod Numbers
-pub mod Pieces
+pub mod OrderedPlaces
 pub mod PlaceViews
 pub mod Removal
 pub mod RetainedViews
 pub mod Retaining
-pub mod Views

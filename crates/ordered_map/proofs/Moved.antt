@@ -16,10 +16,10 @@ use Rattle.ordered_map.specs.Layout.{at_position, by_position, entries_at, entri
 use Rattle.ordered_map.specs.declared.gaps.Placed.{Placed}
 use Rattle.ordered_map.proofs.ClosedViews.{length_places, new_places, same_entries, same_keys}
 use Rattle.ordered_map.proofs.Found.{entry_at, lookup_entry_middle, lookup_entry_none, remove_middle, remove_none, same_text}
-use Rattle.ordered_map.proofs.Numbers.{moved_ordered}
-use Rattle.ordered_map.proofs.Pieces.{at_position_past, fewer_entries, get_or_map_at, map_at_positions}
+use Rattle.ordered_map.proofs.OrderedPlaces.{moved_ordered}
+use Rattle.ordered_map.proofs.FlatMaps.{at_position_past, fewer_entries, get_or_map_at, map_at_positions}
 use Rattle.ordered_map.proofs.PlaceViews.{absent_before_place, at_entry, entries_append, entries_around, split, within}
-use Rattle.ordered_map.proofs.Views.{length_at_positions, lookup_stored, sorted}
+use Rattle.ordered_map.proofs.MapViews.{length_at_positions, lookup_stored, sorted}
 
 -- a key that no entry has
 pub unmoved : {V : Type 0} (es : List (String Global × Placed V)) (order : List ℕ) (h : IsStored es order) (text : List ℕ) → lookup (is_text text) es ≡ None → in_order (by_position es) ≡ moved_to_end (is_text text) (in_order (by_position es))

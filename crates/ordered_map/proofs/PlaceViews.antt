@@ -21,9 +21,9 @@ use Rattle.ordered_map.proofs.Around.{place_of_position, place_within, position_
 use Rattle.ordered_map.proofs.ByPlace.{in_order_distinct, place_of, without_place}
 use Rattle.ordered_map.proofs.ClosedViews.{new_places, same_keys}
 use Rattle.ordered_map.proofs.Found.{remove_middle, set_middle}
-use Rattle.ordered_map.proofs.Pieces.{at_position_here, get_or_map_at}
+use Rattle.ordered_map.proofs.FlatMaps.{at_position_here, get_or_map_at}
 use Rattle.ordered_map.proofs.Removal.{changed_after, changed_before, length_swapped, removed_after, removed_before, removed_here, removed_ordered, swapped_moved, swapped_others}
-use Rattle.ordered_map.proofs.Views.{distinct, sorted}
+use Rattle.ordered_map.proofs.MapViews.{distinct, sorted}
 
 pub if_some : {A : Type 0} (P : A → Type 0) (r : Option A) (x : A) → r ≡ Some x → IfSome r P → P x
 if_some P None x e h = absurd (none-some x e)

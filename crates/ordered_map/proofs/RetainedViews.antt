@@ -7,11 +7,11 @@ use Rattle.std.proofs.lemmas.List.{append-nil, append_assoc, drop_all, take_all}
 use Rattle.std.proofs.lemmas.List.Elements.{All-cons, All-nil}
 use Rattle.ordered_map.specs.Entries.{in_order}
 use Rattle.ordered_map.specs.Layout.{by_position, entries_at, entries_of, gap_position, key_value, IsStored}
-use Rattle.ordered_map.specs.Retained.{RetainsTo}
+use Rattle.ordered_map.specs.RetainsTo.{RetainsTo}
 use Rattle.ordered_map.specs.declared.gaps.Placed.{Placed}
 use Rattle.ordered_map.proofs.PlaceViews.{entries_drop, entries_take}
 use Rattle.ordered_map.proofs.Retaining.{folds_from_retains, pairs_from_retains, retains_append}
-use Rattle.ordered_map.proofs.Views.{sorted}
+use Rattle.ordered_map.proofs.MapViews.{sorted}
 
 module _ {F V : Type 0} (T : F → String Global → V → Bool → V → F → Type 0) where
   -- `keep` was called at the entries of the first i places, and the others are as they were

@@ -2,7 +2,7 @@
 use Rattle.std.proofs.Common.{◌≡◌, Bool, true, false, cond, List, [], ◌∷◌, ◌++◌, refl, sym, ap, subst, ◌∙◌}
 use Rattle.std.specs.List.{FoldsTo}
 use Rattle.std.specs.Map.Calls.{RetainsPairs, SomeCallAtPair}
-use Rattle.ordered_map.specs.Retained.{RetainsTo}
+use Rattle.ordered_map.specs.RetainsTo.{RetainsTo}
 
 module _ {F K X : Type 0} (T : F → K → X → Bool → X → F → Type 0) where
   pub retains_append : (f g h : F) (xs xs' ys ys' : List (K × X)) → RetainsTo T f xs xs' g → RetainsTo T g ys ys' h → RetainsTo T f (xs ++ ys) (xs' ++ ys') h

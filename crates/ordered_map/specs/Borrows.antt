@@ -21,6 +21,6 @@ module _ (V S H : RattleType) (build : builder.Ghosts S.Denot H.Denot) (hash : h
   abbrev pub map_row : RattleType
   map_row = the_row V S H build hash
 
-  -- the key has the last value written through r, and at `None` the map stays as it is
+  -- the key has the last value written through r, and at `None` the map is unchanged
   abbrev pub lends_value : MutBor (Ordered V.Denot S.Denot) → List ℕ → Option (MutBor V.Denot) → Fml
   lends_value m text r = LendsSo map_row V m r (λ n w. OnSome r (WritesValue text m.now w n)) (λ n. n ≡ m.now)

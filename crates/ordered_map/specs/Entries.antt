@@ -11,7 +11,7 @@ abbrev pub insert_by_place : {X : Type 0} → ℕ × X → List (ℕ × X) → L
 insert_by_place x [] = x ∷ []
 insert_by_place x (y ∷ ys) = if nat_le x.0 y.0 then x ∷ y ∷ ys else y ∷ insert_by_place x ys
 
--- sorted by their places; of equal places the one that stands first comes first
+-- sorted by their places; of equal places the earlier one comes first
 abbrev pub by_place : {X : Type 0} → List (ℕ × X) → List (ℕ × X)
 by_place [] = []
 by_place (x ∷ xs) = insert_by_place x (by_place xs)
@@ -20,7 +20,7 @@ by_place (x ∷ xs) = insert_by_place x (by_place xs)
 abbrev pub in_order : {X : Type 0} → List (ℕ × X) → List X
 in_order xs = map (λ x. x.1) (by_place xs)
 
--- the entries by position, each with its place in the order of insertion, the hasher, and how many entries can be added with no memory
+-- the entries by position, each with its place in the order of insertion, the hasher, and how many entries can be added without allocating
 pub record Ordered (V S : Type 0) : Type 0 where
   pub by_position : List (ℕ × (String Global × V))
   pub hasher : S

@@ -35,7 +35,7 @@ entries_of es order = map key_value (at_positions es order)
 abbrev pub places : {V : Type 0} → List (String Global × Placed V) → List ℕ
 places es = map (λ e. e.1.place) es
 
--- how many entries can be added with no memory, if half as many places more are to stay free for moves to the end
+-- how many entries can be added without allocating, if half as many places more remain free for moves to the end
 abbrev pub room_of : ℕ → ℕ → ℕ → ℕ
 room_of spare places entries = min spare ((2 * places - entries) / 3)
 

@@ -1,4 +1,4 @@
 pub mod Entries
 pub mod Layout
 pub mod Borrows
-pub mod Retained
+pub mod RetainsTo

@@ -75,7 +75,7 @@ impl<V, S: BuildHasher> OrderedMap<V, S> {
         self.entries.len()
     }
 
-    /// Whether there are no entries.
+    /// Returns whether there are no entries.
     pub fn is_empty(&self) -> bool
         ensures { result ≡ (length (entries self.now) == 0) }
     {

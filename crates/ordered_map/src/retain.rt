@@ -3,7 +3,7 @@ ghost use Rattle.std.specs.Prelude.{◌≡◌, ◌+◌, ◌<◌, ◌≤◌, drop
 ghost use Rattle.std.specs.Map.Calls.{CalledAtPair, TakesPair};
 ghost use Rattle.indexmap.specs.IndexMap.{hasher_of, index_map_len, spare};
 ghost use Rattle.ordered_map.specs.Layout.{entries_at, entries_of, IsStored};
-ghost use Rattle.ordered_map.specs.Retained.{RetainsTo};
+ghost use Rattle.ordered_map.specs.RetainsTo.{RetainsTo};
 
 use crate::gaps::{Placed, swap_remove_placed};
 use indexmap::IndexMap;

@@ -6,7 +6,7 @@ use Rattle.cookie_device.proofs.reading.read_all.Given as goal
 abbrev pub invariant-loop-bytes : goal.invariant-loop-bytes
 invariant-loop-bytes g l = record {
   came : Consumes (g.R.Source.state l.initial.source).remaining (g.R.Source.state l.source).remaining l.bytes.items;
-  brought : (g.R.Source.state l.initial.source).reads_left ≤ (g.R.Source.state l.source).reads_left + length l.bytes.items;
+  reads : (g.R.Source.state l.initial.source).reads_left ≤ (g.R.Source.state l.source).reads_left + length l.bytes.items;
   count : (g.R.Source.state l.source).failed ≡ (g.R.Source.state l.initial.source).failed;
 }
 

@@ -1,5 +1,5 @@
 use Rattle.std.proofs.Common.{ap, ◌∙◌, arith, rules}
-use Rattle.cookie_forms.proofs.Members.{not_one, one, of_one}
+use Rattle.cookie_forms.proofs.OnlyMember.{not_one, one, of_one}
 use Rattle.cookie_forms.proofs.value_reader.only_text.Goals as goal
 
 pub returns-then-len-ne1 : goal.returns-then-len-ne1

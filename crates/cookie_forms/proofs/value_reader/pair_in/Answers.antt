@@ -1,5 +1,5 @@
 use Rattle.std.proofs.Common.{arith}
-use Rattle.cookie_forms.proofs.Pairs.{not_pair}
+use Rattle.cookie_forms.proofs.NotPairs.{not_pair}
 use Rattle.cookie_forms.proofs.value_reader.pair_in.Goals as goal
 
 pub returns-in-empty : goal.returns-in-empty

@@ -1,5 +1,5 @@
 use Rattle.cookie_words.specs.Moments.{moment_of}
-use Rattle.cookie_lookup.proofs.Whole.{found_sorted}
+use Rattle.cookie_lookup.proofs.FoundPositions.{found_sorted}
 use Rattle.cookie_lookup.proofs.finding.found.Goals as goal
 
 pub returns-clause-positions : goal.returns-clause-positions

@@ -5,7 +5,7 @@ use Rattle.cookie_lookup.specs.SearchView.{how_many_pairs_found, of_host}
 use Rattle.cookie_lookup.specs.Candidates.{url_candidate_domains, candidate_paths}
 use Rattle.cookie_lookup.proofs.Bounds.{domains_most, paths_fit}
 use Rattle.cookie_lookup.proofs.Results.{either_way}
-use Rattle.cookie_lookup.proofs.Whole.{found_in_any_order, from_none, from_zero, host_from_zero, none_found, paths_bound, some_found}
+use Rattle.cookie_lookup.proofs.FoundPositions.{found_in_any_order, from_none, from_zero, host_from_zero, none_found, paths_bound, some_found}
 use Rattle.cookie_lookup.proofs.finding.found_by.Goals.{in-Some+in_ok-push_domains, in_default}
 use Rattle.cookie_lookup.proofs.finding.found_by.Goals as goal
 

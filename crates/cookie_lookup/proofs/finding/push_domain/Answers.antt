@@ -4,9 +4,9 @@ use Rattle.url.specs.Parts.{Parts}
 use Rattle.cookie_lookup.specs.Positions.{SamePositions}
 use Rattle.cookie_lookup.specs.Candidates.{candidate_paths}
 use Rattle.cookie_lookup.proofs.FoundPairs.{domain_looked_up}
-use Rattle.cookie_lookup.proofs.Known.{known_look_up}
+use Rattle.cookie_lookup.proofs.AgreeingTests.{known_look_up}
 use Rattle.cookie_lookup.proofs.Results.{on_ok}
-use Rattle.cookie_lookup.proofs.Positions.{place_below}
+use Rattle.cookie_lookup.proofs.LookupResults.{place_below}
 use Rattle.cookie_lookup.proofs.finding.push_domain.Goals as goal
 
 pub push_paths-requires-clause-domain : goal.push_paths-requires-clause-domain

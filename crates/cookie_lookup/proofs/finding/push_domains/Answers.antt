@@ -9,15 +9,15 @@ use Rattle.cookie_lookup.specs.Groups.{DomainGroups}
 use Rattle.cookie_lookup.specs.SearchView.{at_domain, how_many_found, how_many_pairs_found, paths_at_domain}
 use Rattle.cookie_lookup.specs.Positions.{SamePositions}
 use Rattle.cookie_lookup.specs.Candidates.{candidate_paths, candidate_domains, most_paths, dots, IsCandidateDomain}
-use Rattle.cookie_lookup.proofs.Counts.{paths_next, room_next, room_here}
-use Rattle.cookie_lookup.proofs.Cuts.{after_byte, at_dot, at_no_dot}
-use Rattle.cookie_lookup.proofs.CoveringTexts.{behind_dot}
+use Rattle.cookie_lookup.proofs.CandidateCounts.{paths_next, room_next, room_here}
+use Rattle.cookie_lookup.proofs.CandidateCuts.{after_byte, at_dot, at_no_dot}
+use Rattle.cookie_lookup.proofs.CoveringPaths.{behind_dot}
 use Rattle.cookie_lookup.proofs.FoundPairs.{pairs_first, pairs_next}
-use Rattle.cookie_lookup.proofs.HostTexts.{length_dots}
+use Rattle.cookie_lookup.proofs.CandidateDomains.{length_dots}
 use Rattle.cookie_lookup.proofs.Listed.{same_more}
 use Rattle.cookie_lookup.proofs.Results.{either_way}
-use Rattle.cookie_lookup.proofs.Positions.{some_given}
-use Rattle.cookie_lookup.proofs.Steps.{dot_pushed, dot_kept, dot_gives}
+use Rattle.cookie_lookup.proofs.LookupResults.{some_given}
+use Rattle.cookie_lookup.proofs.LoopSteps.{dot_pushed, dot_kept, dot_gives}
 use Rattle.cookie_lookup.proofs.finding.push_domains.Goals.{then-bytes-at-eq46+in_ok-push_domain-2, else-bytes-at-eq46}
 use Rattle.cookie_lookup.proofs.finding.push_domains.Goals as goal
 

@@ -6,9 +6,9 @@ use Rattle.cookie_lookup.specs.RowFilter.{is_given_under}
 use Rattle.cookie_lookup.specs.Groups.{DomainGroups}
 use Rattle.cookie_lookup.specs.SearchView.{at_path, under}
 use Rattle.cookie_lookup.specs.Candidates.{ends_candidate, front_texts, candidate_paths}
-use Rattle.cookie_lookup.proofs.Cuts.{cut_boundary, front_same}
+use Rattle.cookie_lookup.proofs.CandidateCuts.{cut_boundary, front_same}
 use Rattle.cookie_lookup.proofs.Results.{either_way}
-use Rattle.cookie_lookup.proofs.Steps.{fronts_room, front_pushed, front_kept, front_gives, one_front, fronts_most}
+use Rattle.cookie_lookup.proofs.LoopSteps.{fronts_room, front_pushed, front_kept, front_gives, one_front, fronts_most}
 use Rattle.cookie_lookup.proofs.finding.push_paths.Goals.{then-ends_candidate+in_ok-push_path, else-ends_candidate}
 use Rattle.cookie_lookup.proofs.finding.push_paths.Goals as goal
 

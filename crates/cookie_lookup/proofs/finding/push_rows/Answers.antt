@@ -4,7 +4,7 @@ use Rattle.cookie_words.specs.Moments.{moment_of}
 use Rattle.cookie_lookup.specs.RowFilter.{is_given_under}
 use Rattle.cookie_lookup.specs.SearchView.{rows_in}
 use Rattle.cookie_lookup.proofs.Results.{either_way}
-use Rattle.cookie_lookup.proofs.Positions.{row_pushed, row_passed, rows_done, some_pass}
+use Rattle.cookie_lookup.proofs.LookupResults.{row_pushed, row_passed, rows_done, some_pass}
 use Rattle.cookie_lookup.proofs.finding.push_rows.Goals.{then-gives+in_ok-push_position, else-gives}
 use Rattle.cookie_lookup.proofs.finding.push_rows.Goals as goal
 

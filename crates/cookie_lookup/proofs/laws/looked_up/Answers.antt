@@ -1,7 +1,7 @@
 use Rattle.cookie_parts.specs.Domain.{domain_text}
-use Rattle.cookie_lookup.proofs.HostTexts.{related_differ, length_related, related_texts_are}
-use Rattle.cookie_lookup.proofs.PathTexts.{path_differ, length_paths}
-use Rattle.cookie_lookup.proofs.CoveringTexts.{covering_among, path_texts_are}
+use Rattle.cookie_lookup.proofs.CandidateDomains.{related_differ, length_related, related_texts_are}
+use Rattle.cookie_lookup.proofs.CandidatePaths.{path_differ, length_paths}
+use Rattle.cookie_lookup.proofs.CoveringPaths.{covering_among, path_texts_are}
 use Rattle.cookie_lookup.proofs.RelatedRows.{given_path, related_among}
 use Rattle.cookie_lookup.proofs.laws.looked_up.Goals as goal
 

@@ -1,6 +1,6 @@
 use Rattle.cookie_lookup.proofs.GroupsInOrder.{rows_in_any_order, same_domains, same_paths, still_groups}
 use Rattle.cookie_lookup.proofs.PlaceOrder.{places_exact}
-use Rattle.cookie_lookup.proofs.RowsInOrder.{rows_sorted_by_place}
+use Rattle.cookie_lookup.proofs.RowsByPlace.{rows_sorted_by_place}
 use Rattle.cookie_lookup.proofs.laws.rows_by_place.Goals as goal
 
 pub returns-clause-groups : goal.returns-clause-groups

@@ -1,7 +1,7 @@
 use Rattle.std.proofs.Common.{◌≡◌, ◌∙◌, true, false, sym, ap, subst, take, length, bytes_eq, arith, Some}
 use Rattle.std.specs.List.{list_any}
 use Rattle.cookie_lookup.specs.Candidates.{candidate_paths}
-use Rattle.cookie_lookup.proofs.CoveringTexts.{front_boundary, front_text, path_text_by}
+use Rattle.cookie_lookup.proofs.CoveringPaths.{front_boundary, front_text, path_text_by}
 use Rattle.cookie_lookup.proofs.listing.prefix_at.Goals as goal
 
 pub range-requires-clause-end_boundary : goal.range-requires-clause-end_boundary

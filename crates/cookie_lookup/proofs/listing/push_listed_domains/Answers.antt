@@ -8,9 +8,9 @@ use Rattle.cookie_lookup.specs.Groups.{DomainGroups}
 use Rattle.cookie_lookup.specs.SearchView.{at_domain, how_many_found, how_many_pairs_found, paths_at_domain}
 use Rattle.cookie_lookup.specs.Positions.{SamePositions}
 use Rattle.cookie_lookup.specs.Candidates.{dots, most_paths, candidate_paths, candidate_domains}
-use Rattle.cookie_lookup.proofs.Counts.{paths_next, room_here, room_next}
+use Rattle.cookie_lookup.proofs.CandidateCounts.{paths_next, room_here, room_next}
 use Rattle.cookie_lookup.proofs.FoundPairs.{found_counted, listed_pairs, pairs_next}
-use Rattle.cookie_lookup.proofs.HostTexts.{length_related, related_differ, related_texts_are}
+use Rattle.cookie_lookup.proofs.CandidateDomains.{length_related, related_differ, related_texts_are}
 use Rattle.cookie_lookup.proofs.Listed.{filter_at, filter_passed, length_texts, listed_domain_positions, listed_found, same_added, same_pushed, shared_most, some_same, text_gives}
 use Rattle.cookie_lookup.proofs.Results.{either_way}
 use Rattle.cookie_lookup.proofs.listing.push_listed_domains.Goals.{in-Some+in_ok-push_domain, in_default}

@@ -1,8 +1,8 @@
 use Rattle.std.proofs.Common.{◌≡◌, ◌∙◌, ◌-◌, true, false, sym, ap, subst, drop, length, bytes_eq, arith, Some}
 use Rattle.std.specs.List.{list_any}
 use Rattle.cookie_lookup.specs.Candidates.{candidate_domains}
-use Rattle.cookie_lookup.proofs.HostTexts.{related_texts_are}
-use Rattle.cookie_lookup.proofs.SuffixTexts.{domain_text_by, suffix_boundary, suffix_text}
+use Rattle.cookie_lookup.proofs.CandidateDomains.{related_texts_are}
+use Rattle.cookie_lookup.proofs.CandidateDomainTest.{domain_text_by, suffix_boundary, suffix_text}
 use Rattle.cookie_lookup.proofs.listing.suffix_at.Goals as goal
 
 pub range_from-requires : goal.range_from-requires

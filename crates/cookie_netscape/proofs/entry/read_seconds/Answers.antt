@@ -1,6 +1,6 @@
 use Rattle.std.proofs.Common.{min, option_map, ap, lit<, sym, Some, ◌∙◌}
 use Rattle.std.proofs.lemmas.Str.Pattern.{split_once_first}
-use Rattle.cookie_netscape.proofs.Numbers.{seconds_if_whole, seconds_of_parts}
+use Rattle.cookie_netscape.proofs.SecondsRead.{seconds_if_whole, seconds_of_parts}
 use Rattle.cookie_netscape.proofs.entry.read_seconds.Goals as goal
 
 pub returns-then-is_some : goal.returns-then-is_some

@@ -1,5 +1,5 @@
 use Rattle.std.proofs.Common.{sym, ap, ◌∙◌, arith, Some}
-use Rattle.cookie_netscape.proofs.Numbers.{seconds_read, whole_of_digits}
+use Rattle.cookie_netscape.proofs.SecondsRead.{seconds_read, whole_of_digits}
 use Rattle.cookie_netscape.proofs.entry.read_whole.Goals as goal
 
 pub returns : goal.returns

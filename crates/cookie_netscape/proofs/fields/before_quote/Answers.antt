@@ -1,7 +1,7 @@
 use Rattle.std.proofs.Common.{sym, codes}
 use Rattle.std.proofs.lemmas.Bool.{cond-false}
 use Rattle.cookie_netscape.specs.Lines.{before_quote}
-use Rattle.cookie_netscape.proofs.HostTexts.{ends_otherwise}
+use Rattle.cookie_netscape.proofs.HostEnds.{ends_otherwise}
 use Rattle.cookie_netscape.proofs.fields.before_quote.Goals as goal
 
 pub returns-in-None : goal.returns-in-None

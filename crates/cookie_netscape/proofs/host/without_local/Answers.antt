@@ -1,7 +1,7 @@
 use Rattle.std.proofs.Common.{sym, codes}
 use Rattle.std.proofs.lemmas.Bool.{and_left, cond-false}
 use Rattle.cookie_netscape.specs.HostFields.{without_local}
-use Rattle.cookie_netscape.proofs.HostTexts.{ends_otherwise}
+use Rattle.cookie_netscape.proofs.HostEnds.{ends_otherwise}
 use Rattle.cookie_netscape.proofs.host.without_local.Goals as goal
 
 pub returns-in_default-2 : goal.returns-in_default-2

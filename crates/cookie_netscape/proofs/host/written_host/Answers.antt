@@ -1,6 +1,6 @@
 use Rattle.std.proofs.Common.{sym, ◌∙◌}
 use Rattle.std.proofs.lemmas.Bool.{cond-false, cond-true}
-use Rattle.cookie_netscape.proofs.HostTexts.{no_brackets, with_brackets}
+use Rattle.cookie_netscape.proofs.HostEnds.{no_brackets, with_brackets}
 use Rattle.cookie_netscape.proofs.host.written_host.Goals as goal
 
 pub returns-in_default : goal.returns-in_default

@@ -1,6 +1,6 @@
 use Rattle.std.proofs.Common.{refl}
 use Rattle.cookie_netscape.proofs.CookieLines.{line_back, line_lacks}
-use Rattle.cookie_netscape.proofs.LineEnds.{end_ignored}
+use Rattle.cookie_netscape.proofs.TrailingSpace.{end_ignored}
 use Rattle.cookie_netscape.proofs.laws.line_reads_back.Goals as goal
 
 pub returns-clause-line : goal.returns-clause-line

@@ -13,11 +13,11 @@ pub returns-in_err-read_label : goal.returns-in_err-read_label
 returns-in_err-read_label c =
     let road = YieldsList-at c.into_iter-label-iterator.ensures.into_iter_gives
     (YieldsList-from_str_split 46 c.args.text.now (lit< tt) c.split-label-items.ensures.text c.split-label-items.ensures.has_more c.split-label-items.ensures.pattern) in
-    let turn = YieldsList-turn road c.loop-label.yielded _ c.loop-label.yielded_by _ _ c.in-Some.label c.in-Some.is c.next.ensures.steps in
+    let step = YieldsList-turn road c.loop-label.yielded _ c.loop-label.yielded_by _ _ c.in-Some.label c.in-Some.is c.next.ensures.steps in
     let fault = err_from_is_err_and c.from_residual.result c.from_residual.ensures.1 in
     rw (fault.1, fault.2)
     (ParsesOrMemory-err label_text label_texts c.in_err-read_label.field-0.0 (label_from c.in-Some.label.now) (labels_from (pieces 46 c.args.text.now))
-    c.in_err-read_label.ensures (labels_from-bad (pieces 46 c.args.text.now) (length c.loop-label.yielded) c.in-Some.label.now turn.0 turn.1))
+    c.in_err-read_label.ensures (labels_from-bad (pieces 46 c.args.text.now) (length c.loop-label.yielded) c.in-Some.label.now step.0 step.1))
 
 pub loop-label-preserved : goal.loop-label-preserved
 loop-label-preserved c =

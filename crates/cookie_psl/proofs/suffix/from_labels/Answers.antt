@@ -8,8 +8,8 @@ pub returns-clause-value : goal.returns-clause-value
 returns-clause-value c =
     let domain = c.args.domain.now in
     let start = c.labels_start-start.result in
-    let labels = subst (λ xs. drop start xs ≡ last_labels c.args.count xs) c.bare.ensures c.labels_start-start.ensures.labels in
-    let within : start ≤ length (without_final_dot domain) = omega (arith, ap length c.bare.ensures, c.labels_start-start.ensures.cut.0) in
+    let labels = subst (λ xs. drop start xs ≡ last_labels c.args.count xs) c.without_final_dot.ensures c.labels_start-start.ensures.labels in
+    let within : start ≤ length (without_final_dot domain) = omega (arith, ap length c.without_final_dot.ensures, c.labels_start-start.ensures.cut.0) in
     c.range_from.ensures.value
     ∙ drop-without_final_dot domain start within
     ∙ ap (λ xs. xs ++ drop (length (without_final_dot domain)) domain) labels

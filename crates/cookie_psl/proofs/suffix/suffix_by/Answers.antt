@@ -1,4 +1,4 @@
-use Rattle.std.proofs.Common.{◌≡◌, ℕ, ◌++◌, Bool, true, false, List, length, drop, Option, Some, None, sym, ap, ◌∙◌}
+use Rattle.std.proofs.Common.{◌≡◌, ℕ, ◌++◌, Bool, true, false, List, length, drop, Some, None, sym, ap, ◌∙◌}
 use Rattle.std.specs.Prelude.{◌==◌}
 use Rattle.cookie_psl.specs.Rules.{labels_of, last_labels, prevailing, suffix_of, without_final_dot, Prevailing, RuleList, SuffixValue}
 use Rattle.cookie_psl.proofs.suffix.suffix_by.Goals as goal
@@ -35,7 +35,7 @@ suffix_of-found rules domain value h same = ap Some same ∙ sym (suffix_of-some
 pub returns-then-is_empty-clause-value : goal.returns-then-is_empty-clause-value
 returns-then-is_empty-clause-value c = λ rules _ _.
     sym (suffix_of-empty rules c.args.domain.now
-    (sym (ap (λ xs. length xs == 0) c.bare.ensures) ∙ sym c.is_empty.ensures ∙ c.if-is_empty.true))
+    (sym (ap (λ xs. length xs == 0) c.without_final_dot.ensures) ∙ sym c.is_empty.ensures ∙ c.if-is_empty.true))
 
 pub returns-clause-value : goal.returns-clause-value
 returns-clause-value c = λ rules count is_known.
@@ -43,7 +43,7 @@ returns-clause-value c = λ rules count is_known.
     let bare = without_final_dot domain in
     let value : SuffixValue = record { text = c.from_labels.result.now; is_known = c.args.is_known } in
     suffix_of-found rules domain value
-    (sym (ap (λ xs. length xs == 0) c.bare.ensures) ∙ sym c.is_empty.ensures ∙ c.if-is_empty.false)
+    (sym (ap (λ xs. length xs == 0) c.without_final_dot.ensures) ∙ sym c.is_empty.ensures ∙ c.if-is_empty.false)
     (same_parts value (suffix_from domain (prevailing rules (labels_of bare)))
     (c.from_labels.ensures.value ∙ ap (λ n. last_labels n bare ++ drop (length bare) domain) count)
     is_known)

@@ -5,7 +5,7 @@ use Rattle.std.proofs.lemmas.Map.Text.{text_cmp}
 use Rattle.cookie_psl.specs.Rules.{greater, longest}
 use Rattle.cookie_psl.specs.Tree.{labels_left, tree_rules}
 use Rattle.cookie_psl.specs.declared.tree.Node.{out-Node}
-use Rattle.cookie_psl.proofs.Counts.{greater-one}
+use Rattle.cookie_psl.proofs.GreaterCounts.{greater-one}
 use Rattle.cookie_psl.proofs.LongestTree.{ends_count, longest-leaf, longest-level-none, longest-found, found-le, longest_in}
 use Rattle.cookie_psl.proofs.TreeRules.{rules_out}
 use Rattle.cookie_psl.proofs.tree.+longest_within.Goals as goal

@@ -1,7 +1,7 @@
 use Rattle.std.proofs.Common.{[], ◌∷◌, length, map, codes, ap, sym, ◌∙◌, rules}
 use Rattle.std.specs.Str.{chars}
 use Rattle.std.proofs.lemmas.List.{map-append}
-use Rattle.cookie_ron.specs.Entries.{entry_view}
+use Rattle.cookie_ron.specs.Views.{entry_view}
 use Rattle.cookie_ron.specs.RonInput.{behind_cookie, token_at, cookie_at, cookies_at}
 use Rattle.cookie_ron.proofs.ListFronts.{turn_shorter, cookies_turn, some_cookie}
 use Rattle.cookie_ron.proofs.reading.cookies_at.Goals as goal

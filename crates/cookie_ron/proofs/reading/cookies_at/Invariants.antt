@@ -3,7 +3,7 @@ use Rattle.std.proofs.Common.{◌≡◌, suc, length, map}
 use Rattle.std.specs.Str.{chars}
 use denote.Text.{Utf8}
 use denote.Shadow.{shadow}
-use Rattle.cookie_ron.specs.Entries.{entry_view}
+use Rattle.cookie_ron.specs.Views.{entry_view}
 use Rattle.cookie_ron.specs.RonInput.{onto, cookies_at}
 use Rattle.cookie_ron.proofs.reading.cookies_at.Given as goal
 

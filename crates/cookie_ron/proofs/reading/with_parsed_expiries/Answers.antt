@@ -3,7 +3,7 @@ use Rattle.std.proofs.lemmas.List.{map-append}
 use Rattle.std.specs.Vec.Iter.{into_iter_items}
 use Rattle.cookie_forms.specs.Saved.{saved_view}
 use Rattle.cookie_forms.specs.FromJson.{all_with_parsed_expiry}
-use Rattle.cookie_ron.specs.Entries.{entry_view}
+use Rattle.cookie_ron.specs.Views.{entry_view}
 use Rattle.cookie_ron.proofs.EndsRead.{end_read}
 use Rattle.cookie_ron.proofs.reading.with_parsed_expiries.Goals as goal
 

@@ -53,8 +53,8 @@ invariant_of-self c =
     let accepted = subst (λ (store : Contents). IsAccepted url store cookie now acceptance) (sym c.self.view_is) given in
     let after = store_in order begun cookie url now in
     let kept = in_order_has (λ (store : Contents). IsKept (cookie ∷ begun.rows) store.rows) order begun cookie url now
-    (kept_inserted begun (accept begun cookie url now).store cookie (λ test. c.kept_by_calls.ensures.inserted test begun cookie url now))
-    (kept_inserted begun (accept_secure_last begun cookie url now) cookie (λ test. c.kept_by_calls.ensures.inserted_secure_last test begun cookie url now)) in
+    (kept_inserted begun (accept begun cookie url now).store cookie (λ test. c.preserved_by_calls.ensures.inserted test begun cookie url now))
+    (kept_inserted begun (accept_secure_last begun cookie url now) cookie (λ test. c.preserved_by_calls.ensures.inserted_secure_last test begun cookie url now)) in
     indexes_inserted c.with_cookie.result begun after cookie c.store_row.result c.store_row.new.rows kept
     (ok_then c.store_row.result
     (λ is. is ∙ ap rows_in_order (stored_keeps order acceptance.action c.self.inside.rows suffixes limit (as_stored acceptance.is_host_only cookie) now

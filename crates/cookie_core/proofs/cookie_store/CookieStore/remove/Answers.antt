@@ -10,4 +10,4 @@ invariant_of-self c =
     let rows = c.self.inside.rows.rows in
     let key = key_at c.args.domain.now c.args.path.now c.args.name.now in
     subst (λ (kept : RowsInOrder). Indexes index kept.rows) (sym c.remove.ensures.removed)
-    (indexes_kept index rows (removed (has_key key) rows) (λ test. c.kept_by_calls.ensures.removed test key rows) c.self.invariant)
+    (indexes_kept index rows (removed (has_key key) rows) (λ test. c.preserved_by_calls.ensures.removed test key rows) c.self.invariant)

@@ -1,4 +1,4 @@
-use Rattle.std.proofs.Common.{◌≡◌, ◌+◌, ◌++◌, ◌∙◌, drop, take}
+use Rattle.std.proofs.Common.{◌+◌, ◌++◌, ◌∙◌, drop, take}
 use Rattle.cookie_device.specs.Joined.{joined}
 use Rattle.std.proofs.lemmas.Bool.{false≢true}
 use Rattle.cookie_device.proofs.Sending.{joined_next, joined_parts, next_gathered, part_longer, part_then, put_then}

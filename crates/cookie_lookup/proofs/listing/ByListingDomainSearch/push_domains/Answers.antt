@@ -2,7 +2,7 @@ use Rattle.std.proofs.Common.{◌≡◌, ◌+◌, arith}
 use Rattle.cookie_lookup.specs.SearchView.{how_many_found}
 use Rattle.cookie_lookup.specs.Candidates.{dots, candidate_domains}
 use Rattle.cookie_lookup.proofs.FoundPairs.{at_least, found_counted}
-use Rattle.cookie_lookup.proofs.HostTexts.{length_related}
+use Rattle.cookie_lookup.proofs.CandidateDomains.{length_related}
 use Rattle.cookie_lookup.proofs.Results.{on_ok}
 use Rattle.cookie_lookup.proofs.listing.ByListingDomainSearch.push_domains.Goals as goal
 

@@ -7,7 +7,7 @@ use Rattle.cookie_lookup.specs.SearchView.{at_path, how_many_paths, under}
 use Rattle.cookie_lookup.specs.Candidates.{candidate_paths}
 use Rattle.cookie_lookup.proofs.FoundPairs.{at_least, listed_paths, paths_counted}
 use Rattle.cookie_lookup.proofs.Listed.{listed_positions, paths_differ, same_after, some_same}
-use Rattle.cookie_lookup.proofs.PathTexts.{path_differ}
+use Rattle.cookie_lookup.proofs.CandidatePaths.{path_differ}
 use Rattle.cookie_lookup.proofs.Results.{on_err, on_ok}
 use Rattle.cookie_lookup.proofs.listing.ByListingPathSearch.push_paths.Goals as goal
 

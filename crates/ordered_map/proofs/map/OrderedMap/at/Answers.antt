@@ -1,5 +1,5 @@
 use Rattle.std.proofs.Common.{ap, ◌∙◌, string_bytes, Some}
-use Rattle.ordered_map.proofs.Views.{shown_at}
+use Rattle.ordered_map.proofs.MapViews.{shown_at}
 use Rattle.ordered_map.proofs.map.OrderedMap.at.Goals as goal
 
 pub returns-in-Some-clause-place : goal.returns-in-Some-clause-place

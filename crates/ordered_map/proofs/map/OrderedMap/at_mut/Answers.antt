@@ -4,7 +4,7 @@ use Rattle.indexmap.specs.IndexMap.{spare}
 use Rattle.indexmap.specs.Layout.{length-set_value_at}
 use Rattle.ordered_map.specs.Layout.{room_of}
 use Rattle.ordered_map.proofs.PlaceViews.{entry_here, write_seen, write_stored}
-use Rattle.ordered_map.proofs.Views.{value_at}
+use Rattle.ordered_map.proofs.MapViews.{value_at}
 use Rattle.ordered_map.proofs.map.OrderedMap.at_mut.Goals as goal
 
 pub invariant_of-self-lent : goal.invariant_of-self-lent

@@ -2,7 +2,7 @@ use Rattle.std.proofs.Common.{◌≡◌, sym, ◌∙◌, subst, ap, None, Some}
 use Rattle.std.specs.Map.{lookup}
 use Rattle.std.specs.Option.{option_map}
 use Rattle.ordered_map.specs.Entries.{entries, is_text}
-use Rattle.ordered_map.proofs.Views.{lookup_stored}
+use Rattle.ordered_map.proofs.MapViews.{lookup_stored}
 use Rattle.ordered_map.proofs.map.OrderedMap.get.Goals as goal
 
 pub returns-in-Some : goal.returns-in-Some

@@ -1,6 +1,6 @@
 use Rattle.std.proofs.Common.{◌∙◌, refl, subst, OnSome}
 use Rattle.ordered_map.specs.Borrows.{WritesValue}
-use Rattle.ordered_map.proofs.Views.{found_text, missing_text}
+use Rattle.ordered_map.proofs.MapViews.{found_text, missing_text}
 use Rattle.ordered_map.proofs.map.OrderedMap.get_mut.Goals as goal
 
 pub returns-in-Some : goal.returns-in-Some

@@ -1,6 +1,6 @@
 use Rattle.std.proofs.Common.{ap, ◌∙◌}
 use Rattle.ordered_map.specs.Entries.{entries}
-use Rattle.ordered_map.proofs.Views.{sorted}
+use Rattle.ordered_map.proofs.MapViews.{sorted}
 use Rattle.ordered_map.proofs.map.OrderedMap.iter.Goals as goal
 
 pub returns : goal.returns

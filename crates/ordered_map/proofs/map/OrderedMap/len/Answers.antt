@@ -3,7 +3,7 @@ use Rattle.std.proofs.lemmas.List.{length-map}
 use Rattle.ordered_map.specs.Entries.{entries}
 use Rattle.ordered_map.specs.Layout.{by_position, placed_entry}
 use Rattle.ordered_map.proofs.ByPlace.{length_in_order}
-use Rattle.ordered_map.proofs.Views.{stored_distinct}
+use Rattle.ordered_map.proofs.MapViews.{stored_distinct}
 use Rattle.ordered_map.proofs.map.OrderedMap.len.Goals as goal
 
 pub returns-clause-len : goal.returns-clause-len

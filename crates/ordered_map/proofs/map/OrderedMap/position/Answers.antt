@@ -2,7 +2,7 @@ use Rattle.std.proofs.Common.{map, position, sym, ap, ◌∙◌}
 use Rattle.std.proofs.lemmas.Simd.{map-map}
 use Rattle.ordered_map.specs.Entries.{is_text}
 use Rattle.ordered_map.specs.Layout.{placed_entry}
-use Rattle.ordered_map.proofs.Views.{stored_distinct}
+use Rattle.ordered_map.proofs.MapViews.{stored_distinct}
 use Rattle.ordered_map.proofs.map.OrderedMap.position.Goals as goal
 
 pub returns-clause-position : goal.returns-clause-position

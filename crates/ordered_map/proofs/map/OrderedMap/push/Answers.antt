@@ -1,7 +1,7 @@
 use Rattle.std.proofs.Common.{◌∙◌, ap, arith, ◌++◌, ◌∷◌, []}
 use Rattle.ordered_map.specs.Entries.{entries}
 use Rattle.ordered_map.specs.Layout.{by_position}
-use Rattle.ordered_map.proofs.Views.{on_err, push_view}
+use Rattle.ordered_map.proofs.MapViews.{on_err, push_view}
 use Rattle.ordered_map.proofs.map.OrderedMap.push.Goals as goal
 
 pub returns-in_err-insert-clause-unchanged : goal.returns-in_err-insert-clause-unchanged

@@ -2,7 +2,7 @@ use Rattle.std.proofs.Common.{◌≡◌, ◌∙◌, subst}
 use Rattle.std.specs.Map.{remove_entry}
 use Rattle.ordered_map.specs.Entries.{entries, is_text}
 use Rattle.ordered_map.proofs.PlaceViews.{if_some}
-use Rattle.ordered_map.proofs.Views.{found_text, missing_text}
+use Rattle.ordered_map.proofs.MapViews.{found_text, missing_text}
 use Rattle.ordered_map.proofs.map.OrderedMap.remove.Goals as goal
 
 pub returns-in-Some-clause-value : goal.returns-in-Some-clause-value

@@ -3,7 +3,7 @@ use Rattle.std.specs.Map.Calls.{CallableOnEachPair, CalledAtPair, RetainsPairs, 
 use Rattle.ordered_map.specs.Entries.{entries, in_order}
 use Rattle.ordered_map.specs.Layout.{by_position}
 use Rattle.ordered_map.proofs.RetainedViews.{so_far_all, so_far_callable, so_far_more, so_far_none}
-use Rattle.ordered_map.proofs.Views.{sorted}
+use Rattle.ordered_map.proofs.MapViews.{sorted}
 use Rattle.ordered_map.proofs.map.OrderedMap.retain.Goals as goal
 
 pub loop-place-init : goal.loop-place-init

@@ -4,7 +4,7 @@ use Rattle.std.specs.Char.{is_ascii_digit}
 use Rattle.std.specs.List.{after_first, before_first, list_all, position_or_len}
 use Rattle.std.specs.Result.{result_unwrap_or, OkIff}
 use Rattle.std.specs.Str.Parse.{ParsesUnsigned, digits_value}
-use Rattle.std.proofs.lemmas.Bool.{and_parts, leb-true, le-leb, cases_lt, false≢true, ne_eqb, true≢false}
+use Rattle.std.proofs.lemmas.Bool.{and_parts, leb-true, le-leb, cases_lt, false≢true, ne_eqb}
 use Rattle.std.proofs.lemmas.List.{drop_all}
 use Rattle.std.proofs.Math.Nat.{min-eq_left, min-eq_right}
 use Rattle.std.proofs.Math.Seq.{take-length}
@@ -23,8 +23,8 @@ are_digits = record {
 read_or_most : {E : Type 0} (r : Result ℕ E) (n most : ℕ) {P : Type 0} → P → OkIff r (P × (n < most + 1)) n
     → result_unwrap_or r most ≡ min n most
 read_or_most (Ok z) n most p (within, e) = e ∙ sym (min-eq_left (omega (arith, within.1)))
-read_or_most (Err e) n most p refused =
-    sym (min-eq_right (⊎_elim (λ (l : most < n). let e : most ≤ n = omega arith in e) (λ l. absurd (refused (p, omega (arith, l)))) (cases_lt most n)))
+read_or_most (Err e) n most p beyond =
+    sym (min-eq_right (⊎_elim (λ (l : most < n). let e : most ≤ n = omega arith in e) (λ l. absurd (beyond (p, omega (arith, l)))) (cases_lt most n)))
 
 -- digits as a 64-bit number
 pub seconds_read : {E : Type 0} (text : List ℕ) (r : Result ℕ E) → 0 < length text → list_all is_ascii_digit text ≡ true → ParsesUnsigned 64 10 text r
@@ -51,12 +51,6 @@ and_holds true true last number holds = rw holds refl
 and_holds true false last number holds = refl
 and_holds false digits last number holds = refl
 
--- a third condition that fails
-and_fails : (some digits last : Bool) (number : Option ℕ) → last ≡ false → (if some && digits && last then number else None) ≡ None
-and_fails true true last number fails = rw fails refl
-and_fails true false last number fails = refl
-and_fails false digits last number fails = refl
-
 -- the seconds of a field without a dot
 pub seconds_without_dot : (field : List ℕ) → position_or_len is_dot field ≡ length field → seconds_from field ≡ whole_from field
 unfolding seconds_from
@@ -71,15 +65,6 @@ pub seconds_of_parts : (field whole fraction : List ℕ) → whole ≡ before_fi
 unfolding seconds_from
 seconds_of_parts field whole fraction is behind digits =
     rw (← is, ← behind) (and_holds (not (length whole == 0)) (list_all is_ascii_digit whole) _ _ digits)
-
--- what follows its dot is no fraction
-pub no_fraction : (field fraction : List ℕ) → fraction ≡ after_first is_dot field → list_all is_ascii_digit fraction ≡ false
-    → seconds_from field ≡ None
-unfolding seconds_from
-no_fraction field fraction behind other =
-    and_fails (not (length (before_first is_dot field) == 0)) (list_all is_ascii_digit (before_first is_dot field))
-    (list_all is_ascii_digit (after_first is_dot field)) (Some (digits_value 10 (before_first is_dot field)))
-    (ap (list_all is_ascii_digit) (sym behind) ∙ other)
 
 -- the number of digits
 pub whole_of_digits : (digits : List ℕ) → (length digits == 0) ≡ false → list_all is_ascii_digit digits ≡ true
@@ -101,20 +86,9 @@ some_before : (f : ℕ → ℕ) (found : Option ℕ) → is_some (option_map f f
 some_before f None some = some
 some_before f (Some n) some = refl
 
--- what is not some is None
-nothing : (found : Option ℕ) → is_some found ≡ false → found ≡ None
-nothing None none = refl
-nothing (Some n) none = absurd (true≢false none)
-
 -- a number, at most `most`, of a field that has no fraction
 pub seconds_if_whole : (field : List ℕ) (most : ℕ) (read : Option ℕ) → read ≡ option_map (λ n. min n most) (whole_from field)
     → is_some read ≡ true → read ≡ option_map (λ n. min n most) (seconds_from field)
 seconds_if_whole field most read is some =
     let digits = whole_is_digits field (some_before (λ n. min n most) (whole_from field) (sym (ap is_some is) ∙ some)) in
     is ∙ ap (option_map (λ n. min n most)) (sym (seconds_without_dot field (no_dot field digits)))
-
--- a field without a dot that is no number
-pub no_seconds : (field : List ℕ) (most : ℕ) (read : Option ℕ) → read ≡ option_map (λ n. min n most) (whole_from field)
-    → is_some read ≡ false → position_or_len is_dot field ≡ length field → None ≡ option_map (λ n. min n most) (seconds_from field)
-no_seconds field most read is none dot =
-    sym (nothing read none) ∙ is ∙ ap (option_map (λ n. min n most)) (sym (seconds_without_dot field dot))

@@ -1,12 +1,12 @@
 -- White space behind a line.
-use Rattle.std.proofs.Common.{◌≡◌, ℕ, suc, ◌+◌, ◌-◌, ◌≤◌, Bool, true, false, cond, List, [], ◌∷◌, ◌++◌, length, reverse, take, drop, refl, sym, ap, ◌∙◌, ⊎_elim, arith, length-append}
+use Rattle.std.proofs.Common.{◌≡◌, ℕ, suc, ◌+◌, ◌-◌, ◌≤◌, true, List, [], ◌∷◌, ◌++◌, length, reverse, take, drop, sym, ap, ◌∙◌, ⊎_elim, arith, length-append}
 use Rattle.std.specs.Char.{is_ascii_whitespace}
 use Rattle.std.specs.List.{prefix_len, suffix_len}
-use Rattle.std.proofs.lemmas.Bool.{cases_Bool, cond-false, cond-true}
+use Rattle.std.proofs.lemmas.Bool.{cases_Bool, cond-true}
 use Rattle.std.proofs.lemmas.List.{length-reverse, reverse-append, take-append-le}
 use Rattle.std.proofs.lemmas.List.Sums.{prefix_len-le-length}
 use Rattle.cookie_netscape.specs.Lines.{content, content_cookie, line_cookie}
-use Rattle.cookie_netscape.proofs.WholeLines.{before_space, no_space_first}
+use Rattle.cookie_netscape.proofs.TrimmedLines.{before_space, no_space_first}
 
 -- one byte of white space more at the end of a line
 space_counted : (line : List ℕ) (b : ℕ) → is_ascii_whitespace b ≡ true

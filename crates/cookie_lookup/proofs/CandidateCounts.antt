@@ -1,5 +1,5 @@
 -- How many candidates are found, and how many lookups of paths there are in them.
-use Rattle.std.proofs.Common.{◌≡◌, ℕ, ◌+◌, ◌*◌, ◌≤◌, Bool, true, false, cond, List, [], ◌∷◌, Some, sym, ◌∙◌, ap, arith, rules}
+use Rattle.std.proofs.Common.{◌≡◌, ℕ, ◌+◌, ◌*◌, ◌≤◌, Bool, true, false, cond, List, [], ◌∷◌, ap, arith, rules}
 use Rattle.std.specs.Prelude.{is_some}
 use Rattle.std.proofs.lemmas.List.Sums.{sum_by-cons}
 use Rattle.cookie_lookup.specs.Groups.{DomainGroups}
@@ -9,10 +9,6 @@ found_cons : (groups : DomainGroups) (text : List ℕ) (texts : List (List ℕ))
 found_cons groups text texts =
     let p : List ℕ → ℕ = λ t. cond (is_some (group_position t groups)) 1 0 in
     omega (arith, sum_by-cons p text texts, sum_by-cons p text [])
-
--- a candidate that has a group counts one
-pub one_found : (groups : DomainGroups) (text : List ℕ) (d : ℕ) → Some d ≡ group_position text groups → how_many_found groups (text ∷ []) ≡ 1
-one_found groups text d e = sum_by-cons (λ t. cond (is_some (group_position t groups)) 1 0) text [] ∙ ap (λ o. cond (is_some o) 1 0 + 0) (sym e) ∙ omega arith
 
 one_at_most : (groups : DomainGroups) (text : List ℕ) → how_many_found groups (text ∷ []) ≤ 1
 one_at_most groups text =

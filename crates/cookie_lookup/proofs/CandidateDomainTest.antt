@@ -1,5 +1,5 @@
 -- The test of a candidate domain, and where the host is cut for it.
-use Rattle.std.proofs.Common.{◌≡◌, ℕ, suc, ◌+◌, ◌-◌, ◌<◌, ◌≤◌, ◌⊎◌, Bool, true, false, ◌&&◌, ◌||◌, List, [], ◌∷◌, ◌++◌, length, take, drop, get_or, refl, sym, ◌∙◌, ap, subst, inl, inr, eqb, bytes_eq, arith, lit<, length-append, append_assoc}
+use Rattle.std.proofs.Common.{◌≡◌, ℕ, suc, ◌+◌, ◌-◌, ◌<◌, ◌⊎◌, Bool, true, false, ◌&&◌, ◌||◌, List, [], ◌∷◌, ◌++◌, length, take, drop, get_or, refl, sym, ◌∙◌, ap, subst, inl, inr, eqb, bytes_eq, arith, lit<, length-append, append_assoc}
 use Rattle.std.specs.Prelude.{nat_eq, nat_lt}
 use Rattle.std.specs.Str.{IsUtf8, IsCharBoundary}
 use Rattle.std.specs.List.{ends_with, list_any}
@@ -8,9 +8,9 @@ use Rattle.std.proofs.lemmas.Bool.{and_parts, or_cases}
 use Rattle.std.proofs.lemmas.Bool.Decides.{nat_tests, Decides-eqb}
 use Rattle.std.proofs.lemmas.Slice.Eq.{ends_is}
 use Rattle.cookie_lookup.specs.Candidates.{is_candidate_domain, candidate_domains, IsCandidateDomain}
-use Rattle.cookie_lookup.proofs.CoveringTexts.{take_next}
-use Rattle.cookie_lookup.proofs.Cuts.{after_byte, bool_cases}
-use Rattle.cookie_lookup.proofs.HostTexts.{related_texts_are}
+use Rattle.cookie_lookup.proofs.CoveringPaths.{take_next}
+use Rattle.cookie_lookup.proofs.CandidateCuts.{after_byte, bool_cases}
+use Rattle.cookie_lookup.proofs.CandidateDomains.{related_texts_are}
 
 one_of : (a b c d : Bool) → (a ≡ true) ⊎ ((b ≡ true) × (c ≡ true)) → d ≡ true → ((a || b && c) && d) ≡ true
 one_of a b c d (inl p) q = rw (p, q) refl
@@ -92,10 +92,4 @@ suffix_boundary host text u w more = elim w [
       let at : length f.0 + 1 ≡ length host - length text = omega (arith, long) in
       let dot : get_or host (length f.0) 0 ≡ 46 = ap (λ h. get_or h (length f.0) 0) f.1 ∙ get_or-append_seam f.0 46 text 0 in
       subst (IsCharBoundary host) at (after_byte host (length f.0) 46 u (omega (arith, long)) dot (lit< tt))
-]
-
-pub suffix_short : (host text : List ℕ) → IsCandidateDomain host text → (length text ≤ length host)
-suffix_short host text w = elim w [
-  | inl same ↦ omega (arith, ap length same)
-  | inr f ↦ omega (arith, ap length f.1, length-append f.0 (46 ∷ text))
 ]

@@ -17,7 +17,7 @@ use Rattle.ordered_map.specs.Layout.{at_positions, by_position, entries_of, gap_
 use Rattle.ordered_map.specs.declared.gaps.Placed.{Placed}
 use Rattle.ordered_map.proofs.ByPlace.{in_order_distinct, keys_are, length_in_order, lookup_in_order, place_of, sorted_by_place, without_place}
 use Rattle.ordered_map.proofs.Found.{remove_none, same_text}
-use Rattle.ordered_map.proofs.Pieces.{at_within, map_at_positions}
+use Rattle.ordered_map.proofs.FlatMaps.{at_within, map_at_positions}
 use Rattle.ordered_map.proofs.Removal.{pushed_at_positions, pushed_ordered}
 
 pub on_err : {A E : Type 0} {P : Type 0} (r : Result A E) → P → OnErr r P

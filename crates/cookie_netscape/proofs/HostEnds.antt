@@ -1,4 +1,4 @@
--- What stands before the end of a string, and between brackets.
+-- What precedes the end of a string, and what is between brackets.
 use Rattle.std.proofs.Common.{◌≡◌, ◌≢◌, ℕ, ◌-◌, ◌==◌, ◌&&◌, true, false, if◌then◌else◌, List, [], ◌∷◌, ◌++◌, length, map, take, drop, codes, nat_eq, refl, sym, ap, ap₂, ◌∙◌, arith, length-append, take-append-drop}
 use Rattle.std.specs.Char.{to_ascii_lowercase}
 use Rattle.std.specs.Cmp.Lexicographic.{pointwise, same_text}

@@ -1,7 +1,7 @@
 use Rattle.cookie_laws.specs.Rows.{has_key}
 use Rattle.cookie_laws.proofs.AcceptedRows.{All-removed}
 use Rattle.cookie_laws.proofs.RowsThatPass.{Passes, accepted-pass, accepted_secure_last-pass}
-use Rattle.cookie_laws.proofs.kept_by_calls.Goals as goal
+use Rattle.cookie_laws.proofs.preserved_by_calls.Goals as goal
 
 pub returns : goal.returns
 returns c = record {

@@ -9,8 +9,8 @@ use Rattle.std.proofs.lemmas.List.Sums.{count_by_more_yes, count_by_more_no}
 use Rattle.std.proofs.lemmas.List.{get_or_past}
 use Rattle.cookie_laws.specs.Rows.{differ}
 use Rattle.cookie_lookup.specs.Candidates.{ends_candidate, front_texts, candidate_paths, slashes}
-use Rattle.cookie_lookup.proofs.Cuts.{bool_cases}
-use Rattle.cookie_lookup.proofs.HostTexts.{longer}
+use Rattle.cookie_lookup.proofs.CandidateCuts.{bool_cases}
+use Rattle.cookie_lookup.proofs.CandidateDomains.{longer}
 
 pub any_append : {X : Type 0} (p : X → Bool) (xs ys : List X) → list_any p (xs ++ ys) ≡ (list_any p xs || list_any p ys)
 any_append p [] ys = refl

@@ -1,5 +1,5 @@
 -- The steps of the loops over the candidates of the URL.
-use Rattle.std.proofs.Common.{◌≡◌, ℕ, ◌+◌, ◌*◌, ◌<◌, ◌≤◌, true, false, List, [], ◌∷◌, ◌++◌, length, take, drop, get_or, refl, sym, ◌∙◌, ap, eqb, nat_eq, arith, append_assoc, append-nil, length-append}
+use Rattle.std.proofs.Common.{◌≡◌, ℕ, ◌+◌, ◌*◌, ◌<◌, ◌≤◌, true, false, List, [], ◌∷◌, ◌++◌, length, take, drop, get_or, sym, ◌∙◌, ap, eqb, nat_eq, arith, append_assoc, append-nil, length-append}
 use Rattle.std.specs.Prelude.{◌≢◌}
 use Rattle.std.specs.List.{flat_map, starts_with, sum_by}
 use Rattle.std.proofs.lemmas.Grind.{flat_map-append}
@@ -8,9 +8,9 @@ use Rattle.cookie_laws.specs.Related.{after_dots}
 use Rattle.cookie_lookup.specs.SearchView.{RowPosition}
 use Rattle.cookie_lookup.specs.Positions.{SamePositions}
 use Rattle.cookie_lookup.specs.Candidates.{ends_candidate, front_texts, candidate_paths, candidate_domains, slashes}
-use Rattle.cookie_lookup.proofs.Cuts.{at_dot, at_no_dot, dots_suffix, front_more, front_prefix, front_same}
-use Rattle.cookie_lookup.proofs.PathTexts.{length_paths}
-use Rattle.cookie_lookup.proofs.Positions.{some_given}
+use Rattle.cookie_lookup.proofs.CandidateCuts.{at_dot, at_no_dot, dots_suffix, front_more, front_prefix, front_same}
+use Rattle.cookie_lookup.proofs.CandidatePaths.{length_paths}
+use Rattle.cookie_lookup.proofs.LookupResults.{some_given}
 
 -- the fronts of a path
 
@@ -75,8 +75,3 @@ module _ (f : List ℕ → List RowPosition) (h : List ℕ) (at : ℕ) (below : 
       let w = dots_suffix h at in
       let split : candidate_domains h ≡ (h ∷ w.0) ++ drop (at + 1) h ∷ after_dots (drop (at + 1) h) = ap (λ ts. h ∷ ts) (w.1 ∙ ap (λ ts. w.0 ++ ts) (at_dot h at below dot)) in
       some_given f (h ∷ w.0) (drop (at + 1) h) (after_dots (drop (at + 1) h)) some (ap (flat_map f) (sym split) ∙ none)
-
--- the end of a host has no dots
-pub no_dots_left : (h : List ℕ) → after_dots (drop (length h) h) ≡ []
-no_dots_left [] = refl
-no_dots_left (b ∷ h) = no_dots_left h

@@ -13,9 +13,9 @@ use Rattle.cookie_lookup.specs.Groups.{flat, flat_paths}
 use Rattle.ordered_map.specs.Entries.{in_order}
 use Rattle.cookie_lookup.specs.Positions.{groups_in_order, groups_by_position, paths_in_order, paths_by_position, place_order, without_places, Placed, PlacedGroups, PlacedPaths}
 use Rattle.cookie_lookup.specs.SearchView.{RowPosition, given_positions, list_of, rows_at, under}
-use Rattle.cookie_lookup.proofs.Cuts.{bool_cases}
+use Rattle.cookie_lookup.proofs.CandidateCuts.{bool_cases}
 use Rattle.cookie_lookup.proofs.GivenRows.{filter_append}
-use Rattle.cookie_lookup.proofs.Order.{all_weaker, sorted_is}
+use Rattle.cookie_lookup.proofs.PositionOrder.{all_weaker, sorted_is}
 use Rattle.cookie_lookup.proofs.PlaceOrder.{neither_less, places_exact}
 use Rattle.cookie_lookup.proofs.PositionsInOrder.{all_ascend, all_moved, all_walk, paths_walk, row_walk, rows_walk, under_at}
 use Rattle.cookie_lookup.proofs.SortedByPlace.{ordered, ordered_at, ordered_contents, IsContentAt}

@@ -1,7 +1,7 @@
 use Rattle.std.proofs.Common.{ap, ◌∙◌, lit<}
 use Rattle.std.proofs.lemmas.Str.Pattern.{strip_suffix_char}
 use Rattle.cookie_psl.proofs.FinalDot.{without_final_dot-stripped}
-use Rattle.cookie_psl.proofs.suffix.bare.Goals as goal
+use Rattle.cookie_psl.proofs.suffix.without_final_dot.Goals as goal
 
 pub returns : goal.returns
 returns c =

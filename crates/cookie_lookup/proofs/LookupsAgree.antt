@@ -9,7 +9,7 @@ use Rattle.cookie_parts.specs.Cookie.{Row}
 use Rattle.cookie_laws.specs.Rows.{differ}
 use Rattle.cookie_lookup.specs.Groups.{PathGroups, DomainGroups}
 use Rattle.cookie_lookup.specs.SearchView.{RowPosition, group_position, under, row_positions, path_positions, domain_positions, at_path, at_domain}
-use Rattle.cookie_lookup.proofs.Cuts.{bool_cases}
+use Rattle.cookie_lookup.proofs.CandidateCuts.{bool_cases}
 
 module _ {X : Type 0} (F : ℕ → List X → ℕ) where
   -- the value of F for the group of a name, if the first group is at n, and for all groups

@@ -6,9 +6,9 @@ use Rattle.std.proofs.lemmas.Option.{slice_get_within, get_or_from_slice_get, sl
 use Rattle.std.proofs.lemmas.List.{drop_more}
 use Rattle.std.proofs.lemmas.Grind.{flat_map-append}
 use Rattle.cookie_parts.specs.Cookie.{Row}
-use Rattle.cookie_lookup.specs.Groups.{PathGroups, DomainGroups}
+use Rattle.cookie_lookup.specs.Groups.{DomainGroups}
 use Rattle.cookie_lookup.specs.SearchView.{RowPosition, group_position, under, row_positions, at_path, at_domain}
-use Rattle.cookie_lookup.proofs.Cuts.{bool_cases}
+use Rattle.cookie_lookup.proofs.CandidateCuts.{bool_cases}
 
 -- the rows of a group
 
@@ -63,21 +63,10 @@ place_below text (g ∷ gs) n h = elim (bool_cases (bytes_eq text g.0)) [
     later None n h k = absurd (cc)
     later (Some m) n h k = let e : n ≡ suc m = cc in omega (arith, e, k m refl)
 
-pub path_some : (test : Row → Bool) (d : ℕ) (paths : PathGroups) (text : List ℕ) (p : ℕ) → Some p ≡ group_position text paths → at_path test d paths text ≡ row_positions test d p 0 (under p paths)
-path_some test d paths text p e = rw (at_path, ← e) refl
-
-pub path_none : (test : Row → Bool) (d : ℕ) (paths : PathGroups) (text : List ℕ) → None ≡ group_position text paths → at_path test d paths text ≡ []
-path_none test d paths text e = rw (at_path, ← e) refl
-
 pub domain_some : (test : Row → Bool) (groups : DomainGroups) (texts : List (List ℕ)) (text : List ℕ) (d : ℕ) → Some d ≡ group_position text groups → at_domain test groups texts text ≡ flat_map (at_path test d (under d groups)) texts
 domain_some test groups texts text d e = rw (at_domain, ← e) refl
 
-pub domain_none : (test : Row → Bool) (groups : DomainGroups) (texts : List (List ℕ)) (text : List ℕ) → None ≡ group_position text groups → at_domain test groups texts text ≡ []
-domain_none test groups texts text e = rw (at_domain, ← e) refl
-
--- what several lookups find, one after another
-
--- if one of them finds something, all do
+-- if one of several lookups finds something, they find something together
 pub some_given : {X A : Type 0} (f : X → List A) (prefix : List X) (x : X) (more : List X) → f x ≢ [] → flat_map f (prefix ++ x ∷ more) ≢ []
 some_given f prefix x more some none =
     let parts : flat_map f prefix ++ (f x ++ flat_map f more) ≡ [] = sym (flat_map-append f prefix (x ∷ more)) ∙ none in

@@ -1,8 +1,8 @@
 -- Lines that have no white space around them, but for HTAB before an empty value.
-use Rattle.std.proofs.Common.{◌≡◌, ◌≢◌, ℕ, suc, ◌+◌, ◌-◌, ◌<◌, ◌≤◌, ◌==◌, ◌&&◌, leb, true, false, List, [], ◌∷◌, ◌++◌, length, take, drop, codes, nat_eq, get_or, refl, sym, ap, ◌∙◌, ⊎_elim, arith, take_all, length-append}
+use Rattle.std.proofs.Common.{◌≡◌, ◌≢◌, ℕ, suc, ◌+◌, ◌-◌, ◌<◌, ◌==◌, ◌&&◌, leb, false, List, [], ◌∷◌, ◌++◌, length, take, drop, codes, nat_eq, get_or, refl, sym, ap, ◌∙◌, ⊎_elim, arith, take_all, length-append}
 use Rattle.std.specs.Char.{is_ascii_control, is_ascii_whitespace}
-use Rattle.std.specs.List.{ends_with, prefix_len, suffix_len}
-use Rattle.std.proofs.lemmas.Bool.{cases_lt, and_cases, le-leb, and_from, and_right, both_ways, cond-false, eq-eqb, eqb-true, false_from_ne_true, leb-false, lt-leb, or_from, or_parts, true≢false}
+use Rattle.std.specs.List.{ends_with, suffix_len}
+use Rattle.std.proofs.lemmas.Bool.{cases_lt, and_cases, le-leb, and_from, and_right, both_ways, cond-false, eq-eqb, eqb-true, false_from_ne_true, leb-false, lt-leb, or_from, or_parts}
 use Rattle.std.proofs.lemmas.List.{get_or-append_right, get_or_append_left, drop_all}
 use Rattle.std.proofs.lemmas.List.Sums.{suffix_len_is}
 use Rattle.std.proofs.Math.Seq.{drop-cons, take-append_seam}

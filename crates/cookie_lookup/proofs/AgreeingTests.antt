@@ -13,9 +13,9 @@ use Rattle.cookie_lookup.specs.RowFilter.{is_given_under, AgreesUnder}
 use Rattle.cookie_lookup.specs.Groups.{PathGroups, DomainGroups, Filled, ArePaths, AreGroups}
 use Rattle.cookie_lookup.specs.SearchView.{RowPosition, group_position, under, row_positions, at_path, at_domain}
 use Rattle.cookie_lookup.specs.Candidates.{candidate_paths, IsCandidatePath}
-use Rattle.cookie_lookup.proofs.CoveringTexts.{path_texts_are}
-use Rattle.cookie_lookup.proofs.Cuts.{bool_cases}
-use Rattle.cookie_lookup.proofs.Positions.{domain_some}
+use Rattle.cookie_lookup.proofs.CoveringPaths.{path_texts_are}
+use Rattle.cookie_lookup.proofs.CandidateCuts.{bool_cases}
+use Rattle.cookie_lookup.proofs.LookupResults.{domain_some}
 
 module _ (test other : Row → Bool) where
   same_rows : {P : Row → Type 0} → ((row : Row) → P row → test row ≡ other row) → (d p n : ℕ) (rows : List Row) → AllByRecursion P rows

@@ -16,12 +16,12 @@ use Rattle.cookie_laws.specs.Given.{is_given}
 use Rattle.cookie_lookup.specs.Groups.{PathGroups, DomainGroups, AreGroups, ArePaths, Filled}
 use Rattle.cookie_lookup.specs.SearchView.{RowPosition, row_positions, path_positions, domain_positions, given_positions, at_domain, how_many_found, of_host}
 use Rattle.cookie_lookup.specs.Positions.{SamePositions}
-use Rattle.cookie_lookup.proofs.Cuts.{bool_cases}
+use Rattle.cookie_lookup.proofs.CandidateCuts.{bool_cases}
 use Rattle.cookie_lookup.proofs.PermutedPositions.{permutation_from_sums}
-use Rattle.cookie_lookup.proofs.HostTexts.{related_differ}
-use Rattle.cookie_lookup.proofs.PathTexts.{path_differ}
-use Rattle.cookie_lookup.proofs.Order.{Ascends, ascends_append, all_append, all_weaker, is_position_before, neither_before, position_before_tests, positions_order, sorted_is}
-use Rattle.cookie_lookup.proofs.Agree.{Missed, Agree, rows_sum, paths_sum, paths_agree, domains_agree}
+use Rattle.cookie_lookup.proofs.CandidateDomains.{related_differ}
+use Rattle.cookie_lookup.proofs.CandidatePaths.{path_differ}
+use Rattle.cookie_lookup.proofs.PositionOrder.{Ascends, ascends_append, all_append, all_weaker, is_position_before, neither_before, position_before_tests, positions_order, sorted_is}
+use Rattle.cookie_lookup.proofs.LookupsAgree.{Missed, Agree, rows_sum, paths_sum, paths_agree, domains_agree}
 
 -- the walk ascends
 

@@ -10,7 +10,7 @@ use Rattle.std.proofs.lemmas.List.Sums.{sum_by-cons}
 use Rattle.cookie_laws.specs.Related.{after_dots}
 use Rattle.cookie_laws.specs.Rows.{differ}
 use Rattle.cookie_lookup.specs.Candidates.{IsCandidateDomain, candidate_domains, dots}
-use Rattle.cookie_lookup.proofs.Cuts.{bool_cases}
+use Rattle.cookie_lookup.proofs.CandidateCuts.{bool_cases}
 
 -- a longer string is another
 pub longer : (s t : List ℕ) → length s < length t → bytes_eq t s ≡ false

@@ -11,8 +11,8 @@ use Rattle.std.proofs.lemmas.Bool.Decides.{nat_tests, Decides-eqb}
 use Rattle.std.proofs.lemmas.Slice.Eq.{bytes_eq-Decides, starts_is}
 use Rattle.cookie_parts.specs.Path.{CoversPath}
 use Rattle.cookie_lookup.specs.Candidates.{ends_candidate, front_texts, is_candidate_path, candidate_paths, IsCandidatePath, IsCandidateDomain}
-use Rattle.cookie_lookup.proofs.Cuts.{bool_cases, cut_boundary}
-use Rattle.cookie_lookup.proofs.PathTexts.{any_append}
+use Rattle.cookie_lookup.proofs.CandidateCuts.{bool_cases, cut_boundary}
+use Rattle.cookie_lookup.proofs.CandidatePaths.{any_append}
 
 any_single : {X : Type 0} (p : X → Bool) (x : X) → p x ≡ true → list_any p (x ∷ []) ≡ true
 any_single p x h = grind (arith, nat_tests, h)

@@ -10,7 +10,7 @@ use Rattle.std.proofs.lemmas.List.Sorted.{ranks_by, sorted_far, sum_by-IsPermuta
 use Rattle.std.proofs.lemmas.List.Sums.{sum_by-cons}
 use Rattle.std.proofs.lemmas.Bool.Decides.{nat_tests}
 use Rattle.cookie_lookup.specs.SearchView.{RowPosition}
-use Rattle.cookie_lookup.proofs.Cuts.{bool_cases}
+use Rattle.cookie_lookup.proofs.CandidateCuts.{bool_cases}
 
 -- ascending lists, by a test that is an order
 
