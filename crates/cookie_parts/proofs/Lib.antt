@@ -1,4 +1,5 @@
 pub mod Affixes
+pub mod Exclusions
 pub mod Hosts
 pub mod Ipv4
 pub mod Paths

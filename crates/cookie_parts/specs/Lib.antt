@@ -1,6 +1,7 @@
 pub mod Cookie
 pub mod Domain
 pub mod Errors
+pub mod Exclusion
 pub mod Expiry
 pub mod Hosts
 pub mod Outcomes

@@ -19,6 +19,8 @@ mod domain;
 #[cfg(test)]
 mod error;
 #[cfg(test)]
+mod exclusion;
+#[cfg(test)]
 mod expiry;
 #[cfg(test)]
 mod large;
