@@ -40,7 +40,7 @@ any_coarser p q [] implies h = h
 any_coarser p q (x ∷ xs) implies h = grind (arith, implies x, any_coarser p q xs implies)
 
 -- if no item passes a test, none passes a stricter one
-none_finer : {T : Type 0} (p q : T → Bool) (xs : List T) → ((x : T) → p x ≡ true → q x ≡ true) → list_any q xs ≡ false → list_any p xs ≡ false
+pub none_finer : {T : Type 0} (p q : T → Bool) (xs : List T) → ((x : T) → p x ≡ true → q x ≡ true) → list_any q xs ≡ false → list_any p xs ≡ false
 none_finer p q xs implies none = false_from_ne_true _ (λ some. both_ways _ none (any_coarser p q xs implies some))
 
 -- items still differ if none is the same as y

@@ -9,9 +9,8 @@ use Rattle.cookie_words.specs.Moments.{Moment}
 use Rattle.cookie_rows.specs.Items.{ItemPaths}
 use Rattle.cookie_rows.specs.Eviction.{EvictionRank, rank_cmp, comes_before, ranks_of, IsFirstSurvivor}
 use Rattle.cookie_rows.specs.declared.eviction_order.EvictionOrder.{EvictionOrder}
-use Rattle.cookie_rows.proofs.ByNumber.{all_map}
+use Rattle.cookie_rows.proofs.All.{all_append, all_map, all_moved}
 use Rattle.cookie_rows.proofs.RankOrder.{Ascends, all_by_index, not_before_itself, ranks_order}
-use Rattle.cookie_rows.proofs.Eviction.{all_joined, all_moved}
 
 -- ranks in order
 
@@ -76,7 +75,7 @@ ascends_joined : (front : List EvictionRank) (x : EvictionRank) (back : List Evi
 ascends_joined [] x back f b up up' = (b, up')
 ascends_joined (y ∷ front) x back f b up up' =
     let behind = all_map (λ z. comes_before z x ≡ false) (λ z. comes_before z y ≡ false) (λ z h. ranks_order.chain z x y h f.0) back b in
-    (all_joined (λ z. comes_before z y ≡ false) front (x ∷ back) up.0 (f.0, behind), ascends_joined front x back f.1 b up.1 up')
+    (all_append (λ z. comes_before z y ≡ false) front (x ∷ back) up.0 (f.0, behind), ascends_joined front x back f.1 b up.1 up')
 
 -- it stands where those in front of it end
 stands_between : (front : List EvictionRank) (x : EvictionRank) (back : List EvictionRank) → slice_get (front ++ x ∷ back) (length front) ≡ Some x

@@ -1,130 +1,19 @@
 -- Keys in the order of their numbers, and in eviction order.
-use Rattle.std.proofs.Common.{◌≡◌, ℕ, zero, suc, ◌+◌, ◌-◌, ◌<◌, ◌≤◌, Bool, true, false, not, List, [], ◌∷◌, ◌++◌, length, map, filter, take, slice_get, Some, sum_by, refl, sym, ◌∙◌, ap, subst, inl, inr, append-nil, arith, length-append, IsPermutation, IsSorted}
+use Rattle.std.proofs.Common.{◌≡◌, ℕ, zero, suc, ◌+◌, ◌-◌, ◌<◌, ◌≤◌, true, false, not, List, [], ◌∷◌, ◌++◌, length, map, filter, take, slice_get, Some, refl, sym, ◌∙◌, ap, subst, inl, inr, append-nil, arith, length-append, IsPermutation, IsSorted}
 use Rattle.std.specs.Prelude.{◌⊎◌, nat_eq, nat_le}
-use Rattle.std.specs.List.{AllByRecursion, IsDistinct, list_any}
-use Rattle.std.proofs.lemmas.Bool.{and_parts, and_from, or_parts, or_from, not-true, cases_Bool, cond_both, leb-true, leb-false, eqb-false, eqb-true}
+use Rattle.std.specs.List.{AllByRecursion, list_any}
+use Rattle.std.proofs.lemmas.Bool.{and_parts, or_parts, not-true, cases_Bool, cond_both, leb-true, leb-false, eqb-false, eqb-true}
 use Rattle.std.proofs.lemmas.List.{length-map, length_push, map-append, take-map}
-use Rattle.std.proofs.lemmas.List.Elements.{All-from_recursion, recursion_from_All}
-use Rattle.std.proofs.lemmas.List.Sorted.{IsPermutation-refl, IsPermutation-sym, IsPermutation-trans, IsPermutation-cons, IsPermutation-middle, IsPermutation-map, IsPermutation-append_comm, IsPermutation-append_left, All-permutation, length_permutation, sum_by-IsPermutation}
-use Rattle.std.proofs.lemmas.Map.Keys.{IsDistinct-IsPermutation}
+use Rattle.std.proofs.lemmas.List.Elements.{filter_passes, recursion_from_All}
+use Rattle.std.proofs.lemmas.List.Sorted.{IsPermutation-refl, IsPermutation-sym, IsPermutation-trans, IsPermutation-cons, IsPermutation-middle, IsPermutation-map, IsPermutation-append_comm, IsPermutation-append_left, length_permutation, sum_by-IsPermutation}
 use Rattle.cookie_laws.specs.Rows.{Key, same_key, same_key_equiv, differ}
 use Rattle.cookie_rows.specs.Items.{place, by_number}
 use Rattle.cookie_rows.specs.Eviction.{EvictionRank, rank_cmp, comes_before}
 use Rattle.cookie_rows.proofs.AfterLast.{list_any-map}
-use Rattle.cookie_rows.proofs.ByNumber.{all_map, all_place, any_ordered}
-use Rattle.cookie_rows.proofs.Ordered.{From, Ascend, from_more, ascend_ordered, place_first}
-use Rattle.cookie_rows.proofs.FilteredGroups.{all_any, all_parts}
-use Rattle.cookie_rows.proofs.RankOrder.{Rises, all_both, ascends_ranks, before_apart, before_within, leaves_before, not_before_itself, rank_at_place, ranks_order, sorted_is}
-
--- what passes a test
-
-module _ {A : Type 0} (test : A → Bool) where
-  -- what holds of all holds of those that pass
-  pub all_filtered : (P : A → Type 0) (xs : List A) → AllByRecursion P xs → AllByRecursion P (filter test xs)
-  all_filtered P [] a = tt
-  all_filtered P (x ∷ xs) a = cond_both (test x) (x ∷ filter test xs) (filter test xs) (AllByRecursion P) (λ _. (a.0, all_filtered P xs a.1)) (λ _. all_filtered P xs a.1)
-
-  -- and they pass
-  pub all_pass : (xs : List A) → AllByRecursion (λ x. test x ≡ true) (filter test xs)
-  all_pass [] = tt
-  all_pass (x ∷ xs) = cond_both (test x) (x ∷ filter test xs) (filter test xs) (AllByRecursion (λ x. test x ≡ true)) (λ e. (e, all_pass xs)) (λ _. all_pass xs)
-
-module _ (test : Key × ℕ → Bool) where
-  -- a key that passes has its place among those that do
-  filtered_placed : (x : Key × ℕ) (zs : List (Key × ℕ)) → test x ≡ true → Ascend zs → filter test (place x zs) ≡ place x (filter test zs)
-  filtered_placed x [] e a = rw e refl
-  filtered_placed x (z ∷ zs) e a = elim (cases_Bool (nat_le x.1 z.1)) [
-    | inl l ↦
-        let below : x.1 ≤ z.1 = leb-true x.1 z.1 l in
-        let all : From x.1 (filter test (z ∷ zs)) = all_filtered test (λ y. x.1 ≤ y.1) (z ∷ zs) (below, from_more x.1 z.1 zs below a.0) in
-        rw (l, e) (sym (place_first x (filter test (z ∷ zs)) all))
-    | inr l ↦ elim (cases_Bool (test z)) [
-      | inl f ↦ rw (l, f, l) (ap (λ ws. z ∷ ws) (filtered_placed x zs e a.1))
-      | inr f ↦ rw (l, f) (filtered_placed x zs e a.1)
-    ]
-  ]
-
-  -- one that does not pass goes
-  filtered_beside : (x : Key × ℕ) (zs : List (Key × ℕ)) → test x ≡ false → filter test (place x zs) ≡ filter test zs
-  filtered_beside x [] e = rw e refl
-  filtered_beside x (z ∷ zs) e = elim (cases_Bool (nat_le x.1 z.1)) [
-    | inl l ↦ rw (l, e) refl
-    | inr l ↦ elim (cases_Bool (test z)) [
-      | inl f ↦ rw (l, f) (ap (λ ws. z ∷ ws) (filtered_beside x zs e))
-      | inr f ↦ rw (l, f) (filtered_beside x zs e)
-    ]
-  ]
-
-  -- the keys that pass, before they are ordered or after
-  pub ordered_filtered : (xs : List (Key × ℕ)) → by_number (filter test xs) ≡ filter test (by_number xs)
-  ordered_filtered [] = refl
-  ordered_filtered (x ∷ xs) = elim (cases_Bool (test x)) [
-    | inl e ↦ ap by_number (passes x xs e) ∙ ap (place x) (ordered_filtered xs) ∙ sym (filtered_placed x (by_number xs) e (ascend_ordered xs))
-    | inr e ↦ ap by_number (goes x xs e) ∙ ordered_filtered xs ∙ sym (filtered_beside x (by_number xs) e)
-  ]
-    where
-      -- the first key passes
-      passes : (x : Key × ℕ) (xs : List (Key × ℕ)) → test x ≡ true → filter test (x ∷ xs) ≡ x ∷ filter test xs
-      passes x xs e = rw e refl
-
-      -- the first key does not
-      goes : (x : Key × ℕ) (xs : List (Key × ℕ)) → test x ≡ false → filter test (x ∷ xs) ≡ filter test xs
-      goes x xs e = rw e refl
-
--- the same items in another order
-
--- what holds of all holds of them in another order
-pub all_moved : {A : Type 0} (P : A → Type 0) (xs ys : List A) → IsPermutation xs ys → AllByRecursion P xs → AllByRecursion P ys
-all_moved P xs ys p a = recursion_from_All P ys (All-permutation P xs ys p (All-from_recursion P xs a))
-
-module _ {T : Type 0} where
-  -- if none passes, each fails
-  pub each_fails : (test : T → Bool) (xs : List T) → list_any test xs ≡ false → AllByRecursion (λ x. test x ≡ false) xs
-  each_fails test [] n = tt
-  each_fails test (x ∷ xs) n = let parts = or_parts (test x) (list_any test xs) n in (parts.0, each_fails test xs parts.1)
-
-  -- and back
-  none_passes : (test : T → Bool) (xs : List T) → AllByRecursion (λ x. test x ≡ false) xs → list_any test xs ≡ false
-  none_passes test [] a = refl
-  none_passes test (x ∷ xs) a = or_from (test x) (list_any test xs) a.0 (none_passes test xs a.1)
-
-  module _ (alike : T → T → Bool) where
-    -- items that differ, in std's word
-    pub distinct_from_differ : (xs : List T) → differ alike xs ≡ true → IsDistinct alike xs
-    unfolding IsDistinct
-    distinct_from_differ [] d = tt
-    distinct_from_differ (x ∷ xs) d =
-        let parts = and_parts (not (list_any (alike x) xs)) (differ alike xs) d in
-        (each_fails (alike x) xs (not-true _ parts.0), distinct_from_differ xs parts.1)
-
-    -- and back
-    differ_from_distinct : (xs : List T) → IsDistinct alike xs → differ alike xs ≡ true
-    unfolding IsDistinct
-    differ_from_distinct [] d = refl
-    differ_from_distinct (x ∷ xs) d = and_from (not (list_any (alike x) xs)) (differ alike xs) (ap not (none_passes (alike x) xs d.0)) (differ_from_distinct xs d.1)
-
-    -- items that differ do so in another order
-    pub differ_moved : ((x y : T) → alike x y ≡ alike y x) → (xs ys : List T) → IsPermutation xs ys → differ alike xs ≡ true → differ alike ys ≡ true
-    differ_moved flips xs ys p d = differ_from_distinct ys (IsDistinct-IsPermutation alike flips xs ys p (distinct_from_differ xs d))
-
--- a key in its place is one key more
-place_moved : (x : Key × ℕ) (zs : List (Key × ℕ)) → IsPermutation (x ∷ zs) (place x zs)
-place_moved x [] = IsPermutation-refl (x ∷ [])
-place_moved x (z ∷ zs) = elim (cases_Bool (nat_le x.1 z.1)) [
-  | inl e ↦ rw e (IsPermutation-refl (x ∷ z ∷ zs))
-  | inr e ↦
-      let behind = IsPermutation-sym (z ∷ x ∷ zs) (x ∷ z ∷ zs) (IsPermutation-middle (z ∷ []) x zs) in
-      rw e (IsPermutation-trans (x ∷ z ∷ zs) (z ∷ x ∷ zs) (z ∷ place x zs) behind (IsPermutation-cons z (x ∷ zs) (place x zs) (place_moved x zs)))
-]
-
--- by number there are the same keys
-pub ordered_moved : (xs : List (Key × ℕ)) → IsPermutation xs (by_number xs)
-ordered_moved [] = IsPermutation-refl []
-ordered_moved (x ∷ xs) = IsPermutation-trans (x ∷ xs) (x ∷ by_number xs) (place x (by_number xs)) (IsPermutation-cons x xs (by_number xs) (ordered_moved xs)) (place_moved x (by_number xs))
-
--- and each function has the same sum over them
-pub sums_ordered : (f : Key × ℕ → ℕ) (xs : List (Key × ℕ)) → sum_by f (by_number xs) ≡ sum_by f xs
-sums_ordered f xs = sum_by-IsPermutation f xs (by_number xs) (ordered_moved xs)
+use Rattle.cookie_rows.proofs.All.{all_any, all_append, all_both, all_map, all_moved, all_parts}
+use Rattle.cookie_rows.proofs.Leaves.{all_leaves, leaves_filter}
+use Rattle.cookie_rows.proofs.Ordered.{all_place, any_ordered, differ_moved, ordered_moved}
+use Rattle.cookie_rows.proofs.RankOrder.{Rises, ascends_ranks, before_apart, before_within, leaves_before, not_before_itself, rank_at_place, ranks_order, sorted_is}
 
 -- numbers that differ
 
@@ -157,17 +46,12 @@ numbers_rise (x ∷ xs) d =
 
 -- ranks
 
--- what holds of all items of two lists holds of them joined
-pub all_joined : {A : Type 0} (P : A → Type 0) (xs ys : List A) → AllByRecursion P xs → AllByRecursion P ys → AllByRecursion P (xs ++ ys)
-all_joined P [] ys a b = b
-all_joined P (x ∷ xs) ys a b = (a.0, all_joined P xs ys a.1 b)
-
 -- ranks that rise in two lists rise in them joined, if those of the first come before those of the second
 rises_joined : (t : Key × ℕ → EvictionRank) (P Q : Key × ℕ → Type 0) → ((x y : Key × ℕ) → P x → Q y → comes_before (t x) (t y) ≡ true) → (xs ys : List (Key × ℕ))
     → AllByRecursion P xs → AllByRecursion Q ys → Rises t xs → Rises t ys → Rises t (xs ++ ys)
 rises_joined t P Q w [] ys p q a b = b
 rises_joined t P Q w (x ∷ xs) ys p q a b = (
-  all_joined (λ y. comes_before (t x) (t y) ≡ true) xs ys a.0 (all_map Q (λ y. comes_before (t x) (t y) ≡ true) (λ y h. w x y p.0 h) ys q),
+  all_append (λ y. comes_before (t x) (t y) ≡ true) xs ys a.0 (all_map Q (λ y. comes_before (t x) (t y) ≡ true) (λ y h. w x y p.0 h) ys q),
   rises_joined t P Q w xs ys p.1 q a.1 b,
 )
 
@@ -210,7 +94,7 @@ module _ {T : Type 0} (cls : T → ℕ) where
 
   -- those of a class are of that class
   of_class : (k : ℕ) (xs : List T) → AllByRecursion (λ x. cls x ≡ k) (in_class cls k xs)
-  of_class k xs = all_map (λ x. nat_eq (cls x) k ≡ true) (λ x. cls x ≡ k) (λ x h. eqb-true (cls x) k h) (in_class cls k xs) (all_pass (λ x. nat_eq (cls x) k) xs)
+  of_class k xs = all_map (λ x. nat_eq (cls x) k ≡ true) (λ x. cls x ≡ k) (λ x h. eqb-true (cls x) k h) (in_class cls k xs) (recursion_from_All (λ x. nat_eq (cls x) k ≡ true) (in_class cls k xs) (filter_passes (λ x. nat_eq (cls x) k) xs))
 
 -- entries of which `front` come before a new one of this class and the others after it, if at most `count` of them leave
 pub record SplitsAround (cls : Key × ℕ → ℕ) (xs : List (Key × ℕ)) (class count : ℕ) : Type 0 where
@@ -238,7 +122,7 @@ module _ (cls : Key × ℕ → ℕ) where
       (λ h. (
         all_both (λ f. z.1 < f.1) (λ f. cls f ≡ k) (λ f. comes_before (entry_rank z) (entry_rank f) ≡ true)
             (λ f l same. before_within (entry_rank z) (entry_rank f) (omega (arith, eqb-true (cls z) k h, same)) l)
-            (in_class cls k zs) (all_filtered (λ e. nat_eq (cls e) k) (λ f. z.1 < f.1) zs r.0) (of_class cls k zs),
+            (in_class cls k zs) (all_leaves (λ f. z.1 < f.1) zs (in_class cls k zs) (leaves_filter (λ e. nat_eq (cls e) k) zs) r.0) (of_class cls k zs),
         rises_class k zs r.1,
       ))
       (λ _. rises_class k zs r.1)
@@ -246,7 +130,7 @@ module _ (cls : Key × ℕ → ℕ) where
   -- the entries of the classes 0 and 1 are of these
   low_classes : (zs : List (Key × ℕ)) → AllByRecursion (λ e. cls e ≤ 1) (in_class cls 0 zs ++ in_class cls 1 zs)
   low_classes zs =
-      all_joined (λ e. cls e ≤ 1) (in_class cls 0 zs) (in_class cls 1 zs)
+      all_append (λ e. cls e ≤ 1) (in_class cls 0 zs) (in_class cls 1 zs)
       (all_map (λ e. cls e ≡ 0) (λ e. cls e ≤ 1) (λ e h. omega (arith, h)) (in_class cls 0 zs) (of_class cls 0 zs))
       (all_map (λ e. cls e ≡ 1) (λ e. cls e ≤ 1) (λ e h. omega (arith, h)) (in_class cls 1 zs) (of_class cls 1 zs))
 

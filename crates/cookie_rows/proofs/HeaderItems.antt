@@ -1,8 +1,7 @@
 -- Rows in the order of their numbers are in creation order, so rows sorted by them are in the order of the Cookie header.
-use Rattle.std.proofs.Common.{◌≡◌, ℕ, zero, suc, ◌+◌, ◌<◌, ◌≤◌, Bool, true, false, true≢false, cond, ◌&&◌, ◌||◌, eqb, ltb, List, [], ◌∷◌, ◌++◌, length, map, get_or, Bor, Option, Some, None, refl, sym, ◌∙◌, ap, subst, inl, inr, arith, IsPermutation}
-use Rattle.std.specs.Prelude.{nat_eq, nat_le, slice_get}
-use Rattle.std.specs.Ordering.{is_lt, ordering_then}
-use Rattle.std.specs.declared.cmp.Ordering.TheVariants.{Less, Equal, Greater}
+use Rattle.std.proofs.Common.{◌≡◌, ℕ, zero, suc, ◌+◌, ◌<◌, ◌≤◌, Bool, true, false, true≢false, ◌&&◌, ◌||◌, eqb, ltb, List, [], ◌∷◌, ◌++◌, length, map, get_or, Bor, Option, Some, None, refl, sym, ◌∙◌, ap, subst, inl, inr, arith, IsPermutation}
+use Rattle.std.specs.Prelude.{nat_eq, slice_get}
+use Rattle.std.specs.Ordering.{is_lt}
 use Rattle.std.specs.Cmp.{IsStrictWeakOrder, IsTotalOrder}
 use Rattle.std.specs.List.{All, AllByRecursion, flat_map, list_any, position_or_len}
 use Rattle.std.specs.List.Sorted.{IsSorted, IsSortedBy}
@@ -24,11 +23,13 @@ use Rattle.cookie_laws.specs.Rows.{Key, differ, key_at, key_of, same_key, same_k
 use Rattle.cookie_lookup.specs.Groups.{AreGroups, ArePaths, Filled, HasDomainAndPath, flat}
 use Rattle.cookie_lookup.specs.SearchView.{RowPosition, list_of, rows_at, under}
 use Rattle.cookie_rows.specs.HeaderItems.{item_order, items_at}
-use Rattle.cookie_rows.specs.Items.{AreItems, Item, ItemGroups, ItemPaths, bare, bare_paths, by_number, groups_in_order, creation_order, numbered, numbered_names, numbered_paths, place, rows_of}
-use Rattle.cookie_rows.proofs.ByNumber.{all_map, all_ordered, all_place, any_ordered}
-use Rattle.cookie_rows.proofs.Created.{keys_differ}
-use Rattle.cookie_rows.proofs.AreCreationKeys.{differ_order}
+use Rattle.cookie_rows.specs.Items.{AreItems, Item, ItemGroups, ItemPaths, bare, bare_paths, by_number, groups_in_order, creation_order, numbered, numbered_names, numbered_paths, rows_of}
+use Rattle.cookie_rows.proofs.All.{all_append, all_map}
+use Rattle.cookie_rows.proofs.Created.{created_once}
+use Rattle.cookie_rows.proofs.Eviction.{NumbersRise, numbers_rise}
+use Rattle.cookie_rows.proofs.Ordered.{any_ordered}
 use Rattle.cookie_rows.proofs.Places.{bare_rows}
+use Rattle.cookie_rows.proofs.RankOrder.{in_tests}
 
 -- numbered keys
 
@@ -46,36 +47,6 @@ is_entry x y = same_key x.0 y.0 && nat_eq x.1 y.1
 -- the position of a key among those of entries
 abbrev place_in : List Entry → Entry → ℕ
 place_in xs x = position_or_len (same_key x.0) (keys_of xs)
-
--- numbers ascend
-abbrev Ascend : List Entry → Type 0
-Ascend [] = Unit {0}
-Ascend (x ∷ xs) = AllByRecursion (λ y. x.1 < y.1) xs × Ascend xs
-
--- they do with an entry in its place that has another number
-ascend_place : (x : Entry) (ys : List Entry) → AllByRecursion (λ y. nat_eq x.1 y.1 ≡ false) ys → Ascend ys → Ascend (place x ys)
-ascend_place x [] differs up = (tt, tt)
-ascend_place x (y ∷ ys) differs up = elim (cases_Bool (nat_le x.1 y.1)) [
-  | inl first ↦
-      let below : x.1 < y.1 = grind (arith, nat_tests, first, differs.0) in
-      rw first ((below, all_map (λ z. y.1 < z.1) (λ z. x.1 < z.1) (λ z above. omega (arith, below, above)) ys up.0), up)
-  | inr later ↦
-      let above : y.1 < x.1 = grind (arith, nat_tests, later) in
-      rw later (all_place (λ z. y.1 < z.1) x ys above up.0, ascend_place x ys differs.1 up.1)
-]
-
--- a number that is none of these differs from each
-differs_from : (n : ℕ) (xs : List Entry) → list_any (nat_eq n) (map (λ x. x.1) xs) ≡ false → AllByRecursion (λ y. nat_eq n y.1 ≡ false) xs
-differs_from n [] none = tt
-differs_from n (x ∷ xs) none = (grind (arith, none), differs_from n xs (grind (arith, none)))
-
--- sorted entries ascend if their numbers differ
-ascend_order : (xs : List Entry) → differ nat_eq (map (λ x. x.1) xs) ≡ true → Ascend (by_number xs)
-ascend_order [] d = tt
-ascend_order (x ∷ xs) d =
-    ascend_place x (by_number xs)
-    (all_ordered (λ y. nat_eq x.1 y.1 ≡ false) xs (differs_from x.1 xs (grind (arith, d))))
-    (ascend_order xs (grind (arith, d)))
 
 -- an entry has its number
 same_number : (x y : Entry) → is_entry x y ≡ true → x.1 ≡ y.1
@@ -98,7 +69,7 @@ among_keys x (y ∷ ys) among = elim (cases_Bool (same_key x.0 y.0)) [
 ]
 
 -- if numbers ascend, a key with a smaller or equal number is at no later position
-no_later : (xs : List Entry) → Ascend xs → differ same_key (keys_of xs) ≡ true → (x y : Entry) → list_any (is_entry x) xs ≡ true → list_any (is_entry y) xs ≡ true
+no_later : (xs : List Entry) → NumbersRise xs → differ same_key (keys_of xs) ≡ true → (x y : Entry) → list_any (is_entry x) xs ≡ true → list_any (is_entry y) xs ≡ true
     → x.1 ≤ y.1 → place_in xs x ≤ place_in xs y
 no_later [] up d x y p q below = omega arith
 no_later (z ∷ zs) up d x y p q below = elim (cases_Bool (same_key x.0 z.0)) [
@@ -215,16 +186,11 @@ module _ (gs : ItemGroups) where
   known P None holds = tt
   known P (Some item) holds = (holds item refl, tt)
 
-  -- what holds of two lists holds of both
-  all_both : (P : Item → Type 0) (xs ys : List Item) → AllByRecursion P xs → AllByRecursion P ys → AllByRecursion P (xs ++ ys)
-  all_both P [] ys p q = q
-  all_both P (x ∷ xs) ys p q = (p.0, all_both P xs ys p.1 q)
-
   -- the rows at positions are among the numbered ones
   all_in : AllByRecursion (λ g. (0 < length g.1) × ArePaths g.0 g.1) (bare gs) → (positions : List RowPosition) → AllByRecursion (IsIn (numbered gs)) (flat_map (items_at gs) positions)
   all_in of [] = tt
   all_in of (s ∷ positions) =
-      all_both (IsIn (numbered gs)) (items_at gs s) (flat_map (items_at gs) positions)
+      all_append (IsIn (numbered gs)) (items_at gs s) (flat_map (items_at gs) positions)
       (known (IsIn (numbered gs)) (slice_get (under s.1 (under s.0 gs)) s.2) (λ item there. in_groups gs s.0 s.1 s.2 item of there))
       (all_in of positions)
 
@@ -244,14 +210,6 @@ module _ (gs : ItemGroups) where
       ∙ ap (λ rows. list_of (slice_get (under s.1 (under s.0 (bare gs))) s.2) ++ rows) (rows_at_positions positions)
 
 module _ (gs : ItemGroups) where
-  -- the two comparisons as tests
-  in_tests : (l e m f : Bool) → is_lt (ordering_then (cond l Less (cond e Equal Greater)) (cond m Less (cond f Equal Greater))) ≡ (l || (e && m))
-  in_tests true e m f = refl
-  in_tests false true true f = refl
-  in_tests false true false true = refl
-  in_tests false true false false = refl
-  in_tests false false m f = refl
-
   -- of rows that are in the order of their numbers no later one was created first
   in_creation_order : (n : ℕ) → AreItems n gs → (a b : Item) → IsIn (numbered gs) a → IsIn (numbered gs) b
       → is_lt (item_order b a) ≡ false → is_lt (header_order (creation_order gs) b.row a.row) ≡ false
@@ -259,9 +217,9 @@ module _ (gs : ItemGroups) where
       let created = by_number (numbered gs) in
       let la : ℕ = length a.row.path.text in
       let lb : ℕ = length b.row.path.text in
-      let differs = differ_order (numbered gs) ∙ keys_differ gs are.0 are.1 in
+      let differs = (created_once n gs are).1 in
       let later : a.number ≤ b.number → creation (creation_order gs) a.row ≤ creation (creation_order gs) b.row =
-      no_later created (ascend_order (numbered gs) are.3) differs (entry_of a) (entry_of b)
+      no_later created (numbers_rise (numbered gs) are.3) differs (entry_of a) (entry_of b)
       (any_ordered (is_entry (entry_of a)) (numbered gs) ∙ p) (any_ordered (is_entry (entry_of b)) (numbered gs) ∙ q) in
       let tests = sym (in_tests (ltb la lb) (eqb la lb) (ltb b.number a.number) (eqb b.number a.number)) ∙ up in
       in_tests (ltb la lb) (eqb la lb) (ltb (creation (creation_order gs) b.row) (creation (creation_order gs) a.row)) (eqb (creation (creation_order gs) b.row) (creation (creation_order gs) a.row))

@@ -14,8 +14,10 @@ use Rattle.cookie_rows.specs.Eviction.{HasRoom, class_of, evicted_in}
 use Rattle.cookie_rows.specs.Items.{by_number}
 use Rattle.cookie_rows.specs.declared.eviction_order.EvictionOrder.{EvictionOrder}
 use Rattle.cookie_rows.specs.declared.eviction_order.EvictionOrder.TheVariants.{ExpiredFirst, SecureLast}
+use Rattle.cookie_rows.proofs.All.{all_any}
 use Rattle.cookie_rows.proofs.Eviction.{SplitsAround, all_in_front, by_class, classes_moved, in_class, last_class_behind}
-use Rattle.cookie_rows.proofs.FilteredGroups.{all_any, filter_none, map-filter}
+use Rattle.cookie_rows.proofs.FilteredGroups.{map-filter}
+use Rattle.cookie_rows.proofs.Keyed.{filter_none}
 
 -- the class of a row, if there is one
 
@@ -24,86 +26,52 @@ abbrev pub class_in : EvictionOrder → Moment → Option Row → ℕ
 class_in order now None = 1
 class_in order now (Some row) = class_of order now row
 
+-- what holds in each case of two tests
+by_tests : (P : Bool → Bool → Type 0) → P true true → P true false → P false true → P false false → (a b : Bool) → P a b
+by_tests P tt tf ft ff true true = tt
+by_tests P tt tf ft ff true false = tf
+by_tests P tt tf ft ff false true = ft
+by_tests P tt tf ft ff false false = ff
+
 -- it is 0 if there is one that has expired
 class_0 : (order : EvictionOrder) (now : Moment) (row : Option Row) → passes (is_expired now) row ≡ nat_eq (class_in order now row) 0
 class_0 order now None = refl
-class_0 ExpiredFirst now (Some row) = tests (is_expired now row)
-  where
-    -- the cases of the test
-    tests : (past : Bool) → past ≡ nat_eq (if past then 0 else 1) 0
-    tests true = refl
-    tests false = refl
-class_0 SecureLast now (Some row) = tests (is_expired now row) (is_secure_only row.raw)
-  where
-    -- the cases of the tests
-    tests : (past secure : Bool) → past ≡ nat_eq (if past then 0 else (if secure then 2 else 1)) 0
-    tests true secure = refl
-    tests false true = refl
-    tests false false = refl
+class_0 ExpiredFirst now (Some row) = by_tests (λ past secure. past ≡ nat_eq (if past then 0 else 1) 0) refl refl refl refl (is_expired now row) true
+class_0 SecureLast now (Some row) = by_tests (λ past secure. past ≡ nat_eq (if past then 0 else (if secure then 2 else 1)) 0) refl refl refl refl (is_expired now row) (is_secure_only row.raw)
 
 -- else it is 1
 class_1 : (now : Moment) (row : Option Row) → not (passes (is_expired now) row) ≡ nat_eq (class_in ExpiredFirst now row) 1
 class_1 now None = refl
-class_1 now (Some row) = tests (is_expired now row)
-  where
-    -- the cases of the test
-    tests : (past : Bool) → not past ≡ nat_eq (if past then 0 else 1) 1
-    tests true = refl
-    tests false = refl
+class_1 now (Some row) = by_tests (λ past secure. not past ≡ nat_eq (if past then 0 else 1) 1) refl refl refl refl (is_expired now row) true
 
 -- and never 2
 not_class_2 : (now : Moment) (row : Option Row) → nat_eq (class_in ExpiredFirst now row) 2 ≡ false
 not_class_2 now None = refl
-not_class_2 now (Some row) = tests (is_expired now row)
-  where
-    -- the cases of the test
-    tests : (past : Bool) → nat_eq (if past then 0 else 1) 2 ≡ false
-    tests true = refl
-    tests false = refl
+not_class_2 now (Some row) = by_tests (λ past secure. nat_eq (if past then 0 else 1) 2 ≡ false) refl refl refl refl (is_expired now row) true
 
 -- if Secure rows are last, theirs is 2
 class_2 : (now : Moment) (row : Option Row) → passes (λ r. is_unexpired now r && is_secure_only r.raw) row ≡ nat_eq (class_in SecureLast now row) 2
 class_2 now None = refl
-class_2 now (Some row) = tests (is_expired now row) (is_secure_only row.raw)
-  where
-    -- the cases of the tests
-    tests : (past secure : Bool) → (not past && secure) ≡ nat_eq (if past then 0 else (if secure then 2 else 1)) 2
-    tests true secure = refl
-    tests false true = refl
-    tests false false = refl
+class_2 now (Some row) =
+    by_tests (λ past secure. (not past && secure) ≡ nat_eq (if past then 0 else (if secure then 2 else 1)) 2) refl refl refl refl (is_expired now row) (is_secure_only row.raw)
 
 -- and that of the others 1
 plain_class_1 : (now : Moment) (row : Option Row) → (not (passes (is_expired now) row) && not (passes (λ r. is_unexpired now r && is_secure_only r.raw) row)) ≡ nat_eq (class_in SecureLast now row) 1
 plain_class_1 now None = refl
-plain_class_1 now (Some row) = tests (is_expired now row) (is_secure_only row.raw)
-  where
-    -- the cases of the tests
-    tests : (past secure : Bool) → (not past && not (not past && secure)) ≡ nat_eq (if past then 0 else (if secure then 2 else 1)) 1
-    tests true secure = refl
-    tests false true = refl
-    tests false false = refl
+plain_class_1 now (Some row) =
+    by_tests (λ past secure. (not past && not (not past && secure)) ≡ nat_eq (if past then 0 else (if secure then 2 else 1)) 1) refl refl refl refl (is_expired now row) (is_secure_only row.raw)
 
 -- there is no class above 1
 at_most_1 : (now : Moment) (row : Option Row) → class_in ExpiredFirst now row ≤ 1
 at_most_1 now None = omega arith
-at_most_1 now (Some row) = tests (is_expired now row)
-  where
-    -- the cases of the test
-    tests : (past : Bool) → (if past then 0 else 1) ≤ 1
-    tests true = omega arith
-    tests false = omega arith
+at_most_1 now (Some row) = by_tests (λ past secure. (if past then 0 else 1) ≤ 1) (omega arith) (omega arith) (omega arith) (omega arith) (is_expired now row) true
 
 -- nor above 2
 pub at_most_2 : (order : EvictionOrder) (now : Moment) (row : Option Row) → class_in order now row ≤ 2
 at_most_2 order now None = omega arith
 at_most_2 ExpiredFirst now (Some row) = omega (arith, at_most_1 now (Some row))
-at_most_2 SecureLast now (Some row) = tests (is_expired now row) (is_secure_only row.raw)
-  where
-    -- the cases of the tests
-    tests : (past secure : Bool) → (if past then 0 else (if secure then 2 else 1)) ≤ 2
-    tests true secure = omega arith
-    tests false true = omega arith
-    tests false false = omega arith
+at_most_2 SecureLast now (Some row) =
+    by_tests (λ past secure. (if past then 0 else (if secure then 2 else 1)) ≤ 2) (omega arith) (omega arith) (omega arith) (omega arith) (is_expired now row) (is_secure_only row.raw)
 
 -- keys by the classes of their rows
 

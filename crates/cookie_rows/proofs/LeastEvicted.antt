@@ -1,11 +1,12 @@
 -- Of as many rows as the limit and a new one, the least is evicted.
-use Rattle.std.proofs.Common.{◌≡◌, ℕ, ◌+◌, ◌<◌, Bool, true, false, not, List, [], ◌∷◌, ◌++◌, length, map, filter, refl, sym, ◌∙◌, ap, ap₂, subst, inl, inr, arith, append_assoc, IsPermutation, bytes_eq, None}
+use Rattle.std.proofs.Common.{◌≡◌, ℕ, ◌+◌, ◌<◌, Bool, true, false, not, List, [], ◌∷◌, ◌++◌, length, map, filter, refl, sym, ◌∙◌, ap, ap₂, subst, inl, inr, arith, append_assoc, append-nil, IsPermutation, bytes_eq, None}
 use Rattle.std.specs.Prelude.{nat_eq}
 use Rattle.std.specs.List.{AllByRecursion, list_any}
 use Rattle.std.proofs.lemmas.Bool.{and_parts, cases_Bool, not-true, eqb-false}
 use Rattle.std.proofs.lemmas.Cmp.{nat_eq_equiv}
 use Rattle.std.proofs.lemmas.Grind.{flat_map-append}
 use Rattle.std.proofs.lemmas.List.{length-map, map-append}
+use Rattle.std.proofs.lemmas.Simd.{map-map}
 use Rattle.std.proofs.lemmas.Slice.Eq.{bytes_eq-Decides}
 use Rattle.std.proofs.lemmas.List.Sorted.{IsPermutation-append_right, IsPermutation-map, IsPermutation-middle, IsPermutation-refl, IsPermutation-sym, IsPermutation-to_front, IsPermutation-trans, length_permutation}
 use Rattle.cookie_words.specs.Moments.{Moment}
@@ -15,25 +16,28 @@ use Rattle.cookie_laws.specs.Rows.{Key, differ, key_at, same_domain}
 use Rattle.cookie_lookup.specs.Groups.{ArePaths, Filled}
 use Rattle.cookie_rows.specs.declared.eviction_order.EvictionOrder.{EvictionOrder}
 use Rattle.cookie_rows.specs.GroupChanges.{put_at, unless_empty}
-use Rattle.cookie_rows.specs.Items.{AreItems, Item, ItemGroups, ItemPaths, bare, bare_paths, find_item_paths, numbered, numbered_names, numbered_paths, put_item_paths, put_items}
+use Rattle.cookie_rows.specs.Items.{AreItems, Item, ItemGroups, ItemPaths, bare, bare_paths, find_item_paths, numbered, numbered_paths, put_item_paths, put_items}
 use Rattle.cookie_rows.specs.Eviction.{EvictionRank, EvictsInPaths, class_of, comes_before, filter_paths, is_single, moved_to_end_if, paths_of, rank_of, ranks_of, survives}
 use Rattle.cookie_rows.specs.Least.{AreNumbered, NoneBefore, RemovesAt, RemovesLeast, items_in_paths}
+use Rattle.cookie_rows.proofs.All.{all_both, all_from_map, all_map, all_moved, all_parts, all_to_map}
 use Rattle.cookie_rows.proofs.AreItems.{items_put}
-use Rattle.cookie_rows.proofs.ByNumber.{all_map}
 use Rattle.cookie_rows.proofs.ChosenRank.{LeavesLeast, leaves_least}
 use Rattle.cookie_rows.proofs.Created.{texts_differ}
-use Rattle.cookie_rows.proofs.Eviction.{all_moved, differ_moved, each_fails}
-use Rattle.cookie_rows.proofs.FilteredGroups.{all_both, all_from_map, all_parts, all_to_map, differ-filter, filter_all, numbered_near}
+use Rattle.cookie_rows.proofs.FilteredGroups.{each_fails, filled, parted_first}
+use Rattle.cookie_rows.proofs.FilteredItems.{numbered_near}
+use Rattle.cookie_rows.proofs.Keyed.{Keyed, filter_all, items_keyed, keyed_paths, numbers_keyed_in}
+use Rattle.cookie_rows.proofs.Leaves.{differ_leaves, leaves_filter, leaves_map}
+use Rattle.cookie_rows.proofs.Ordered.{differ_moved}
 use Rattle.cookie_rows.proofs.RankOrder.{neither_before}
 use Rattle.cookie_rows.proofs.RowCounts.{count_put, rows_unless}
-use Rattle.cookie_rows.proofs.StoredThenEvicted.{passing_kept, put_last}
+use Rattle.cookie_rows.proofs.StoredThenEvicted.{put_last}
 
 -- no group is empty
 abbrev AreFilled : ItemPaths → Type 0
 AreFilled paths = AllByRecursion (λ p. 0 < length p.1) paths
 
 -- the ranks of a domain are those of its rows
-ranks_are : (order : EvictionOrder) (now : Moment) (ps : ItemPaths) → ranks_of order now ps ≡ map (rank_of order now) (items_in_paths ps)
+pub ranks_are : (order : EvictionOrder) (now : Moment) (ps : ItemPaths) → ranks_of order now ps ≡ map (rank_of order now) (items_in_paths ps)
 ranks_are order now [] = refl
 ranks_are order now (p ∷ ps) = ap (λ ts. map (rank_of order now) p.1 ++ ts) (ranks_are order now ps) ∙ sym (map-append (rank_of order now) p.1 (items_in_paths ps))
 
@@ -89,25 +93,17 @@ module _ (test : Item → Bool) where
   abbrev Passes : Item → Type 0
   Passes x = test x ≡ true
 
-  -- a group that is not empty is kept
-  kept_filled : (text : List ℕ) (xs : List Item) (ps : ItemPaths) → 0 < length xs → unless_empty text xs ps ≡ (text, xs) ∷ ps
-  kept_filled text [] ps some = absurd (omega (arith, some))
-  kept_filled text (x ∷ xs) ps some = refl
-
   -- if all rows of the first groups pass, these are left
   front_left : (front ps : ItemPaths) → AllByRecursion Passes (items_in_paths front) → AreFilled front → filter_paths test (front ++ ps) ≡ front ++ filter_paths test ps
   front_left [] ps a f = refl
   front_left (p ∷ front) ps a f =
       let parts = all_parts Passes p.1 (items_in_paths front) a in
-      passing_kept test p (front ++ ps) ∙ ap₂ (λ xs qs. unless_empty p.0 xs qs) (filter_all test p.1 parts.0) (front_left front ps parts.1 f.1)
-      ∙ kept_filled p.0 p.1 (front ++ filter_paths test ps) f.0
+      parted_first (filter test) p (front ++ ps) ∙ ap₂ (λ xs qs. unless_empty p.0 xs qs) (filter_all test p.1 parts.0) (front_left front ps parts.1 f.1)
+      ∙ filled p.0 p.1 (front ++ filter_paths test ps) f.0
 
   -- if all do, all are left
   all_left : (ps : ItemPaths) → AllByRecursion Passes (items_in_paths ps) → AreFilled ps → filter_paths test ps ≡ ps
-  all_left [] a f = refl
-  all_left (p ∷ ps) a f =
-      let parts = all_parts Passes p.1 (items_in_paths ps) a in
-      passing_kept test p ps ∙ ap₂ (λ xs qs. unless_empty p.0 xs qs) (filter_all test p.1 parts.0) (all_left ps parts.1 f.1) ∙ kept_filled p.0 p.1 ps f.0
+  all_left ps a f = ap (filter_paths test) (sym (append-nil ps)) ∙ front_left ps [] a f ∙ append-nil ps
 
   -- if one row of a list fails, the others are left
   one_fails : (front back : List Item) (x : Item) → test x ≡ false → AllByRecursion Passes (front ++ back) → filter test (front ++ x ∷ back) ≡ front ++ back
@@ -123,7 +119,7 @@ module _ (test : Item → Bool) where
       let filled = all_parts (λ (p : List ℕ × List Item). 0 < length p.1) takes.1 ((takes.0, takes.3) ∷ takes.2) (subst AreFilled takes.6 f) in
       let group = ap (filter test) out.2 ∙ one_fails out.0 out.1 item fails (subst (AllByRecursion Passes) out.3 rest.0) ∙ sym out.3 in
       ap (filter_paths test) takes.6 ∙ front_left takes.1 ((takes.0, takes.3) ∷ takes.2) parts.0 filled.0
-      ∙ ap (λ qs. takes.1 ++ qs) (passing_kept test (takes.0, takes.3) takes.2 ∙ ap₂ (λ xs qs. unless_empty takes.0 xs qs) group (all_left takes.2 rest.1 filled.1.1))
+      ∙ ap (λ qs. takes.1 ++ qs) (parted_first (filter test) (takes.0, takes.3) takes.2 ∙ ap₂ (λ xs qs. unless_empty takes.0 xs qs) group (all_left takes.2 rest.1 filled.1.1))
       ∙ sym takes.7
 
 module _ (limit : ℕ) (order : EvictionOrder) (now : Moment) (row : Row) (n : ℕ) (paths left : ItemPaths) (item : Item)
@@ -219,15 +215,9 @@ module _ (limit : ℕ) (order : EvictionOrder) (now : Moment) (row : Row) (n : �
 
 -- the numbers of a domain
 numbers_in : (d : List ℕ) (ps : ItemPaths) → map (λ x. x.1) (numbered_paths d ps) ≡ map (λ item. item.number) (items_in_paths ps)
-numbers_in d [] = refl
-numbers_in d (p ∷ ps) =
-    map-append (λ (x : Key × ℕ). x.1) (numbered_names d p.0 p.1) (numbered_paths d ps)
-    ∙ ap₂ (λ ms ns. ms ++ ns) (of_names p.0 p.1) (numbers_in d ps) ∙ sym (map-append (λ (item : Item). item.number) p.1 (items_in_paths ps))
-  where
-    -- the numbers of a group
-    of_names : (path : List ℕ) (xs : List Item) → map (λ x. x.1) (numbered_names d path xs) ≡ map (λ item. item.number) xs
-    of_names path [] = refl
-    of_names path (x ∷ xs) = ap (λ ns. x.number ∷ ns) (of_names path xs)
+numbers_in d ps =
+    ap (map (λ x. x.1)) (numbers_keyed_in d ps) ∙ map-map (λ (x : Key × ℕ). x.1) (λ (e : Keyed). (e.0, e.1.number)) (keyed_paths d ps)
+    ∙ sym (map-map (λ (item : Item). item.number) (λ (e : Keyed). e.1) (keyed_paths d ps)) ∙ ap (map (λ item. item.number)) (sym (items_keyed d ps))
 
 -- no group is empty
 filled_in : (d : List ℕ) (ps : ItemPaths) → Filled d (bare_paths ps) → AreFilled ps
@@ -242,9 +232,10 @@ filled_of d (g ∷ gs) a = elim (cases_Bool (bytes_eq d g.0)) [ inl e ↦ rw e (
 numbered_of : (n : ℕ) (gs : ItemGroups) → AreItems n gs → (d : List ℕ) → AreNumbered (paths_of d gs)
 numbered_of n gs a d =
     let key = key_at d [] [] in
-    let near = numbered_near key gs (texts_differ gs a.0).0 in (
-      ap (differ nat_eq) (sym (numbers_in d (paths_of d gs))) ∙ ap (λ xs. differ nat_eq (map (λ (x : Key × ℕ). x.1) xs)) (sym near)
-          ∙ differ-filter (λ (x : Key × ℕ). x.1) (λ x. same_domain key x.0) nat_eq (numbered gs) a.3,
+    let near = numbered_near key gs (texts_differ gs a.0).0 in
+    let own = filter (λ (x : Key × ℕ). same_domain key x.0) (numbered gs) in (
+      ap (differ nat_eq) (sym (numbers_in d (paths_of d gs)) ∙ ap (map (λ x. x.1)) (sym near))
+          ∙ differ_leaves nat_eq (map (λ x. x.1) (numbered gs)) (map (λ x. x.1) own) (leaves_map (λ (x : Key × ℕ). x.1) (numbered gs) own (leaves_filter (λ x. same_domain key x.0) (numbered gs))) a.3,
       filled_of d gs a.0.1,
     )
 

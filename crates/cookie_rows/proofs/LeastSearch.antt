@@ -12,8 +12,7 @@ use Rattle.cookie_rows.specs.HeaderItems.{items_in}
 use Rattle.cookie_rows.specs.Items.{Item, joined}
 use Rattle.cookie_rows.specs.Least.{IsLeastOfGroup, IsLeastOfGroups, NoneBefore, lesser, stored_items}
 use Rattle.cookie_rows.specs.Stored.{StoredItems, StoredPaths}
-use Rattle.cookie_rows.proofs.ByNumber.{all_map}
-use Rattle.cookie_rows.proofs.Eviction.{all_joined}
+use Rattle.cookie_rows.proofs.All.{all_append, all_map}
 use Rattle.cookie_rows.proofs.RankOrder.{not_before_itself, ranks_order}
 
 -- the last of a list is at the end
@@ -45,7 +44,7 @@ module _ (order : EvictionOrder) (now : Moment) where
       let none : NoneBefore order now (rank_of order now x) xs = subst (NoneBefore order now (rank_of order now x)) (sym is) tt in (
         refl,
         ap (option_map (rank_of order now)) (at_end xs x),
-        all_joined (λ item. comes_before (rank_of order now item) (rank_of order now x) ≡ false) xs (x ∷ []) none (not_before_itself (rank_of order now x), tt),
+        all_append (λ item. comes_before (rank_of order now item) (rank_of order now x) ≡ false) xs (x ∷ []) none (not_before_itself (rank_of order now x), tt),
       )
   group_more place xs x (Some least) is =
       let rank = rank_of order now x in
@@ -54,13 +53,13 @@ module _ (order : EvictionOrder) (now : Moment) where
             rw e (
               refl,
               ap (option_map (rank_of order now)) (at_end xs x),
-              all_joined (λ item. comes_before (rank_of order now item) rank ≡ false) xs (x ∷ []) (none_earlier least.rank rank xs e is.2) (not_before_itself rank, tt),
+              all_append (λ item. comes_before (rank_of order now item) rank ≡ false) xs (x ∷ []) (none_earlier least.rank rank xs e is.2) (not_before_itself rank, tt),
             )
         | inr e ↦
             rw e (
               is.0,
               in_front (rank_of order now) xs (x ∷ []) least.row least.rank is.1,
-              all_joined (λ item. comes_before (rank_of order now item) least.rank ≡ false) xs (x ∷ []) is.2 (e, tt),
+              all_append (λ item. comes_before (rank_of order now item) least.rank ≡ false) xs (x ∷ []) is.2 (e, tt),
             )
       ]
 
@@ -103,13 +102,13 @@ module _ (order : EvictionOrder) (now : Moment) where
             rw e (
               group_last groups items other found.0 found.1,
               subst (NoneBefore order now other.rank) (sym (joined_more groups items))
-                  (all_joined (λ item. comes_before (rank_of order now item) other.rank ≡ false) (joined groups) items (none_earlier least.rank other.rank (joined groups) e is.1) found.2),
+                  (all_append (λ item. comes_before (rank_of order now item) other.rank ≡ false) (joined groups) items (none_earlier least.rank other.rank (joined groups) e is.1) found.2),
             )
         | inr e ↦
             rw e (
               group_front groups items least.path least.row least.rank is.0,
               subst (NoneBefore order now least.rank) (sym (joined_more groups items))
-                  (all_joined (λ item. comes_before (rank_of order now item) least.rank ≡ false) (joined groups) items is.1 (none_before other.rank least.rank items e found.2)),
+                  (all_append (λ item. comes_before (rank_of order now item) least.rank ≡ false) (joined groups) items is.1 (none_before other.rank least.rank items e found.2)),
             )
       ]
 

@@ -3,6 +3,7 @@ use Rattle.std.proofs.Common.{◌≡◌, ℕ, zero, suc, List, [], ◌∷◌, ma
 use Rattle.std.specs.Prelude.{option_map}
 use Rattle.std.specs.List.{AllByRecursion}
 use Rattle.ordered_map.specs.Entries.{in_order}
+use Rattle.ordered_map.proofs.ByPlace.{in_order_permuted}
 use Rattle.cookie_words.specs.Moments.{Moment}
 use Rattle.cookie_lookup.specs.Positions.{paths_in_order}
 use Rattle.cookie_rows.specs.declared.eviction_order.EvictionOrder.{EvictionOrder}
@@ -11,9 +12,11 @@ use Rattle.cookie_rows.specs.HeaderItems.{items_in}
 use Rattle.cookie_rows.specs.Items.{Item, joined}
 use Rattle.cookie_rows.specs.Least.{items_in_paths, stored_at, stored_items}
 use Rattle.cookie_rows.specs.Stored.{StoredItems, StoredPaths}
-use Rattle.cookie_rows.proofs.Eviction.{all_joined}
-use Rattle.cookie_rows.proofs.FilteredGroups.{all_from_map, all_parts}
-use Rattle.cookie_rows.proofs.InOrder.{all_in_order}
+use Rattle.cookie_rows.proofs.All.{all_append, all_from_map, all_moved, all_parts, all_to_map}
+
+-- what holds of each content as stored holds in order
+all_in_order : {X : Type 0} (P : X → Type 0) (xs : List (ℕ × X)) → AllByRecursion (λ x. P x.1) xs → AllByRecursion P (in_order xs)
+all_in_order P xs a = all_moved P (map (λ x. x.1) xs) (in_order xs) (in_order_permuted xs) (all_to_map (λ x. x.1) P xs a)
 
 module _ (P : Item → Type 0) where
   -- what holds of the rows of each path as stored holds of them in order
@@ -26,7 +29,7 @@ module _ (P : Item → Type 0) where
   -- what holds of the rows of each path holds of all
   all_together : (qs : List (List ℕ × StoredItems)) → AllByRecursion (λ q. AllByRecursion P (in_order q.1)) qs → AllByRecursion P (items_in_paths (map (λ p. (p.0, in_order p.1)) qs))
   all_together [] a = tt
-  all_together (q ∷ qs) a = all_joined P (in_order q.1) (items_in_paths (map (λ p. (p.0, in_order p.1)) qs)) a.0 (all_together qs a.1)
+  all_together (q ∷ qs) a = all_append P (in_order q.1) (items_in_paths (map (λ p. (p.0, in_order p.1)) qs)) a.0 (all_together qs a.1)
 
   -- what holds of all rows as stored holds of them in order
   pub all_paths_in_order : (ps : StoredPaths) → AllByRecursion P (joined (map (λ p. stored_items p.1.1) ps)) → AllByRecursion P (items_in_paths (paths_in_order ps))

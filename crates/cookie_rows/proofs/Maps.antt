@@ -1,7 +1,7 @@
 -- A map from names to groups, changed at one name.
-use Rattle.std.proofs.Common.{◌≡◌, ℕ, ◌==◌, Bool, true, false, List, [], ◌∷◌, ◌++◌, map, length, refl, ap, ◌∙◌, inl, inr, bytes_eq, Option, Some, None, arith}
+use Rattle.std.proofs.Common.{◌≡◌, ℕ, ◌==◌, Bool, true, false, List, [], ◌∷◌, ◌++◌, length, refl, ap, ◌∙◌, inl, inr, bytes_eq, Option, Some, None, arith}
 use Rattle.std.specs.Prelude.{string_bytes, String}
-use Rattle.std.specs.Map.{lookup, set_value, remove_entry, values_of}
+use Rattle.std.specs.Map.{lookup, set_value, remove_entry}
 use Rattle.std.specs.String.{string_eq}
 use Rattle.indexmap.specs.IndexMap.{insert_entry}
 use Rattle.std.proofs.lemmas.Bool.{cases_Bool}
@@ -109,11 +109,6 @@ module _ {A V X : Type 0} (g : V → List X) where
     | inl t ↦ rw t refl
     | inr t ↦ rw t (ap (λ xs. (string_bytes e.0, g e.1) ∷ xs) (texts_removed q es))
   ]
-
-  -- the values of a map, without its keys
-  pub values_texts : (es : List (String A × V)) → map g (values_of es) ≡ map (λ t. t.1) (texts_by g es)
-  values_texts [] = refl
-  values_texts (e ∷ es) = ap (λ xs. g e.1 ∷ xs) (values_texts es)
 
 -- a changed group is dropped if it is empty
 

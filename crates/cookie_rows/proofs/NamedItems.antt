@@ -1,5 +1,5 @@
 -- A list of items, one for each name.
-use Rattle.std.proofs.Common.{◌≡◌, ℕ, Bool, true, false, List, [], ◌∷◌, ◌++◌, filter, get_or, set, Some, None, refl, sym, ap, subst, ◌∙◌, inl, inr, bytes_eq, append_assoc, arith}
+use Rattle.std.proofs.Common.{◌≡◌, ℕ, true, false, List, [], ◌∷◌, ◌++◌, get_or, set, Some, None, refl, sym, ap, subst, ◌∙◌, inl, inr, bytes_eq, append_assoc, arith}
 use Rattle.std.specs.Prelude.{option_map, string_bytes, String}
 use Rattle.std.specs.List.{list_any, find, position}
 use Rattle.std.specs.Map.{lookup, values_of}
@@ -14,6 +14,7 @@ use Rattle.cookie_rows.specs.Items.{AreNamed, Item, expire_item, is_item_named, 
 use Rattle.cookie_rows.specs.NameMaps.{names_differ, names_in}
 use Rattle.cookie_rows.proofs.Named.{at_text, none_named}
 use Rattle.cookie_rows.proofs.Positions.{changed_there, found_at, none_found, passes}
+use Rattle.cookie_rows.proofs.StoredThenEvicted.{put_last}
 
 -- the row of a name is that of the item of the name
 row_found : (q : List ℕ) (items : List Item) → option_map (λ (x : Item). x.row) (find (is_item_named q) items) ≡ row_named q (rows_of items)
@@ -30,14 +31,6 @@ row_at q items at d is = sym (row_found q items) ∙ ap (option_map (λ (x : Ite
 -- without a position there is none
 pub no_row : (q : List ℕ) (items : List Item) → position (is_item_named q) items ≡ None → row_named q (rows_of items) ≡ None
 no_row q items is = sym (row_found q items) ∙ ap (option_map (λ (x : Item). x.row)) (none_found (is_item_named q) items is)
-
--- a new row goes last
-pub put_last : (w : Row) (n : ℕ) (items : List Item) → row_named w.raw.name (rows_of items) ≡ None → items ++ record { row = w; number = n } ∷ [] ≡ put_item w n items
-put_last w n [] none = refl
-put_last w n (x ∷ xs) none = elim (cases_Bool (is_item_named w.raw.name x)) [
-  | inl t ↦ let none' = rw t at none in absurd (cc)
-  | inr f ↦ let none' = rw f at none in rw f (ap (λ rest. x ∷ rest) (put_last w n xs none'))
-]
 
 -- a row of a stored name replaces that row
 put_changed : (w : Row) (n : ℕ) (items : List Item) → list_any (is_item_named w.raw.name) items ≡ true
@@ -81,15 +74,6 @@ pub differ_removed : (q : List ℕ) (items : List Item) → names_differ items �
 differ_removed q [] d = refl
 differ_removed q (x ∷ xs) d = grind (arith, nat_tests, d, absent_removed x.row.raw.name q xs, differ_removed q xs)
 
--- as they do among the items that pass a test
-absent_filtered : (t : List ℕ) (p : Item → Bool) (items : List Item) → list_any (bytes_eq t) (names_in items) ≡ false → list_any (bytes_eq t) (names_in (filter p items)) ≡ false
-absent_filtered t p [] none = refl
-absent_filtered t p (x ∷ xs) none = grind (arith, nat_tests, none, absent_filtered t p xs)
-
-pub differ_filtered : (p : Item → Bool) (items : List Item) → names_differ items ≡ true → names_differ (filter p items) ≡ true
-differ_filtered p [] d = refl
-differ_filtered p (x ∷ xs) d = grind (arith, nat_tests, d, absent_filtered x.row.raw.name p xs, differ_filtered p xs)
-
 -- and with a new one at the end
 absent_before : (t : List ℕ) (items : List Item) (y : Item) → bytes_eq t y.row.raw.name ≡ false → list_any (bytes_eq t) (names_in items) ≡ false
     → list_any (bytes_eq t) (names_in (items ++ y ∷ [])) ≡ false
@@ -126,7 +110,7 @@ absent_ahead (x ∷ xs) ys y d =
 -- a new row is put last in a map under its name
 pub put_push : {A : Type 0} (k : String A) (x : Item) (es : List (String A × Item)) → row_named x.row.raw.name (rows_of (values_of es)) ≡ None
     → values_of (es ++ (k, x) ∷ []) ≡ put_item x.row x.number (values_of es)
-put_push k x es none = map-append (λ e. e.1) es ((k, x) ∷ []) ∙ put_last x.row x.number (values_of es) none
+put_push k x es none = map-append (λ e. e.1) es ((k, x) ∷ []) ∙ sym (put_last x.row x.number (values_of es) none)
 
 -- the next row
 

@@ -1,4 +1,4 @@
--- Ranks (places in eviction order): a sorted list of ranks is their ascending list, and which entries come before the
+-- Ranks in eviction order: a sorted list of ranks is their ascending list, and which entries come before the
 -- first rank that survives.
 use Rattle.std.proofs.Common.{◌≡◌, ℕ, zero, suc, ◌+◌, ◌<◌, ◌≤◌, Bool, true, false, cond, not, ◌&&◌, ◌||◌, eqb, ltb, List, [], ◌∷◌, ◌++◌, length, map, take, get_or, slice_get, Some, refl, sym, ◌∙◌, ap, subst, inl, inr, arith, is_lt, IsPermutation, IsSorted}
 use Rattle.std.specs.Ordering.{ordering_then}
@@ -12,8 +12,7 @@ use Rattle.std.proofs.lemmas.List.Sums.{sum_by-cons}
 use Rattle.std.proofs.lemmas.Option.{same_Some}
 use Rattle.cookie_laws.specs.Rows.{Key, same_key, same_key_equiv, differ}
 use Rattle.cookie_rows.specs.Eviction.{EvictionRank, rank_cmp, comes_before}
-use Rattle.cookie_rows.proofs.ByNumber.{all_map}
-use Rattle.cookie_rows.proofs.FilteredGroups.{all_parts, all_to_map}
+use Rattle.cookie_rows.proofs.All.{all_both, all_map, all_parts, all_to_map}
 
 -- which of two ranks comes first
 
@@ -30,7 +29,7 @@ pub not_before_itself : (a : EvictionRank) → comes_before a a ≡ false
 not_before_itself a = ap is_lt (tied_itself ranks_total a)
 
 -- the two comparisons as tests
-in_tests : (x d y e : Bool) → is_lt (ordering_then (cond x Less (cond d Equal Greater)) (cond y Less (cond e Equal Greater))) ≡ (x || (d && y))
+pub in_tests : (x d y e : Bool) → is_lt (ordering_then (cond x Less (cond d Equal Greater)) (cond y Less (cond e Equal Greater))) ≡ (x || (d && y))
 in_tests true d y e = refl
 in_tests false true true e = refl
 in_tests false true false true = refl
@@ -142,11 +141,6 @@ sorted_is unsorted sorted all s a p up =
     ascending_same sorted all (λ f. sum_by-IsPermutation f unsorted sorted p ∙ s f) (ascends_sorted sorted up) a
 
 -- entries in their ranks
-
--- what holds of each item by two others holds of all
-pub all_both : {A : Type 0} (P Q R : A → Type 0) → ((x : A) → P x → Q x → R x) → (xs : List A) → AllByRecursion P xs → AllByRecursion Q xs → AllByRecursion R xs
-all_both P Q R f [] p q = tt
-all_both P Q R f (x ∷ xs) p q = (f x p.0 q.0, all_both P Q R f xs p.1 q.1)
 
 -- each entry's rank comes before those of all later ones
 abbrev pub Rises : (Key × ℕ → EvictionRank) → List (Key × ℕ) → Type 0

@@ -1,29 +1,23 @@
 -- How many rows there are after a row is stored and others are evicted.
-use Rattle.std.proofs.Common.{◌≡◌, ℕ, zero, suc, ◌+◌, ◌≤◌, Bool, List, [], ◌∷◌, ◌++◌, filter, length, map, take, slice_get, Some, None, refl, sym, ◌∙◌, ap, inl, inr, bytes_eq, arith, length-append}
+use Rattle.std.proofs.Common.{◌≡◌, ℕ, ◌+◌, ◌≤◌, Bool, List, [], ◌∷◌, ◌++◌, filter, length, Some, None, refl, sym, ◌∙◌, ap, inl, inr, bytes_eq, arith, length-append, IsPermutation}
 use Rattle.std.specs.Prelude.{String, string_bytes}
+use Rattle.std.specs.List.{flat_map}
 use Rattle.std.specs.Map.{lookup, set_value}
 use Rattle.std.proofs.lemmas.Bool.{cases_Bool}
 use Rattle.std.proofs.lemmas.List.{length_push}
-use Rattle.std.proofs.lemmas.List.Folds.{flat_map-map}
+use Rattle.std.proofs.lemmas.List.Concat.{length-flat_map}
+use Rattle.std.proofs.lemmas.List.Sorted.{IsPermutation-append_comm, IsPermutation-cons, IsPermutation-refl, sum_by-IsPermutation}
 use Rattle.cookie_parts.specs.Cookie.{Row}
 use Rattle.cookie_parts.specs.Domain.{domain_text}
 use Rattle.cookie_laws.specs.Rows.{key_of}
 use Rattle.cookie_rows.specs.GroupChanges.{texts_by, unless_empty}
-use Rattle.cookie_rows.specs.Items.{Item, ItemGroups, ItemPaths, find_item_paths, find_items, joined, put_item, put_item_paths, put_items}
+use Rattle.cookie_rows.specs.Items.{Item, ItemGroups, ItemPaths, find_item_paths, find_items, put_item, put_item_paths, put_items}
 use Rattle.cookie_rows.specs.Eviction.{filter_paths, moved_to_end_if}
 use Rattle.cookie_rows.specs.Least.{items_in_groups, items_in_paths}
+use Rattle.cookie_rows.proofs.FilteredGroups.{parted_first}
+use Rattle.cookie_rows.proofs.Leaves.{leaves_filter, length_leaves}
 use Rattle.cookie_rows.proofs.Maps.{at_text}
-use Rattle.cookie_rows.proofs.StoredThenEvicted.{passing_kept, put_last}
-
--- the rows of the groups in front of one, and of that one, are no more than all
-pub count_so_far : (groups : List (List Item)) (n : ℕ) (xs : List Item) → slice_get groups n ≡ Some xs → length (joined (take n groups)) + length xs ≤ length (joined groups)
-count_so_far [] n xs there = absurd (cc)
-count_so_far (g ∷ groups) zero xs there = let same : g ≡ xs = cc in omega (arith, ap length same, length-append g (joined groups))
-count_so_far (g ∷ groups) (suc n) xs there = omega (arith, length-append g (joined (take n groups)), length-append g (joined groups), count_so_far groups n xs there)
-
--- the rows of the groups of a domain without their paths
-pub count_joined : (ps : ItemPaths) → length (joined (map (λ p. p.1) ps)) ≡ length (items_in_paths ps)
-count_joined ps = ap length (flat_map-map (λ (items : List Item). items) (λ (p : List ℕ × List Item). p.1) ps)
+use Rattle.cookie_rows.proofs.StoredThenEvicted.{put_last}
 
 -- the number of rows of a domain
 abbrev pub path_count : ItemPaths → ℕ
@@ -45,26 +39,28 @@ count_put row n (p ∷ ps) none = elim (cases_Bool (bytes_eq row.path.text p.0))
       rw e (omega (arith, count_cons p.0 p.1 (put_item_paths row n ps), count_cons p.0 p.1 ps, more))
 ]
 
--- a group at the end
-count_last : (ps : ItemPaths) (p : List ℕ × List Item) → path_count (ps ++ p ∷ []) ≡ length p.1 + path_count ps
-count_last [] p = count_cons p.0 p.1 []
-count_last (q ∷ ps) p = omega (arith, count_cons q.0 q.1 (ps ++ p ∷ []), count_cons q.0 q.1 ps, count_last ps p)
+-- groups of which one is moved to the end are the same
+moved_permuted : {X : Type 0} (alone : List X → Bool) (text : List ℕ) (gs : List (List ℕ × List X)) → IsPermutation gs (moved_to_end_if alone text gs)
+moved_permuted alone text [] = IsPermutation-refl []
+moved_permuted alone text (g ∷ gs) = elim (cases_Bool (bytes_eq text g.0)) [
+  | inl e ↦ elim (cases_Bool (alone g.1)) [
+    | inl a ↦ rw (e, a) (IsPermutation-append_comm (g ∷ []) gs)
+    | inr a ↦ rw (e, a) (IsPermutation-refl (g ∷ gs))
+  ]
+  | inr e ↦ rw e (IsPermutation-cons g gs (moved_to_end_if alone text gs) (moved_permuted alone text gs))
+]
+
+-- so there are as many of what is listed of each
+count_listed : {A T : Type 0} (list : A → List T) (xs ys : List A) → IsPermutation xs ys → length (flat_map list ys) ≡ length (flat_map list xs)
+count_listed list xs ys moved = length-flat_map list ys ∙ sum_by-IsPermutation (λ x. length (list x)) xs ys moved ∙ sym (length-flat_map list xs)
 
 -- after a group is moved to the end
 pub count_moved : (alone : List Item → Bool) (text : List ℕ) (ps : ItemPaths) → path_count (moved_to_end_if alone text ps) ≡ path_count ps
-count_moved alone text [] = refl
-count_moved alone text (p ∷ ps) = elim (cases_Bool (bytes_eq text p.0)) [
-  | inl e ↦ elim (cases_Bool (alone p.1)) [
-    | inl a ↦ rw (e, a) (count_last ps p ∙ sym (count_cons p.0 p.1 ps))
-    | inr a ↦ rw (e, a) refl
-  ]
-  | inr e ↦ rw e (omega (arith, count_cons p.0 p.1 (moved_to_end_if alone text ps), count_cons p.0 p.1 ps, count_moved alone text ps))
-]
+count_moved alone text ps = count_listed (λ (p : List ℕ × List Item). p.1) ps (moved_to_end_if alone text ps) (moved_permuted alone text ps)
 
 -- a filter leaves no more
 pub fewer : {T : Type 0} (test : T → Bool) (xs : List T) → length (filter test xs) ≤ length xs
-fewer test [] = omega arith
-fewer test (x ∷ xs) = elim (cases_Bool (test x)) [ inl e ↦ rw e (omega (arith, fewer test xs)) | inr e ↦ rw e (omega (arith, fewer test xs)) ]
+fewer test xs = length_leaves xs (filter test xs) (leaves_filter test xs)
 
 -- the rows of a group that may be empty, and of others
 pub rows_unless : (text : List ℕ) (xs : List Item) (ps : ItemPaths) → items_in_paths (unless_empty text xs ps) ≡ xs ++ items_in_paths ps
@@ -76,7 +72,7 @@ count_filtered test [] = omega arith
 count_filtered test (p ∷ ps) =
     let rest = filter_paths test ps in
     let all : path_count (filter_paths test (p ∷ ps)) ≡ length (filter test p.1) + path_count rest
-    = ap path_count (passing_kept test p ps) ∙ ap length (rows_unless p.0 (filter test p.1) rest) ∙ length-append (filter test p.1) (items_in_paths rest) in
+    = ap path_count (parted_first (filter test) p ps) ∙ ap length (rows_unless p.0 (filter test p.1) rest) ∙ length-append (filter test p.1) (items_in_paths rest) in
     omega (arith, all, count_cons p.0 p.1 ps, fewer test p.1, count_filtered test ps)
 
 -- so when rows are evicted for a new one there is at most one more
@@ -91,21 +87,9 @@ group_count gs = length (items_in_groups gs)
 groups_cons : (d : List ℕ) (ps : ItemPaths) (gs : ItemGroups) → group_count ((d, ps) ∷ gs) ≡ path_count ps + group_count gs
 groups_cons d ps gs = length-append (items_in_paths ps) (items_in_groups gs)
 
--- a domain at the end
-groups_last : (gs : ItemGroups) (g : List ℕ × ItemPaths) → group_count (gs ++ g ∷ []) ≡ path_count g.1 + group_count gs
-groups_last [] g = groups_cons g.0 g.1 []
-groups_last (h ∷ gs) g = omega (arith, groups_cons h.0 h.1 (gs ++ g ∷ []), groups_cons h.0 h.1 gs, groups_last gs g)
-
 -- after a domain is moved to the end
 pub groups_moved : (alone : ItemPaths → Bool) (text : List ℕ) (gs : ItemGroups) → group_count (moved_to_end_if alone text gs) ≡ group_count gs
-groups_moved alone text [] = refl
-groups_moved alone text (g ∷ gs) = elim (cases_Bool (bytes_eq text g.0)) [
-  | inl e ↦ elim (cases_Bool (alone g.1)) [
-    | inl a ↦ rw (e, a) (groups_last gs g ∙ sym (groups_cons g.0 g.1 gs))
-    | inr a ↦ rw (e, a) refl
-  ]
-  | inr e ↦ rw e (omega (arith, groups_cons g.0 g.1 (moved_to_end_if alone text gs), groups_cons g.0 g.1 gs, groups_moved alone text gs))
-]
+groups_moved alone text gs = count_listed (λ (g : List ℕ × ItemPaths). items_in_paths g.1) gs (moved_to_end_if alone text gs) (moved_permuted alone text gs)
 
 -- after a new row is stored
 pub groups_put : (row : Row) (n : ℕ) (gs : ItemGroups) → find_items (key_of row) gs ≡ None → group_count (put_items row n gs) ≡ group_count gs + 1

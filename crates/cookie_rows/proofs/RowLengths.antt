@@ -1,33 +1,30 @@
 -- How many rows there are after a change.
-use Rattle.std.proofs.Common.{◌≡◌, ℕ, ◌+◌, Bool, true, false, List, [], ◌∷◌, find, length, map, refl, sym, ◌∙◌, ap, inl, inr, None, Option, Some, arith, length-append}
-use Rattle.std.specs.Prelude.{◌≢◌, is_some, String}
-use Rattle.std.specs.List.{list_any}
+use Rattle.std.proofs.Common.{◌≡◌, ℕ, ◌+◌, ◌<◌, ◌≤◌, Bool, eqb, true, false, List, [], ◌∷◌, find, length, map, refl, sym, ◌∙◌, ap, subst, inl, inr, None, Option, Some, arith, length-append}
+use Rattle.std.specs.Prelude.{◌≢◌, is_some, nat_eq, String}
+use Rattle.std.specs.List.{AllByRecursion, list_any}
 use Rattle.std.specs.Map.{values_of}
-use Rattle.std.proofs.lemmas.Bool.{cases_Bool}
+use Rattle.std.proofs.lemmas.Bool.{cases_Bool, or_cases}
+use Rattle.std.proofs.lemmas.Bool.Decides.{nat_tests}
 use Rattle.std.proofs.lemmas.List.{length-map}
+use Rattle.std.proofs.lemmas.Map.Steps.{length-le_from_distinct_below}
 use Rattle.ordered_map.specs.Entries.{in_order}
 use Rattle.cookie_parts.specs.Cookie.{Row, expired_row}
 use Rattle.cookie_laws.specs.Rows.{Key, after_last, changed, has_key, in_domain, in_group, key_of, placed, put, removed, row_of}
 use Rattle.cookie_lookup.specs.Groups.{flat, flat_paths}
 use Rattle.cookie_lookup.specs.Positions.{paths_in_order}
 use Rattle.cookie_rows.specs.GroupChanges.{texts_by}
-use Rattle.cookie_rows.specs.Items.{AreItems, Item, ItemGroups, ItemPaths, bare, bare_paths, expire_items, find_items, joined, put_items, remove_items, rows_of}
+use Rattle.cookie_rows.specs.Items.{AreItems, Item, ItemGroups, ItemPaths, bare, bare_paths, expire_items, find_items, joined, numbered, put_items, remove_items, rows_of}
 use Rattle.cookie_rows.specs.Least.{items_in_groups, items_in_paths}
 use Rattle.cookie_rows.specs.Stored.{StoredPaths, all_stored}
+use Rattle.cookie_rows.proofs.AfterLast.{none_passes}
 use Rattle.cookie_rows.proofs.AreItems.{found_items, kept_expired, kept_put, kept_removed}
 use Rattle.cookie_rows.proofs.Joined.{joined_is}
+use Rattle.cookie_rows.proofs.Keyed.{keys_groups}
+use Rattle.cookie_rows.proofs.Ordered.{distinct_from_differ}
 
 -- items that pass a test
 
 module _ {T : Type 0} (test : T → Bool) where
-  -- if none is found, none passes
-  none_passes : (xs : List T) → find test xs ≡ None → list_any test xs ≡ false
-  none_passes [] none = refl
-  none_passes (x ∷ xs) none = elim (cases_Bool (test x)) [
-    | inl e ↦ let found = rw e at none in absurd (cc)
-    | inr e ↦ rw e (none_passes xs (rw e at none))
-  ]
-
   -- if one is found, one passes
   some_passes : (xs : List T) → find test xs ≢ None → list_any test xs ≡ true
   some_passes [] some = absurd (some refl)
@@ -81,6 +78,22 @@ length-stored : (rows : List Row) (row : Row) → row_of (key_of row) rows ≢ N
 length-stored rows row some = rw (some_passes (has_key (key_of row)) rows some) (length-changed (has_key (key_of row)) (λ _. row) rows)
 
 -- rows in groups
+
+-- there are no more rows than numbers
+pub few_rows : (n : ℕ) (gs : ItemGroups) → AreItems n gs → length (flat (bare gs)) ≤ n
+few_rows n gs a =
+    let numbers : List ℕ = map (λ x. x.1) (numbered gs) in
+    let same : length (flat (bare gs)) ≡ length numbers =
+    sym (length-map (flat (bare gs)) key_of) ∙ ap length (keys_groups gs a.0.1) ∙ length-map (numbered gs) (λ x. x.0) ∙ sym (length-map (numbered gs) (λ x. x.1)) in
+    subst (λ k. k ≤ n) (sym same) (length-le_from_distinct_below numbers n (distinct_from_differ nat_eq numbers a.3) (below_each (numbered gs) a.2))
+  where
+    -- each number is below
+    below_each : (xs : List (Key × ℕ)) → AllByRecursion (λ x. x.1 < n) xs → (q : ℕ) → list_any (eqb q) (map (λ x. x.1) xs) ≡ true → q < n
+    below_each [] b q is = absurd (cc)
+    below_each (x ∷ xs) b q is = elim (or_cases (eqb q x.1) _ is) [
+      | inl e ↦ let same : q ≡ x.1 = grind (arith, nat_tests, e) in subst (λ k. k < n) (sym same) b.0
+      | inr e ↦ below_each xs b.1 q e
+    ]
 
 -- the number of rows
 abbrev pub row_count : ItemGroups → ℕ

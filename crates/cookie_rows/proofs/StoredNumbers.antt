@@ -1,34 +1,20 @@
 -- The numbered keys of groups as they are stored are those of the groups in order.
-use Rattle.std.proofs.Common.{◌≡◌, ℕ, Bool, true, false, ◌||◌, List, [], ◌∷◌, map, nat_le, refl, sym, ◌∙◌, ap, ap₂, inl, inr, String}
+use Rattle.std.proofs.Common.{◌≡◌, ℕ, Bool, ◌||◌, List, [], ◌∷◌, map, refl, sym, ◌∙◌, ap, ap₂, String}
 use Rattle.std.specs.Prelude.{string_bytes}
 use Rattle.std.specs.List.{flat_map, list_any}
 use Rattle.std.specs.declared.alloc.Global.{Global}
-use Rattle.std.proofs.lemmas.Bool.{cases_Bool}
 use Rattle.std.proofs.lemmas.List.Folds.{flat_map-map, list_any-append}
-use Rattle.ordered_map.specs.Entries.{Ordered, by_place, entries, in_order, insert_by_place}
+use Rattle.std.proofs.lemmas.List.Sorted.{list_any-IsPermutation}
+use Rattle.ordered_map.specs.Entries.{Ordered, entries, in_order}
+use Rattle.ordered_map.proofs.ByPlace.{in_order_permuted}
 use Rattle.cookie_laws.specs.Rows.{Key, key_at}
 use Rattle.cookie_lookup.specs.Positions.{groups_by_position, paths_by_position, paths_in_order}
 use Rattle.cookie_rows.specs.Items.{Item, ItemPaths, numbered, numbered_names, numbered_paths}
 use Rattle.cookie_rows.specs.Stored.{StoredItems, StoredPaths, domains_in, stored_in}
 
--- the order of two tests does not matter
-swapped : (a b c : Bool) → (a || (b || c)) ≡ (b || (a || c))
-swapped true true c = refl
-swapped true false c = refl
-swapped false b c = refl
-
-module _ {X : Type 0} (test : X → Bool) where
-  any_insert : (x : ℕ × X) (ys : List (ℕ × X)) → list_any test (map (λ y. y.1) (insert_by_place x ys)) ≡ (test x.1 || list_any test (map (λ y. y.1) ys))
-  any_insert x [] = refl
-  any_insert x (y ∷ ys) = elim (cases_Bool (nat_le x.0 y.0)) [
-    | inl t ↦ rw t refl
-    | inr t ↦ rw t (ap (λ b. test y.1 || b) (any_insert x ys) ∙ swapped (test y.1) (test x.1) (list_any test (map (λ z. z.1) ys)))
-  ]
-
-  -- a test passes at an element in order if it does at one as stored
-  any_in_order : (xs : List (ℕ × X)) → list_any test (in_order xs) ≡ list_any test (map (λ x. x.1) xs)
-  any_in_order [] = refl
-  any_in_order (x ∷ xs) = any_insert x (by_place xs) ∙ ap (λ b. test x.1 || b) (any_in_order xs)
+-- a test passes at an element in order if it does at one as stored
+any_in_order : {X : Type 0} (test : X → Bool) (xs : List (ℕ × X)) → list_any test (in_order xs) ≡ list_any test (map (λ x. x.1) xs)
+any_in_order test xs = sym (list_any-IsPermutation test (map (λ x. x.1) xs) (in_order xs) (in_order_permuted xs))
 
 module _ {B : Type 0} (test : B → Bool) where
   -- at an element of one of the lists if it does at one of all

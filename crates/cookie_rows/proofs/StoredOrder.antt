@@ -58,26 +58,6 @@ indexed_contents n (x ∷ xs) = ap (λ ys. x ∷ ys) (indexed_contents (suc n) x
 pub indexed_in_order : {X : Type 0} (n : ℕ) (xs : List X) → in_order (indexed n xs) ≡ xs
 indexed_in_order n xs = ap (map (λ x. x.1)) (indexed_by_place n xs) ∙ indexed_contents n xs
 
--- no element is lost
-
-insert_length : {X : Type 0} (x : ℕ × X) (ys : List (ℕ × X)) → length (insert_by_place x ys) ≡ suc (length ys)
-insert_length x [] = refl
-insert_length x (y ∷ ys) = elim (cases_Bool (nat_le x.0 y.0)) [
-  | inl t ↦ rw t refl
-  | inr t ↦ rw t (ap suc (insert_length x ys))
-]
-
-by_place_length : {X : Type 0} (xs : List (ℕ × X)) → length (by_place xs) ≡ length xs
-by_place_length [] = refl
-by_place_length (x ∷ xs) = insert_length x (by_place xs) ∙ ap suc (by_place_length xs)
-
-contents_length : {X : Type 0} (xs : List (ℕ × X)) → length (map (λ x. x.1) xs) ≡ length xs
-contents_length [] = refl
-contents_length (x ∷ xs) = ap suc (contents_length xs)
-
-pub in_order_length : {X : Type 0} (xs : List (ℕ × X)) → length (in_order xs) ≡ length xs
-in_order_length xs = contents_length (by_place xs) ∙ by_place_length xs
-
 -- the maps in order
 
 -- the entries of a map

@@ -127,9 +127,3 @@ pub single_there : (ps : StoredPaths) (names : StoredItems) → length ps ≡ 1 
 single_there [] names one there = absurd (cc)
 single_there (p ∷ []) names one there = let same : names ≡ p.1.1 = cc in ap (λ (items : StoredItems). length (in_order items) == 1) same
 single_there (p ∷ q ∷ ps) names one there = absurd (omega (arith, one))
-
--- no or several groups are not single
-pub not_single : (ps : ItemPaths) → length ps ≢ 1 → false ≡ is_single_paths ps
-not_single [] other = refl
-not_single (p ∷ []) other = absurd (other refl)
-not_single (p ∷ q ∷ ps) other = refl

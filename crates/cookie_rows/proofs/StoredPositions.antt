@@ -10,7 +10,7 @@ use Rattle.cookie_lookup.specs.Positions.{groups_by_position, paths_by_position,
 use Rattle.cookie_rows.specs.Items.{Item, ItemGroups, bare, rows_of}
 use Rattle.cookie_rows.specs.Stored.{StoredGroups, StoredItems, StoredPaths, placed_groups, placed_paths, stored_in}
 use Rattle.cookie_rows.proofs.Places.{bare_rows}
-use Rattle.cookie_rows.proofs.StoredOrder.{in_order_length}
+use Rattle.ordered_map.proofs.ByPlace.{length_in_order}
 use Rattle.cookie_rows.proofs.StoredPaths.{stored_position, stored_texts}
 
 -- The entries of a map of domains, by position.
@@ -63,7 +63,7 @@ no_place_at (p ∷ ps) (suc n) none = no_place_at ps n none
 
 -- there are as many domains as entries
 pub domains_counted : {S : Type 0} (m : Ordered StoredPaths S) → length (entries m) ≡ length (bare (groups_by_position (stored_in m)))
-domains_counted m = in_order_length m.by_position ∙ as_many m.by_position
+domains_counted m = length_in_order m.by_position ∙ as_many m.by_position
   where
     as_many : (ps : Stored) → length ps ≡ length (bare (groups_by_position (stored_texts ps)))
     as_many [] = refl

@@ -1,6 +1,6 @@
 -- A row is inserted into groups from which others are evicted. It is stored before the others are evicted, so its
 -- groups are moved to the end if it is alone in them.
-use Rattle.std.proofs.Common.{◌≡◌, ℕ, ◌+◌, ◌<◌, ◌==◌, Bool, true, false, cond, List, [], ◌∷◌, ◌++◌, length, map, filter, refl, sym, ◌∙◌, ap, subst, inl, inr, bytes_eq, Option, None, arith}
+use Rattle.std.proofs.Common.{◌≡◌, ℕ, ◌+◌, ◌<◌, ◌==◌, Bool, true, false, List, [], ◌∷◌, ◌++◌, length, map, option_map, filter, find, refl, sym, ◌∙◌, ap, inl, inr, bytes_eq, None, arith}
 use Rattle.std.specs.List.{AllByRecursion, list_any}
 use Rattle.std.proofs.lemmas.Bool.{cases_Bool}
 use Rattle.std.proofs.lemmas.Bool.Decides.{nat_tests}
@@ -8,12 +8,16 @@ use Rattle.std.proofs.lemmas.List.{length_push}
 use Rattle.std.proofs.lemmas.Slice.Eq.{bytes_eq-Decides}
 use Rattle.cookie_parts.specs.Cookie.{Row}
 use Rattle.cookie_parts.specs.Domain.{domain_text}
-use Rattle.cookie_laws.specs.Rows.{differ, key_of}
-use Rattle.cookie_rows.specs.GroupChanges.{changed_at, found, is_named, unless_empty, lessened_at, put_at, row_named}
+use Rattle.cookie_laws.specs.Rows.{differ, key_at, key_of}
+use Rattle.cookie_rows.specs.GroupChanges.{changed_at, is_named, unless_empty, lessened_at, put_at, row_named}
 use Rattle.cookie_rows.specs.Items.{Item, ItemGroups, ItemPaths, find_item_paths, find_items, put_item, put_item_paths, put_items, rows_of}
-use Rattle.cookie_rows.specs.Eviction.{insert_in_domains, insert_in_paths, is_filled, is_single, is_single_paths, filter_paths, moved_to_end_if}
-use Rattle.cookie_rows.proofs.Members.{absent}
-use Rattle.cookie_rows.proofs.NumberedPuts.{PathsDiffer, TextsDiffer}
+use Rattle.cookie_rows.specs.Eviction.{insert_in_domains, insert_in_paths, is_single, is_single_paths, filter_paths, moved_to_end_if}
+use Rattle.cookie_rows.proofs.AfterLast.{none_passes, nothing_seen}
+use Rattle.cookie_rows.proofs.FilteredGroups.{keyed_filtered_in, names_parted, parted_filled, parted_first}
+use Rattle.cookie_rows.proofs.Flat.{absent, find_none}
+use Rattle.cookie_rows.proofs.Keyed.{Keyed, PathsDiffer, TextsDiffer, keyed_paths}
+use Rattle.cookie_rows.proofs.KeyedChanges.{found_paths, of_key}
+use Rattle.cookie_rows.proofs.Leaves.{differ_leaves, leaves_filter, leaves_map, none_leaves}
 
 -- a list that begins with something is not empty
 some_is : {T : Type 0} (x : T) (xs : List T) → (length (x ∷ xs) == 0) ≡ false
@@ -77,11 +81,6 @@ module _ {X : Type 0} where
       | inr e ↦ let after : differ bytes_eq (map (λ g. g.0) gs) ≡ true = grind (arith, d) in rw (e, e) (ap (λ hs. g ∷ hs) (put_where_left_at gs after (is.1 e)))
     ]
 
-    -- if an added item is alone in any group that was emptied, and in no other
-    pub put_where_left : ((xs : List X) → alone (put (leave xs)) ≡ (length (leave xs) == 0)) → (gs : List (List ℕ × List X)) → differ bytes_eq (map (λ g. g.0) gs) ≡ true
-        → put_at put text (lessened_at leave text gs) ≡ moved_to_end_if alone text (put_at (λ xs. put (leave xs)) text gs)
-    put_where_left is gs d = put_where_left_at gs d (at_any (λ xs. alone (put (leave xs)) ≡ (length (leave xs) == 0)) is text gs)
-
   -- putting a group and then changing it is one `put_at`
   changed_put : (f put both : List X → List X) (text : List ℕ) (gs : List (List ℕ × List X)) → both [] ≡ f (put []) → AtText (λ xs. both xs ≡ f (put xs)) text gs → put_at both text gs ≡ changed_at f text (put_at put text gs)
   changed_put f put both text [] is holds = let same : bytes_eq text text ≡ true = (bytes_eq-Decides text text).1 refl in rw same (ap (λ xs. (text, xs) ∷ []) is)
@@ -90,85 +89,25 @@ module _ {X : Type 0} where
     | inr e ↦ rw (e, e) (ap (λ hs. g ∷ hs) (changed_put f put both text gs is (holds.1 e)))
   ]
 
-  -- nothing is found under a name that no group has
-  found_absent : (f : List X → Option Row) (text : List ℕ) (gs : List (List ℕ × List X)) → list_any (bytes_eq text) (map (λ g. g.0) gs) ≡ false → found f text gs ≡ None
-  found_absent f text [] none = refl
-  found_absent f text (g ∷ gs) none =
-      let other : bytes_eq text g.0 ≡ false = grind (arith, none) in
-      let rest : list_any (bytes_eq text) (map (λ g. g.0) gs) ≡ false = grind (arith, none) in
-      rw other (found_absent f text gs rest)
-
-  -- a name that is not among others is not among them with one more that may be dropped
-  absent_kept : (text t : List ℕ) (xs : List X) (gs : List (List ℕ × List X)) → bytes_eq text t ≡ false → list_any (bytes_eq text) (map (λ g. g.0) gs) ≡ false → list_any (bytes_eq text) (map (λ g. g.0) (unless_empty t xs gs)) ≡ false
-  absent_kept text t [] gs e none = none
-  absent_kept text t (x ∷ xs) gs e none = rw e none
-
 -- items that pass a test
 
 module _ (test : Item → Bool) where
-  -- a group is kept if something in it passes
-  pub passing_kept : (p : List ℕ × List Item) (ps : ItemPaths) → filter_paths test (p ∷ ps) ≡ unless_empty p.0 (filter test p.1) (filter_paths test ps)
-  passing_kept p ps = filled_kept p.0 (filter test p.1) (filter_paths test ps)
-    where
-      -- the same of any group
-      filled_kept : (t : List ℕ) (xs : List Item) (qs : ItemPaths) → cond (is_filled (t, xs)) ((t, xs) ∷ qs) qs ≡ unless_empty t xs qs
-      filled_kept t [] qs = refl
-      filled_kept t (x ∷ xs) qs = refl
-
-  -- so there is something in each group
-  pub passing_filled : (ps : ItemPaths) → AllByRecursion (λ p. 0 < length p.1) (filter_paths test ps)
-  passing_filled [] = tt
-  passing_filled (p ∷ ps) = subst (AllByRecursion (λ p. 0 < length p.1)) (sym (passing_kept p ps)) (filled_all p.0 (filter test p.1) (filter_paths test ps) (passing_filled ps))
-    where
-      -- the same with a group in front, if there is something in it
-      filled_all : (t : List ℕ) (xs : List Item) (qs : ItemPaths) → AllByRecursion (λ p. 0 < length p.1) qs → AllByRecursion (λ p. 0 < length p.1) (unless_empty t xs qs)
-      filled_all t [] qs a = a
-      filled_all t (x ∷ xs) qs a = (omega arith, a)
-
-  -- a name that was not there is still not there
-  absent_passing : (text : List ℕ) (ps : ItemPaths) → list_any (bytes_eq text) (map (λ p. p.0) ps) ≡ false → list_any (bytes_eq text) (map (λ p. p.0) (filter_paths test ps)) ≡ false
-  absent_passing text [] none = refl
-  absent_passing text (p ∷ ps) none =
-      let other : bytes_eq text p.0 ≡ false = grind (arith, none) in
-      let rest : list_any (bytes_eq text) (map (λ p. p.0) ps) ≡ false = grind (arith, none) in
-      ap (λ qs. list_any (bytes_eq text) (map (λ p. p.0) qs)) (passing_kept p ps)
-      ∙ absent_kept text p.0 (filter test p.1) (filter_paths test ps) other (absent_passing text ps rest)
-
-  -- nor is a name
+  -- a name that no row has
   none_filtered : (name : List ℕ) (xs : List Item) → row_named name (rows_of xs) ≡ None → row_named name (rows_of (filter test xs)) ≡ None
-  none_filtered name [] none = refl
-  none_filtered name (x ∷ xs) none = elim (cases_Bool (is_named name x.row)) [
-    | inl e ↦ let none' = rw e at none in absurd (cc)
-    | inr e ↦ let none' = rw e at none in elim (cases_Bool (test x)) [
-      | inl t ↦ rw (t, e) (none_filtered name xs none')
-      | inr t ↦ rw t (none_filtered name xs none')
-    ]
-  ]
+  none_filtered name xs none =
+      let left = leaves_map (λ (x : Item). x.row) xs (filter test xs) (leaves_filter test xs) in
+      find_none (is_named name) (rows_of (filter test xs)) (none_leaves (is_named name) (rows_of xs) (rows_of (filter test xs)) left (none_passes (is_named name) (rows_of xs) none))
 
-  -- nor a row of a path and a name
-  pub none_passing : (path name : List ℕ) (ps : ItemPaths) → differ bytes_eq (map (λ p. p.0) ps) ≡ true → find_item_paths path name ps ≡ None → find_item_paths path name (filter_paths test ps) ≡ None
-  none_passing path name [] d none = refl
-  none_passing path name (p ∷ ps) d none = elim (cases_Bool (bytes_eq path p.0)) [
-    | inl e ↦
-        let here = rw e at none in
-        let others = absent_passing path ps (absent p.0 (map (λ p. p.0) ps) path e d) in
-        ap (find_item_paths path name) (passing_kept p ps)
-        ∙ in_kept (filter test p.1) e (none_filtered name p.1 here) (found_absent (λ items. row_named name (rows_of items)) path (filter_paths test ps) others)
-    | inr e ↦
-        let rest = rw e at none in
-        let after : differ bytes_eq (map (λ p. p.0) ps) ≡ true = grind (arith, d) in
-        ap (find_item_paths path name) (passing_kept p ps) ∙ past_kept (filter test p.1) e (none_passing path name ps after rest)
-  ]
-    where
-      -- neither in a group nor behind it
-      in_kept : (xs : List Item) → bytes_eq path p.0 ≡ true → row_named name (rows_of xs) ≡ None → find_item_paths path name (filter_paths test ps) ≡ None → find_item_paths path name (unless_empty p.0 xs (filter_paths test ps)) ≡ None
-      in_kept [] e here others = others
-      in_kept (x ∷ xs) e here others = rw e here
-
-      -- not behind a group of another path
-      past_kept : (xs : List Item) → bytes_eq path p.0 ≡ false → find_item_paths path name (filter_paths test ps) ≡ None → find_item_paths path name (unless_empty p.0 xs (filter_paths test ps)) ≡ None
-      past_kept [] e others = others
-      past_kept (x ∷ xs) e others = rw e others
+  -- and a path and a name
+  none_passing : (path name : List ℕ) (ps : ItemPaths) → PathsDiffer ps → find_item_paths path name ps ≡ None → find_item_paths path name (filter_paths test ps) ≡ None
+  none_passing path name ps d none =
+      let key = key_at [] path name in
+      let items = keyed_paths [] ps in
+      let left : List Keyed = filter (λ e. test e.1) items in
+      let nothing = nothing_seen (λ (e : Keyed). e.1.row) (find (of_key key) items) (sym (found_paths key [] ps refl d) ∙ none) in
+      found_paths key [] (filter_paths test ps) refl (differ_leaves bytes_eq (map (λ p. p.0) ps) (map (λ p. p.0) (filter_paths test ps)) (names_parted (filter test) ps) d)
+      ∙ ap (λ es. option_map (λ (e : Keyed). e.1.row) (find (of_key key) es)) (keyed_filtered_in test [] ps)
+      ∙ ap (option_map (λ (e : Keyed). e.1.row)) (find_none (of_key key) left (none_leaves (of_key key) items left (leaves_filter (λ e. test e.1) items) (none_passes (of_key key) items nothing)))
 
 -- a row is stored
 
@@ -229,32 +168,32 @@ module _ (row : Row) (n : ℕ) where
     put_passing (p ∷ ps) d none = elim (cases_Bool (bytes_eq row.path.text p.0)) [
       | inl e ↦
           let here = rw e at none in
-          let others = absent_passing test row.path.text ps (absent p.0 (map (λ p. p.0) ps) row.path.text e d) in
-          ap (put_item_paths row n) (passing_kept test p ps)
+          let others = none_leaves (bytes_eq row.path.text) (map (λ p. p.0) ps) (map (λ p. p.0) (filter_paths test ps)) (names_parted (filter test) ps) (absent p.0 (map (λ p. p.0) ps) row.path.text e d) in
+          ap (put_item_paths row n) (parted_first (filter test) p ps)
           ∙ put_kept (put_item row n) is_single row.path.text p.0 (filter test p.1) (filter_paths test ps) e others (put_item_alone (filter test p.1) (none_filtered test row.raw.name p.1 here))
           ∙ ap (moved_to_end_if is_single row.path.text) (sym (in_front here e))
       | inr e ↦
           let rest = rw e at none in
           let after : differ bytes_eq (map (λ p. p.0) ps) ≡ true = grind (arith, d) in
-          ap (put_item_paths row n) (passing_kept test p ps)
+          ap (put_item_paths row n) (parted_first (filter test) p ps)
           ∙ put_past (put_item row n) is_single row.path.text p.0 (filter test p.1) (filter_paths test ps) (filter_paths test (put_item_paths row n ps)) e (put_passing ps after rest)
           ∙ ap (moved_to_end_if is_single row.path.text) (sym (behind e))
     ]
       where
         -- it was put into the first group
         in_front : row_named row.raw.name (rows_of p.1) ≡ None → bytes_eq row.path.text p.0 ≡ true → filter_paths test (put_item_paths row n (p ∷ ps)) ≡ (p.0, put_item row n (filter test p.1)) ∷ filter_paths test ps
-        in_front here e = rw e (passing_kept test (p.0, put_item row n p.1) ps ∙ ap (λ xs. unless_empty p.0 xs (filter_paths test ps)) (filter_put p.1 here) ∙ kept_put p.0 (filter test p.1) (filter_paths test ps))
+        in_front here e = rw e (parted_first (filter test) (p.0, put_item row n p.1) ps ∙ ap (λ xs. unless_empty p.0 xs (filter_paths test ps)) (filter_put p.1 here) ∙ kept_put p.0 (filter test p.1) (filter_paths test ps))
 
         -- or behind it
         behind : bytes_eq row.path.text p.0 ≡ false → filter_paths test (put_item_paths row n (p ∷ ps)) ≡ unless_empty p.0 (filter test p.1) (filter_paths test (put_item_paths row n ps))
-        behind e = rw e (passing_kept test p (put_item_paths row n ps))
+        behind e = rw e (parted_first (filter test) p (put_item_paths row n ps))
 
     -- in its domain it is alone if all others are evicted
     left_alone : (gs : ItemGroups) → AllByRecursion (λ g. PathsDiffer g.1) gs → find_items (key_of row) gs ≡ None
         → AtText (λ ps. is_single_paths (put_item_paths row n (filter_paths test ps)) ≡ (length (filter_paths test ps) == 0)) (domain_text row.domain) gs
     left_alone [] d none = tt
     left_alone (g ∷ gs) d none = (
-      λ e. put_paths_alone (filter_paths test g.1) (passing_filled test g.1) (none_passing test row.path.text row.raw.name g.1 d.0 (rw e at none)),
+      λ e. put_paths_alone (filter_paths test g.1) (parted_filled (filter test) g.1) (none_passing test row.path.text row.raw.name g.1 d.0 (rw e at none)),
       λ e. left_alone gs d.1 (rw e at none),
     )
 

@@ -151,13 +151,6 @@ module _ (q : List ℕ) (item : Item) (old new : ItemPaths) (takes : TakesAt q i
 pub takes_there : (item : Item) (old : ItemPaths) {q text : List ℕ} {mid new : ItemPaths} → q ≡ text → new ≡ mid → TakesAt q item old mid → TakesAt text item old new
 takes_there item old {q} {text} {mid} {new} key same takes = subst (λ t. TakesAt t item old new) key (subst (TakesAt q item old) (sym same) takes)
 
--- of a single group
-pub single_left : (own : List ℕ) (group left : List Item) (item : Item) → TakesOut item group left → (length left == 0) ≡ false → RemovesAt item ((own, group) ∷ []) ((own, left) ∷ [])
-single_left own group left item takes some = (own, [], [], group, left, takes, refl, some_kept own left [] some)
-
-pub single_gone : (own : List ℕ) (group left : List Item) (item : Item) → TakesOut item group left → (length left == 0) ≡ true → RemovesAt item ((own, group) ∷ []) []
-single_gone own group left item takes none = (own, [], [], group, left, takes, refl, none_kept own left [] none)
-
 -- the row at a position of a map
 
 module _ (row : ℕ) (text : List ℕ) (item : Item) where

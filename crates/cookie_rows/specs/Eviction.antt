@@ -37,23 +37,23 @@ unexpired_class SecureLast row = if is_secure_only row.raw then 2 else 1
 abbrev pub class_of : EvictionOrder → Moment → Row → ℕ
 class_of order now row = if is_expired now row then 0 else unexpired_class order row
 
--- the place of a row in eviction order: by class, then by creation
+-- a rank in eviction order: by class, then by creation
 abbrev pub EvictionRank : Type 0
 EvictionRank = ℕ × ℕ
 
--- the place of a row in eviction order at this time
+-- the rank of a row at this time
 abbrev pub rank_of : EvictionOrder → Moment → Item → EvictionRank
 rank_of order now item = (class_of order now item.row, item.number)
 
--- the comparison of two places
+-- the comparison of two ranks
 abbrev pub rank_cmp : EvictionRank → EvictionRank → Ordering
 rank_cmp a b = ordering_then (nat_cmp a.0 b.0) (nat_cmp a.1 b.1)
 
--- one place comes before another
+-- one rank comes before another
 abbrev pub comes_before : EvictionRank → EvictionRank → Bool
 comes_before a b = is_lt (rank_cmp a b)
 
--- the places of the rows of a domain
+-- the ranks of the rows of a domain
 abbrev pub ranks_of : EvictionOrder → Moment → ItemPaths → List EvictionRank
 ranks_of order now paths = flat_map (λ p. map (rank_of order now) p.1) paths
 
@@ -87,7 +87,7 @@ abbrev pub paths_of : List ℕ → ItemGroups → ItemPaths
 paths_of domain [] = []
 paths_of domain (g ∷ gs) = if bytes_eq domain g.0 then g.1 else paths_of domain gs
 
--- `first` is the first place that survives: the domain's places and that of a new row, `rank`, are
+-- `first` is the first rank that survives: the domain's ranks and that of a new row, `rank`, are
 -- sorted, and the last `limit` of them survive
 pub record IsFirstSurvivor (limit : ℕ) (order : EvictionOrder) (now : Moment) (rank : EvictionRank) (paths : ItemPaths) (first : EvictionRank) : Type 0 where
   pub ranks : List EvictionRank

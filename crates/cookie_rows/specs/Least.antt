@@ -24,7 +24,7 @@ abbrev pub AreNumbered : ItemPaths → Type 0
 AreNumbered paths =
     (differ nat_eq (map (λ item. item.number) (items_in_paths paths)) ≡ true) × AllByRecursion (λ p. 0 < length p.1) paths
 
--- no row comes before this place in eviction order
+-- no row comes before this rank in eviction order
 abbrev pub NoneBefore : EvictionOrder → Moment → EvictionRank → List Item → Type 0
 NoneBefore order now rank items = AllByRecursion (λ item. comes_before (rank_of order now item) rank ≡ false) items
 
@@ -39,7 +39,7 @@ stored_at paths path row = elim (slice_get (map (λ p. p.1) paths) path) [
 abbrev pub stored_items : StoredItems → List Item
 stored_items items = map (λ i. i.1) items
 
--- the row at the position of `least` has its place in eviction order, and no row of these groups comes before it; there is none if
+-- the row at the position of `least` has its rank in eviction order, and no row of these groups comes before it; there is none if
 -- there are no rows
 abbrev pub IsLeastOfGroups : EvictionOrder → Moment → List (List Item) → Option Least → Type 0
 IsLeastOfGroups order now groups None = joined groups ≡ []

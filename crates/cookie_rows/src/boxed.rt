@@ -95,7 +95,7 @@ impl BoxedCookie {
         self.inner.as_ref().number
     }
 
-    // The place in eviction order: by class, then by creation.
+    // The rank in eviction order: by class, then by creation.
     pub(crate) fn rank(&self, order: EvictionOrder, now: DateTime) -> (u8, u64)
         ensures { result ≡ rank_of order (moment_of now) self.now }
     {
@@ -125,7 +125,7 @@ impl BoxedCookie {
     }
 }
 
-// Appends each row's place in eviction order to `ranks`.
+// Appends each row's rank in eviction order to `ranks`.
 pub(crate) fn push_ranks(
     ranks: &mut Vec<(u8, u64)>,
     names: &Names,

@@ -8,7 +8,7 @@ use crate::names::Names;
 use crate::paths::Paths;
 use jiff::civil::DateTime;
 
-/// A row's position, of its path and among the rows of that, and its place in eviction order.
+/// A row's position, of its path and among the rows of that, and its rank in eviction order.
 #[derive(Clone, Copy)]
 pub(crate) struct Least {
     pub(crate) path: usize,

@@ -51,9 +51,9 @@ impl<'a> Search for MapSearch<'a> {
     fn path(&mut self, domain: usize, text: &str) -> Option<usize> {
         self.lookups.paths += 1;
         let (_, _, paths) = self.groups.at(domain)?;
-        let (place, names) = paths.find(text)?;
+        let (position, names) = paths.find(text)?;
         self.current = Some(names);
-        Some(place)
+        Some(position)
     }
 
     fn cookie(&self, row: usize) -> Option<&Cookie<'static>> {
@@ -168,7 +168,8 @@ fn sort_by_place(groups: &OrderedMap<Paths, HashKey>, positions: &mut Vec<(usize
     );
 }
 
-// Compares two positions by the places of their domains, and those of one domain by path and row.
+// Compares two positions by the places of their domains, and those of one domain by the places of
+// their paths, and of their rows.
 // For the checker, equal places are compared by position; there are none.
 fn compare(
     groups: &OrderedMap<Paths, HashKey>,

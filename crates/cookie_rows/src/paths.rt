@@ -283,7 +283,7 @@ impl Paths {
         Ok(evicted)
     }
 
-    // The same, but the group of the row's path keeps its position.
+    // The same, but the group of the row's path keeps its place.
     fn add_and_evict(
         &mut self,
         alloc: Global,
@@ -331,7 +331,7 @@ impl Paths {
         self.groups = without_row_at(groups, path, row);
     }
 
-    // Returns the place in eviction order of the first row that survives once this new row is
+    // Returns the rank in eviction order of the first row that survives once this new row is
     // added to at least `limit` rows, and the number of rows with the new one.
     fn first_survivor(
         &self,
@@ -354,7 +354,7 @@ impl Paths {
         Ok((*first, count))
     }
 
-    // The places of the rows in eviction order.
+    // The ranks of the rows in eviction order.
     fn ranks(
         &self,
         alloc: Global,

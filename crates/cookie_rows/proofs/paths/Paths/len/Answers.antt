@@ -3,7 +3,8 @@ use Rattle.std.specs.Prelude.{string_bytes}
 use Rattle.std.proofs.lemmas.List.{length-map}
 use Rattle.ordered_map.specs.Entries.{entries, in_order}
 use Rattle.cookie_rows.specs.declared.paths.PathMap.TheVariants as Groups
-use Rattle.cookie_rows.proofs.StoredOrder.{in_order_length, shown_groups}
+use Rattle.ordered_map.proofs.ByPlace.{length_in_order}
+use Rattle.cookie_rows.proofs.StoredOrder.{shown_groups}
 use Rattle.cookie_rows.proofs.paths.Paths.len.Goals as goal
 
 pub returns-in-Table-clause-in_order : goal.returns-in-Table-clause-in_order
@@ -15,4 +16,4 @@ returns-in-Table-clause-in_order c =
 pub returns-in-Table-clause-stored : goal.returns-in-Table-clause-stored
 returns-in-Table-clause-stored c =
     let now = c.args.self.now in
-    returns-in-Table-clause-in_order c ∙ length-map (in_order now) (λ p. (p.0, in_order p.1)) ∙ in_order_length now
+    returns-in-Table-clause-in_order c ∙ length-map (in_order now) (λ p. (p.0, in_order p.1)) ∙ length_in_order now

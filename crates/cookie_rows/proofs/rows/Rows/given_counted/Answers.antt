@@ -1,7 +1,7 @@
 use Rattle.std.proofs.Common.{None, subst, rules}
 use Rattle.cookie_laws.specs.Contents.{HasCreationOrder, contents_of}
 use Rattle.cookie_rows.specs.Stored.{domains_in}
-use Rattle.cookie_rows.proofs.AreCreationKeys.{created_once}
+use Rattle.cookie_rows.proofs.Created.{created_once}
 use Rattle.cookie_rows.proofs.rows.Rows.given_counted.Goals as goal
 
 pub returns-clause-has_creation_order : goal.returns-clause-has_creation_order

@@ -8,8 +8,7 @@ use Rattle.cookie_rows.specs.Stored.{domains_in}
 use Rattle.cookie_rows.proofs.AreItems.{found_items, items_put, kept_put}
 use Rattle.cookie_rows.proofs.Inserted.{items_inserted, kept_at_least_one, kept_inserted, kept_unlimited}
 use Rattle.cookie_rows.proofs.KeyClasses.{room_at_least_one}
-use Rattle.cookie_rows.proofs.RowLengths.{count_items, count_new, row_count}
-use Rattle.cookie_rows.proofs.UnexpiredItems.{few_rows}
+use Rattle.cookie_rows.proofs.RowLengths.{count_items, count_new, few_rows, row_count}
 use Rattle.cookie_rows.proofs.rows.Rows.insert_within_limit.Goals as goal
 
 pub add_row-requires : goal.add_row-requires

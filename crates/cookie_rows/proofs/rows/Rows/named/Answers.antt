@@ -2,7 +2,7 @@ use Rattle.std.proofs.Common.{◌∙◌, ap, None, subst}
 use Rattle.cookie_laws.specs.Contents.{HasCreationOrder, contents_of}
 use Rattle.cookie_laws.specs.Rows.{RowsInOrder, key_at, row_of}
 use Rattle.cookie_rows.specs.Stored.{domains_in}
-use Rattle.cookie_rows.proofs.AreCreationKeys.{created_once}
+use Rattle.cookie_rows.proofs.Created.{created_once}
 use Rattle.cookie_rows.proofs.AreItems.{found_items}
 use Rattle.cookie_rows.proofs.rows.Rows.named.Goals as goal
 

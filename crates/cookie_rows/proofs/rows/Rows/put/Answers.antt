@@ -6,8 +6,7 @@ use Rattle.cookie_rows.specs.Items.{AreItems, find_items, groups_in_order}
 use Rattle.cookie_rows.specs.Stored.{domains_in}
 use Rattle.cookie_rows.proofs.AreItems.{found_items, items_put, kept_put}
 use Rattle.cookie_rows.proofs.Results.{either_way}
-use Rattle.cookie_rows.proofs.RowLengths.{count_new, count_stored, none_unless, row_count}
-use Rattle.cookie_rows.proofs.UnexpiredItems.{few_rows}
+use Rattle.cookie_rows.proofs.RowLengths.{count_new, count_stored, few_rows, none_unless, row_count}
 use Rattle.cookie_rows.proofs.rows.Rows.put.Goals as goal
 
 pub overflow_add-self : goal.overflow_add-self

@@ -4,7 +4,8 @@ use Rattle.ordered_map.specs.Entries.{entries}
 use Rattle.cookie_laws.specs.Contents.{contents_of, retained, rows_in_order}
 use Rattle.cookie_laws.specs.Rows.{RowsInOrder}
 use Rattle.cookie_rows.specs.Stored.{domains_in}
-use Rattle.cookie_rows.proofs.RetainedItems.{fewer_retained, items_retained, kept_retained}
+use Rattle.cookie_rows.proofs.RetainedGroups.{fewer_retained, items_retained}
+use Rattle.cookie_rows.proofs.RetainedItems.{kept_retained}
 use Rattle.cookie_rows.proofs.RowLengths.{count_all}
 use Rattle.cookie_rows.proofs.rows.Rows.retain.Goals as goal
 
