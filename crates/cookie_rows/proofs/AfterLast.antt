@@ -57,10 +57,10 @@ none_passes test (x ∷ xs) none = elim (cases_Bool (test x)) [
   | inr e ↦ rw e (none_passes test xs (rw e at none))
 ]
 
--- nothing is seen of nothing
-pub nothing_seen : {A B : Type 0} (see : A → B) (o : Option A) → option_map see o ≡ None → o ≡ None
-nothing_seen see None e = refl
-nothing_seen see (Some x) e = absurd (cc)
+-- what has no view is nothing
+pub nothing_viewed : {A B : Type 0} (see : A → B) (o : Option A) → option_map see o ≡ None → o ≡ None
+nothing_viewed see None e = refl
+nothing_viewed see (Some x) e = absurd (cc)
 
 -- tests that agree
 

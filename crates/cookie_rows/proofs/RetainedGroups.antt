@@ -32,14 +32,14 @@ listed_unless list nothing text (x ∷ xs) gs = refl
 abbrev names : {Y : Type 0} → List (List ℕ × List Y) → List (List ℕ)
 names gs = map (λ g. g.0) gs
 
--- groups of any kind, of whose contents something is seen
+-- groups of any kind, and a view of their contents
 module _ {X Y : Type 0} (see : List X → List Y) where
   abbrev pub viewed : List (List ℕ × List X) → List (List ℕ × List Y)
   viewed gs = map (λ g. (g.0, see g.1)) gs
 
   -- the names differ, and Q holds of each group
-  abbrev pub AreSeen : (List ℕ × List Y → Type 0) → List (List ℕ × List X) → Type 0
-  AreSeen Q gs = (differ bytes_eq (names (viewed gs)) ≡ true) × AllByRecursion Q (viewed gs)
+  abbrev pub AreViewed : (List ℕ × List Y → Type 0) → List (List ℕ × List X) → Type 0
+  AreViewed Q gs = (differ bytes_eq (names (viewed gs)) ≡ true) × AllByRecursion Q (viewed gs)
 
 -- groups of any kind, of which each remains as `Retains` says
 
@@ -77,8 +77,8 @@ module _ {X : Type 0} (Retains : List X → List X → Type 0) where
           one_group text [] rest q a = a
           one_group text (x ∷ xs) rest q a = (q (omega arith), a)
 
-      pub seen_retained : (gs hs : List (List ℕ × List X)) → RetainsGroups Retains gs hs → AreSeen see Q gs → AreSeen see Q hs
-      seen_retained gs hs h a = (differ_leaves bytes_eq (names (viewed see gs)) (names (viewed see hs)) (names_retained gs hs h) a.0, all_retained gs hs h a.1)
+      pub viewed_retained : (gs hs : List (List ℕ × List X)) → RetainsGroups Retains gs hs → AreViewed see Q gs → AreViewed see Q hs
+      viewed_retained gs hs h a = (differ_leaves bytes_eq (names (viewed see gs)) (names (viewed see hs)) (names_retained gs hs h) a.0, all_retained gs hs h a.1)
 
 -- groups of rows
 
@@ -97,10 +97,10 @@ module _ (returns : Item → Bool → Type 0) where
   -- they are groups
   groups_retained : (gs hs : ItemGroups) → RetainsDomains returns gs hs → AreGroups (bare gs) → AreGroups (bare hs)
   groups_retained gs hs h a =
-      seen_retained (RetainsPaths returns) bare_paths (λ g. (0 < length g.1) × ArePaths g.0 g.1)
+      viewed_retained (RetainsPaths returns) bare_paths (λ g. (0 < length g.1) × ArePaths g.0 g.1)
       (λ d ps qs k some are. (
         omega (arith, some, length-map {B = List ℕ × List Row} qs (λ p. (p.0, rows_of p.1))),
-        seen_retained (RetainsItems returns) rows_of (λ p. (0 < length p.1) × AllByRecursion (HasDomainAndPath d p.0) p.1)
+        viewed_retained (RetainsItems returns) rows_of (λ p. (0 < length p.1) × AllByRecursion (HasDomainAndPath d p.0) p.1)
             (λ p xs ys l more of. (
               omega (arith, more, length-map ys (λ (x : Item). x.row)),
               all_leaves (HasDomainAndPath d p) (rows_of xs) (rows_of ys) (leaves_map (λ (x : Item). x.row) xs ys (some_items xs ys l)) of.1,

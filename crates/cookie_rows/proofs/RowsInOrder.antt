@@ -15,7 +15,7 @@ use Rattle.cookie_rows.specs.GroupChanges.{is_named, put_at, changed_at}
 use Rattle.cookie_rows.specs.Items.{Item, ItemGroups, ItemPaths, bare, bare_paths, expire_item, expire_item_paths, expire_items, put_item, put_item_paths, put_items, rows_of}
 use Rattle.cookie_rows.proofs.All.{all_from_map, all_to_map}
 use Rattle.cookie_rows.proofs.FilteredGroups.{some_paths}
-use Rattle.cookie_rows.proofs.RetainedGroups.{AreSeen}
+use Rattle.cookie_rows.proofs.RetainedGroups.{AreViewed}
 
 -- a new name goes last, and the names differ
 differ_push : (xs : List (List ℕ)) (y : List ℕ) → differ bytes_eq xs ≡ true → list_any (bytes_eq y) xs ≡ false → differ bytes_eq (xs ++ y ∷ []) ≡ true
@@ -85,22 +85,22 @@ module _ {X : Type 0} (f : List X → List X) (t : List ℕ) where
   some_changed [] h = h
   some_changed (g ∷ gs) h = elim (cases_Bool (bytes_eq t g.0)) [ inl e ↦ rw e (omega arith) | inr e ↦ rw e (omega arith) ]
 
--- what is seen of the groups
+-- a view of groups
 
 module _ {X Y : Type 0} (see : List X → List Y) (Q : List ℕ × List Y → Type 0) (f : List X → List X) (t : List ℕ) where
   -- with the names of the groups
-  seen_parts : (gs : List (List ℕ × List X)) → AreSeen see Q gs → (differ bytes_eq (map (λ g. g.0) gs) ≡ true) × AllByRecursion (λ g. Q (g.0, see g.1)) gs
-  seen_parts gs a = (ap (differ bytes_eq) (sym (map-map (λ (g : List ℕ × List Y). g.0) (λ (g : List ℕ × List X). (g.0, see g.1)) gs)) ∙ a.0, all_from_map (λ (g : List ℕ × List X). (g.0, see g.1)) Q gs a.1)
+  viewed_parts : (gs : List (List ℕ × List X)) → AreViewed see Q gs → (differ bytes_eq (map (λ g. g.0) gs) ≡ true) × AllByRecursion (λ g. Q (g.0, see g.1)) gs
+  viewed_parts gs a = (ap (differ bytes_eq) (sym (map-map (λ (g : List ℕ × List Y). g.0) (λ (g : List ℕ × List X). (g.0, see g.1)) gs)) ∙ a.0, all_from_map (λ (g : List ℕ × List X). (g.0, see g.1)) Q gs a.1)
 
   -- and back
-  seen_from : (gs : List (List ℕ × List X)) → differ bytes_eq (map (λ g. g.0) gs) ≡ true → AllByRecursion (λ g. Q (g.0, see g.1)) gs → AreSeen see Q gs
-  seen_from gs d a = (ap (differ bytes_eq) (map-map (λ (g : List ℕ × List Y). g.0) (λ (g : List ℕ × List X). (g.0, see g.1)) gs) ∙ d, all_to_map (λ (g : List ℕ × List X). (g.0, see g.1)) Q gs a)
+  viewed_from : (gs : List (List ℕ × List X)) → differ bytes_eq (map (λ g. g.0) gs) ≡ true → AllByRecursion (λ g. Q (g.0, see g.1)) gs → AreViewed see Q gs
+  viewed_from gs d a = (ap (differ bytes_eq) (map-map (λ (g : List ℕ × List Y). g.0) (λ (g : List ℕ × List X). (g.0, see g.1)) gs) ∙ d, all_to_map (λ (g : List ℕ × List X). (g.0, see g.1)) Q gs a)
 
-  seen_put : (gs : List (List ℕ × List X)) → Q (t, see (f [])) → ((v : List X) → Q (t, see v) → Q (t, see (f v))) → AreSeen see Q gs → AreSeen see Q (put_at f t gs)
-  seen_put gs z s a = let parts = seen_parts gs a in seen_from (put_at f t gs) (differ_put f t gs parts.0) (all_put f t (λ g. Q (g.0, see g.1)) gs z s parts.1)
+  viewed_put : (gs : List (List ℕ × List X)) → Q (t, see (f [])) → ((v : List X) → Q (t, see v) → Q (t, see (f v))) → AreViewed see Q gs → AreViewed see Q (put_at f t gs)
+  viewed_put gs z s a = let parts = viewed_parts gs a in viewed_from (put_at f t gs) (differ_put f t gs parts.0) (all_put f t (λ g. Q (g.0, see g.1)) gs z s parts.1)
 
-  seen_changed : (gs : List (List ℕ × List X)) → ((k : List ℕ) (v : List X) → Q (k, see v) → Q (k, see (f v))) → AreSeen see Q gs → AreSeen see Q (changed_at f t gs)
-  seen_changed gs s a = let parts = seen_parts gs a in seen_from (changed_at f t gs) (ap (differ bytes_eq) (keys_changed f t gs) ∙ parts.0) (all_changed f t (λ g. Q (g.0, see g.1)) gs s parts.1)
+  viewed_changed : (gs : List (List ℕ × List X)) → ((k : List ℕ) (v : List X) → Q (k, see v) → Q (k, see (f v))) → AreViewed see Q gs → AreViewed see Q (changed_at f t gs)
+  viewed_changed gs s a = let parts = viewed_parts gs a in viewed_from (changed_at f t gs) (ap (differ bytes_eq) (keys_changed f t gs) ∙ parts.0) (all_changed f t (λ g. Q (g.0, see g.1)) gs s parts.1)
 
 -- a path has rows, all of its domain and path
 abbrev IsPath : List ℕ → List ℕ × List Row → Type 0
@@ -129,13 +129,13 @@ module _ (row : Row) (n : ℕ) where
   paths_put : (d : List ℕ) (ps : ItemPaths) → domain_text row.domain ≡ d → ArePaths d (bare_paths ps) → IsDomain (d, bare_paths (put_item_paths row n ps))
   paths_put d ps is a = (
     some_bare (put_item_paths row n ps) (some_put (put_item row n) row.path.text ps),
-    seen_put rows_of (IsPath d) (put_item row n) row.path.text ps (names_put d row.path.text [] (is, refl) tt) (λ v h. names_put d row.path.text v (is, refl) h.1) a,
+    viewed_put rows_of (IsPath d) (put_item row n) row.path.text ps (names_put d row.path.text [] (is, refl) tt) (λ v h. names_put d row.path.text v (is, refl) h.1) a,
   )
 
   -- all groups
   pub groups_put : (gs : ItemGroups) → AreGroups (bare gs) → AreGroups (bare (put_items row n gs))
   groups_put gs a =
-      seen_put bare_paths IsDomain (put_item_paths row n) (domain_text row.domain) gs (paths_put (domain_text row.domain) [] refl (refl, tt)) (λ v h. paths_put (domain_text row.domain) v refl h.1) a
+      viewed_put bare_paths IsDomain (put_item_paths row n) (domain_text row.domain) gs (paths_put (domain_text row.domain) [] refl (refl, tt)) (λ v h. paths_put (domain_text row.domain) v refl h.1) a
 
 -- a row is expired
 
@@ -161,8 +161,8 @@ module _ (key : Key) where
   -- all groups
   pub groups_expired : (gs : ItemGroups) → AreGroups (bare gs) → AreGroups (bare (expire_items key gs))
   groups_expired gs a =
-      seen_changed bare_paths IsDomain (expire_item_paths key.path key.name) key.domain gs
+      viewed_changed bare_paths IsDomain (expire_item_paths key.path key.name) key.domain gs
       (λ d ps h. (
         some_bare (expire_item_paths key.path key.name ps) (some_changed (expire_item key.name) key.path ps (some_paths ps h.0)),
-        seen_changed rows_of (IsPath d) (expire_item key.name) key.path ps (λ p xs of. names_expired d p xs of) h.1,
+        viewed_changed rows_of (IsPath d) (expire_item key.name) key.path ps (λ p xs of. names_expired d p xs of) h.1,
       )) a

@@ -1,5 +1,5 @@
 -- Lists with places, and what they are in order.
-use Rattle.std.proofs.Common.{◌≡◌, ℕ, suc, true, List, [], ◌∷◌, map, length, refl, sym, ap, ◌∙◌, inl, inr, arith, nat_le}
+use Rattle.std.proofs.Common.{◌≡◌, ℕ, suc, true, List, [], ◌∷◌, map, refl, sym, ap, ◌∙◌, inl, inr, arith, nat_le}
 use Rattle.std.specs.Prelude.{string_bytes, String}
 use Rattle.std.proofs.lemmas.Bool.{cases_Bool}
 use Rattle.std.proofs.lemmas.Bool.Decides.{nat_tests}

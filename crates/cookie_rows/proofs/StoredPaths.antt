@@ -1,5 +1,5 @@
 -- The groups of a map of paths, by position.
-use Rattle.std.proofs.Common.{◌≡◌, ◌≢◌, ◌==◌, ℕ, zero, suc, false, List, [], ◌∷◌, ◌++◌, length, map, slice_get, refl, sym, ap, ◌∙◌, inl, inr, bytes_eq, Option, Some, None, arith}
+use Rattle.std.proofs.Common.{◌≡◌, ◌==◌, ℕ, zero, suc, List, [], ◌∷◌, ◌++◌, length, map, slice_get, refl, sym, ap, ◌∙◌, inl, inr, bytes_eq, Option, Some, None, arith}
 use Rattle.std.specs.Prelude.{option_map, position, string_bytes, String}
 use Rattle.std.specs.List.{flat_map}
 use Rattle.std.specs.Map.{keys_of, lookup, values_of}
@@ -10,7 +10,7 @@ use Rattle.cookie_lookup.specs.SearchView.{group_position, under}
 use Rattle.cookie_lookup.specs.Positions.{paths_in_order}
 use Rattle.cookie_rows.specs.Eviction.{is_single_paths}
 use Rattle.cookie_rows.specs.GroupChanges.{found, texts_by, texts_of}
-use Rattle.cookie_rows.specs.Items.{Item, ItemPaths}
+use Rattle.cookie_rows.specs.Items.{Item}
 use Rattle.cookie_rows.specs.Stored.{StoredItems, StoredPaths, stored_in}
 use Rattle.cookie_rows.proofs.Maps.{at_text}
 use Rattle.cookie_rows.proofs.Places.{place_is}

@@ -12,7 +12,7 @@ use Rattle.cookie_laws.specs.Rows.{differ, key_at, key_of}
 use Rattle.cookie_rows.specs.GroupChanges.{changed_at, is_named, unless_empty, lessened_at, put_at, row_named}
 use Rattle.cookie_rows.specs.Items.{Item, ItemGroups, ItemPaths, find_item_paths, find_items, put_item, put_item_paths, put_items, rows_of}
 use Rattle.cookie_rows.specs.Eviction.{insert_in_domains, insert_in_paths, is_single, is_single_paths, filter_paths, moved_to_end_if}
-use Rattle.cookie_rows.proofs.AfterLast.{none_passes, nothing_seen}
+use Rattle.cookie_rows.proofs.AfterLast.{none_passes, nothing_viewed}
 use Rattle.cookie_rows.proofs.FilteredGroups.{keyed_filtered_in, names_parted, parted_filled, parted_first}
 use Rattle.cookie_rows.proofs.Flat.{absent, find_none}
 use Rattle.cookie_rows.proofs.Keyed.{Keyed, PathsDiffer, TextsDiffer, keyed_paths}
@@ -104,7 +104,7 @@ module _ (test : Item → Bool) where
       let key = key_at [] path name in
       let items = keyed_paths [] ps in
       let left : List Keyed = filter (λ e. test e.1) items in
-      let nothing = nothing_seen (λ (e : Keyed). e.1.row) (find (of_key key) items) (sym (found_paths key [] ps refl d) ∙ none) in
+      let nothing = nothing_viewed (λ (e : Keyed). e.1.row) (find (of_key key) items) (sym (found_paths key [] ps refl d) ∙ none) in
       found_paths key [] (filter_paths test ps) refl (differ_leaves bytes_eq (map (λ p. p.0) ps) (map (λ p. p.0) (filter_paths test ps)) (names_parted (filter test) ps) d)
       ∙ ap (λ es. option_map (λ (e : Keyed). e.1.row) (find (of_key key) es)) (keyed_filtered_in test [] ps)
       ∙ ap (option_map (λ (e : Keyed). e.1.row)) (find_none (of_key key) left (none_leaves (of_key key) items left (leaves_filter (λ e. test e.1) items) (none_passes (of_key key) items nothing)))
