@@ -147,13 +147,15 @@ enum cookie_store_status {
     /* The cookie has no Domain attribute, or an empty one, and the URL has no host. */
     COOKIE_STORE_NON_RELATIVE_SCHEME = 11,
     /* The host of the URL does not domain-match the Domain attribute, RFC 6265 5.1.3, or the URL
-     * has no host. */
+     * has no host. Of a cookie by its parts: the domain is not the host of a URL, in lower case and
+     * in Punycode, or has a dot before it. */
     COOKIE_STORE_DOMAIN_MISMATCH = 12,
     /* The cookie has expired, and no unexpired one with its domain, path and name is stored. */
     COOKIE_STORE_EXPIRED = 13,
     /* The header value is not a cookie (it has no `=` before the first `;`, or an empty name), or
      * its Domain attribute is not a domain name. Of a list to load: the raw_cookie of an entry is
-     * not a cookie. */
+     * not a cookie. Of a cookie by its parts: the name is empty or has a `=`, the name or the value
+     * has a `;` or white space at an end, or the path does not begin with `/`. */
     COOKIE_STORE_PARSE = 14,
     /* The domain of the cookie is a public suffix on the list of the store, and is not the host of
      * the URL. */
@@ -181,8 +183,8 @@ enum cookie_store_status {
     COOKIE_STORE_NOT_FOUND = 27,
     /* The limit is 0. */
     COOKIE_STORE_BAD_LIMIT = 28,
-    /* The number of a format, or of which cookies are saved or loaded, is not in its enum; or a
-     * flag is unknown. */
+    /* The number of a format, of which cookies are saved or loaded, or of a SameSite attribute is
+     * not in its enum; or a flag is unknown. */
     COOKIE_STORE_BAD_OPTION = 29,
 
     /* A line of the public suffix list is not a rule. Its number is reported. */
@@ -203,9 +205,10 @@ enum cookie_store_status {
     /* No line of the public suffix list is a rule. */
     COOKIE_STORE_NO_RULES = 37,
 
-    /* 40 to 46: the cookie is rejected under the rules of browsers, see cookie_store_set_strict. */
+    /* 40 to 47: the cookie is rejected under the rules of browsers, see cookie_store_set_strict. */
 
-    /* The header value has a control character other than HTAB. */
+    /* The header value has a control character other than HTAB, or a cookie by its parts has one in
+     * its name or value. */
     COOKIE_STORE_CONTROL_CHARACTER = 40,
     /* The name and the value together are longer than 4,096 bytes. */
     COOKIE_STORE_TOO_LONG = 41,
@@ -216,7 +219,8 @@ enum cookie_store_status {
     COOKIE_STORE_INSECURE_SAME_SITE_NONE = 43,
     /* The name begins with __Secure-, ignoring case, and the cookie is not Secure; or it begins
      * with __Host-, ignoring case, and the cookie is not Secure, is not host-only, or has no Path
-     * attribute `/`. */
+     * attribute `/`; or it begins with __Http- or __Host-Http-, ignoring case, and the cookie is not
+     * Secure or not HttpOnly. */
     COOKIE_STORE_PREFIX = 44,
     /* Neither the cookie nor the URL is secure, and an unexpired Secure cookie with the same name is
      * stored: one of the two domains domain-matches the other, and the path of the new cookie
@@ -224,7 +228,10 @@ enum cookie_store_status {
     COOKIE_STORE_SECURE_STORED = 45,
     /* The cookie is not Secure, and its domain has as many unexpired Secure cookies as
      * cookie_store_set_domain_limit allows, or more. */
-    COOKIE_STORE_SECURE_LIMIT = 46
+    COOKIE_STORE_SECURE_LIMIT = 46,
+    /* The response is to a cross-site request that is not a top-level navigation, and the cookie is
+     * not SameSite=None. */
+    COOKIE_STORE_CROSS_SITE_RESPONSE = 47
 };
 
 /* Returns what a status means, for messages: a few words, or "unknown status". */
@@ -266,6 +273,7 @@ static inline const char *cookie_store_status_text(enum cookie_store_status stat
     case COOKIE_STORE_PREFIX: return "lacks what the prefix of its name demands";
     case COOKIE_STORE_SECURE_STORED: return "a Secure cookie with its name is stored";
     case COOKIE_STORE_SECURE_LIMIT: return "the domain has its limit of Secure cookies";
+    case COOKIE_STORE_CROSS_SITE_RESPONSE: return "not SameSite=None, of a cross-site response";
     }
     return "unknown status";
 }
@@ -346,10 +354,10 @@ size_t cookie_store_domain_limit(cookie_store *store);
 /* Sets whether the store is strict. A store that was just created or loaded is not, and a copy is if
  * its original is.
  *
- * Into a strict store, cookie_store_parse inserts by rules that the revision of RFC 6265,
- * draft-ietf-httpbis-rfc6265bis, adds and browsers follow: the statuses 40 to 46 list what is
- * rejected, attributes whose value is longer than 1,024 bytes are ignored, and a cookie expires at
- * most 400 days after it was received. With a public suffix list, a cookie is also rejected with
+ * Into a strict store, cookie_store_parse, cookie_store_insert and cookie_store_merge insert by rules
+ * that the revision of RFC 6265, draft-ietf-httpbis-rfc6265bis, adds and browsers follow: the statuses
+ * 40 to 46 list what is rejected, attributes whose value is longer than 1,024 bytes are ignored, and a
+ * cookie expires at most 400 days after it was received. With a public suffix list, a cookie is also rejected with
  * PUBLIC_SUFFIX if its domain is above the site of the host of the URL, such as amazonaws.com for
  * bucket.s3.amazonaws.com. docs/STRICT.md also lists the rules that are left out.
  *
@@ -383,32 +391,12 @@ enum cookie_store_status cookie_store_set_hash_key(cookie_store *store, const ch
  * May return NO_MEMORY instead of BAD_URL, any error after it, or success.
  *
  * If the store is strict, the errors after BAD_URL are: CONTROL_CHARACTER, PARSE (not a cookie),
- * TOO_LONG, those above from NON_HTTP_SCHEME (the cookie is HttpOnly) on, INSECURE_URL,
- * INSECURE_SAME_SITE_NONE, PREFIX, SECURE_STORED, SECURE_LIMIT. PUBLIC_SUFFIX then also stands for a
- * domain above the site of the host. */
+ * TOO_LONG, DOMAIN_MISMATCH (the Domain attribute has white space, or is not ASCII), those above from
+ * NON_HTTP_SCHEME (the cookie is HttpOnly) on, INSECURE_URL, INSECURE_SAME_SITE_NONE, PREFIX,
+ * SECURE_STORED, SECURE_LIMIT. PUBLIC_SUFFIX then also stands for a domain above the site of the
+ * host. */
 enum cookie_store_status cookie_store_parse(cookie_store *store, const char *url, size_t url_len, const char *value,
                                           size_t value_len, int64_t now);
-
-/* Writes the value of the Cookie header of a request for `url` at `now`, RFC 6265 5.4.
- *
- * The value is a string such as `a=1; b=2`, and `*needed` is its length. If that is 0, there are no
- * cookies for the URL, and no Cookie header is to be sent.
- *
- * Cookies with longer paths come first; cookies with paths of equal length are in creation order. A
- * cookie that replaces another one, even an expired one that was not removed, keeps its place in
- * creation order. Loaded cookies count as created in the order of the list.
- *
- * Secure cookies are sent if the scheme is https, and with any scheme to this machine (localhost,
- * 127.0.0.0/8, [::1]). HttpOnly cookies are sent if the scheme begins with "http".
- *
- * Names and values are written as they were received. Those that did not come as a line of an HTTP
- * header, for example in a loaded list, may hold control characters: check before you write them to
- * a connection.
- *
- * Errors, in the order in which they are checked: NO_STORE, NOT_UTF8, BAD_TIME, BAD_URL, NO_ROOM.
- * May return NO_MEMORY instead of BAD_URL, NO_ROOM or OK. */
-enum cookie_store_status cookie_store_header(cookie_store *store, const char *url, size_t url_len, int64_t now, char *out,
-                                          size_t out_len, size_t *needed);
 
 /* Flags of a cross-site request, to be combined with `|`. */
 enum cookie_store_cross_site {
@@ -420,6 +408,49 @@ enum cookie_store_cross_site {
     /* A cookie without a SameSite attribute is treated as SameSite=None, and not as SameSite=Lax. */
     COOKIE_STORE_NONE_BY_DEFAULT = 2
 };
+
+/* Parses a Set-Cookie header value of the response to a request that a page made for `url`, and
+ * inserts the cookie under the rules of browsers, whether the store is strict or not.
+ *
+ * `page` is the URL of the page. If it is not same-site with `url`, as in cookie_store_header_for,
+ * `request` has the flags of the request, and a cookie is rejected unless it is SameSite=None. With
+ * COOKIE_STORE_TOP_LEVEL, here for a top-level navigation with any method, no cookie is rejected for
+ * its SameSite attribute, and with COOKIE_STORE_NONE_BY_DEFAULT none that has no such attribute.
+ *
+ * On success the status is INSERTED, UPDATED or EXPIRED_EXISTING.
+ *
+ * Errors, in the order in which they are checked: NO_STORE, BAD_OPTION, NOT_UTF8, BAD_TIME, BAD_URL,
+ * CONTROL_CHARACTER, PARSE (not a cookie), TOO_LONG, DOMAIN_MISMATCH (the Domain attribute has white
+ * space, or is not ASCII), CROSS_SITE_RESPONSE, NON_HTTP_SCHEME, NON_RELATIVE_SCHEME, PARSE (the Domain
+ * attribute is not a domain name), DOMAIN_MISMATCH, PUBLIC_SUFFIX, NON_HTTP_SCHEME (the stored cookie is
+ * HttpOnly), EXPIRED, INSECURE_URL, INSECURE_SAME_SITE_NONE, PREFIX, SECURE_STORED, SECURE_LIMIT.
+ * May return NO_MEMORY instead of BAD_URL, any error after it, or success. */
+enum cookie_store_status cookie_store_parse_for(cookie_store *store, const char *url, size_t url_len, const char *page,
+                                              size_t page_len, const char *value, size_t value_len, int64_t now,
+                                              uint32_t request);
+
+/* Writes the value of the Cookie header of a request for `url` at `now`, RFC 6265 5.4.
+ *
+ * The value is a string such as `a=1; b=2`, and `*needed` is its length. If that is 0, there are no
+ * cookies for the URL, and no Cookie header is to be sent.
+ *
+ * Cookies with longer paths come first; cookies with paths of equal length are in creation order. A
+ * cookie that replaces another one, even an expired one that was not removed, keeps its place in
+ * creation order. Loaded cookies count as created in the order of the list.
+ *
+ * Secure cookies are sent if the scheme is https, and with any scheme to this machine (localhost,
+ * 127.0.0.0/8, [::1]); from a strict store also with the scheme http to names below localhost, such as
+ * a.localhost, and to localhost with a dot at the end. HttpOnly cookies are sent if the scheme begins
+ * with "http".
+ *
+ * Names and values are written as they were received. Those that did not come as a line of an HTTP
+ * header, for example in a loaded list or by their parts, may hold control characters: check before
+ * you write them to a connection.
+ *
+ * Errors, in the order in which they are checked: NO_STORE, NOT_UTF8, BAD_TIME, BAD_URL, NO_ROOM.
+ * May return NO_MEMORY instead of BAD_URL, NO_ROOM or OK. */
+enum cookie_store_status cookie_store_header(cookie_store *store, const char *url, size_t url_len, int64_t now, char *out,
+                                          size_t out_len, size_t *needed);
 
 /* Writes the value of the Cookie header of a cross-site request for `url` at `now`,
  * draft-ietf-httpbis-rfc6265bis 5.8.3: one from a page of another site, or from a page that is in a
@@ -437,6 +468,24 @@ enum cookie_store_cross_site {
  * May return NO_MEMORY instead of BAD_URL, NO_ROOM or OK. */
 enum cookie_store_status cookie_store_header_cross_site(cookie_store *store, const char *url, size_t url_len, int64_t now,
                                                         uint32_t request, char *out, size_t out_len, size_t *needed);
+
+/* Writes the value of the Cookie header of a request for `url` that a page made at `now`.
+ *
+ * `page` is the URL of the page. If page and URL are same-site, the value is that of
+ * cookie_store_header with a strict store, and else that of cookie_store_header_cross_site with the
+ * flags `request`. They are same-site if they have the same scheme and the same registrable domain
+ * under the store's public suffix list, or the same host if that has none; without a list, if they have
+ * the same scheme and host. A page in a frame of a page of another site, and a request that a page of
+ * another site redirected, are cross-site: call cookie_store_header_cross_site.
+ *
+ * Works on any store, strict or not.
+ *
+ * Errors, in the order in which they are checked: NO_STORE, BAD_OPTION, NOT_UTF8, BAD_TIME, BAD_URL,
+ * NO_ROOM.
+ * May return NO_MEMORY instead of BAD_URL, NO_ROOM or OK. */
+enum cookie_store_status cookie_store_header_for(cookie_store *store, const char *url, size_t url_len, const char *page,
+                                               size_t page_len, int64_t now, uint32_t request, char *out, size_t out_len,
+                                               size_t *needed);
 
 /* Removes the cookie with this domain, path and name, expired or not.
  *
@@ -529,6 +578,24 @@ enum cookie_store_status cookie_store_rows(cookie_store *store, cookie_store_row
 enum cookie_store_status cookie_store_cookies_for(cookie_store *store, const char *url, size_t url_len, int64_t now,
                                                   cookie_store_row *rows, size_t rows_len, char *strings, size_t strings_len,
                                                   size_t *rows_needed, size_t *strings_needed);
+
+/* Inserts a cookie by its parts, as if it was received at `now` from https://DOMAIN/, with its own
+ * domain.
+ *
+ * The strings and `row` are what cookie_store_rows writes of a cookie; the four lengths in `row` are not
+ * read. For a session cookie `persistent` is false, and `expires` is not read. A domain cookie whose
+ * domain is a public suffix on the list of the store becomes a host-only cookie. On success the status
+ * is INSERTED, UPDATED or EXPIRED_EXISTING.
+ *
+ * Errors, in the order in which they are checked: NO_STORE, BAD_OPTION (`same_site`), NOT_UTF8, BAD_TIME
+ * (`expires` or `now`), PARSE (not a cookie that a server can set), DOMAIN_MISMATCH, EXPIRED.
+ * May return NO_MEMORY instead of PARSE, any error after it, or success.
+ *
+ * If the store is strict, the errors after DOMAIN_MISMATCH are: CONTROL_CHARACTER, TOO_LONG, EXPIRED,
+ * INSECURE_SAME_SITE_NONE, PREFIX, SECURE_LIMIT. */
+enum cookie_store_status cookie_store_insert(cookie_store *store, const char *domain, size_t domain_len, const char *path,
+                                             size_t path_len, const char *name, size_t name_len, const char *value,
+                                             size_t value_len, const cookie_store_row *row, int64_t now);
 
 /* The formats of saved cookies, all in UTF-8. */
 enum cookie_store_format {

@@ -86,6 +86,31 @@ static enum cookie_store_status parse_over_secure(cookie_store *store) {
     return status == COOKIE_STORE_OK ? cookie_store_parse(store, TEXT(PAGE), TEXT("s=5; Path=/"), NOW) : status;
 }
 
+static enum cookie_store_status insert_at(cookie_store *store, const char *path, int64_t now) {
+    cookie_store_row row = {.expires = NOW + 60, .persistent = true, .host_only = true, .has_path = true};
+    return cookie_store_insert(store, TEXT("b.example"), TEXT(path), TEXT("p"), TEXT("1"), &row, now);
+}
+
+static enum cookie_store_status insert(cookie_store *store) { return insert_at(store, "/", NOW); }
+static enum cookie_store_status insert_bad_path(cookie_store *store) { return insert_at(store, "x", NOW); }
+static enum cookie_store_status insert_not_utf8(cookie_store *store) { return insert_at(store, "\xff", INT64_MAX); }
+static enum cookie_store_status insert_bad_time(cookie_store *store) { return insert_at(store, "x", INT64_MAX); }
+
+static enum cookie_store_status insert_bad_option(cookie_store *store) {
+    cookie_store_row row = {.same_site = (enum cookie_store_same_site)4};
+    return cookie_store_insert(store, TEXT("\xff"), "", 0, "", 0, "", 0, &row, NOW);
+}
+
+static enum cookie_store_status insert_again(cookie_store *store) {
+    cookie_store_row row = {.has_path = true};
+    return cookie_store_insert(store, TEXT("a.example"), TEXT("/d"), TEXT("a"), TEXT("2"), &row, NOW);
+}
+
+static enum cookie_store_status insert_strict(cookie_store *store) {
+    enum cookie_store_status status = cookie_store_set_strict(store, true);
+    return status == COOKIE_STORE_OK ? insert(store) : status;
+}
+
 static enum cookie_store_status header(cookie_store *store) {
     char out[256];
     size_t needed;
@@ -101,6 +126,25 @@ static enum cookie_store_status cross_site(cookie_store *store, uint32_t request
 static enum cookie_store_status header_cross_site(cookie_store *store) { return cross_site(store, COOKIE_STORE_TOP_LEVEL, NOW); }
 static enum cookie_store_status header_bad_flag(cookie_store *store) { return cross_site(store, 4, NOW); }
 static enum cookie_store_status header_bad_time(cookie_store *store) { return cross_site(store, COOKIE_STORE_TOP_LEVEL, INT64_MAX); }
+
+static enum cookie_store_status page_header(cookie_store *store, uint32_t request, int64_t now) {
+    char out[256];
+    size_t needed;
+    return cookie_store_header_for(store, TEXT(PAGE), TEXT("http://b.example/"), now, request, out, sizeof out, &needed);
+}
+
+static enum cookie_store_status header_for(cookie_store *store) { return page_header(store, COOKIE_STORE_TOP_LEVEL, NOW); }
+static enum cookie_store_status header_for_bad_flag(cookie_store *store) { return page_header(store, 4, NOW); }
+static enum cookie_store_status header_for_bad_time(cookie_store *store) { return page_header(store, COOKIE_STORE_TOP_LEVEL, INT64_MAX); }
+
+static enum cookie_store_status page_response(cookie_store *store, uint32_t request, int64_t now) {
+    return cookie_store_parse_for(store, TEXT("http://b.example/x/y"), TEXT(PAGE), TEXT("d=4; Path=/x"), now, request);
+}
+
+static enum cookie_store_status parse_for(cookie_store *store) { return page_response(store, COOKIE_STORE_TOP_LEVEL, NOW); }
+static enum cookie_store_status parse_for_cross_site(cookie_store *store) { return page_response(store, COOKIE_STORE_CROSS_SITE, NOW); }
+static enum cookie_store_status parse_for_bad_flag(cookie_store *store) { return page_response(store, 4, NOW); }
+static enum cookie_store_status parse_for_bad_time(cookie_store *store) { return page_response(store, COOKIE_STORE_TOP_LEVEL, INT64_MAX); }
 
 static enum cookie_store_status cookies_at(cookie_store *store, int64_t now) {
     char out[256];
@@ -266,6 +310,19 @@ static const struct {
     {"parse again", true, parse_again, COOKIE_STORE_UPDATED, false},
     {"parse, strict", true, parse_strict, COOKIE_STORE_INSERTED, false},
     {"parse, strict, over a Secure cookie", true, parse_over_secure, COOKIE_STORE_SECURE_STORED, false},
+    {"parse_for", true, parse_for, COOKIE_STORE_INSERTED, false},
+    {"parse_for, cross-site", true, parse_for_cross_site, COOKIE_STORE_CROSS_SITE_RESPONSE, false},
+    {"parse_for of none", false, parse_for, COOKIE_STORE_NO_STORE, true},
+    {"parse_for, flag 4", true, parse_for_bad_flag, COOKIE_STORE_BAD_OPTION, true},
+    {"parse_for, a time out of range", true, parse_for_bad_time, COOKIE_STORE_BAD_TIME, true},
+    {"insert", true, insert, COOKIE_STORE_INSERTED, false},
+    {"insert again", true, insert_again, COOKIE_STORE_UPDATED, false},
+    {"insert, strict", true, insert_strict, COOKIE_STORE_INSERTED, false},
+    {"insert, a path without `/`", true, insert_bad_path, COOKIE_STORE_PARSE, false},
+    {"insert into none", false, insert_bad_option, COOKIE_STORE_NO_STORE, true},
+    {"insert, SameSite 4", true, insert_bad_option, COOKIE_STORE_BAD_OPTION, true},
+    {"insert, not UTF-8", true, insert_not_utf8, COOKIE_STORE_NOT_UTF8, true},
+    {"insert at a time out of range", true, insert_bad_time, COOKIE_STORE_BAD_TIME, true},
     {"clone", true, clone_store, COOKIE_STORE_OK, false},
     {"clone of none", false, clone_store, COOKIE_STORE_NO_STORE, true},
     {"clone into a store", true, clone_into, COOKIE_STORE_HAS_STORE, true},
@@ -277,6 +334,10 @@ static const struct {
     {"header_cross_site of none", false, header_cross_site, COOKIE_STORE_NO_STORE, true},
     {"header_cross_site, flag 4", true, header_bad_flag, COOKIE_STORE_BAD_OPTION, true},
     {"header_cross_site, a time out of range", true, header_bad_time, COOKIE_STORE_BAD_TIME, true},
+    {"header_for", true, header_for, COOKIE_STORE_OK, false},
+    {"header_for of none", false, header_for, COOKIE_STORE_NO_STORE, true},
+    {"header_for, flag 4", true, header_for_bad_flag, COOKIE_STORE_BAD_OPTION, true},
+    {"header_for, a time out of range", true, header_for_bad_time, COOKIE_STORE_BAD_TIME, true},
     {"set_suffix_list", true, set_suffix_list, COOKIE_STORE_OK, false},
     {"set_hash_key", true, set_hash_key, COOKIE_STORE_OK, false},
     {"save JSON", true, save_json, COOKIE_STORE_OK, false},

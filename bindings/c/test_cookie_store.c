@@ -1,8 +1,8 @@
-/* Calls each function of cookie_store.h with good and bad arguments, but for those of lists
-   (test_lists.c), of strict stores and of cross-site requests (test_strict.c): what happens to a
-   cookie, the statuses that calls return, each buffer one byte too short, and the layout of the
-   structs. Failures are reported on standard error. The last line is 'test_cookie_store: N passed, M
-   failed'. */
+/* Calls each function of cookie_store.h with good and bad arguments, but for cookie_store_insert
+   (test_insert.c), those of lists (test_lists.c), of strict stores and of cross-site requests
+   (test_strict.c): what happens to a cookie, the statuses that calls return, each buffer one byte too
+   short, and the layout of the structs. Failures are reported on standard error. The last line is
+   'test_cookie_store: N passed, M failed'. */
 #include "test.h"
 #include <stddef.h>
 
@@ -491,7 +491,7 @@ static void test_no_store(void) {
 
 /* The ranges of the statuses that the header documents: each has a text, and no other number. */
 static void test_status_texts(void) {
-    static const int RANGES[][2] = {{0, 3}, {10, 16}, {20, 37}, {40, 46}};
+    static const int RANGES[][2] = {{0, 3}, {10, 16}, {20, 37}, {40, 47}};
     for (int status = 0; status < 100; status++) {
         const char *text = cookie_store_status_text((enum cookie_store_status)status);
         bool is_status = false;

@@ -153,6 +153,16 @@ static void test_request(void) {
           cookie_store_header_cross_site(&store, TEXT("https://a.example/"), NOW, COOKIE_STORE_TOP_LEVEL, out, sizeof out, &needed),
           COOKIE_STORE_OK);
     same_long("40 of 60 cookies", needed);
+    needed = UNSET;
+    equal("header_for",
+          cookie_store_header_for(&store, TEXT("https://a.example/"), TEXT("https://b.example/"), NOW, COOKIE_STORE_TOP_LEVEL, out,
+                                  sizeof out, &needed),
+          COOKIE_STORE_OK);
+    same_long("the same 40", needed);
+    equal("parse_for",
+          cookie_store_parse_for(&store, TEXT("https://a.example/"), TEXT("https://b.example/"), input, input_len, NOW,
+                                 COOKIE_STORE_CROSS_SITE),
+          COOKIE_STORE_UPDATED);
     cookie_store_free(&store);
 }
 
@@ -204,6 +214,24 @@ static void test_merge(cookie_store *store) {
     cookie_store_free(&merged);
 }
 
+/* 6,000 rows, each inserted by its parts. */
+static void test_insert(cookie_store *store) {
+    cookie_store inserted = COOKIE_STORE_INIT;
+    size_t rows_needed = UNSET, strings_needed = UNSET;
+    const char *domain = out;
+    begin(&inserted);
+    equal("rows", cookie_store_rows(store, rows, STORED, out, sizeof out, &rows_needed, &strings_needed), COOKIE_STORE_OK);
+    for (size_t at = 0; at < STORED; at++) {
+        const cookie_store_row *row = &rows[at];
+        const char *path = domain + row->domain_len, *name = path + row->path_len, *value = name + row->name_len;
+        equal("insert", cookie_store_insert(&inserted, domain, row->domain_len, path, row->path_len, name, row->name_len, value,
+                                            row->value_len, row, NOW), COOKIE_STORE_INSERTED);
+        domain = value + row->value_len;
+    }
+    has_hosts("inserted by their parts", &inserted, 1, NOW);
+    cookie_store_free(&inserted);
+}
+
 /* 6,000 cookies: each is found, before and after others are removed. */
 static void test_stored(void) {
     cookie_store store = COOKIE_STORE_INIT;
@@ -215,6 +243,7 @@ static void test_stored(void) {
     test_rows(&store);
     test_copy(&store);
     test_merge(&store);
+    test_insert(&store);
     memset(input, 'q', KEY);
     equal("set_hash_key", cookie_store_set_hash_key(&store, input, KEY), COOKIE_STORE_OK);
     has_hosts("under another key", &store, 1, NOW);

@@ -60,6 +60,46 @@ func (j *Jar) All() []Cookie {
 	return cookies
 }
 
+// Insert inserts a cookie by its parts, as if its own domain had sent it. Its Domain is in lower case and in Punycode, without a
+// leading dot, and an empty Path stands for "/". A domain cookie of a public suffix becomes host-only, and an expired one expires
+// the stored one.
+//
+// The status of the error is the reason if the cookie was rejected (see Status.IsRejection): ErrParse if no server can set it, as
+// with a semicolon in its name or a Path that does not begin with "/", ErrDomainMismatch if its Domain is not the host of a URL.
+// Or it is ErrBadOption (SameSite), ErrNotUTF8 or ErrBadTime (Expires).
+func (j *Jar) Insert(cookie Cookie) error {
+	if cookie.Path == "" {
+		cookie.Path = "/"
+	}
+	row := C.cookie_store_row{
+		host_only: C.bool(cookie.HostOnly),
+		has_path:  true,
+		secure:    C.bool(cookie.Secure),
+		http_only: C.bool(cookie.HttpOnly),
+		same_site: sameSiteNumber(cookie.SameSite),
+	}
+	if !cookie.Expires.IsZero() {
+		row.persistent, row.expires = true, C.int64_t(cookie.Expires.Unix())
+	}
+	j.mu.Lock()
+	defer j.mu.Unlock()
+	return errorOf(C.cookie_store_insert(&j.store, chars(cookie.Domain), size(cookie.Domain), chars(cookie.Path), size(cookie.Path),
+		chars(cookie.Name), size(cookie.Name), chars(cookie.Value), size(cookie.Value), &row, j.seconds()), 0)
+}
+
+// sameSiteNumber returns the number of a SameSite attribute in cookie_store.h, or one that it has not.
+func sameSiteNumber(sameSite http.SameSite) C.enum_cookie_store_same_site {
+	if sameSite == http.SameSiteDefaultMode {
+		sameSite = 0
+	}
+	for number, each := range sameSites {
+		if each == sameSite {
+			return C.enum_cookie_store_same_site(number)
+		}
+	}
+	return C.enum_cookie_store_same_site(len(sameSites))
+}
+
 // rows returns the rows of cookie_store_rows, and their strings one after the other.
 func (j *Jar) rows() ([]C.cookie_store_row, string) {
 	j.mu.Lock()

@@ -14,11 +14,13 @@ const (
 	// The scheme of the URL does not begin with "http", and the cookie, or the unexpired one that it would replace or expire,
 	// is HttpOnly.
 	ErrNonHTTPScheme Status = C.COOKIE_STORE_NON_HTTP_SCHEME
-	// The host of the URL does not domain-match the Domain attribute, RFC 6265 5.1.3.
+	// The host of the URL does not domain-match the Domain attribute, RFC 6265 5.1.3. Of Insert: the Domain is not the host of a
+	// URL.
 	ErrDomainMismatch Status = C.COOKIE_STORE_DOMAIN_MISMATCH
 	// The cookie has expired, and no unexpired one with its domain, path and name is stored.
 	ErrExpired Status = C.COOKIE_STORE_EXPIRED
 	// The header value is not a cookie, or its Domain attribute is not a domain name. Of a list to load: an entry is not a cookie.
+	// Of Insert: no server can set the cookie.
 	ErrParse Status = C.COOKIE_STORE_PARSE
 	// The domain of the cookie is a public suffix by the list of the jar, and is not the host of the URL. In a strict jar with
 	// a list: it is above the site of that host.
@@ -36,12 +38,15 @@ const (
 	ErrInsecureURL Status = C.COOKIE_STORE_INSECURE_URL
 	// The cookie has SameSite=None and is not Secure.
 	ErrInsecureSameSiteNone Status = C.COOKIE_STORE_INSECURE_SAME_SITE_NONE
-	// The name begins with __Secure- or __Host-, and the cookie lacks what the prefix demands.
+	// The name begins with __Secure-, __Host-, __Http- or __Host-Http-, and the cookie lacks what the prefix demands.
 	ErrPrefix Status = C.COOKIE_STORE_PREFIX
 	// Neither the cookie nor the URL is secure, and the cookie would overlay a stored Secure one.
 	ErrSecureStored Status = C.COOKIE_STORE_SECURE_STORED
 	// The cookie is not Secure, and its domain has as many unexpired Secure cookies as the domain limit allows.
 	ErrSecureLimit Status = C.COOKIE_STORE_SECURE_LIMIT
+	// The response is to a cross-site request that is not a top-level navigation, and the cookie is not SameSite=None. Of ParseFor
+	// alone, which follows the rules of a strict jar.
+	ErrCrossSiteResponse Status = C.COOKIE_STORE_CROSS_SITE_RESPONSE
 )
 
 // The call failed.
@@ -58,7 +63,9 @@ const (
 	ErrNotFound Status = C.COOKIE_STORE_NOT_FOUND
 	// The domain limit is negative.
 	ErrBadLimit Status = C.COOKIE_STORE_BAD_LIMIT
-	// A Format or a Which is none of the constants.
+	// An expiry is not in the years -9999 to 9999.
+	ErrBadTime Status = C.COOKIE_STORE_BAD_TIME
+	// A Format, a Which or a SameSite is none of the constants.
 	ErrBadOption Status = C.COOKIE_STORE_BAD_OPTION
 	// A line of the public suffix list is not a rule.
 	ErrBadRule Status = C.COOKIE_STORE_BAD_RULE

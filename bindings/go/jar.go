@@ -164,8 +164,16 @@ func (j *Jar) parse(url, setCookie string, now C.int64_t) error {
 // Errors: ErrBadURL, ErrNotUTF8 (the URL).
 func (j *Jar) Header(u *url.URL) (string, error) {
 	header, err := j.readHeader(u)
-	if err != nil || !hasControl(header) {
-		return header, err
+	if err != nil {
+		return "", err
+	}
+	return j.withoutControls(u, header), nil
+}
+
+// withoutControls returns the header of a request for u without the pairs that are not sent.
+func (j *Jar) withoutControls(u *url.URL, header string) string {
+	if !hasControl(header) {
+		return header
 	}
 	var sent []string
 	for _, pair := range strings.Split(header, pairSeparator) {
@@ -173,7 +181,7 @@ func (j *Jar) Header(u *url.URL) (string, error) {
 			sent = append(sent, pair)
 		}
 	}
-	return strings.Join(sent, pairSeparator), nil
+	return strings.Join(sent, pairSeparator)
 }
 
 // pairSeparator separates the pairs of a header. No name and no value has a semicolon.
@@ -200,6 +208,13 @@ func hasControl(s string) bool {
 
 // readHeader returns the header as the library writes it.
 func (j *Jar) readHeader(u *url.URL) (string, error) {
+	return j.read(u, func(url string, now C.int64_t, out *C.char, room C.size_t) C.enum_cookie_store_status {
+		return C.header(j.handle(), chars(url), size(url), now, out, room, &j.needed)
+	})
+}
+
+// read returns the header of a request for u that write writes.
+func (j *Jar) read(u *url.URL, write func(url string, now C.int64_t, out *C.char, room C.size_t) C.enum_cookie_store_status) (string, error) {
 	j.mu.Lock()
 	defer j.mu.Unlock()
 	url, now := j.address(u), j.seconds()
@@ -207,8 +222,7 @@ func (j *Jar) readHeader(u *url.URL) (string, error) {
 		j.header = make([]byte, 1024)
 	}
 	for {
-		status := C.header(j.handle(), chars(url), size(url), now,
-			(*C.char)(unsafe.Pointer(&j.header[0])), C.size_t(len(j.header)), &j.needed)
+		status := write(url, now, (*C.char)(unsafe.Pointer(&j.header[0])), C.size_t(len(j.header)))
 		if status != C.COOKIE_STORE_NO_ROOM {
 			return string(j.header[:j.needed]), errorOf(status, 0)
 		}

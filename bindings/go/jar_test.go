@@ -110,6 +110,8 @@ func TestParseErrors(t *testing.T) {
 		{strict, "http://example.com/", "a=1; Secure", ErrInsecureURL},
 		{strict, "https://example.com/", "a=1; SameSite=None", ErrInsecureSameSiteNone},
 		{strict, "https://example.com/", "__Host-a=1; Path=/", ErrPrefix},
+		{strict, "https://example.com/", "__Http-a=1; Secure", ErrPrefix},
+		{strict, "https://example.com/", "a=1; Domain=example.com\u00a0", ErrDomainMismatch},
 		{strict, "http://example.com/", "stored=2", ErrSecureStored},
 		{full, "https://example.com/", "a=1", ErrSecureLimit},
 		{sites, "https://shop.s3.example.com/", "a=1; Domain=example.com", ErrPublicSuffix},
@@ -195,7 +197,7 @@ func TestOptionErrors(t *testing.T) {
 	if text := Status(99).Error(); text != "cookiestore: unknown status" {
 		t.Errorf("an unknown status is %q", text)
 	}
-	for status, want := range map[Status]bool{9: false, 19: true, ErrNoRules: false, 38: false, ErrSecureLimit: true, 47: true} {
+	for status, want := range map[Status]bool{9: false, 19: true, ErrNoRules: false, 38: false, ErrCrossSiteResponse: true, 48: true} {
 		if got := status.IsRejection(); got != want {
 			t.Errorf("status %d: IsRejection is %v", int(status), got)
 		}
@@ -375,7 +377,7 @@ func TestClosed(t *testing.T) {
 		_, domainErr := jar.RemoveDomain("")
 		_, mergeErr := jar.Merge(newJar(t, nil))
 		for name, err := range map[string]error{
-			"Parse": jar.Parse(u, "a=1"), "Header": headerErr, "Clear": jar.Clear(), "Remove": jar.Remove("", "", ""),
+			"Parse": jar.Parse(u, "a=1"), "Insert": jar.Insert(Cookie{}), "Header": headerErr, "Clear": jar.Clear(), "Remove": jar.Remove("", "", ""),
 			"RemoveExpired": expiredErr, "RemoveDomain": domainErr, "Merge": mergeErr, "Save": jar.Save(new(strings.Builder), JSON, AllCookies),
 		} {
 			expectStatus(t, name, err, ErrClosed)

@@ -171,37 +171,94 @@ static napi_value count(napi_env env, napi_callback_info info) {
     return self == NULL ? NULL : number(env, (double)cookie_store_count(&self->handle));
 }
 
-/* parse(url, value, now): the number of the status, also if the cookie is rejected. */
-static napi_value parse(napi_env env, napi_callback_info info) {
-    napi_value args[3];
-    struct text texts[2];
-    int64_t now;
-    struct store *self = receiver(env, info, args, COUNT(args));
-    if (self == NULL || !read_time(env, args[2], &now) || !read_texts(env, args, (const char *[]){"url", "value"}, texts, 2))
-        return NULL;
-    enum cookie_store_status status = cookie_store_parse(&self->handle, texts[0].bytes, texts[0].length, texts[1].bytes,
-                                                         texts[1].length, now);
-    free_texts(texts, 2);
+/* Returns the number of the status of an insertion, also if the cookie is rejected, or throws. */
+static napi_value inserted(napi_env env, struct store *self, enum cookie_store_status status) {
     if (status >= 20 && status < 40) return fail(env, status, 0);
     count_memory(env, self);
     return number(env, status);
 }
 
-/* Writes the Cookie header of a request, which is a cross-site one if there are flags. */
-static enum cookie_store_status write_header(struct store *self, const struct text *url, int64_t now, const uint32_t *flags,
-                                             char *out, size_t room, size_t *needed) {
-    if (flags == NULL) return cookie_store_header(&self->handle, url->bytes, url->length, now, out, room, needed);
-    return cookie_store_header_cross_site(&self->handle, url->bytes, url->length, now, *flags, out, room, needed);
+/* parse(url, value, now): the number of the status. */
+static napi_value parse(napi_env env, napi_callback_info info) {
+    napi_value args[3];
+    struct text texts[2];
+    int64_t now;
+    struct store *self = receiver(env, info, args, COUNT(args));
+    if (self == NULL || !read_time(env, args[2], "now", &now) || !read_texts(env, args, (const char *[]){"url", "value"}, texts, 2))
+        return NULL;
+    enum cookie_store_status status = cookie_store_parse(&self->handle, texts[0].bytes, texts[0].length, texts[1].bytes,
+                                                         texts[1].length, now);
+    free_texts(texts, 2);
+    return inserted(env, self, status);
+}
+
+/* parseFor(url, page, value, now, flags): the same of the response to a request that a page made. */
+static napi_value parse_for(napi_env env, napi_callback_info info) {
+    napi_value args[5];
+    struct text texts[3];
+    int64_t now;
+    uint32_t flags;
+    struct store *self = receiver(env, info, args, COUNT(args));
+    if (self == NULL || !read_time(env, args[3], "now", &now) || !read_number(env, args[4], "flags", &flags) ||
+        !read_texts(env, args, (const char *[]){"url", "page", "value"}, texts, 3))
+        return NULL;
+    enum cookie_store_status status =
+        cookie_store_parse_for(&self->handle, texts[0].bytes, texts[0].length, texts[1].bytes, texts[1].length, texts[2].bytes,
+                               texts[2].length, now, flags);
+    free_texts(texts, 3);
+    return inserted(env, self, status);
+}
+
+/* Inserts the cookie of the strings domain, path, name and value. */
+static enum cookie_store_status insert_row(struct store *self, const struct text texts[4], const cookie_store_row *row, int64_t now) {
+    return cookie_store_insert(&self->handle, texts[0].bytes, texts[0].length, texts[1].bytes, texts[1].length, texts[2].bytes,
+                               texts[2].length, texts[3].bytes, texts[3].length, row, now);
+}
+
+/* insert(domain, path, name, value, expires, flags, now): the number of the status. The expiry and the flags are as in the
+ * fields of a cookie. */
+static napi_value insert(napi_env env, napi_callback_info info) {
+    napi_value args[7];
+    struct text texts[4];
+    cookie_store_row row;
+    int64_t now;
+    struct store *self = receiver(env, info, args, COUNT(args));
+    if (self == NULL || !read_row(env, args[4], args[5], &row) || !read_time(env, args[6], "now", &now) ||
+        !read_texts(env, args, (const char *[]){"domain", "path", "name", "value"}, texts, 4))
+        return NULL;
+    enum cookie_store_status status = insert_row(self, texts, &row, now);
+    free_texts(texts, 4);
+    return inserted(env, self, status);
+}
+
+/* A request: that of a page if there is one, and else a cross-site one if there are flags. */
+struct request {
+    const struct text *url, *page;
+    int64_t now;
+    const uint32_t *flags;
+};
+
+/* Writes the Cookie header of a request. */
+static enum cookie_store_status write_header(struct store *self, const struct request *request, char *out, size_t room,
+                                             size_t *needed) {
+    const struct text *url = request->url, *page = request->page;
+    if (page != NULL)
+        return cookie_store_header_for(&self->handle, url->bytes, url->length, page->bytes, page->length, request->now,
+                                       *request->flags, out, room, needed);
+    if (request->flags == NULL)
+        return cookie_store_header(&self->handle, url->bytes, url->length, request->now, out, room, needed);
+    return cookie_store_header_cross_site(&self->handle, url->bytes, url->length, request->now, *request->flags, out, room,
+                                          needed);
 }
 
 /* Returns that header. */
-static napi_value header_of(napi_env env, struct store *self, const struct text *url, int64_t now, const uint32_t *flags) {
+static napi_value header_of(napi_env env, struct store *self, const struct request *request) {
     char stack[4096], *out = stack;
     size_t needed;
-    enum cookie_store_status status = write_header(self, url, now, flags, stack, sizeof stack, &needed);
+    enum cookie_store_status status = write_header(self, request, stack, sizeof stack, &needed);
     if (status == COOKIE_STORE_NO_ROOM) {
         out = malloc(needed);
-        status = out == NULL ? COOKIE_STORE_NO_MEMORY : write_header(self, url, now, flags, out, needed, &needed);
+        status = out == NULL ? COOKIE_STORE_NO_MEMORY : write_header(self, request, out, needed, &needed);
     }
     napi_value result = status == COOKIE_STORE_OK ? string(env, out, needed) : fail(env, status, 0);
     if (out != stack) free(out);
@@ -216,12 +273,29 @@ static napi_value header(napi_env env, napi_callback_info info) {
     int64_t now;
     uint32_t flags;
     struct store *self = receiver(env, info, args, COUNT(args));
-    if (self == NULL || !read_time(env, args[1], &now)) return NULL;
+    if (self == NULL || !read_time(env, args[1], "now", &now)) return NULL;
     napi_typeof(env, args[2], &type);
     if (type != napi_undefined && !read_number(env, args[2], "flags", &flags)) return NULL;
     if (!read_texts(env, args, (const char *[]){"url"}, &url, 1)) return NULL;
-    result = header_of(env, self, &url, now, type == napi_undefined ? NULL : &flags);
+    const struct request request = {&url, NULL, now, type == napi_undefined ? NULL : &flags};
+    result = header_of(env, self, &request);
     free_texts(&url, 1);
+    return result;
+}
+
+/* headerFor(url, page, now, flags): the Cookie header of a request that a page made, or an empty string. */
+static napi_value header_for(napi_env env, napi_callback_info info) {
+    napi_value args[4], result;
+    struct text texts[2];
+    int64_t now;
+    uint32_t flags;
+    struct store *self = receiver(env, info, args, COUNT(args));
+    if (self == NULL || !read_time(env, args[2], "now", &now) || !read_number(env, args[3], "flags", &flags) ||
+        !read_texts(env, args, (const char *[]){"url", "page"}, texts, 2))
+        return NULL;
+    const struct request request = {&texts[0], &texts[1], now, &flags};
+    result = header_of(env, self, &request);
+    free_texts(texts, 2);
     return result;
 }
 
@@ -279,7 +353,7 @@ static napi_value expiry_of(napi_env env, napi_callback_info info) {
     struct text value;
     int64_t now;
     struct store *self = receiver(env, info, args, COUNT(args));
-    if (self == NULL || !read_time(env, args[1], &now) || !read_texts(env, args, (const char *[]){"value"}, &value, 1))
+    if (self == NULL || !read_time(env, args[1], "now", &now) || !read_texts(env, args, (const char *[]){"value"}, &value, 1))
         return NULL;
     enum cookie_store_status status =
         cookie_store_parse(&self->handle, url, sizeof url - 1, value.bytes, value.length, now);
@@ -293,7 +367,7 @@ static napi_value cookies_for(napi_env env, napi_callback_info info) {
     struct text url;
     int64_t now;
     struct store *self = receiver(env, info, args, COUNT(args));
-    if (self == NULL || !read_time(env, args[1], &now) || !read_texts(env, args, (const char *[]){"url"}, &url, 1))
+    if (self == NULL || !read_time(env, args[1], "now", &now) || !read_texts(env, args, (const char *[]){"url"}, &url, 1))
         return NULL;
     result = cookies_of(env, self, &url, now);
     free_texts(&url, 1);
@@ -338,7 +412,7 @@ static napi_value remove_expired(napi_env env, napi_callback_info info) {
     int64_t now;
     size_t removed;
     struct store *self = receiver(env, info, args, COUNT(args));
-    if (self == NULL || !read_time(env, args[0], &now)) return NULL;
+    if (self == NULL || !read_time(env, args[0], "now", &now)) return NULL;
     enum cookie_store_status status = cookie_store_remove_expired(&self->handle, now, &removed);
     return counted(env, self, status, removed);
 }
@@ -358,7 +432,7 @@ static napi_value merge(napi_env env, napi_callback_info info) {
     int64_t now;
     size_t left_out;
     struct store *self = receiver(env, info, args, COUNT(args)), *other = self == NULL ? NULL : unwrap(env, args[0]);
-    if (other == NULL || !read_time(env, args[1], &now)) return NULL;
+    if (other == NULL || !read_time(env, args[1], "now", &now)) return NULL;
     if (other == self) return number(env, 0); // the library takes two handles
     enum cookie_store_status status = cookie_store_merge(&self->handle, &other->handle, now, &left_out);
     return counted(env, self, status, left_out);
@@ -371,7 +445,7 @@ static napi_value save(napi_env env, napi_callback_info info) {
     int64_t now;
     struct store *self = receiver(env, info, args, COUNT(args));
     if (self == NULL || !read_number(env, args[0], "format", &format) || !read_number(env, args[1], "which", &which) ||
-        !read_time(env, args[2], &now))
+        !read_time(env, args[2], "now", &now))
         return NULL;
     // Most cookies take less; if not, the cookies are written twice.
     size_t needed = 4096 + 512 * cookie_store_count(&self->handle), left_out = 0, room;
@@ -428,7 +502,7 @@ static napi_value load(napi_env env, napi_callback_info info) {
     int64_t now;
     struct store *self = receiver(env, info, args, COUNT(args));
     if (self == NULL || !read_number(env, args[1], "format", &format) || !read_number(env, args[2], "which", &which) ||
-        !read_time(env, args[3], &now) || !read_texts(env, args, (const char *[]){"list"}, &list, 1))
+        !read_time(env, args[3], "now", &now) || !read_texts(env, args, (const char *[]){"list"}, &list, 1))
         return NULL;
     result = load_into(env, self, &list, format, which, now);
     free_texts(&list, 1);
@@ -476,10 +550,11 @@ NAPI_MODULE_INIT() {
     const napi_property_descriptor methods[] = {
         METHOD("close", close_store), METHOD("copyTo", copy_to), METHOD("setSuffixList", set_suffix_list),
         METHOD("setDomainLimit", set_domain_limit), METHOD("domainLimit", domain_limit), METHOD("setStrict", set_strict),
-        METHOD("isStrict", is_strict), METHOD("count", count), METHOD("parse", parse), METHOD("header", header),
-        METHOD("cookies", cookies), METHOD("expiryOf", expiry_of), METHOD("cookiesFor", cookies_for),
-        METHOD("remove", remove_cookie), METHOD("removeDomain", remove_domain), METHOD("removeExpired", remove_expired),
-        METHOD("clear", clear), METHOD("merge", merge), METHOD("save", save), METHOD("load", load),
+        METHOD("isStrict", is_strict), METHOD("count", count), METHOD("parse", parse), METHOD("parseFor", parse_for),
+        METHOD("insert", insert), METHOD("header", header), METHOD("headerFor", header_for), METHOD("cookies", cookies),
+        METHOD("expiryOf", expiry_of), METHOD("cookiesFor", cookies_for), METHOD("remove", remove_cookie),
+        METHOD("removeDomain", remove_domain), METHOD("removeExpired", remove_expired), METHOD("clear", clear),
+        METHOD("merge", merge), METHOD("save", save), METHOD("load", load),
     };
     napi_value store;
     if (napi_define_class(env, "Store", NAPI_AUTO_LENGTH, construct, NULL, COUNT(methods), methods, &store) != napi_ok)

@@ -21,10 +21,11 @@ export type Address = Text | Href;
 /** What parse() returns of a cookie that is stored: it is new, it replaced one, or it has expired and expired the stored one. */
 export type Accepted = 'INSERTED' | 'UPDATED' | 'EXPIRED_EXISTING';
 
-/** Why parse() rejects a cookie. The second line is of a strict store. */
+/** Why parse() rejects a cookie. The second line is of a strict store, and the third of parse() with a page. */
 export type Rejection =
   | 'NON_HTTP_SCHEME' | 'NON_RELATIVE_SCHEME' | 'DOMAIN_MISMATCH' | 'EXPIRED' | 'PARSE' | 'PUBLIC_SUFFIX'
-  | 'CONTROL_CHARACTER' | 'TOO_LONG' | 'INSECURE_URL' | 'INSECURE_SAME_SITE_NONE' | 'PREFIX' | 'SECURE_STORED' | 'SECURE_LIMIT';
+  | 'CONTROL_CHARACTER' | 'TOO_LONG' | 'INSECURE_URL' | 'INSECURE_SAME_SITE_NONE' | 'PREFIX' | 'SECURE_STORED' | 'SECURE_LIMIT'
+  | 'CROSS_SITE_RESPONSE';
 
 /** Why a call fails. */
 export type Failure =
@@ -72,6 +73,23 @@ export interface StoredCookie {
   sameSite: 'Strict' | 'Lax' | 'None' | null;
 }
 
+/** The parts of a cookie to insert. What is left out is as in a session cookie of all hosts below the domain, for all paths. */
+export interface CookieParts {
+  name: Text;
+  value: Text;
+  /** In lower case and in Punycode, without a leading dot. */
+  domain: Text;
+  path?: Text;
+  /** null for a session cookie. */
+  expires?: Time | null;
+  hostOnly?: boolean;
+  /** By default true. */
+  hasPath?: boolean;
+  secure?: boolean;
+  httpOnly?: boolean;
+  sameSite?: 'Strict' | 'Lax' | 'None' | null;
+}
+
 export interface SuffixOptions {
   /** Whether only the domains that a rule matches are public suffixes, and not also each top-level domain without a rule. */
   onlyListed?: boolean;
@@ -91,13 +109,27 @@ export interface TimeOptions {
   now?: Time;
 }
 
-export interface HeaderOptions extends TimeOptions {
-  /** false for a request from a page of another site, or in a frame of one: without cookies of SameSite=Strict and Lax. */
-  sameSite?: boolean;
-  /** Whether a cross-site request is a top-level navigation with a safe method: then cookies of SameSite=Lax are sent. */
+export interface PageOptions extends TimeOptions {
+  /**
+   * The URL of the page that made the request, which is cross-site unless page and URL have the same scheme, and under the
+   * suffix list of the store the same registrable domain, or the same host if that has none or there is no list.
+   */
+  page?: Address;
+  /**
+   * Whether a cross-site request is a top-level navigation, for header() with a safe method: then cookies of SameSite=Lax are
+   * sent, and the response may set any cookie.
+   */
   topLevel?: boolean;
   /** Whether a cookie without SameSite counts as SameSite=Lax, which is the default, or as None. */
   laxByDefault?: boolean;
+}
+
+export interface HeaderOptions extends PageOptions {
+  /**
+   * false for a cross-site request, whatever `page` is: one of a page of another site, or in a frame of one, or that was
+   * redirected by one. It is sent without cookies of SameSite=Strict and Lax.
+   */
+  sameSite?: boolean;
 }
 
 /** A list in JSON or RON, or a cookies.txt file as of curl and wget. */
@@ -184,14 +216,22 @@ export class CookieStore implements Iterable<StoredCookie> {
 
   /**
    * Parses the value of a Set-Cookie header that was received from `url` and inserts the cookie, RFC 6265 5.3. Returns how,
-   * or why it is rejected: see isRejection(). Code: BAD_URL.
+   * or why it is rejected: see isRejection(). With a `page` it follows the rules of setStrict() in any store, and a cookie of a
+   * cross-site response that is not SameSite=None is CROSS_SITE_RESPONSE. Code: BAD_URL.
    */
-  parse(url: Address, value: Text, options?: TimeOptions): Accepted | Rejection;
+  parse(url: Address, value: Text, options?: PageOptions): Accepted | Rejection;
+
+  /**
+   * Inserts a cookie by its parts, as if its own domain had sent it. Returns what parse() returns: PARSE if no server can set the
+   * cookie, as with a `;` in its name or a path that does not begin with `/`, and DOMAIN_MISMATCH if the domain is not the host of
+   * a URL. A cookie of another store may be passed. Code: BAD_OPTION for another sameSite.
+   */
+  insert(cookie: CookieParts, options?: TimeOptions): Accepted | Rejection;
 
   /**
    * Returns the value of the Cookie header of a request, RFC 6265 5.4, or null if none is to be sent. Longer paths come first,
    * then cookies in creation order. A cookie of a loaded list may have control characters: check for them before you write the
-   * header to a connection. Code: BAD_URL.
+   * header to a connection. With a `page`, a same-site request has the cookies that a strict store sends. Code: BAD_URL.
    */
   header(url: Address, options?: HeaderOptions): string | null;
 

@@ -110,14 +110,14 @@ static bool read_texts(napi_env env, const napi_value *args, const char *const *
 }
 
 /* Reads seconds since 1970, rounded down. What the library cannot take becomes a time that is out of its range. */
-static bool read_time(napi_env env, napi_value value, int64_t *now) {
+static bool read_time(napi_env env, napi_value value, const char *name, int64_t *time) {
     double seconds;
     if (napi_get_value_double(env, value, &seconds) != napi_ok)
-        return wrong_type(env, "now", "a Date or a number of seconds");
-    *now = INT64_MAX;
+        return wrong_type(env, name, "a Date or a number of seconds");
+    *time = INT64_MAX;
     if (!(seconds > -1e15 && seconds < 1e15)) return true;
-    *now = (int64_t)seconds;
-    if ((double)*now > seconds) --*now;
+    *time = (int64_t)seconds;
+    if ((double)*time > seconds) --*time;
     return true;
 }
 
@@ -179,6 +179,21 @@ static bool put_row(napi_env env, napi_value array, uint32_t at, const cookie_st
     if (field == NULL || napi_set_element(env, array, at, field) != napi_ok) return false;
     field = number(env, flags);
     return field != NULL && napi_set_element(env, array, at + 1, field) == napi_ok;
+}
+
+/* Reads the expiry and the flags that put_row puts. */
+static bool read_row(napi_env env, napi_value expires, napi_value flags, cookie_store_row *row) {
+    napi_valuetype type;
+    uint32_t bits;
+    memset(row, 0, sizeof *row);
+    if (!read_number(env, flags, "flags", &bits) || napi_typeof(env, expires, &type) != napi_ok) return false;
+    row->persistent = type != napi_null;
+    row->host_only = bits & 1;
+    row->has_path = bits >> 1 & 1;
+    row->secure = bits >> 2 & 1;
+    row->http_only = bits >> 3 & 1;
+    row->same_site = bits >> 4;
+    return !row->persistent || read_time(env, expires, "expires", &row->expires);
 }
 
 /* Returns an array with the fields of all rows, one after the other. */

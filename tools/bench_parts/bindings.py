@@ -7,11 +7,14 @@ change, and then after a change each time. Freeing what was loaded is not counte
 installed, are those of a session or a client with a store, and of one without. The library is installed in a temporary
 folder, from --archive; without it the library is proved and built first. Needs a C compiler.
 
+It prints how many times as long a call of the C library takes in a store under the rules of browsers.
+
 Then it prints the same of Node's CookieStore and CookieJar, and how many times as long tough-cookie takes: for cookies of hosts
 with 20 each, and for one host whose cookies have a path each. That is left out without Node and its headers, and the ratios without
 tough-cookie.
 
-Exit status: 0; 1 if a call fails, if a request has other cookies without a store, or if a peer is ahead on an idle machine."""
+Exit status: 0; 1 if a call fails, or if a request has other cookies without a store; on an idle machine also if a peer is
+ahead, or if under those rules a header takes more than 1.2 times as long, or a set more than 1.3 times."""
 import gc
 import http.cookiejar
 import importlib
@@ -34,6 +37,7 @@ NOW = 1767225600  # 2026-01-01T00:00:00
 SECONDS = 0.2  # that a run takes
 LINES = 100_000  # of a cookies.txt file
 NODE_COOKIES = [1000, 100_000]
+STRICT = {'set': ('set_strict', 'set a cookie', 1.3), 'get_many': ('get_strict', f'header, {EACH} cookies a host', 1.2)}
 HEADERS = [f'c{number}=value{number}; Path=/; Max-Age=86400' for number in range(EACH)]
 
 
@@ -193,6 +197,17 @@ def print_calls(columns):
     return behind
 
 
+def print_strict(took):
+    """Prints what the rules of browsers cost, and returns which calls they make slower than they may."""
+    slower = []
+    for key, (strict, name, most) in STRICT.items():
+        ratio = took[strict] / took[key]
+        print(f'{name}, under the rules of browsers'.ljust(48) + f'{ratio:.2f} times')
+        if ratio > most:
+            slower.append(f'{name} takes {ratio:.2f} times as long under the rules of browsers.')
+    return slower
+
+
 def print_files(files):
     """Prints the table of files, and returns what is behind MozillaCookieJar."""
     behind = []
@@ -218,7 +233,7 @@ def run(options):
         columns = [measure_c(program), measure_store(module), *jars]
         files = {each: measure_files(module, f'{folder}/cookies.txt', each) for each in (EACH, 1)}
         requests = list(clients.measure_clients(module, measure))
-        behind = [*print_calls(columns), *print_files(files), *clients.print_clients(requests)]
+        behind = [*print_calls(columns), *print_strict(columns[0]), *print_files(files), *clients.print_clients(requests)]
         for number, times in measure_node(folder, prefix):
             behind += print_node(number, times)
     report.exit_after(behind, load)

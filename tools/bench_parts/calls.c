@@ -7,12 +7,12 @@
 #include <time.h>
 
 static char urls[HOSTS][64], headers[EACH][64];
-static cookie_store many = COOKIE_STORE_INIT, one = COOKIE_STORE_INIT;
+static cookie_store many = COOKIE_STORE_INIT, one = COOKIE_STORE_INIT, strict = COOKIE_STORE_INIT;
 static unsigned long faults;
 
-static void set(unsigned at) {
+static void set(cookie_store *store, unsigned at) {
     const char *url = urls[at / EACH % HOSTS], *header = headers[at % EACH];
-    faults += cookie_store_parse(&many, url, strlen(url), header, strlen(header), NOW) > COOKIE_STORE_UPDATED;
+    faults += cookie_store_parse(store, url, strlen(url), header, strlen(header), NOW) > COOKIE_STORE_UPDATED;
 }
 
 static void get(cookie_store *store, unsigned at) {
@@ -22,8 +22,11 @@ static void get(cookie_store *store, unsigned at) {
     faults += cookie_store_header(store, url, strlen(url), NOW, out, sizeof out, &needed) != COOKIE_STORE_OK || needed == 0;
 }
 
+static void set_many(unsigned at) { set(&many, at); }
+static void set_strict(unsigned at) { set(&strict, at); }
 static void get_one(unsigned at) { get(&one, at); }
 static void get_many(unsigned at) { get(&many, at); }
+static void get_strict(unsigned at) { get(&strict, at); }
 static void count(unsigned at) { faults += cookie_store_count(&many) != HOSTS * EACH || at == UINT_MAX; }
 
 static void measure(const char *name, void (*call)(unsigned)) {
@@ -44,16 +47,21 @@ static void measure(const char *name, void (*call)(unsigned)) {
 int main(void) {
     cookie_store_new(&many, "", 0);
     cookie_store_new(&one, "", 0);
+    cookie_store_new(&strict, "", 0);
+    cookie_store_set_strict(&strict, true);
     for (int at = 0; at < HOSTS; at++) {
         snprintf(urls[at], sizeof urls[at], "http://h%d.example/a/b", at);
         cookie_store_parse(&one, urls[at], strlen(urls[at]), "c0=value0; Path=/", 17, NOW);
     }
     for (int at = 0; at < EACH; at++) snprintf(headers[at], sizeof headers[at], "c%d=value%d; Path=/; Max-Age=86400", at, at);
-    measure("set", set);
+    measure("set", set_many);
+    measure("set_strict", set_strict);
     measure("get_one", get_one);
     measure("get_many", get_many);
+    measure("get_strict", get_strict);
     measure("count", count);
     cookie_store_free(&many);
     cookie_store_free(&one);
+    cookie_store_free(&strict);
     return faults > 0;
 }

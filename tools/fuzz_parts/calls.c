@@ -11,7 +11,7 @@
 #include <stdlib.h>
 #include <string.h>
 
-enum { HANDLES = 3, STRINGS = 3, ROOM = 1 << 14, ITEMS = 64, UNSET = 77, UNTOUCHED = 0xa5 };
+enum { HANDLES = 3, STRINGS = 4, ROOM = 1 << 14, ITEMS = 64, UNSET = 77, UNTOUCHED = 0xa5 };
 
 #define FIRST INT64_C(-377705116800)
 #define LAST INT64_C(253402300799)
@@ -211,13 +211,35 @@ static enum cookie_store_status make_count(const struct call *call) {
     return COOKIE_STORE_OK;
 }
 
-static enum cookie_store_status make_parse(const struct call *call) {
-    size_t before = cookie_store_count(STORE);
-    enum cookie_store_status status = cookie_store_parse(STORE, TEXT(0), TEXT(1), call->now);
+/* A cookie that is inserted is one more, or others are evicted. */
+static void check_inserted(enum cookie_store_status status, const struct call *call, size_t before) {
     size_t limit = cookie_store_domain_limit(STORE), after = cookie_store_count(STORE);
     bool is_one_more = limit ? after <= before + 1 : after == before + 1;
     require(status != COOKIE_STORE_INSERTED || is_one_more, "another number of cookies is inserted");
     require(status == COOKIE_STORE_INSERTED || after == before, "the number of cookies changes");
+}
+
+static enum cookie_store_status make_parse(const struct call *call) {
+    size_t before = cookie_store_count(STORE);
+    enum cookie_store_status status = cookie_store_parse(STORE, TEXT(0), TEXT(1), call->now);
+    check_inserted(status, call, before);
+    return status;
+}
+
+static enum cookie_store_status make_parse_for(const struct call *call) {
+    size_t before = cookie_store_count(STORE);
+    enum cookie_store_status status = cookie_store_parse_for(STORE, TEXT(0), TEXT(1), TEXT(2), call->now, (uint32_t)call->option);
+    check_inserted(status, call, before);
+    return status;
+}
+
+/* The lengths are any: the call does not read them. */
+static enum cookie_store_status make_insert(const struct call *call) {
+    size_t before = cookie_store_count(STORE), flags = call->items;
+    cookie_store_row row = {UNSET, SIZE_MAX, 0, UNSET, (int64_t)call->which, flags & 1, flags & 2, flags & 4, flags & 8, flags & 16,
+                            (enum cookie_store_same_site)call->option};
+    enum cookie_store_status status = cookie_store_insert(STORE, TEXT(0), TEXT(1), TEXT(2), TEXT(3), &row, call->now);
+    check_inserted(status, call, before);
     return status;
 }
 
@@ -232,6 +254,14 @@ static enum cookie_store_status make_header_cross_site(const struct call *call) 
     size_t needed = UNSET;
     enum cookie_store_status status =
         cookie_store_header_cross_site(STORE, TEXT(0), call->now, (uint32_t)call->option, out, call->room, &needed);
+    check_out(status, needed);
+    return status;
+}
+
+static enum cookie_store_status make_header_for(const struct call *call) {
+    size_t needed = UNSET;
+    enum cookie_store_status status =
+        cookie_store_header_for(STORE, TEXT(0), TEXT(1), call->now, (uint32_t)call->option, out, call->room, &needed);
     check_out(status, needed);
     return status;
 }
@@ -321,8 +351,11 @@ static const struct {
     {"is_strict", make_is_strict, READS},
     {"set_hash_key", make_set_hash_key, READS},
     {"parse", make_parse, CHANGES},
+    {"parse_for", make_parse_for, CHANGES},
+    {"insert", make_insert, CHANGES},
     {"header", make_header, READS},
     {"header_cross_site", make_header_cross_site, READS},
+    {"header_for", make_header_for, READS},
     {"remove", make_remove, CHANGES},
     {"remove_domain", make_remove_domain, CHANGES},
     {"clear", make_clear, CHANGES},
@@ -399,11 +432,11 @@ static void read_string(struct string *string) {
 /* Reads a call, and returns whether there is one. */
 static bool read_call(struct call *call) {
     struct string *strings = call->strings;
-    int words = scanf("%31s %ld %" SCNu64 " %zu %zu %" SCNd64 " %zu %zu %zu %zu %zu %zu %zu", call->name, &call->failing, &call->allowed,
-                      &call->handle, &call->other, &call->now, &call->room, &call->items, &call->option, &call->which,
-                      &strings[0].length, &strings[1].length, &strings[2].length);
+    int words = scanf("%31s %ld %" SCNu64 " %zu %zu %" SCNd64 " %zu %zu %zu %zu %zu %zu %zu %zu", call->name, &call->failing,
+                      &call->allowed, &call->handle, &call->other, &call->now, &call->room, &call->items, &call->option, &call->which,
+                      &strings[0].length, &strings[1].length, &strings[2].length, &strings[3].length);
     if (words == EOF) return false;
-    bool is_well = words == 13 && getchar() == '\n' && call->handle < HANDLES && call->other < HANDLES && call->handle != call->other;
+    bool is_well = words == 14 && getchar() == '\n' && call->handle < HANDLES && call->other < HANDLES && call->handle != call->other;
     if (!is_well || call->room > ROOM || call->items > ITEMS) errx(2, "bad input");
     for (int at = 0; at < STRINGS; at++) read_string(&strings[at]);
     return true;

@@ -28,7 +28,7 @@ from fuzz_parts.cookie_lines import either, random_file
 from fuzz_parts.corpus_files import stop_unless_built
 from fuzz_parts.library import add_archive, add_run, compile_part, feed, generator, reason_to_skip, until
 
-HANDLES, ROOM, ITEMS, STRINGS = 3, 1 << 14, 64, 3  # as in calls.c
+HANDLES, ROOM, ITEMS, STRINGS = 3, 1 << 14, 64, 4  # as in calls.c
 NUMBERS = ('handle', 'other', 'now', 'room', 'items', 'option', 'which')  # of a call, in the order of calls.c
 VALGRIND = ['valgrind', '-q', '--leak-check=full', '--error-exitcode=9', '--exit-on-first-error=yes']
 NOW = 1767225600  # 2026-01-01T00:00:00
@@ -44,8 +44,11 @@ CALLS: Dict[str, Tuple[float, List[str]]] = {
     'is_strict': (0.3, []),
     'set_hash_key': (0.5, ['key']),
     'parse': (16, ['now', 'url', 'value']),
+    'parse_for': (4, ['now', 'request', 'url', 'page', 'value']),
+    'insert': (6, ['now', 'expires', 'flags', 'same_site', 'domain', 'path', 'name', 'content']),
     'header': (3, ['now', 'room', 'url']),
     'header_cross_site': (2, ['now', 'room', 'request', 'url']),
+    'header_for': (2, ['now', 'room', 'request', 'url', 'page']),
     'remove': (2, ['domain', 'path', 'name']),
     'remove_domain': (0.5, ['domain']),
     'clear': (0.2, []),
@@ -67,8 +70,13 @@ NUMBERS_OF: Dict[str, Tuple[List[int], List[int]]] = {
     'request': ([0, 1, 2, 3], [4, 2**32 - 1]),
     'format': ([0, 1, 2, 3], [4, 2**32 - 1]),
     'which': ([0, 0, 1, 2], [3, 2**32 - 1]),
+    'expires': ([NOW + 60, 4102444800], [0, NOW, 253402300799]),
+    'flags': (list(range(32)), [0, 31]),
+    'same_site': ([0, 1, 2, 3], [4, 2**32 - 1]),
 }
-OPTIONS = ('flag', 'limit', 'request', 'format')  # those that are the `option` of a call
+# Those that are another number of a call than their name says.
+NUMBER_OF = {**dict.fromkeys(('flag', 'limit', 'request', 'format', 'same_site'), 'option'), 'expires': 'which', 'flags': 'items'}
+CONTENTS, ODD_CONTENTS = ['1', ''], ['a=1', 'v' * 4096, 'x\ty', 'x;y', ' x', 'k\u00fc']
 HOSTS, PATHS, NAMES = ['a.com', 'b.a.com', 'localhost', 'example.com'], ['/', '/a'], ['a', 'b', 'c', 's', 'h']
 VALUES = ['a=1', 'b=2; Path=/', 'c=3; Domain=a.com; Max-Age=60', 's=4; Secure', 'h=5; HttpOnly', 'a=; Max-Age=0', 'l=6; SameSite=Lax',
           '__Host-a=1; Secure; Path=/', 'n=7; SameSite=None', 't=x\ty', 'e=8; Expires=Thu, 01 Jan 1970 00:00:00 GMT', 's=9; Path=/',
@@ -105,10 +113,12 @@ def string_makers():
     return {
         'key': lambda rng, call: bytes(rng.randrange(256) for _ in range(rng.choice([0, 1, 16, 20]))),
         'url': lambda rng, call: any_url(rng),
+        'page': lambda rng, call: any_url(rng),
         'value': lambda rng, call: (rng.choice(VALUES) if rng.random() < 0.7 else scripts.header_value(rng)).encode(),
         'domain': lambda rng, call: either(rng, HOSTS, scripts.HOSTS).encode(),
         'path': lambda rng, call: either(rng, PATHS, scripts.PATHS).encode(),
         'name': lambda rng, call: either(rng, NAMES, scripts.NAMES).encode(),
+        'content': lambda rng, call: either(rng, CONTENTS, ODD_CONTENTS).encode(),
         'suffixes': lambda rng, call: rng.choice([*suffixes, '\n'.join(rng.choices(scripts.RULES, k=5)).encode()]),
         'list': lambda rng, call: any_list(rng, call['option'], lists),
     }
@@ -128,7 +138,7 @@ def random_call(rng, name, makers, begun):
     call = {'call': name, 'failing': rng.choice([0] * 8 + [1, 2, 3, 5, 8, 13, -1, -4]), 'handle': handle, 'other': other, 'strings': []}
     for argument in CALLS[name][1]:
         if argument in NUMBERS_OF:
-            call['option' if argument in OPTIONS else argument] = either(rng, *NUMBERS_OF[argument])
+            call[NUMBER_OF.get(argument, argument)] = either(rng, *NUMBERS_OF[argument])
         else:
             made = makers[argument](rng, call)
             call['strings'].append(scripts.changed(rng, made) if rng.random() < 0.1 else made)

@@ -39,6 +39,7 @@ const CODES = {
   44: 'PREFIX',
   45: 'SECURE_STORED',
   46: 'SECURE_LIMIT',
+  47: 'CROSS_SITE_RESPONSE',
 };
 const UNKNOWN = 'UNKNOWN_';
 const NUMBERS = new Map(Object.entries(CODES).map(([number, code]) => [code, Number(number)]));

@@ -55,6 +55,19 @@ function cookiesOf(fields) {
   return cookies;
 }
 
+/** Returns a flag as a number. */
+function bitOf(name, flag) {
+  if (typeof flag !== 'boolean') throw typeError(`${name} must be a boolean`);
+  return Number(flag);
+}
+
+/** Returns the number of a SameSite attribute. */
+function sameSiteOf(sameSite) {
+  const number = SAME_SITES.indexOf(sameSite);
+  if (number < 0) throw new CookieStoreError('BAD_OPTION');
+  return number;
+}
+
 const notCloneable = () => 'a store belongs to the thread that created it';
 
 /** Has postMessage throw a DataCloneError for an object, in place of sending an empty one: structuredClone copies no function. */
@@ -127,11 +140,23 @@ class CookieStore {
   }
 
   parse(url, value, options) {
-    return codeOf(this.#store.parse(hrefOf(url), value, secondsOf(options?.now)));
+    const page = options?.page;
+    if (page === undefined) return codeOf(this.#store.parse(hrefOf(url), value, secondsOf(options?.now)));
+    return codeOf(this.#store.parseFor(hrefOf(url), hrefOf(page), value, secondsOf(options.now), flagsOf(options)));
+  }
+
+  insert({ name, value, domain, path = '/', hostOnly = false, hasPath = true, secure = false, httpOnly = false,
+    sameSite = null, expires = null }, options) {
+    const flags = bitOf('hostOnly', hostOnly) | (bitOf('hasPath', hasPath) << 1) | (bitOf('secure', secure) << 2)
+      | (bitOf('httpOnly', httpOnly) << 3) | (sameSiteOf(sameSite) << 4);
+    return codeOf(this.#store.insert(domain, path, name, value, secondsOf(expires), flags, secondsOf(options?.now)));
   }
 
   header(url, options) {
-    return this.#store.header(hrefOf(url), secondsOf(options?.now), crossSiteFlags(options)) || null;
+    const { now, page, sameSite = true } = options ?? {};
+    if (!sameSite) return this.#store.header(hrefOf(url), secondsOf(now), flagsOf(options)) || null;
+    if (page === undefined) return this.#store.header(hrefOf(url), secondsOf(now)) || null;
+    return this.#store.headerFor(hrefOf(url), hrefOf(page), secondsOf(now), flagsOf(options)) || null;
   }
 
   cookies() {
@@ -182,9 +207,9 @@ class CookieStore {
   }
 }
 
-/** Returns the flags of a cross-site request, or undefined for another one. */
-function crossSiteFlags({ sameSite = true, topLevel = false, laxByDefault = true } = {}) {
-  return sameSite ? undefined : (topLevel ? TOP_LEVEL : 0) | (laxByDefault ? 0 : NONE_BY_DEFAULT);
+/** Returns the flags of a cross-site request. */
+function flagsOf({ topLevel = false, laxByDefault = true }) {
+  return (topLevel ? TOP_LEVEL : 0) | (laxByDefault ? 0 : NONE_BY_DEFAULT);
 }
 
 if (Symbol.dispose) CookieStore.prototype[Symbol.dispose] = CookieStore.prototype.close;

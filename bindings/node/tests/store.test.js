@@ -39,6 +39,70 @@ test('parse returns what happens to a cookie', () => {
   ], (url, value) => store.parse(url, value, { now: NOW }));
 });
 
+test('insert returns what happens to a cookie', () => {
+  const parts = { name: 'a', value: '1', domain: 'a.example' };
+  const rows = [
+    [{}, 'INSERTED', 'INSERTED'],
+    [{ value: '2', hostOnly: true, sameSite: 'Strict' }, 'UPDATED', 'UPDATED'],
+    [{ expires: NOW }, 'EXPIRED_EXISTING', 'EXPIRED_EXISTING'],
+    [{ expires: new Date(NOW * 1000) }, 'EXPIRED', 'EXPIRED'],
+    [{ name: 'm', sameSite: 'None' }, 'INSERTED', 'INSECURE_SAME_SITE_NONE'],
+    [{ name: '__Host-p', secure: true }, 'INSERTED', 'PREFIX'],
+    [{ name: '__Host-h', secure: true, hostOnly: true }, 'INSERTED', 'INSERTED'],
+    [{ name: '__Host-d', secure: true, hostOnly: true, hasPath: false }, 'INSERTED', 'PREFIX'],
+    [{ name: 't\x01' }, 'INSERTED', 'CONTROL_CHARACTER'],
+    ...[
+      [{ name: '' }, 'PARSE'],
+      [{ name: 'a;b' }, 'PARSE'],
+      [{ value: '1;2' }, 'PARSE'],
+      [{ path: 'd' }, 'PARSE'],
+      [{ domain: '' }, 'DOMAIN_MISMATCH'],
+      [{ domain: '.a.example' }, 'DOMAIN_MISMATCH'],
+      [{ domain: 'A.example' }, 'DOMAIN_MISMATCH'],
+      [{ name: new Uint8Array([0xff]) }, 'NOT_UTF8'],
+      [{ path: new Uint8Array([0xff]) }, 'NOT_UTF8'],
+      [{ expires: 253402300800 }, 'BAD_TIME'],
+      [{ expires: NaN }, 'BAD_TIME'],
+      [{ sameSite: 'strict' }, 'BAD_OPTION'],
+      [{ sameSite: '' }, 'BAD_OPTION'],
+      [{ name: 1 }, 'ERR_INVALID_ARG_TYPE'],
+      [{ domain: null }, 'ERR_INVALID_ARG_TYPE'],
+      [{ secure: 1 }, 'ERR_INVALID_ARG_TYPE'],
+      [{ expires: '1' }, 'ERR_INVALID_ARG_TYPE'],
+    ].map(([changes, code]) => [changes, code, code]),
+  ];
+  for (const strict of [false, true]) {
+    const store = new CookieStore({ strict });
+    compare(rows.map(([changes, plain, other]) => [changes, strict ? other : plain]),
+      (changes) => store.insert({ ...parts, ...changes }, { now: NOW }));
+  }
+});
+
+test('inserted cookies come back and are sent', () => {
+  const store = new CookieStore({ suffixList: 'example\n', onlyListed: true });
+  const parts = [
+    { name: 'a', value: '1', domain: 'a.example' },
+    { name: 'ü', value: 'a=1', domain: 'a.example', path: '/x', hostOnly: true, httpOnly: true, sameSite: 'Lax',
+      expires: new Date((NOW + 60) * 1000) },
+    { name: 's', value: '', domain: 'example', secure: true, expires: null, sameSite: null, hasPath: false },
+  ];
+  for (const cookie of parts) assert.equal(store.insert(cookie, { now: NOW }), 'INSERTED', `of ${cookie.name}`);
+  const shared = { path: '/', hostOnly: false, hasPath: true, secure: false, httpOnly: false, sameSite: null, expires: null };
+  const expected = parts.map((cookie) => ({ ...shared, ...cookie }));
+  expected[2].hostOnly = true; // it is of a public suffix
+  assert.deepEqual(store.cookies(), expected);
+  compare([
+    ['http://a.example/x', NOW, 'ü=a=1; a=1'],
+    ['http://a.example/x', NOW + 60, 'a=1'],
+    ['http://b.a.example/x', NOW, 'a=1'],
+    ['https://example/', NOW, 's='],
+    ['http://example/', NOW, null],
+  ], (url, now) => store.header(url, { now }));
+  const copy = new CookieStore();
+  for (const cookie of store) copy.insert(cookie, { now: NOW });
+  assert.deepEqual(copy.cookies(), expected);
+});
+
 test('a strict store rejects what browsers reject', () => {
   const store = new CookieStore({ strict: true, domainLimit: 1 });
   compare([
@@ -47,6 +111,8 @@ test('a strict store rejects what browsers reject', () => {
     [URL_A, 'a=1; Secure', 'INSECURE_URL'],
     [URL_A, 'a=1; SameSite=None', 'INSECURE_SAME_SITE_NONE'],
     [URL_A, '__Host-a=1', 'PREFIX'],
+    ['https://a.example/', '__Http-a=1; Secure', 'PREFIX'],
+    ['https://a.example/', 'a=1; Domain=a.example\u00a0', 'DOMAIN_MISMATCH'],
     ['https://a.example/', 'a=1; Secure', 'INSERTED'],
     [URL_A, 'a=1', 'SECURE_STORED'],
     ['https://a.example/', 'b=1', 'SECURE_LIMIT'],
@@ -67,6 +133,57 @@ test('header returns the cookies of a request', () => {
     ['http://b.example/', NOW, {}, null],
     [new URL('http://a.example/'), new Date((NOW + 5) * 1000), {}, 'root=1; lax=5; strict=6'],
   ], (url, now, options) => store.header(url, { now, ...options }));
+});
+
+const URL_CO = 'https://a.co.example/d/page';
+const SAME_SITE = 'https://www.a.co.example/';
+const CROSS_SITE = 'https://b.co.example/';
+
+test('a page decides whether a request is cross-site', () => {
+  const values = [
+    'none=1; SameSite=None; Path=/d', 'unset=2; Path=/d', 'lax=3; SameSite=Lax; Path=/', 'strict=4; SameSite=Strict; Path=/',
+  ];
+  const all = 'none=1; unset=2; lax=3; strict=4';
+  compare([
+    [true, { page: SAME_SITE }, all],
+    [true, { page: SAME_SITE, topLevel: true, laxByDefault: false }, all],
+    [true, { page: SAME_SITE, sameSite: false }, 'none=1'],
+    [true, { page: new URL('https://a.co.example:8443/') }, all],
+    [true, { page: 'http://a.co.example/' }, 'none=1'],
+    [true, { page: CROSS_SITE }, 'none=1'],
+    [true, { page: Buffer.from(CROSS_SITE), laxByDefault: false }, 'none=1; unset=2'],
+    [true, { page: CROSS_SITE, topLevel: true }, 'none=1; unset=2; lax=3'],
+    [true, { page: 'data:text/html,' }, 'none=1'],
+    [false, { page: 'https://a.co.example/' }, all],
+    [false, { page: SAME_SITE }, 'none=1'],
+    [true, { page: '' }, 'BAD_URL'],
+    [true, { page: null }, 'ERR_INVALID_ARG_TYPE'],
+  ], (isListed, options) => {
+    const store = new CookieStore(isListed ? { suffixList: 'co.example\n' } : {});
+    for (const value of values) store.parse(URL_CO, value, { now: NOW });
+    return store.header(URL_CO, { now: NOW, ...options });
+  });
+  const long = `a=${'1'.repeat(5000)}`;
+  assert.equal(storeOf(long).header(URL_A, { now: NOW, page: URL_A }), long);
+});
+
+test('a page decides whether a response is cross-site', () => {
+  compare([
+    ['a=1; SameSite=Strict', { page: SAME_SITE }, 'INSERTED'],
+    ['a=1', { page: SAME_SITE }, 'INSERTED'],
+    ['__Host-a=1', { page: SAME_SITE }, 'PREFIX'],
+    ['a=1; SameSite=Lax', { page: CROSS_SITE }, 'CROSS_SITE_RESPONSE'],
+    ['a=1', { page: CROSS_SITE }, 'CROSS_SITE_RESPONSE'],
+    ['a=1; SameSite=None; Secure', { page: new URL(CROSS_SITE) }, 'INSERTED'],
+    ['a=1; SameSite=None', { page: CROSS_SITE }, 'INSECURE_SAME_SITE_NONE'],
+    ['a=1; SameSite=Strict', { page: CROSS_SITE, topLevel: true }, 'INSERTED'],
+    ['a=1', { page: CROSS_SITE, laxByDefault: false }, 'INSERTED'],
+    ['a=1\x01', { page: CROSS_SITE }, 'CONTROL_CHARACTER'],
+    ['a=1', { page: '' }, 'BAD_URL'],
+    ['a=1', { page: null }, 'ERR_INVALID_ARG_TYPE'],
+    [null, { page: CROSS_SITE }, 'ERR_INVALID_ARG_TYPE'],
+  ], (value, options) => new CookieStore({ suffixList: 'co.example\n' }).parse(URL_CO, value, { now: NOW, ...options }));
+  assert.ok(isRejection('CROSS_SITE_RESPONSE'));
 });
 
 test('times are Dates and seconds, rounded down', () => {

@@ -6,7 +6,10 @@ import {
 
 const store = new CookieStore({ suffixList: new Uint8Array(), onlyListed: true, domainLimit: 1, strict: true });
 const status: string = store.parse({ href: 'http://a.example/' }, 'a=1', { now: new Date() });
+const isNew: boolean = store.insert({ name: 'a', value: '1', domain: 'a.example', expires: new Date(), sameSite: 'Lax' }) === 'INSERTED';
 const header: string | null = store.header('http://a.example/', { now: 0, sameSite: false, topLevel: true, laxByDefault: false });
+const response: string = store.parse('http://a.example/', 'a=1', { page: 'http://b.example/', topLevel: true, laxByDefault: false });
+const request: string | null = store.header('http://a.example/', { page: new URL('http://b.example/') });
 for (const { domain, expires, sameSite } of store) {
   const row: [string, number | undefined, 'Strict' | 'Lax' | 'None' | null] = [domain, expires?.getTime(), sameSite];
   void row;
@@ -37,6 +40,8 @@ async function useJar(jar: CookieJar): Promise<void> {
 
 // @ts-expect-error: no such format
 store.save({ format: 'xml' });
+// @ts-expect-error: a cookie has a domain
+store.insert({ name: 'a', value: '1' });
 // @ts-expect-error: a value is a string or bytes
 store.parse('http://a.example/', 1);
 // @ts-expect-error: a Store of tough-cookie is not one
@@ -44,4 +49,4 @@ new CookieJar({ findCookie() {} });
 // @ts-expect-error: it takes what the fetch takes
 get(1);
 
-void [header, counts, isRemoved, length, useJar, statusText('PARSE')];
+void [header, isNew, counts, isRemoved, length, useJar, statusText('PARSE')];

@@ -27,9 +27,14 @@ class Status(enum.IntEnum):
     TOO_LONG -- its name and value together are longer than 4,096 bytes
     INSECURE_URL -- it is Secure, and the URL is not secure
     INSECURE_SAME_SITE_NONE -- it has SameSite=None and is not Secure
-    PREFIX -- its name begins with __Secure- or __Host-, and it lacks what the prefix demands
+    PREFIX -- its name begins with __Secure-, __Host-, __Http- or __Host-Http-, and it lacks what
+        the prefix demands
     SECURE_STORED -- it is not Secure, nor is the URL, and it would overlay a stored Secure cookie
     SECURE_LIMIT -- it is not Secure, and its domain has its limit of unexpired Secure cookies
+
+    The cookie was rejected by a call of parse() with a page, besides:
+    CROSS_SITE_RESPONSE -- the request was cross-site and no top-level navigation, and the cookie is
+        not SameSite=None
 
     An argument is not valid:
     BAD_URL -- not a URL, or one from which parsers read different hosts
@@ -87,6 +92,7 @@ class Status(enum.IntEnum):
     PREFIX = 44
     SECURE_STORED = 45
     SECURE_LIMIT = 46
+    CROSS_SITE_RESPONSE = 47
 
     @property
     def is_success(self) -> bool:
@@ -141,6 +147,7 @@ TEXTS = {
     Status.PREFIX: 'lacks what the prefix of its name demands',
     Status.SECURE_STORED: 'a Secure cookie with its name is stored',
     Status.SECURE_LIMIT: 'the domain has its limit of Secure cookies',
+    Status.CROSS_SITE_RESPONSE: 'not SameSite=None, of a cross-site response',
 }
 
 

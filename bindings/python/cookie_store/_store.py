@@ -11,7 +11,7 @@ from ._arguments import Text, Time, bytes_of, seconds_of
 from ._files import Path
 from ._formats import Format, Which
 from ._handle import Suffixes
-from ._library import LIBRARY, NONE_BY_DEFAULT, ROW, TOP_LEVEL
+from ._library import LIBRARY, NONE_BY_DEFAULT, ROW, SAME_SITES, TOP_LEVEL, Row
 from ._listing import Cookie, cookies_of
 from ._log import log_not_stored, name_of
 from ._saved import SavedStore
@@ -32,6 +32,11 @@ def _host_of(url: Text) -> str:
     text = url if isinstance(url, str) else url.decode('utf-8', 'backslashreplace')
     authority = _AUTHORITY.match(text)
     return re.sub(r':[0-9]*$', '', authority[1].rpartition('@')[2]) if authority else ''
+
+
+def _flags_of(top_level: bool, lax_by_default: bool) -> int:
+    """Return the flags of a cross-site request."""
+    return (TOP_LEVEL if top_level else 0) | (0 if lax_by_default else NONE_BY_DEFAULT)
 
 
 class CookieStore(SavedStore):
@@ -58,16 +63,59 @@ class CookieStore(SavedStore):
         """Return the class and the number of cookies, without a cookie: values may be secret."""
         return f'<{type(self).__name__} of {len(self)} cookies>'
 
-    def parse(self, url: Text, value: Text, now: Optional[Time] = None) -> Status:
+    def parse(self, url: Text, value: Text, now: Optional[Time] = None, *, page: Optional[Text] = None,
+              top_level: bool = False, lax_by_default: bool = True) -> Status:
         """Parse a Set-Cookie header value received from url and insert the cookie.
 
         Return INSERTED, UPDATED or EXPIRED_EXISTING, or the reason why the cookie was rejected,
-        such as DOMAIN_MISMATCH. Raises BAD_URL.
+        such as DOMAIN_MISMATCH.
+
+        If page is not None, it is the URL of the page that made the request, and the rules of
+        browsers apply, see set_strict(), whether the store is strict or not. If it is not same-site
+        with url, as in header(), a cookie that is not SameSite=None is rejected: CROSS_SITE_RESPONSE.
+        If top_level is true, for a top-level navigation with any method, no cookie is rejected for
+        its SameSite attribute, and if lax_by_default is false none that has no such attribute.
+        Without page, and for a same-site request, these two arguments have no effect.
+
+        Raises BAD_URL.
         """
-        page, cookie, seconds = bytes_of(url), bytes_of(value), seconds_of(now)
+        target, cookie, seconds = bytes_of(url), bytes_of(value), seconds_of(now)
+        source = None if page is None else bytes_of(page)
         with self._lock:
             self._cookies = None
-            number = LIBRARY.cookie_store_parse(self._store, page, len(page), cookie, len(cookie), seconds)
+            if source is None:
+                number = LIBRARY.cookie_store_parse(self._store, target, len(target), cookie, len(cookie), seconds)
+            else:
+                number = LIBRARY.cookie_store_parse_for(self._store, target, len(target), source, len(source), cookie, len(cookie),
+                                                        seconds, _flags_of(top_level, lax_by_default))
+        if not is_reply(number):
+            check(number)
+        return STATUSES.get(number) or Status(number)
+
+    def insert(self, name: Text, value: Text, domain: Text, *, path: Text = '/', host_only: bool = False, secure: bool = False,
+               http_only: bool = False, same_site: Optional[str] = None, expires: Optional[Time] = None,
+               now: Optional[Time] = None) -> Status:
+        """Insert a cookie by its parts, as if its own domain had sent it.
+
+            store.insert('id', '7', 'example.com', secure=True, expires=time.time() + 3600)
+
+        The domain is in lower case, without a leading dot. The cookie is also sent to the hosts below
+        it, unless host_only is true. same_site is 'Strict', 'Lax' or 'None', or None without a SameSite
+        attribute. Without expires it is a session cookie.
+
+        Return what parse() returns: PARSE if no server can set the cookie, as with a `;` in its name
+        or a path that does not begin with `/`, and DOMAIN_MISMATCH if the domain is not the host of a
+        URL. Raises BAD_OPTION for another same_site.
+        """
+        strings = [bytes_of(domain), bytes_of(path), bytes_of(name), bytes_of(value)]
+        words = [word for string in strings for word in (string, len(string))]
+        number_of_same_site = SAME_SITES.index(same_site) if same_site in SAME_SITES else len(SAME_SITES)
+        row = Row(0, 0, 0, 0, 0 if expires is None else seconds_of(expires), expires is not None, bool(host_only), True, bool(secure),
+                  bool(http_only), number_of_same_site)
+        seconds = seconds_of(now)
+        with self._lock:
+            self._cookies = None
+            number = LIBRARY.cookie_store_insert(self._store, *words, row, seconds)
         if not is_reply(number):
             check(number)
         return STATUSES.get(number) or Status(number)
@@ -124,8 +172,8 @@ class CookieStore(SavedStore):
                 status = error.status
             yield header_value, int(status)
 
-    def header(self, url: Text, now: Optional[Time] = None, *, same_site: bool = True, top_level: bool = False,
-               lax_by_default: bool = True) -> Optional[str]:
+    def header(self, url: Text, now: Optional[Time] = None, *, page: Optional[Text] = None, same_site: bool = True,
+               top_level: bool = False, lax_by_default: bool = True) -> Optional[str]:
         """Return the value of the Cookie header of a request for url, or None if none is to be sent.
 
         The cookies are in the order of RFC 6265 5.4: longer paths first, then in creation order.
@@ -133,24 +181,34 @@ class CookieStore(SavedStore):
         it before you write it to a connection. The jars and clients of this package leave such cookies
         out.
 
-        If same_site is false, the request comes from a page of another site, or from a page in a
-        frame of one: cookies with SameSite=Strict are left out, and those with SameSite=Lax unless
+        If page is not None, it is the URL of the page that made the request, which is cross-site
+        unless the two URLs are same-site: they have the same scheme, and under the public suffix
+        list of the store the same registrable domain, or the same host if that has none or there is
+        no list. A same-site request has the cookies that a strict store gives it.
+
+        If same_site is false, the request is cross-site whatever page is: pass that for a page in a
+        frame of a page of another site, and for a request that a page of another site redirected.
+
+        A cross-site request has no cookies with SameSite=Strict, and those with SameSite=Lax only if
         top_level is true, for a top-level navigation with a safe method. A cookie without a
-        SameSite attribute is treated as SameSite=Lax, or as None if lax_by_default is false. If
-        same_site is true, the other two arguments have no effect.
+        SameSite attribute is treated as SameSite=Lax, or as None if lax_by_default is false. For
+        another request these two arguments have no effect.
 
         Raises BAD_URL.
         """
-        page, seconds, needed = bytes_of(url), seconds_of(now), ctypes.c_size_t()
-        call, request = LIBRARY.cookie_store_header, []
+        target, seconds, needed = bytes_of(url), seconds_of(now), ctypes.c_size_t()
+        call = LIBRARY.cookie_store_header
+        request: Tuple[Any, ...] = (seconds,)
         if not same_site:
-            flags = (TOP_LEVEL if top_level else 0) | (0 if lax_by_default else NONE_BY_DEFAULT)
-            call, request = LIBRARY.cookie_store_header_cross_site, [flags]
+            call, request = LIBRARY.cookie_store_header_cross_site, (seconds, _flags_of(top_level, lax_by_default))
+        elif page is not None:
+            source = bytes_of(page)
+            call, request = LIBRARY.cookie_store_header_for, (source, len(source), seconds, _flags_of(top_level, lax_by_default))
         with self._lock:
-            number = call(self._store, page, len(page), seconds, *request, self._buffer, len(self._buffer), needed)
+            number = call(self._store, target, len(target), *request, self._buffer, len(self._buffer), needed)
             if number == Status.NO_ROOM:
                 self._buffer = ctypes.create_string_buffer(needed.value)
-                number = call(self._store, page, len(page), seconds, *request, self._buffer, len(self._buffer), needed)
+                number = call(self._store, target, len(target), *request, self._buffer, len(self._buffer), needed)
             check(number)
             return ctypes.string_at(self._buffer, needed.value).decode('utf-8') or None
 

@@ -18,7 +18,7 @@ class DeclarationTests(unittest.TestCase):
     """cookie_store.h agrees with the module, and with the proved functions."""
 
     TYPES = {'cookie_store *': ctypes.POINTER(Store), 'cookie_store_row *': ctypes.POINTER(Row),
-             'const char *': ctypes.c_char_p, 'char *': ctypes.POINTER(ctypes.c_char), 'size_t': ctypes.c_size_t,
+             'const cookie_store_row *': ctypes.POINTER(Row), 'const char *': ctypes.c_char_p, 'char *': ctypes.POINTER(ctypes.c_char), 'size_t': ctypes.c_size_t,
              'size_t *': ctypes.POINTER(ctypes.c_size_t), 'int64_t': ctypes.c_int64, 'bool': ctypes.c_bool,
              'void *': ctypes.c_void_p, 'void': None, 'uint32_t': ctypes.c_uint32,
              **{f'enum cookie_store_{name}': ctypes.c_uint32 for name in ('status', 'same_site', 'format', 'which')}}
@@ -74,7 +74,7 @@ class DeclarationTests(unittest.TestCase):
     # The C types of each Rattle type. C functions have no parameter for the allocator.
     IN_C = {'Global': [], '&mut StoreHandle': ['cookie_store *'], '&[u8]': ['const char *', 'size_t'],
             '&mut [u8]': ['char *', 'size_t'], '&mut [CookieRow]': ['cookie_store_row *', 'size_t'],
-            '&mut [usize]': ['size_t *', 'size_t'],
+            '&mut [usize]': ['size_t *', 'size_t'], '&CookieRow': ['const cookie_store_row *'],
             '&mut usize': ['size_t *'], 'usize': ['size_t'], 'i64': ['int64_t'],
             'bool': ['bool'], 'u8': ['bool'], 'u32': ['uint32_t'], '': ['void']}
 
@@ -82,7 +82,7 @@ class DeclarationTests(unittest.TestCase):
         return [self.TYPES[kind] for word in words for kind in self.IN_C[word.strip()]]
 
     def test_proved_signatures(self):
-        text = ''.join((PROVED / name).read_text() for name in ('exports.rt', 'row_exports.rt', 'saved_exports.rt', 'merging.rt'))
+        text = ''.join(path.read_text() for path in PROVED.glob('*.rt'))
         exports = re.findall(r'#\[unsafe\(no_mangle\)\]\npub extern "C" fn (\w+)\((.*?)\)(?: -> (\w+))?\n', text, re.S)
         proved = {name: (self.in_c([result])[0], self.in_c(re.findall(r'\w+: ([^,]+)', arguments)))
                   for name, arguments, result in exports}

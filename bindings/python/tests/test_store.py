@@ -71,6 +71,10 @@ STRICT_SETS = [
     ('https://a.example/d/page', '__Host-p=1; Secure', Status.PREFIX),
     ('https://a.example/d/page', 's=1; Secure', Status.INSERTED),
     (PAGE, 's=2', Status.SECURE_STORED),
+    ('https://a.example/d/page', 'd=1; Domain=a.example\xa0', Status.DOMAIN_MISMATCH),
+    ('https://a.example/d/page', '__Http-h=1; Secure', Status.PREFIX),
+    ('https://a.example/d/page', '__Http-h=1; Secure; HttpOnly', Status.INSERTED),
+    ('http://a.localhost/', 's=1; Secure', Status.INSERTED),
 ]
 
 # Arguments of header() for a request from another site, and the cookies that it has: with SameSite
@@ -81,6 +85,39 @@ CROSS_SITE = [
     ({'top_level': True}, 'nul'),
     ({'top_level': True, 'lax_by_default': False}, 'nul'),
     ({'same_site': True}, 'nuls'),
+]
+
+SITE, OTHER_SITE = 'https://www.a.co.example/', 'https://b.co.example/'
+
+# The page of a request for https://a.co.example/d/page and other arguments of header(), and the cookies that it has, named as
+# above: with the public suffix co.example, and without a list.
+PAGES = [
+    ({'page': SITE}, 'nuls', 'n'),
+    ({'page': SITE.encode()}, 'nuls', 'n'),
+    ({'page': SITE, 'top_level': True, 'lax_by_default': False}, 'nuls', 'nul'),
+    ({'page': SITE, 'same_site': False}, 'n', 'n'),
+    ({'page': 'https://a.co.example:8443/'}, 'nuls', 'nuls'),
+    ({'page': 'http://a.co.example/'}, 'n', 'n'),
+    ({'page': OTHER_SITE}, 'n', 'n'),
+    ({'page': OTHER_SITE, 'lax_by_default': False}, 'nu', 'nu'),
+    ({'page': OTHER_SITE, 'top_level': True}, 'nul', 'nul'),
+    ({'page': 'data:text/html,'}, 'n', 'n'),
+]
+
+# A header value of a response from https://a.co.example/, arguments of parse(), and the status.
+RESPONSES = [
+    ('a=1; SameSite=Strict', {'page': SITE}, Status.INSERTED),
+    ('a=1', {'page': SITE}, Status.INSERTED),
+    ('__Host-a=1', {'page': SITE}, Status.PREFIX),
+    ('a=1; SameSite=Lax', {'page': OTHER_SITE}, Status.CROSS_SITE_RESPONSE),
+    ('a=1', {'page': OTHER_SITE}, Status.CROSS_SITE_RESPONSE),
+    ('a=1; SameSite=None; Secure', {'page': OTHER_SITE}, Status.INSERTED),
+    ('a=1; SameSite=None', {'page': OTHER_SITE}, Status.INSECURE_SAME_SITE_NONE),
+    ('a=1; SameSite=Strict', {'page': OTHER_SITE, 'top_level': True}, Status.INSERTED),
+    ('a=1', {'page': OTHER_SITE, 'lax_by_default': False}, Status.INSERTED),
+    ('a=1; SameSite=Lax', {'page': OTHER_SITE, 'lax_by_default': False}, Status.CROSS_SITE_RESPONSE),
+    ('a=1; SameSite=Lax', {'lax_by_default': False}, Status.INSERTED),
+    ('a=1\x01', {'page': OTHER_SITE}, Status.CONTROL_CHARACTER),
 ]
 
 JSON = '[{"raw_cookie":"%s","path":["/",false],"domain":{"HostOnly":"a.example"},"expires":%s}]'
@@ -101,6 +138,12 @@ RAISES = [
     ('header, no URL', lambda store: store.header('no url'), Status.BAD_URL),
     ('header, not UTF-8', lambda store: store.header(b'\xff'), Status.NOT_UTF8),
     ('header, after the years', lambda store: store.header(PAGE, LAST + 1), Status.BAD_TIME),
+    ('header, no page', lambda store: store.header(PAGE, page='no url'), Status.BAD_URL),
+    ('header, an empty page', lambda store: store.header(PAGE, page=''), Status.BAD_URL),
+    ('header, page not UTF-8', lambda store: store.header(PAGE, page=b'\xff'), Status.NOT_UTF8),
+    ('parse, no page', lambda store: store.parse(PAGE, 'a=2', page='no url'), Status.BAD_URL),
+    ('parse, page not UTF-8', lambda store: store.parse(PAGE, 'a=2', page=b'\xff'), Status.NOT_UTF8),
+    ('parse with a page, after the years', lambda store: store.parse(PAGE, 'a=2', LAST + 1, page=PAGE), Status.BAD_TIME),
     ('remove, domain not UTF-8', lambda store: store.remove(b'\xff', '/', 'a'), Status.NOT_UTF8),
     ('remove_domain, not UTF-8', lambda store: store.remove_domain(b'\xff'), Status.NOT_UTF8),
     ('remove, path not UTF-8', lambda store: store.remove('a.example', b'\xff', 'a'), Status.NOT_UTF8),
@@ -147,9 +190,12 @@ RAISES = [
 # Calls that raise NO_STORE after close().
 CLOSED = [
     ('parse', lambda store: store.parse(PAGE, 'a=1')),
+    ('insert', lambda store: store.insert('', '', '')),
     ('header', lambda store: store.header(PAGE)),
     ('set_suffix_list', lambda store: store.set_suffix_list('com')),
     ('header, cross-site', lambda store: store.header(PAGE, same_site=False)),
+    ('header, with a page', lambda store: store.header(PAGE, page=PAGE)),
+    ('parse, with a page', lambda store: store.parse(PAGE, 'a=1', page=PAGE)),
     ('set_domain_limit', lambda store: store.set_domain_limit(1)),
     ('set_strict', lambda store: store.set_strict(True)),
     ('remove', lambda store: store.remove('', '', '')),
@@ -204,6 +250,26 @@ class StoreTests(unittest.TestCase):
             self.assertEqual(header, '; '.join(f'{name}=1' for name in wanted), words)
         store.parse(PAGE, 'n=' + 'v' * 5000 + '; SameSite=None', NOW)
         self.assertEqual(store.header(PAGE, NOW, same_site=False), 'n=' + 'v' * 5000)
+
+    def test_pages(self):
+        for suffixes in ('co.example\n', None):
+            store = CookieStore()
+            if suffixes:
+                store.set_suffix_list(suffixes)
+            for text in ('n=1; SameSite=None; Path=/d', 'u=1; Path=/d', 'l=1; SameSite=Lax; Path=/', 's=1; SameSite=Strict; Path=/'):
+                store.parse('https://a.co.example/d/page', text, NOW)
+            for words, listed, unlisted in PAGES:
+                header = store.header('https://a.co.example/d/page', NOW, **words)
+                self.assertEqual(header, '; '.join(f'{name}=1' for name in (listed if suffixes else unlisted)), (words, suffixes))
+            store.parse('https://a.co.example/d/page', 'n=' + 'v' * 5000 + '; SameSite=None', NOW)
+            self.assertEqual(store.header('https://a.co.example/d/page', NOW, page=OTHER_SITE), 'n=' + 'v' * 5000)
+
+    def test_responses_to_pages(self):
+        for text, words, wanted in RESPONSES:
+            store = CookieStore()
+            store.set_suffix_list('co.example\n')
+            self.assertIs(store.parse('https://a.co.example/', text, NOW, **words), wanted, (text, words))
+            self.assertEqual(len(store), wanted.is_success, (text, words))
 
     def test_types(self):
         with CookieStore() as store:
@@ -286,7 +352,7 @@ class StoreTests(unittest.TestCase):
 
     def test_newer_statuses(self):
         """A status that only a newer library has means what its range means."""
-        for number, is_error in [(4, False), (19, False), (38, True), (47, False)]:
+        for number, is_error in [(4, False), (19, False), (38, True), (48, False)]:
             with self.subTest(number), mock.patch.object(LIBRARY, 'cookie_store_parse', lambda *_: number), CookieStore() as store:
                 if is_error:
                     with self.assertRaises(CookieStoreError) as raised:

@@ -287,12 +287,7 @@ impl Row<'_> {
             has_path: row.has_path,
             secure: row.secure,
             http_only: row.http_only,
-            same_site: match row.same_site {
-                sys::COOKIE_STORE_SAME_SITE_STRICT => Some(SameSite::Strict),
-                sys::COOKIE_STORE_SAME_SITE_LAX => Some(SameSite::Lax),
-                sys::COOKIE_STORE_SAME_SITE_NONE => Some(SameSite::None),
-                _ => None,
-            },
+            same_site: SameSite::of(row.same_site),
         })
     }
 }

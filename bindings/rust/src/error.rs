@@ -12,18 +12,19 @@ pub enum Error {
     /// The cookie has no Domain attribute, or an empty one, and the URL has no host.
     NonRelativeScheme,
     /// The host of the URL does not domain-match the Domain attribute, RFC 6265 5.1.3, or the URL
-    /// has no host.
+    /// has no host; or the domain of a cookie to insert is not the host of a URL.
     DomainMismatch,
     /// The cookie has expired, and no unexpired one with its domain, path and name is stored.
     Expired,
     /// The header value is not a cookie, or its Domain attribute is not a domain name; or a list to
-    /// load has an entry that is not a cookie.
+    /// load has an entry that is not a cookie; or no server can set a cookie to insert.
     Parse,
     /// The domain of the cookie is a public suffix, and is not the host of the URL. In a strict store
     /// with a list: it is above the site of that host.
     PublicSuffix,
 
-    /// Strict store: the header value has a control character other than HTAB.
+    /// Strict store: the header value, or the name or value of a cookie to insert, has a control
+    /// character other than HTAB.
     ControlCharacter,
     /// Strict store: the name and the value together are longer than 4,096 bytes.
     TooLong,
@@ -32,8 +33,8 @@ pub enum Error {
     InsecureUrl,
     /// Strict store: the cookie has SameSite=None and is not Secure.
     InsecureSameSiteNone,
-    /// Strict store: the name begins with `__Secure-` or `__Host-`, and the cookie lacks what the
-    /// prefix demands.
+    /// Strict store: the name begins with `__Secure-`, `__Host-`, `__Http-` or `__Host-Http-`, and the
+    /// cookie lacks what the prefix demands.
     Prefix,
     /// Strict store: neither the cookie nor the URL is secure, and the cookie would overlay a stored
     /// Secure cookie.
@@ -41,6 +42,9 @@ pub enum Error {
     /// Strict store: the cookie is not Secure, and its domain has as many unexpired Secure cookies as
     /// the domain limit allows.
     SecureLimit,
+    /// The response is to a cross-site request that is not a top-level navigation, and the cookie is
+    /// not SameSite=None.
+    CrossSiteResponse,
 
     /// Out of memory.
     NoMemory,
@@ -97,6 +101,7 @@ impl Error {
                 | Error::Prefix
                 | Error::SecureStored
                 | Error::SecureLimit
+                | Error::CrossSiteResponse
                 | Error::Unexpected(10..=19 | 40..)
         )
     }
@@ -117,6 +122,7 @@ impl Error {
             sys::COOKIE_STORE_PREFIX => Error::Prefix,
             sys::COOKIE_STORE_SECURE_STORED => Error::SecureStored,
             sys::COOKIE_STORE_SECURE_LIMIT => Error::SecureLimit,
+            sys::COOKIE_STORE_CROSS_SITE_RESPONSE => Error::CrossSiteResponse,
             sys::COOKIE_STORE_NO_MEMORY => Error::NoMemory,
             sys::COOKIE_STORE_BAD_URL => Error::BadUrl,
             sys::COOKIE_STORE_NOT_UTF8 => Error::NotUtf8,
@@ -150,6 +156,7 @@ impl fmt::Display for Error {
             Error::Prefix => "lacks what the prefix of its name demands",
             Error::SecureStored => "a Secure cookie with its name is stored",
             Error::SecureLimit => "the domain has its limit of Secure cookies",
+            Error::CrossSiteResponse => "not SameSite=None, of a cross-site response",
             Error::NoMemory => "out of memory",
             Error::BadUrl => "not a valid URL",
             Error::NotUtf8 => "not UTF-8",
@@ -215,8 +222,8 @@ mod tests {
             (Error::NoRules, false),
             (Error::NotUtf8, false),
             (Error::Unexpected(38), false),
-            (Error::SecureLimit, true),
-            (Error::Unexpected(47), true),
+            (Error::CrossSiteResponse, true),
+            (Error::Unexpected(48), true),
         ] {
             assert_eq!(error.is_rejection(), expected, "{error}");
         }

@@ -10,15 +10,15 @@ use std::{fs, io, ptr};
 
 use crate::buffer::{string, HEADER};
 use crate::error::check;
-use crate::sys::{self, cookie_store_cross_site};
+use crate::sys::{self, cookie_store_cross_site, cookie_store_status};
 use crate::time::seconds;
-use crate::Error;
+use crate::{Cookie, Error};
 
 /// The public suffix list that Debian's package `publicsuffix` installs, for
 /// [`CookieStore::set_suffix_file`].
 pub const SYSTEM_SUFFIX_FILE: &str = "/usr/share/publicsuffix/public_suffix_list.dat";
 
-/// What [`CookieStore::parse`] did.
+/// What [`CookieStore::parse`], [`CookieStore::parse_for`] or [`CookieStore::insert`] did.
 #[derive(Clone, Copy, Debug, PartialEq, Eq)]
 pub enum StoreAction {
     /// The cookie was inserted: none with its domain, path and name was stored.
@@ -30,10 +30,22 @@ pub enum StoreAction {
     UpdatedExisting,
 }
 
+impl StoreAction {
+    fn of(status: cookie_store_status) -> Result<StoreAction, Error> {
+        match status {
+            sys::COOKIE_STORE_INSERTED => Ok(StoreAction::Inserted),
+            sys::COOKIE_STORE_UPDATED => Ok(StoreAction::UpdatedExisting),
+            sys::COOKIE_STORE_EXPIRED_EXISTING => Ok(StoreAction::ExpiredExisting),
+            status => Err(Error::new(status, 0)),
+        }
+    }
+}
+
 /// Where a cross-site request comes from, and how cookies without a SameSite attribute are treated.
 #[derive(Clone, Copy, Debug, PartialEq, Eq)]
 pub struct CrossSite {
-    /// The request is a top-level navigation with a safe method, such as a link that is followed.
+    /// The request is a top-level navigation with a safe method, such as a link that is followed. For
+    /// [`CookieStore::parse_for`] the method does not matter.
     pub top_level: bool,
     /// A cookie without a SameSite attribute is treated as SameSite=Lax, as in the draft. Otherwise
     /// it is treated as SameSite=None.
@@ -280,12 +292,91 @@ impl CookieStore {
                 seconds(now),
             )
         };
-        match status {
-            sys::COOKIE_STORE_INSERTED => Ok(StoreAction::Inserted),
-            sys::COOKIE_STORE_UPDATED => Ok(StoreAction::UpdatedExisting),
-            sys::COOKIE_STORE_EXPIRED_EXISTING => Ok(StoreAction::ExpiredExisting),
-            status => Err(Error::new(status, 0)),
-        }
+        StoreAction::of(status)
+    }
+
+    /// Parses a `Set-Cookie` header value of the response to a request that a page made for `url`, and
+    /// inserts the cookie under the rules of browsers, whether the store is strict or not.
+    ///
+    /// `page` is the URL of the page. If it is not same-site with `url`, as in
+    /// [`cookie_header_for`](CookieStore::cookie_header_for), the request is the one that `context`
+    /// describes, and a cookie is rejected unless it is SameSite=None, or the request is a top-level
+    /// navigation with any method.
+    ///
+    /// # Errors
+    ///
+    /// Those of [`parse`](CookieStore::parse), and [`Error::CrossSiteResponse`].
+    pub fn parse_for(
+        &mut self,
+        set_cookie: &str,
+        url: &str,
+        page: &str,
+        now: SystemTime,
+        context: CrossSite,
+    ) -> Result<StoreAction, Error> {
+        // SAFETY: see `CookieStore`.
+        let status = unsafe {
+            sys::cookie_store_parse_for(
+                self.handle(),
+                url.as_ptr().cast(),
+                url.len(),
+                page.as_ptr().cast(),
+                page.len(),
+                set_cookie.as_ptr().cast(),
+                set_cookie.len(),
+                seconds(now),
+                context.flags(),
+            )
+        };
+        StoreAction::of(status)
+    }
+
+    /// Inserts a cookie by its parts, as if it was received at `now` from `https://DOMAIN/`, with its own
+    /// domain.
+    ///
+    /// The domain is in lower case and in Punycode, without a leading dot. A domain cookie whose domain
+    /// is a public suffix becomes a host-only cookie.
+    ///
+    /// ```
+    /// use pulleymaroon::{Cookie, CookieStore};
+    /// use std::time::{Duration, SystemTime};
+    ///
+    /// let mut store = CookieStore::new()?;
+    /// let now = SystemTime::now();
+    /// let mut cookie = Cookie::new("id", "7", "example.com");
+    /// cookie.secure = true;
+    /// cookie.expires = Some(now + Duration::from_secs(3600));
+    /// store.insert(&cookie, now)?;
+    ///
+    /// let header = store.cookie_header("https://www.example.com/", now)?;
+    /// assert_eq!(header.as_deref(), Some("id=7"));
+    /// # Ok::<(), pulleymaroon::Error>(())
+    /// ```
+    ///
+    /// # Errors
+    ///
+    /// [`Error::BadTime`], [`Error::Parse`] if no server can set the cookie, as with a `;` in its name
+    /// or a path that does not begin with `/`, [`Error::DomainMismatch`] if the domain is not the host of
+    /// a URL, [`Error::Expired`], those of a strict store, [`Error::NoMemory`].
+    pub fn insert(&mut self, cookie: &Cookie, now: SystemTime) -> Result<StoreAction, Error> {
+        let row = cookie.to_row();
+        // SAFETY: see `CookieStore`.
+        let status = unsafe {
+            sys::cookie_store_insert(
+                self.handle(),
+                cookie.domain.as_ptr().cast(),
+                cookie.domain.len(),
+                cookie.path.as_ptr().cast(),
+                cookie.path.len(),
+                cookie.name.as_ptr().cast(),
+                cookie.name.len(),
+                cookie.value.as_ptr().cast(),
+                cookie.value.len(),
+                &row,
+                seconds(now),
+            )
+        };
+        StoreAction::of(status)
     }
 
     /// Returns the value of the `Cookie` header of a request for `url` at `now`, such as `a=1; b=2`,
@@ -344,6 +435,64 @@ impl CookieStore {
                     self.handle(),
                     url.as_ptr().cast(),
                     url.len(),
+                    seconds(now),
+                    context.flags(),
+                    out,
+                    len,
+                    needed,
+                )
+            }
+        })?;
+        Ok(Some(header).filter(|header| !header.is_empty()))
+    }
+
+    /// Returns the value of the `Cookie` header of a request for `url` that a page made at `now`, or
+    /// `None`.
+    ///
+    /// `page` is the URL of the page. If the two URLs are same-site, the value is that of
+    /// [`cookie_header`](CookieStore::cookie_header) of a strict store, and else that of
+    /// [`cross_site_cookie_header`](CookieStore::cross_site_cookie_header). They are same-site if they
+    /// have the same scheme, and under the public suffix list of the store the same registrable
+    /// domain, or the same host if that has none or there is no list.
+    ///
+    /// A page in a frame of a page of another site, and a request that a page of another site
+    /// redirected, are cross-site: call
+    /// [`cross_site_cookie_header`](CookieStore::cross_site_cookie_header).
+    ///
+    /// ```
+    /// use pulleymaroon::{CookieStore, CrossSite};
+    /// use std::time::SystemTime;
+    ///
+    /// let mut store = CookieStore::new()?;
+    /// store.set_suffix_list("com\norg\n")?;
+    /// let (url, now) = ("https://cdn.example.com/", SystemTime::now());
+    /// store.parse("id=7; SameSite=Lax", url, now)?;
+    /// let context = CrossSite { top_level: false, lax_by_default: true };
+    /// let header = store.cookie_header_for(url, "https://example.com/", now, context)?;
+    /// assert_eq!(header.as_deref(), Some("id=7"));
+    /// assert_eq!(store.cookie_header_for(url, "https://example.org/", now, context)?, None);
+    /// # Ok::<(), pulleymaroon::Error>(())
+    /// ```
+    ///
+    /// # Errors
+    ///
+    /// Those of [`cookie_header`](CookieStore::cookie_header).
+    pub fn cookie_header_for(
+        &self,
+        url: &str,
+        page: &str,
+        now: SystemTime,
+        context: CrossSite,
+    ) -> Result<Option<String>, Error> {
+        let header = string(HEADER, |out, len, needed| {
+            // SAFETY: see `CookieStore`.
+            unsafe {
+                sys::cookie_store_header_for(
+                    self.handle(),
+                    url.as_ptr().cast(),
+                    url.len(),
+                    page.as_ptr().cast(),
+                    page.len(),
                     seconds(now),
                     context.flags(),
                     out,

@@ -44,6 +44,7 @@ pub const COOKIE_STORE_INSECURE_SAME_SITE_NONE: cookie_store_status = 43;
 pub const COOKIE_STORE_PREFIX: cookie_store_status = 44;
 pub const COOKIE_STORE_SECURE_STORED: cookie_store_status = 45;
 pub const COOKIE_STORE_SECURE_LIMIT: cookie_store_status = 46;
+pub const COOKIE_STORE_CROSS_SITE_RESPONSE: cookie_store_status = 47;
 
 pub type cookie_store_cross_site = c_uint;
 
@@ -133,6 +134,17 @@ extern "C" {
         value_len: usize,
         now: i64,
     ) -> cookie_store_status;
+    pub fn cookie_store_parse_for(
+        store: *mut cookie_store,
+        url: *const c_char,
+        url_len: usize,
+        page: *const c_char,
+        page_len: usize,
+        value: *const c_char,
+        value_len: usize,
+        now: i64,
+        request: u32,
+    ) -> cookie_store_status;
     pub fn cookie_store_header(
         store: *mut cookie_store,
         url: *const c_char,
@@ -146,6 +158,18 @@ extern "C" {
         store: *mut cookie_store,
         url: *const c_char,
         url_len: usize,
+        now: i64,
+        request: u32,
+        out: *mut c_char,
+        out_len: usize,
+        needed: *mut usize,
+    ) -> cookie_store_status;
+    pub fn cookie_store_header_for(
+        store: *mut cookie_store,
+        url: *const c_char,
+        url_len: usize,
+        page: *const c_char,
+        page_len: usize,
         now: i64,
         request: u32,
         out: *mut c_char,
@@ -194,6 +218,19 @@ extern "C" {
         strings_len: usize,
         rows_needed: *mut usize,
         strings_needed: *mut usize,
+    ) -> cookie_store_status;
+    pub fn cookie_store_insert(
+        store: *mut cookie_store,
+        domain: *const c_char,
+        domain_len: usize,
+        path: *const c_char,
+        path_len: usize,
+        name: *const c_char,
+        name_len: usize,
+        value: *const c_char,
+        value_len: usize,
+        row: *const cookie_store_row,
+        now: i64,
     ) -> cookie_store_status;
     pub fn cookie_store_save(
         store: *mut cookie_store,

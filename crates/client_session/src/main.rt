@@ -67,13 +67,13 @@ impl Session {
         Ok(self.store.cookie_header(&self.site, now)?)
     }
 
-    /// Saves the unexpired persistent cookies as a JSON list.
-    fn save<F: Files>(&self, files: &F, now: DateTime) -> Result<(), Error> {
+    /// Saves the cookies as a JSON list, session cookies included, since most logins are.
+    fn save<F: Files>(&self, files: &F) -> Result<(), Error> {
         let file = fs::create(files, FILE).map_err(|_| Error::Io)?;
-        serde::json::save(&self.store, &mut Counted::new(file), now)
+        serde::json::save_incl_expired_and_nonpersistent(&self.store, &mut Counted::new(file))
     }
 
-    /// Creates a session with the cookies that an earlier one saved.
+    /// Creates a session with the unexpired cookies that an earlier one saved.
     fn load<F: Files>(
         alloc: Global,
         files: &F,
@@ -110,7 +110,7 @@ fn run(rt: &HostRuntime) -> Result<(), Error> {
     let mut first = Session::adopt(alloc, rt, site.clone()?, now)?;
     first.receive(rt, &HEADERS, now)?;
     print_header(rt, first.header(now)?)?;
-    first.save(rt, now)?;
+    first.save(rt)?;
     let next = Session::load(alloc, rt, site, now)?;
     print_header(rt, next.header(now)?)
 }

@@ -21,3 +21,4 @@ pub mod ReadsBack
 pub mod Sides
 pub mod Slices
 pub mod StyledWrites
+pub mod WhiteSpace

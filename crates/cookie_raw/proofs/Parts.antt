@@ -28,11 +28,11 @@ slice_of_slice xs ys zs (a, b, outer) (c, d, inner) =
     (a ++ c, d ++ b, outer ∙ ap (λ m. a ++ (m ++ b)) inner ∙ simp append_assoc)
 
 -- a prefix is a slice
-take_is_slice : (n : ℕ) (xs : List ℕ) → HasSubslice xs (take n xs)
+pub take_is_slice : (n : ℕ) (xs : List ℕ) → HasSubslice xs (take n xs)
 take_is_slice n xs = ([], drop n xs, sym (take-append-drop n xs))
 
 -- a suffix is a slice
-drop_is_slice : (n : ℕ) (xs : List ℕ) → HasSubslice xs (drop n xs)
+pub drop_is_slice : (n : ℕ) (xs : List ℕ) → HasSubslice xs (drop n xs)
 drop_is_slice n xs = (take n xs, [], sym (ap (λ r. take n xs ++ r) (append-nil (drop n xs)) ∙ take-append-drop n xs))
 
 -- a part of a part is one of the whole

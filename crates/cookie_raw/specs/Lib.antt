@@ -1,9 +1,11 @@
+pub mod AttributeSteps
 pub mod CookieDate
 pub mod CookieText
 pub mod DateSteps
 pub mod Errors
 pub mod PlainCookie
 pub mod Raw
+pub mod Rfc6265bis
 pub mod SetCookie
 pub mod SameParts
 pub mod Slices

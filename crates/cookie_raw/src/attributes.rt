@@ -1,15 +1,17 @@
 //! The attributes of a Set-Cookie header value, RFC 6265 5.2.
-ghost use Rattle.std.specs.Prelude.{◌≡◌, ◌<◌, min, length, pos, Some, None, true, option_map, IsTrue, if◌then◌else◌};
+ghost use Rattle.std.specs.Prelude.{◌≡◌, ◌<◌, bytes_eq, codes, min, length, pos, Some, None, true, option_map, IsTrue, if◌then◌else◌};
 ghost use Rattle.std.specs.Char.{is_ascii_digit};
 ghost use Rattle.std.specs.List.{list_all};
 ghost use Rattle.std.specs.Str.Parse.{digits_value};
 ghost use Rattle.std.specs.Option.{option_copied, option_or};
 ghost use Rattle.jiff.specs.Words.{signed_nanos};
-ghost use Rattle.cookie_raw.specs.SetCookie.{age_of, attributes_after, domain_from, expires_from, http_only_from, attribute_is_named, last_accepted, max_age_from, name_of, path_from, accepted_value, same_site_from, secure_from, site_of, value_of};
+ghost use Rattle.cookie_raw.specs.AttributeSteps.{decided_domain, decided_same_site, domain_after, same_site_after};
+ghost use Rattle.cookie_raw.specs.Rfc6265bis.{accepted_by, age_by, domain_by, last_by, max_age_by, name_by, same_site_by, value_by};
+ghost use Rattle.cookie_raw.specs.SetCookie.{age_of, attributes_after, expires_from, http_only_from, attribute_is_named, path_from, secure_from, site_of};
 ghost use Rattle.cookie_raw.specs.Views.{expires_value};
 
 use crate::raw_cookie::name_and_value;
-use crate::{Expiration, SameSite, read_date};
+use crate::{Expiration, SameSite, Syntax, read_date};
 use cookie_words::is_digits;
 use jiff::SignedDuration;
 
@@ -27,24 +29,35 @@ pub(crate) struct Attributes<'a> {
 
 // Splits an attribute at its first `=` and trims both sides. Without a `=` the value is empty.
 #[tactic(auto, using(crate::proofs::Sides::whole_name, crate::proofs::Sides::no_value))]
-fn attribute_name_and_value(piece: &str) -> (&str, &str)
-    ensures name { result.0.now ≡ name_of piece.now }
-    ensures value { result.1.now ≡ value_of piece.now }
+fn attribute_name_and_value(piece: &str, syntax: Syntax) -> (&str, &str)
+    ensures name { result.0.now ≡ name_by syntax piece.now }
+    ensures value { result.1.now ≡ value_by syntax piece.now }
 {
-    match name_and_value(piece) {
+    match name_and_value(piece, syntax) {
         Some(sides) => sides,
-        None => (piece.trim(), ""),
+        None => (syntax.trim(piece), ""),
     }
 }
 
-// Returns the value of a Domain attribute, unless it is empty.
-fn read_domain<'a>(name: &str, value: &'a str) -> Option<&'a str>
-    ensures { option_copied result ≡ domain_from name.now value.now }
+// Returns the Domain attribute after this attribute. An empty one changes nothing; in the revision it
+// counts as none.
+fn with_domain<'a>(
+    syntax: Syntax,
+    name: &str,
+    value: &'a str,
+    domain: Option<&'a str>,
+) -> Option<&'a str>
+    ensures { option_copied result ≡ decided_domain syntax name.now value.now (option_copied domain.entry) }
 {
-    if name.eq_ignore_ascii_case("Domain") && !value.is_empty() {
-        Some(value)
-    } else {
-        None
+    if !name.eq_ignore_ascii_case("Domain") {
+        return domain;
+    }
+    if !value.is_empty() {
+        return Some(value);
+    }
+    match syntax {
+        Syntax::Rfc6265 => domain,
+        Syntax::Rfc6265bis => None,
     }
 }
 
@@ -86,14 +99,22 @@ fn site(value: &str) -> Option<SameSite>
     }
 }
 
-// Returns the value of a SameSite attribute, if it is known.
-fn read_same_site(name: &str, value: &str) -> Option<SameSite>
-    ensures { result ≡ same_site_from name.now value.now }
+// Returns the SameSite attribute after this attribute. An unknown value changes nothing; in the
+// revision it counts as none.
+fn with_same_site(
+    syntax: Syntax,
+    name: &str,
+    value: &str,
+    same_site: Option<SameSite>,
+) -> Option<SameSite>
+    ensures { result ≡ decided_same_site syntax name.now value.now same_site }
 {
-    if name.eq_ignore_ascii_case("SameSite") {
-        site(value)
-    } else {
-        None
+    if !name.eq_ignore_ascii_case("SameSite") {
+        return same_site;
+    }
+    match syntax {
+        Syntax::Rfc6265 => site(value).or(same_site),
+        Syntax::Rfc6265bis => site(value),
     }
 }
 
@@ -128,12 +149,22 @@ fn age(value: &str) -> Option<SignedDuration>
     }
 }
 
+// Parses the value of Max-Age. A `-` without a digit is 0; in the revision it is none.
+fn age_by(syntax: Syntax, value: &str) -> Option<SignedDuration>
+    ensures { option_map signed_nanos result ≡ age_by syntax value.now }
+{
+    match syntax {
+        Syntax::Rfc6265bis if value == "-" => None,
+        _ => age(value),
+    }
+}
+
 // Returns the value of a Max-Age attribute, if it is well formed.
-fn read_max_age(name: &str, value: &str) -> Option<SignedDuration>
-    ensures { option_map signed_nanos result ≡ max_age_from name.now value.now }
+fn read_max_age(syntax: Syntax, name: &str, value: &str) -> Option<SignedDuration>
+    ensures { option_map signed_nanos result ≡ max_age_by syntax name.now value.now }
 {
     if name.eq_ignore_ascii_case("Max-Age") {
-        age(value)
+        age_by(syntax, value)
     } else {
         None
     }
@@ -154,46 +185,50 @@ impl<'a> Attributes<'a> {
     /// Parses the attributes in `rest`, which follows the first `;` of a Set-Cookie header value.
     ///
     /// If attributes of one name are repeated, the last one with an accepted value counts.
-    pub(crate) fn of(rest: Option<&'a str>) -> Attributes<'a>
-        ensures domain { option_copied result.domain ≡ last_accepted domain_from (attributes_after (option_copied rest.entry)) }
-        ensures path { option_copied result.path ≡ last_accepted path_from (attributes_after (option_copied rest.entry)) }
-        ensures secure { result.secure ≡ last_accepted secure_from (attributes_after (option_copied rest.entry)) }
-        ensures http_only { result.http_only ≡ last_accepted http_only_from (attributes_after (option_copied rest.entry)) }
-        ensures same_site { result.same_site ≡ last_accepted same_site_from (attributes_after (option_copied rest.entry)) }
-        ensures max_age { option_map signed_nanos result.max_age ≡ last_accepted max_age_from (attributes_after (option_copied rest.entry)) }
-        ensures expires { option_map expires_value result.expires ≡ last_accepted expires_from (attributes_after (option_copied rest.entry)) }
+    pub(crate) fn of(rest: Option<&'a str>, syntax: Syntax) -> Attributes<'a>
+        ensures domain { option_copied result.domain ≡ domain_by syntax (attributes_after (option_copied rest.entry)) }
+        ensures path { option_copied result.path ≡ last_by syntax path_from (attributes_after (option_copied rest.entry)) }
+        ensures secure { result.secure ≡ last_by syntax secure_from (attributes_after (option_copied rest.entry)) }
+        ensures http_only { result.http_only ≡ last_by syntax http_only_from (attributes_after (option_copied rest.entry)) }
+        ensures same_site { result.same_site ≡ same_site_by syntax (attributes_after (option_copied rest.entry)) }
+        ensures max_age { option_map signed_nanos result.max_age
+            ≡ last_by syntax (max_age_by syntax) (attributes_after (option_copied rest.entry)) }
+        ensures expires { option_map expires_value result.expires
+            ≡ last_by syntax expires_from (attributes_after (option_copied rest.entry)) }
     {
         let mut found = Attributes::default();
         let Some(text) = rest else {
             return found;
         };
         for piece in text.split(';') {
-            found.take(piece);
+            found.take(piece, syntax);
         }
         found
     }
 
     // Adds one attribute, if it is known and its value accepted.
-    fn take(&mut self, piece: &'a str)
-        ensures domain { option_copied self.new.domain
-            ≡ option_or (accepted_value domain_from piece.now) (option_copied self.old.domain) }
+    fn take(&mut self, piece: &'a str, syntax: Syntax)
+        ensures domain { option_copied self.new.domain ≡ domain_after syntax piece.now (option_copied self.old.domain) }
         ensures path { option_copied self.new.path
-            ≡ option_or (accepted_value path_from piece.now) (option_copied self.old.path) }
-        ensures secure { self.new.secure ≡ option_or (accepted_value secure_from piece.now) self.old.secure }
-        ensures http_only { self.new.http_only ≡ option_or (accepted_value http_only_from piece.now) self.old.http_only }
-        ensures same_site { self.new.same_site ≡ option_or (accepted_value same_site_from piece.now) self.old.same_site }
+            ≡ option_or (accepted_by syntax path_from piece.now) (option_copied self.old.path) }
+        ensures secure { self.new.secure ≡ option_or (accepted_by syntax secure_from piece.now) self.old.secure }
+        ensures http_only { self.new.http_only ≡ option_or (accepted_by syntax http_only_from piece.now) self.old.http_only }
+        ensures same_site { self.new.same_site ≡ same_site_after syntax piece.now self.old.same_site }
         ensures max_age { option_map signed_nanos self.new.max_age
-            ≡ option_or (accepted_value max_age_from piece.now) (option_map signed_nanos self.old.max_age) }
+            ≡ option_or (accepted_by syntax (max_age_by syntax) piece.now) (option_map signed_nanos self.old.max_age) }
         ensures expires { option_map expires_value self.new.expires
-            ≡ option_or (accepted_value expires_from piece.now) (option_map expires_value self.old.expires) }
+            ≡ option_or (accepted_by syntax expires_from piece.now) (option_map expires_value self.old.expires) }
     {
-        let (name, value) = attribute_name_and_value(piece);
-        self.domain = read_domain(name, value).or(self.domain);
+        let (name, value) = attribute_name_and_value(piece, syntax);
+        if syntax.ignores(value) {
+            return;
+        }
+        self.domain = with_domain(syntax, name, value, self.domain);
         self.path = read_path(name, value).or(self.path);
         self.secure = read_flag("Secure", name).or(self.secure);
         self.http_only = read_flag("HttpOnly", name).or(self.http_only);
-        self.same_site = read_same_site(name, value).or(self.same_site);
-        self.max_age = read_max_age(name, value).or(self.max_age);
+        self.same_site = with_same_site(syntax, name, value, self.same_site);
+        self.max_age = read_max_age(syntax, name, value).or(self.max_age);
         self.expires = read_expires(name, value).or(self.expires);
     }
 }

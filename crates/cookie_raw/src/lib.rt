@@ -13,6 +13,7 @@ mod plain;
 mod printing;
 mod raw_cookie;
 mod same_site;
+mod syntax;
 
 pub use builder::RawCookieBuilder;
 pub use date::read_date;
@@ -20,3 +21,4 @@ pub use error::RawCookieParseError;
 pub use expiration::Expiration;
 pub use raw_cookie::RawCookie;
 pub use same_site::SameSite;
+pub use syntax::Syntax;

@@ -3,7 +3,8 @@ ghost use Rattle.std.specs.Prelude.{◌≡◌, true, false, option_map, unwrap_o
 ghost use Rattle.std.specs.Cow.{cow_str_bytes};
 ghost use Rattle.std.specs.Option.{option_copied};
 ghost use Rattle.jiff.specs.Words.{signed_nanos};
-ghost use Rattle.cookie_raw.specs.SetCookie.{reading, pair_of, attributes, attributes_after, has_equals, name_of, value_of};
+ghost use Rattle.cookie_raw.specs.Rfc6265bis.{name_by, reading_by, value_by};
+ghost use Rattle.cookie_raw.specs.SetCookie.{reading, pair_of, attributes, attributes_after, has_equals};
 ghost use Rattle.cookie_raw.specs.Slices.{HasSlices};
 ghost use Rattle.cookie_raw.specs.Views.{expires_value, max_age_nanos};
 ghost use Rattle.cookie_words.specs.Strings.{without_dot};
@@ -11,7 +12,7 @@ ghost use Rattle.cookie_raw.specs.Raw.{Raw};
 
 use crate::attributes::Attributes;
 use crate::max_age::MaxAge;
-use crate::{Expiration, RawCookieParseError, SameSite};
+use crate::{Expiration, RawCookieParseError, SameSite, Syntax};
 use cookie_words::without_dot;
 use jiff::SignedDuration;
 use std::alloc::{AllocError, Global};
@@ -82,12 +83,13 @@ fn pair_and_rest(text: &str) -> (&str, Option<&str>)
 }
 
 /// Splits at the first `=` and trims both sides, or returns `None` if there is no `=`.
-pub(crate) fn name_and_value(pair: &str) -> Option<(&str, &str)>
+pub(crate) fn name_and_value(pair: &str, syntax: Syntax) -> Option<(&str, &str)>
     ensures { MatchOption result (has_equals pair.now ≡ false)
-        (λ sides. (has_equals pair.now ≡ true) × (sides.0.now ≡ name_of pair.now) × (sides.1.now ≡ value_of pair.now)) }
+        (λ sides. (has_equals pair.now ≡ true) × (sides.0.now ≡ name_by syntax pair.now)
+        × (sides.1.now ≡ value_by syntax pair.now)) }
 {
     match pair.split_once('=') {
-        Some((name, value)) => Some((name.trim(), value.trim())),
+        Some((name, value)) => Some((syntax.trim(name), syntax.trim(value))),
         None => None,
     }
 }
@@ -138,14 +140,32 @@ impl<'a> RawCookie<'a> {
         ensures reading { result ≡ reading text.now }
         ensures slices { IfOk result (HasSlices text.now) }
     {
+        RawCookie::parse_as(text, Syntax::Rfc6265)
+    }
+
+    /// Parses a Set-Cookie header value by RFC 6265 5.2, as [`parse`](Self::parse) does, or by its
+    /// revision, draft-ietf-httpbis-rfc6265bis 5.6.
+    ///
+    /// In the revision white space is SP and HTAB, an attribute whose value is longer than 1,024
+    /// bytes is ignored, and so is a Max-Age of `-`. If Domain or SameSite is repeated, the last one
+    /// decides: an empty Domain and an unknown SameSite then count as none. As in RFC 6265 a cookie
+    /// has a name; control characters and the length of name and value are not checked.
+    ///
+    /// # Errors
+    ///
+    /// Those of [`parse`](Self::parse).
+    pub fn parse_as(text: &'a str, syntax: Syntax) -> Result<RawCookie<'a>, RawCookieParseError>
+        ensures reading { result ≡ reading_by syntax text.now }
+        ensures slices { IfOk result (HasSlices text.now) }
+    {
         let (pair, rest) = pair_and_rest(text);
-        let Some((name, value)) = name_and_value(pair) else {
+        let Some((name, value)) = name_and_value(pair, syntax) else {
             return Err(RawCookieParseError::MissingPair);
         };
         if name.is_empty() {
             return Err(RawCookieParseError::EmptyName);
         }
-        let attributes = Attributes::of(rest);
+        let attributes = Attributes::of(rest, syntax);
         Ok(RawCookie {
             name: CowStr::Borrowed(name),
             value: CowStr::Borrowed(value),

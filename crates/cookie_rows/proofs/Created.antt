@@ -56,8 +56,11 @@ module _ (row : Row) (n : ℕ) (gs : ItemGroups) (a : AreGroups (bare gs)) where
         | inr e ↦
             let gains : Gains (new row n) xs (put_keyed row n xs) = rw e (cond_both (list_any (of_group (key_of row)) xs) (after_last (of_group (key_of row)) xs (new row n)) (after_last (of_domain (key_of row)) xs (new row n))
             (Gains (new row n) xs) (λ _. gains_after_last (new row n) (of_group (key_of row)) xs) (λ _. gains_after_last (new row n) (of_domain (key_of row)) xs)) in
-            inr (any ∙ e, subst (λ ns. Gains (key_of row, n) ns (numbered (put_items row n gs))) (sym (numbers_keyed gs))
-                (subst (Gains (key_of row, n) (map number xs)) (sym after) (gains_map (new row n) number xs (put_keyed row n xs) gains)))
+            inr (
+              any ∙ e,
+              subst (λ ns. Gains (key_of row, n) ns (numbered (put_items row n gs))) (sym (numbers_keyed gs))
+                  (subst (Gains (key_of row, n) (map number xs)) (sym after) (gains_map (new row n) number xs (put_keyed row n xs) gains)),
+            )
       ]
 
   -- its key is created last, unless it was created before

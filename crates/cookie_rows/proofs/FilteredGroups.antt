@@ -206,9 +206,11 @@ evicted_filtered test d gs a apart =
     (all_map (λ (g : List ℕ × ItemPaths). (0 < length (bare_paths g.1)) × ArePaths g.0 (bare_paths g.1)) (IsPart (filter_paths keep) (filter_paths test) d)
     (λ g of. (
       some_paths g.1 of.0,
-      (λ e. parted_same (filter test) (filter keep) g.1
-          (all_map (ItemsOf g.0) (λ p. filter test p.1 ≡ filter keep p.1)
-          (λ p are. filter_same test keep p.1
-          (all_map (λ x. HasDomainAndPath g.0 p.0 x.row) (λ x. test x ≡ keep x) (λ x is. ap (λ b. not b || test x) (sym (ap (bytes_eq d) is.0 ∙ e))) p.1 are.1)) g.1 (items_of g.0 g.1 of.1.1)),
-      λ e. whole_paths keep g.0 g.1 (λ x is. ap (λ b. not b || test x) (ap (bytes_eq d) is ∙ e)) of.1.1),
+      (
+        λ e. parted_same (filter test) (filter keep) g.1
+            (all_map (ItemsOf g.0) (λ p. filter test p.1 ≡ filter keep p.1)
+            (λ p are. filter_same test keep p.1
+            (all_map (λ x. HasDomainAndPath g.0 p.0 x.row) (λ x. test x ≡ keep x) (λ x is. ap (λ b. not b || test x) (sym (ap (bytes_eq d) is.0 ∙ e))) p.1 are.1)) g.1 (items_of g.0 g.1 of.1.1)),
+        λ e. whole_paths keep g.0 g.1 (λ x is. ap (λ b. not b || test x) (ap (bytes_eq d) is ∙ e)) of.1.1,
+      ),
     )) gs (all_from_map (λ (g : List ℕ × ItemPaths). (g.0, bare_paths g.1)) (λ g. (0 < length g.1) × ArePaths g.0 g.1) gs a.1))

@@ -104,8 +104,10 @@ module _ (key : Key) where
       (all_both (ItemsOf d) (λ p. differ same_key (map (λ e. e.0) (keyed_names d p.0 p.1)) ≡ true) (IsPart (filter is_other) (remove_item key.name) key.path)
       (λ p of keys. (
         of.0,
-        ((λ f. names_removed d p.0 p.1 e f of.1 keys),
-        λ f. filter_all is_other p.1 (all_map (λ x. HasDomainAndPath d p.0 x.row) (λ x. is_other x ≡ true) (λ x is. away x (ap (bytes_eq key.path) is.1 ∙ f)) p.1 of.1)),
+        (
+          (λ f. names_removed d p.0 p.1 e f of.1 keys),
+          λ f. filter_all is_other p.1 (all_map (λ x. HasDomainAndPath d p.0 x.row) (λ x. is_other x ≡ true) (λ x is. away x (ap (bytes_eq key.path) is.1 ∙ f)) p.1 of.1),
+        ),
       )) ps (items_of d ps a.1) (differ_listed (λ (e : Keyed). e.0) (λ (p : List ℕ × List Item). keyed_names d p.0 p.1) ps apart))
     where
       away : (x : Item) → bytes_eq key.path x.row.path.text ≡ false → is_other x ≡ true

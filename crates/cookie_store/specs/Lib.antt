@@ -35,7 +35,9 @@ pub use Rattle.cookie_serde.specs.Selections
 pub use Rattle.cookie_strict.specs.CrossSite
 pub use Rattle.cookie_strict.specs.HeaderValue
 pub use Rattle.cookie_strict.specs.HostPrefix
+pub use Rattle.cookie_strict.specs.HttpPrefix
 pub use Rattle.cookie_strict.specs.Lifetime
+pub use Rattle.cookie_strict.specs.SecureUrl
 pub use Rattle.cookie_strict.specs.SiteRule
 pub use Rattle.cookie_strict.specs.StrictErrors
 pub use Rattle.cookie_strict.specs.StrictRules

@@ -22,8 +22,9 @@ pub use cookie_lookup::Lookups;
 pub use cookie_netscape as netscape;
 pub use cookie_parts as parts;
 pub use cookie_parts::{
-    Cookie, CookieDomain, CookieError, CookieExpiration, CookiePath, CookieResult, Error, Exclusion,
-    IdnaErrors, StoreAction, StoreResult, StoreResult as Result, cookie_domain, cookie_path, utils,
+    Cookie, CookieDomain, CookieError, CookieExpiration, CookiePath, CookieResult, Error,
+    Exclusion, IdnaErrors, StoreAction, StoreResult, StoreResult as Result, cookie_domain,
+    cookie_path, utils,
 };
 pub use cookie_psl as psl;
 pub use cookie_raw as raw;

@@ -1,3 +1,4 @@
+mod Insertions
 mod Filling
 mod LoadOutcomes
 mod LoadReports

@@ -1,6 +1,7 @@
 -- What each call returns, and the store after it.
 use Rattle.std.specs.Prelude.{◌≡◌, ◌==◌, if◌then◌else◌, ◌⊎◌, ℕ, Bool, true, false, not, List, [], bytes_eq, length, Option, Some, None, unwrap_or, Result, Ok, Err}
 use Rattle.std.specs.Result.{result_map_both}
+use Rattle.url.specs.Parts.{Parts}
 use Rattle.cookie_words.specs.Moments.{Moment}
 use Rattle.cookie_psl.specs.Rules.{RuleList, SameRules}
 use Rattle.cookie_parts.specs.Cookie.{Row}
@@ -10,8 +11,10 @@ use Rattle.cookie_inputs.specs.declared.suffixes.SuffixesError.{SuffixesError}
 use Rattle.cookie_inputs.specs.declared.suffixes.SuffixesError.TheVariants as SuffixesCase
 use Rattle.cookie_laws.specs.Contents.{Contents, retained, unexpired}
 use Rattle.cookie_laws.specs.Runs.{Call, step}
+use Rattle.cookie_store_c.specs.Headers.{from_page}
 use Rattle.cookie_store_c.specs.Inputs.{text_in}
-use Rattle.cookie_strict.specs.StrictRuns.{store_after_call, strict_call}
+use Rattle.cookie_strict.specs.StrictRuns.{response_call, store_after_call, strict_call}
+use Rattle.cookie_strict.specs.declared.context.Context.{Context}
 use Rattle.cookie_strict.specs.declared.error.StrictError.{StrictError}
 use Rattle.cookie_store_c.specs.Statuses.{reply_status, strict_error_status}
 use Rattle.cookie_store_c.specs.declared.status.Status.{Status}
@@ -41,6 +44,19 @@ abbrev pub insertion_outcome : Bool → Contents → Result Call Status → Call
 insertion_outcome false store call = store_outcome store call
 insertion_outcome true store (Ok call) = allowed_outcome store (strict_call call store)
 insertion_outcome true store (Err status) = error_outcome (Some store) status
+
+-- the insertion of a cookie of the response to a request that a page made, under the rules of browsers; or the status
+-- of its flags or of another invalid argument
+abbrev pub response_outcome : Result Context Status → Contents → Result (List ℕ × Parts × Parts × Moment) Status → CallOutcome
+response_outcome (Ok context) store (Ok (text, page, url, now)) =
+    allowed_outcome store (response_call (from_page context store url page) text url now store)
+response_outcome (Ok context) store (Err status) = error_outcome (Some store) status
+response_outcome (Err status) store inputs = error_outcome (Some store) status
+
+-- the same, or `NoStore` if there is no store
+abbrev pub response_outcome_in : Result Context Status → Option Contents → Result (List ℕ × Parts × Parts × Moment) Status → CallOutcome
+response_outcome_in context None inputs = error_outcome None NoStore
+response_outcome_in context (Some store) inputs = response_outcome context store inputs
 
 -- an insertion, or `NoStore` if there is no store
 abbrev pub insertion_outcome_in : Bool → Option Contents → Result Call Status → CallOutcome

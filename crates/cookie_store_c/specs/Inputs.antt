@@ -41,10 +41,22 @@ text_and_time url now = and_then (text_in url) (λ text. and_then (moment_in now
 abbrev pub request : List ℕ → ℤ → Result (Parts × Moment) Status
 request url now = and_then (text_and_time url now) (λ inputs. and_then (url_in inputs.0) (λ parts. Ok (parts, inputs.1)))
 
+-- the URL of a page, and the URL and the time of a request that it made
+abbrev pub page_and_request : List ℕ → List ℕ → ℤ → Result (Parts × Parts × Moment) Status
+page_and_request page url now =
+    and_then (text_in page) (λ text. and_then (request url now) (λ inputs.
+    and_then (url_in text) (λ parts. Ok (parts, inputs.0, inputs.1))))
+
 -- a Set-Cookie header value received from a URL at a time
 abbrev pub set_call : List ℕ → List ℕ → ℤ → Result Call Status
 set_call url value now =
     and_then (text_in value) (λ text. and_then (request url now) (λ inputs. Ok (Set text inputs.0 inputs.1)))
+
+-- a Set-Cookie header value of the response to a request that a page made
+abbrev pub response_inputs : List ℕ → List ℕ → List ℕ → ℤ → Result (List ℕ × Parts × Parts × Moment) Status
+response_inputs page url value now =
+    and_then (text_in value) (λ text. and_then (page_and_request page url now) (λ inputs.
+    Ok (text, inputs.0, inputs.1, inputs.2)))
 
 -- the removal of the cookie with a domain, a path and a name
 abbrev pub remove_call : List ℕ → List ℕ → List ℕ → Result Call Status

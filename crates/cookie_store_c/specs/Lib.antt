@@ -5,6 +5,7 @@ pub mod Calls
 pub mod Headers
 pub mod LoadedStores
 pub mod MergedStores
+pub mod InsertedCookies
 pub mod CookieRows
 pub mod RowIters
 pub mod SavedStores

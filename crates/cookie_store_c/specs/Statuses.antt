@@ -12,7 +12,7 @@ use Rattle.cookie_serde.specs.declared.format_error.FormatError.TheVariants as F
 use Rattle.cookie_strict.specs.declared.error.StrictError.{StrictError}
 use Rattle.cookie_strict.specs.declared.error.StrictError.TheVariants as StrictCase
 use Rattle.cookie_store_c.specs.declared.status.Status.{Status}
-use Rattle.cookie_store_c.specs.declared.status.Status.TheVariants.{Done, Inserted, Updated, ExpiredExisting, NonHttpScheme, NonRelativeScheme, DomainMismatch, Expired, Parse, PublicSuffix, UnspecifiedDomain, NoMemory, BadUrl, NotUtf8, BadTime, NoStore, HasStore, NoRoom, NotFound, BadLimit, BadOption, BadRule, BadJson, BadShape, BadRon, BadExpiry, BadLine, Unrepresentable, NoRules, ControlCharacter, TooLong, InsecureUrl, InsecureSameSiteNone, Prefix, SecureStored, SecureLimit}
+use Rattle.cookie_store_c.specs.declared.status.Status.TheVariants.{Done, Inserted, Updated, ExpiredExisting, NonHttpScheme, NonRelativeScheme, DomainMismatch, Expired, Parse, PublicSuffix, UnspecifiedDomain, NoMemory, BadUrl, NotUtf8, BadTime, NoStore, HasStore, NoRoom, NotFound, BadLimit, BadOption, BadRule, BadJson, BadShape, BadRon, BadExpiry, BadLine, Unrepresentable, NoRules, ControlCharacter, TooLong, InsecureUrl, InsecureSameSiteNone, Prefix, SecureStored, SecureLimit, CrossSiteResponse}
 
 -- the number of a status
 abbrev pub status_code : Status → ℕ
@@ -52,6 +52,7 @@ status_code InsecureSameSiteNone = 43
 status_code Prefix = 44
 status_code SecureStored = 45
 status_code SecureLimit = 46
+status_code CrossSiteResponse = 47
 
 -- the status of an insertion error
 abbrev pub cookie_error_status : CookieError → Status
@@ -69,6 +70,7 @@ abbrev pub strict_error_status : StrictError → Status
 strict_error_status StrictCase.ControlCharacter = ControlCharacter
 strict_error_status StrictCase.TooLong = TooLong
 strict_error_status (StrictCase.Cookie error) = cookie_error_status error
+strict_error_status StrictCase.CrossSite = CrossSiteResponse
 strict_error_status StrictCase.InsecureUrl = InsecureUrl
 strict_error_status StrictCase.InsecureSameSiteNone = InsecureSameSiteNone
 strict_error_status StrictCase.Prefix = Prefix

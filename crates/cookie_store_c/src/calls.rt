@@ -4,10 +4,12 @@ ghost use Rattle.std.specs.Result.{result_map_both};
 ghost use Rattle.cookie_laws.specs.Contents.{retained};
 ghost use Rattle.cookie_laws.specs.Rows.{key_at};
 ghost use Rattle.cookie_laws.specs.Runs.{Clear, Remove};
-ghost use Rattle.cookie_store_c.specs.Inputs.{text_and_time, moment_in, remove_call, set_call, text_in};
-ghost use Rattle.cookie_store_c.specs.Calls.{domain_outcome, expired_outcome, has_other_domain, insertion_outcome, limit_outcome, store_outcome, suffixes_error_status, HasOutcome, UsesSuffixText, RunsOut};
+ghost use Rattle.cookie_store_c.specs.Inputs.{text_and_time, moment_in, remove_call, response_inputs, set_call, text_in};
+ghost use Rattle.cookie_store_c.specs.Headers.{cross_site};
+ghost use Rattle.cookie_store_c.specs.Calls.{domain_outcome, expired_outcome, has_other_domain, insertion_outcome, limit_outcome, response_outcome, store_outcome, suffixes_error_status, HasOutcome, UsesSuffixText, RunsOut};
 
-use crate::inputs::{moment_in, request, text_in};
+use crate::header::{cross_site, from_page};
+use crate::inputs::{moment_in, page_and_request, request, text_in};
 use crate::status::Status;
 use cookie_inputs::{SuffixesError, parse_suffixes};
 use cookie_store::{CookieStore, HashKey, strict};
@@ -42,6 +44,37 @@ pub(crate) fn parse(
     } else {
         Status::of_reply(store.parse(text, &url, now))
     }
+}
+
+/// Parses the `Set-Cookie` header value `value` of the response to a request that `page` made for `url`,
+/// and inserts the cookie under the rules of browsers. If the request is cross-site, it has these flags.
+pub(crate) fn parse_for_page(
+    alloc: Global,
+    store: &mut CookieStore,
+    flags: u32,
+    url: &[u8],
+    page: &[u8],
+    value: &[u8],
+    now: i64,
+) -> Status
+    ensures { HasOutcome (response_outcome (cross_site flags) store.old (response_inputs page.now url.now value.now now))
+        (IsOk (cross_site flags) × IsOk (text_in value.now) × IsOk (text_in page.now) × IsOk (text_and_time url.now now))
+        (Some store.old) result (Some store.new) }
+{
+    let context = match cross_site(flags) {
+        Ok(context) => context,
+        Err(status) => return status,
+    };
+    let text = match text_in(value) {
+        Ok(text) => text,
+        Err(status) => return status,
+    };
+    let (page, url, now) = match page_and_request(alloc, page, url, now) {
+        Ok(inputs) => inputs,
+        Err(status) => return status,
+    };
+    let context = from_page(context, store, &url, &page);
+    Status::of_strict(strict::parse_in_context(store, text, &url, context, now))
 }
 
 /// Puts the store under the public suffix list `list` and, unless `only_listed` is true, the rule

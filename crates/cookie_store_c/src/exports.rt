@@ -1,16 +1,15 @@
 //! The functions that C programs call. `cookie_store.h` documents them.
 ghost use Rattle.std.specs.Prelude.{◌≡◌, ◌⊎◌, ◌+◌, ◌&&◌, false, is_some, Ok, Some, None, IsOk, IsSome};
 ghost use Rattle.cookie_laws.specs.Runs.{Clear};
-ghost use Rattle.cookie_store_c.specs.Inputs.{text_and_time, moment_in, remove_call, set_call, text_in};
-ghost use Rattle.cookie_store_c.specs.Buffers.{WritesSomeText};
-ghost use Rattle.cookie_store_c.specs.Calls.{call_outcome, clone_outcome, domain_outcome, expired_outcome, flag_after_new, flag_after_set, insertion_outcome_in, limit_of, limit_outcome, new_outcome, rows_count, unchanged_outcome, HasOutcome, RunsOut, UsesSuffixes};
-ghost use Rattle.cookie_store_c.specs.Headers.{cross_site, IsCrossSiteHeader, IsHeaderIn};
+ghost use Rattle.cookie_store_c.specs.Inputs.{text_and_time, moment_in, remove_call, response_inputs, set_call, text_in};
+ghost use Rattle.cookie_store_c.specs.Calls.{call_outcome, clone_outcome, domain_outcome, expired_outcome, flag_after_new, flag_after_set, insertion_outcome_in, limit_of, limit_outcome, new_outcome, response_outcome_in, rows_count, unchanged_outcome, HasOutcome, RunsOut, UsesSuffixes};
+ghost use Rattle.cookie_store_c.specs.Headers.{cross_site};
 ghost use Rattle.cookie_store_c.specs.Statuses.{IsCodeOf};
 ghost use Rattle.cookie_store_c.specs.declared.status.Status.{Status};
 
+use crate::calls;
 use crate::handle::StoreHandle;
 use crate::status::Status;
-use crate::{calls, header};
 use cookie_store::CookieStore;
 use std::alloc::Global;
 
@@ -256,75 +255,43 @@ pub extern "C" fn cookie_store_parse(
     status.code()
 }
 
-/// Writes the value of the `Cookie` header of a request for `url` into `out`, its cookies in the
-/// order of RFC 6265 5.4.
+/// Parses the `Set-Cookie` header value `value` of the response to a request that the page with the URL
+/// `page` made for `url`, and inserts the cookie under the rules of browsers, whether the store is
+/// strict or not.
 ///
-/// The store is unchanged. `needed` is set to the length of the value, 0 if there are no cookies to
-/// send, and to 0 on any error but `NoRoom`.
+/// If page and URL are not same-site, `request` says more, as in `cookie_store_header_cross_site`.
 ///
 /// # Errors
 ///
-/// In the order in which they are checked; `out` is unchanged:
+/// In the order in which they are checked; the store is unchanged:
 /// - `NoStore`: the handle has no store.
-/// - `NotUtf8`: `url` is not UTF-8.
+/// - `BadOption`: `request` has another flag.
+/// - `NotUtf8`: `value`, `page` or `url` is not UTF-8.
 /// - `BadTime`: `now` is not in the years -9999 to 9999.
-/// - `BadUrl`: `url` is not a valid URL.
-/// - `NoRoom`: `out` is shorter than `needed`.
-/// - `NoMemory`: out of memory. May be returned instead of any error but the first three.
+/// - `BadUrl`: `url` or `page` is not a valid URL.
+/// - The errors of `strict::parse_in_context`.
+/// - `NoMemory`: out of memory. May be returned instead of any error but the first four.
 #[unsafe(no_mangle)]
-pub extern "C" fn cookie_store_header(
+pub extern "C" fn cookie_store_parse_for(
     alloc: Global,
     handle: &mut StoreHandle,
     url: &[u8],
-    now: i64,
-    out: &mut [u8],
-    needed: &mut usize,
-) -> u32
-    ensures text { IsCodeOf result (λ status. WritesSomeText (IsHeaderIn None handle.old.store_ptr.store url.now now)
-        (IsSome handle.old.store_ptr.store × IsOk (text_and_time url.now now)) out.old status out.new needed.new) }
-    ensures store { handle.new.store_ptr.store ≡ handle.old.store_ptr.store }
-    ensures strict { handle.new.is_strict ≡ handle.old.is_strict }
-{
-    *needed = 0;
-    let Some(store) = handle.take(alloc) else {
-        return Status::NoStore.code();
-    };
-    let status = header::write_header(alloc, &store, None, url, now, out, needed);
-    handle.put(alloc, store);
-    status.code()
-}
-
-/// Writes the value of the `Cookie` header of a cross-site request for `url` into `out`, its cookies
-/// in the order of RFC 6265 5.4.
-///
-/// `request` has the flags of `enum cookie_store_cross_site`: 1 for a top-level navigation with a safe
-/// method, and 2 if a cookie without a SameSite attribute is treated as SameSite=None, not as Lax. All
-/// else is as in `cookie_store_header`.
-///
-/// # Errors
-///
-/// In the order in which they are checked: `NoStore`; `BadOption`, another flag; then those of
-/// `cookie_store_header`.
-#[unsafe(no_mangle)]
-pub extern "C" fn cookie_store_header_cross_site(
-    alloc: Global,
-    handle: &mut StoreHandle,
-    url: &[u8],
+    page: &[u8],
+    value: &[u8],
     now: i64,
     request: u32,
-    out: &mut [u8],
-    needed: &mut usize,
 ) -> u32
-    ensures text { IsCodeOf result (λ status. WritesSomeText (IsCrossSiteHeader (cross_site request) handle.old.store_ptr.store url.now now)
-        (IsSome handle.old.store_ptr.store × IsOk (cross_site request) × IsOk (text_and_time url.now now)) out.old status out.new needed.new) }
-    ensures store { handle.new.store_ptr.store ≡ handle.old.store_ptr.store }
+    ensures outcome { IsCodeOf result (λ status. HasOutcome
+        (response_outcome_in (cross_site request) handle.old.store_ptr.store (response_inputs page.now url.now value.now now))
+        (IsSome handle.old.store_ptr.store × IsOk (cross_site request) × IsOk (text_in value.now) × IsOk (text_in page.now)
+        × IsOk (text_and_time url.now now))
+        handle.old.store_ptr.store status handle.new.store_ptr.store) }
     ensures strict { handle.new.is_strict ≡ handle.old.is_strict }
 {
-    *needed = 0;
-    let Some(store) = handle.take(alloc) else {
+    let Some(mut store) = handle.take(alloc) else {
         return Status::NoStore.code();
     };
-    let status = header::write_cross_site(alloc, &store, request, url, now, out, needed);
+    let status = calls::parse_for_page(alloc, &mut store, request, url, page, value, now);
     handle.put(alloc, store);
     status.code()
 }

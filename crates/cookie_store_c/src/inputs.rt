@@ -4,7 +4,7 @@ ghost use Rattle.std.specs.Option.{ok_or};
 ghost use Rattle.std.specs.Result.{result_map_both};
 ghost use Rattle.cookie_words.specs.Moments.{moment_of};
 ghost use Rattle.cookie_parts.specs.Cookie.{and_then};
-ghost use Rattle.cookie_store_c.specs.Inputs.{text_and_time, moment_in, request, text_in, url_in, GivesOrRunsOut};
+ghost use Rattle.cookie_store_c.specs.Inputs.{text_and_time, moment_in, page_and_request, request, text_in, url_in, GivesOrRunsOut};
 
 use crate::status::Status;
 use cookie_inputs::parse_unambiguous;
@@ -65,4 +65,23 @@ pub(crate) fn request(alloc: Global, url: &[u8], now: i64) -> Result<(Url, DateT
 {
     let (text, now) = (text_in(url)?, moment_in(now)?);
     Ok((url_in(alloc, text)?, now))
+}
+
+/// Parses the URL of a page, and the URL and the time of a request that it made, as [`request`] does.
+///
+/// The errors are `NotUtf8`, `BadTime` and `BadUrl`, checked in this order. `NoMemory` is
+/// returned only if neither of the first two applies.
+pub(crate) fn page_and_request(
+    alloc: Global,
+    page: &[u8],
+    url: &[u8],
+    now: i64,
+) -> Result<(Url, Url, DateTime), Status>
+    ensures value { GivesOrRunsOut (result_map_both (λ inputs. (inputs.0, inputs.1, moment_of inputs.2)) (λ status. status) result)
+        (page_and_request page.now url.now now) }
+    ensures memory { result ≡ Err Status.NoMemory → IsOk (text_in page.now) × IsOk (text_and_time url.now now) }
+{
+    let page = text_in(page)?;
+    let (url, now) = request(alloc, url, now)?;
+    Ok((url_in(alloc, page)?, url, now))
 }

@@ -47,6 +47,7 @@ pub enum Status {
     Prefix,
     SecureStored,
     SecureLimit,
+    CrossSiteResponse,
 }
 
 impl Status {
@@ -91,6 +92,7 @@ impl Status {
             Status::Prefix => 44,
             Status::SecureStored => 45,
             Status::SecureLimit => 46,
+            Status::CrossSiteResponse => 47,
         }
     }
 
@@ -116,6 +118,7 @@ impl Status {
             Err(StrictError::Cookie(rejection)) => Status::of_cookie_error(rejection),
             Err(StrictError::ControlCharacter) => Status::ControlCharacter,
             Err(StrictError::TooLong) => Status::TooLong,
+            Err(StrictError::CrossSite) => Status::CrossSiteResponse,
             Err(StrictError::InsecureUrl) => Status::InsecureUrl,
             Err(StrictError::InsecureSameSiteNone) => Status::InsecureSameSiteNone,
             Err(StrictError::Prefix) => Status::Prefix,

@@ -72,4 +72,6 @@ mod strict;
 #[cfg(test)]
 mod strict_runs;
 #[cfg(test)]
+mod strict_values;
+#[cfg(test)]
 mod texts;

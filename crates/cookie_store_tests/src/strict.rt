@@ -374,16 +374,23 @@ const STORED: &[UrlAndValue] = &[
     (SECURE, "unset=1; Path=/"),
 ];
 
-// Same-site, top-level, Lax by default, and the cookies sent.
-static SENT: [(bool, bool, bool, &str); 8] = [
-    (true, true, true, "strict=1; lax=1; none=1; unset=1"),
-    (true, true, false, "strict=1; lax=1; none=1; unset=1"),
-    (true, false, true, "strict=1; lax=1; none=1; unset=1"),
-    (true, false, false, "strict=1; lax=1; none=1; unset=1"),
-    (false, true, true, "lax=1; none=1; unset=1"),
-    (false, true, false, "lax=1; none=1; unset=1"),
-    (false, false, true, "none=1"),
-    (false, false, false, "none=1; unset=1"),
+// Same-site, top-level, a safe method, Lax by default, and the cookies sent.
+static SENT: [(bool, bool, bool, bool, &str); 9] = [
+    (true, true, true, true, "strict=1; lax=1; none=1; unset=1"),
+    (true, false, false, true, "strict=1; lax=1; none=1; unset=1"),
+    (
+        true,
+        false,
+        false,
+        false,
+        "strict=1; lax=1; none=1; unset=1",
+    ),
+    (false, true, true, true, "lax=1; none=1; unset=1"),
+    (false, true, true, false, "lax=1; none=1; unset=1"),
+    (false, true, false, true, "none=1"),
+    (false, false, true, true, "none=1"),
+    (false, true, false, false, "none=1; unset=1"),
+    (false, false, true, false, "none=1; unset=1"),
 ];
 
 #[test]
@@ -391,10 +398,11 @@ fn a_cross_site_request_has_fewer_cookies(rt: HostRuntime) {
     let store = store(&rt, rt.alloc(), STORED);
     let url = url(&rt, rt.alloc(), SECURE);
     for row in &SENT {
-        let (is_same_site, is_top_level, is_lax_by_default, wanted) = *row;
+        let (is_same_site, is_top_level, is_safe, is_lax_by_default, wanted) = *row;
         let context = Context {
             is_same_site,
             is_top_level,
+            is_safe,
             is_lax_by_default,
         };
         let cookies = cookies_for(&store, &url, context, new_year()).expect(&rt, "memory");
@@ -445,7 +453,7 @@ fn urls_are_same_site(rt: HostRuntime) {
     }
 }
 
-static ERRORS: [(StrictError, &str); 8] = [
+static ERRORS: [(StrictError, &str); 9] = [
     (
         StrictError::ControlCharacter,
         "Set-Cookie value has a control character",
@@ -457,6 +465,10 @@ static ERRORS: [(StrictError, &str); 8] = [
     (
         StrictError::Cookie(CookieError::Parse),
         "unable to parse string as cookie::Cookie",
+    ),
+    (
+        StrictError::CrossSite,
+        "cookie of a cross-site response is not SameSite=None",
     ),
     (
         StrictError::InsecureUrl,

@@ -41,6 +41,11 @@ scheme_same : (url : Parts) (given cookie : Row) → by_scheme url given ≡ Ok 
 scheme_same url given cookie =
     cond_both (is_out_of_reach given.raw url) (Err NonHttpScheme) (Ok given) (λ r. r ≡ Ok cookie → cookie ≡ given) (λ _ is. absurd (cc)) (λ _ is. cc)
 
+scheme_reach : (url : Parts) (given cookie : Row) → by_scheme url given ≡ Ok cookie → is_out_of_reach given.raw url ≡ false
+scheme_reach url given cookie =
+    cond_both (is_out_of_reach given.raw url) (Err NonHttpScheme) (Ok given) (λ r. r ≡ Ok cookie → is_out_of_reach given.raw url ≡ false)
+    (λ _ is. absurd (cc)) (λ within _. within)
+
 list_same : (suffixes : Option RuleList) (url : Parts) (given cookie : Row) → by_list suffixes url given ≡ Ok cookie → IsSame given cookie
 list_same suffixes url given cookie =
     let own : Row = record given { domain = HostOnly (domain_text given.domain) } in
@@ -81,6 +86,14 @@ admitted_same suffixes url given cookie is =
       },
       ap (λ (c : Row). domain_matches c.domain url) one ∙ matches,
     )
+
+-- an admitted cookie is HttpOnly only if the URL has an HTTP scheme
+pub admitted_reach : (suffixes : Option RuleList) (url : Parts) (given cookie : Row) → admitted suffixes url given ≡ Ok cookie
+    → is_out_of_reach given.raw url ≡ false
+admitted_reach suffixes url given cookie is =
+    let (listed, by_both, last) = and_then_ok (and_then (by_scheme url given) (by_list suffixes url)) (by_domain url) cookie is in
+    let (first, scheme, list) = and_then_ok (by_scheme url given) (by_list suffixes url) listed by_both in
+    scheme_reach url given first scheme
 
 -- a host-only cookie that is admitted is for the host of its URL
 pub admitted_host : (suffixes : Option RuleList) (url : Parts) (given cookie : Row) (host : List ℕ) → given.domain ≡ HostOnly host → admitted suffixes url given ≡ Ok cookie

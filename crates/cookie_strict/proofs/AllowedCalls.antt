@@ -22,7 +22,7 @@ use Rattle.cookie_laws.specs.SecureLast.{evicted_by, removals}
 use Rattle.cookie_strict.specs.HeaderValue.{pair_error, strict_cookie}
 use Rattle.cookie_strict.specs.Lifetime.{limited_cookie}
 use Rattle.cookie_strict.specs.SiteRule.{by_site, is_above_site}
-use Rattle.cookie_strict.specs.StrictRules.{breaks_host_prefix, broken_rule, needs_secure_url}
+use Rattle.cookie_strict.specs.StrictRules.{breaks_host_prefix, breaks_http_prefix, broken_rule, needs_secure_url}
 use Rattle.cookie_strict.specs.StrictRuns.{allowed_calls, allowed_first, allowed_insertion, if_accepted, plain_calls, site_reply, store_after_call, strict_call, strict_insertion, unless_error}
 use Rattle.cookie_strict.specs.declared.error.StrictError.{StrictError}
 use Rattle.cookie_strict.proofs.SecureRows.{keeps_rules}
@@ -65,7 +65,8 @@ store_after_call-suffixes (Err error) store = refl
 
 -- what holds of an allowed insertion
 pub record IsAllowed (suffixes : Option RuleList) (cookie : Row) (url : Parts) : Type 0 where
-  pub prefix : breaks_host_prefix cookie ≡ false
+  pub host_prefix : breaks_host_prefix cookie ≡ false
+  pub http_prefix : breaks_http_prefix cookie ≡ false
   pub url_is_secure : needs_secure_url cookie url ≡ false
   pub site : (stored : Row) → admitted suffixes url cookie ≡ Ok stored → passes (λ rules. is_above_site rules stored.domain url) suffixes ≡ false
 
@@ -99,7 +100,12 @@ module _ (suffixes : Option RuleList) where
   accepted-proper store cookie url now (Ok action) None list replied is =
       let keeps = keeps_rules cookie url now store (sym is) in
       subst (λ s. IsAllowed s cookie url) list
-      (record { prefix = keeps.prefix.1; url_is_secure = keeps.url_is_secure; site = accepted-site cookie url now store action (sym replied) })
+      (record {
+        host_prefix = keeps.host_prefix;
+        http_prefix = keeps.http_prefix;
+        url_is_secure = keeps.url_is_secure;
+        site = accepted-site cookie url now store action (sym replied);
+      })
 
   unless-proper : (error : Option StrictError) (allowed : Result Call StrictError) → IfCall allowed → IfCall (unless_error error allowed)
   unless-proper None allowed proper = proper

@@ -1,25 +1,24 @@
--- The error of a cookie's name and value is that of its header value, also without the long attributes.
-use Rattle.std.proofs.Common.{◌≡◌, ◌∙◌, ℕ, true, false, not, List, Option, Result, Ok, Err, IfOk, ap, refl, subst, sym}
-use Rattle.std.specs.Result.{result_map_both}
-use Rattle.std.specs.Prelude.{◌++◌, ◌==◌, Some, None, length, if◌then◌else◌}
+-- The error of a cookie's name and value is that of its header value.
+use Rattle.std.proofs.Common.{◌≡◌, ◌∙◌, ℕ, Bool, true, false, List, Result, Ok, Err, ap, refl, sym}
+use Rattle.std.specs.Prelude.{◌++◌, ◌&&◌, is_none, Option, Some, None, if◌then◌else◌}
 use Rattle.std.specs.Str.Iter.{HasSubslice}
 use Rattle.std.proofs.lemmas.Bool.{cond_both, or_parts}
 use Rattle.std.proofs.lemmas.List.Folds.{list_any-append}
 use Rattle.url.specs.Parts.{Parts}
 use Rattle.cookie_words.specs.Moments.{Moment}
 use Rattle.cookie_raw.specs.Raw.{Raw}
+use Rattle.cookie_raw.specs.Rfc6265bis.{reading_by}
 use Rattle.cookie_raw.specs.Slices.{HasSlices}
-use Rattle.cookie_raw.specs.SetCookie.{has_equals, name_of, pair_of, reading, value_of}
-use Rattle.cookie_raw.specs.declared.error.RawCookieParseError.{RawCookieParseError}
-use Rattle.cookie_raw.specs.declared.error.RawCookieParseError.TheVariants.{EmptyName, MissingPair}
-use Rattle.cookie_parts.specs.Cookie.{Row, and_then, cookie_from_header, cookie_of, domain_for, is_out_of_reach}
+use Rattle.cookie_raw.specs.declared.syntax.Syntax.TheVariants.{Rfc6265bis}
+use Rattle.cookie_parts.specs.Cookie.{Row, and_then, cookie_of, domain_for, early_error, is_out_of_reach}
 use Rattle.cookie_parts.specs.Domain.{DomainValue, domain_from_attribute}
-use Rattle.cookie_parts.specs.Outcomes.{ReturnsOrMemory}
+use Rattle.cookie_parts.specs.Hosts.{host_of}
 use Rattle.cookie_parts.specs.declared.cookie_error.CookieError.{CookieError}
-use Rattle.cookie_parts.specs.declared.cookie_error.CookieError.TheVariants.{NonHttpScheme, Parse}
-use Rattle.cookie_strict.specs.HeaderValue.{has_control, header_error, is_control, is_too_long, pair_error, without_long_attributes}
-use Rattle.cookie_strict.specs.declared.error.StrictError.TheVariants.{TooLong}
-use Rattle.cookie_strict.proofs.ShortAttributes.{pair_stays}
+use Rattle.cookie_parts.specs.declared.cookie_error.CookieError.TheVariants.{Memory, NonHttpScheme, NonRelativeScheme}
+use Rattle.cookie_parts.specs.declared.store_action.StoreAction.{StoreAction}
+use Rattle.cookie_strict.specs.HeaderValue.{domain_error, first_error, has_control, header_error, is_control, is_too_long, pair_error}
+use Rattle.cookie_strict.specs.declared.error.StrictError.{StrictError}
+use Rattle.cookie_strict.specs.declared.error.StrictError.TheVariants.{Cookie, TooLong}
 
 -- a slice of a header value without control characters has none
 slice_lacks : (text part : List ℕ) → HasSubslice text part → has_control text ≡ false → has_control part ≡ false
@@ -33,26 +32,18 @@ pub pair_lacks : (text : List ℕ) (raw : Raw) → HasSlices text raw → has_co
     → pair_error raw ≡ (if is_too_long raw then Some TooLong else None)
 pair_lacks text raw slices none = rw (slice_lacks text raw.name slices.name none, slice_lacks text raw.value slices.value none) refl
 
+-- the first of two errors, of which the first one depends on a test
+first_under : (is_long : Bool) (other : Option StrictError)
+    → first_error (if is_long then Some TooLong else None) other ≡ (if is_long then Some TooLong else other)
+first_under true other = refl
+first_under false other = refl
+
 -- what the header value passes, its raw cookie decides
-pub by_pair : (text : List ℕ) (raw : Raw) → has_control text ≡ false → reading text ≡ Ok raw → header_error text ≡ pair_error raw
-by_pair text raw none is = rw (none, is) refl
-
--- a raw cookie of this name and value
-record HasPair (pair : List ℕ) (raw : Raw) : Type 0 where
-  name : raw.name ≡ name_of pair
-  value : raw.value ≡ value_of pair
-
--- what is read has the pair of its header value
-read_pair : (text : List ℕ) (raw : Raw) → reading text ≡ Ok raw → HasPair (pair_of text) raw
-read_pair text raw =
-    let P : Result Raw RawCookieParseError → Type 0 = λ r. r ≡ Ok raw → HasPair (pair_of text) raw in
-    cond_both (not (has_equals (pair_of text))) (Err MissingPair) _ P (λ _ is. absurd (cc))
-    (λ _. cond_both (length (name_of (pair_of text)) == 0) (Err EmptyName) _ P (λ _ is. absurd (cc))
-    (λ _ is. record { name = cc; value = cc }))
-
--- the error depends on the pair alone
-same_error : (pair : List ℕ) (raw other : Raw) → HasPair pair raw → HasPair pair other → pair_error raw ≡ pair_error other
-same_error pair raw other one two = rw (one.name, one.value, two.name, two.value) refl
+pub checked_error : (text : List ℕ) (raw : Raw) → HasSlices text raw → has_control text ≡ false → reading_by Rfc6265bis text ≡ Ok raw
+    → header_error text ≡ (if is_too_long raw then Some TooLong else domain_error raw)
+checked_error text raw slices none is =
+    rw (none, is) (ap (λ error. first_error error (domain_error raw)) (pair_lacks text raw slices none))
+    ∙ first_under (is_too_long raw) (domain_error raw)
 
 -- the raw cookie of a cookie
 raw_of : (domain : Result DomainValue CookieError) (made : DomainValue → Row) (raw : Raw) (cookie : Row) → ((d : DomainValue) → (made d).raw ≡ raw)
@@ -66,24 +57,22 @@ cookie_raw raw url now cookie =
     cond_both (is_out_of_reach raw url) (Err NonHttpScheme) _ (λ (r : Result Row CookieError). r ≡ Ok cookie → cookie.raw ≡ raw)
     (λ _ is. absurd (cc)) (λ _ is. raw_of (domain_for (domain_from_attribute raw.domain) url) _ raw cookie (λ _. refl) is)
 
--- a cookie that is read comes of a raw cookie
-read_cookie : (read : Result Raw RawCookieParseError) (url : Parts) (now : Moment) (cookie : Row)
-    → and_then (result_map_both (λ raw. raw) (λ _. Parse) read) (λ raw. cookie_of raw url now) ≡ Ok cookie
-    → (other : Raw) × (read ≡ Ok other) × (cookie_of other url now ≡ Ok cookie)
-read_cookie (Ok other) url now cookie is = (other, refl, is)
-read_cookie (Err error) url now cookie is = absurd (cc)
+-- so a cookie that is made of a raw cookie has its error
+pub made_pair : (raw : Raw) (url : Parts) (now : Moment) (cookie : Row) → cookie_of raw url now ≡ Ok cookie → pair_error cookie.raw ≡ pair_error raw
+made_pair raw url now cookie made = ap pair_error (cookie_raw raw url now cookie made)
 
--- so a cookie has the error that its header value has
-pub checked_pair : (text : List ℕ) (raw : Raw) (url : Parts) (now : Moment) (cookie : Row) → reading text ≡ Ok raw
-    → cookie_from_header (without_long_attributes text) url now ≡ Ok cookie → pair_error cookie.raw ≡ pair_error raw
-checked_pair text raw url now cookie is made =
-    let found = read_cookie (reading (without_long_attributes text)) url now cookie made in
-    let other = subst (λ pair. HasPair pair found.0) (pair_stays text) (read_pair (without_long_attributes text) found.0 found.1) in
-    ap pair_error (cookie_raw found.0 url now cookie found.2) ∙ same_error (pair_of text) found.0 raw other (read_pair text raw is)
+-- out of memory is no error that a raw cookie shows
+never_memory : (raw : Raw) (url : Parts) → early_error raw url ≡ Some Memory → ⊥
+never_memory raw url =
+    let P : Option CookieError → Type 0 = λ found. found ≡ Some Memory → ⊥ in
+    cond_both (is_out_of_reach raw url) (Some NonHttpScheme) _ P (λ _ is. absurd (cc))
+    (λ _. cond_both (is_none raw.domain && is_none (host_of url)) (Some NonRelativeScheme) None P (λ _ is. absurd (cc)) (λ _ is. absurd (cc)))
 
--- and so has the result of making the cookie
-pub checked_result : (result : Result Row CookieError) (text : List ℕ) (raw : Raw) (url : Parts) (now : Moment) → reading text ≡ Ok raw
-    → ReturnsOrMemory (λ cookie. cookie) result (cookie_from_header (without_long_attributes text) url now)
-    → IfOk result (λ cookie. pair_error cookie.raw ≡ pair_error raw)
-checked_result (Ok cookie) text raw url now is value = checked_pair text raw url now cookie is value
-checked_result (Err error) text raw url now is value = tt
+-- so an insertion that is out of memory shows none
+pub none_early : (raw : Raw) (url : Parts) (found : Option CookieError) (result : Result StoreAction StrictError) → found ≡ early_error raw url
+    → ((error : CookieError) → found ≡ Some error → result ≡ Err (Cookie error)) → result ≡ Err (Cookie Memory) → found ≡ None
+none_early raw url None result is early out = refl
+none_early raw url (Some error) result is early out =
+    let reported : result ≡ Err (Cookie error) = early error refl in
+    let same : error ≡ Memory = cc in
+    absurd (never_memory raw url (sym is ∙ ap Some same))

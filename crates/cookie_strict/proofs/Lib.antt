@@ -1,12 +1,10 @@
 pub mod AdmittedCookies
 pub mod AllowedCalls
-pub mod Attributes
 pub mod CheckedPairs
 pub mod HostCookies
+pub mod HttpCookies
 pub mod Letters
 pub mod Merged
 pub mod Responses
 pub mod SecureRows
-pub mod ShortAttributes
-pub mod ShortValues
 pub mod SiteCookies

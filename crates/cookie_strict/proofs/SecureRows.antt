@@ -9,7 +9,7 @@ use Rattle.url.specs.Parts.{Parts}
 use Rattle.cookie_words.specs.Moments.{Moment}
 use Rattle.cookie_parts.specs.Cookie.{Row, and_then, is_secure_only}
 use Rattle.cookie_parts.specs.Domain.{domain_text}
-use Rattle.cookie_parts.specs.Hosts.{covers, is_secure, passes}
+use Rattle.cookie_parts.specs.Hosts.{covers, passes}
 use Rattle.cookie_parts.specs.Path.{covers_path, CoversPath}
 use Rattle.cookie_parts.specs.declared.cookie_error.CookieError.{CookieError}
 use Rattle.cookie_parts.specs.declared.store_action.StoreAction.{StoreAction}
@@ -22,7 +22,8 @@ use Rattle.cookie_laws.specs.SecureLast.{evicted_by, evicted_secure_last, is_ful
 use Rattle.cookie_core.specs.Overlaid.{is_overlaid}
 use Rattle.cookie_strict.specs.HeaderValue.{pair_error, strict_cookie}
 use Rattle.cookie_strict.specs.Lifetime.{limited_cookie}
-use Rattle.cookie_strict.specs.StrictRules.{breaks_host_prefix, breaks_secure_prefix, broken_rule, evicts_secure, needs_secure_flag, needs_secure_url, overlays_secure}
+use Rattle.cookie_strict.specs.SecureUrl.{is_secure_url}
+use Rattle.cookie_strict.specs.StrictRules.{breaks_host_prefix, breaks_http_prefix, breaks_prefix, breaks_secure_prefix, broken_rule, evicts_secure, needs_secure_flag, needs_secure_url, overlays_secure}
 use Rattle.cookie_strict.specs.StrictRuns.{allowed_insertion, if_accepted, site_reply, store_after_call, strict_call, strict_insertion, strict_store_after, unless_error, IsInsecureInsertion}
 use Rattle.cookie_strict.specs.declared.error.StrictError.{StrictError}
 use Rattle.cookie_strict.proofs.AdmittedCookies.{accepted-new}
@@ -35,7 +36,8 @@ store_after-append (call ∷ calls) more store = store_after-append calls more (
 -- which rules a cookie keeps
 pub record KeepsRules (cookie : Row) (url : Parts) (now : Moment) (store : Contents) : Type 0 where
   pub url_is_secure : needs_secure_url cookie url ≡ false
-  pub prefix : (breaks_secure_prefix cookie ≡ false) × (breaks_host_prefix cookie ≡ false)
+  pub host_prefix : breaks_host_prefix cookie ≡ false
+  pub http_prefix : breaks_http_prefix cookie ≡ false
   pub overlays_none : overlays_secure cookie url now store.rows ≡ false
   pub evicts_none : evicts_secure cookie now store ≡ false
 
@@ -45,10 +47,12 @@ keeps_rules cookie url now store =
     let P : Option StrictError → Type 0 = λ broken. broken ≡ None → KeepsRules cookie url now store in
     cond_both (needs_secure_url cookie url) _ _ P (λ _ is. cc)
     (λ secure. cond_both (needs_secure_flag cookie) _ _ P (λ _ is. cc)
-    (λ _. cond_both _ _ _ P (λ _ is. cc)
+    (λ _. cond_both (breaks_prefix cookie) _ _ P (λ _ is. cc)
     (λ prefix. cond_both (overlays_secure cookie url now store.rows) _ _ P (λ _ is. cc)
     (λ overlays. cond_both (evicts_secure cookie now store) _ _ P (λ _ is. cc)
-    (λ evicts is. record { url_is_secure = secure; prefix = or_parts _ _ prefix; overlays_none = overlays; evicts_none = evicts })))))
+    (λ evicts is.
+    let others = or_parts (breaks_host_prefix cookie) (breaks_http_prefix cookie) (or_parts (breaks_secure_prefix cookie) _ prefix).1 in
+    record { url_is_secure = secure; host_prefix = others.0; http_prefix = others.1; overlays_none = overlays; evicts_none = evicts })))))
 
 -- what is found passes no test that nothing passes
 found_passes : {X : Type 0} (test other : X → Bool) (xs : List X) (x : X) → find test xs ≡ Some x → list_any other xs ≡ false
@@ -80,7 +84,7 @@ module _ (path_law : (path request : List ℕ) → IsTrue (covers_path path requ
 
   -- so a cookie from a URL that is not secure has another key, if it breaks no rule
   other_key : (cookie : Row) (url : Parts) (now : Moment) (store : Contents) (key : Key) (row : Row) → KeepsRules cookie url now store
-      → is_secure url ≡ false → row_of key store.rows ≡ Some row → is_unexpired now row ≡ true → is_secure_only row.raw ≡ true
+      → is_secure_url url ≡ false → row_of key store.rows ≡ Some row → is_unexpired now row ≡ true → is_secure_only row.raw ≡ true
       → same_key key (key_of cookie) ≡ false
   other_key cookie url now store key row keeps insecure held unexpired secure =
       let none : list_any (is_overlaid cookie now) store.rows ≡ false = grind (arith, keeps.url_is_secure, keeps.overlays_none, insecure) in
@@ -120,7 +124,7 @@ module _ (path_law : (path request : List ℕ) → IsTrue (covers_path path requ
       absurd (cc))
       (others store (Ok cookie) url now cookie key row refl away held)
 
-  module _ (url : Parts) (now : Moment) (key : Key) (row : Row) (insecure : is_secure url ≡ false)
+  module _ (url : Parts) (now : Moment) (key : Key) (row : Row) (insecure : is_secure_url url ≡ false)
       (unexpired : is_unexpired now row ≡ true) (secure : is_secure_only row.raw ≡ true) where
     -- the store has the row
     abbrev pub HasRow : Contents → Type 0

@@ -1,15 +1,16 @@
--- What the draft checks of a Set-Cookie header value before it is parsed, draft-ietf-httpbis-rfc6265bis 5.6.
-use Rattle.std.specs.Prelude.{◌≡◌, ℕ, ◌+◌, ◌==◌, Bool, not, ◌&&◌, ◌||◌, nat_lt, List, ◌∷◌, ◌++◌, filter, flat_map, length, Option, Some, None, is_none, is_some, Result, Ok, Err, if◌then◌else◌}
-use Rattle.std.specs.List.{list_any}
+-- What the draft checks of a Set-Cookie header value, draft-ietf-httpbis-rfc6265bis 5.6 and 5.7.
+use Rattle.std.specs.Prelude.{◌≡◌, ℕ, ◌+◌, ◌==◌, Bool, true, not, ◌&&◌, ◌||◌, nat_lt, List, length, Option, Some, None, Result, Ok, Err, if◌then◌else◌}
+use Rattle.std.specs.List.{list_all, list_any}
 use Rattle.std.specs.Result.{result_map_both}
 use Rattle.url.specs.Parts.{Parts}
 use Rattle.cookie_words.specs.Moments.{Moment}
 use Rattle.cookie_raw.specs.Raw.{Raw}
-use Rattle.cookie_raw.specs.SetCookie.{accepted_value, attributes, domain_from, http_only_from, pair_of, reading, value_of}
-use Rattle.cookie_parts.specs.Cookie.{Row, cookie_from_header, early}
-use Rattle.cookie_parts.specs.Hosts.{host_of, is_http_scheme}
+use Rattle.cookie_raw.specs.Rfc6265bis.{reading_by}
+use Rattle.cookie_raw.specs.declared.error.RawCookieParseError.{RawCookieParseError}
+use Rattle.cookie_raw.specs.declared.syntax.Syntax.TheVariants.{Rfc6265bis}
+use Rattle.cookie_parts.specs.Cookie.{Row, and_then, cookie_of, early}
 use Rattle.cookie_parts.specs.declared.cookie_error.CookieError.{CookieError}
-use Rattle.cookie_parts.specs.declared.cookie_error.CookieError.TheVariants.{NonHttpScheme, NonRelativeScheme, Parse}
+use Rattle.cookie_parts.specs.declared.cookie_error.CookieError.TheVariants.{DomainMismatch, Parse}
 use Rattle.cookie_strict.specs.declared.error.StrictError.{StrictError}
 use Rattle.cookie_strict.specs.declared.error.StrictError.TheVariants.{ControlCharacter, TooLong, Cookie}
 
@@ -25,35 +26,13 @@ has_control text = list_any is_control text
 abbrev pub is_too_long : Raw → Bool
 is_too_long raw = nat_lt 4096 (length raw.name + length raw.value)
 
--- 5.6: the value of the attribute is longer than 1,024 bytes
-abbrev pub is_long : List ℕ → Bool
-is_long attribute = nat_lt 1024 (length (value_of attribute))
+-- the byte is a visible ASCII character
+abbrev pub is_visible : ℕ → Bool
+is_visible b = nat_lt 32 b && nat_lt b 127
 
--- 5.6: the attributes whose value is at most that long; the others are ignored
-abbrev pub short_attributes : List (List ℕ) → List (List ℕ)
-short_attributes attributes = filter (λ attribute. not (is_long attribute)) attributes
-
--- the attribute is not ignored, is of this kind, and its value is accepted
-abbrev pub is_short : {T : Type 0} → (List ℕ → List ℕ → Option T) → List ℕ → Bool
-is_short from attribute = not (is_long attribute) && is_some (accepted_value from attribute)
-
--- one of the attributes is
-abbrev pub has_short : {T : Type 0} → (List ℕ → List ℕ → Option T) → List (List ℕ) → Bool
-has_short from attributes = list_any (is_short from) attributes
-
--- the error that the attributes show: HttpOnly, and the scheme of the URL is not HTTP; no Domain, and the URL has no host
-abbrev pub attribute_error : List (List ℕ) → Parts → Option CookieError
-attribute_error attributes url =
-    if has_short http_only_from attributes && not (is_http_scheme url) then Some NonHttpScheme
-    else (if not (has_short domain_from attributes) && is_none (host_of url) then Some NonRelativeScheme else None)
-
--- each attribute after a `;`
-abbrev pub joined_attributes : List (List ℕ) → List ℕ
-joined_attributes attributes = flat_map (λ attribute. 59 ∷ attribute) attributes
-
--- 5.6: the header value without the attributes that are ignored
-abbrev pub without_long_attributes : List ℕ → List ℕ
-without_long_attributes text = pair_of text ++ joined_attributes (short_attributes (attributes text))
+-- 5.6.3, 5.7: the Domain attribute, without its dot, has only visible ASCII characters, as the name of a host has
+abbrev pub has_visible_domain : Raw → Bool
+has_visible_domain raw = elim raw.domain [ None ↦ true | Some domain ↦ list_all is_visible domain ]
 
 -- 5.6 and 5.7: the error of a name and a value: a control character, or both together are too long
 abbrev pub pair_error : Raw → Option StrictError
@@ -61,20 +40,37 @@ pair_error raw =
     if has_control raw.name || has_control raw.value then Some ControlCharacter
     else (if is_too_long raw then Some TooLong else None)
 
--- 5.6: the error that is found before the attributes are parsed: a control character, no cookie, or a cookie that is too
--- long
+-- 5.7: the error of a Domain attribute that no host has
+abbrev pub domain_error : Raw → Option StrictError
+domain_error raw = if has_visible_domain raw then None else Some (Cookie DomainMismatch)
+
+-- the first of two errors
+abbrev pub first_error : Option StrictError → Option StrictError → Option StrictError
+first_error None second = second
+first_error (Some error) second = Some error
+
+-- the error of a header value that the draft reads so
+abbrev pub reading_error : Result Raw RawCookieParseError → Option StrictError
+reading_error (Ok raw) = first_error (pair_error raw) (domain_error raw)
+reading_error (Err error) = Some (Cookie Parse)
+
+-- the error that is found before the URL is looked at: a control character, no cookie, a cookie that is too long, or a
+-- Domain attribute that no host has
 abbrev pub header_error : List ℕ → Option StrictError
-header_error text =
-    if has_control text then Some ControlCharacter
-    else elim (reading text) [ Ok raw ↦ pair_error raw | Err error ↦ Some (Cookie Parse) ]
+header_error text = if has_control text then Some ControlCharacter else reading_error (reading_by Rfc6265bis text)
 
--- the header value is not rejected early: neither with `header_error`, nor, without the attributes that are ignored, with `early`
+-- the header value is not rejected early: neither with `header_error` nor with `early`
 abbrev pub PassesEarlyChecks : List ℕ → Parts → Type 0
-PassesEarlyChecks text url = (header_error text ≡ None) × (early (reading (without_long_attributes text)) url ≡ None)
+PassesEarlyChecks text url = (header_error text ≡ None) × (early (reading_by Rfc6265bis text) url ≡ None)
 
--- the cookie of a Set-Cookie header value received from the URL, or the error
+-- 5.6, RFC 6265 5.3: the cookie of a header value received from the URL, or the store's error
+abbrev pub draft_cookie : List ℕ → Parts → Moment → Result Row CookieError
+draft_cookie text url now =
+    and_then (result_map_both (λ raw. raw) (λ _. Parse) (reading_by Rfc6265bis text)) (λ raw. cookie_of raw url now)
+
+-- the same, or the error that is found before
 abbrev pub strict_cookie : List ℕ → Parts → Moment → Result Row StrictError
 strict_cookie text url now = elim (header_error text) [
   | Some error ↦ Err error
-  | None ↦ result_map_both (λ cookie. cookie) Cookie (cookie_from_header (without_long_attributes text) url now)
+  | None ↦ result_map_both (λ cookie. cookie) Cookie (draft_cookie text url now)
 ]

@@ -3,10 +3,11 @@ use Rattle.std.specs.Prelude.{◌≡◌, ℕ, true, List, codes, Some}
 use Rattle.url.specs.Parts.{Parts}
 use Rattle.cookie_parts.specs.Cookie.{Row}
 use Rattle.cookie_parts.specs.Domain.{HostOnly}
-use Rattle.cookie_parts.specs.Hosts.{host_of, is_secure}
+use Rattle.cookie_parts.specs.Hosts.{host_of}
 use Rattle.cookie_laws.specs.Confinement.{Accepts, IsPutOrExpired}
 use Rattle.cookie_laws.specs.Contents.{Contents}
 use Rattle.cookie_laws.specs.Runs.{Call}
+use Rattle.cookie_strict.specs.SecureUrl.{is_secure_url}
 use Rattle.cookie_strict.specs.StrictRules.{has_prefix}
 
 -- an allowed call of the run from this store accepted this cookie, which may have been expired since; its URL is secure
@@ -14,7 +15,7 @@ use Rattle.cookie_strict.specs.StrictRules.{has_prefix}
 abbrev pub HasOwnHost : List Call → Contents → Row → Type 0
 HasOwnHost allowed store row =
     (place : ℕ) × (from : Parts) × (accepted : Row) × Accepts allowed store place from accepted × IsPutOrExpired accepted row
-    × (host : List ℕ) × (row.domain ≡ HostOnly host) × (is_secure from ≡ true) × (host_of from ≡ Some host)
+    × (host : List ℕ) × (row.domain ≡ HostOnly host) × (is_secure_url from ≡ true) × (host_of from ≡ Some host)
 
 -- the name begins with `__Host-` only if the row has its own host
 abbrev pub IsOwnIfHost : List Call → Contents → Row → Type 0

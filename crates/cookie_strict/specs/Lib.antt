@@ -1,7 +1,9 @@
 pub mod CrossSite
 pub mod HeaderValue
 pub mod HostPrefix
+pub mod HttpPrefix
 pub mod Lifetime
+pub mod SecureUrl
 pub mod SiteRule
 pub mod Sites
 pub mod StrictErrors

@@ -2,7 +2,7 @@
 use Rattle.std.specs.Prelude.{ℕ, Bool, false, ◌&&◌, List, bytes_eq, Option, Some, None, option_map, unwrap_or, if◌then◌else◌}
 use Rattle.url.specs.Parts.{Parts}
 use Rattle.cookie_psl.specs.Rules.{RuleList, registrable_domain}
-use Rattle.cookie_parts.specs.Hosts.{host_of, is_host_name}
+use Rattle.cookie_parts.specs.Hosts.{host_of, is_host_name, passes}
 use Rattle.cookie_strict.specs.declared.site.Site.{Site}
 
 -- a scheme, and a registrable domain or a host
@@ -31,3 +31,12 @@ are_equal_sites (Some first) (Some second) = bytes_eq first.scheme second.scheme
 -- 5.2: two URLs are same-site
 abbrev pub is_same_site : RuleList → Parts → Parts → Bool
 is_same_site rules first second = are_equal_sites (site_of rules first) (site_of rules second)
+
+-- the hosts of two URLs are equal; no host is equal to none
+abbrev pub have_one_host : Parts → Parts → Bool
+have_one_host first second = passes (λ host. passes (bytes_eq host) (host_of second)) (host_of first)
+
+-- the same under the list of a store; without one the schemes and the hosts are equal
+abbrev pub is_same_site_in : Option RuleList → Parts → Parts → Bool
+is_same_site_in (Some rules) first second = is_same_site rules first second
+is_same_site_in None first second = bytes_eq first.scheme second.scheme && have_one_host first second

@@ -6,19 +6,19 @@ use Rattle.url.specs.Parts.{Parts}
 use Rattle.cookie_words.specs.Moments.{Moment}
 use Rattle.cookie_raw.specs.declared.same_site.SameSite.{SameSite}
 use Rattle.cookie_raw.specs.declared.same_site.SameSite.TheVariants as same_site
-use Rattle.cookie_parts.specs.Cookie.{Row, is_secure_only}
+use Rattle.cookie_parts.specs.Cookie.{Row, is_http_only, is_secure_only}
 use Rattle.cookie_parts.specs.Domain.{DomainValue, HostOnly, Suffix, NotPresent, Empty}
-use Rattle.cookie_parts.specs.Hosts.{is_secure}
 use Rattle.cookie_laws.specs.Contents.{Contents}
 use Rattle.cookie_laws.specs.Rows.{key_of, row_of}
 use Rattle.cookie_laws.specs.SecureLast.{is_full_of_secure}
 use Rattle.cookie_core.specs.Overlaid.{is_overlaid}
+use Rattle.cookie_strict.specs.SecureUrl.{is_secure_url}
 use Rattle.cookie_strict.specs.declared.error.StrictError.{StrictError}
 use Rattle.cookie_strict.specs.declared.error.StrictError.TheVariants.{InsecureUrl, InsecureSameSiteNone, Prefix, SecureStored, SecureLimit}
 
 -- 5.7: the cookie is Secure, and the URL is not secure
 abbrev pub needs_secure_url : Row → Parts → Bool
-needs_secure_url cookie url = is_secure_only cookie.raw && not (is_secure url)
+needs_secure_url cookie url = is_secure_only cookie.raw && not (is_secure_url url)
 
 -- the SameSite attribute is None
 abbrev pub is_none_site : Option SameSite → Bool
@@ -56,14 +56,22 @@ breaks_host_prefix cookie =
     has_prefix (codes "__Host-") cookie.raw.name
     && not (is_secure_only cookie.raw && (is_host_only cookie.domain && has_root_path cookie))
 
--- 5.7: the name begins with `__Secure-` or `__Host-`, and the cookie lacks what that prefix demands
+-- the name begins with `__Http-` or `__Host-Http-`
+abbrev pub has_http_prefix : List ℕ → Bool
+has_http_prefix name = has_prefix (codes "__Http-") name || has_prefix (codes "__Host-Http-") name
+
+-- the name begins so, and the cookie is not Secure or not HttpOnly; browsers have this rule, the draft does not
+abbrev pub breaks_http_prefix : Row → Bool
+breaks_http_prefix cookie = has_http_prefix cookie.raw.name && not (is_secure_only cookie.raw && is_http_only cookie.raw)
+
+-- 5.7: the name begins with one of these prefixes, and the cookie lacks what that prefix demands
 abbrev pub breaks_prefix : Row → Bool
-breaks_prefix cookie = breaks_secure_prefix cookie || breaks_host_prefix cookie
+breaks_prefix cookie = breaks_secure_prefix cookie || (breaks_host_prefix cookie || breaks_http_prefix cookie)
 
 -- 5.7, "leave secure cookies alone": neither the cookie nor the URL is secure, and the cookie overlays a stored one
 abbrev pub overlays_secure : Row → Parts → Moment → List Row → Bool
 overlays_secure cookie url now rows =
-    (not (is_secure_only cookie.raw) && not (is_secure url)) && list_any (is_overlaid cookie now) rows
+    (not (is_secure_only cookie.raw) && not (is_secure_url url)) && list_any (is_overlaid cookie now) rows
 
 -- the cookie is not Secure and no row has its key, and its domain has the limit of unexpired Secure rows: a Secure row
 -- would be evicted for it

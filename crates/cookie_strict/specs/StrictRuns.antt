@@ -1,9 +1,12 @@
 -- Calls on a store under the draft's rules, draft-ietf-httpbis-rfc6265bis 5.7.
 use Rattle.std.specs.Prelude.{◌≡◌, ℕ, true, false, List, [], ◌∷◌, ◌++◌, map, Option, Some, None, Result, Ok, Err, ◌⊎◌}
+use Rattle.std.specs.Result.{result_map_both}
 use Rattle.url.specs.Parts.{Parts}
 use Rattle.cookie_words.specs.Moments.{Moment}
-use Rattle.cookie_parts.specs.Cookie.{Row, and_then}
-use Rattle.cookie_parts.specs.Hosts.{is_secure}
+use Rattle.cookie_raw.specs.Raw.{Raw}
+use Rattle.cookie_raw.specs.Rfc6265bis.{reading_by}
+use Rattle.cookie_raw.specs.declared.syntax.Syntax.TheVariants.{Rfc6265bis}
+use Rattle.cookie_parts.specs.Cookie.{Row, and_then, cookie_of}
 use Rattle.cookie_parts.specs.declared.cookie_error.CookieError.{CookieError}
 use Rattle.cookie_parts.specs.declared.cookie_error.CookieError.TheVariants.{Memory}
 use Rattle.cookie_parts.specs.declared.store_action.StoreAction.{StoreAction}
@@ -13,10 +16,13 @@ use Rattle.cookie_laws.specs.Contents.{Contents}
 use Rattle.cookie_laws.specs.Rows.{is_unexpired}
 use Rattle.cookie_laws.specs.Runs.{Call, Set, Insert, Remove, Clear, Stored, step, store_after}
 use Rattle.cookie_laws.specs.SecureLast.{secure_last_calls}
-use Rattle.cookie_strict.specs.HeaderValue.{pair_error, strict_cookie, PassesEarlyChecks}
+use Rattle.cookie_strict.specs.CrossSite.{context_error}
+use Rattle.cookie_strict.specs.HeaderValue.{first_error, header_error, pair_error, strict_cookie, PassesEarlyChecks}
 use Rattle.cookie_strict.specs.Lifetime.{limited_cookie}
+use Rattle.cookie_strict.specs.SecureUrl.{is_secure_url}
 use Rattle.cookie_strict.specs.SiteRule.{admitted_by_site}
 use Rattle.cookie_strict.specs.StrictRules.{broken_rule}
+use Rattle.cookie_strict.specs.declared.context.Context.{Context}
 use Rattle.cookie_strict.specs.declared.error.StrictError.{StrictError}
 use Rattle.cookie_strict.specs.declared.error.StrictError.TheVariants.{Cookie}
 
@@ -54,6 +60,22 @@ strict_call (Set text url now) store = and_then (strict_cookie text url now) (λ
 strict_call (Insert cookie url now) store = strict_insertion cookie url now store
 strict_call (Remove key) store = Ok (Remove key)
 strict_call Clear store = Ok Clear
+
+-- 5.7: the insertion of a raw cookie received from the URL, or the error
+abbrev pub raw_insertion : Raw → Parts → Moment → Contents → Result Call StrictError
+raw_insertion raw url now store =
+    and_then (result_map_both (λ cookie. cookie) Cookie (cookie_of raw url now)) (λ cookie. strict_insertion cookie url now store)
+
+-- 5.7: the error of a header value in the response to a request of this context, if it is found before the URL is looked at
+abbrev pub response_error : Context → List ℕ → Option StrictError
+response_error context text = first_error (header_error text) (elim (reading_by Rfc6265bis text) [
+  | Ok raw ↦ context_error context raw
+  | Err error ↦ None
+])
+
+-- 5.7: the call that inserts the cookie of a header value received so, or the error
+abbrev pub response_call : Context → List ℕ → Parts → Moment → Contents → Result Call StrictError
+response_call context text url now store = unless_error (response_error context text) (strict_call (Set text url now) store)
 
 -- the plain calls that an allowed call stands for: of an insertion, the removals of the rows that are evicted, and then
 -- the insertion
@@ -107,7 +129,7 @@ StopsAt url now values old new =
 
 -- an insertion from a URL that is not secure, at a time at which this row has not expired
 abbrev pub IsInsecureInsertion : Row → Call → Type 0
-IsInsecureInsertion row (Set text url now) = (is_secure url ≡ false) × (is_unexpired now row ≡ true)
-IsInsecureInsertion row (Insert cookie url now) = (is_secure url ≡ false) × (is_unexpired now row ≡ true)
+IsInsecureInsertion row (Set text url now) = (is_secure_url url ≡ false) × (is_unexpired now row ≡ true)
+IsInsecureInsertion row (Insert cookie url now) = (is_secure_url url ≡ false) × (is_unexpired now row ≡ true)
 IsInsecureInsertion row (Remove key) = ⊥
 IsInsecureInsertion row Clear = ⊥

@@ -18,12 +18,14 @@ pub enum StrictError {
     TooLong,
     /// The store rejects the cookie, or out of memory.
     Cookie(CookieError),
+    /// The response is to a cross-site request that may not set the cookie.
+    CrossSite,
     /// The cookie is Secure, and the URL is not secure.
     InsecureUrl,
     /// The cookie has SameSite=None and is not Secure.
     InsecureSameSiteNone,
-    /// The name begins with `__Secure-` or `__Host-`, and the cookie has not the attributes that
-    /// the prefix demands.
+    /// The name begins with `__Secure-`, `__Host-`, `__Http-` or `__Host-Http-`, and the cookie has
+    /// not the attributes that the prefix demands.
     Prefix,
     /// Neither the cookie nor the URL is secure, and the cookie overlays a stored Secure cookie.
     SecureStored,
@@ -40,6 +42,7 @@ impl StrictError {
             StrictError::ControlCharacter => "Set-Cookie value has a control character",
             StrictError::TooLong => "name and value are longer than 4096 bytes",
             StrictError::Cookie(error) => error.text(),
+            StrictError::CrossSite => "cookie of a cross-site response is not SameSite=None",
             StrictError::InsecureUrl => "cookie is Secure but request-uri is not secure",
             StrictError::InsecureSameSiteNone => "cookie has SameSite=None but is not Secure",
             StrictError::Prefix => "cookie lacks what the prefix of its name demands",

@@ -1,40 +1,38 @@
 //! Insertion of a cookie under the draft's rules.
-ghost use Rattle.std.specs.Prelude.{◌≡◌, ◌≢◌, false, Err, None, Ok, Some, IfErr, IfOk, IsTrue, OnErr, OnOk};
-ghost use Rattle.std.specs.List.{list_any};
+ghost use Rattle.std.specs.Prelude.{◌≡◌, ◌≢◌, Err, None, Ok, Some, IfErr, IfOk, IsTrue, OnErr, OnOk};
 ghost use Rattle.cookie_words.specs.Moments.{moment_of};
-ghost use Rattle.cookie_raw.specs.SetCookie.{attributes, reading};
-ghost use Rattle.cookie_parts.specs.Cookie.{cookie_from_header, early};
-ghost use Rattle.cookie_parts.specs.Outcomes.{ReturnsOrMemory};
+ghost use Rattle.cookie_raw.specs.Rfc6265bis.{reading_by};
+ghost use Rattle.cookie_raw.specs.declared.syntax.Syntax.TheVariants.{Rfc6265bis};
+ghost use Rattle.cookie_parts.specs.Cookie.{early, early_error};
 ghost use Rattle.cookie_parts.specs.declared.cookie_error.CookieError.{CookieError};
 ghost use Rattle.cookie_parts.specs.declared.cookie_error.CookieError.TheVariants.{Memory};
 ghost use Rattle.cookie_laws.specs.Contents.{HasCreationOrder};
 ghost use Rattle.cookie_laws.specs.Rows.{are_rows};
 ghost use Rattle.cookie_laws.specs.Runs.{step, Insert, Set, Stored};
 ghost use Rattle.cookie_core.specs.Insertions.{IsAccepted};
-ghost use Rattle.cookie_strict.specs.HeaderValue.{header_error, is_long, pair_error, without_long_attributes, PassesEarlyChecks};
-ghost use Rattle.cookie_strict.specs.StrictRuns.{allowed_insertion, site_reply, strict_call, strict_insertion, store_after_call, InsertsNew, IsStrictReply};
+ghost use Rattle.cookie_strict.specs.HeaderValue.{header_error, pair_error, PassesEarlyChecks};
+ghost use Rattle.cookie_strict.specs.StrictRuns.{allowed_insertion, raw_insertion, response_call, response_error, site_reply, strict_call, strict_insertion, store_after_call, InsertsNew, IsStrictReply};
 ghost use Rattle.cookie_strict.specs.declared.error.StrictError.{StrictError};
 ghost use Rattle.cookie_strict.specs.declared.error.StrictError.TheVariants as strict_error;
 
-use crate::header_value::{checked_raw, has_long_attribute, pair_error, without_long_attributes};
+use crate::context::is_accepted;
+use crate::header_value::{checked_raw, pair_error};
 use crate::rules::{broken_rule, index_secure, limited_expiry};
-use crate::short_attributes::early_error;
 use crate::site::is_above_site;
-use crate::{StrictError, StrictResult};
+use crate::{Context, StrictError, StrictResult};
 use cookie_core::{Acceptance, CookieStore};
 use cookie_laws::evictions_are_removals;
-use cookie_parts::{Cookie, CookieError, CookieResult};
+use cookie_parts::{Cookie, CookieError};
 use cookie_raw::RawCookie;
 use cookie_rows::EvictionOrder;
 use jiff::civil::DateTime;
-use std::alloc::Global;
 use url::Url;
 
 /// Parses a `Set-Cookie` header value received from `url` and inserts the cookie under the draft's
 /// rules.
 ///
-/// Attributes whose value is longer than 1,024 bytes are ignored, and the cookie expires at most
-/// 400 days from `now`. On any error, out of memory included, the store is unchanged.
+/// `text` is parsed as the draft has it, [`Syntax::Rfc6265bis`](cookie_raw::Syntax), and the cookie
+/// expires at most 400 days from `now`. On any error, out of memory included, the store is unchanged.
 ///
 /// # Errors
 ///
@@ -42,12 +40,12 @@ use url::Url;
 /// - `ControlCharacter`: `text` has a control character other than HTAB.
 /// - `Cookie(Parse)`: `text` is not a cookie.
 /// - `TooLong`: the name and the value together are longer than 4,096 bytes.
+/// - `Cookie(DomainMismatch)`: the Domain attribute has white space, or is not ASCII.
 /// - `Cookie`: those of [`Cookie::parse`].
 /// - Those of [`insert`].
 ///
-/// `Cookie(Memory)`: out of memory. Never in place of the first three, nor of the `NonHttpScheme` of
+/// `Cookie(Memory)`: out of memory. Never in place of the first four, nor of the `NonHttpScheme` of
 /// [`Cookie::parse`], nor of `NonRelativeScheme` without a Domain attribute.
-#[tactic(auto, using(crate::proofs::Attributes::none_long))]
 pub fn parse(store: &mut CookieStore, text: &str, url: &Url, now: DateTime) -> StrictResult
     ensures reply { IsStrictReply result (strict_call (Set text.now url.now (moment_of now)) store.old) store.old }
     ensures store { OnOk result (store.new
@@ -55,38 +53,58 @@ pub fn parse(store: &mut CookieStore, text: &str, url: &Url, now: DateTime) -> S
     ensures unchanged { OnErr result (store.new ≡ store.old) }
     ensures early { (error : StrictError) → header_error text.now ≡ Some error → result ≡ Err error }
     ensures early_cookie { header_error text.now ≡ None → (error : CookieError)
-        → early (reading (without_long_attributes text.now)) url.now ≡ Some error → result ≡ Err (strict_error.Cookie error) }
-    ensures early_short { header_error text.now ≡ None → list_any is_long (attributes text.now) ≡ false
-        → (error : CookieError) → early (reading text.now) url.now ≡ Some error → result ≡ Err (strict_error.Cookie error) }
+        → early (reading_by Rfc6265bis text.now) url.now ≡ Some error → result ≡ Err (strict_error.Cookie error) }
     ensures memory { result ≡ Err (strict_error.Cookie Memory) → PassesEarlyChecks text.now url.now }
 {
     let raw = checked_raw(text)?;
-    let cookie = owned_cookie(store.allocator(), text, raw, url, now)?;
-    insert_checked(store, cookie, url, now)
+    insert_raw(store, raw, url, now)
 }
 
-// The cookie of the header value, which was parsed as `raw`, without the attributes whose value is
-// too long.
-fn owned_cookie(
-    alloc: Global,
+/// Parses a `Set-Cookie` header value of the response to a request of this context, as [`parse`] does,
+/// and inserts the cookie unless the response may not set it.
+///
+/// The response to a cross-site request may set cookies with SameSite=None, and others only if the
+/// request was a top-level navigation. On any error, out of memory included, the store is unchanged.
+///
+/// # Errors
+///
+/// Those of [`parse`], and `CrossSite`: the response may not set the cookie. It comes after the first
+/// four.
+pub fn parse_in_context(
+    store: &mut CookieStore,
     text: &str,
-    raw: RawCookie<'_>,
     url: &Url,
+    context: Context,
     now: DateTime,
-) -> CookieResult<'static>
-    requires raw { reading text.now ≡ Ok raw }
-    ensures pair { IfOk result (λ cookie. pair_error cookie.raw ≡ pair_error raw.entry) }
-    ensures early { (error : CookieError) → early (reading (without_long_attributes text.now)) url.now ≡ Some error
-        → result ≡ Err error }
-    ensures value { ReturnsOrMemory (λ cookie. cookie) result (cookie_from_header (without_long_attributes text.now) url.now (moment_of now)) }
+) -> StrictResult
+    ensures reply { IsStrictReply result (response_call context text.now url.now (moment_of now) store.old) store.old }
+    ensures store { OnOk result (store.new
+        ≡ store_after_call (response_call context text.now url.now (moment_of now) store.old) store.old) }
+    ensures unchanged { OnErr result (store.new ≡ store.old) }
+    ensures early { (error : StrictError) → response_error context text.now ≡ Some error → result ≡ Err error }
+    ensures early_cookie { response_error context text.now ≡ None → (error : CookieError)
+        → early (reading_by Rfc6265bis text.now) url.now ≡ Some error → result ≡ Err (strict_error.Cookie error) }
+    ensures memory { result ≡ Err (strict_error.Cookie Memory) → PassesEarlyChecks text.now url.now }
 {
-    if !has_long_attribute(text) {
-        return Cookie::from_raw_owned(alloc, raw, url, now);
+    let raw = checked_raw(text)?;
+    if !is_accepted(context, &raw) {
+        return Err(StrictError::CrossSite);
     }
-    match without_long_attributes(alloc, text) {
-        Ok(short) => Cookie::parse_owned(alloc, short.as_str(), url, now),
-        Err(_) => Err(early_error(text, url).unwrap_or(CookieError::Memory)),
-    }
+    insert_raw(store, raw, url, now)
+}
+
+// Inserts a raw cookie whose name and value passed `pair_error`.
+fn insert_raw(store: &mut CookieStore, raw: RawCookie<'_>, url: &Url, now: DateTime) -> StrictResult
+    requires pair { pair_error raw ≡ None }
+    ensures reply { IsStrictReply result (raw_insertion raw.entry url.now (moment_of now) store.old) store.old }
+    ensures store { OnOk result (store.new
+        ≡ store_after_call (raw_insertion raw.entry url.now (moment_of now) store.old) store.old) }
+    ensures unchanged { OnErr result (store.new ≡ store.old) }
+    ensures early { (error : CookieError) → early_error raw.entry url.now ≡ Some error
+        → result ≡ Err (strict_error.Cookie error) }
+{
+    let cookie = Cookie::from_raw_owned(store.allocator(), raw, url, now)?;
+    insert_checked(store, cookie, url, now)
 }
 
 /// Inserts a cookie received from `url` under the draft's rules.
@@ -107,7 +125,8 @@ fn owned_cookie(
 /// - `InsecureUrl`: the cookie is Secure, and the URL is not secure.
 /// - `InsecureSameSiteNone`: the cookie has SameSite=None and is not Secure.
 /// - `Prefix`: the name begins with `__Secure-` and the cookie is not Secure; or it begins with
-///   `__Host-` and the cookie is not Secure, is not host-only, or has no Path attribute `/`.
+///   `__Host-` and the cookie is not Secure, is not host-only, or has no Path attribute `/`; or it
+///   begins with `__Http-` or `__Host-Http-` and the cookie is not Secure or not HttpOnly.
 /// - `SecureStored`: neither the cookie nor the URL is secure, and the store has an unexpired
 ///   Secure cookie of the same name, whose domain covers the new one's or is covered by it, and
 ///   whose path the new one's path-matches.

@@ -5,12 +5,13 @@ ghost use Rattle.url.specs.Parts.{Parts};
 ghost use Rattle.cookie_words.specs.Moments.{Moment};
 ghost use Rattle.cookie_psl.specs.Rules.{RuleList};
 ghost use Rattle.cookie_parts.specs.Cookie.{is_secure_only, Row};
-ghost use Rattle.cookie_parts.specs.Hosts.{is_secure};
 ghost use Rattle.cookie_laws.specs.Contents.{Contents};
 ghost use Rattle.cookie_laws.specs.Given.{given};
 ghost use Rattle.cookie_laws.specs.Rows.{is_unexpired, row_of, Key};
 ghost use Rattle.cookie_laws.specs.Runs.{store_after, Call, Insert, Set};
 ghost use Rattle.cookie_strict.specs.HostPrefix.{IsOwnIfHost};
+ghost use Rattle.cookie_strict.specs.HttpPrefix.{IsSetByHttpIfNamed};
+ghost use Rattle.cookie_strict.specs.SecureUrl.{is_secure_url};
 ghost use Rattle.cookie_strict.specs.SiteRule.{IsConfinedToSite};
 ghost use Rattle.cookie_strict.specs.StrictRuns.{allowed_calls, store_after_call, strict_call, strict_store_after, IsInsecureInsertion};
 
@@ -28,10 +29,10 @@ pub fn strict_is_a_filter()
 /// expired; nor do several, each at a time at which the row has not expired.
 pub fn secure_is_left_alone()
     ensures inserted { (cookie : Row) (url : Parts) (now : Moment) (store : Contents) (key : Key) (row : Row)
-        → is_secure url ≡ false → row_of key store.rows ≡ Some row → is_unexpired now row ≡ true → is_secure_only row.raw ≡ true
+        → is_secure_url url ≡ false → row_of key store.rows ≡ Some row → is_unexpired now row ≡ true → is_secure_only row.raw ≡ true
         → row_of key (store_after_call (strict_call (Insert cookie url now) store) store).rows ≡ Some row }
     ensures set { (text : List ℕ) (url : Parts) (now : Moment) (store : Contents) (key : Key) (row : Row)
-        → is_secure url ≡ false → row_of key store.rows ≡ Some row → is_unexpired now row ≡ true → is_secure_only row.raw ≡ true
+        → is_secure_url url ≡ false → row_of key store.rows ≡ Some row → is_unexpired now row ≡ true → is_secure_only row.raw ≡ true
         → row_of key (store_after_call (strict_call (Set text url now) store) store).rows ≡ Some row }
     ensures runs { (calls : List Call) (store : Contents) (key : Key) (row : Row)
         → All (IsInsecureInsertion row) calls → is_secure_only row.raw ≡ true → row_of key store.rows ≡ Some row
@@ -47,6 +48,16 @@ pub fn secure_is_left_alone()
 /// been expired since.
 pub fn host_prefix_is_confined()
     ensures { (calls : List Call) (store : Contents) → store.rows ≡ [] → All (IsOwnIfHost (allowed_calls calls store) store) (strict_store_after calls store).rows }
+{
+    strict_is_a_filter();
+    accepted();
+}
+
+/// In a store that was begun without rows, every row whose name begins with `__Http-` or `__Host-Http-`
+/// is Secure and HttpOnly, and was stored by an allowed call from a secure URL with an HTTP scheme. It
+/// may have been expired since.
+pub fn http_prefix_is_confined()
+    ensures { (calls : List Call) (store : Contents) → store.rows ≡ [] → All (IsSetByHttpIfNamed (allowed_calls calls store) store) (strict_store_after calls store).rows }
 {
     strict_is_a_filter();
     accepted();

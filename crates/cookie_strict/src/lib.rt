@@ -5,6 +5,7 @@
 //! does. [`cookies_for`] leaves out the cookies that a cross-site request must not have.
 #![tactic(auto)]
 
+mod context;
 mod error;
 mod header_value;
 mod insertion;
@@ -13,13 +14,15 @@ mod merging;
 mod requests;
 mod response;
 mod rules;
-mod short_attributes;
+mod secure_url;
 mod site;
 
+pub use context::Context;
 pub use error::{StrictError, StrictResult};
-pub use insertion::{insert, parse};
+pub use insertion::{insert, parse, parse_in_context};
 pub use merging::merge;
-pub use requests::{Context, cookies_for};
+pub use requests::cookies_for;
 pub use response::store_response_cookies;
 pub use rules::breaks_prefix;
-pub use site::{Site, is_same_site, site_of};
+pub use secure_url::{as_secure, is_secure_url};
+pub use site::{Site, is_same_site, is_same_site_in, site_of};

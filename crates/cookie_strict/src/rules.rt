@@ -4,11 +4,11 @@ ghost use Rattle.cookie_words.specs.Moments.{moment_of};
 ghost use Rattle.cookie_parts.specs.Views.{domain_value, expiry_value};
 ghost use Rattle.cookie_laws.specs.Rows.{key_of, row_of};
 ghost use Rattle.cookie_strict.specs.Lifetime.{limited_expiry};
-ghost use Rattle.cookie_strict.specs.StrictRules.{breaks_host_prefix, breaks_prefix, breaks_secure_prefix, broken_rule, evicts_secure, has_prefix, has_root_path, is_host_only, needs_secure_flag, needs_secure_url, overlays_secure, IsRuleError};
+ghost use Rattle.cookie_strict.specs.StrictRules.{breaks_host_prefix, breaks_http_prefix, breaks_prefix, breaks_secure_prefix, broken_rule, evicts_secure, has_http_prefix, has_prefix, has_root_path, is_host_only, needs_secure_flag, needs_secure_url, overlays_secure, IsRuleError};
 
 use crate::StrictError;
+use crate::secure_url::is_secure_url;
 use cookie_core::CookieStore;
-use cookie_parts::utils::is_secure;
 use cookie_parts::{Cookie, CookieDomain, CookieExpiration};
 use cookie_raw::SameSite;
 use jiff::civil::DateTime;
@@ -64,7 +64,7 @@ pub(crate) fn broken_rule(
 fn needs_secure_url(cookie: &Cookie<'static>, url: &Url) -> bool
     ensures { result ≡ needs_secure_url cookie.now url.now }
 {
-    cookie.is_secure() && !is_secure(url)
+    cookie.is_secure() && !is_secure_url(url)
 }
 
 // Whether the cookie has SameSite=None and is not Secure.
@@ -74,15 +74,16 @@ fn needs_secure_flag(cookie: &Cookie<'static>) -> bool
     matches!(cookie.same_site(), Some(SameSite::None)) && !cookie.is_secure()
 }
 
-/// Returns whether the name begins with `__Secure-` or `__Host-`, ignoring case, and the cookie lacks
-/// what that prefix demands.
+/// Returns whether the name begins with `__Secure-`, `__Host-`, `__Http-` or `__Host-Http-`, ignoring
+/// case, and the cookie lacks what that prefix demands.
 ///
-/// `__Secure-` demands Secure; `__Host-` demands Secure, a host-only cookie and a Path attribute `/`.
+/// `__Secure-` demands Secure; `__Host-` demands Secure, a host-only cookie and a Path attribute `/`;
+/// `__Http-` demands Secure and HttpOnly; `__Host-Http-` what `__Host-` and `__Http-` demand.
 /// [`insert`](crate::insert) rejects such a cookie with `Prefix`.
 pub fn breaks_prefix(cookie: &Cookie<'_>) -> bool
     ensures { result ≡ breaks_prefix cookie.now }
 {
-    breaks_secure_prefix(cookie) || breaks_host_prefix(cookie)
+    breaks_secure_prefix(cookie) || breaks_host_prefix(cookie) || breaks_http_prefix(cookie)
 }
 
 // Whether the name begins with `__Secure-`, and the cookie is not Secure.
@@ -99,6 +100,20 @@ fn breaks_host_prefix(cookie: &Cookie<'_>) -> bool
 {
     has_prefix(b"__Host-", cookie.name().as_bytes())
         && !(cookie.is_secure() && is_host_only(&cookie.domain) && has_root_path(cookie))
+}
+
+// Whether the name begins with `__Http-` or `__Host-Http-`, and the cookie is not Secure or not HttpOnly.
+fn breaks_http_prefix(cookie: &Cookie<'_>) -> bool
+    ensures { result ≡ breaks_http_prefix cookie.now }
+{
+    has_http_prefix(cookie.name().as_bytes()) && !(cookie.is_secure() && cookie.is_http_only())
+}
+
+// Whether the name begins with `__Http-` or `__Host-Http-`, ignoring ASCII case.
+fn has_http_prefix(name: &[u8]) -> bool
+    ensures { result ≡ has_http_prefix name.now }
+{
+    has_prefix(b"__Http-", name) || has_prefix(b"__Host-Http-", name)
 }
 
 // Whether the name begins with the prefix, ignoring ASCII case.
@@ -126,7 +141,7 @@ fn has_root_path(cookie: &Cookie<'_>) -> bool
 pub(crate) fn index_secure(store: &mut CookieStore, cookie: &Cookie<'static>, url: &Url)
     ensures { store.new ≡ store.old }
 {
-    if !cookie.is_secure() && !is_secure(url) {
+    if !cookie.is_secure() && !is_secure_url(url) {
         store.index_secure();
     }
 }
@@ -135,7 +150,7 @@ pub(crate) fn index_secure(store: &mut CookieStore, cookie: &Cookie<'static>, ur
 fn overlays_secure(store: &CookieStore, cookie: &Cookie<'static>, url: &Url, now: DateTime) -> bool
     ensures { result ≡ overlays_secure cookie.now url.now (moment_of now) store.now.rows }
 {
-    !cookie.is_secure() && !is_secure(url) && store.overlays_secure(cookie, now)
+    !cookie.is_secure() && !is_secure_url(url) && store.overlays_secure(cookie, now)
 }
 
 // Whether the cookie is not Secure, and a Secure cookie would be evicted for it.

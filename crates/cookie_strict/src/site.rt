@@ -2,8 +2,9 @@
 ghost use Rattle.std.specs.Prelude.{◌≡◌, option_map};
 ghost use Rattle.cookie_parts.specs.Views.{domain_value};
 ghost use Rattle.cookie_strict.specs.SiteRule.{is_above_site, is_registrable_suffix};
-ghost use Rattle.cookie_strict.specs.Sites.{is_same_site, site_domain, site_of, site_value};
+ghost use Rattle.cookie_strict.specs.Sites.{have_one_host, is_same_site, is_same_site_in, site_domain, site_of, site_value};
 
+use cookie_core::CookieStore;
 use cookie_parts::utils::is_host_name;
 use cookie_parts::{CookieDomain, cookie_domain};
 use cookie_psl::List;
@@ -42,6 +43,27 @@ pub fn is_same_site(first: &Url, second: &Url, list: &List) -> bool
         (Some(first), Some(second)) => {
             first.scheme == second.scheme && first.domain == second.domain
         }
+        _ => false,
+    }
+}
+
+/// Returns whether two URLs are same-site under the store's public suffix list. Without a list: whether
+/// both have a host, and their schemes and hosts are equal.
+pub fn is_same_site_in(store: &CookieStore, first: &Url, second: &Url) -> bool
+    ensures { result ≡ is_same_site_in store.now.suffixes first.now second.now }
+{
+    match store.suffix_list() {
+        Some(list) => is_same_site(first, second, list),
+        None => first.scheme() == second.scheme() && have_one_host(first, second),
+    }
+}
+
+// Returns whether two URLs have a host, and it is the same.
+fn have_one_host(first: &Url, second: &Url) -> bool
+    ensures { result ≡ have_one_host first.now second.now }
+{
+    match (first.host_str(), second.host_str()) {
+        (Some(first), Some(second)) => first == second,
         _ => false,
     }
 }

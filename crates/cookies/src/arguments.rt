@@ -169,6 +169,7 @@ fn context(matches: &ArgMatches<'_>) -> Option<Context> {
     Some(Context {
         is_same_site: !matches.get_flag("cross-site"),
         is_top_level: false,
+        is_safe: true,
         is_lax_by_default: true,
     })
 }

@@ -4,6 +4,7 @@ ghost use Rattle.std.specs.List.{list_any};
 ghost use Rattle.cookie_words.specs.Moments.{moment_of};
 ghost use Rattle.cookie_store.specs.CrossSite.{IsSent};
 ghost use Rattle.cookie_store.specs.Header.{InHeaderOrder};
+ghost use Rattle.cookie_store.specs.SecureUrl.{as_secure};
 ghost use Rattle.cookies.specs.SentCookies.{is_field_control, is_for_suffix};
 
 use cookie_store::psl::List;
@@ -22,7 +23,7 @@ pub fn request_cookies<'s>(
     now: DateTime,
 ) -> Result<Vec<&'s Cookie<'static>>, AllocError>
     ensures plain { context ≡ None → IfOk result (λ cookies. InHeaderOrder url.now (moment_of now) store.now (map (λ c. c.now) cookies.items)) }
-    ensures strict { IfSome context (λ context. IfOk result (λ cookies. IsSent context url.now (moment_of now) store.now (map (λ c. c.now) cookies.items))) }
+    ensures strict { IfSome context (λ context. IfOk result (λ cookies. IsSent context (as_secure url.now) (moment_of now) store.now (map (λ c. c.now) cookies.items))) }
 {
     match context {
         Some(context) => strict::cookies_for(store, url, context, now),

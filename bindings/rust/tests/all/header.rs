@@ -58,6 +58,7 @@ fn declaration(c: &str) -> String {
         "size_t *" => "*mut usize",
         "cookie_store *" => "*mut cookie_store",
         "cookie_store_row *" => "*mut cookie_store_row",
+        "const cookie_store_row *" => "*const cookie_store_row",
         "enum cookie_store_status" => "cookie_store_status",
         "enum cookie_store_same_site" => "cookie_store_same_site",
         "enum cookie_store_format" => "cookie_store_format",

@@ -6,7 +6,9 @@ use pulleymaroon::CookieStore;
 
 mod cookies;
 mod header;
+mod insert;
 mod saved;
+mod sites;
 mod store;
 mod threads;
 

@@ -3,9 +3,7 @@ use std::num::NonZeroUsize;
 use std::path::Path;
 use std::{env, fs, process};
 
-use pulleymaroon::{
-    Cookie, CookieStore, CrossSite, Error, Format, StoreAction, Which, SYSTEM_SUFFIX_FILE,
-};
+use pulleymaroon::{Cookie, CookieStore, Error, Format, StoreAction, Which, SYSTEM_SUFFIX_FILE};
 
 use crate::{assert_header, at, filled, names, FIRST, LAST, NOW, PAGE, SECURE_PAGE};
 
@@ -43,7 +41,7 @@ const ROWS: [Row; 18] = [
 ];
 
 /// Received one after the other by one strict store.
-const STRICT_ROWS: [Row; 7] = [
+const STRICT_ROWS: [Row; 11] = [
     (PAGE, "a=1", INSERTED),
     (PAGE, "c=\u{1}", Err(Error::ControlCharacter)),
     (PAGE, "s=1; Secure", Err(Error::InsecureUrl)),
@@ -55,6 +53,14 @@ const STRICT_ROWS: [Row; 7] = [
     (SECURE_PAGE, "__Host-p=1; Secure", Err(Error::Prefix)),
     (SECURE_PAGE, "s=1; Secure", INSERTED),
     (PAGE, "s=2", Err(Error::SecureStored)),
+    (
+        SECURE_PAGE,
+        "d=1; Domain=a.example\u{a0}",
+        Err(Error::DomainMismatch),
+    ),
+    (SECURE_PAGE, "__Http-h=1; Secure", Err(Error::Prefix)),
+    (SECURE_PAGE, "__Http-h=1; Secure; HttpOnly", INSERTED),
+    ("http://a.localhost/", "s=1; Secure", INSERTED),
 ];
 
 fn assert_rows(store: &mut CookieStore, rows: &[Row]) {
@@ -220,44 +226,6 @@ fn cookies_have_all_fields() {
     assert_header(&store, SECURE_PAGE, NOW + 5, "a=1; g=gr\u{fc}n");
     assert_header(&store, "https://b.a.example/", NOW, "g=gr\u{fc}n");
     assert_header(&store, "http://b.a.example/", NOW, "");
-}
-
-#[test]
-fn cross_site_requests_have_fewer_cookies() {
-    let store = filled(&[
-        "n=1; SameSite=None; Path=/d",
-        "u=1; Path=/d",
-        "l=1; SameSite=Lax",
-        "s=1; SameSite=Strict",
-    ]);
-    let table = [
-        (false, true, Some("n=1")),
-        (false, false, Some("n=1; u=1")),
-        (true, true, Some("n=1; u=1; l=1")),
-        (true, false, Some("n=1; u=1; l=1")),
-    ];
-    for (top_level, lax_by_default, expected) in table {
-        let context = CrossSite {
-            top_level,
-            lax_by_default,
-        };
-        let header = store
-            .cross_site_cookie_header(PAGE, at(NOW), context)
-            .unwrap();
-        assert_eq!(header.as_deref(), expected, "{context:?}");
-    }
-    let context = CrossSite {
-        top_level: true,
-        lax_by_default: true,
-    };
-    assert_eq!(
-        store.cross_site_cookie_header("http://b.example/", at(NOW), context),
-        Ok(None)
-    );
-    assert_eq!(
-        store.cross_site_cookie_header("", at(NOW), context),
-        Err(Error::BadUrl)
-    );
 }
 
 #[test]

@@ -21,16 +21,23 @@ const HTTP_ONLY: StrictResult = Err(StrictError::Cookie(CookieError::NonHttpSche
 // may be out of memory, and what the store of four cookies returns for `FTP` after it.
 type Case = (&'static str, usize, StrictResult, bool, &'static str);
 
-// An attribute of 1,025 bytes is ignored, which copies the others.
-static CASES: [Case; 9] = [
+// An attribute of 1,025 bytes is ignored.
+static CASES: [Case; 10] = [
     ("t=1", 1_024, INSERTED, true, "x=1; z=1; y=1; u=1; t=1"),
     ("t=1", 1_025, INSERTED, true, "x=1; z=1; y=1; u=1; t=1"),
     (
-        "w=1; Domain=\u{ff42}.example.com; Path=/",
+        "w=1; Domain=B.example.com; Path=/",
         0,
         INSERTED,
         true,
         "x=1; w=1; z=1; y=1; u=1",
+    ),
+    (
+        "w=1; Domain=\u{ff42}.example.com; Path=/",
+        0,
+        Err(StrictError::Cookie(CookieError::DomainMismatch)),
+        false,
+        GIVEN,
     ),
     (
         "y=2; Domain=example.com; Path=/",

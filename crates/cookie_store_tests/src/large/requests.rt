@@ -143,6 +143,7 @@ fn header_of_raw(rt: &impl Abort, alloc: Global, cookies: RequestCookies<'_>) ->
 const SAME_SITE: Context = Context {
     is_same_site: true,
     is_top_level: false,
+    is_safe: true,
     is_lax_by_default: true,
 };
 

@@ -1,5 +1,5 @@
 use Rattle.std.proofs.Common.{Err, Result, Some, inl, refl, subst, sym, ◌∙◌}
-use Rattle.cookie_strict.specs.declared.requests.Context.{Context}
+use Rattle.cookie_strict.specs.declared.context.Context.{Context}
 use Rattle.cookie_store_c.specs.Headers.{IsCrossSiteHeader}
 use Rattle.cookie_store_c.specs.declared.status.Status.{Status}
 use Rattle.cookie_store_c.proofs.header.write_cross_site.Goals as goal

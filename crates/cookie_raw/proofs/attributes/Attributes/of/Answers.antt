@@ -1,20 +1,21 @@
 use Rattle.std.proofs.Common.{◌≡◌, map, sym, ap, ◌∙◌}
 use Rattle.std.specs.Option.{option_copied}
 use Rattle.std.proofs.lemmas.Iterator.Consumers.{YieldsList-end}
-use Rattle.cookie_raw.specs.SetCookie.{attributes_after, domain_from, expires_from, http_only_from, last_accepted, max_age_from, path_from, same_site_from, secure_from}
-use Rattle.cookie_raw.proofs.LastGiven.{last_accepted-push}
+use Rattle.cookie_raw.specs.Rfc6265bis.{domain_by, last_by, max_age_by, same_site_by}
+use Rattle.cookie_raw.specs.SetCookie.{attributes_after, expires_from, http_only_from, path_from, secure_from}
+use Rattle.cookie_raw.proofs.LastGiven.{domain_by-push, last_by-push, same_site_by-push}
 use Rattle.cookie_raw.proofs.Pieces.{yields_pieces}
 use Rattle.cookie_raw.proofs.attributes.Attributes.of.Goals as goal
 
 pub loop-piece-preserved : goal.loop-piece-preserved
 loop-piece-preserved c = record {
-  domain = rw (c.take.ensures.domain, last_accepted-push domain_from c.loop-piece.yielded c.in-Some-piece.piece, c.loop-piece.invariant.domain);
-  path = rw (c.take.ensures.path, last_accepted-push path_from c.loop-piece.yielded c.in-Some-piece.piece, c.loop-piece.invariant.path);
-  secure = rw (c.take.ensures.secure, last_accepted-push secure_from c.loop-piece.yielded c.in-Some-piece.piece, c.loop-piece.invariant.secure);
-  http_only = rw (c.take.ensures.http_only, last_accepted-push http_only_from c.loop-piece.yielded c.in-Some-piece.piece, c.loop-piece.invariant.http_only);
-  same_site = rw (c.take.ensures.same_site, last_accepted-push same_site_from c.loop-piece.yielded c.in-Some-piece.piece, c.loop-piece.invariant.same_site);
-  max_age = rw (c.take.ensures.max_age, last_accepted-push max_age_from c.loop-piece.yielded c.in-Some-piece.piece, c.loop-piece.invariant.max_age);
-  expires = rw (c.take.ensures.expires, last_accepted-push expires_from c.loop-piece.yielded c.in-Some-piece.piece, c.loop-piece.invariant.expires);
+  domain = rw (c.take.ensures.domain, domain_by-push c.args.syntax c.loop-piece.yielded c.in-Some-piece.piece, c.loop-piece.invariant.domain);
+  path = rw (c.take.ensures.path, last_by-push c.args.syntax path_from c.loop-piece.yielded c.in-Some-piece.piece, c.loop-piece.invariant.path);
+  secure = rw (c.take.ensures.secure, last_by-push c.args.syntax secure_from c.loop-piece.yielded c.in-Some-piece.piece, c.loop-piece.invariant.secure);
+  http_only = rw (c.take.ensures.http_only, last_by-push c.args.syntax http_only_from c.loop-piece.yielded c.in-Some-piece.piece, c.loop-piece.invariant.http_only);
+  same_site = rw (c.take.ensures.same_site, same_site_by-push c.args.syntax c.loop-piece.yielded c.in-Some-piece.piece, c.loop-piece.invariant.same_site);
+  max_age = rw (c.take.ensures.max_age, last_by-push c.args.syntax (max_age_by c.args.syntax) c.loop-piece.yielded c.in-Some-piece.piece, c.loop-piece.invariant.max_age);
+  expires = rw (c.take.ensures.expires, last_by-push c.args.syntax expires_from c.loop-piece.yielded c.in-Some-piece.piece, c.loop-piece.invariant.expires);
 }
 
 -- the pieces that the loop visited are the attributes
@@ -25,22 +26,22 @@ walked c =
     ∙ ap (λ rest. attributes_after (option_copied rest)) (sym c.in-Some.is)
 
 pub returns-clause-domain : goal.returns-clause-domain
-returns-clause-domain c = c.loop-piece.invariant.domain ∙ ap (last_accepted domain_from) (walked c)
+returns-clause-domain c = c.loop-piece.invariant.domain ∙ ap (domain_by c.args.syntax) (walked c)
 
 pub returns-clause-path : goal.returns-clause-path
-returns-clause-path c = c.loop-piece.invariant.path ∙ ap (last_accepted path_from) (walked c)
+returns-clause-path c = c.loop-piece.invariant.path ∙ ap (last_by c.args.syntax path_from) (walked c)
 
 pub returns-clause-secure : goal.returns-clause-secure
-returns-clause-secure c = c.loop-piece.invariant.secure ∙ ap (last_accepted secure_from) (walked c)
+returns-clause-secure c = c.loop-piece.invariant.secure ∙ ap (last_by c.args.syntax secure_from) (walked c)
 
 pub returns-clause-http_only : goal.returns-clause-http_only
-returns-clause-http_only c = c.loop-piece.invariant.http_only ∙ ap (last_accepted http_only_from) (walked c)
+returns-clause-http_only c = c.loop-piece.invariant.http_only ∙ ap (last_by c.args.syntax http_only_from) (walked c)
 
 pub returns-clause-same_site : goal.returns-clause-same_site
-returns-clause-same_site c = c.loop-piece.invariant.same_site ∙ ap (last_accepted same_site_from) (walked c)
+returns-clause-same_site c = c.loop-piece.invariant.same_site ∙ ap (same_site_by c.args.syntax) (walked c)
 
 pub returns-clause-max_age : goal.returns-clause-max_age
-returns-clause-max_age c = c.loop-piece.invariant.max_age ∙ ap (last_accepted max_age_from) (walked c)
+returns-clause-max_age c = c.loop-piece.invariant.max_age ∙ ap (last_by c.args.syntax (max_age_by c.args.syntax)) (walked c)
 
 pub returns-clause-expires : goal.returns-clause-expires
-returns-clause-expires c = c.loop-piece.invariant.expires ∙ ap (last_accepted expires_from) (walked c)
+returns-clause-expires c = c.loop-piece.invariant.expires ∙ ap (last_by c.args.syntax expires_from) (walked c)
