@@ -163,7 +163,7 @@ enum cookie_store_status {
     /* Never returned. It stands for an error of the Rust crate cookie_store. */
     COOKIE_STORE_UNSPECIFIED_DOMAIN = 16,
 
-    /* 20 to 37: the call failed. */
+    /* 20 to 38: the call failed. */
 
     /* Out of memory. */
     COOKIE_STORE_NO_MEMORY = 20,
@@ -181,7 +181,7 @@ enum cookie_store_status {
     COOKIE_STORE_NO_ROOM = 26,
     /* No cookie with this domain, path and name is stored. */
     COOKIE_STORE_NOT_FOUND = 27,
-    /* The limit is 0. */
+    /* The limit, or the number of shards, is 0. */
     COOKIE_STORE_BAD_LIMIT = 28,
     /* The number of a format, of which cookies are saved or loaded, or of a SameSite attribute is
      * not in its enum; or a flag is unknown. */
@@ -204,6 +204,8 @@ enum cookie_store_status {
     COOKIE_STORE_UNREPRESENTABLE = 36,
     /* No line of the public suffix list is a rule. */
     COOKIE_STORE_NO_RULES = 37,
+    /* The store has no public suffix list. */
+    COOKIE_STORE_NO_LIST = 38,
 
     /* 40 to 47: the cookie is rejected under the rules of browsers, see cookie_store_set_strict. */
 
@@ -256,7 +258,7 @@ static inline const char *cookie_store_status_text(enum cookie_store_status stat
     case COOKIE_STORE_HAS_STORE: return "the handle holds a store already";
     case COOKIE_STORE_NO_ROOM: return "the buffer is too short";
     case COOKIE_STORE_NOT_FOUND: return "no such cookie";
-    case COOKIE_STORE_BAD_LIMIT: return "the limit is 0";
+    case COOKIE_STORE_BAD_LIMIT: return "the limit or the number of shards is 0";
     case COOKIE_STORE_BAD_OPTION: return "an unknown option";
     case COOKIE_STORE_BAD_RULE: return "a line of the list is not a rule";
     case COOKIE_STORE_BAD_JSON: return "not JSON";
@@ -266,6 +268,7 @@ static inline const char *cookie_store_status_text(enum cookie_store_status stat
     case COOKIE_STORE_BAD_LINE: return "a line of the file is not a cookie";
     case COOKIE_STORE_UNREPRESENTABLE: return "the format cannot represent a cookie";
     case COOKIE_STORE_NO_RULES: return "the public suffix list has no rules";
+    case COOKIE_STORE_NO_LIST: return "the store has no public suffix list";
     case COOKIE_STORE_CONTROL_CHARACTER: return "a control character in the header value";
     case COOKIE_STORE_TOO_LONG: return "name and value are longer than 4,096 bytes";
     case COOKIE_STORE_INSECURE_URL: return "Secure, and the URL is not secure";
@@ -591,8 +594,9 @@ enum cookie_store_status cookie_store_cookies_for(cookie_store *store, const cha
  * (`expires` or `now`), PARSE (not a cookie that a server can set), DOMAIN_MISMATCH, EXPIRED.
  * May return NO_MEMORY instead of PARSE, any error after it, or success.
  *
- * If the store is strict, the errors after DOMAIN_MISMATCH are: CONTROL_CHARACTER, TOO_LONG, EXPIRED,
- * INSECURE_SAME_SITE_NONE, PREFIX, SECURE_LIMIT. */
+ * If the store is strict, the errors after DOMAIN_MISMATCH are: CONTROL_CHARACTER, TOO_LONG,
+ * PUBLIC_SUFFIX (the domain of a domain cookie is a top-level domain that no rule matches, and the list
+ * was set with `only_listed`), EXPIRED, INSECURE_SAME_SITE_NONE, PREFIX, SECURE_LIMIT. */
 enum cookie_store_status cookie_store_insert(cookie_store *store, const char *domain, size_t domain_len, const char *path,
                                              size_t path_len, const char *name, size_t name_len, const char *value,
                                              size_t value_len, const cookie_store_row *row, int64_t now);
@@ -692,6 +696,46 @@ enum cookie_store_status cookie_store_load(cookie_store *store, const char *key,
  * May return NO_MEMORY instead of OK. Then the cookies before one are inserted, and the others are
  * not. */
 enum cookie_store_status cookie_store_merge(cookie_store *store, cookie_store *from, int64_t now, size_t *left_out);
+
+/* Writes the root of the host of `url` under the store's public suffix list: its outermost site.
+ *
+ * The root is the shortest of the host and the domains above it that is not a public suffix; if there
+ * is none, or the host is an IP address, it is the host. Mostly that is the registrable domain, such as
+ * example.co.uk for www.example.co.uk. But sites nest: *.kobe.jp is on the list of publicsuffix.org, so
+ * that a.b.kobe.jp is a site, which lies within the site kobe.jp, and its root is kobe.jp.
+ *
+ * In a strict store with a list, a cookie that a host sets is sent only to hosts of the same root. So
+ * several stores can stand for one, each with a lock of its own, if all are strict and have the same
+ * list and limit, and each root has one of them: call cookie_store_parse and all other functions that
+ * take a URL on the store of the URL's root, those that take a domain on the store of
+ * cookie_store_root_of_domain, and cookie_store_clear on every store. cookie_store_shard assigns roots
+ * to stores. In a store that is not strict, or has no list, cookies may be sent beyond a root.
+ *
+ * Works on any store with a list, strict or not. The cookies are not read: one store without cookies
+ * will do for all.
+ *
+ * `*needed` is also 0 if the URL has no host. Such a URL is sent no cookies, and any store will do.
+ *
+ * Errors, in the order in which they are checked: NO_STORE, NO_LIST, NOT_UTF8, BAD_URL, NO_ROOM.
+ * May return NO_MEMORY instead of BAD_URL, NO_ROOM or OK. */
+enum cookie_store_status cookie_store_root(cookie_store *store, const char *url, size_t url_len, char *out, size_t out_len,
+                                         size_t *needed);
+
+/* Writes the root of the domain of a cookie, as cookie_store_rows writes it: the root of all hosts that
+ * are sent the cookie.
+ *
+ * Errors, in the order in which they are checked: NO_STORE, NO_LIST, NOT_UTF8, NO_ROOM. */
+enum cookie_store_status cookie_store_root_of_domain(cookie_store *store, const char *domain, size_t domain_len, char *out,
+                                                   size_t out_len, size_t *needed);
+
+/* Sets `*shard` to the number of the shard of a root, from 0 to `shards` - 1.
+ *
+ * The number is the 64-bit FNV-1a hash of the bytes of the root, modulo `shards`. This never changes, so
+ * that the shards may be saved. The hash has no key: a server can choose roots that fall into one shard.
+ * `*shard` is set to 0 on an error.
+ *
+ * Errors, in the order in which they are checked: NOT_UTF8, BAD_LIMIT (`shards` is 0). */
+enum cookie_store_status cookie_store_shard(const char *root, size_t root_len, uint32_t shards, uint32_t *shard);
 
 #ifdef __cplusplus
 }

@@ -146,6 +146,25 @@ static enum cookie_store_status parse_for_cross_site(cookie_store *store) { retu
 static enum cookie_store_status parse_for_bad_flag(cookie_store *store) { return page_response(store, 4, NOW); }
 static enum cookie_store_status parse_for_bad_time(cookie_store *store) { return page_response(store, COOKIE_STORE_TOP_LEVEL, INT64_MAX); }
 
+static enum cookie_store_status root(cookie_store *store) {
+    char out[256];
+    size_t needed, bad_line;
+    enum cookie_store_status status = cookie_store_set_suffix_list(store, TEXT("example\n"), false, &bad_line);
+    return status == COOKIE_STORE_OK ? cookie_store_root(store, TEXT(PAGE), out, sizeof out, &needed) : status;
+}
+
+static enum cookie_store_status root_without_list(cookie_store *store) {
+    char out[256];
+    size_t needed;
+    return cookie_store_root(store, TEXT(PAGE), out, sizeof out, &needed);
+}
+
+static enum cookie_store_status root_of_domain(cookie_store *store) {
+    char out[256];
+    size_t needed;
+    return cookie_store_root_of_domain(store, TEXT("a.example"), out, sizeof out, &needed);
+}
+
 static enum cookie_store_status cookies_at(cookie_store *store, int64_t now) {
     char out[256];
     cookie_store_row rows[4];
@@ -338,6 +357,10 @@ static const struct {
     {"header_for of none", false, header_for, COOKIE_STORE_NO_STORE, true},
     {"header_for, flag 4", true, header_for_bad_flag, COOKIE_STORE_BAD_OPTION, true},
     {"header_for, a time out of range", true, header_for_bad_time, COOKIE_STORE_BAD_TIME, true},
+    {"root", true, root, COOKIE_STORE_OK, false},
+    {"root of none", false, root_without_list, COOKIE_STORE_NO_STORE, true},
+    {"root, no list", true, root_without_list, COOKIE_STORE_NO_LIST, true},
+    {"root_of_domain, no list", true, root_of_domain, COOKIE_STORE_NO_LIST, true},
     {"set_suffix_list", true, set_suffix_list, COOKIE_STORE_OK, false},
     {"set_hash_key", true, set_hash_key, COOKIE_STORE_OK, false},
     {"save JSON", true, save_json, COOKIE_STORE_OK, false},

@@ -491,7 +491,7 @@ static void test_no_store(void) {
 
 /* The ranges of the statuses that the header documents: each has a text, and no other number. */
 static void test_status_texts(void) {
-    static const int RANGES[][2] = {{0, 3}, {10, 16}, {20, 37}, {40, 47}};
+    static const int RANGES[][2] = {{0, 3}, {10, 16}, {20, 38}, {40, 47}};
     for (int status = 0; status < 100; status++) {
         const char *text = cookie_store_status_text((enum cookie_store_status)status);
         bool is_status = false;

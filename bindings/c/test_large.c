@@ -232,6 +232,29 @@ static void test_insert(cookie_store *store) {
     cookie_store_free(&inserted);
 }
 
+/* The root of a host of many labels. */
+static void test_root(void) {
+    cookie_store store = COOKIE_STORE_INIT;
+    size_t needed = UNSET, bad_line;
+    uint32_t shard = UNSET;
+    begin(&store);
+    equal("a list", cookie_store_set_suffix_list(&store, TEXT("example\n"), false, &bad_line), COOKIE_STORE_OK);
+    input_len = 0;
+    append(input, &input_len, "http://");
+    for (int label = 0; label < VALUE; label++) append(input, &input_len, "l.");
+    append(input, &input_len, "a.example");
+    wanted_len = 0;
+    append(wanted, &wanted_len, "a.example");
+    equal("root", cookie_store_root(&store, input, input_len, out, sizeof out, &needed), COOKIE_STORE_OK);
+    same_long("of a URL", needed);
+    needed = UNSET;
+    equal("root_of_domain", cookie_store_root_of_domain(&store, input + 7, input_len - 7, out, sizeof out, &needed), COOKIE_STORE_OK);
+    same_long("of a domain", needed);
+    equal("shard", cookie_store_shard(input, input_len, 7, &shard), COOKIE_STORE_OK);
+    equal("one of seven", shard < 7, true);
+    cookie_store_free(&store);
+}
+
 /* 6,000 cookies: each is found, before and after others are removed. */
 static void test_stored(void) {
     cookie_store store = COOKIE_STORE_INIT;
@@ -446,6 +469,7 @@ static void *run_tests(void *unused) {
     test_stored();
     test_limit();
     test_suffixes();
+    test_root();
     test_lists();
     test_netscape();
     test_malformed();

@@ -13,10 +13,10 @@ import (
 // address returns the URL as the library takes it, or "" if there is none from which the library reads the host that net/http
 // connects to, which is u.Host. Only what matters to cookies is in it. A WebSocket handshake is a request by HTTP, RFC 6455 4.1.
 //
-// The string is in a buffer of the jar: the lock must be held while it is used.
-func (j *Jar) address(u *url.URL) string {
-	j.url = appendAddress(j.url[:0], u)
-	return view(j.url)
+// The string is in a buffer of the shard, which must be locked while it is used.
+func (s *shard) address(u *url.URL) string {
+	s.url = appendAddress(s.url[:0], u)
+	return view(s.url)
 }
 
 // appendAddress appends that string to b.

@@ -32,14 +32,30 @@ var sameSites = [...]http.SameSite{
 
 // Len returns the number of stored cookies, expired ones included, and 0 after Close.
 func (j *Jar) Len() int {
-	j.mu.Lock()
-	defer j.mu.Unlock()
-	return int(C.cookie_store_count(&j.store))
+	j.lock()
+	defer j.unlock()
+	count := 0
+	j.each(func(s *shard) error {
+		count += int(C.cookie_store_count(&s.store))
+		return nil
+	})
+	return count
 }
 
 // All returns the stored cookies, expired ones included, and nil after Close.
-func (j *Jar) All() []Cookie {
-	rows, text := j.rows()
+func (j *Jar) All() (cookies []Cookie) {
+	j.lock()
+	defer j.unlock()
+	j.each(func(s *shard) error {
+		cookies = append(cookies, s.all()...)
+		return nil
+	})
+	return cookies
+}
+
+// all returns the cookies. The shard must be locked.
+func (s *shard) all() []Cookie {
+	rows, text := s.rows()
 	if len(rows) == 0 {
 		return nil
 	}
@@ -81,9 +97,9 @@ func (j *Jar) Insert(cookie Cookie) error {
 	if !cookie.Expires.IsZero() {
 		row.persistent, row.expires = true, C.int64_t(cookie.Expires.Unix())
 	}
-	j.mu.Lock()
-	defer j.mu.Unlock()
-	return errorOf(C.cookie_store_insert(&j.store, chars(cookie.Domain), size(cookie.Domain), chars(cookie.Path), size(cookie.Path),
+	s := j.lockDomain(cookie.Domain)
+	defer s.mu.Unlock()
+	return errorOf(C.cookie_store_insert(&s.store, chars(cookie.Domain), size(cookie.Domain), chars(cookie.Path), size(cookie.Path),
 		chars(cookie.Name), size(cookie.Name), chars(cookie.Value), size(cookie.Value), &row, j.seconds()), 0)
 }
 
@@ -100,20 +116,18 @@ func sameSiteNumber(sameSite http.SameSite) C.enum_cookie_store_same_site {
 	return C.enum_cookie_store_same_site(len(sameSites))
 }
 
-// rows returns the rows of cookie_store_rows, and their strings one after the other.
-func (j *Jar) rows() ([]C.cookie_store_row, string) {
-	j.mu.Lock()
-	defer j.mu.Unlock()
-	count, length := j.writeRows(make([]C.cookie_store_row, 1), make([]byte, 1))
+// rows returns the rows of cookie_store_rows, and their strings one after the other. The shard must be locked.
+func (s *shard) rows() ([]C.cookie_store_row, string) {
+	count, length := s.writeRows(make([]C.cookie_store_row, 1), make([]byte, 1))
 	rows, text := make([]C.cookie_store_row, count+1), make([]byte, length+1)
-	j.writeRows(rows, text)
+	s.writeRows(rows, text)
 	return rows[:count], view(text[:length])
 }
 
 // writeRows writes the rows and their strings if both fit, and returns how many rows and bytes there are: none after Close. The
-// last item of each buffer is left free, so that the other ones may be none. The lock must be held.
-func (j *Jar) writeRows(rows []C.cookie_store_row, text []byte) (count, length C.size_t) {
-	C.cookie_store_rows(&j.store, &rows[0], C.size_t(len(rows)-1), (*C.char)(unsafe.Pointer(&text[0])), C.size_t(len(text)-1),
+// last item of each buffer is left free, so that the other ones may be none. The shard must be locked.
+func (s *shard) writeRows(rows []C.cookie_store_row, text []byte) (count, length C.size_t) {
+	C.cookie_store_rows(&s.store, &rows[0], C.size_t(len(rows)-1), (*C.char)(unsafe.Pointer(&text[0])), C.size_t(len(text)-1),
 		&count, &length)
 	return count, length
 }

@@ -61,16 +61,19 @@ const (
 	ErrNotUTF8 Status = C.COOKIE_STORE_NOT_UTF8
 	// No cookie with this domain, path and name is stored.
 	ErrNotFound Status = C.COOKIE_STORE_NOT_FOUND
-	// The domain limit is negative.
+	// The domain limit or the number of shards is negative.
 	ErrBadLimit Status = C.COOKIE_STORE_BAD_LIMIT
 	// An expiry is not in the years -9999 to 9999.
 	ErrBadTime Status = C.COOKIE_STORE_BAD_TIME
-	// A Format, a Which or a SameSite is none of the constants.
+	// A Format, a Which or a SameSite is none of the constants. Of New: more than one shard of a jar that is not strict or has no
+	// list.
 	ErrBadOption Status = C.COOKIE_STORE_BAD_OPTION
 	// A line of the public suffix list is not a rule.
 	ErrBadRule Status = C.COOKIE_STORE_BAD_RULE
 	// The public suffix list has no rules.
 	ErrNoRules Status = C.COOKIE_STORE_NO_RULES
+	// The jar has no public suffix list.
+	ErrNoList Status = C.COOKIE_STORE_NO_LIST
 	// A list to load is not JSON.
 	ErrBadJSON Status = C.COOKIE_STORE_BAD_JSON
 	// A list to load is JSON, but not a list of cookies.
@@ -91,7 +94,7 @@ func (s Status) String() string {
 	case ErrClosed:
 		return "the jar is closed"
 	case ErrBadLimit:
-		return "negative domain limit"
+		return "negative domain limit or number of shards"
 	}
 	return C.GoString(C.cookie_store_status_text(C.enum_cookie_store_status(s)))
 }

@@ -53,32 +53,73 @@ func (j *Jar) save(w io.Writer, format, which C.uint32_t) (leftOut int, err erro
 	return leftOut, err
 }
 
-func (j *Jar) list(format, which C.uint32_t) ([]byte, int, error) {
-	j.mu.Lock()
-	defer j.mu.Unlock()
-	list, now, leftOut := make([]byte, j.room(format)), j.seconds(), C.size_t(0)
+// list returns the lists of all shards as one.
+func (j *Jar) list(format, which C.uint32_t) (list []byte, leftOut int, err error) {
+	j.lock()
+	defer j.unlock()
+	var lists [][]byte
+	now := j.seconds()
+	err = j.each(func(s *shard) error {
+		list, count, err := s.list(format, which, now)
+		lists, leftOut = append(lists, list), leftOut+count
+		return err
+	})
+	if err != nil {
+		return nil, 0, err
+	}
+	return joined(format, lists), leftOut, nil
+}
+
+// list returns the cookies in a format. The shard must be locked.
+func (s *shard) list(format, which C.uint32_t, now C.int64_t) ([]byte, int, error) {
+	list, leftOut := make([]byte, s.room(format)), C.size_t(0)
 	for {
-		status := C.cookie_store_save(&j.store, C.enum_cookie_store_format(format), C.enum_cookie_store_which(which), now,
-			(*C.char)(unsafe.Pointer(&list[0])), C.size_t(len(list)), &j.needed, &leftOut)
+		status := C.cookie_store_save(&s.store, C.enum_cookie_store_format(format), C.enum_cookie_store_which(which), now,
+			(*C.char)(unsafe.Pointer(&list[0])), C.size_t(len(list)), &s.needed, &leftOut)
 		if status != C.COOKIE_STORE_NO_ROOM {
-			return list[:j.needed], int(leftOut), errorOf(status, 0)
+			return list[:s.needed], int(leftOut), errorOf(status, 0)
 		}
-		list = make([]byte, j.needed)
+		list = make([]byte, s.needed)
 	}
 }
 
 // room returns the length of a buffer for the stored cookies. With many escaped characters they may take more: then they are
 // written twice.
-func (j *Jar) room(format C.uint32_t) C.size_t {
-	count, length := j.writeRows(make([]C.cookie_store_row, 1), make([]byte, 1))
+func (s *shard) room(format C.uint32_t) C.size_t {
+	count, length := s.writeRows(make([]C.cookie_store_row, 1), make([]byte, 1))
 	if format == C.COOKIE_STORE_JSON || format == C.COOKIE_STORE_RON {
 		return 4096 + 2*length + 512*count // at most twice the strings of a cookie, and 512 other bytes
 	}
 	return 4096 + length + 40*count
 }
 
-// Load returns a jar with cookies of r. Nil options are those of a zero Options. No option applies to the loaded cookies: their
-// domains are not checked.
+// joined returns lists in a format, as the library writes them, as one list: in JSON and RON without the brackets between them, in
+// cookies.txt without their first lines but one.
+func joined(format C.uint32_t, lists [][]byte) []byte {
+	if len(lists) == 1 {
+		return lists[0]
+	}
+	begin, separator, end := "[", ",", "\n]\n"
+	switch format {
+	case C.COOKIE_STORE_RON:
+		separator = ""
+	case C.COOKIE_STORE_NETSCAPE, C.COOKIE_STORE_NETSCAPE_LENIENT:
+		begin, separator, end = "# Netscape HTTP Cookie File\n", "", ""
+	}
+	var parts [][]byte
+	for _, list := range lists {
+		if len(list) > len(begin)+len(end) {
+			parts = append(parts, list[len(begin):len(list)-len(end)])
+		}
+	}
+	if len(parts) == 0 {
+		return lists[0]
+	}
+	return append(append([]byte(begin), bytes.Join(parts, []byte(separator))...), end...)
+}
+
+// Load returns a jar with cookies of r. Nil options are those of a zero Options. No option but Shards applies to the loaded cookies:
+// their domains are not checked.
 //
 // Errors: ErrBadOption; ErrNotUTF8; of JSON ErrBadJSON, ErrBadShape, ErrBadExpiry and ErrParse; of RON ErrBadRON, ErrBadExpiry
 // and ErrParse; of Netscape ErrBadLine with its line; those of r and of New.
@@ -102,7 +143,7 @@ func load(r io.Reader, format, which C.uint32_t, options *Options) (jar *Jar, ma
 	}
 	list, lines, count := view(read), make([]C.size_t, bytes.Count(read, []byte("\n"))+1), C.size_t(0)
 	jar, err = create(options, func(jar *Jar, key string) error {
-		status := C.cookie_store_load(&jar.store, chars(key), size(key), C.enum_cookie_store_format(format),
+		status := C.cookie_store_load(&jar.first.store, chars(key), size(key), C.enum_cookie_store_format(format),
 			C.enum_cookie_store_which(which), chars(list), size(list), jar.seconds(), &lines[0], C.size_t(len(lines)), &count)
 		return errorOf(status, lines[0])
 	})

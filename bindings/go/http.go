@@ -30,11 +30,12 @@ type droppedCookie struct {
 
 // parseAll inserts cookies and returns those that are dropped.
 func (j *Jar) parseAll(u *url.URL, cookies []*http.Cookie) (dropped []droppedCookie) {
-	j.mu.Lock()
-	defer j.mu.Unlock()
-	url, now := j.address(u), j.seconds()
+	s := j.shardOf(u)
+	s.mu.Lock()
+	defer s.mu.Unlock()
+	url, now := s.address(u), j.seconds()
 	for _, cookie := range cookies {
-		if err := j.parse(url, setCookie(cookie), now); err != nil {
+		if err := s.parse(url, setCookie(cookie), now); err != nil {
 			dropped = append(dropped, droppedCookie{cookie.Name, err})
 		}
 	}

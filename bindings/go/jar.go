@@ -21,7 +21,7 @@ import (
 	"os"
 	"runtime"
 	"strings"
-	"sync"
+	"sync/atomic"
 	"time"
 	"unsafe"
 )
@@ -31,11 +31,9 @@ import (
 // Create one with New or Load; the zero value is a closed jar. Errors of the store are of type *Error. After Close their status
 // is ErrClosed.
 type Jar struct {
-	mu        sync.Mutex
-	store     C.cookie_store
-	url       []byte                             // a buffer for the URL of a call
-	header    []byte                             // a buffer for its Cookie header
-	needed    C.size_t                           // what it reports of its buffer
+	first     shard
+	others    []*shard                           // none, unless the jar is split
+	hosts     atomic.Pointer[hosts]              // nil, unless the jar is split
 	now       func() time.Time                   // the clock of a test, or nil
 	onDropped func(host, name string, err error) // or nil
 }
@@ -65,6 +63,12 @@ type Options struct {
 	// public suffix list, the Domain of a cookie may not be above the site of the host that sets it.
 	Strict bool
 
+	// Shards is how many stores the jar is split into, each with a lock of its own: a call for a URL waits only for calls of the
+	// same shard. The shard of a URL is that of its root (see Jar.Root). 0 stands for one store, and more than one need Strict and
+	// PublicSuffixList, since only then a cookie stays within its root. Each shard has a copy of the list, which takes 2 MB for
+	// that of publicsuffix.org. All and Save have the shards one after the other, and each one in the order of its store.
+	Shards int
+
 	// OnDropped, if it is not nil, is called for each cookie that SetCookies does not store, with the error that Parse would
 	// have returned, and for each stored cookie that Cookies and Header leave out, with ErrControlCharacter. If Cookies
 	// returns nil because of an error, it is called with that error and an empty name.
@@ -86,10 +90,11 @@ func SystemPublicSuffixList() ([]byte, error) { return os.ReadFile(publicSuffixF
 
 // New returns a jar without cookies. Nil options are those of a zero Options.
 //
-// Errors: ErrNotUTF8 (the list), ErrBadRule with its line, ErrNoRules, ErrBadLimit.
+// Errors: ErrNotUTF8 (the list), ErrBadRule with its line, ErrNoRules, ErrBadLimit (DomainLimit, Shards), ErrBadOption (Shards of a
+// jar that is not strict or has no list).
 func New(options *Options) (*Jar, error) {
 	return create(options, func(jar *Jar, key string) error {
-		return errorOf(C.cookie_store_new(&jar.store, chars(key), size(key)), 0)
+		return errorOf(C.cookie_store_new(&jar.first.store, chars(key), size(key)), 0)
 	})
 }
 
@@ -116,43 +121,53 @@ func create(options *Options, begin func(jar *Jar, key string) error) (*Jar, err
 
 func (j *Jar) configure(options *Options) error {
 	j.onDropped = options.OnDropped
+	if options.DomainLimit < 0 || options.Shards < 0 {
+		return &Error{Status: ErrBadLimit}
+	}
+	if options.Shards > 1 && !(options.Strict && options.PublicSuffixList != nil) {
+		return &Error{Status: ErrBadOption}
+	}
+	s := &j.first
 	if options.PublicSuffixList != nil {
 		list, line := view(options.PublicSuffixList), C.size_t(0)
-		status := C.cookie_store_set_suffix_list(&j.store, chars(list), size(list), C.bool(options.OnlyListed), &line)
+		status := C.cookie_store_set_suffix_list(&s.store, chars(list), size(list), C.bool(options.OnlyListed), &line)
 		if err := errorOf(status, line); err != nil {
 			return err
 		}
 	}
-	if options.DomainLimit < 0 {
-		return &Error{Status: ErrBadLimit}
-	}
 	if options.DomainLimit > 0 {
-		if err := errorOf(C.cookie_store_set_domain_limit(&j.store, C.size_t(options.DomainLimit)), 0); err != nil {
+		if err := errorOf(C.cookie_store_set_domain_limit(&s.store, C.size_t(options.DomainLimit)), 0); err != nil {
 			return err
 		}
 	}
-	return errorOf(C.cookie_store_set_strict(&j.store, C.bool(options.Strict)), 0)
+	if err := errorOf(C.cookie_store_set_strict(&s.store, C.bool(options.Strict)), 0); err != nil {
+		return err
+	}
+	return j.split(options.Shards)
 }
 
 // Close frees the store and returns nil. It may be called again. A finalizer closes a jar that is garbage.
 func (j *Jar) Close() error {
-	j.mu.Lock()
-	defer j.mu.Unlock()
-	C.cookie_store_free(&j.store)
-	return nil
+	j.lock()
+	defer j.unlock()
+	return j.each(func(s *shard) error {
+		C.cookie_store_free(&s.store)
+		return nil
+	})
 }
 
 // Parse parses a Set-Cookie header value received from u and inserts the cookie, RFC 6265 5.3. The status of the error is the
 // reason if the cookie was rejected (see Status.IsRejection), or else ErrBadURL or ErrNotUTF8.
 func (j *Jar) Parse(u *url.URL, setCookie string) error {
-	j.mu.Lock()
-	defer j.mu.Unlock()
-	return j.parse(j.address(u), setCookie, j.seconds())
+	s := j.shardOf(u)
+	s.mu.Lock()
+	defer s.mu.Unlock()
+	return s.parse(s.address(u), setCookie, j.seconds())
 }
 
-// parse is Parse while the lock is held.
-func (j *Jar) parse(url, setCookie string, now C.int64_t) error {
-	return errorOf(C.parse(j.handle(), chars(url), size(url), chars(setCookie), size(setCookie), now), 0)
+// parse is Parse while the shard is locked.
+func (s *shard) parse(url, setCookie string, now C.int64_t) error {
+	return errorOf(C.parse(s.handle(), chars(url), size(url), chars(setCookie), size(setCookie), now), 0)
 }
 
 // Header returns the value of the Cookie header of a request for u, RFC 6265 5.4, or "" if none is to be sent. Names and values
@@ -208,25 +223,26 @@ func hasControl(s string) bool {
 
 // readHeader returns the header as the library writes it.
 func (j *Jar) readHeader(u *url.URL) (string, error) {
-	return j.read(u, func(url string, now C.int64_t, out *C.char, room C.size_t) C.enum_cookie_store_status {
-		return C.header(j.handle(), chars(url), size(url), now, out, room, &j.needed)
+	s := j.shardOf(u)
+	return s.read(u, j.seconds(), func(url string, now C.int64_t, out *C.char, room C.size_t) C.enum_cookie_store_status {
+		return C.header(s.handle(), chars(url), size(url), now, out, room, &s.needed)
 	})
 }
 
 // read returns the header of a request for u that write writes.
-func (j *Jar) read(u *url.URL, write func(url string, now C.int64_t, out *C.char, room C.size_t) C.enum_cookie_store_status) (string, error) {
-	j.mu.Lock()
-	defer j.mu.Unlock()
-	url, now := j.address(u), j.seconds()
-	if j.header == nil {
-		j.header = make([]byte, 1024)
+func (s *shard) read(u *url.URL, now C.int64_t, write func(url string, now C.int64_t, out *C.char, room C.size_t) C.enum_cookie_store_status) (string, error) {
+	s.mu.Lock()
+	defer s.mu.Unlock()
+	url := s.address(u)
+	if s.header == nil {
+		s.header = make([]byte, 1024)
 	}
 	for {
-		status := write(url, now, (*C.char)(unsafe.Pointer(&j.header[0])), C.size_t(len(j.header)))
+		status := write(url, now, (*C.char)(unsafe.Pointer(&s.header[0])), C.size_t(len(s.header)))
 		if status != C.COOKIE_STORE_NO_ROOM {
-			return string(j.header[:j.needed]), errorOf(status, 0)
+			return string(s.header[:s.needed]), errorOf(status, 0)
 		}
-		j.header = make([]byte, j.needed)
+		s.header = make([]byte, s.needed)
 	}
 }
 
@@ -257,29 +273,35 @@ func (j *Jar) Merge(other *Jar) (leftOut int, err error) {
 	if uintptr(unsafe.Pointer(second)) < uintptr(unsafe.Pointer(first)) { // one order for all, so that no call waits for another
 		first, second = second, first
 	}
-	first.mu.Lock()
-	defer first.mu.Unlock()
-	second.mu.Lock()
-	defer second.mu.Unlock()
-	var count C.size_t
-	err = errorOf(C.cookie_store_merge(&j.store, &other.store, j.seconds(), &count), 0)
-	return int(count), err
+	first.lock()
+	defer first.unlock()
+	second.lock()
+	defer second.unlock()
+	now := j.seconds()
+	err = j.each(func(s *shard) error {
+		return other.each(func(from *shard) error {
+			count, err := j.merge(s, from, now)
+			leftOut += count
+			return err
+		})
+	})
+	return leftOut, err
 }
 
 // Clear removes all cookies.
 func (j *Jar) Clear() error {
-	j.mu.Lock()
-	defer j.mu.Unlock()
-	return errorOf(C.cookie_store_clear(&j.store), 0)
+	j.lock()
+	defer j.unlock()
+	return j.each(func(s *shard) error { return errorOf(C.cookie_store_clear(&s.store), 0) })
 }
 
 // Remove removes the cookie with this domain, path and name, as All returns them.
 //
 // Errors: ErrNotUTF8, ErrNotFound.
 func (j *Jar) Remove(domain, path, name string) error {
-	j.mu.Lock()
-	defer j.mu.Unlock()
-	status := C.cookie_store_remove(&j.store, chars(domain), size(domain), chars(path), size(path), chars(name), size(name))
+	s := j.lockDomain(domain)
+	defer s.mu.Unlock()
+	status := C.cookie_store_remove(&s.store, chars(domain), size(domain), chars(path), size(path), chars(name), size(name))
 	return errorOf(status, 0)
 }
 
@@ -288,21 +310,26 @@ func (j *Jar) Remove(domain, path, name string) error {
 //
 // Errors: ErrNotUTF8.
 func (j *Jar) RemoveDomain(domain string) (int, error) {
-	j.mu.Lock()
-	defer j.mu.Unlock()
+	s := j.lockDomain(domain)
+	defer s.mu.Unlock()
 	var removed C.size_t
-	err := errorOf(C.cookie_store_remove_domain(&j.store, chars(domain), size(domain), &removed), 0)
+	err := errorOf(C.cookie_store_remove_domain(&s.store, chars(domain), size(domain), &removed), 0)
 	return int(removed), err
 }
 
 // RemoveExpired removes the expired cookies and returns their number. They are never sent, but take memory until they are
 // removed.
 func (j *Jar) RemoveExpired() (int, error) {
-	j.mu.Lock()
-	defer j.mu.Unlock()
-	var removed C.size_t
-	err := errorOf(C.cookie_store_remove_expired(&j.store, j.seconds(), &removed), 0)
-	return int(removed), err
+	j.lock()
+	defer j.unlock()
+	total, now := 0, j.seconds()
+	err := j.each(func(s *shard) error {
+		var removed C.size_t
+		err := errorOf(C.cookie_store_remove_expired(&s.store, now, &removed), 0)
+		total += int(removed)
+		return err
+	})
+	return total, err
 }
 
 // seconds returns the current time as the library takes it.
@@ -313,9 +340,6 @@ func (j *Jar) seconds() C.int64_t {
 	}
 	return C.int64_t(now().Unix())
 }
-
-// handle returns the address of the handle, which has no pointer into Go's memory.
-func (j *Jar) handle() *C.char { return (*C.char)(unsafe.Pointer(&j.store)) }
 
 // chars returns a pointer to the bytes of s, for the time of a call. The library takes no pointer that is NULL.
 func chars(s string) *C.char {

@@ -186,7 +186,7 @@ func TestOptionErrors(t *testing.T) {
 			"cookiestore: a line of the list is not a rule (line 2)"},
 		{Options{PublicSuffixList: []byte(`{"error": 1}`), OnlyListed: true}, Error{ErrBadRule, 1},
 			"cookiestore: a line of the list is not a rule (line 1)"},
-		{Options{DomainLimit: -1}, Error{ErrBadLimit, 0}, "cookiestore: negative domain limit"},
+		{Options{DomainLimit: -1}, Error{ErrBadLimit, 0}, "cookiestore: negative domain limit or number of shards"},
 	} {
 		_, err := New(&row.options)
 		var typed *Error
@@ -197,7 +197,7 @@ func TestOptionErrors(t *testing.T) {
 	if text := Status(99).Error(); text != "cookiestore: unknown status" {
 		t.Errorf("an unknown status is %q", text)
 	}
-	for status, want := range map[Status]bool{9: false, 19: true, ErrNoRules: false, 38: false, ErrCrossSiteResponse: true, 48: true} {
+	for status, want := range map[Status]bool{9: false, 19: true, ErrNoRules: false, ErrNoList: false, 39: false, ErrCrossSiteResponse: true, 48: true} {
 		if got := status.IsRejection(); got != want {
 			t.Errorf("status %d: IsRejection is %v", int(status), got)
 		}

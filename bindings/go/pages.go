@@ -43,9 +43,10 @@ func (c CrossSite) flags() C.uint32_t {
 // Errors: ErrBadURL (either URL; a page has a host), ErrNotUTF8.
 func (j *Jar) HeaderFor(u, page *url.URL, crossSite CrossSite) (string, error) {
 	from := view(appendAddress(nil, page))
-	header, err := j.read(u, func(url string, now C.int64_t, out *C.char, room C.size_t) C.enum_cookie_store_status {
-		return C.cookie_store_header_for(&j.store, chars(url), size(url), chars(from), size(from), now, crossSite.flags(), out, room,
-			&j.needed)
+	s := j.shardOf(u)
+	header, err := s.read(u, j.seconds(), func(url string, now C.int64_t, out *C.char, room C.size_t) C.enum_cookie_store_status {
+		return C.cookie_store_header_for(&s.store, chars(url), size(url), chars(from), size(from), now, crossSite.flags(), out, room,
+			&s.needed)
 	})
 	if err != nil {
 		return "", err
@@ -61,10 +62,11 @@ func (j *Jar) HeaderFor(u, page *url.URL, crossSite CrossSite) (string, error) {
 // are those of Parse in a strict jar; ErrBadURL and ErrNotUTF8 may be of either URL.
 func (j *Jar) ParseFor(u, page *url.URL, setCookie string, crossSite CrossSite) error {
 	from := view(appendAddress(nil, page))
-	j.mu.Lock()
-	defer j.mu.Unlock()
-	url := j.address(u)
-	status := C.cookie_store_parse_for(&j.store, chars(url), size(url), chars(from), size(from), chars(setCookie), size(setCookie),
+	s := j.shardOf(u)
+	s.mu.Lock()
+	defer s.mu.Unlock()
+	url := s.address(u)
+	status := C.cookie_store_parse_for(&s.store, chars(url), size(url), chars(from), size(from), chars(setCookie), size(setCookie),
 		j.seconds(), crossSite.flags())
 	return errorOf(status, 0)
 }

@@ -299,6 +299,36 @@ static napi_value header_for(napi_env env, napi_callback_info info) {
     return result;
 }
 
+/* A call that writes the root of a string. */
+typedef enum cookie_store_status root_call(cookie_store *, const char *, size_t, char *, size_t, size_t *);
+
+/* Returns the root of the string of this name, the only argument. */
+static napi_value root_by(napi_env env, napi_callback_info info, const char *name, root_call *call) {
+    char stack[512], *out = stack;
+    napi_value args[1], result;
+    struct text text;
+    size_t needed;
+    struct store *self = receiver(env, info, args, COUNT(args));
+    if (self == NULL || !read_texts(env, args, &name, &text, 1)) return NULL;
+    enum cookie_store_status status = call(&self->handle, text.bytes, text.length, stack, sizeof stack, &needed);
+    if (status == COOKIE_STORE_NO_ROOM) {
+        out = malloc(needed);
+        status = out == NULL ? COOKIE_STORE_NO_MEMORY : call(&self->handle, text.bytes, text.length, out, needed, &needed);
+    }
+    result = status == COOKIE_STORE_OK ? string(env, out, needed) : fail(env, status, 0);
+    if (out != stack) free(out);
+    free_texts(&text, 1);
+    return result;
+}
+
+/* root(url): the root of its host, or an empty string. */
+static napi_value root(napi_env env, napi_callback_info info) { return root_by(env, info, "url", cookie_store_root); }
+
+/* rootOfDomain(domain) */
+static napi_value root_of_domain(napi_env env, napi_callback_info info) {
+    return root_by(env, info, "domain", cookie_store_root_of_domain);
+}
+
 /* Lists all cookies, or those for a URL if there is one. */
 static enum cookie_store_status write_rows(struct store *self, const struct text *url, int64_t now, struct listing *list,
                                            size_t room, size_t strings_room) {
@@ -520,6 +550,21 @@ static napi_value status_text(napi_env env, napi_callback_info info) {
     return string(env, text, strlen(text));
 }
 
+/* shard(root, shards): the number of the shard of a root. */
+static napi_value shard(napi_env env, napi_callback_info info) {
+    size_t count = 2;
+    napi_value args[2], result;
+    struct text text;
+    uint32_t shards, number;
+    if (napi_get_cb_info(env, info, &count, args, NULL, NULL) != napi_ok || !read_number(env, args[1], "shards", &shards) ||
+        !read_texts(env, args, (const char *[]){"root"}, &text, 1))
+        return NULL;
+    enum cookie_store_status status = cookie_store_shard(text.bytes, text.length, shards, &number);
+    free_texts(&text, 1);
+    if (status != COOKIE_STORE_OK) return fail(env, status, 0);
+    return napi_create_uint32(env, number, &result) == napi_ok ? result : NULL;
+}
+
 static void free_reference(napi_env env, void *data, void *hint) {
     (void)hint;
     napi_delete_reference(env, data);
@@ -554,7 +599,8 @@ NAPI_MODULE_INIT() {
         METHOD("insert", insert), METHOD("header", header), METHOD("headerFor", header_for), METHOD("cookies", cookies),
         METHOD("expiryOf", expiry_of), METHOD("cookiesFor", cookies_for), METHOD("remove", remove_cookie),
         METHOD("removeDomain", remove_domain), METHOD("removeExpired", remove_expired), METHOD("clear", clear),
-        METHOD("merge", merge), METHOD("save", save), METHOD("load", load),
+        METHOD("merge", merge), METHOD("save", save), METHOD("load", load), METHOD("root", root),
+        METHOD("rootOfDomain", root_of_domain),
     };
     napi_value store;
     if (napi_define_class(env, "Store", NAPI_AUTO_LENGTH, construct, NULL, COUNT(methods), methods, &store) != napi_ok)
@@ -562,6 +608,7 @@ NAPI_MODULE_INIT() {
     const napi_property_descriptor names[] = {
         {"Store", NULL, NULL, NULL, NULL, store, napi_default, NULL},
         METHOD("statusText", status_text),
+        METHOD("shard", shard),
         METHOD("setErrorClass", set_error_class),
     };
     return napi_define_properties(env, exports, COUNT(names), names) == napi_ok ? exports : NULL;

@@ -29,7 +29,7 @@ export type Rejection =
 
 /** Why a call fails. */
 export type Failure =
-  | 'NO_MEMORY' | 'BAD_URL' | 'NOT_UTF8' | 'BAD_TIME' | 'NO_STORE' | 'BAD_LIMIT' | 'BAD_OPTION' | 'BAD_RULE' | 'NO_RULES'
+  | 'NO_MEMORY' | 'BAD_URL' | 'NOT_UTF8' | 'BAD_TIME' | 'NO_STORE' | 'BAD_LIMIT' | 'BAD_OPTION' | 'BAD_RULE' | 'NO_RULES' | 'NO_LIST'
   | 'BAD_JSON' | 'BAD_SHAPE' | 'BAD_RON' | 'BAD_EXPIRY' | 'BAD_LINE' | 'UNREPRESENTABLE';
 
 /**
@@ -257,6 +257,16 @@ export class CookieStore implements Iterable<StoredCookie> {
   clear(): void;
 
   /**
+   * Returns the root of the host of `url`: its outermost site under the suffix list, or '' if the URL has no host. In a strict
+   * store a cookie that a host sets is sent only to hosts of the same root, so that each root, or each shard() of roots, may have
+   * a store of its own. Codes: NO_LIST if the store has no suffix list, and BAD_URL.
+   */
+  root(url: Address): string;
+
+  /** Returns the root of the domain of a cookie, as cookies() returns it. Code: NO_LIST. */
+  rootOfDomain(domain: Text): string;
+
+  /**
    * Inserts the cookies of another store, each as if its own domain had sent it, and returns how many are left out: those that
    * parse() would reject, and those whose domain is not the host of a URL. A domain cookie of a public suffix becomes
    * host-only. After NO_MEMORY some cookies may be inserted.
@@ -274,6 +284,12 @@ export class CookieStore implements Iterable<StoredCookie> {
   /** Returns a cookies.txt file, and the number of cookies that it leaves out because it cannot represent them. */
   saveLenient(options?: LenientOptions): { list: string; leftOut: number };
 }
+
+/**
+ * Returns the number of the shard of a root, from 0 to `shards` - 1: the 64-bit FNV-1a hash of its bytes modulo `shards`. This never
+ * changes. Throws a CookieStoreError: BAD_LIMIT if `shards` is below 1 or has more than 32 bits, and NOT_UTF8.
+ */
+export function shard(root: Text, shards: number): number;
 
 /**
  * Replaces a file by one with this text, which its owner alone can read: it is whole also after a crash. If the call throws,

@@ -5,7 +5,7 @@ const { CookieStoreError, isRejection, statusText } = require('./lib/errors');
 const { withCookies } = require('./lib/fetch');
 const { replaceFile } = require('./lib/files');
 const { CookieJar } = require('./lib/jar');
-const { CookieStore, SYSTEM_SUFFIX_FILE } = require('./lib/store');
+const { CookieStore, SYSTEM_SUFFIX_FILE, shard } = require('./lib/store');
 const { cookieInterceptor } = require('./lib/undici');
 
 module.exports = {
@@ -17,6 +17,7 @@ module.exports = {
   cookieInterceptor,
   isRejection,
   replaceFile,
+  shard,
   statusText,
   withCookies,
 };

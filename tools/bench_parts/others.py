@@ -9,7 +9,7 @@ from common import ROOT
 MINUTES = 8  # after which a command is stopped
 BEHIND = 'Warning: '  # begins the lines of a command that found a peer ahead, and has printed its figures
 COMMANDS = [f'tools/bench {words}' for words in
-            ('requests 50 20 2000', 'convert 10000 100000', 'bindings', 'lists 10000', 'header')]
+            ('requests 50 20 2000', 'convert 10000 100000', 'bindings', 'sites', 'lists 10000', 'header')]
 
 
 def environment(program, archive, lists):
@@ -21,7 +21,7 @@ def environment(program, archive, lists):
 def run(command, variables):
     """What the command prints, or a line that says why there is nothing."""
     archive = variables['COOKIE_STORE_ARCHIVE']
-    if command == 'tools/bench bindings' and not os.path.exists(archive):
+    if command in ('tools/bench bindings', 'tools/bench sites') and not os.path.exists(archive):
         return f'not run: {os.path.basename(archive)} is not built'
     try:
         tool = subprocess.Popen(command.split(), cwd=ROOT, env=variables, stdout=subprocess.PIPE,

@@ -14,6 +14,9 @@ can_import() {
         "$1" -c 'import importlib, sys; [importlib.import_module(name) for name in sys.argv[1:]]' "${@:2}" 2> /dev/null
 }
 
+# one_can_import MODULE..: whether one of the Pythons has all these modules.
+one_can_import() { can_import python3 "$@" || can_import /usr/bin/python3 "$@"; }
+
 # The installed package finds the library beside it.
 finds_library() {
     alone env PYTHONPATH="$lib/python3/dist-packages" python3 -c 'import cookie_store; cookie_store.CookieStore()'
@@ -70,11 +73,12 @@ python_tests_lose_nothing() {
 if command -v python3 > /dev/null; then
     try 'installed package' finds_library || true
     unit_tests python3 || true
-    if [ "$(command -v python3)" != /usr/bin/python3 ] && can_import /usr/bin/python3 httpx aiohttp; then
+    if [ "$(command -v python3)" != /usr/bin/python3 ] &&
+        { can_import /usr/bin/python3 httpx aiohttp || can_import /usr/bin/python3 redis; }; then
         unit_tests /usr/bin/python3 || true
-    elif ! can_import python3 httpx aiohttp; then
-        skips 'unit tests of httpx and aiohttp' 'no Python has both'
     fi
+    one_can_import httpx aiohttp || skips 'unit tests of httpx and aiohttp' 'no Python has both'
+    one_can_import redis || skips 'unit tests with Redis' 'no Python has the package redis'
     if can_import python3 pip; then
         try 'pip wheel' pip_builds || true
         try 'pip install ./bindings/python' pip_installs || true

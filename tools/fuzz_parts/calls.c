@@ -336,6 +336,30 @@ static enum cookie_store_status make_merge(const struct call *call) {
     return status;
 }
 
+static enum cookie_store_status make_root(const struct call *call) {
+    size_t needed = UNSET;
+    enum cookie_store_status status = cookie_store_root(STORE, TEXT(0), out, call->room, &needed);
+    check_out(status, needed);
+    return status;
+}
+
+/* The root of a domain is an end of it. */
+static enum cookie_store_status make_root_of_domain(const struct call *call) {
+    size_t needed = UNSET, length = call->strings[0].length;
+    enum cookie_store_status status = cookie_store_root_of_domain(STORE, TEXT(0), out, call->room, &needed);
+    check_out(status, needed);
+    require(status != COOKIE_STORE_OK || (needed <= length && memcmp(out, call->strings[0].at + length - needed, needed) == 0),
+            "the root is no end of the domain");
+    return status;
+}
+
+static enum cookie_store_status make_shard(const struct call *call) {
+    uint32_t shard = UNSET, shards = (uint32_t)call->option;
+    enum cookie_store_status status = cookie_store_shard(TEXT(0), shards, &shard);
+    require(status == COOKIE_STORE_OK ? shard < shards : shard == 0, "the number of the shard");
+    return status;
+}
+
 static const struct {
     const char *name;
     enum cookie_store_status (*make)(const struct call *);
@@ -366,6 +390,9 @@ static const struct {
     {"save", make_save, READS},
     {"load", make_load, BEGINS},
     {"merge", make_merge, MERGES},
+    {"root", make_root, READS},
+    {"root_of_domain", make_root_of_domain, READS},
+    {"shard", make_shard, READS},
 };
 
 /* The status is one that the header lists, and those of empty handles, of times and of allocations have their reason. */

@@ -59,6 +59,9 @@ CALLS: Dict[str, Tuple[float, List[str]]] = {
     'save': (3, ['now', 'room', 'format', 'which']),
     'load': (3, ['now', 'items', 'format', 'which', 'key', 'list']),
     'merge': (2, ['now']),
+    'root': (1, ['room', 'url']),
+    'root_of_domain': (1, ['room', 'domain']),
+    'shard': (0.3, ['shards', 'domain']),
 }
 # The numbers of a call: usual ones, and odd ones.
 NUMBERS_OF: Dict[str, Tuple[List[int], List[int]]] = {
@@ -67,6 +70,7 @@ NUMBERS_OF: Dict[str, Tuple[List[int], List[int]]] = {
     'items': ([ITEMS, ITEMS, ITEMS, 2], [0, 1, 10]),
     'flag': ([0, 1], [0, 1]),
     'limit': ([2, 3, 5, 1000], [0, 1, 2**64 - 1]),
+    'shards': ([1, 2, 16], [0, 3, 2**32 - 1]),
     'request': ([0, 1, 2, 3], [4, 2**32 - 1]),
     'format': ([0, 1, 2, 3], [4, 2**32 - 1]),
     'which': ([0, 0, 1, 2], [3, 2**32 - 1]),
@@ -75,7 +79,7 @@ NUMBERS_OF: Dict[str, Tuple[List[int], List[int]]] = {
     'same_site': ([0, 1, 2, 3], [4, 2**32 - 1]),
 }
 # Those that are another number of a call than their name says.
-NUMBER_OF = {**dict.fromkeys(('flag', 'limit', 'request', 'format', 'same_site'), 'option'), 'expires': 'which', 'flags': 'items'}
+NUMBER_OF = {**dict.fromkeys(('flag', 'limit', 'shards', 'request', 'format', 'same_site'), 'option'), 'expires': 'which', 'flags': 'items'}
 CONTENTS, ODD_CONTENTS = ['1', ''], ['a=1', 'v' * 4096, 'x\ty', 'x;y', ' x', 'k\u00fc']
 HOSTS, PATHS, NAMES = ['a.com', 'b.a.com', 'localhost', 'example.com'], ['/', '/a'], ['a', 'b', 'c', 's', 'h']
 VALUES = ['a=1', 'b=2; Path=/', 'c=3; Domain=a.com; Max-Age=60', 's=4; Secure', 'h=5; HttpOnly', 'a=; Max-Age=0', 'l=6; SameSite=Lax',

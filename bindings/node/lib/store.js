@@ -1,6 +1,6 @@
 'use strict';
 const { inspect, types } = require('node:util');
-const { Store } = require('./addon');
+const addon = require('./addon');
 const { CookieStoreError, codeOf, typeError } = require('./errors');
 
 /** The list of Debian's package publicsuffix. */
@@ -77,7 +77,7 @@ function preventCloning(object) {
 
 /** A cookie store. index.d.ts documents its methods. */
 class CookieStore {
-  #store = new Store();
+  #store = new addon.Store();
 
   constructor(options) {
     preventCloning(this);
@@ -187,6 +187,14 @@ class CookieStore {
     this.#store.clear();
   }
 
+  root(url) {
+    return this.#store.root(hrefOf(url));
+  }
+
+  rootOfDomain(domain) {
+    return this.#store.rootOfDomain(domain);
+  }
+
   merge(other, options) {
     if (!(typeof other === 'object' && other !== null && #store in other)) throw typeError('other must be a CookieStore');
     return this.#store.merge(other.#store, secondsOf(options?.now));
@@ -214,6 +222,13 @@ function flagsOf({ topLevel = false, laxByDefault = true }) {
 
 if (Symbol.dispose) CookieStore.prototype[Symbol.dispose] = CookieStore.prototype.close;
 
+/** Returns the number of the shard of a root. index.d.ts documents it. */
+function shard(root, shards) {
+  if (!Number.isInteger(shards)) throw typeError('shards must be an integer');
+  if (shards < 1 || shards > 0xffffffff) throw new CookieStoreError('BAD_LIMIT');
+  return addon.shard(root, shards);
+}
+
 /** Returns a store, or that of a jar. */
 function storeOf(value) {
   const store = value instanceof CookieStore ? value : value?.store;
@@ -221,4 +236,4 @@ function storeOf(value) {
   return store;
 }
 
-module.exports = { CookieStore, SYSTEM_SUFFIX_FILE, hrefOf, preventCloning, storeOf };
+module.exports = { CookieStore, SYSTEM_SUFFIX_FILE, hrefOf, preventCloning, shard, storeOf };

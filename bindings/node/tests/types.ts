@@ -1,7 +1,7 @@
 // Uses each type of index.d.ts. tsc compiles it, and it is not run.
 import {
-  Cookie, CookieJar, CookieStore, CookieStoreError, SYSTEM_SUFFIX_FILE, cookieInterceptor, isRejection, replaceFile, statusText,
-  withCookies,
+  Cookie, CookieJar, CookieStore, CookieStoreError, SYSTEM_SUFFIX_FILE, cookieInterceptor, isRejection, replaceFile, shard,
+  statusText, withCookies,
 } from 'pulleymaroon';
 
 const store = new CookieStore({ suffixList: new Uint8Array(), onlyListed: true, domainLimit: 1, strict: true });
@@ -15,6 +15,7 @@ for (const { domain, expires, sameSite } of store) {
   void row;
 }
 const counts: number[] = [store.size, store.removeExpired(), store.removeDomain('a'), store.merge(store.clone())];
+const shardOfUrl: number = shard(store.root(new URL('http://a.example/')), 4) + shard(store.rootOfDomain('a.example'), 4);
 const isRemoved: boolean = store.remove('a', '/', 'a');
 const { list, leftOut } = store.saveLenient({ which: 'all' });
 const { store: loaded, malformed } = CookieStore.loadLenient(list);
@@ -49,4 +50,4 @@ new CookieJar({ findCookie() {} });
 // @ts-expect-error: it takes what the fetch takes
 get(1);
 
-void [header, isNew, counts, isRemoved, length, useJar, statusText('PARSE')];
+void [header, isNew, counts, shardOfUrl, isRemoved, length, useJar, statusText('PARSE')];

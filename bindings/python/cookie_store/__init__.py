@@ -18,6 +18,9 @@ http.cookiejar.CookieJar over a CookieStore, for urllib.request and requests. Wi
 
 These five modules are imported by their names. Each needs the package that it is named after.
 
+cookie_store.sites has stores whose cookies are in Redis or in the files of a folder, which processes
+share. It needs no other package.
+
 cookie_store.browsers reads and writes the cookies of Selenium, Playwright and extensions of browsers,
 and reads those of Firefox. It needs no other package.
 
@@ -41,9 +44,10 @@ from ._files import replace_file
 from ._formats import Format, Which
 from ._jar import StoreJar
 from ._listing import Cookie
+from ._sharding import shard
 from ._status import BadLine, BadRule, CookieStoreError, NoDomain, NoMemory, Status
 from ._store import CookieStore
 
 __version__ = '0.1.0'
 __all__ = ['BadLine', 'BadRule', 'Cookie', 'CookieStore', 'CookieStoreError', 'Format', 'NoDomain', 'NoMemory', 'Status',
-           'StoreJar', 'Which', 'replace_file']
+           'StoreJar', 'Which', 'replace_file', 'shard']

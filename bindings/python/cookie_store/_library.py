@@ -65,6 +65,9 @@ SIGNATURES: Dict[str, Tuple[Any, List[Any]]] = {
     'cookie_store_save': (_NUMBER, [_AT, _NUMBER, _NUMBER, ctypes.c_int64, *_OUT, _LENGTH, _LENGTH]),
     'cookie_store_load': (_NUMBER, [_AT, *_TEXT, _NUMBER, _NUMBER, *_TEXT, ctypes.c_int64, _LENGTH, ctypes.c_size_t, _LENGTH]),
     'cookie_store_merge': (_NUMBER, [_AT, _AT, ctypes.c_int64, _LENGTH]),
+    'cookie_store_root': (_NUMBER, [_AT, *_TEXT, *_OUT, _LENGTH]),
+    'cookie_store_root_of_domain': (_NUMBER, [_AT, *_TEXT, *_OUT, _LENGTH]),
+    'cookie_store_shard': (_NUMBER, [*_TEXT, ctypes.c_uint32, ctypes.POINTER(ctypes.c_uint32)]),
 }
 
 

@@ -2,17 +2,24 @@
 from __future__ import annotations
 
 import re
+from typing import Optional, Protocol
 
 from ._log import LOGGER, log_not_sent
 from ._status import NOT_VALID, CookieStoreError
-from ._store import CookieStore
 from ._urls import Target
 
 # What no header value may have: RFC 9110 5.5.
 _CONTROL = re.compile(r'[\x00-\x08\x0a-\x1f\x7f]')
 
 
-def header_for(store: CookieStore, target: Target) -> str:
+class HasHeader(Protocol):
+    """A store that returns the Cookie header of a request for a URL, as CookieStore.header() does."""
+
+    def header(self, url: str) -> Optional[str]:
+        """Return the value, or None if no cookie is to be sent."""
+
+
+def header_for(store: HasHeader, target: Target) -> str:
     """Return the value of the Cookie header of a request, or '' if none is to be sent.
 
     It has no control characters other than HTAB: a cookie that has one, as a loaded list may, is left out.

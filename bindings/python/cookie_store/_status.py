@@ -40,7 +40,7 @@ class Status(enum.IntEnum):
     BAD_URL -- not a URL, or one from which parsers read different hosts
     NOT_UTF8 -- not UTF-8
     BAD_TIME -- a time that is not in the years -9999 to 9999
-    BAD_LIMIT -- a limit below 1
+    BAD_LIMIT -- a limit or a number of shards below 1
     BAD_OPTION -- a number that is not one of Format or Which
     BAD_RULE -- a line of a public suffix list is not a rule
     NO_RULES -- a public suffix list has no rules
@@ -53,6 +53,7 @@ class Status(enum.IntEnum):
     Other errors:
     NO_MEMORY -- out of memory
     NO_STORE -- the store is closed
+    NO_LIST -- the store has no public suffix list
 
     The other values are not returned or raised.
     """
@@ -85,6 +86,7 @@ class Status(enum.IntEnum):
     BAD_LINE = 35
     UNREPRESENTABLE = 36
     NO_RULES = 37
+    NO_LIST = 38
     CONTROL_CHARACTER = 40
     TOO_LONG = 41
     INSECURE_URL = 42
@@ -130,7 +132,7 @@ TEXTS = {
     Status.HAS_STORE: 'the handle holds a store already',
     Status.NO_ROOM: 'the buffer is too short',
     Status.NOT_FOUND: 'no such cookie',
-    Status.BAD_LIMIT: 'the limit is 0',
+    Status.BAD_LIMIT: 'the limit or the number of shards is 0',
     Status.BAD_OPTION: 'an unknown option',
     Status.BAD_RULE: 'a line of the list is not a rule',
     Status.BAD_JSON: 'not JSON',
@@ -140,6 +142,7 @@ TEXTS = {
     Status.BAD_LINE: 'a line of the file is not a cookie',
     Status.UNREPRESENTABLE: 'the format cannot represent a cookie',
     Status.NO_RULES: 'the public suffix list has no rules',
+    Status.NO_LIST: 'the store has no public suffix list',
     Status.CONTROL_CHARACTER: 'a control character in the header value',
     Status.TOO_LONG: 'name and value are longer than 4,096 bytes',
     Status.INSECURE_URL: 'Secure, and the URL is not secure',

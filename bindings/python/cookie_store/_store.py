@@ -27,7 +27,7 @@ _STORED = frozenset((int(Status.INSERTED), int(Status.UPDATED)))
 _AUTHORITY = re.compile(r'[a-zA-Z][-+.a-zA-Z0-9]*://([^/?#]*)')
 
 
-def _host_of(url: Text) -> str:
+def host_of(url: Text) -> str:
     """Return the host of a URL for the log, valid or not, without a user and a path, which may be secret."""
     text = url if isinstance(url, str) else url.decode('utf-8', 'backslashreplace')
     authority = _AUTHORITY.match(text)
@@ -131,7 +131,7 @@ class CookieStore(SavedStore):
         """
         if isinstance(header_values, (str, bytes)):
             raise TypeError('expected a list of header values, not one: pass [header_value]')
-        return self._receive(_host_of(url), url, () if header_values is None else header_values, now)
+        return self._receive(host_of(url), url, () if header_values is None else header_values, now)
 
     def _receive(self, host: str, url: Text, header_values: Iterable[Text], now: Optional[Time] = None) -> int:
         """Insert as receive() does. The host is that of the log."""
@@ -272,6 +272,32 @@ class CookieStore(SavedStore):
         page, seconds = bytes_of(url), seconds_of(now)
         with self._lock:
             return cookies_of(*self._read_rows(LIBRARY.cookie_store_cookies_for, page, len(page), seconds))[0]
+
+    def root(self, url: Text) -> str:
+        """Return the root of the host of url: its outermost site under the public suffix list.
+
+        It is '' if the URL has no host. In a strict store, a cookie that a host sets is sent only to
+        hosts of the same root, so that each root, or each shard of roots, may have a store of its own:
+        see shard().
+
+        Raises NO_LIST if the store has no public suffix list, and BAD_URL.
+        """
+        return self._root(LIBRARY.cookie_store_root, bytes_of(url))
+
+    def root_of_domain(self, domain: Text) -> str:
+        """Return the root of the domain of a cookie, as cookies() returns it. Raises NO_LIST."""
+        return self._root(LIBRARY.cookie_store_root_of_domain, bytes_of(domain))
+
+    def _root(self, call: Any, text: bytes) -> str:
+        """Return the root that a call writes."""
+        room, needed = ctypes.create_string_buffer(256), ctypes.c_size_t()
+        with self._lock:
+            number = call(self._store, text, len(text), room, len(room), needed)
+            if number == Status.NO_ROOM:
+                room = ctypes.create_string_buffer(needed.value)
+                number = call(self._store, text, len(text), room, len(room), needed)
+        check(number)
+        return ctypes.string_at(room, needed.value).decode('utf-8')
 
     def merge(self, other: StoreLike, now: Optional[Time] = None) -> int:
         """Insert the cookies of another store, each as if its own domain had sent it, and return how many are left out.

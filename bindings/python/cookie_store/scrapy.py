@@ -1,15 +1,15 @@
 """A cookie store for the spiders of Scrapy."""
 from __future__ import annotations
 
-import collections
 import logging
-from typing import Any, DefaultDict, Iterator
+from typing import Any, Callable, Dict, Iterator
 
 from scrapy import signals
 from scrapy.crawler import Crawler
 from scrapy.exceptions import NotConfigured
 from scrapy.http import Request, Response
 from scrapy.utils.httpobj import urlparse_cached
+from scrapy.utils.misc import load_object
 
 from ._log import log_not_stored
 from ._merging import merge_file
@@ -19,6 +19,18 @@ from ._urls import Target, target_of_parts
 
 # That of Scrapy's own middleware: the logger cookie_store logs no values.
 _DEBUG_LOGGER = logging.getLogger('scrapy.downloadermiddlewares.cookies')
+
+
+class _Stores(Dict[Any, Any]):
+    """Stores by the keys `cookiejar` of requests. The first use of a key creates its store, by a function."""
+
+    def __init__(self, new: Callable[[Any], Any]) -> None:
+        super().__init__()
+        self._new = new
+
+    def __missing__(self, key: Any) -> Any:
+        self[key] = store = self._new(key)
+        return store
 
 
 class StoreCookiesMiddleware:
@@ -33,12 +45,15 @@ class StoreCookiesMiddleware:
     It follows the settings COOKIES_ENABLED and COOKIES_DEBUG, the keys `cookiejar` and
     `dont_merge_cookies` of Request.meta, and Request.cookies, as Scrapy documents them. The attribute
     stores has the store of each key `cookiejar`, and that of the requests without one by the key None.
-    Two settings of its own name files:
+    Three settings of its own name files and a function:
 
     COOKIES_FILE -- the cookies of the requests without a key `cookiejar` are loaded from it, if it is
         there, and saved to it when the spider closes, session cookies included, in the format of its
         suffix
     COOKIES_SUFFIX_LIST -- a public suffix list, of which each store has a copy, of two megabytes
+    COOKIES_STORE -- a function, or its import path, that takes a key `cookiejar`, or None, and returns
+        its store: a CookieStore, or a cookie_store.sites.SiteStore, whose cookies spiders share. With it,
+        the other two have no effect
     """
 
     def __init__(self, crawler: Crawler) -> None:
@@ -47,9 +62,12 @@ class StoreCookiesMiddleware:
             raise NotConfigured
         self._crawler, self._is_logged, self._file = crawler, settings.getbool('COOKIES_DEBUG'), settings.get('COOKIES_FILE')
         self._empty = CookieStore()
+        if settings.get('COOKIES_STORE'):
+            self.stores = _Stores(load_object(settings.get('COOKIES_STORE')))
+            return
         if settings.get('COOKIES_SUFFIX_LIST'):
             self._empty.set_suffix_list(path=settings.get('COOKIES_SUFFIX_LIST'))
-        self.stores: DefaultDict[Any, CookieStore] = collections.defaultdict(self.new_store)
+        self.stores = _Stores(lambda _: self.new_store())
         if self._file:
             merge_file(self.stores[None], self._file)
             crawler.signals.connect(self.save, signals.spider_closed)

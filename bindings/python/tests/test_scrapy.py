@@ -8,8 +8,10 @@ from unittest import mock
 
 from programs import make_folder, run, variables
 from support import Echo, query, start_server
+from values import start_redis
 
 from cookie_store import CookieStore, CookieStoreError
+from cookie_store.sites import FolderValues, MemoryValues, SiteStore
 
 HAS_SCRAPY = importlib.util.find_spec('scrapy') is not None
 if HAS_SCRAPY:
@@ -20,6 +22,7 @@ if HAS_SCRAPY:
     from cookie_store.scrapy import StoreCookiesMiddleware
 
 PAGE = 'http://a.example/d/page'
+EXAMPLES = pathlib.Path(__file__).resolve().parent.parent / 'examples'
 
 # Requests for PAGE after the response to one, with what they have: the Set-Cookie header values, the next request, its Cookie header.
 REQUESTS = [
@@ -154,6 +157,46 @@ class ScrapyTests(unittest.TestCase):
         self.assertEqual(CookieStore.open(self.path).header(PAGE), 'a=1')
         other = self.middleware(COOKIES_FILE=self.path)
         self.assertEqual(self.request(other).headers['Cookie'], b'a=1')
+
+    def test_requests_of_another_store(self):
+        """The requests of the table have the same cookies if these are in values by key, but no Secure one of a URL that is not secure."""
+        for texts, words, header in REQUESTS:
+            middleware = self.middleware(COOKIES_STORE=lambda key: SiteStore(MemoryValues(), suffixes='example'))
+            self.receive(middleware, self.request(middleware), *texts)
+            with self.subTest((texts, words)):
+                values = self.request(middleware, **words).headers.getlist('Cookie')
+                self.assertEqual(values, [] if header is None or 'a=1; Secure' in texts else [header.encode()])
+
+    def test_other_stores(self):
+        """The function is called once for each key. Its stores are shared by what shares their values, and no file is read."""
+        keys = []
+
+        def new_store(key):
+            keys.append(key)
+            return SiteStore(FolderValues(self.path.with_name(str(key))), suffixes='example')
+
+        for header in ([], [b'a=1']):
+            middleware = self.middleware(COOKIES_STORE=new_store, COOKIES_FILE='no/such/folder', COOKIES_SUFFIX_LIST='no such file')
+            for key in (None, 1, None):
+                self.assertEqual(self.request(middleware, meta={'cookiejar': key}).headers.getlist('Cookie'), header)
+            for key in (None, 1):
+                self.receive(middleware, self.request(middleware, meta={'cookiejar': key}), 'a=1')
+        self.assertEqual(keys, [None, 1] * 2)
+        for setting, error in [('no_such_module.function', ImportError), ('os.no_such_function', NameError)]:
+            self.assertRaises(error, self.middleware, COOKIES_STORE=setting)
+        self.assertEqual(self.middleware(COOKIES_STORE='cookie_store.sites.MemoryValues').stores, {})
+
+    def test_spiders_that_share_a_login(self):
+        """Of two spiders, the second has the cookies that the first received."""
+        connect, _ = start_redis(self)
+        server = start_server(self, Echo)
+        url = f'http://127.0.0.1:{server.server_port}'
+        path = connect().connection_pool.connection_kwargs['path']
+        for name, page, printed in [('visit', '/', ''), ('login', '/login', 'logged in'), ('visit', '/', 'session=1')]:
+            begin = query(f'{url}{page}', c=['session=1; Path=/']) if name == 'login' else f'{url}{page}'
+            status, lines, messages = run(self, self.path.parent, sys.executable, str(EXAMPLES / 'spiders.py'), name, begin,
+                                          env=variables(REDIS_URL=f'unix://{path}'))
+            self.assertEqual((status, lines), (0, f'{printed}\n'), messages)
 
     def test_spider(self):
         """Two runs of a spider that is redirected: the second has the cookies of the first."""

@@ -352,7 +352,7 @@ class StoreTests(unittest.TestCase):
 
     def test_newer_statuses(self):
         """A status that only a newer library has means what its range means."""
-        for number, is_error in [(4, False), (19, False), (38, True), (48, False)]:
+        for number, is_error in [(4, False), (19, False), (39, True), (48, False)]:
             with self.subTest(number), mock.patch.object(LIBRARY, 'cookie_store_parse', lambda *_: number), CookieStore() as store:
                 if is_error:
                     with self.assertRaises(CookieStoreError) as raised:

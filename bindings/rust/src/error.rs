@@ -62,6 +62,8 @@ pub enum Error {
     },
     /// The public suffix list has no rules.
     NoRules,
+    /// The store has no public suffix list.
+    NoList,
     /// The list to load is not JSON.
     BadJson,
     /// The list to load is JSON, but not a list of cookies.
@@ -129,6 +131,7 @@ impl Error {
             sys::COOKIE_STORE_BAD_TIME => Error::BadTime,
             sys::COOKIE_STORE_BAD_RULE => Error::BadRule { line },
             sys::COOKIE_STORE_NO_RULES => Error::NoRules,
+            sys::COOKIE_STORE_NO_LIST => Error::NoList,
             sys::COOKIE_STORE_BAD_JSON => Error::BadJson,
             sys::COOKIE_STORE_BAD_SHAPE => Error::BadShape,
             sys::COOKIE_STORE_BAD_RON => Error::BadRon,
@@ -165,6 +168,7 @@ impl fmt::Display for Error {
                 return write!(f, "a line of the list is not a rule (line {line})")
             }
             Error::NoRules => "the public suffix list has no rules",
+            Error::NoList => "the store has no public suffix list",
             Error::BadJson => "not JSON",
             Error::BadShape => "JSON, but not a list of cookies",
             Error::BadRon => "not a list of cookies in RON",
@@ -221,7 +225,8 @@ mod tests {
             (Error::Unexpected(19), true),
             (Error::NoRules, false),
             (Error::NotUtf8, false),
-            (Error::Unexpected(38), false),
+            (Error::NoList, false),
+            (Error::Unexpected(39), false),
             (Error::CrossSiteResponse, true),
             (Error::Unexpected(48), true),
         ] {

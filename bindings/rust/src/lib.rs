@@ -41,7 +41,9 @@ mod buffer;
 mod cookie;
 mod cookies;
 mod error;
+mod roots;
 mod saved;
+mod sharded;
 mod store;
 pub mod sys;
 mod time;
@@ -49,7 +51,9 @@ mod time;
 pub use cookie::{Cookie, SameSite};
 pub use cookies::Iter;
 pub use error::Error;
+pub use roots::shard;
 pub use saved::{Format, Which};
+pub use sharded::ShardedStore;
 pub use store::{CookieStore, CrossSite, StoreAction, SYSTEM_SUFFIX_FILE};
 
 #[cfg(doctest)]

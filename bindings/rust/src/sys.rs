@@ -37,6 +37,7 @@ pub const COOKIE_STORE_BAD_EXPIRY: cookie_store_status = 34;
 pub const COOKIE_STORE_BAD_LINE: cookie_store_status = 35;
 pub const COOKIE_STORE_UNREPRESENTABLE: cookie_store_status = 36;
 pub const COOKIE_STORE_NO_RULES: cookie_store_status = 37;
+pub const COOKIE_STORE_NO_LIST: cookie_store_status = 38;
 pub const COOKIE_STORE_CONTROL_CHARACTER: cookie_store_status = 40;
 pub const COOKIE_STORE_TOO_LONG: cookie_store_status = 41;
 pub const COOKIE_STORE_INSECURE_URL: cookie_store_status = 42;
@@ -260,5 +261,27 @@ extern "C" {
         from: *mut cookie_store,
         now: i64,
         left_out: *mut usize,
+    ) -> cookie_store_status;
+    pub fn cookie_store_root(
+        store: *mut cookie_store,
+        url: *const c_char,
+        url_len: usize,
+        out: *mut c_char,
+        out_len: usize,
+        needed: *mut usize,
+    ) -> cookie_store_status;
+    pub fn cookie_store_root_of_domain(
+        store: *mut cookie_store,
+        domain: *const c_char,
+        domain_len: usize,
+        out: *mut c_char,
+        out_len: usize,
+        needed: *mut usize,
+    ) -> cookie_store_status;
+    pub fn cookie_store_shard(
+        root: *const c_char,
+        root_len: usize,
+        shards: u32,
+        shard: *mut u32,
     ) -> cookie_store_status;
 }

@@ -16,6 +16,7 @@ pub mod RebuiltRows
 pub mod ReceivedCookies
 pub mod RelatedCalls
 pub mod Removals
+pub mod RestrictedStores
 pub mod RowsByKey
 pub mod RowsOfKeys
 pub mod RowsThatPass

@@ -24,7 +24,7 @@ pub record IsOfKeys (test : Key → Bool) (keeps : Call → Bool) : Type 0 where
   pub clear : keeps Clear ≡ true
 
 -- a step with the rows whose keys pass
-abbrev passing_step : (Key → Bool) → Step → Step
+abbrev pub passing_step : (Key → Bool) → Step → Step
 passing_step test after = record { reply = after.reply; store = passing_store test after.store }
 
 -- a cookie whose key passes, or an error
@@ -42,7 +42,7 @@ received-other test by_domain store (Ok cookie) url now away = accept-other test
 received-other test by_domain store (Err rejection) url now away = refl
 
 -- a call that is kept does the same among the rows that pass
-step-kept : {test : Key → Bool} {keeps : Call → Bool} → IsOfKeys test keeps → (call : Call) (store : Contents) → keeps call ≡ true
+pub step-kept : {test : Key → Bool} {keeps : Call → Bool} → IsOfKeys test keeps → (call : Call) (store : Contents) → keeps call ≡ true
     → step call (passing_store test store) ≡ passing_step test (step call store)
 step-kept {test} {keeps} h (Set text url now) store kept =
     ap stored (received-passing test h.domains store (cookie_from_header text url now) url now
@@ -59,7 +59,7 @@ step-kept {test} {keeps} h (Remove key) store kept =
 step-kept {test} {keeps} h Clear store kept = refl
 
 -- a call that is not kept changes nothing among them
-step-lost : {test : Key → Bool} {keeps : Call → Bool} → IsOfKeys test keeps → (call : Call) (store : Contents) → keeps call ≡ false
+pub step-lost : {test : Key → Bool} {keeps : Call → Bool} → IsOfKeys test keeps → (call : Call) (store : Contents) → keeps call ≡ false
     → passing_store test (step call store).store ≡ passing_store test store
 step-lost {test} {keeps} h (Set text url now) store lost =
     received-other test h.domains store (cookie_from_header text url now) url now

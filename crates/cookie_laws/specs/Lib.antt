@@ -4,6 +4,7 @@ pub mod Contents
 pub mod Given
 pub mod Header
 pub mod Related
+pub mod Restricted
 pub mod Rows
 pub mod Runs
 pub mod SecureLast

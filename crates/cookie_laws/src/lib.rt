@@ -19,8 +19,9 @@ ghost use Rattle.cookie_laws.specs.Contents.{contents_of, has_expired, evicted, 
 ghost use Rattle.cookie_laws.specs.Given.{given, is_given};
 ghost use Rattle.cookie_laws.specs.Header.{InHeaderOrder};
 ghost use Rattle.cookie_laws.specs.Related.{may_affect, domain_calls, domain_keys, domain_rows, is_of_domain, is_related, calls_related_to, replies_to};
+ghost use Rattle.cookie_laws.specs.Restricted.{is_call_of, is_row_of, restricted, restricted_step};
 ghost use Rattle.cookie_laws.specs.Rows.{are_rows, built, changed, has_key, is_unexpired, key_of, removed, row_of, same_domain, same_key, Key};
-ghost use Rattle.cookie_laws.specs.Runs.{Call, replies, rows_after, store_after};
+ghost use Rattle.cookie_laws.specs.Runs.{step, Call, replies, rows_after, store_after};
 ghost use Rattle.cookie_laws.specs.SecureLast.{accept_secure_last, evicted_secure_last, is_full_of_secure, is_secure_key, removals, secure_last_calls};
 ghost use Rattle.cookie_psl.specs.Rules.{RuleList};
 ghost use Rattle.cookie_words.specs.Moments.{epoch, nanoseconds, Moment};
@@ -201,4 +202,31 @@ pub fn preserved_by_calls()
     ensures removed { (test : Raw → Key → Bool) (key : Key) (rows : List Row)
         → All (λ row. test row.raw (key_of row) ≡ true) rows
         → All (λ row. test row.raw (key_of row) ≡ true) (removed (has_key key) rows) }
+{}
+
+/// What happens in the domains that pass a test depends on these domains alone: a call for one of
+/// them has the same reply in the store that is restricted to them, and leaves the same there; any
+/// other call changes nothing there. So do insertions that evict Secure rows last. If two stores
+/// are equal so restricted, and every cookie that they give for a URL passes, they give the same
+/// cookies in the same order.
+pub fn restricted_to_domains()
+    ensures row { (test : List ℕ → Bool) (key : Key) (store : Contents) → test key.domain ≡ true
+        → row_of key (restricted test store).rows ≡ row_of key store.rows }
+    ensures full { (test : List ℕ → Bool) (store : Contents) (now : Moment) (key : Key) → test key.domain ≡ true
+        → is_full_of_secure (restricted test store) now key ≡ is_full_of_secure store now key }
+    ensures call { (test : List ℕ → Bool) (call : Call) (store : Contents) → is_call_of test call ≡ true
+        → step call (restricted test store) ≡ restricted_step test (step call store) }
+    ensures other_call { (test : List ℕ → Bool) (call : Call) (store : Contents) → is_call_of test call ≡ false
+        → restricted test (step call store).store ≡ restricted test store }
+    ensures secure_last { (test : List ℕ → Bool) (store : Contents) (cookie : Row) (url : Parts) (now : Moment) → is_row_of test cookie ≡ true
+        → store_after (secure_last_calls (restricted test store) cookie url now) (restricted test store)
+        ≡ restricted test (store_after (secure_last_calls store cookie url now) store) }
+    ensures other_secure_last { (test : List ℕ → Bool) (store : Contents) (cookie : Row) (url : Parts) (now : Moment) → is_row_of test cookie ≡ false
+        → restricted test (store_after (secure_last_calls store cookie url now) store) ≡ restricted test store }
+    ensures given { (test : List ℕ → Bool) (url : Parts) (now : Moment) (store other : Contents) → restricted test store ≡ restricted test other
+        → All (λ row. is_row_of test row ≡ true) (given url now store.rows) → All (λ row. is_row_of test row ≡ true) (given url now other.rows)
+        → given url now store.rows ≡ given url now other.rows }
+    ensures header { (test : List ℕ → Bool) (url : Parts) (now : Moment) (store other : Contents) (cookies : List Row) → restricted test store ≡ restricted test other
+        → All (λ row. is_row_of test row ≡ true) (given url now store.rows) → All (λ row. is_row_of test row ≡ true) (given url now other.rows)
+        → InHeaderOrder url now store cookies → InHeaderOrder url now other cookies }
 {}

@@ -6,6 +6,7 @@ pub use Rattle.cookie_laws.specs.Contents
 pub use Rattle.cookie_laws.specs.Given
 pub use Rattle.cookie_laws.specs.Header
 pub use Rattle.cookie_laws.specs.Related
+pub use Rattle.cookie_laws.specs.Restricted
 pub use Rattle.cookie_laws.specs.Rows
 pub use Rattle.cookie_laws.specs.Runs
 pub use Rattle.cookie_laws.specs.SecureLast
@@ -37,7 +38,9 @@ pub use Rattle.cookie_strict.specs.HeaderValue
 pub use Rattle.cookie_strict.specs.HostPrefix
 pub use Rattle.cookie_strict.specs.HttpPrefix
 pub use Rattle.cookie_strict.specs.Lifetime
+pub use Rattle.cookie_strict.specs.Roots
 pub use Rattle.cookie_strict.specs.SecureUrl
+pub use Rattle.cookie_strict.specs.Shards
 pub use Rattle.cookie_strict.specs.SiteRule
 pub use Rattle.cookie_strict.specs.StrictErrors
 pub use Rattle.cookie_strict.specs.StrictRules

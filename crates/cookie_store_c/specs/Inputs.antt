@@ -33,6 +33,10 @@ moment_in seconds =
 unfoldable pub url_in : List ℕ → Result Parts Status
 url_in text = ok_or (unambiguous_url text) BadUrl
 
+-- a URL
+abbrev pub parsed_url : List ℕ → Result Parts Status
+parsed_url url = and_then (text_in url) url_in
+
 -- the string of a URL, and a time
 abbrev pub text_and_time : List ℕ → ℤ → Result (List ℕ × Moment) Status
 text_and_time url now = and_then (text_in url) (λ text. and_then (moment_in now) (λ moment. Ok (text, moment)))

@@ -7,6 +7,7 @@ pub mod LoadedStores
 pub mod MergedStores
 pub mod InsertedCookies
 pub mod CookieRows
+pub mod Roots
 pub mod RowIters
 pub mod SavedStores
 pub mod StorePtrs

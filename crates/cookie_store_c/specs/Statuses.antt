@@ -12,7 +12,7 @@ use Rattle.cookie_serde.specs.declared.format_error.FormatError.TheVariants as F
 use Rattle.cookie_strict.specs.declared.error.StrictError.{StrictError}
 use Rattle.cookie_strict.specs.declared.error.StrictError.TheVariants as StrictCase
 use Rattle.cookie_store_c.specs.declared.status.Status.{Status}
-use Rattle.cookie_store_c.specs.declared.status.Status.TheVariants.{Done, Inserted, Updated, ExpiredExisting, NonHttpScheme, NonRelativeScheme, DomainMismatch, Expired, Parse, PublicSuffix, UnspecifiedDomain, NoMemory, BadUrl, NotUtf8, BadTime, NoStore, HasStore, NoRoom, NotFound, BadLimit, BadOption, BadRule, BadJson, BadShape, BadRon, BadExpiry, BadLine, Unrepresentable, NoRules, ControlCharacter, TooLong, InsecureUrl, InsecureSameSiteNone, Prefix, SecureStored, SecureLimit, CrossSiteResponse}
+use Rattle.cookie_store_c.specs.declared.status.Status.TheVariants.{Done, Inserted, Updated, ExpiredExisting, NonHttpScheme, NonRelativeScheme, DomainMismatch, Expired, Parse, PublicSuffix, UnspecifiedDomain, NoMemory, BadUrl, NotUtf8, BadTime, NoStore, HasStore, NoRoom, NotFound, BadLimit, BadOption, BadRule, BadJson, BadShape, BadRon, BadExpiry, BadLine, Unrepresentable, NoRules, NoList, ControlCharacter, TooLong, InsecureUrl, InsecureSameSiteNone, Prefix, SecureStored, SecureLimit, CrossSiteResponse}
 
 -- the number of a status
 abbrev pub status_code : Status → ℕ
@@ -45,6 +45,7 @@ status_code BadExpiry = 34
 status_code BadLine = 35
 status_code Unrepresentable = 36
 status_code NoRules = 37
+status_code NoList = 38
 status_code ControlCharacter = 40
 status_code TooLong = 41
 status_code InsecureUrl = 42

@@ -3,7 +3,7 @@ ghost use Rattle.std.specs.Prelude.{◌≡◌, ℕ, ◌+◌, ◌^◌, ◌≤◌,
 ghost use Rattle.std.specs.Option.{MatchOption};
 ghost use Rattle.std.specs.Result.{result_map_both};
 ghost use Rattle.cookie_device.specs.Joined.{joined};
-ghost use Rattle.cookie_store_c.specs.Buffers.{text_outcome, IsFilledTo};
+ghost use Rattle.cookie_store_c.specs.Buffers.{text_outcome, write_if_fits, IsFilledTo};
 ghost use Rattle.cookie_store_c.specs.LoadedStores.{with_numbers};
 
 use crate::status::Status;
@@ -47,6 +47,26 @@ fn put(buffer: &mut [u8], place: usize, text: &[u8]) -> usize
     end
 }
 
+/// Copies the string into the start of the buffer, if it fits, and returns the status. `needed` is
+/// set to its length.
+pub(crate) fn copy_text(text: &str, buffer: &mut [u8], needed: &mut usize) -> Status
+    ensures { record { status = result; buffer = buffer.new; needed = needed.new } ≡ write_if_fits text.now buffer.old }
+{
+    copy_bytes(text.as_bytes(), buffer, needed)
+}
+
+// Copies the bytes, as `copy_text` does.
+fn copy_bytes(bytes: &[u8], buffer: &mut [u8], needed: &mut usize) -> Status
+    ensures { record { status = result; buffer = buffer.new; needed = needed.new } ≡ write_if_fits bytes.now buffer.old }
+{
+    *needed = bytes.len();
+    if buffer.len() < bytes.len() {
+        return Status::NoRoom;
+    }
+    buffer[..bytes.len()].copy_from_slice(bytes);
+    Status::Done
+}
+
 /// Copies `output` into the start of the buffer, if it is `Ok` and fits, and returns the status.
 ///
 /// `needed` is set to its length, also if the result is `NoRoom`, and to 0 if `output` is an error.
@@ -59,14 +79,7 @@ pub(crate) fn copy_out(
         ≡ text_outcome (result_map_both (λ text. text.items) (λ status. status) output) buffer.old }
 {
     match output {
-        Ok(text) => {
-            *needed = text.len();
-            if buffer.len() < text.len() {
-                return Status::NoRoom;
-            }
-            buffer[..text.len()].copy_from_slice(text.as_slice());
-            Status::Done
-        }
+        Ok(text) => copy_bytes(text.as_slice(), buffer, needed),
         Err(status) => {
             *needed = 0;
             status

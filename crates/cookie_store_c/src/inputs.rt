@@ -4,7 +4,7 @@ ghost use Rattle.std.specs.Option.{ok_or};
 ghost use Rattle.std.specs.Result.{result_map_both};
 ghost use Rattle.cookie_words.specs.Moments.{moment_of};
 ghost use Rattle.cookie_parts.specs.Cookie.{and_then};
-ghost use Rattle.cookie_store_c.specs.Inputs.{text_and_time, moment_in, page_and_request, request, text_in, url_in, GivesOrRunsOut};
+ghost use Rattle.cookie_store_c.specs.Inputs.{text_and_time, moment_in, page_and_request, parsed_url, request, text_in, url_in, GivesOrRunsOut};
 
 use crate::status::Status;
 use cookie_inputs::parse_unambiguous;
@@ -53,6 +53,17 @@ fn url_or_status(parsed: Result<Option<Url>, AllocError>) -> Result<Url, Status>
         Ok(None) => Err(Status::BadUrl),
         Err(_) => Err(Status::NoMemory),
     }
+}
+
+/// Parses `url`.
+///
+/// The errors are `NotUtf8` and `BadUrl`, checked in this order. `NoMemory` is returned only if the
+/// first does not apply.
+pub(crate) fn parsed_url(alloc: Global, url: &[u8]) -> Result<Url, Status>
+    ensures value { GivesOrRunsOut result (parsed_url url.now) }
+    ensures memory { result ≡ Err Status.NoMemory → IsOk (text_in url.now) }
+{
+    url_in(alloc, text_in(url)?)
 }
 
 /// Parses `url` and reads the time `now` seconds after the epoch.

@@ -62,6 +62,8 @@ mod retained;
 #[cfg(test)]
 mod ron;
 #[cfg(test)]
+mod roots;
+#[cfg(test)]
 mod rows;
 #[cfg(test)]
 mod saved_lines;

@@ -19,7 +19,7 @@ use Rattle.cookie_laws.specs.Contents.{Contents}
 use Rattle.cookie_laws.specs.Rows.{is_unexpired, key_of, row_of}
 
 -- what a step after another gives
-and_then_ok : (first : Result Row CookieError) (next : Row → Result Row CookieError) (cookie : Row) → and_then first next ≡ Ok cookie
+pub and_then_ok : (first : Result Row CookieError) (next : Row → Result Row CookieError) (cookie : Row) → and_then first next ≡ Ok cookie
     → (passed : Row) × (first ≡ Ok passed) × (next passed ≡ Ok cookie)
 and_then_ok (Ok passed) next cookie is = (passed, refl, is)
 and_then_ok (Err error) next cookie is = absurd (cc)
@@ -66,7 +66,7 @@ domain_same url given cookie =
     (λ matches is. (cc, matches)) (λ _ is. absurd (cc))
 
 -- there is a value that passes
-passes-value : {T : Type 0} (test : T → Bool) (value : Option T) → passes test value ≡ true → (x : T) × (value ≡ Some x) × (test x ≡ true)
+pub passes-value : {T : Type 0} (test : T → Bool) (value : Option T) → passes test value ≡ true → (x : T) × (value ≡ Some x) × (test x ≡ true)
 passes-value test None is = absurd (cc)
 passes-value test (Some x) is = (x, refl, is)
 

@@ -59,7 +59,7 @@ store_after-suffixes : (calls : List Call) (store : Contents) → (store_after c
 store_after-suffixes [] store = refl
 store_after-suffixes (call ∷ calls) store = store_after-suffixes calls (step call store).store ∙ step-suffixes call store
 
-store_after_call-suffixes : (allowed : Result Call StrictError) (store : Contents) → (store_after_call allowed store).suffixes ≡ store.suffixes
+pub store_after_call-suffixes : (allowed : Result Call StrictError) (store : Contents) → (store_after_call allowed store).suffixes ≡ store.suffixes
 store_after_call-suffixes (Ok call) store = store_after-suffixes (plain_calls call store) store
 store_after_call-suffixes (Err error) store = refl
 

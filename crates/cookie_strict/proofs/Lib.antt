@@ -6,5 +6,10 @@ pub mod HttpCookies
 pub mod Letters
 pub mod Merged
 pub mod Responses
+pub mod RootsFromRight
+pub mod RootsOfDomains
 pub mod SecureRows
+pub mod SeparateCalls
+pub mod ShardRuns
+pub mod ShardSteps
 pub mod SiteCookies

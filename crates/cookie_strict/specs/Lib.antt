@@ -3,7 +3,10 @@ pub mod HeaderValue
 pub mod HostPrefix
 pub mod HttpPrefix
 pub mod Lifetime
+pub mod Roots
 pub mod SecureUrl
+pub mod ShardNumber
+pub mod Shards
 pub mod SiteRule
 pub mod Sites
 pub mod StrictErrors

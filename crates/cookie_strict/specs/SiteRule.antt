@@ -1,17 +1,18 @@
 -- Which domain cookies a host may set under a public suffix list. draft-ietf-httpbis-rfc6265bis 5.7 rejects those for a
 -- public suffix; browsers also reject those for a domain above the public suffix of the host, as HTML 7.1.1.2 has it.
-use Rattle.std.specs.Prelude.{◌≡◌, ℕ, Bool, false, not, ◌&&◌, List, Option, Some, Result, Ok, Err, is_some, ◌⊎◌, if◌then◌else◌}
+use Rattle.std.specs.Prelude.{◌≡◌, ℕ, Bool, true, false, not, ◌&&◌, List, Option, Some, Result, Ok, Err, is_some, ◌⊎◌, if◌then◌else◌}
 use Rattle.url.specs.Parts.{Parts}
 use Rattle.cookie_psl.specs.Rules.{RuleList, registrable_domain}
 use Rattle.cookie_parts.specs.Cookie.{Row, and_then}
 use Rattle.cookie_parts.specs.Domain.{DomainValue, HostOnly, Suffix, NotPresent, Empty}
-use Rattle.cookie_parts.specs.Hosts.{covers, host_of, passes, Covers}
+use Rattle.cookie_parts.specs.Hosts.{covers, host_of, is_host_name, passes, Covers}
 use Rattle.cookie_parts.specs.declared.cookie_error.CookieError.{CookieError}
 use Rattle.cookie_parts.specs.declared.cookie_error.CookieError.TheVariants.{PublicSuffix}
 use Rattle.cookie_laws.specs.Acceptance.{admitted}
 use Rattle.cookie_laws.specs.Confinement.{Accepts, HaveOneHost, IsPutOrExpired}
 use Rattle.cookie_laws.specs.Contents.{Contents}
 use Rattle.cookie_laws.specs.Runs.{Call}
+use Rattle.cookie_strict.specs.Roots.{root_of}
 use Rattle.cookie_strict.specs.Sites.{site_domain}
 
 -- HTML 7.1.1.2, "a registrable domain suffix of or is equal to": the domain is not its own public suffix, and the
@@ -37,12 +38,12 @@ abbrev pub admitted_by_site : Option RuleList → Parts → Row → Result Row C
 admitted_by_site suffixes url cookie = and_then (admitted suffixes url cookie) (by_site suffixes url)
 
 -- a domain cookie from the first URL whose domain covers the hosts of both, and the site of the first host covers the
--- other host
+-- other host; if the domain is a host name, both hosts have one root
 abbrev pub IsOfSite : RuleList → Row → Parts → Parts → Type 0
 IsOfSite rules cookie from url =
     (domain : List ℕ) × (own : List ℕ) × (host : List ℕ) × (cookie.domain ≡ Suffix domain)
     × (host_of from ≡ Some own) × (host_of url ≡ Some host) × Covers domain own × Covers domain host
-    × Covers (site_domain rules own) host
+    × Covers (site_domain rules own) host × (is_host_name domain ≡ true → root_of rules own ≡ root_of rules host)
 
 -- an allowed call of the run from this store accepted this cookie, which may have been expired since; its URL has the
 -- host of this one, or the cookie is of the site of its host

@@ -1,5 +1,5 @@
 -- Calls on a store under the draft's rules, draft-ietf-httpbis-rfc6265bis 5.7.
-use Rattle.std.specs.Prelude.{◌≡◌, ℕ, true, false, List, [], ◌∷◌, ◌++◌, map, Option, Some, None, Result, Ok, Err, ◌⊎◌}
+use Rattle.std.specs.Prelude.{◌≡◌, ℕ, Bool, true, false, List, [], ◌∷◌, ◌++◌, map, Option, Some, None, Result, Ok, Err, ◌⊎◌, if◌then◌else◌}
 use Rattle.std.specs.Result.{result_map_both}
 use Rattle.url.specs.Parts.{Parts}
 use Rattle.cookie_words.specs.Moments.{Moment}
@@ -14,7 +14,7 @@ use Rattle.cookie_parts.specs.declared.store_action.StoreAction.TheVariants.{Ins
 use Rattle.cookie_laws.specs.Acceptance.{outcome_after_checks}
 use Rattle.cookie_laws.specs.Contents.{Contents}
 use Rattle.cookie_laws.specs.Rows.{is_unexpired}
-use Rattle.cookie_laws.specs.Runs.{Call, Set, Insert, Remove, Clear, Stored, step, store_after}
+use Rattle.cookie_laws.specs.Runs.{Call, Set, Insert, Remove, Clear, Reply, Stored, step, store_after}
 use Rattle.cookie_laws.specs.SecureLast.{secure_last_calls}
 use Rattle.cookie_strict.specs.CrossSite.{context_error}
 use Rattle.cookie_strict.specs.HeaderValue.{first_error, header_error, pair_error, strict_cookie, PassesEarlyChecks}
@@ -105,6 +105,17 @@ InsertsNew (Err error) store = ⊥
 abbrev pub strict_store_after : List Call → Contents → Contents
 strict_store_after [] store = store
 strict_store_after (call ∷ calls) store = strict_store_after calls (store_after_call (strict_call call store) store)
+
+-- the reply to a call under the rules: that of the plain call, or the error
+abbrev pub strict_reply : Call → Contents → Result Reply StrictError
+strict_reply call store = result_map_both (λ plain. (step plain store).reply) (λ error. error) (strict_call call store)
+
+-- the replies to those calls that pass the test, in the run of all calls
+abbrev pub strict_replies_to : (Call → Bool) → List Call → Contents → List (Result Reply StrictError)
+strict_replies_to test [] store = []
+strict_replies_to test (call ∷ calls) store =
+    let later = strict_replies_to test calls (store_after_call (strict_call call store) store) in
+    if test call then strict_reply call store ∷ later else later
 
 -- the plain calls of a call before others, if it is allowed
 abbrev pub allowed_first : Result Call StrictError → Contents → List Call → List Call

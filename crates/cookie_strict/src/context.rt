@@ -19,7 +19,7 @@ pub struct Context {
 }
 
 /// Returns whether a request of this context receives the cookie.
-pub(crate) fn is_sent(context: Context, cookie: &Cookie<'static>) -> bool
+pub fn is_sent(context: Context, cookie: &Cookie<'_>) -> bool
     ensures { result ≡ is_sent context cookie.now }
 {
     context.is_same_site || is_sent_cross_site(context, cookie.same_site())

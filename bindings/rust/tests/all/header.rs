@@ -56,6 +56,7 @@ fn declaration(c: &str) -> String {
         "char *" => "*mut c_char",
         "const char *" => "*const c_char",
         "size_t *" => "*mut usize",
+        "uint32_t *" => "*mut u32",
         "cookie_store *" => "*mut cookie_store",
         "cookie_store_row *" => "*mut cookie_store_row",
         "const cookie_store_row *" => "*const cookie_store_row",

@@ -7,6 +7,7 @@ use pulleymaroon::CookieStore;
 mod cookies;
 mod header;
 mod insert;
+mod roots;
 mod saved;
 mod sites;
 mod store;

@@ -1,0 +1,4 @@
+pub mod Columns
+pub mod FromColumns
+pub mod Views
+pub mod WholeSeconds

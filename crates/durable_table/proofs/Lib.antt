@@ -1,0 +1,4 @@
+pub mod Appended
+pub mod Causes
+pub mod InTable
+pub mod TwoCalls
