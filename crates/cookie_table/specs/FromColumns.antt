@@ -14,6 +14,7 @@ use Rattle.cookie_parts.specs.Cookie as Cookie
 use Rattle.cookie_parts.specs.Domain.{DomainValue, HostOnly, Suffix, NotPresent, Empty}
 use Rattle.cookie_parts.specs.Path.{PathValue}
 use Rattle.cookie_parts.specs.Expiry.{Expiry, AtUtc, SessionEnd}
+use Rattle.cookie_table.specs.Places.{domain_attribute_place, expires_place, expiry_place, host_place, http_only_place, kind_place, max_age_place, name_place, path_attribute_place, path_mark_place, path_place, same_site_place, secure_place, value_place}
 
 -- the value is NULL
 abbrev pub is_null : Value → Bool
@@ -86,29 +87,29 @@ domain_numbered kind text =
 -- the domain of a row
 unfoldable pub domain_in : Row → Option DomainValue
 domain_in row = do
-  text ← text_in (column row 2)
-  kind ← number_in (column row 3)
+  text ← text_in (column row host_place)
+  kind ← number_in (column row kind_place)
   domain_numbered kind text
 
 -- the path of a row
 unfoldable pub path_in : Row → Option PathValue
 path_in row = do
-  text ← text_in (column row 4)
-  is_from_attribute ← flag_in (column row 5)
+  text ← text_in (column row path_place)
+  is_from_attribute ← flag_in (column row path_mark_place)
   Some (record { text = text; is_from_attribute = is_from_attribute })
 
 -- the raw cookie of a row
 unfoldable pub raw_in : Row → Option Raw
 raw_in row = do
-  name ← text_in (column row 6)
-  value ← text_in (column row 7)
-  secure ← if_any flag_in (column row 9)
-  http_only ← if_any flag_in (column row 10)
-  same_site ← if_any site_in (column row 11)
-  domain ← if_any text_in (column row 12)
-  path ← if_any text_in (column row 13)
-  max_age ← if_any age_in (column row 14)
-  expires ← if_any attribute_in (column row 15)
+  name ← text_in (column row name_place)
+  value ← text_in (column row value_place)
+  secure ← if_any flag_in (column row secure_place)
+  http_only ← if_any flag_in (column row http_only_place)
+  same_site ← if_any site_in (column row same_site_place)
+  domain ← if_any text_in (column row domain_attribute_place)
+  path ← if_any text_in (column row path_attribute_place)
+  max_age ← if_any age_in (column row max_age_place)
+  expires ← if_any attribute_in (column row expires_place)
   Some (record {
     name = name;
     value = value;
@@ -127,5 +128,5 @@ cookie_in row = do
   domain ← domain_in row
   path ← path_in row
   raw ← raw_in row
-  expires ← expiry_in (column row 8)
+  expires ← expiry_in (column row expiry_place)
   Some (record { raw = raw; domain = domain; path = path; expires = expires })

@@ -1,4 +1,5 @@
 pub mod Columns
 pub mod FromColumns
+pub mod Places
 pub mod Views
 pub mod WholeSeconds

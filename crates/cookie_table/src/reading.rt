@@ -15,6 +15,35 @@ use jiff::SignedDuration;
 use sqlite_value::row::Row;
 use std::alloc::Global;
 
+// The places of the columns in a row: the first has the rowid, and the second its NULL.
+const HOST: usize = 2;
+
+const KIND: usize = 3;
+
+const PATH: usize = 4;
+
+const PATH_MARK: usize = 5;
+
+const NAME: usize = 6;
+
+const VALUE: usize = 7;
+
+const EXPIRY: usize = 8;
+
+const SECURE: usize = 9;
+
+const HTTP_ONLY: usize = 10;
+
+const SAME_SITE: usize = 11;
+
+const DOMAIN_ATTRIBUTE: usize = 12;
+
+const PATH_ATTRIBUTE: usize = 13;
+
+const MAX_AGE: usize = 14;
+
+const EXPIRES: usize = 15;
+
 /// The domain of a row, before its string is copied.
 #[derive(Clone, Copy)]
 pub(crate) enum Domain<'a> {
@@ -87,7 +116,7 @@ fn read_columns(row: &Row) -> Option<Columns<'_>>
     let Some(raw) = read_raw(row) else {
         return None;
     };
-    let expires = expiry_at(row, 8)?;
+    let expires = expiry_at(row, EXPIRY)?;
     Some(Columns {
         domain,
         path,
@@ -101,8 +130,8 @@ fn read_columns(row: &Row) -> Option<Columns<'_>>
 fn read_domain(row: &Row) -> Option<Domain<'_>>
     ensures { option_map domain_view result ≡ domain_in row.now }
 {
-    let text = text_at(row, 2)?;
-    match number_at(row, 3)? {
+    let text = text_at(row, HOST)?;
+    match number_at(row, KIND)? {
         0 => Some(Domain::HostOnly(text)),
         1 => Some(Domain::Suffix(text)),
         2 => Some(Domain::NotPresent),
@@ -116,8 +145,8 @@ fn read_domain(row: &Row) -> Option<Domain<'_>>
 fn read_path(row: &Row) -> Option<Path<'_>>
     ensures { option_map path_view result ≡ path_in row.now }
 {
-    let text = text_at(row, 4)?;
-    let is_from_attribute = flag_at(row, 5)?;
+    let text = text_at(row, PATH)?;
+    let is_from_attribute = flag_at(row, PATH_MARK)?;
     Some(Path {
         text,
         is_from_attribute,
@@ -129,15 +158,15 @@ fn read_path(row: &Row) -> Option<Path<'_>>
 fn read_raw(row: &Row) -> Option<Raw<'_>>
     ensures { option_map raw_view result ≡ raw_in row.now }
 {
-    let name = text_at(row, 6)?;
-    let value = text_at(row, 7)?;
-    let secure = opt_flag_at(row, 9)?;
-    let http_only = opt_flag_at(row, 10)?;
-    let same_site = opt_site_at(row, 11)?;
-    let domain = opt_text_at(row, 12)?;
-    let path = opt_text_at(row, 13)?;
-    let max_age = opt_age_at(row, 14)?;
-    let expires = opt_attribute_at(row, 15)?;
+    let name = text_at(row, NAME)?;
+    let value = text_at(row, VALUE)?;
+    let secure = opt_flag_at(row, SECURE)?;
+    let http_only = opt_flag_at(row, HTTP_ONLY)?;
+    let same_site = opt_site_at(row, SAME_SITE)?;
+    let domain = opt_text_at(row, DOMAIN_ATTRIBUTE)?;
+    let path = opt_text_at(row, PATH_ATTRIBUTE)?;
+    let max_age = opt_age_at(row, MAX_AGE)?;
+    let expires = opt_attribute_at(row, EXPIRES)?;
     Some(Raw {
         name,
         value,
